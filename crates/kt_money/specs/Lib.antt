@@ -1,0 +1,4 @@
+pub mod Rounding
+pub mod RoundingLaws
+pub mod NumberText
+pub mod NumberTextLaws

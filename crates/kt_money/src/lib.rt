@@ -1,0 +1,18 @@
+//! Money in whole cents: rounded quotients, roots, means and deviations, and numbers as text.
+#![tactic(auto)]
+
+mod bytes;
+mod decimals;
+mod moments;
+mod number_text;
+mod quotient;
+mod row;
+mod shared;
+mod square_root;
+
+pub use bytes::{Bytes, OutOfMemory};
+pub use moments::{MeanSd, mean_sd};
+pub use number_text::{push_count, push_money, push_ppm};
+pub use quotient::{div_half_up, ppm_of};
+pub use row::{ROW_BYTES, Row};
+pub use square_root::isqrt;
