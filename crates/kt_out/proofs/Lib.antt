@@ -1,0 +1,2 @@
+pub mod NamedFilesLemmas
+pub mod WritingLemmas

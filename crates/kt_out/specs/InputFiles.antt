@@ -1,0 +1,49 @@
+-- What the calls of input files answer, where the map from names to bytes is known.
+use Rattle.std.specs.Prelude.{◌≡◌, ℕ, ◌-◌, ◌<◌, ◌≤◌, List, ◌++◌, length, take, drop, ⊤, Option, None, Some, Result, Ok, Err}
+use Rattle.kt_out.specs.declared.fault.Absent.{Absent}
+use Rattle.kt_out.specs.declared.fault.Absent.TheVariants.{Failed, Missing, OutOfMemory}
+use Rattle.kt_out.specs.NamedFiles.{FileMap}
+
+-- the size of what a name stands for: its length, and Missing exactly where it stands for nothing
+abbrev pub IsSizeOf : Option (List ℕ) → Result ℕ Absent → Type 0
+IsSizeOf None (Ok n) = ⊥
+IsSizeOf None (Err Failed) = ⊥
+IsSizeOf None (Err Missing) = ⊤
+IsSizeOf None (Err OutOfMemory) = ⊤
+IsSizeOf (Some bytes) (Ok n) = n ≡ length bytes
+IsSizeOf (Some bytes) (Err Failed) = ⊤
+IsSizeOf (Some bytes) (Err Missing) = ⊥
+IsSizeOf (Some bytes) (Err OutOfMemory) = ⊤
+
+-- what a call for the size of a name answered
+abbrev pub FindsSize : Option FileMap → List ℕ → Result ℕ Absent → Type 0
+FindsSize None name answer = ⊤
+FindsSize (Some files) name answer = IsSizeOf (files name) answer
+
+-- a place lies below the length of what a name stands for
+abbrev pub LiesIn : Option (List ℕ) → ℕ → Type 0
+LiesIn None at = ⊥
+LiesIn (Some bytes) at = at < length bytes
+
+-- a place lies in the file of a name
+abbrev pub InFile : Option FileMap → List ℕ → ℕ → Type 0
+InFile None name at = ⊤
+InFile (Some files) name at = LiesIn (files name) at
+
+-- a read gave n bytes from a place on, at least one, into the front of the room
+pub record GivesFrom (bytes : List ℕ) (at : ℕ) (room filled : List ℕ) (n : ℕ) : Type 0 where
+  pub some : 0 < n
+  pub fits : n ≤ length room
+  pub was_there : n ≤ length bytes - at
+  pub filled_by : filled ≡ take n (drop at bytes) ++ drop n room
+
+-- what a read from a place on did to the buffer
+abbrev pub ReadsFrom : {E : Type 0} → Option (List ℕ) → ℕ → List ℕ → List ℕ → Result ℕ E → Type 0
+ReadsFrom None at room filled (Ok n) = ⊥
+ReadsFrom (Some bytes) at room filled (Ok n) = GivesFrom bytes at room filled n
+ReadsFrom held at room filled (Err fault) = ⊤
+
+-- what a read of a name from a place on did: the buffer before and after it, and its answer
+abbrev pub ReadsAt : {E : Type 0} → Option FileMap → List ℕ → ℕ → List ℕ → List ℕ → Result ℕ E → Type 0
+ReadsAt None name at room filled answer = ⊤
+ReadsAt (Some files) name at room filled answer = ReadsFrom (files name) at room filled answer

@@ -1,0 +1,7 @@
+pub mod Counts
+pub mod Reading
+pub mod Writing
+pub mod NamedFiles
+pub mod InputFiles
+pub mod OutputFiles
+pub mod MemoryObjects

@@ -1,0 +1,28 @@
+-- What the calls of output files leave in the map from names to bytes, where it is known.
+use Rattle.std.specs.Prelude.{◌≡◌, ◌≢◌, ◌⊎◌, ℕ, List, [], ◌++◌, take, Option, None, Some, Result, Ok, Err, unwrap_or, IsSomeAnd}
+use Rattle.kt_out.specs.NamedFiles.{FileMap}
+
+-- a name stands for these bytes now, and every other name for what it stood for
+pub record Sets (files : FileMap) (name bytes : List ℕ) (now : FileMap) : Type 0 where
+  pub this_name : now name ≡ Some bytes
+  pub other_names : (other : List ℕ) → other ≢ name → now other ≡ files other
+
+-- every name stands for what it stood for
+abbrev pub SameFiles : FileMap → FileMap → Type 0
+SameFiles files now = (name : List ℕ) → now name ≡ files name
+
+-- what a name stands for once its file is written on: nothing where it is not held
+abbrev pub written_so_far : FileMap → List ℕ → List ℕ
+written_so_far files name = unwrap_or (files name) []
+
+-- what the making of an empty file did: the files before and after it, the name, and the answer
+abbrev pub Creates : {T E : Type 0} → Option FileMap → Option FileMap → List ℕ → Result T E → Type 0
+Creates None now name answer = now ≡ None
+Creates (Some files) now name (Ok done) = IsSomeAnd now (Sets files name [])
+Creates (Some files) now name (Err fault) = IsSomeAnd now (λ after. SameFiles files after ⊎ Sets files name [] after)
+
+-- what an append did: the files before and after it, the name, the piece, and the answer
+abbrev pub Appends : {E : Type 0} → Option FileMap → Option FileMap → List ℕ → List ℕ → Result ℕ E → Type 0
+Appends None now name piece answer = now ≡ None
+Appends (Some files) now name piece (Ok n) = IsSomeAnd now (Sets files name (written_so_far files name ++ take n piece))
+Appends (Some files) now name piece (Err fault) = IsSomeAnd now (SameFiles files)

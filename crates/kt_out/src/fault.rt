@@ -1,0 +1,48 @@
+//! What an object outside the program may answer in place of what was asked.
+ghost use Rattle.std.specs.Prelude.{◌≡◌};
+
+use std::alloc::{AllocError, AllocFailed};
+
+/// A read failed. The object's count of faults rose in that call.
+#[derive(Clone, Copy, Debug, PartialEq, Eq)]
+pub struct Failed;
+
+/// Why a write, or a read from a file, moved no byte.
+#[derive(Clone, Copy, Debug, PartialEq, Eq)]
+pub enum Fault {
+    /// The object failed: its count of faults rose in that call.
+    Failed,
+    /// The object found no memory of its own. No count rose.
+    OutOfMemory,
+}
+
+/// Why the size of a file was not found.
+#[derive(Clone, Copy, Debug, PartialEq, Eq)]
+pub enum Absent {
+    /// The object failed: its count of faults rose in that call.
+    Failed,
+    /// There is no such file: the count of misses rose in that call, and no other count.
+    Missing,
+    /// The object found no memory of its own. No count rose.
+    OutOfMemory,
+}
+
+impl From<AllocError> for Fault {
+    ghost use Rattle.kt_out.specs.declared.fault.Fault.TheVariants.{OutOfMemory};
+
+    ghost from_gives = { λ _ fault. fault ≡ OutOfMemory };
+
+    fn from(_: AllocError) -> Self {
+        Fault::OutOfMemory
+    }
+}
+
+impl<T: Drop> From<AllocFailed<T>> for Fault {
+    ghost use Rattle.kt_out.specs.declared.fault.Fault.TheVariants.{OutOfMemory};
+
+    ghost from_gives = { λ _ fault. fault ≡ OutOfMemory };
+
+    fn from(_: AllocFailed<T>) -> Self {
+        Fault::OutOfMemory
+    }
+}

@@ -1,0 +1,24 @@
+//! The outside world as traits (a source and a sink of bytes, input and output files, a gate for
+//! workers), with objects in memory that keep them and adapters over the standard streams.
+#![tactic(auto)]
+
+mod fault;
+mod gate;
+mod inputs;
+mod memory;
+mod outputs;
+mod shared;
+mod sink;
+mod source;
+mod std_streams;
+mod writing;
+
+pub use fault::{Absent, Failed, Fault};
+pub use gate::{Gate, Open};
+pub use inputs::Inputs;
+pub use memory::{MemSink, MemSource, SureInputs, SureOutputs, SureSink, SureSource};
+pub use outputs::Outputs;
+pub use sink::Sink;
+pub use source::Source;
+pub use std_streams::{StdErr, StdSink, StdSource};
+pub use writing::write_all;

@@ -1,0 +1,28 @@
+//! The types of this crate may be sent to other threads and shared by them.
+use crate::{
+    Absent, Failed, Fault, MemSink, MemSource, Open, SureInputs, SureOutputs, SureSink, SureSource,
+};
+
+fn is_shared<T: Send + Sync>(_: &T) {}
+
+/// The answers, and the open gate.
+fn answers_are_shared(failed: &Failed, fault: &Fault, absent: &Absent, open: &Open) {
+    is_shared(failed);
+    is_shared(fault);
+    is_shared(absent);
+    is_shared(open);
+}
+
+/// The sources and sinks in memory.
+fn streams_are_shared(a: &MemSource, b: &MemSink, c: &SureSource, d: &SureSink) {
+    is_shared(a);
+    is_shared(b);
+    is_shared(c);
+    is_shared(d);
+}
+
+/// The files in memory.
+fn files_are_shared(inputs: &SureInputs, outputs: &SureOutputs) {
+    is_shared(inputs);
+    is_shared(outputs);
+}
