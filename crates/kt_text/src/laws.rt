@@ -1,0 +1,18 @@
+//! Theorems over the definitions: what is written plainly is read back.
+
+ghost use Rattle.kt_text.specs.Laws.{CountsAreReadBack, AmountsAreReadBack, RowsAreReadBack};
+
+/// Every count below 10^18 is read back from its plain digits.
+pub fn counts_are_read_back()
+    ensures { CountsAreReadBack }
+{}
+
+/// Every amount up to 10^17 is read back from its text with two or six decimals.
+pub fn amounts_are_read_back()
+    ensures { AmountsAreReadBack }
+{}
+
+/// The rows under a heading are read back from the text that `csv` writes of them by default.
+pub fn rows_are_read_back()
+    ensures { RowsAreReadBack }
+{}

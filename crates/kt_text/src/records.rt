@@ -1,0 +1,43 @@
+//! The records of a CSV text, one after the other.
+
+ghost use Rattle.std.specs.Prelude.{◌≡◌, ◌≤◌, [], length, IfOk};
+ghost use Rattle.std.specs.Bool.{MatchBool};
+ghost use Rattle.csv.specs.Reading.{records, default_config, strip_bom};
+ghost use Rattle.csv.specs.Records.{fields_of};
+ghost use Rattle.kt_text.specs.Records.{StandsBetween, TakesRecord, bytes_left, records_left};
+
+use csv::{ByteRecord, ErrorKind, Reader, ReaderBuilder};
+use std::alloc::{AllocError, Global};
+
+/// A reader before the first record of a text, which takes no record for a heading and records of any
+/// length.
+pub(crate) fn reader_of(alloc: Global, text: &[u8]) -> Reader<&[u8]>
+    ensures stands { StandsBetween result }
+    ensures bytes { bytes_left result ≤ length text.now }
+    ensures all { records_left result ≡ records default_config (strip_bom text.now) }
+{
+    ReaderBuilder::new()
+        .has_headers(false)
+        .flexible(true)
+        .from_reader(alloc, text)
+}
+
+/// The next record into `row`, and whether there was one.
+pub(crate) fn next_record(
+    reader: &mut Reader<&[u8]>,
+    row: &mut ByteRecord,
+) -> Result<bool, AllocError>
+    requires { StandsBetween reader.old }
+    ensures { IfOk result (λ found. MatchBool found
+        (TakesRecord reader.old reader.new (fields_of row.new)) (records_left reader.old ≡ [])) }
+{
+    match reader.read_byte_record(row) {
+        Ok(found) => Ok(found),
+        Err(error) => match error.into_kind() {
+            // Records of any length are taken, and a slice is read without fault: what is left is want of
+            // memory.
+            ErrorKind::UnequalLengths { .. } => unreachable!(),
+            _ => Err(AllocError),
+        },
+    }
+}
