@@ -1,0 +1,3 @@
+pub mod TableNames
+pub mod TableSet
+pub mod Tables

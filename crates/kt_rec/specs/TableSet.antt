@@ -1,0 +1,17 @@
+-- Which tables a set has.
+use Rattle.std.specs.Prelude.{ℕ, ◌+◌, ◌-◌, ◌*◌, ◌==◌, ◌&&◌, Bool, false, slice_index_or}
+use Rattle.kt_rec.specs.TableNames.{number_of}
+use Rattle.kt_rec.specs.declared.table.TableId.{TableId}
+use Rattle.kt_rec.specs.declared.table_set.TableSet.{TableSet}
+
+-- each table of the base and of a stage has a place of its own
+abbrev pub place_of : TableId → ℕ
+place_of id = id.stage * 16 + number_of id.table - 1
+
+-- whether a table is in the set
+abbrev pub is_in : TableSet → TableId → Bool
+is_in set id = slice_index_or set.present (place_of id) false
+
+-- whether two ids name one table
+abbrev pub is_same : TableId → TableId → Bool
+is_same one other = (one.stage == other.stage) && (number_of one.table == number_of other.table)

@@ -1,0 +1,25 @@
+//! The rows of the tables, and the names and sets of tables.
+#![tactic(auto)]
+
+mod exposure;
+mod financial;
+mod hazard;
+mod name;
+mod periods;
+mod perspective;
+mod shared;
+mod summary;
+mod table;
+mod table_set;
+mod tables;
+
+pub use exposure::{Coverage, Item};
+pub use financial::{FmPolicytc, FmProfile, FmProgramme, FmXref};
+pub use hazard::{DamageBin, Event, FootRow, Footprint, FootprintIdx, Random, Vulnerability};
+pub use name::Name;
+pub use periods::{Occurrence, ReturnPeriod};
+pub use perspective::{CellKey, Perspective};
+pub use summary::{FmSummaryXref, GulSummaryXref};
+pub use table::{Table, TableId};
+pub use table_set::TableSet;
+pub use tables::{FinancialTables, PROGRAMMES, Tables};

@@ -1,0 +1,105 @@
+//! The rows of all tables that a run has loaded.
+ghost use Rattle.kt_rec.specs.Tables.{IsEmpty, IsEmptyFinancial};
+
+use crate::exposure::{Coverage, Item};
+use crate::financial::{FmPolicytc, FmProfile, FmProgramme, FmXref};
+use crate::hazard::{DamageBin, Event, FootprintIdx, Random, Vulnerability};
+use crate::periods::{Occurrence, ReturnPeriod};
+use crate::summary::{FmSummaryXref, GulSummaryXref};
+use std::alloc::Global;
+
+/// The base and nine reinsurance stages.
+pub const PROGRAMMES: usize = 10;
+
+/// The three financial tables of the base or of a reinsurance stage.
+#[derive(Debug, Drop)]
+pub struct FinancialTables {
+    /// The rows of `fm_programme`.
+    pub programme: Vec<FmProgramme>,
+    /// The rows of `fm_policytc`.
+    pub policytc: Vec<FmPolicytc>,
+    /// The rows of `fm_profile`.
+    pub profile: Vec<FmProfile>,
+}
+
+/// The rows of each table. What is not loaded is an empty list or 0.
+#[derive(Debug, Drop)]
+pub struct Tables {
+    /// The rows of `events`.
+    pub events: Vec<Event>,
+    /// The rows of `items`.
+    pub items: Vec<Item>,
+    /// The rows of `coverages`.
+    pub coverages: Vec<Coverage>,
+    /// The rows of `footprint_idx`.
+    pub footprint_idx: Vec<FootprintIdx>,
+    /// The rows of `vulnerability`.
+    pub vulnerability: Vec<Vulnerability>,
+    /// The rows of `damage_bin_dict`.
+    pub damage_bin_dict: Vec<DamageBin>,
+    /// The rows of `random`.
+    pub random: Vec<Random>,
+    /// The rows of `fm_xref`.
+    pub fm_xref: Vec<FmXref>,
+    /// The rows of `gulsummaryxref`.
+    pub gulsummaryxref: Vec<GulSummaryXref>,
+    /// The rows of `fmsummaryxref`.
+    pub fmsummaryxref: Vec<FmSummaryXref>,
+    /// The rows of `occurrence`.
+    pub occurrence: Vec<Occurrence>,
+    /// The rows of `returnperiods`.
+    pub returnperiods: Vec<ReturnPeriod>,
+    /// The financial tables of the base, at 0, and of each stage.
+    pub financial: [FinancialTables; PROGRAMMES],
+    /// The number of periods, which the header of `occurrence` gives.
+    pub periods: u32,
+    /// The size of the footprint file in bytes.
+    pub footprint_size: u64,
+}
+
+// No rows yet.
+fn no_financial_tables(alloc: Global) -> FinancialTables
+    ensures { IsEmptyFinancial result }
+{
+    FinancialTables {
+        programme: Vec::new(alloc),
+        policytc: Vec::new(alloc),
+        profile: Vec::new(alloc),
+    }
+}
+
+impl Tables {
+    /// No rows in any table. Takes no memory.
+    pub fn new(alloc: Global) -> Self
+        ensures absent { IsEmpty result }
+    {
+        Tables {
+            events: Vec::new(alloc),
+            items: Vec::new(alloc),
+            coverages: Vec::new(alloc),
+            footprint_idx: Vec::new(alloc),
+            vulnerability: Vec::new(alloc),
+            damage_bin_dict: Vec::new(alloc),
+            random: Vec::new(alloc),
+            fm_xref: Vec::new(alloc),
+            gulsummaryxref: Vec::new(alloc),
+            fmsummaryxref: Vec::new(alloc),
+            occurrence: Vec::new(alloc),
+            returnperiods: Vec::new(alloc),
+            financial: [
+                no_financial_tables(alloc),
+                no_financial_tables(alloc),
+                no_financial_tables(alloc),
+                no_financial_tables(alloc),
+                no_financial_tables(alloc),
+                no_financial_tables(alloc),
+                no_financial_tables(alloc),
+                no_financial_tables(alloc),
+                no_financial_tables(alloc),
+                no_financial_tables(alloc),
+            ],
+            periods: 0,
+            footprint_size: 0,
+        }
+    }
+}
