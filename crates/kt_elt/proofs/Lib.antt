@@ -1,0 +1,3 @@
+pub mod LossAtLemmas
+pub mod SampleLemmas
+pub mod Seen

@@ -1,0 +1,4 @@
+pub mod Sidx
+pub mod Losses
+pub mod RowType
+pub mod EventLoss

@@ -1,0 +1,10 @@
+pub mod Read
+pub mod Stop
+pub mod Summary
+pub mod Stream
+pub mod Growth
+pub mod Grammar
+pub mod Scan
+pub mod Reader
+pub mod Gather
+pub mod Advance

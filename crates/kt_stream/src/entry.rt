@@ -1,0 +1,95 @@
+//! The records of a stream as values.
+//! The rules: docs/STREAMS.md, "Records".
+ghost use Rattle.std.specs.Prelude.{◌≡◌, ◌≤◌, List, [], ◌∷◌, ◌++◌, length, take, OnOk, OnErr};
+
+use std::alloc::{AllocError, Global};
+use std::marker::Model;
+
+/// The loss of one sidx.
+#[derive(Clone, Copy, Debug, PartialEq, Eq)]
+pub struct Pair {
+    /// -1 for the mean, -2 for the standard deviation, 1 and up for the samples.
+    pub sidx: i32,
+    /// In cents, from 1 to 10^16.
+    pub loss: u64,
+}
+
+/// A list of pairs.
+#[derive(Debug, Drop)]
+pub struct Pairs {
+    items: Vec<Pair>,
+}
+
+impl Model for Pairs {
+    ghost use Rattle.std.specs.Prelude.{List};
+    ghost use Rattle.kt_stream.specs.declared.entry.Pair.{Pair};
+
+    ghost Value = { List Pair };
+
+    ghost view = { λ p. p.items.items };
+}
+
+impl Pairs {
+    /// The empty list. Asks for no memory.
+    pub fn new(alloc: Global) -> Pairs
+        ensures value { result ≡ [] }
+    {
+        Pairs {
+            items: Vec::new(alloc),
+        }
+    }
+
+    /// Appends a pair. Refused only for want of memory, and the list is then as it was.
+    pub fn push(&mut self, item: Pair) -> Result<(), AllocError>
+        ensures ok { OnOk result (self.new ≡ self.old ++ item ∷ []) }
+
+        ensures memory { OnErr result (self.new ≡ self.old) }
+    {
+        self.items.push(item)?;
+        Ok(())
+    }
+
+    /// Keeps the first `len` pairs.
+    pub fn truncate(&mut self, len: usize)
+        requires { len ≤ length self.old }
+        ensures value { self.new ≡ take len self.old }
+    {
+        self.items.truncate(len);
+    }
+
+    /// The pairs in order.
+    pub fn as_slice(&self) -> &[Pair]
+        ensures value { result.now ≡ self.now }
+    {
+        self.items.as_slice()
+    }
+
+    /// The list that a vector holds. Takes no memory.
+    pub(crate) fn from_vec(items: Vec<Pair>) -> Pairs
+        ensures value { result ≡ items.items }
+    {
+        Pairs { items }
+    }
+}
+
+/// The losses of one summary id in one event.
+#[derive(Debug, Drop)]
+pub struct SummaryRecord {
+    /// The event's id, from 1 to 2,147,483,647.
+    pub event: u32,
+    /// The summary id, from 1 to 2,147,483,647.
+    pub summary: u32,
+    /// The exposure of the summary id in cents, at most 10^14.
+    pub exposure: u64,
+    /// The losses, by rising sidx; zero losses are left out.
+    pub pairs: Pairs,
+}
+
+/// A record, and the byte of the stream at which it begins.
+#[derive(Debug, Drop)]
+pub struct Placed<R> {
+    /// The first byte of the record, counted from 0 in the whole stream.
+    pub at: u64,
+    /// The record.
+    pub entry: R,
+}

@@ -1,0 +1,30 @@
+//! The types of this crate may be sent to threads and shared by them.
+//! The rules: docs/STREAMS.md, "Readers".
+use crate::entry::{Pair, Pairs, Placed, SummaryRecord};
+use crate::reader::SummaryReader;
+use crate::stop::{RecordCause, StreamStop};
+use crate::summary::Head;
+
+/// Takes what may be sent to threads and shared by them.
+fn is_shared<T: Send + Sync>(_: &T) {}
+
+/// Each type once: the values of a stream.
+pub(crate) fn values_are_shared(head: &Head, pair: &Pair, pairs: &Pairs, entry: &SummaryRecord) {
+    is_shared(head);
+    is_shared(pair);
+    is_shared(pairs);
+    is_shared(entry);
+}
+
+/// Each type once: a reader and what it answers.
+pub(crate) fn answers_are_shared(
+    reader: &SummaryReader,
+    placed: &Placed<SummaryRecord>,
+    stop: &StreamStop,
+    cause: &RecordCause,
+) {
+    is_shared(reader);
+    is_shared(placed);
+    is_shared(stop);
+    is_shared(cause);
+}

@@ -1,0 +1,31 @@
+//! The program: hands the words and the streams of the process to the one call that runs a command,
+//! and ends with its status.
+//! The rules: docs/COMMANDS.md, docs/REFUSALS.md.
+#![tactic(auto)]
+
+mod arguments;
+
+use arguments::words_of;
+use kt_out::{Open, StdErr, StdSink, StdSource, SureInputs, SureOutputs};
+use kt_tools::{Status, run};
+use std::process::ExitCode;
+
+fn main(rt: HostRuntime) -> ExitCode {
+    let alloc = rt.alloc();
+    // A want of memory for the words is that of the run: nothing is read or written.
+    let status = match words_of(&rt, alloc) {
+        Err(_) => Status::NoMemory,
+        Ok(words) => run(
+            &rt,
+            alloc,
+            &Open,
+            &words,
+            &mut SureInputs::new(alloc),
+            &mut SureOutputs::new(alloc),
+            &mut StdSource::new(rt.stdin()),
+            &mut StdSink::new(rt.stdout()),
+            &mut StdErr::new(rt.stderr()),
+        ),
+    };
+    ExitCode::from(status.code())
+}
