@@ -22,6 +22,7 @@ inside_short : (h : Head) (start : ℕ) (pending : List ℕ) (judged : ℕ) (sta
 inside_short h start pending judged stage inside =
     ap (λ (xs : List ℕ). end_in h.samples AtFront xs start) (sym (append-nil pending)) ∙ inside.passes.onward [] ∙ ap (λ (xs : List ℕ). end_in h.samples stage xs (start + judged)) (append-nil (drop judged pending)) ∙ inside.short
 
+-- reading what is pending gives no record
 pub resting : (head : Option Head) (start : ℕ) (pending : List ℕ) (judged : ℕ) (stage : Stage) → IsPending head start pending judged stage
     → reads_on head start pending ≡ record { head = head; entries = []; end = rest_end head pending }
 unfolding unlimited
@@ -31,6 +32,7 @@ resting (Some h) start pending judged stage partial =
 
 -- ---- a piece is absorbed
 
+-- a piece that brings nothing whole joins what is pending
 pub still_absorbs : (stop : Option StreamStop) (head : Option Head) (held : List (Placed SummaryRecord)) (start : ℕ) (pending piece : List ℕ) (judged : ℕ) (stage : Stage) → stop ≡ None
     → IsPending head start (pending ++ piece) judged stage
     → AbsorbsBy stop (record { head = head; held = held; stop = stop; start = start; pending = pending }) piece (record { head = head; held = held; stop = stop; start = start; pending = pending ++ piece })
@@ -41,9 +43,11 @@ still_absorbs None head held start pending piece judged stage is partial = recor
 }
 still_absorbs (Some stop) head held start pending piece judged stage is partial = absurd cc
 
+-- records in front of others in front of a stream
 pub behind : (front back : List (Placed SummaryRecord)) (s : Stream) → after front (after back s) ≡ after (front ++ back) s
 behind front back s = ap (λ (es : List (Placed SummaryRecord)). record { head = s.head; entries = es; end = s.end }) (sym (append_assoc front back s.entries))
 
+-- a piece that brings something whole, or a refusal
 pub moved_absorbs : (stop old_stop : Option StreamStop) (head : Option Head) (held : List (Placed SummaryRecord)) (start : ℕ) (pending piece : List ℕ) (moved : Moved)
     → AdvancesBy stop head start (pending ++ piece) moved
     → AbsorbsBy stop (record { head = head; held = held; stop = old_stop; start = start; pending = pending }) piece
@@ -59,11 +63,13 @@ moved_absorbs (Some stop) old_stop head held start pending piece moved advances 
 
 -- ---- the invariant
 
+-- the invariant, where a piece brings nothing whole
 pub still_sound : (stop : Option StreamStop) (head : Option Head) (start : ℕ) (pending piece : List ℕ) (judged : ℕ) (stage : Stage) → stop ≡ None → start + length pending + length piece ≤ stream_limit
     → IsPending head start (pending ++ piece) judged stage → IsSound stop head start (pending ++ piece) judged stage
 still_sound None head start pending piece judged stage is within partial = record { partial = partial; within = omega (arith, length-append pending piece) }
 still_sound (Some stop) head start pending piece judged stage is within partial = absurd cc
 
+-- the invariant, where it brings something whole or a refusal
 pub moved_sound : (stop : Option StreamStop) (head : Option Head) (start : ℕ) (pending piece : List ℕ) (moved : Moved) → start + length pending + length piece ≤ stream_limit
     → AdvancesBy stop head start (pending ++ piece) moved → IsSound stop moved.head moved.start moved.pending.items moved.judged moved.stage
 moved_sound None head start pending piece moved within advances = record { partial = advances.partial; within = omega (arith, advances.placed, length-append pending piece) }

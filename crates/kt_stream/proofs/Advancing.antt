@@ -34,6 +34,7 @@ resumed_whole h start used passed window stage resumes scan =
       onward = λ more. ap (λ (xs : List ℕ). end_in h.samples AtFront xs start) (append_assoc passed window more) ∙ resumes.onward more ∙ scan.onward more ∙ rw (drop-append-add passed window used, place) refl;
     }
 
+-- the same where the record does not end in the window
 pub resumed_inside : (h : Head) (start used : ℕ) (passed window : List ℕ) (stage reached : Stage) → Resumes h start passed stage window → ScansInside h.samples stage window (start + length passed) used reached
     → ScansInside h.samples AtFront (passed ++ window) start (length passed + used) reached
 resumed_inside h start used passed window stage reached resumes scan =
@@ -48,12 +49,14 @@ resumed_inside h start used passed window stage reached resumes scan =
       short = rw (drop-append-add passed window used, ← place) scan.short;
     }
 
+-- the same where a field is wrong
 pub resumed_wrong : (h : Head) (start : ℕ) (passed window : List ℕ) (stage : Stage) (m : Misfit) → Resumes h start passed stage window → ScansWrong h.samples stage window (start + length passed) m
     → ScansWrong h.samples AtFront (passed ++ window) start m
 resumed_wrong h start passed window stage m resumes scan = record {
   onward = λ more. ap (λ (xs : List ℕ). end_in h.samples AtFront xs start) (append_assoc passed window more) ∙ resumes.onward more ∙ scan.onward more;
 }
 
+-- the first so many of two lists, where the first list is among them
 pub take-append-add : (xs ys : List ℕ) (n : ℕ) → take (length xs + n) (xs ++ ys) ≡ xs ++ take n ys
 take-append-add [] ys n = rw zero-add refl
 take-append-add (x ∷ xs) ys n = let s : suc (length xs) + n ≡ suc (length xs + n) = omega arith in rw s (ap (λ (zs : List ℕ). x ∷ zs) (take-append-add xs ys n))

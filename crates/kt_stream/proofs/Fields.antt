@@ -32,10 +32,12 @@ number_is n bytes x e =
     let now : Got (number_of n bytes) ≡ Got x = rw (le-leb n (length bytes) le) at e in
     cc
 
+-- a value that was accepted has no cause against it
 pub accepted_is : (at x y : ℕ) (o : Option FieldCause) → accepted at x o ≡ Got y → (x ≡ y) × (o ≡ None)
 accepted_is at x y None e = (cc, refl)
 accepted_is at x y (Some cause) e = absurd cc
 
+-- what is known of a field that was read
 pub field_got : (n : ℕ) (judge : ℕ → Option FieldCause) (bytes : List ℕ) (at x : ℕ) → field n judge bytes at ≡ Got x → FieldRead n judge bytes x
 field_got n judge bytes at x e =
     let first = bind_got (number n bytes) (λ y. accepted at y (judge y)) x e in
@@ -61,6 +63,7 @@ pub record PairRead (samples least : ℕ) (bytes : List ℕ) (p : RawPair) : Typ
   pub word : FieldRead 4 (sidx_cause samples least) bytes p.word
   pub loss : FieldRead 8 (loss_cause p.word) (drop 4 bytes) p.loss
 
+-- what is known of a pair that was read
 pub pair_got : (samples least : ℕ) (bytes : List ℕ) (at : ℕ) (p : RawPair) → pair_in samples least bytes at ≡ Got p → PairRead samples least bytes p
 unfolding pair_in
 pair_got samples least bytes at p e =
@@ -91,6 +94,7 @@ pub record FrontRead (bytes : List ℕ) (f : SummaryFront) : Type 0 where
   pub summary : FieldRead 4 id_cause (drop 4 bytes) f.summary
   pub exposure : FieldRead 8 exposure_cause (drop 8 bytes) f.exposure
 
+-- what is known of a front that was read
 pub front_got : (bytes : List ℕ) (at : ℕ) (f : SummaryFront) → front_in bytes at ≡ Got f → FrontRead bytes f
 unfolding front_in
 front_got bytes at f e =
@@ -111,6 +115,7 @@ front_got bytes at f e =
 
 -- ---- too few bytes
 
+-- a value is never short, so what is behind it is
 pub accepted_whole : {A B : Type 0} (at : ℕ) (x : A) (o : Option FieldCause) (f : A → Read B) → (accepted at x o >>= f) ≡ Short → f x ≡ Short
 accepted_whole at x None f e = e
 accepted_whole at x (Some cause) f e = absurd (wrong_not_short _ e)
@@ -123,6 +128,7 @@ field_less n judge bytes at f e = elim (cases_lt (length bytes) n) [
   | inr long ↦ inr (accepted_whole at (number_of n bytes) (judge (number_of n bytes)) f (rw (le-leb n (length bytes) long) at e))
 ]
 
+-- a pair is short only where there are fewer than 12 bytes
 pub pair_less : (samples least : ℕ) (bytes : List ℕ) (at : ℕ) → pair_in samples least bytes at ≡ Short → length bytes < 12
 unfolding pair_in
 pair_less samples least bytes at e = elim (field_less 4 (sidx_cause samples least) bytes at _ e) [
@@ -133,6 +139,7 @@ pair_less samples least bytes at e = elim (field_less 4 (sidx_cause samples leas
   ]
 ]
 
+-- a front is short only where there are fewer than 16 bytes
 pub front_less : (bytes : List ℕ) (at : ℕ) → front_in bytes at ≡ Short → length bytes < 16
 unfolding front_in
 front_less bytes at e = elim (field_less 4 id_cause bytes at _ e) [

@@ -126,12 +126,15 @@ more_pairs samples least bytes p pairs few pair other fit =
       some = λ is. omega arith;
     }
 
+-- pairs that were read
 abbrev pub pairs_got : Parsed (List Pair) → Read (Parsed (List Pair))
 pairs_got ps = Got ps
 
+-- equal readings have equal pairs
 pub pairs_value : (ps qs : Parsed (List Pair)) → pairs_got ps ≡ pairs_got qs → ps.value ≡ qs.value
 pairs_value ps qs e = ap (λ (x : Parsed (List Pair)). x.value) (got_is ps qs e)
 
+-- a pair in front of others that were read
 pub with_pair_got : (p : RawPair) (r : Read (Parsed (List Pair))) (ps : Parsed (List Pair)) → with_pair p r ≡ Got ps → (more : Parsed (List Pair)) × (r ≡ Got more) × (signed p ∷ more.value ≡ ps.value)
 with_pair_got p (Got more) ps e = (more, refl, pairs_value _ ps e)
 with_pair_got p Short ps e = absurd cc
@@ -165,6 +168,7 @@ made_fits samples bytes f pairs front fit = record {
   rising = fit.rising;
 }
 
+-- a record that is read is in its ranges
 pub record_fits : (samples : ℕ) (bytes : List ℕ) (at : ℕ) (e : Parsed SummaryRecord) → samples ≤ 1000 → summary_in samples bytes at ≡ Got e → IsSummary samples e.value
 unfolding summary_in
 record_fits samples bytes at e few is =
@@ -193,6 +197,7 @@ walk_fits P unit (suc n) bytes at each = step_fits P (unit bytes at) bytes at _ 
 abbrev pub StreamFits : Stream → Type 0
 StreamFits s = (head : Head) → s.head ≡ Some head → IsHead head × AreSummaries head.samples s.entries
 
+-- a header that is read is in its ranges
 pub head_fits : (bytes : List ℕ) (h : Head) → summary_header bytes ≡ Got h → IsHead h
 head_fits bytes h is = let known = header_got bytes h is in record { samples = known.samples; set = known.set }
 
@@ -208,6 +213,7 @@ unlimited_fits : (bytes : List ℕ) → StreamFits (unlimited bytes)
 unfolding unlimited
 unlimited_fits bytes = headed_fits (summary_header bytes) bytes (λ h is. head_fits bytes h is)
 
+-- so is all that is read of a stream
 pub stream_fits : (bytes : List ℕ) → StreamFits (stream_of bytes)
 unfolding stream_of
 stream_fits bytes = elim (cases_lt stream_limit (length bytes)) [

@@ -16,6 +16,7 @@ pub record Gathers (h : Head) (bytes : List ℕ) (at : ℕ) (before entries : Li
   pub within : used ≤ length bytes
   pub onward : (more : List ℕ) → with_entries before (summaries h (bytes ++ more) at) ≡ with_entries entries (summaries h (drop used bytes ++ more) (at + used))
 
+-- nothing was gathered yet
 pub gathers_none : (h : Head) (bytes : List ℕ) (at : ℕ) (before : List (Placed SummaryRecord)) → Gathers h bytes at before before 0
 gathers_none h bytes at before = record { within = omega arith; onward = λ more. rw add-zero refl }
 
@@ -23,6 +24,7 @@ gathers_none h bytes at before = record { within = omega arith; onward = λ more
 front_back : {E : Type 0} (front : List (Placed E)) (one : Placed E) (w : Walk E) → with_entries front (with_entries (one ∷ []) w) ≡ with_entries (front ++ one ∷ []) w
 front_back front one w = ap (λ (es : List (Placed _)). record { entries = es; end = w.end }) (sym (append_assoc front (one ∷ []) w.entries))
 
+-- one record more
 pub gathers_one : (h : Head) (bytes : List ℕ) (at : ℕ) (before entries : List (Placed SummaryRecord)) (used more_used : ℕ) → Gathers h bytes at before entries used → ScansWhole h.samples AtFront (drop used bytes) (at + used) more_used
     → Gathers h bytes at before (entries ++ record { at = at + used; entry = first_record more_used (drop used bytes) } ∷ []) (used + more_used)
 gathers_one h bytes at before entries used more_used so_far scan =
@@ -32,6 +34,7 @@ gathers_one h bytes at before entries used more_used so_far scan =
       onward = λ more. so_far.onward more ∙ ap (with_entries entries) (whole_further h (drop used bytes) more (at + used) more_used scan) ∙ front_back entries _ _ ∙ rw (drop-drop more_used used bytes, place) refl;
     }
 
+-- a wrong field refuses the stream behind what was gathered
 pub gathers_wrong : (h : Head) (bytes more : List ℕ) (at : ℕ) (before entries : List (Placed SummaryRecord)) (used : ℕ) (m : Misfit) → Gathers h bytes at before entries used → ScansWrong h.samples AtFront (drop used bytes) (at + used) m
     → with_entries before (summaries h (bytes ++ more) at) ≡ record { entries = entries; end = Refused (record_stop (at + used) m) }
 gathers_wrong h bytes more at before entries used m so_far scan =

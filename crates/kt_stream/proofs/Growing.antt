@@ -59,6 +59,7 @@ pairs_kept (suc n) samples least bytes more at =
       | inr other ↦ rw (ne_eqb p.word 0 other) (with_pair_kept more p _ _ (pairs_kept n samples (order_of p.word + 1) (drop 12 bytes) more (at + 12)))
     ]))
 
+-- a record that was read is read so with more bytes behind
 pub summary_kept : (samples : ℕ) (bytes more : List ℕ) (at : ℕ) → KeptBefore more (summary_in samples bytes at) (summary_in samples (bytes ++ more) at)
 unfolding summary_in
 summary_kept samples bytes more at =

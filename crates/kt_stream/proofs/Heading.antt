@@ -31,6 +31,7 @@ mark_long kind bytes x e =
     let first = bind_got (number 4 bytes) (λ y. accepted 0 y (mark_cause kind bytes)) x e in
     number_long 4 bytes first.0 first.1
 
+-- a header that was read is read so with more bytes behind
 pub header_kept : (bytes more : List ℕ) → Kept (summary_header bytes) (summary_header (bytes ++ more))
 unfolding summary_header
 header_kept bytes more =
@@ -46,6 +47,7 @@ pub record HeaderRead (bytes : List ℕ) (h : Head) : Type 0 where
   pub samples : (1 ≤ h.samples) × (h.samples ≤ 1000)
   pub set : (1 ≤ h.set) × (h.set ≤ 9)
 
+-- what is known of a header that was read
 pub header_got : (bytes : List ℕ) (h : Head) → summary_header bytes ≡ Got h → HeaderRead bytes h
 unfolding summary_header
 header_got bytes h e =
@@ -68,6 +70,7 @@ mark_less kind bytes f e = elim (cases_lt (length bytes) 4) [
   | inr long ↦ inr (accepted_whole 0 (number_of 4 bytes) (mark_cause kind bytes) f (rw (le-leb 4 (length bytes) long) at e))
 ]
 
+-- a header is short only where there are fewer than 12 bytes
 pub header_less : (bytes : List ℕ) → summary_header bytes ≡ Short → length bytes < 12
 unfolding summary_header
 header_less bytes e = elim (mark_less 3 bytes _ e) [

@@ -25,6 +25,7 @@ use Rattle.kt_stream.proofs.Fitting.{with_pair_got, pairs_value}
 
 -- ---- bytes
 
+-- what is left of bytes is bytes
 pub bytes_behind : (n : ℕ) (bytes : List ℕ) → AreBytes bytes → AreBytes (drop n bytes)
 bytes_behind n bytes are = λ place. rw (get_or-drop n bytes place 0) (are (n + place))
 
@@ -117,6 +118,7 @@ unfolding pairs_bytes
 ended_spelled samples least bytes p ps are pair ended value-is rest-is =
     rw (← value-is, ← rest-is) (record { written = end_spelled samples least bytes p are pair ended; bytes_left = bytes_behind 12 bytes are })
 
+-- pairs that are read are written so
 pub pairs_spelled : (n samples least : ℕ) (bytes : List ℕ) (at : ℕ) (ps : Parsed (List Pair)) → samples ≤ 1000 → AreBytes bytes → pairs_in n samples least bytes at ≡ Got ps → Begins bytes (pairs_bytes ps.value) ps.rest
 unfolding pairs_in pairs_bytes
 pairs_spelled zero samples least bytes at ps few are e = absurd cc
@@ -152,6 +154,7 @@ made_spelled bytes f pairs rest are front begins =
     let summary = begins_more (little_bytes 4 f.summary ++ (little_bytes 8 f.exposure ++ drop 16 bytes)) (little_bytes 4 f.summary) (little_bytes 8 f.exposure ++ drop 16 bytes) (little_bytes 8 f.exposure ++ pairs_bytes pairs) rest refl exposure in
     begins_more bytes (little_bytes 4 f.event) (little_bytes 4 f.summary ++ (little_bytes 8 f.exposure ++ drop 16 bytes)) (little_bytes 4 f.summary ++ (little_bytes 8 f.exposure ++ pairs_bytes pairs)) rest (front_spelled bytes f are front) summary
 
+-- a record that is read is written so
 pub record_spelled : (samples : ℕ) (bytes : List ℕ) (at : ℕ) (e : Parsed SummaryRecord) → samples ≤ 1000 → AreBytes bytes → summary_in samples bytes at ≡ Got e → Begins bytes (record_bytes e.value) e.rest
 unfolding summary_in
 record_spelled samples bytes at e few are is =

@@ -17,10 +17,12 @@ use Rattle.kt_stream.proofs.Absorbing.{behind}
 
 -- ---- it stands for the longer bytes
 
+-- a stream within the limit
 pub within_limit : (bytes : List ℕ) → length bytes ≤ stream_limit → stream_of bytes ≡ unlimited bytes
 unfolding stream_of
 within_limit bytes within = rw (le-leb (length bytes) stream_limit within) refl
 
+-- a stream beyond the limit
 pub beyond_limit : (bytes : List ℕ) → stream_limit < length bytes → stream_of bytes ≡ overlong (unlimited (take stream_limit bytes))
 unfolding stream_of
 beyond_limit bytes beyond = rw (lt-leb (length bytes) stream_limit beyond) refl
@@ -55,6 +57,7 @@ stopped_continues stop by bytes known reading is stopped = rw is stopped
 pub goes_from : (stop : Option StreamStop) (bytes : List ℕ) (known : List (Placed SummaryRecord)) (reading : Reading) → stop ≡ None → Continues stop bytes known reading → GoesOn bytes known reading
 goes_from stop bytes known reading is continues = rw is at continues
 
+-- what is known of a reader that was stopped
 pub stopped_from : (stop : Option StreamStop) (by : StreamStop) (bytes : List ℕ) (known : List (Placed SummaryRecord)) (reading : Reading) → stop ≡ Some by → Continues stop bytes known reading → IsStopped bytes known reading by
 stopped_from stop by bytes known reading is continues = rw is at continues
 
@@ -68,6 +71,7 @@ fresh = record {
   continues = record { placed = refl; within = omega arith; onward = λ more. refl };
 }
 
+-- a piece after which the reader goes on
 pub extends_on : (bytes piece : List ℕ) (taken : List (Placed SummaryRecord)) (old new : Reading) → length bytes + length piece ≤ stream_limit → GoesOn bytes (taken ++ old.held) old → new.stop ≡ None → AbsorbsOn old piece new
     → Represents (bytes ++ piece) taken new
 extends_on bytes piece taken old new within goes stop absorbs =
@@ -96,6 +100,7 @@ stopped_as bytes taken reading stop is stopped =
       continues = stopped_continues reading.stop stop bytes (taken ++ reading.held) reading is stopped;
     }
 
+-- a reader that was stopped stands for longer bytes too
 pub stopped_on : (bytes piece : List ℕ) (taken : List (Placed SummaryRecord)) (reading : Reading) (stop : StreamStop) → reading.stop ≡ Some stop → IsStopped bytes (taken ++ reading.held) reading stop → Represents (bytes ++ piece) taken reading
 stopped_on bytes piece taken reading stop is stopped = stopped_as (bytes ++ piece) taken reading stop is (record {
   onward = λ more. ap stream_of (append_assoc bytes piece more) ∙ stopped.onward (piece ++ more);
@@ -113,6 +118,7 @@ refused_within bytes more head known stop within onward = elim (cases_lt stream_
   | inr short ↦ within_limit (bytes ++ more) short ∙ onward more
 ]
 
+-- a piece that stops the reader
 pub extends_to_stop : (bytes piece : List ℕ) (taken : List (Placed SummaryRecord)) (old new : Reading) (stop : StreamStop) → length bytes + length piece ≤ stream_limit → GoesOn bytes (taken ++ old.held) old → new.stop ≡ Some stop → AbsorbsToStop old piece new stop
     → IsStopped (bytes ++ piece) (taken ++ new.held) new stop
 extends_to_stop bytes piece taken old new stop within goes is absorbs = record {
@@ -178,6 +184,7 @@ extends_past old new piece room (Some stop) fills long running is absorbs =
     let same : record { head = new.head; held = new.held; stop = Some stop; start = new.start; pending = new.pending } ≡ new = ap (λ (s : Option StreamStop). record { head = new.head; held = new.held; stop = s; start = new.start; pending = new.pending }) (sym is) in
     rw same (extends_refused old new piece room stop fills (omega arith) running is absorbs)
 
+-- what follows from an Ok
 pub ok_then : {A E P Q : Type 0} (answer : Result A E) → (P → Q) → OnOk answer P → OnOk answer Q
 ok_then (Ok done) f p = f p
 ok_then (Err e) f p = p
@@ -188,6 +195,7 @@ extends_stopped reading piece stop is = λ bytes taken rep. stopped_on bytes pie
 
 -- ---- the answer of feed
 
+-- the answer is the refusal, where one came
 pub feeds_by : (old : Reading) (piece : List ℕ) (stop : StreamStop) (new : Reading) → IsRefusal stop → new.stop ≡ Some stop → Extends old piece new → Feeds old piece (Err stop) new
 feeds_by old piece NotProfile new kind is extends = (is, extends)
 feeds_by old piece (BadRecord byte cause) new kind is extends = (is, extends)
@@ -195,9 +203,11 @@ feeds_by old piece (Cut byte) new kind is extends = (is, extends)
 feeds_by old piece TooLong new kind is extends = (is, extends)
 feeds_by old piece OutOfMemory new kind is extends = absurd kind
 
+-- the answer of a reader that was stopped before
 pub feeds_stopped : (reading : Reading) (piece : List ℕ) (stop : StreamStop) → IsRefusal stop → reading.stop ≡ Some stop → Feeds reading piece (Err stop) reading
 feeds_stopped reading piece stop kind is = feeds_by reading piece stop reading kind is (extends_stopped reading piece stop is)
 
+-- the answer is the verdict
 pub feeds_verdict : (old : Reading) (piece : List ℕ) (answer : Result (Unit {0}) StreamStop) (new : Reading) → MatchResult answer (λ _. new.stop ≡ None) (λ stop. (new.stop ≡ Some stop) × IsRefusal stop) → Extends old piece new → Feeds old piece answer new
 feeds_verdict old piece (Ok done) new is extends = (is, extends)
 feeds_verdict old piece (Err stop) new is extends = feeds_by old piece stop new is.1 is.0 extends

@@ -49,9 +49,11 @@ at_pair samples least bytes at fits =
     let bounds = order_fits samples least bytes p (pair_got samples least bytes at p e) other in
     pairs_end_enough (samples + 3 - least) (samples + 4 - (order_of p.word + 1)) samples (order_of p.word + 1) (drop 12 bytes) (at + 12) (omega (arith, bounds.1)) (omega (arith, bounds.0)) (omega (arith, bounds.1)))))
 
+-- a value that was kept
 pub kept_got : {A : Type 0} (r now : Read A) (x : A) → r ≡ Got x → Kept r now → now ≡ Got x
 kept_got r now x e kept = rw e at kept
 
+-- a wrong field that was kept
 pub kept_wrong : {A : Type 0} (r now : Read A) (m : Misfit) → r ≡ Wrong m → Kept r now → now ≡ Wrong m
 kept_wrong r now m e kept = rw e at kept
 
@@ -88,6 +90,7 @@ pub read_rest : (samples least : ℕ) (bytes : List ℕ) (at used : ℕ) (answer
     → pair_in samples least (drop used bytes) (at + used) ≡ known
 read_rest samples least bytes at used answer is answers = rw (← take_rest bytes used) (sym is ∙ answers)
 
+-- a scan of pairs at its start
 pub passes_none : (samples least : ℕ) (bytes : List ℕ) (at : ℕ) → least ≤ samples + 3 → Passes samples (AtPair least) bytes at 0 (AtPair least)
 passes_none samples least bytes at fits = record {
   within = omega arith;
@@ -100,6 +103,7 @@ moved samples stage bytes more at used =
     let place : at + used + 12 ≡ at + (used + 12) = omega arith in
     rw (drop-drop 12 used bytes, place) refl
 
+-- it passes over one pair more
 pub passes_pair : (samples least : ℕ) (stage : Stage) (bytes : List ℕ) (at used : ℕ) (p : RawPair) → Passes samples stage bytes at used (AtPair least)
     → pair_in samples least (drop used bytes) (at + used) ≡ Got p → (p.word ≡ 0 → ⊥) → Passes samples stage bytes at (used + 12) (AtPair (order_of p.word + 1))
 passes_pair samples least stage bytes at used p passes e other =
@@ -117,6 +121,7 @@ passes_pair samples least stage bytes at used p passes e other =
 pub pair_within : (samples least : ℕ) (bytes : List ℕ) (at used : ℕ) (p : RawPair) → used ≤ length bytes → pair_in samples least (drop used bytes) (at + used) ≡ Got p → used + 12 ≤ length bytes
 pair_within samples least bytes at used p within e = omega (arith, (pair_got samples least (drop used bytes) (at + used) p e).long, length-drop used bytes)
 
+-- it meets the end pair
 pub passes_end : (samples least : ℕ) (stage : Stage) (bytes : List ℕ) (at used : ℕ) (p : RawPair) → Passes samples stage bytes at used (AtPair least)
     → pair_in samples least (drop used bytes) (at + used) ≡ Got p → p.word ≡ 0 → ScansWhole samples stage bytes at (used + 12)
 passes_end samples least stage bytes at used p passes e ended =
@@ -130,12 +135,14 @@ passes_end samples least stage bytes at used p passes e ended =
           ∙ rw (drop-drop 12 used bytes, place) refl;
     }
 
+-- it meets a wrong field
 pub passes_wrong : (samples least : ℕ) (stage : Stage) (bytes : List ℕ) (at used : ℕ) (m : Misfit) → Passes samples stage bytes at used (AtPair least)
     → pair_in samples least (drop used bytes) (at + used) ≡ Wrong m → ScansWrong samples stage bytes at m
 passes_wrong samples least stage bytes at used m passes e = record {
   onward = λ more. passes.onward more ∙ pair_wrong samples least (drop used bytes) more (at + used) m (leb-true _ _ passes.fits) e;
 }
 
+-- it meets the end of the bytes
 pub passes_short : (samples least : ℕ) (stage : Stage) (bytes : List ℕ) (at used : ℕ) → Passes samples stage bytes at used (AtPair least)
     → pair_in samples least (drop used bytes) (at + used) ≡ Short → ScansInside samples stage bytes at used (AtPair least)
 passes_short samples least stage bytes at used passes e = record {
@@ -146,6 +153,7 @@ passes_short samples least stage bytes at used passes e = record {
 
 -- ---- a scan from the front on
 
+-- a scan from the front meets the end of the bytes in it
 pub front_short : (samples : ℕ) (bytes : List ℕ) (at : ℕ) → front_in bytes at ≡ Short → ScansInside samples AtFront bytes at 0 AtFront
 unfolding end_in
 front_short samples bytes at e = record {
@@ -158,6 +166,7 @@ front_short samples bytes at e = record {
   short = rw (add-zero, e) refl;
 }
 
+-- it meets a wrong field in the front
 pub front_wrong : (samples : ℕ) (bytes : List ℕ) (at : ℕ) (m : Misfit) → front_in bytes at ≡ Wrong m → ScansWrong samples AtFront bytes at m
 unfolding end_in
 front_wrong samples bytes at m e = record {
@@ -175,6 +184,7 @@ front_then samples bytes more at f e =
 further : (k used : ℕ) (bytes more : List ℕ) → drop used (drop k bytes) ++ more ≡ drop (k + used) bytes ++ more
 further k used bytes more = ap (λ (xs : List ℕ). xs ++ more) (drop-drop used k bytes)
 
+-- behind the front it is a scan of the pairs
 pub front_scans : (samples : ℕ) (bytes : List ℕ) (at used : ℕ) (f : SummaryFront) (found : Found) → front_in bytes at ≡ Got f → ScanFinds samples (AtPair 0) (drop 16 bytes) (at + 16) used found → ScanFinds samples AtFront bytes at (16 + used) found
 front_scans samples bytes at used f Ended e pairs =
     let place : at + 16 + used ≡ at + (16 + used) = omega arith in

@@ -16,11 +16,13 @@ Kept (Got x) now = now ≡ Got x
 Kept Short now = Unit {0}
 Kept (Wrong m) now = now ≡ Wrong m
 
+-- a reading is kept by itself
 pub kept_same : {A : Type 0} (r : Read A) → Kept r r
 kept_same (Got x) = refl
 kept_same Short = tt
 kept_same (Wrong m) = refl
 
+-- two steps are kept where each is
 pub kept_then : {A B : Type 0} (r now : Read A) (f g : A → Read B) → Kept r now → ((x : A) → r ≡ Got x → Kept (f x) (g x)) → Kept (r >>= f) (now >>= g)
 kept_then (Got x) now f g kept next = rw kept (next x refl)
 kept_then Short now f g kept next = tt
@@ -43,6 +45,7 @@ number_append : (n : ℕ) (bytes more : List ℕ) → n ≤ length bytes → num
 unfolding number_of
 number_append n bytes more le = little_from-append n bytes more le
 
+-- a number is kept
 pub number_kept : (n : ℕ) (bytes more : List ℕ) → Kept (number n bytes) (number n (bytes ++ more))
 number_kept n bytes more = elim (cases_Bool (leb n (length bytes))) [
   | inl fits ↦
@@ -58,6 +61,7 @@ field_long n judge bytes at x e =
     let first = bind_got (number n bytes) (λ y. accepted at y (judge y)) x e in
     number_long n bytes first.0 first.1
 
+-- a field is kept
 pub field_kept : (n : ℕ) (judge : ℕ → Option FieldCause) (bytes more : List ℕ) (at : ℕ) → Kept (field n judge bytes at) (field n judge (bytes ++ more) at)
 field_kept n judge bytes more at = kept_then (number n bytes) (number n (bytes ++ more)) _ _ (number_kept n bytes more) (λ x e. kept_same (accepted at x (judge x)))
 
@@ -72,6 +76,7 @@ pair_kept samples least bytes more at =
     kept_then (field 4 (sidx_cause samples least) bytes at) (field 4 (sidx_cause samples least) (bytes ++ more) at) _ _ (field_kept 4 (sidx_cause samples least) bytes more at) (λ word e.
     kept_then (field 8 (loss_cause word) (drop 4 bytes) (at + 4)) (field 8 (loss_cause word) (drop 4 (bytes ++ more)) (at + 4)) _ _ (later_kept 4 8 (loss_cause word) bytes more (at + 4) (field_long 4 (sidx_cause samples least) bytes at word e)) (λ loss e2. refl))
 
+-- so is the front of a record
 pub front_kept : (bytes more : List ℕ) (at : ℕ) → Kept (front_in bytes at) (front_in (bytes ++ more) at)
 unfolding front_in
 front_kept bytes more at =

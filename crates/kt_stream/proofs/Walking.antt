@@ -40,10 +40,12 @@ unfolding walk
 records_step unit bytes at e shrinks is =
     rw is (ap (with_entries (record { at = at; entry = e.value } ∷ [])) (walk_enough unit (length bytes) (suc (length e.rest)) e.rest e.at shrinks (shrinks bytes at e is) (omega arith)))
 
+-- a wrong record refuses the stream
 pub records_wrong : {E : Type 0} (unit : List ℕ → ℕ → Read (Parsed E)) (bytes : List ℕ) (at : ℕ) (m : Misfit) → unit bytes at ≡ Wrong m → records_in unit bytes at ≡ record { entries = []; end = Refused (record_stop at m) }
 unfolding walk
 records_wrong unit bytes at m is = rw is refl
 
+-- a short record ends the records
 pub records_short : {E : Type 0} (unit : List ℕ → ℕ → Read (Parsed E)) (bytes : List ℕ) (at : ℕ) → unit bytes at ≡ Short → records_in unit bytes at ≡ record { entries = []; end = at_border bytes }
 unfolding walk
 records_short unit bytes at is = rw is refl
@@ -59,6 +61,7 @@ follow_short bytes at r entry follow is = rw is at follow
 follow_wrong : (bytes : List ℕ) (at : ℕ) (r : Read Place) (entry : Read (Parsed SummaryRecord)) (m : Misfit) → RecordFollows bytes at r entry → r ≡ Wrong m → entry ≡ Wrong m
 follow_wrong bytes at r entry m follow is = rw is at follow
 
+-- a record whose end is not there is short
 pub summary_short : (samples : ℕ) (bytes : List ℕ) (at : ℕ) → end_in samples AtFront bytes at ≡ Short → summary_in samples bytes at ≡ Short
 summary_short samples bytes at is = follow_short bytes at (end_in samples AtFront bytes at) (summary_in samples bytes at) (record_follows samples bytes at) is
 
@@ -73,6 +76,7 @@ shrunk bytes at (Got place) e follow =
 shrunk bytes at Short e follow = absurd (got_not_short e follow)
 shrunk bytes at (Wrong m) e follow = absurd (got_not_wrong e m follow)
 
+-- a record that was read leaves fewer bytes
 pub summary_shrinks : (samples : ℕ) → Shrinks (summary_in samples)
 summary_shrinks samples bytes at e is = shrunk bytes at (end_in samples AtFront bytes at) e (rw is at (record_follows samples bytes at))
 
@@ -129,6 +133,7 @@ ends_at samples bytes more at used scan =
     let same : decoded n (bytes ++ more) ≡ first_record used bytes = ap (decoded n) cut ∙ decoded_own n (take used bytes) (drop used bytes ++ more) (omega arith) ∙ ap (λ (k : ℕ). decoded k (take used bytes)) (sym pairs) in
     (omega arith, follow.3 ∙ ap (λ (x : SummaryRecord). Got (parsed x place)) same)
 
+-- what is known where a scan met the record's end
 pub ends : (samples : ℕ) (bytes : List ℕ) (at used : ℕ) → ScansWhole samples AtFront bytes at used → Ends samples bytes at used
 ends samples bytes at used scan = record {
   long = (ends_at samples bytes [] at used scan).0;
@@ -141,6 +146,7 @@ pub whole_further : (h : Head) (bytes more : List ℕ) (at used : ℕ) → Scans
 whole_further h bytes more at used scan =
     records_step (summary_in h.samples) (bytes ++ more) at _ (summary_shrinks h.samples) ((ends h.samples bytes at used scan).entry more)
 
+-- a wrong record refuses the stream, whatever bytes follow
 pub wrong_further : (h : Head) (bytes more : List ℕ) (at : ℕ) (m : Misfit) → ScansWrong h.samples AtFront bytes at m → summaries h (bytes ++ more) at ≡ record { entries = []; end = Refused (record_stop at m) }
 wrong_further h bytes more at m scan =
     records_wrong (summary_in h.samples) (bytes ++ more) at m (follow_wrong (bytes ++ more) at (end_in h.samples AtFront (bytes ++ more) at) (summary_in h.samples (bytes ++ more) at) m (record_follows h.samples (bytes ++ more) at) (scan.onward more))

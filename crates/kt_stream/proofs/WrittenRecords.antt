@@ -53,6 +53,7 @@ pub record HasPlace (sidx : ℤ) (word : ℕ) : Type 0 where
 up_order : (n : ℕ) → n ≤ 1000 → order_of n ≡ n + 2
 up_order n few = rw (lt-ltb n (2 ^ 32) (omega arith)) (omega arith)
 
+-- a sidx of a record is no 0, and has its place
 pub has_place : (samples : ℕ) (sidx : ℤ) → samples ≤ 1000 → IsSidx samples sidx → HasPlace sidx (cast_unsigned w32 sidx)
 has_place samples (pos n) few is =
     let small : n ≤ 1000 = omega (arith, ints, is.highest) in
@@ -82,6 +83,7 @@ good_sidx samples least word other low high = rw (ne_eqb word 0 other) (between_
 good_loss : (word loss : ℕ) → (word ≡ 0 → ⊥) → 1 ≤ loss → loss ≤ 10000000000000000 → loss_cause word loss ≡ None
 good_loss word loss other some most = rw (ne_eqb word 0 other) (between_none 1 10000000000000000 Loss loss some most)
 
+-- a pair is read back
 pub pair_back : (samples least : ℕ) (pair : Pair) (rest : List ℕ) (at : ℕ) → samples ≤ 1000 → IsPair samples pair → least ≤ place_of pair → pair_in samples least (pair_bytes pair ++ rest) at ≡ Got (raw_of pair)
 unfolding pair_in pair_bytes
 pair_back samples least pair rest at few is low =
@@ -124,6 +126,7 @@ starts_above samples pair (next ∷ pairs) few is each above =
 abbrev pub got_pairs : List Pair → List ℕ → ℕ → Read (Parsed (List Pair))
 got_pairs pairs rest at = Got (record { value = pairs; rest = rest; at = at + length (pairs_bytes pairs) })
 
+-- pairs are read back, up to the end pair
 pub pairs_back : (n samples least : ℕ) (pairs : List Pair) (rest : List ℕ) (at : ℕ) → samples ≤ 1000 → AllByRecursion (IsPair samples) pairs → RisingSidx pairs → StartsFrom least pairs → (least ≡ 0 → 1 ≤ length pairs)
     → least ≤ samples + 3 → samples + 4 ≤ n + least → pairs_in n samples least (pairs_bytes pairs ++ rest) at ≡ got_pairs pairs rest at
 unfolding pairs_in pairs_bytes
@@ -192,6 +195,7 @@ behind_front entry rest =
     let whole = little_bytes 4 entry.event ++ middle in
     sym (drop-drop 12 4 whole) ∙ ap (drop 12) (behind_number 4 entry.event middle) ∙ sym (drop-drop 8 4 middle) ∙ ap (drop 8) (behind_number 4 entry.summary last) ∙ behind_number 8 entry.exposure rest
 
+-- a record is read back
 pub summary_back : (samples : ℕ) (entry : SummaryRecord) (rest : List ℕ) (at : ℕ) → samples ≤ 1000 → IsSummary samples entry → summary_in samples (record_bytes entry ++ rest) at ≡ got_record entry rest at
 unfolding summary_in
 summary_back samples entry rest at few is =

@@ -26,6 +26,7 @@ nothing_short : (samples at : ℕ) → summary_in samples [] at ≡ Short
 unfolding summary_in front_in
 nothing_short samples at = refl
 
+-- records are read back, one after the other
 pub records_back : (samples : ℕ) (entries : List SummaryRecord) (at : ℕ) → samples ≤ 1000 → AllByRecursion (IsSummary samples) entries → records_in (summary_in samples) (records_bytes entries) at ≡ whole_walk at entries
 unfolding records_bytes
 records_back samples [] at few each = records_short (summary_in samples) [] at (nothing_short samples at)
@@ -40,6 +41,7 @@ first_bytes = 3 ∷ 0 ∷ 0 ∷ 101 ∷ []
 mark_back : (rest : List ℕ) → mark 3 (first_bytes ++ rest) ≡ Got (number_of 4 (first_bytes ++ rest))
 mark_back rest = let long : 4 ≤ length (first_bytes ++ rest) = omega arith in rw (le-leb 4 (length (first_bytes ++ rest)) long) refl
 
+-- a header is read back
 pub header_back : (head : Head) (rest : List ℕ) → IsHead head → summary_header (header_bytes head ++ rest) ≡ Got head
 unfolding summary_header header_bytes
 header_back head rest is =
@@ -55,6 +57,7 @@ header_length : (head : Head) → length (header_bytes head) ≡ 12
 unfolding header_bytes
 header_length head = refl
 
+-- a header and the records behind it are read back
 pub unlimited_back : (head : Head) (entries : List SummaryRecord) → IsHead head → AllByRecursion (IsSummary head.samples) entries → unlimited (header_bytes head ++ records_bytes entries) ≡ spelled head entries
 unfolding unlimited
 unlimited_back head entries is each =
@@ -78,6 +81,7 @@ entries_of_placed : (at : ℕ) (entries : List SummaryRecord) → entries_of (pl
 entries_of_placed at [] = refl
 entries_of_placed at (entry ∷ entries) = ap (λ (es : List SummaryRecord). entry ∷ es) (entries_of_placed (at + length (record_bytes entry)) entries)
 
+-- what is spelled by the same bytes is the same
 pub spelled_once : (bytes : List ℕ) (head other_head : Head) (entries other_entries : List SummaryRecord) → Spells bytes head entries → Spells bytes other_head other_entries → (head ≡ other_head) × (entries ≡ other_entries)
 spelled_once bytes head other_head entries other_entries first second =
     let same : spelled head entries ≡ spelled other_head other_entries = sym (spelled_back bytes head entries first) ∙ spelled_back bytes other_head other_entries second in

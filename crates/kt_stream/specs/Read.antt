@@ -6,8 +6,8 @@ use Rattle.kt_stream.specs.declared.read.FieldCause.{FieldCause}
 use Rattle.kt_stream.specs.declared.read.Read.{Read}
 use Rattle.kt_stream.specs.declared.read.Read.TheVariants.{Got, Short, Wrong}
 
--- reading goes on with what was read, and ends where it was short or wrong
 infixl 10 ◌>>=◌
+-- reading goes on with what was read, and ends where it was short or wrong
 abbrev pub ◌>>=◌ : {A B : Type 0} → Read A → (A → Read B) → Read B
 (Got x) >>= f = f x
 Short >>= f = Short

@@ -1,4 +1,4 @@
-use Rattle.std.proofs.Common.{Some, ◌∷◌, [], ◌≡◌, ◌+◌, ◌++◌, length, take, ◌∙◌, refl, arith}
+use Rattle.std.proofs.Common.{Some, ◌∷◌, [], ◌≡◌, ◌+◌, ◌++◌, length, take, refl, arith}
 use Rattle.std.proofs.lemmas.List.{take_rest, length-append, length-take-le}
 use Rattle.kt_stream.specs.Scan.{ScansWhole, ScansInside, ScansWrong}
 use Rattle.kt_stream.proofs.Walking.{ends, first_record}
@@ -30,6 +30,6 @@ returns-in_ok-gather-in-Ended c =
     let scan : ScansWhole c.args.head.samples c.args.stage c.args.window.now (c.args.start + length c.args.passed.now) n = rw c.in-Ended.is at c.scan_record-scan.ensures.found in
     let whole = resumed_whole c.args.head c.args.start n c.args.passed.now c.args.window.now c.args.stage c.requires.resumes scan in
     let entry : c.in_ok-entry-in-Ended.entry ≡ first_record (length c.args.passed.now + n) (c.args.passed.now ++ c.args.window.now) = joined_first n c.args.passed.now c.args.window.now _ scan.within c.in_ok-entry-in-Ended.ensures in
-    let before : c.push_back.new.self.items ≡ record { at = c.args.start; entry = first_record (length c.args.passed.now + n) (c.args.passed.now ++ c.args.window.now) } ∷ [] = c.in_ok-push_back-in-Ended.ensures.items ∙ rw (c.new-first.ensures.items, entry) refl in
+    let before : c.push_back.new.self.items ≡ record { at = c.args.start; entry = first_record (length c.args.passed.now + n) (c.args.passed.now ++ c.args.window.now) } ∷ [] = rw (c.in_ok-push_back-in-Ended.ensures.items, c.new-first.ensures.items, entry) refl in
     let moves = rw (take_rest c.args.window.now n, before) at c.in_ok-gather-in-Ended.ensures in
     ended_by c.args.head c.args.start n c.args.passed.now c.args.window.now c.in_ok-gather-in-Ended.field-0 c.in_ok-gather-in-Ended.field-0.stop whole scan.within moves.0 moves.1
