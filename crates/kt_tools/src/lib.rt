@@ -6,6 +6,8 @@ mod eltcalc;
 mod line;
 mod report;
 mod status;
+#[cfg(test)]
+mod tests;
 mod tool;
 mod top_call;
 mod words;
