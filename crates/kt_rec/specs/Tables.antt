@@ -1,5 +1,5 @@
 -- Tables without rows.
-use Rattle.std.specs.Prelude.{◌≡◌, ℕ, [], All}
+use Rattle.std.specs.Prelude.{◌≡◌, [], All}
 use Rattle.kt_rec.specs.declared.tables.FinancialTables.{FinancialTables}
 use Rattle.kt_rec.specs.declared.tables.Tables.{Tables}
 

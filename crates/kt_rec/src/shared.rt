@@ -10,7 +10,14 @@ use crate::tables::Tables;
 fn is_shared<T: Send + Sync>(_: &T) {}
 
 /// Each type once; a row type stands for all row types, which `Tables` holds.
-pub(crate) fn are_shared(tables: &Tables, set: &TableSet, name: &Name, key: &CellKey, row: &FootRow, profile: &FmProfile) {
+pub(crate) fn are_shared(
+    tables: &Tables,
+    set: &TableSet,
+    name: &Name,
+    key: &CellKey,
+    row: &FootRow,
+    profile: &FmProfile,
+) {
     is_shared(tables);
     is_shared(set);
     is_shared(name);
