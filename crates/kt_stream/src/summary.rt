@@ -1,7 +1,7 @@
 //! The header and the fields of a summary stream.
 //! The rules: docs/STREAMS.md, "Headers" and "Records".
-ghost use Rattle.std.specs.Prelude.{◌≡◌, ◌+◌, ◌<◌, ◌≤◌, ◌^◌, length};
-ghost use Rattle.kt_stream.specs.Summary.{between, id_cause, exposure_cause, order_of, sidx_cause, loss_cause, mark_cause, summary_header, front_in, pair_in};
+ghost use Rattle.std.specs.Prelude.{◌≡◌, ◌+◌, ◌<◌, ◌≤◌, ◌^◌, length, IsTrue};
+ghost use Rattle.kt_stream.specs.Summary.{between, id_cause, exposure_cause, order_of, sidx_cause, loss_cause, SoundPair, mark_cause, summary_header, front_in, pair_in};
 
 use crate::number::{u32_of, u64_of};
 use crate::read::{FieldCause, Misfit, Read};
@@ -186,10 +186,23 @@ pub fn front_of(bytes: &[u8], at: u64) -> Read<SummaryFront>
     })
 }
 
-/// The pair at the front of the bytes, which stand at a byte of the stream.
-#[tactic(auto, unfolding(crate::specs::Summary::pair_in))]
+/// Whether nothing is wrong with a pair that is not the end pair.
 #[inline]
-pub fn pair_of(samples: u32, least: u32, bytes: &[u8], at: u64) -> Read<RawPair>
+fn is_sound(samples: u32, least: u32, word: u32, loss: u64) -> bool
+    requires { samples ≤ 1000 }
+    ensures { IsTrue result → SoundPair samples least word loss }
+{
+    let place = order(word);
+    word != 0
+        && least <= place
+        && place <= samples + 2
+        && 1 <= loss
+        && loss <= 10_000_000_000_000_000
+}
+
+/// The pair at the front of the bytes, field by field.
+#[tactic(auto, unfolding(crate::specs::Summary::pair_in))]
+fn judged_pair(samples: u32, least: u32, bytes: &[u8], at: u64) -> Read<RawPair>
     requires samples { samples ≤ 1000 }
     requires at { at < 2 ^ 63 }
     ensures { result ≡ pair_in samples least bytes.now at }
@@ -209,4 +222,23 @@ pub fn pair_of(samples: u32, least: u32, bytes: &[u8], at: u64) -> Read<RawPair>
         return Read::Wrong(Misfit { at: at + 4, cause });
     }
     Read::Got(RawPair { word, loss })
+}
+
+/// The pair at the front of the bytes, which stand at a byte of the stream. Most pairs are sound and
+/// not the end pair, so that is asked first.
+#[tactic(auto, unfolding(crate::specs::Summary::pair_in))]
+#[inline]
+pub fn pair_of(samples: u32, least: u32, bytes: &[u8], at: u64) -> Read<RawPair>
+    requires samples { samples ≤ 1000 }
+    requires at { at < 2 ^ 63 }
+    ensures { result ≡ pair_in samples least bytes.now at }
+{
+    if bytes.len() >= PAIR {
+        let word = u32_of(bytes);
+        let loss = u64_of(&bytes[4..]);
+        if is_sound(samples, least, word, loss) {
+            return Read::Got(RawPair { word, loss });
+        }
+    }
+    judged_pair(samples, least, bytes, at)
 }
