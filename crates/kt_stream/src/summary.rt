@@ -42,6 +42,9 @@ pub const PAIR: usize = 12;
 /// The length of a header in bytes.
 pub const HEADER: usize = 12;
 
+/// The greatest loss beside a sidx, in cents.
+const LOSS_LIMIT: u64 = 10_000_000_000_000_000;
+
 /// The cause against a value that is to lie between two bounds.
 #[inline]
 fn outside(low: u64, high: u64, cause: FieldCause, x: u64) -> Option<FieldCause>
@@ -106,7 +109,7 @@ fn loss_fault(word: u32, loss: u64) -> Option<FieldCause>
     if word == 0 {
         outside(0, 0, FieldCause::End, loss)
     } else {
-        outside(1, 10_000_000_000_000_000, FieldCause::Loss, loss)
+        outside(1, LOSS_LIMIT, FieldCause::Loss, loss)
     }
 }
 
@@ -186,18 +189,15 @@ pub fn front_of(bytes: &[u8], at: u64) -> Read<SummaryFront>
     })
 }
 
-/// Whether nothing is wrong with a pair that is not the end pair.
+/// Whether this is a pair, and no end pair, with which nothing is wrong. The bounds are compared in place
+/// because this is asked of each pair of a stream.
 #[inline]
 fn is_sound(samples: u32, least: u32, word: u32, loss: u64) -> bool
     requires { samples ≤ 1000 }
     ensures { IsTrue result → SoundPair samples least word loss }
 {
     let place = order(word);
-    word != 0
-        && least <= place
-        && place <= samples + 2
-        && 1 <= loss
-        && loss <= 10_000_000_000_000_000
+    word != 0 && least <= place && place <= samples + 2 && 1 <= loss && loss <= LOSS_LIMIT
 }
 
 /// The pair at the front of the bytes, field by field.
