@@ -27,14 +27,16 @@ pub(crate) fn loss_moments(samples: u32, pairs: &[Pair]) -> LossMoments
     let mut sum = 0u64;
     let mut squares = 0u128;
     for pair in pairs {
-        match Role::of_pair(pair) {
-            Role::Mean => mean = pair.loss,
-            Role::Deviation => sd = pair.loss,
-            Role::Sample => {
-                sum += pair.loss;
-                squares += u128::from(pair.loss) * u128::from(pair.loss);
+        // Most pairs are samples, so that is asked first.
+        if Role::is_sampled(pair) {
+            sum += pair.loss;
+            squares += u128::from(pair.loss) * u128::from(pair.loss);
+        } else {
+            match Role::of_pair(pair) {
+                Role::Mean => mean = pair.loss,
+                Role::Deviation => sd = pair.loss,
+                Role::Sample | Role::Other => {}
             }
-            Role::Other => {}
         }
     }
     LossMoments {

@@ -1,6 +1,7 @@
 //! What the sidx of a pair says of its loss.
 //! The rules: docs/STREAMS.md, "Records".
-ghost use Rattle.std.specs.Prelude.{◌≡◌};
+ghost use Rattle.std.specs.Prelude.{◌≡◌, ◌↔◌, IsTrue};
+ghost use Rattle.kt_elt.specs.declared.sidx.Role.TheVariants.{Sample};
 ghost use Rattle.kt_elt.specs.Sidx.{role_of};
 
 use kt_stream::Pair;
@@ -19,6 +20,13 @@ pub(crate) enum Role {
 }
 
 impl Role {
+    /// Whether the loss of a pair is a sampled one.
+    pub(crate) fn is_sampled(pair: &Pair) -> bool
+        ensures value { IsTrue result ↔ (role_of pair.now.sidx ≡ Sample) }
+    {
+        pair.sidx >= 1
+    }
+
     /// What the loss of a pair is, by its sidx.
     pub(crate) fn of_pair(pair: &Pair) -> Self
         ensures value { result ≡ role_of pair.now.sidx }

@@ -1,6 +1,6 @@
 -- The header and the records of a summary stream, read from the front of the bytes that are left.
 -- The rules: docs/STREAMS.md, "Headers" and "Records".
-use Rattle.std.specs.Prelude.{ℕ, zero, suc, ◌+◌, ◌^◌, ◌%◌, List, [], ◌∷◌, drop, Option, Some, None, nat_le, nat_lt, ◌==◌, ◌&&◌, if◌then◌else◌, slice_index}
+use Rattle.std.specs.Prelude.{◌≡◌, false, ℕ, zero, suc, ◌+◌, ◌^◌, ◌%◌, List, [], ◌∷◌, drop, Option, Some, None, nat_le, nat_lt, ◌==◌, ◌&&◌, if◌then◌else◌, slice_index}
 use Rattle.std.specs.Int.{w32, cast_signed}
 use Rattle.byteorder.specs.Endian.{big_number}
 use Rattle.kt_stream.specs.declared.entry.Pair.{Pair}
@@ -38,6 +38,12 @@ sidx_cause samples least word =
 -- a loss is from 1 to 10^16 cents, and 0 beside sidx 0
 abbrev pub loss_cause : ℕ → ℕ → Option FieldCause
 loss_cause word loss = if word == 0 then between 0 0 End loss else between 1 10000000000000000 Loss loss
+
+-- nothing is wrong with a pair that is not the end pair
+pub record SoundPair (samples least word loss : ℕ) : Type 0 where
+  pub other : word == 0 ≡ false
+  pub sidx_fits : sidx_cause samples least word ≡ None
+  pub loss_fits : loss_cause word loss ≡ None
 
 -- the first byte is the stream's id, and the next three the type 101, highest first
 abbrev pub mark_cause : ℕ → List ℕ → Option FieldCause

@@ -27,7 +27,7 @@ fn pairs_of(alloc: Global, count: usize, bytes: &[u8]) -> Result<Vec<Pair>, Allo
 {
     let mut pairs = Vec::with_capacity(alloc, count)?;
     for i in 0..count {
-        pairs.push(pair_at(&bytes[PAIR * i..]))?;
+        pairs.push_reserved(pair_at(&bytes[PAIR * i..]));
     }
     Ok(pairs)
 }

@@ -1,7 +1,7 @@
 //! The header and the fields of a summary stream.
 //! The rules: docs/STREAMS.md, "Headers" and "Records".
-ghost use Rattle.std.specs.Prelude.{◌≡◌, ◌+◌, ◌<◌, ◌≤◌, ◌^◌, length};
-ghost use Rattle.kt_stream.specs.Summary.{between, id_cause, exposure_cause, order_of, sidx_cause, loss_cause, mark_cause, summary_header, front_in, pair_in};
+ghost use Rattle.std.specs.Prelude.{◌≡◌, ◌+◌, ◌<◌, ◌≤◌, ◌^◌, length, IsTrue};
+ghost use Rattle.kt_stream.specs.Summary.{between, id_cause, exposure_cause, order_of, sidx_cause, loss_cause, SoundPair, mark_cause, summary_header, front_in, pair_in};
 
 use crate::number::{u32_of, u64_of};
 use crate::read::{FieldCause, Misfit, Read};
@@ -41,6 +41,9 @@ pub const FRONT: usize = 16;
 pub const PAIR: usize = 12;
 /// The length of a header in bytes.
 pub const HEADER: usize = 12;
+
+/// The greatest loss beside a sidx, in cents.
+const LOSS_LIMIT: u64 = 10_000_000_000_000_000;
 
 /// The cause against a value that is to lie between two bounds.
 #[inline]
@@ -106,7 +109,7 @@ fn loss_fault(word: u32, loss: u64) -> Option<FieldCause>
     if word == 0 {
         outside(0, 0, FieldCause::End, loss)
     } else {
-        outside(1, 10_000_000_000_000_000, FieldCause::Loss, loss)
+        outside(1, LOSS_LIMIT, FieldCause::Loss, loss)
     }
 }
 
@@ -186,10 +189,20 @@ pub fn front_of(bytes: &[u8], at: u64) -> Read<SummaryFront>
     })
 }
 
-/// The pair at the front of the bytes, which stand at a byte of the stream.
-#[tactic(auto, unfolding(crate::specs::Summary::pair_in))]
+/// Whether this is a pair, and no end pair, with which nothing is wrong. The bounds are compared in place
+/// because this is asked of each pair of a stream.
 #[inline]
-pub fn pair_of(samples: u32, least: u32, bytes: &[u8], at: u64) -> Read<RawPair>
+fn is_sound(samples: u32, least: u32, word: u32, loss: u64) -> bool
+    requires { samples ≤ 1000 }
+    ensures { IsTrue result → SoundPair samples least word loss }
+{
+    let place = order(word);
+    word != 0 && least <= place && place <= samples + 2 && 1 <= loss && loss <= LOSS_LIMIT
+}
+
+/// The pair at the front of the bytes, field by field.
+#[tactic(auto, unfolding(crate::specs::Summary::pair_in))]
+fn judged_pair(samples: u32, least: u32, bytes: &[u8], at: u64) -> Read<RawPair>
     requires samples { samples ≤ 1000 }
     requires at { at < 2 ^ 63 }
     ensures { result ≡ pair_in samples least bytes.now at }
@@ -209,4 +222,23 @@ pub fn pair_of(samples: u32, least: u32, bytes: &[u8], at: u64) -> Read<RawPair>
         return Read::Wrong(Misfit { at: at + 4, cause });
     }
     Read::Got(RawPair { word, loss })
+}
+
+/// The pair at the front of the bytes, which stand at a byte of the stream. Most pairs are sound and
+/// not the end pair, so that is asked first.
+#[tactic(auto, unfolding(crate::specs::Summary::pair_in))]
+#[inline]
+pub fn pair_of(samples: u32, least: u32, bytes: &[u8], at: u64) -> Read<RawPair>
+    requires samples { samples ≤ 1000 }
+    requires at { at < 2 ^ 63 }
+    ensures { result ≡ pair_in samples least bytes.now at }
+{
+    if bytes.len() >= PAIR {
+        let word = u32_of(bytes);
+        let loss = u64_of(&bytes[4..]);
+        if is_sound(samples, least, word, loss) {
+            return Read::Got(RawPair { word, loss });
+        }
+    }
+    judged_pair(samples, least, bytes, at)
 }
