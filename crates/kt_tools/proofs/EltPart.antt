@@ -1,5 +1,5 @@
 -- What a piece of a summary stream adds to its event loss table.
-use Rattle.std.proofs.Common.{◌≡◌, ℕ, Bool, true, false, cond, leb, List, [], ◌∷◌, ◌++◌, length, take, Option, Some, None, is_some, refl, sym, ap, subst, ◌∙◌, append_assoc}
+use Rattle.std.proofs.Common.{◌≡◌, ℕ, Bool, true, false, cond, leb, List, [], ◌∷◌, ◌++◌, length, take, Option, Some, None, refl, sym, ap, subst, ◌∙◌, append_assoc}
 use Rattle.std.specs.List.{AllByRecursion}
 use Rattle.std.proofs.lemmas.List.{append-nil}
 use Rattle.std.proofs.lemmas.Grind.{flat_map-append}
@@ -14,9 +14,8 @@ use Rattle.kt_stream.specs.Growth.{GrowsTo}
 use Rattle.kt_stream.specs.Reader.{Reading, Represents, Continues}
 use Rattle.kt_stream.specs.Summary.{summary_header}
 use Rattle.kt_stream.specs.Stream.{stream_of, headed, unlimited, overlong, stream_limit}
-use Rattle.kt_elt.specs.EventLoss.{elt_heading_text}
-use Rattle.kt_tools.specs.Outcome.{elt_rows, elt_table}
-use Rattle.kt_tools.specs.EltReading.{CanAppendBy, AppendsWhole, part_text, FeedsPiece, Stands, table_of, AddsPart, MakesPart}
+use Rattle.kt_tools.specs.Outcome.{elt_rows, elt_heading_part, elt_table}
+use Rattle.kt_tools.specs.EltReading.{CanAppendBy, AppendsWhole, heading_unless, without_heading, part_text, FeedsPiece, Stands, table_of, AddsPart, MakesPart}
 
 abbrev some_head : Head → Option Head
 some_head h = Some h
@@ -98,40 +97,48 @@ all_taken bytes taken reading rep = record {
 
 -- ---- the table grows by its part
 
-pub table_grows : (old new : Option Head) (taken held : List (Placed SummaryRecord)) → (old ≡ None → taken ≡ []) → ((h : Head) → old ≡ Some h → new ≡ Some h) → elt_table new (taken ++ held) ≡ elt_table old taken ++ part_text (is_some old) new held
-table_grows None None taken held none stays = refl
-table_grows None (Some h) taken held none stays = rw (none refl) refl
-table_grows (Some h) None taken held none stays = absurd (some_not_none h (sym (stays h refl)))
-table_grows (Some h) (Some g) taken held none stays =
+heading_due : (heading : Bool) (h : Head) → elt_heading_part heading ≡ heading_unless (without_heading heading None)
+heading_due true h = refl
+heading_due false h = refl
+
+no_heading_due : (heading : Bool) (h : Head) → heading_unless (without_heading heading (Some h)) ≡ []
+no_heading_due true h = refl
+no_heading_due false h = refl
+
+pub table_grows : (heading : Bool) (old new : Option Head) (taken held : List (Placed SummaryRecord)) → (old ≡ None → taken ≡ []) → ((h : Head) → old ≡ Some h → new ≡ Some h) → elt_table heading new (taken ++ held) ≡ elt_table heading old taken ++ part_text (without_heading heading old) new held
+table_grows heading None None taken held none stays = refl
+table_grows heading None (Some h) taken held none stays = rw (none refl, heading_due heading h) refl
+table_grows heading (Some h) None taken held none stays = absurd (some_not_none h (sym (stays h refl)))
+table_grows heading (Some h) (Some g) taken held none stays =
     let same : g ≡ h = some_is g h (stays h refl) in
-    rw (same, flat_map-append) (sym (append_assoc elt_heading_text (elt_rows h.samples taken) (elt_rows h.samples held)))
+    rw (same, flat_map-append, no_heading_due heading h) (sym (append_assoc (elt_heading_part heading) (elt_rows h.samples taken) (elt_rows h.samples held)))
 
 -- the law that what was read stays
 abbrev pub ReadStays : Type 0
 ReadStays = (bytes more : List ℕ) → GrowsTo (stream_of bytes) (stream_of (bytes ++ more))
 
-adds_part : (stays : ReadStays) (old mid new : Reading) (piece text : List ℕ) (written : Bool) (stop : Option StreamStop) → FeedsPiece old piece mid stop → written ≡ is_some old.head
-    → text ≡ part_text written mid.head mid.held → new ≡ record mid { held = [] } → (fed : List ℕ) → Stands fed old → AddsPart fed piece new text
-adds_part stays old mid new piece text written stop feeds written-is part same fed stands =
+adds_part : (stays : ReadStays) (heading : Bool) (old mid new : Reading) (piece text : List ℕ) (written : Bool) (stop : Option StreamStop) → FeedsPiece old piece mid stop → written ≡ without_heading heading old.head
+    → text ≡ part_text written mid.head mid.held → new ≡ record mid { held = [] } → (fed : List ℕ) → Stands fed old → AddsPart heading fed piece new text
+adds_part stays heading old mid new piece text written stop feeds written-is part same fed stands =
     let before = stands.represents in
     let after = feeds.extends fed stands.taken before in
     let taken-is : stands.taken ≡ (stream_of fed).entries = sym (append-nil stands.taken) ∙ ap (λ (held : List (Placed SummaryRecord)). stands.taken ++ held) (sym stands.empty) ∙ before.records in
     let none : old.head ≡ None → stands.taken ≡ [] = λ is. taken-is ∙ headless fed (sym before.head ∙ is) in
     let grows : (h : Head) → old.head ≡ Some h → mid.head ≡ Some h = λ h is. after.head ∙ (stays fed piece).head h (sym before.head ∙ is) in
-    let first : table_of fed ≡ elt_table old.head stands.taken = rw (← before.head, ← taken-is) refl in
-    let second : table_of (fed ++ piece) ≡ elt_table mid.head (stands.taken ++ mid.held) = rw (← after.head, ← after.records) refl in
+    let first : table_of heading fed ≡ elt_table heading old.head stands.taken = rw (← before.head, ← taken-is) refl in
+    let second : table_of heading (fed ++ piece) ≡ elt_table heading mid.head (stands.taken ++ mid.held) = rw (← after.head, ← after.records) refl in
     record {
       stands = record {
         taken = stands.taken ++ mid.held;
         represents = subst (λ (r : Reading). Represents (fed ++ piece) (stands.taken ++ mid.held) r) (sym same) (all_taken (fed ++ piece) stands.taken mid after);
         empty = ap (λ (r : Reading). r.held) same;
       };
-      table = second ∙ table_grows old.head mid.head stands.taken mid.held none grows ∙ rw (first, part, written-is) refl;
+      table = second ∙ table_grows heading old.head mid.head stands.taken mid.held none grows ∙ rw (first, part, written-is) refl;
     }
 
-pub makes_part : (stays : ReadStays) (old mid new : Reading) (piece text_before text : List ℕ) (written : Bool) (stop : Option StreamStop) → FeedsPiece old piece mid stop → written ≡ is_some old.head → text_before ≡ []
-    → AppendsWhole written mid new text_before text → MakesPart old piece new text stop
-makes_part stays old mid new piece text_before text written stop feeds written-is before appends = record {
+pub makes_part : (stays : ReadStays) (heading : Bool) (old mid new : Reading) (piece text_before text : List ℕ) (written : Bool) (stop : Option StreamStop) → FeedsPiece old piece mid stop → written ≡ without_heading heading old.head → text_before ≡ []
+    → AppendsWhole written mid new text_before text → MakesPart heading old piece new text stop
+makes_part stays heading old mid new piece text_before text written stop feeds written-is before appends = record {
   refused = ap (λ (r : Reading). r.stop) appends.reader ∙ feeds.refused;
-  adds = λ fed stands. adds_part stays old mid new piece text written stop feeds written-is (appends.part ∙ rw before refl) appends.reader fed stands;
+  adds = λ fed stands. adds_part stays heading old mid new piece text written stop feeds written-is (appends.part ∙ rw before refl) appends.reader fed stands;
 }

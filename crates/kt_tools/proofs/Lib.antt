@@ -3,3 +3,7 @@ pub mod Running
 pub mod EltRows
 pub mod EltPart
 pub mod EltLoop
+mod Naming
+mod Taking
+mod Ending
+mod Converting

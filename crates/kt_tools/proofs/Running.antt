@@ -5,13 +5,16 @@ use Rattle.std.proofs.lemmas.Bool.{true≢false, false≢true}
 use Rattle.std.proofs.lemmas.List.{append-nil}
 use Rattle.kt_out.specs.Counts.{Rose}
 use Rattle.kt_tools.specs.declared.command.Command.{Command}
-use Rattle.kt_tools.specs.declared.command.Command.TheVariants.{Eltcalc}
+use Rattle.kt_tools.specs.declared.command.Command.TheVariants.{Eltcalc, Convert}
 use Rattle.kt_tools.specs.declared.command.WordStop.{WordStop}
 use Rattle.kt_tools.specs.declared.status.Status.{Status}
 use Rattle.kt_tools.specs.declared.status.Status.TheVariants.{Done, Words, Refused, ReadFault, WriteFault}
 use Rattle.kt_tools.specs.declared.status.Status.TheVariants as status
-use Rattle.kt_tools.specs.Outcome.{words_outcome}
-use Rattle.kt_tools.specs.Tool.{Verdict, GainedFront, Gained}
+use Rattle.kt_tools.specs.declared.tool.ToolStop.{ToolStop}
+use Rattle.kt_tools.specs.declared.tool.ToolStop.TheVariants as tool
+use Rattle.kt_tools.specs.Outcome.{tool_outcome, words_outcome}
+use Rattle.kt_tools.specs.Stops.{end_status}
+use Rattle.kt_tools.specs.Tool.{Verdict, GainedFront, Gained, StreamToolEnds}
 use Rattle.kt_tools.specs.Run.{Known, words_use, Keeps, AnswersWords, IsReported, ReadsToEnd, EndsBy}
 
 -- ---- what a report leaves of a status
@@ -166,13 +169,33 @@ run_words (Err first) left left_now taken taken_now reads reads_now writes write
 
 pub run_source : (command : Result Command WordStop) (left left_now taken taken_now : Option (List ℕ)) (reads reads_now writes writes_now : ℕ) (came : Status)
     → EndsBy command left left_now taken taken_now reads reads_now writes writes_now came → Keeps (words_use command).source left left_now reads reads_now
-run_source (Ok Eltcalc) left left_now taken taken_now reads reads_now writes writes_now came ends uses = absurd (true≢false uses)
+run_source (Ok (Eltcalc heading)) left left_now taken taken_now reads reads_now writes writes_now came ends uses = absurd (true≢false uses)
+run_source (Ok (Convert conversion)) left left_now taken taken_now reads reads_now writes writes_now came ends uses = absurd (true≢false uses)
 run_source (Err stop) left left_now taken taken_now reads reads_now writes writes_now came ends uses = ends.source
 
 pub run_sink : (command : Result Command WordStop) (left left_now taken taken_now : Option (List ℕ)) (reads reads_now writes writes_now : ℕ) (came : Status)
     → EndsBy command left left_now taken taken_now reads reads_now writes writes_now came → Keeps (words_use command).sink taken taken_now writes writes_now
-run_sink (Ok Eltcalc) left left_now taken taken_now reads reads_now writes writes_now came ends uses = absurd (true≢false uses)
+run_sink (Ok (Eltcalc heading)) left left_now taken taken_now reads reads_now writes writes_now came ends uses = absurd (true≢false uses)
+run_sink (Ok (Convert conversion)) left left_now taken taken_now reads reads_now writes writes_now came ends uses = absurd (true≢false uses)
 run_sink (Err stop) left left_now taken taken_now reads reads_now writes writes_now came ends uses = ends.sink
 
 pub untouched : {H : Type 0} (uses : Bool) (held : H) (count : ℕ) → Keeps uses held held count count
 untouched uses held count is = record { holds = refl; counts = refl }
+
+-- ---- a tool ends the run
+
+-- the command that was found
+abbrev pub found : Command → Result Command WordStop
+found command = Ok command
+
+end_no_words : (end : Result (Unit {0}) ToolStop) (stop : WordStop) → end_status end ≡ Words stop → ⊥
+end_no_words (Ok done) stop is = cc
+end_no_words (Err (tool.Refused why)) stop is = cc
+end_no_words (Err tool.ReadFault) stop is = cc
+end_no_words (Err tool.WriteFault) stop is = cc
+end_no_words (Err tool.NoMemory) stop is = cc
+
+pub ends_by_tool : (wanted : Result Command WordStop) (command : Command) (left left_now taken taken_now : Option (List ℕ)) (reads reads_now writes writes_now : ℕ) (end : Result (Unit {0}) ToolStop) (came : Status) → wanted ≡ Ok command → came ≡ end_status end
+    → ((files : Files) → StreamToolEnds (tool_outcome command files) left left_now taken taken_now reads reads_now writes writes_now (end_status end)) → EndsBy wanted left left_now taken taken_now reads reads_now writes writes_now came
+ends_by_tool wanted command left left_now taken taken_now reads reads_now writes writes_now end came wanted-is came-is ends =
+    rw (wanted-is, came-is) (record { tool = ends; no_words = end_no_words end })

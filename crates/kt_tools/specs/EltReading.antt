@@ -1,6 +1,6 @@
 -- What reading a summary stream piece by piece makes of its event loss table.
 -- The rules: docs/COMMANDS.md, "eltcalc".
-use Rattle.std.specs.Prelude.{◌≡◌, ℕ, ◌≤◌, Bool, true, false, List, [], ◌++◌, Option, Some, None}
+use Rattle.std.specs.Prelude.{◌≡◌, ℕ, ◌≤◌, Bool, true, false, List, [], ◌++◌, Option, Some, None, is_some, not, ◌||◌}
 use Rattle.kt_stream.specs.declared.entry.Placed.{Placed}
 use Rattle.kt_stream.specs.declared.entry.SummaryRecord.{SummaryRecord}
 use Rattle.kt_stream.specs.declared.stop.StreamStop.{StreamStop}
@@ -22,10 +22,14 @@ pub record AppendsRows (samples : ℕ) (old new : Reading) (text text_now : List
   pub reader : new ≡ record old { held = [] }
   pub rows : text_now ≡ text ++ elt_rows samples old.held
 
--- the heading, unless it was written before
+-- the heading, unless it was written before or is not wanted
 abbrev pub heading_unless : Bool → List ℕ
 heading_unless true = []
 heading_unless false = elt_heading_text
+
+-- the heading is not to be written: it was before, or is not wanted
+abbrev pub without_heading : Bool → Option Head → Bool
+without_heading heading head = not heading || is_some head
 
 -- rows can be made of what a reader holds, if it has a header
 abbrev pub CanAppendBy : Option Head → List (Placed SummaryRecord) → Type 0
@@ -62,15 +66,15 @@ pub record Stood (reading : Reading) : Type 0 where
   pub stands : Stands fed reading
 
 -- the table of the bytes, up to the first refused record
-abbrev pub table_of : List ℕ → List ℕ
-table_of bytes = elt_table (stream_of bytes).head (stream_of bytes).entries
+abbrev pub table_of : Bool → List ℕ → List ℕ
+table_of heading bytes = elt_table heading (stream_of bytes).head (stream_of bytes).entries
 
 -- the text is what a piece adds to the table
-pub record AddsPart (fed piece : List ℕ) (new : Reading) (text : List ℕ) : Type 0 where
+pub record AddsPart (heading : Bool) (fed piece : List ℕ) (new : Reading) (text : List ℕ) : Type 0 where
   pub stands : Stands (fed ++ piece) new
-  pub table : table_of (fed ++ piece) ≡ table_of fed ++ text
+  pub table : table_of heading (fed ++ piece) ≡ table_of heading fed ++ text
 
 -- a piece was fed to a reader, and this is the text that it adds to the table and what refuses the stream
-pub record MakesPart (old : Reading) (piece : List ℕ) (new : Reading) (text : List ℕ) (stop : Option StreamStop) : Type 0 where
+pub record MakesPart (heading : Bool) (old : Reading) (piece : List ℕ) (new : Reading) (text : List ℕ) (stop : Option StreamStop) : Type 0 where
   pub refused : new.stop ≡ stop
-  pub adds : (fed : List ℕ) → Stands fed old → AddsPart fed piece new text
+  pub adds : (fed : List ℕ) → Stands fed old → AddsPart heading fed piece new text

@@ -6,3 +6,6 @@ pub mod Outcome
 pub mod Tool
 pub mod Run
 pub mod EltReading
+pub mod Given
+pub mod Converting
+pub mod Stops

@@ -1,20 +1,24 @@
 -- What a run of a command gives: its status, and the bytes that it writes to the sink.
 -- The rules: docs/COMMANDS.md.
-use Rattle.std.specs.Prelude.{ℕ, List, [], ◌++◌, Option, Some, None, Result, Ok, Err}
+use Rattle.std.specs.Prelude.{ℕ, Bool, true, false, List, [], ◌++◌, length, nat_le, Option, Some, None, Result, Ok, Err, if◌then◌else◌}
 use Rattle.std.specs.List.{flat_map}
 use Rattle.kt_stream.specs.declared.entry.Placed.{Placed}
 use Rattle.kt_stream.specs.declared.entry.SummaryRecord.{SummaryRecord}
 use Rattle.kt_stream.specs.declared.stop.StreamStop.{StreamStop}
 use Rattle.kt_stream.specs.declared.summary.Head.{Head}
 use Rattle.kt_stream.specs.Stream.{stream_of, fault_of}
+use Rattle.kt_cells.specs.declared.stop.TableStop.{TableStop}
 use Rattle.kt_elt.specs.EventLoss.{elt_heading_text, event_loss_rows}
 use Rattle.kt_tools.specs.declared.command.Command.{Command}
-use Rattle.kt_tools.specs.declared.command.Command.TheVariants.{Eltcalc}
+use Rattle.kt_tools.specs.declared.command.Command.TheVariants.{Eltcalc, Convert}
+use Rattle.kt_tools.specs.declared.command.Conversion.{Conversion}
 use Rattle.kt_tools.specs.declared.command.WordStop.{WordStop}
-use Rattle.kt_tools.specs.declared.status.Refusal.TheVariants.{Stream}
+use Rattle.kt_tools.specs.declared.status.Refusal.TheVariants.{Stream, TooLarge}
 use Rattle.kt_tools.specs.declared.status.Status.{Status}
 use Rattle.kt_tools.specs.declared.status.Status.TheVariants.{Done, Words, Refused}
 use Rattle.kt_tools.specs.Command.{command_of}
+use Rattle.kt_tools.specs.Converting.{source_limit, source_name, table_stop, other_form}
+use Rattle.kt_tools.specs.Stops.{stop_status}
 
 -- what a run gives, where no object fails and memory is there
 pub record Outcome : Type 0 where
@@ -30,18 +34,34 @@ stream_status (Some stop) = Refused (Stream stop)
 abbrev pub elt_rows : ℕ → List (Placed SummaryRecord) → List ℕ
 elt_rows samples entries = flat_map (λ placed. event_loss_rows samples placed.entry) entries
 
+-- the names of the columns, where they are wanted
+abbrev pub elt_heading_part : Bool → List ℕ
+elt_heading_part true = elt_heading_text
+elt_heading_part false = []
+
 -- the event loss table of a header and its records: nothing without a header
-abbrev pub elt_table : Option Head → List (Placed SummaryRecord) → List ℕ
-elt_table None entries = []
-elt_table (Some head) entries = elt_heading_text ++ elt_rows head.samples entries
+abbrev pub elt_table : Bool → Option Head → List (Placed SummaryRecord) → List ℕ
+elt_table heading None entries = []
+elt_table heading (Some head) entries = elt_heading_part heading ++ elt_rows head.samples entries
 
 -- the event loss table of a summary stream, up to the first refused record
-abbrev pub elt_outcome : List ℕ → Outcome
-elt_outcome source = record { status = stream_status (fault_of source); output = elt_table (stream_of source).head (stream_of source).entries }
+abbrev pub elt_outcome : Bool → List ℕ → Outcome
+elt_outcome heading source = record { status = stream_status (fault_of source); output = elt_table heading (stream_of source).head (stream_of source).entries }
+
+-- the other form of a table, or its refusal
+abbrev pub converted : Result (List ℕ) TableStop → Outcome
+converted (Ok bytes) = record { status = Done; output = bytes }
+converted (Err stop) = record { status = stop_status (table_stop source_name stop); output = [] }
+
+-- the conversion of the source: one that is too large is refused, whatever else is wrong with it
+abbrev pub convert_outcome : Conversion → List ℕ → Outcome
+convert_outcome conversion source =
+    if nat_le (length source) source_limit then converted (other_form conversion source) else record { status = Refused (TooLarge source_name); output = [] }
 
 -- the outcome of each tool, over the named files and the source
 abbrev pub tool_outcome : Command → (List ℕ → Option (List ℕ)) → List ℕ → Outcome
-tool_outcome Eltcalc files source = elt_outcome source
+tool_outcome (Eltcalc heading) files source = elt_outcome heading source
+tool_outcome (Convert conversion) files source = convert_outcome conversion source
 
 abbrev pub words_outcome : Result Command WordStop → (List ℕ → Option (List ℕ)) → List ℕ → Outcome
 words_outcome (Ok command) files source = tool_outcome command files source

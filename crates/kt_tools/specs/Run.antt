@@ -3,7 +3,7 @@
 use Rattle.std.specs.Prelude.{◌≡◌, ◌⊎◌, ℕ, List, [], ◌++◌, Bool, true, false, Option, Some, Result, Ok, Err, IfSome}
 use Rattle.kt_out.specs.Counts.{Rose, IsUntouched}
 use Rattle.kt_tools.specs.declared.command.Command.{Command}
-use Rattle.kt_tools.specs.declared.command.Command.TheVariants.{Eltcalc}
+use Rattle.kt_tools.specs.declared.command.Command.TheVariants.{Eltcalc, Convert}
 use Rattle.kt_tools.specs.declared.command.WordStop.{WordStop}
 use Rattle.kt_tools.specs.declared.status.Status.{Status}
 use Rattle.kt_tools.specs.declared.status.Status.TheVariants as status
@@ -24,7 +24,8 @@ pub record Uses : Type 0 where
   pub sink : Bool
 
 abbrev pub command_uses : Command → Uses
-command_uses Eltcalc = record { inputs = false; outputs = false; source = true; sink = true }
+command_uses (Eltcalc heading) = record { inputs = false; outputs = false; source = true; sink = true }
+command_uses (Convert conversion) = record { inputs = false; outputs = false; source = true; sink = true }
 
 -- faulty words use nothing
 abbrev pub words_use : Result Command WordStop → Uses

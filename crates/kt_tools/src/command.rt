@@ -1,9 +1,11 @@
 //! What the words of a call ask for.
 //! The rules: docs/COMMANDS.md, "Words".
-ghost use Rattle.std.specs.Prelude.{◌≡◌};
-ghost use Rattle.kt_tools.specs.Command.{command_of};
+ghost use Rattle.std.specs.Prelude.{◌≡◌, ◌≤◌, ◌<◌, length};
+ghost use Rattle.kt_tools.specs.Command.{command_of, tool_named, read_tool as tool_word, needs_periods as periods_are_needed, finish_tobin as tobin_finished, finished};
 
+use crate::given::Given;
 use crate::words::Words;
+use kt_rec::Table;
 
 /// Why a word is refused.
 #[derive(Clone, Copy, Debug, PartialEq, Eq)]
@@ -12,8 +14,18 @@ pub enum WordCause {
     Missing,
     /// The first word is no tool.
     UnknownTool,
+    /// The word is no option of the tool.
+    UnknownOption,
+    /// The option was given before.
+    Repeated,
+    /// The option is the last word, and a value is wanted behind it.
+    NeedsValue,
+    /// The value has not its form, or is out of its range; or the word is too long.
+    BadValue,
     /// There is a word too many.
     Unexpected,
+    /// The option does not go together with the other words.
+    NotTogether,
 }
 
 /// The first faulty word, and why it is refused.
@@ -25,17 +37,126 @@ pub struct WordStop {
     pub cause: WordCause,
 }
 
+/// A way from one form of a table to the other.
+#[derive(Clone, Copy, Debug, PartialEq, Eq)]
+pub enum Conversion {
+    /// From text to file.
+    ToFile {
+        /// The table.
+        table: Table,
+        /// The number of periods for `occurrence`, and 0 else.
+        periods: u32,
+    },
+    /// From file to text: each table but the footprint, whose file needs its index.
+    ToText {
+        /// The table.
+        table: Table,
+    },
+}
+
 /// What the words ask for.
 #[derive(Clone, Copy, Debug, PartialEq, Eq)]
 pub enum Command {
     /// The event loss table of a summary stream.
+    Eltcalc {
+        /// Whether the table begins with the names of its columns.
+        heading: bool,
+    },
+    /// A table in its other form.
+    Convert(Conversion),
+}
+
+/// A tool, by the first word.
+#[derive(Clone, Copy, Debug, PartialEq, Eq)]
+pub enum Tool {
+    /// `eltcalc`.
     Eltcalc,
+    /// `tobin`.
+    Tobin,
+    /// `tocsv`.
+    Tocsv,
+}
+
+/// The longest word, in bytes.
+pub const LONGEST_WORD: usize = 255;
+
+fn tool_of(word: &[u8]) -> Option<Tool>
+    ensures { result ≡ tool_named word.now }
+{
+    if word == b"eltcalc".as_slice() {
+        Some(Tool::Eltcalc)
+    } else if word == b"tobin".as_slice() {
+        Some(Tool::Tobin)
+    } else if word == b"tocsv".as_slice() {
+        Some(Tool::Tocsv)
+    } else {
+        None
+    }
+}
+
+/// The tool that a first word names.
+fn read_tool(word: &[u8]) -> Result<Tool, WordCause>
+    ensures { result ≡ tool_word word.now }
+{
+    if word.len() > LONGEST_WORD {
+        return Err(WordCause::BadValue);
+    }
+    tool_of(word).ok_or(WordCause::UnknownTool)
 }
 
 fn refused(word: u32, cause: WordCause) -> Result<Command, WordStop>
     ensures { result ≡ Err (record { word = word; cause = cause }) }
 {
     Err(WordStop { word, cause })
+}
+
+/// Whether the number of periods is wanted for a table.
+fn needs_periods(table: Table) -> bool
+    ensures { result ≡ periods_are_needed table }
+{
+    match table {
+        Table::Occurrence => true,
+        _ => false,
+    }
+}
+
+/// The conversion to a file that so many words ask for.
+fn finish_tobin(given: Given, count: u32) -> Result<Command, WordStop>
+    requires { count < 4294967295 }
+    ensures { result ≡ tobin_finished given.table given.periods count }
+{
+    let Some(table) = given.table else {
+        return refused(count + 1, WordCause::Missing);
+    };
+    match (needs_periods(table), given.periods) {
+        (true, None) => refused(count + 1, WordCause::Missing),
+        (true, Some(option)) => Ok(Command::Convert(Conversion::ToFile {
+            table,
+            periods: option.value.unwrap_or(0),
+        })),
+        (false, None) => Ok(Command::Convert(Conversion::ToFile { table, periods: 0 })),
+        (false, Some(option)) => refused(option.word, WordCause::NotTogether),
+    }
+}
+
+/// The command of a tool whose words were all read, so many with that of the tool.
+fn finish(tool: Tool, given: Given, count: u32) -> Result<Command, WordStop>
+    requires { count < 4294967295 }
+    ensures { result ≡ finished tool given count }
+{
+    if given.awaits_value() {
+        return refused(count, WordCause::NeedsValue);
+    }
+    match tool {
+        Tool::Eltcalc => Ok(Command::Eltcalc {
+            heading: !given.silent,
+        }),
+        Tool::Tobin => finish_tobin(given, count),
+        Tool::Tocsv => match given.table {
+            None => refused(count + 1, WordCause::Missing),
+            Some(table) => Ok(Command::Convert(Conversion::ToText { table })),
+        },
+    }
 }
 
 /// The command that the words are, or the first faulty word.
@@ -45,11 +166,16 @@ pub fn read_command(words: &Words) -> Result<Command, WordStop>
     if words.len() == 0 {
         return refused(1, WordCause::Missing);
     }
-    if words.word(0) != b"eltcalc".as_slice() {
-        return refused(1, WordCause::UnknownTool);
+    let tool = match read_tool(words.word(0)) {
+        Ok(tool) => tool,
+        Err(cause) => return refused(1, cause),
+    };
+    let mut given = Given::new();
+    'words: for n in 1..words.len() {
+        given = match given.with_word(tool, n as u32 + 1, words.word(n)) {
+            Ok(given) => given,
+            Err(cause) => return refused(n as u32 + 1, cause),
+        };
     }
-    if words.len() > 1 {
-        return refused(2, WordCause::Unexpected);
-    }
-    Ok(Command::Eltcalc)
+    finish(tool, given, words.len() as u32)
 }

@@ -4,32 +4,22 @@ ghost use Rattle.std.specs.Prelude.{◌≡◌, ◌++◌, ◌<◌, [], length, If
 ghost use Rattle.kt_elt.specs.EventLoss.{elt_heading_text};
 ghost use Rattle.kt_stream.specs.Reader.{Extends};
 ghost use Rattle.kt_tools.specs.Outcome.{elt_outcome, elt_rows};
-ghost use Rattle.kt_tools.specs.Tool.{StreamToolEnds, end_status};
-ghost use Rattle.kt_tools.specs.EltReading.{CanAppend, CanAppendAll, AppendsRows, AppendsWhole, heading_unless, FeedsPiece, Stood, MakesPart};
+ghost use Rattle.kt_tools.specs.Tool.{StreamToolEnds};
+ghost use Rattle.kt_tools.specs.Stops.{end_status};
+ghost use Rattle.kt_tools.specs.EltReading.{CanAppend, CanAppendAll, AppendsRows, AppendsWhole, heading_unless, without_heading, FeedsPiece, Stood, MakesPart};
 
+use crate::block::{BLOCK, zeros};
 use crate::status::Refusal;
 use crate::tool::{ToolStop, write_stop};
 use kt_elt::{elt_heading, elt_text};
 use kt_money::{Bytes, OutOfMemory};
 use kt_out::{Sink, Source, write_all};
 use kt_stream::laws::{what_is_read_fits, what_is_read_stays};
-use kt_stream::{StreamStop, SummaryReader};
+use kt_stream::{Head, StreamStop, SummaryReader};
 use std::alloc::{AllocError, Global};
-
-/// The bytes that one read asks for.
-const BLOCK: usize = 65_536;
 
 /// More turns than a stream has bytes: each turn but the last reads one at the least.
 const TURNS: u64 = 1_099_511_627_778;
-
-/// A block of zeros.
-fn zeros(alloc: Global, size: usize) -> Result<Vec<u8>, AllocError>
-    ensures { IfOk result (λ block. length block.items ≡ size) }
-{
-    let mut block = Vec::new(alloc);
-    block.resize(size, 0)?;
-    Ok(block)
-}
 
 /// Takes the whole records from the reader, and appends their rows.
 fn append_rows(reader: &mut SummaryReader, samples: u32, out: &mut Bytes) -> Result<(), OutOfMemory>
@@ -42,7 +32,7 @@ fn append_rows(reader: &mut SummaryReader, samples: u32, out: &mut Bytes) -> Res
     Ok(())
 }
 
-/// Appends the heading of the table, unless it was written before.
+/// Appends the heading of the table, unless it was written before or is not wanted.
 fn append_heading(written: bool, out: &mut Bytes) -> Result<(), OutOfMemory>
     ensures value { OnOk result (out.new ≡ out.old ++ heading_unless written) }
 {
@@ -50,6 +40,13 @@ fn append_heading(written: bool, out: &mut Bytes) -> Result<(), OutOfMemory>
         return Ok(());
     }
     out.append(elt_heading())
+}
+
+/// Whether no heading is to be written: it was when the header was read, or is not wanted.
+fn has_no_heading(heading: bool, head: Option<Head>) -> bool
+    ensures { result ≡ without_heading heading head }
+{
+    !heading || head.is_some()
 }
 
 /// Feeds a piece: what refuses the stream, if anything does.
@@ -81,29 +78,31 @@ fn append_whole(
 
 /// Feeds a piece, and makes the text of the table's part that is whole by it.
 fn table_part(
+    heading: bool,
     reader: &mut SummaryReader,
     piece: &[u8],
     out: &mut Bytes,
 ) -> Result<Option<StreamStop>, AllocError>
     requires { Stood reader.old }
-    ensures value { IfOk result (λ stop. MakesPart reader.old piece.now reader.new out.new stop) }
+    ensures value { IfOk result (λ stop. MakesPart heading reader.old piece.now reader.new out.new stop) }
 {
     what_is_read_fits();
     what_is_read_stays();
     out.truncate(0);
-    let written = reader.head().is_some();
+    let written = has_no_heading(heading, reader.head());
     let stop = feed_piece(reader, piece)?;
     append_whole(written, reader, out)?;
     Ok(stop)
 }
 
-/// Reads a summary stream and writes its event loss table.
+/// Reads a summary stream and writes its event loss table, with or without the names of its columns.
 pub fn eltcalc<S: Source, K: Sink>(
     alloc: Global,
+    heading: bool,
     source: &mut S,
     sink: &mut K,
 ) -> Result<(), ToolStop>
-    ensures { StreamToolEnds elt_outcome (S.left source.old) (S.left source.new) (K.taken sink.old) (K.taken sink.new) (S.fault_count source.old) (S.fault_count source.new) (K.fault_count sink.old) (K.fault_count sink.new) (end_status result) }
+    ensures { StreamToolEnds (elt_outcome heading) (S.left source.old) (S.left source.new) (K.taken sink.old) (K.taken sink.new) (S.fault_count source.old) (S.fault_count source.new) (K.fault_count sink.old) (K.fault_count sink.new) (end_status result) }
 {
     what_is_read_stays();
     let mut reader = SummaryReader::new(alloc);
@@ -120,7 +119,7 @@ pub fn eltcalc<S: Source, K: Sink>(
                 Err(stop) => Err(ToolStop::Refused(Refusal::Stream(stop))),
             };
         }
-        let stop = table_part(&mut reader, &block[..read], &mut out)?;
+        let stop = table_part(heading, &mut reader, &block[..read], &mut out)?;
         if let Err(fault) = write_all(sink, out.as_slice()) {
             return Err(write_stop(fault));
         }

@@ -1,8 +1,11 @@
 //! The words of a call, the tools, and the one call that runs them.
 #![tactic(auto)]
 
+mod block;
 mod command;
+mod convert;
 mod eltcalc;
+mod given;
 mod line;
 mod report;
 mod status;
@@ -10,6 +13,7 @@ mod status;
 mod tests;
 mod tool;
 mod top_call;
+mod whole_source;
 mod words;
 
 pub use command::{WordCause, WordStop};

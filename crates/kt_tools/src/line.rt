@@ -2,12 +2,14 @@
 //! The rules: docs/REFUSALS.md, "Texts".
 ghost use Rattle.std.specs.Prelude.{◌≡◌, ◌++◌, OnOk, IfOk, codes};
 ghost use Rattle.kt_money.specs.NumberText.{count_text};
-ghost use Rattle.kt_tools.specs.Line.{cause_text, stream_text, status_text, status_line};
+ghost use Rattle.kt_tools.specs.Line.{cause_text, field_text, file_text, refusal_text, stream_text, status_text, status_line};
 ghost use Rattle.kt_tools.specs.Line.{IsRefused};
 
 use crate::command::WordCause;
 use crate::status::{Refusal, Status};
+use kt_cells::Cause;
 use kt_money::{Bytes, OutOfMemory, push_count};
+use kt_rec::Name;
 use kt_stream::{RecordCause, StreamStop};
 use std::alloc::Global;
 
@@ -18,7 +20,12 @@ fn cause_words(cause: WordCause) -> &'static [u8]
     match cause {
         WordCause::Missing => b"missing",
         WordCause::UnknownTool => b"unknown tool",
+        WordCause::UnknownOption => b"unknown option",
+        WordCause::Repeated => b"repeated",
+        WordCause::NeedsValue => b"needs a value",
+        WordCause::BadValue => b"bad value",
         WordCause::Unexpected => b"unexpected",
+        WordCause::NotTogether => b"not together",
     }
 }
 
@@ -48,6 +55,83 @@ fn push_stream_text(out: &mut Bytes, stop: StreamStop) -> Result<(), OutOfMemory
     }
 }
 
+/// The text of what is wrong with a row or a field.
+fn field_words(cause: Cause) -> &'static [u8]
+    ensures { result.now ≡ field_text cause }
+{
+    match cause {
+        Cause::Columns => b"columns",
+        Cause::NotANumber => b"notanumber",
+        Cause::TooManyDigits => b"toomanydigits",
+        Cause::ExponentRange => b"exponentrange",
+        Cause::TooLarge => b"toolarge",
+        Cause::Zero => b"zero",
+        Cause::Rule => b"rule",
+        Cause::Order => b"order",
+    }
+}
+
+/// Appends `NAME: TEXT`.
+fn push_file(out: &mut Bytes, name: &Name, text: &[u8]) -> Result<(), OutOfMemory>
+    ensures { OnOk result (out.new ≡ out.old ++ file_text name.now text.now) }
+{
+    out.append(name.as_slice())?;
+    out.append(b": ")?;
+    out.append(text)
+}
+
+/// Appends `NAME: TEXT N`, where a blank ends the text.
+fn push_found(out: &mut Bytes, name: &Name, text: &[u8], found: u32) -> Result<(), OutOfMemory>
+    ensures { OnOk result (out.new ≡ out.old ++ file_text name.now (text.now ++ count_text found)) }
+{
+    push_file(out, name, text)?;
+    push_count(out, found as u64)
+}
+
+/// Appends `NAME: row R`.
+fn push_row(out: &mut Bytes, name: &Name, row: u64) -> Result<(), OutOfMemory>
+    ensures { OnOk result (out.new ≡ out.old ++ file_text name.now (codes "row " ++ count_text row)) }
+{
+    push_file(out, name, b"row ")?;
+    push_count(out, row)
+}
+
+/// Appends ` column C: CAUSE`.
+fn push_field(out: &mut Bytes, column: u32, cause: Cause) -> Result<(), OutOfMemory>
+    ensures { OnOk result (out.new ≡ out.old ++ (codes " column " ++ (count_text column ++ (codes ": " ++ field_text cause)))) }
+{
+    out.append(b" column ")?;
+    push_count(out, column as u64)?;
+    out.append(b": ")?;
+    out.append(field_words(cause))
+}
+
+/// Appends why a run is refused.
+fn push_refusal(out: &mut Bytes, refusal: &Refusal) -> Result<(), OutOfMemory>
+    ensures { OnOk result (out.new ≡ out.old ++ refusal_text refusal.now) }
+{
+    match refusal {
+        Refusal::Stream(stop) => push_stream_text(out, *stop),
+        Refusal::TooLarge { name } => push_file(out, name, b"too large"),
+        Refusal::NotProfile { name } => push_file(out, name, b"not of this profile"),
+        Refusal::WrongTable { name, found } => push_found(out, name, b"wrong table ", *found),
+        Refusal::WrongVersion { name, found } => push_found(out, name, b"wrong version ", *found),
+        Refusal::CutRecord { name, row } => {
+            push_row(out, name, *row)?;
+            out.append(b": cut record")
+        }
+        Refusal::Bad {
+            name,
+            row,
+            column,
+            cause,
+        } => {
+            push_row(out, name, *row)?;
+            push_field(out, *column, *cause)
+        }
+    }
+}
+
 /// Appends what a status says: nothing, unless the words or the input are refused.
 fn push_status_text(out: &mut Bytes, status: &Status) -> Result<(), OutOfMemory>
     ensures { OnOk result (out.new ≡ out.old ++ status_text status.now) }
@@ -59,7 +143,7 @@ fn push_status_text(out: &mut Bytes, status: &Status) -> Result<(), OutOfMemory>
             out.append(b": ")?;
             out.append(cause_words(stop.cause))
         }
-        Status::Refused(Refusal::Stream(stop)) => push_stream_text(out, *stop),
+        Status::Refused(refusal) => push_refusal(out, refusal),
         _ => Ok(()),
     }
 }

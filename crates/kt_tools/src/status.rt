@@ -4,17 +4,62 @@ ghost use Rattle.std.specs.Prelude.{◌≡◌};
 ghost use Rattle.kt_tools.specs.Status.{status_code};
 
 use crate::command::WordStop;
+use kt_cells::Cause;
+use kt_rec::Name;
 use kt_stream::StreamStop;
 
-/// Why a run was refused: the first bad record or exceeded limit.
-#[derive(Clone, Copy, Debug, PartialEq, Eq)]
+/// Why a run was refused: the first bad record or exceeded limit. A table is named by its file; that of
+/// the source is `source`.
+#[derive(Debug, Drop)]
 pub enum Refusal {
     /// The stream is refused.
     Stream(StreamStop),
+    /// A table has more than 2^30 bytes.
+    TooLarge {
+        /// The table's file.
+        name: Name,
+    },
+    /// A file does not begin as that of a table does.
+    NotProfile {
+        /// The table's file.
+        name: Name,
+    },
+    /// A file is that of another table.
+    WrongTable {
+        /// The table's file.
+        name: Name,
+        /// The number of the table that it has.
+        found: u32,
+    },
+    /// A file has another version.
+    WrongVersion {
+        /// The table's file.
+        name: Name,
+        /// The version that it has.
+        found: u32,
+    },
+    /// A file ends within a record.
+    CutRecord {
+        /// The table's file.
+        name: Name,
+        /// The row that the record would be, counted from 1.
+        row: u64,
+    },
+    /// A row or a field is wrong.
+    Bad {
+        /// The table's file.
+        name: Name,
+        /// The row, counted from 1; 0 for the header of a file.
+        row: u64,
+        /// The column, counted from 1; 0 for the row as a whole.
+        column: u32,
+        /// What is wrong.
+        cause: Cause,
+    },
 }
 
 /// How a run ended.
-#[derive(Clone, Copy, Debug, PartialEq, Eq)]
+#[derive(Debug, Drop)]
 pub enum Status {
     /// The input was read to its end, and all output was taken.
     Done,

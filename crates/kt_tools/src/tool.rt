@@ -2,14 +2,14 @@
 //! The rules: docs/REFUSALS.md, "Statuses".
 ghost use Rattle.std.specs.Prelude.{◌≡◌};
 ghost use Rattle.kt_tools.specs.declared.tool.ToolStop.TheVariants.{NoMemory};
-ghost use Rattle.kt_tools.specs.Tool.{stop_status, end_status, fault_stop};
+ghost use Rattle.kt_tools.specs.Stops.{stop_status, end_status, fault_stop};
 
 use crate::status::{Refusal, Status};
 use kt_out::Fault;
 use std::alloc::AllocError;
 
 /// Why a tool did not come to its end.
-#[derive(Clone, Copy, Debug, PartialEq, Eq)]
+#[derive(Debug, Drop)]
 pub enum ToolStop {
     /// The input is refused.
     Refused(Refusal),

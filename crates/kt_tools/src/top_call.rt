@@ -9,6 +9,7 @@ ghost use Rattle.kt_tools.specs.Tool.{Verdict, Gained};
 ghost use Rattle.kt_tools.specs.Run.{Known, AnswersWords, Keeps, words_use, SaysWhy, EndsRun, ReadsToEnd};
 
 use crate::command::{Command, read_command};
+use crate::convert::convert;
 use crate::eltcalc::eltcalc;
 use crate::report::report;
 use crate::status::Status;
@@ -29,7 +30,8 @@ fn carry_out<S: Source, K: Sink>(
 {
     match read_command(words) {
         Err(stop) => Status::Words(stop),
-        Ok(Command::Eltcalc) => status_of(eltcalc(alloc, source, sink)),
+        Ok(Command::Eltcalc { heading }) => status_of(eltcalc(alloc, heading, source, sink)),
+        Ok(Command::Convert(conversion)) => status_of(convert(alloc, conversion, source, sink)),
     }
 }
 

@@ -1,4 +1,5 @@
-use Rattle.std.proofs.Common.{refl, ap, ◌∙◌, is_some}
+use Rattle.std.proofs.Common.{refl, ap, ◌∙◌}
+use Rattle.kt_tools.specs.EltReading.{without_heading}
 use Rattle.kt_tools.proofs.EltPart.{can_append, makes_part}
 use Rattle.kt_tools.proofs.eltcalc.table_part.Goals as goal
 
@@ -9,6 +10,6 @@ append_whole-requires c =
 pub returns : goal.returns
 returns c = record {
   value =
-      makes_part c.what_is_read_stays.ensures c.args.reader.now c.feed_piece.new.reader c.append_whole.new.reader c.args.piece.now c.truncate.new.self c.append_whole.new.out c.is_some-written.result c.in_ok-stop.stop
-      c.in_ok-stop.ensures.value (c.is_some-written.ensures ∙ ap is_some c.head.ensures.value) c.truncate.ensures.value c.in_ok-append_whole.ensures.value;
+      makes_part c.what_is_read_stays.ensures c.args.heading c.args.reader.now c.feed_piece.new.reader c.append_whole.new.reader c.args.piece.now c.truncate.new.self c.append_whole.new.out c.has_no_heading-written.result c.in_ok-stop.stop
+      c.in_ok-stop.ensures.value (c.has_no_heading-written.ensures ∙ ap (without_heading c.args.heading) c.head.ensures.value) c.truncate.ensures.value c.in_ok-append_whole.ensures.value;
 }

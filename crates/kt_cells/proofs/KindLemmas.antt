@@ -1,0 +1,157 @@
+-- Values in the range of their kind.
+use Rattle.std.proofs.Common.{◌≡◌, ℕ, zero, suc, All, ◌^◌, ◌<◌, ◌≤◌, Bool, true, false, List, [], ◌∷◌, length, refl, sym, ap, ◌∙◌, inl, inr, arith, subst}
+use Rattle.std.specs.Prelude.{Result, Ok, Err, nat_lt, if◌then◌else◌}
+use Rattle.std.proofs.lemmas.Bool.Decides.{nat_tests}
+use Rattle.std.proofs.lemmas.List.{append-nil}
+use Rattle.byteorder.specs.Endian.{little_number, little_bytes}
+use Rattle.byteorder.specs.Numbers.{length-bytes_low_first, little_number-reads_back}
+use Rattle.kt_text.specs.Laws.{CountsAreReadBack, AmountsAreReadBack}
+use Rattle.kt_cells.specs.Kinds.{under, width, is_ppm, is_rule, highest, within, known_rule, in_range}
+use Rattle.kt_cells.specs.Reading.{and_then, and_then-ok, rule_after}
+use Rattle.kt_cells.specs.Ranges.{IsRow, AreRows, FitsBytes}
+use Rattle.kt_cells.specs.Records.{field_value}
+use Rattle.kt_cells.specs.Texts.{decimals, number_in, or_cause, text_value, value_text}
+use Rattle.kt_cells.specs.declared.kind.Kind.{Kind}
+use Rattle.kt_cells.specs.declared.kind.Kind.TheVariants as kind
+use Rattle.kt_cells.specs.declared.stop.Cause.{Cause}
+use Rattle.kt_cells.specs.declared.stop.Cause.TheVariants as cause
+use Rattle.kt_cells.proofs.RangeLemmas.{ReadsInRange, ReadsBack}
+
+-- a value that is below the least or above the most is refused
+refused_by : (b : Bool) (cause : Cause) (rest : Result ℕ Cause) (x : ℕ) → (if b then Err cause else rest) ≡ Ok x → (b ≡ false) × (rest ≡ Ok x)
+refused_by true cause rest x good = absurd (cc)
+refused_by false cause rest x good = (refl, good)
+
+-- a value within bounds is the value
+within-ok : (least most value x : ℕ) → within least most value ≡ Ok x → (value ≡ x) × (x ≤ most)
+within-ok least most value x good =
+    let low = refused_by (nat_lt value least) cause.Zero _ x good in
+    let high = refused_by (nat_lt most value) cause.TooLarge (Ok value) x low.1 in
+    let same : value ≡ x = cc (high.1) in
+    let at_most : value ≤ most = grind (arith, nat_tests, high.0) in
+    (same, omega (arith, same, at_most))
+
+-- a rule is the value
+rule_by : (b : Bool) (value x : ℕ) → (if b then Ok value else Err cause.Rule) ≡ Ok x → (b ≡ true) × (value ≡ x)
+rule_by true value x good = (refl, cc)
+rule_by false value x good = absurd (cc)
+
+known_rule-ok : (value x : ℕ) → known_rule value ≡ Ok x → (value ≡ x) × (x ≤ 100)
+known_rule-ok value x good =
+    let known = rule_by (is_rule value) value x good in
+    let at_most : value ≤ 100 = grind (arith, nat_tests, known.0) in
+    (known.1, omega (arith, known.1, at_most))
+
+-- a value in range is the value, and not above the greatest
+pub in_range-ok : (k : Kind) (value x : ℕ) → in_range k value ≡ Ok x → (value ≡ x) × (x ≤ highest k)
+unfolding in_range
+in_range-ok kind.Rule value x good = known_rule-ok value x good
+in_range-ok kind.Id value x good = within-ok _ _ value x good
+in_range-ok kind.Count value x good = within-ok _ _ value x good
+in_range-ok kind.IntensityBin value x good = within-ok _ _ value x good
+in_range-ok kind.DamageBin value x good = within-ok _ _ value x good
+in_range-ok kind.Level value x good = within-ok _ _ value x good
+in_range-ok kind.Layer value x good = within-ok _ _ value x good
+in_range-ok kind.SummarySet value x good = within-ok _ _ value x good
+in_range-ok kind.Offset value x good = within-ok _ _ value x good
+in_range-ok kind.Tiv value x good = within-ok _ _ value x good
+in_range-ok kind.Amount value x good = within-ok _ _ value x good
+in_range-ok (kind.Term t) value x good = within-ok _ _ value x good
+in_range-ok kind.Ppm value x good = within-ok _ _ value x good
+
+-- the value of a field is in range
+pub field_value-range : ReadsInRange field_value
+field_value-range k cell value good =
+    let found = in_range-ok k (little_number (length cell) cell) value good in
+    subst (λ (x : ℕ). in_range k x ≡ Ok value) found.0 good
+
+-- the value of a text is in range
+pub text_value-range : ReadsInRange text_value
+unfolding text_value
+text_value-range k text value good =
+    let found = and_then-ok (or_cause (number_in (decimals k) text)) (in_range k) value good in
+    subst (λ (x : ℕ). in_range k x ≡ Ok value) (in_range-ok k found.0 value found.2).0 found.2
+
+-- no value is above the greatest amount
+pub highest-most : (k : Kind) → highest k ≤ 10 ^ 17
+highest-most kind.Rule = omega arith
+highest-most kind.Id = omega arith
+highest-most kind.Count = omega arith
+highest-most kind.IntensityBin = omega arith
+highest-most kind.DamageBin = omega arith
+highest-most kind.Level = omega arith
+highest-most kind.Layer = omega arith
+highest-most kind.SummarySet = omega arith
+highest-most kind.Offset = omega arith
+highest-most kind.Tiv = omega arith
+highest-most kind.Amount = omega arith
+highest-most (kind.Term t) = omega arith
+highest-most kind.Ppm = omega arith
+
+-- an amount or parts per million fit eight bytes
+term-fits : (b : Bool) → highest (if b then kind.Ppm else kind.Amount) < 256 ^ 8
+term-fits true = omega arith
+term-fits false = omega arith
+
+-- the values of a kind fit its bytes
+highest-fits : (rule : ℕ) (k : Kind) → highest (under rule k) < 256 ^ width k
+highest-fits rule kind.Rule = omega arith
+highest-fits rule kind.Id = omega arith
+highest-fits rule kind.Count = omega arith
+highest-fits rule kind.IntensityBin = omega arith
+highest-fits rule kind.DamageBin = omega arith
+highest-fits rule kind.Level = omega arith
+highest-fits rule kind.Layer = omega arith
+highest-fits rule kind.SummarySet = omega arith
+highest-fits rule kind.Offset = omega arith
+highest-fits rule kind.Tiv = omega arith
+highest-fits rule kind.Amount = omega arith
+highest-fits rule (kind.Term t) = term-fits (is_ppm t rule)
+highest-fits rule kind.Ppm = omega arith
+
+-- the bytes of a value are read back
+pub numbers-read_back : ReadsBack field_value (λ rule k value. little_bytes (width k) value)
+numbers-read_back rule k value range =
+    let small : value < 256 ^ width k = omega (arith, (in_range-ok (under rule k) value value range).1, highest-fits rule k) in
+    let long : length (little_bytes (width k) value) ≡ width k = length-bytes_low_first 0 (width k) value in
+    let back : little_number (width k) (little_bytes (width k) value) ≡ value =
+    ap (little_number (width k)) (sym (append-nil (little_bytes (width k) value))) ∙ little_number-reads_back (width k) value [] small in
+    ap (λ n. in_range (under rule k) (little_number n (little_bytes (width k) value))) long ∙ ap (in_range (under rule k)) back ∙ range
+
+-- a count, or an amount in its decimals, is read back
+number_in-text : CountsAreReadBack → AmountsAreReadBack → (k : Kind) (value : ℕ) → value ≤ 10 ^ 17 → number_in (decimals k) (value_text k value) ≡ Ok value
+number_in-text counts amounts kind.Rule value small = counts value (omega arith)
+number_in-text counts amounts kind.Id value small = counts value (omega arith)
+number_in-text counts amounts kind.Count value small = counts value (omega arith)
+number_in-text counts amounts kind.IntensityBin value small = counts value (omega arith)
+number_in-text counts amounts kind.DamageBin value small = counts value (omega arith)
+number_in-text counts amounts kind.Level value small = counts value (omega arith)
+number_in-text counts amounts kind.Layer value small = counts value (omega arith)
+number_in-text counts amounts kind.SummarySet value small = counts value (omega arith)
+number_in-text counts amounts kind.Offset value small = counts value (omega arith)
+number_in-text counts amounts kind.Tiv value small = amounts 2 value (inl refl) small
+number_in-text counts amounts kind.Amount value small = amounts 2 value (inl refl) small
+number_in-text counts amounts (kind.Term t) value small = amounts 2 value (inl refl) small
+number_in-text counts amounts kind.Ppm value small = amounts 6 value (inr refl) small
+
+-- the text of a value is read back
+pub texts-read_back : CountsAreReadBack → AmountsAreReadBack → ReadsBack text_value (λ rule k value. value_text (under rule k) value)
+unfolding text_value
+texts-read_back counts amounts rule k value range =
+    let small : value ≤ 10 ^ 17 = omega (arith, (in_range-ok (under rule k) value value range).1, highest-most (under rule k)) in
+    ap (λ result. and_then (or_cause result) (in_range (under rule k))) (number_in-text counts amounts (under rule k) value small) ∙ range
+
+-- the values of a row in range fit their bytes
+pub IsRow-fits : (rule : ℕ) (kinds : List Kind) (values : List ℕ) → IsRow rule kinds values → FitsBytes kinds values
+unfolding IsRow
+IsRow-fits rule [] values range column within = absurd (omega arith)
+IsRow-fits rule (kind ∷ kinds) [] range column within = absurd range
+IsRow-fits rule (kind ∷ kinds) (value ∷ values) range zero within = omega (arith, (in_range-ok (under rule kind) value value range.0).1, highest-fits rule kind)
+IsRow-fits rule (kind ∷ kinds) (value ∷ values) range (suc column) within = IsRow-fits (rule_after rule kind value) kinds values range.1 column (omega arith)
+
+-- so do those of all rows
+pub AreRows-fit : (kinds : List Kind) (rows : List (List ℕ)) → AreRows kinds rows → All (FitsBytes kinds) rows
+unfolding AreRows
+AreRows-fit kinds [] range row d within = absurd (omega arith)
+AreRows-fit kinds (values ∷ rows) range zero d within = IsRow-fits 0 kinds values range.0
+AreRows-fit kinds (values ∷ rows) range (suc row) d within = AreRows-fit kinds rows range.1 row d (omega arith)

@@ -1,0 +1,10 @@
+pub mod Cells
+pub mod Header
+pub mod Kinds
+pub mod Laws
+pub mod Lines
+pub mod Ranges
+pub mod Reading
+pub mod Records
+pub mod Stops
+pub mod Texts

@@ -1,0 +1,28 @@
+-- Lines of text: fields with commas between them and a line feed behind them.
+use Rattle.std.specs.Prelude.{ℕ, List, [], ◌∷◌, ◌++◌, ◌==◌, if◌then◌else◌}
+use Rattle.kt_cells.specs.Texts.{row_texts}
+use Rattle.kt_cells.specs.declared.kind.Kind.{Kind}
+
+-- the fields behind the first, each with a comma in front, and the line feed
+unfoldable pub fields_behind : List (List ℕ) → List ℕ
+fields_behind [] = 10 ∷ []
+fields_behind (field ∷ fields) = 44 ∷ field ++ fields_behind fields
+
+-- what stands before a field, by its column
+abbrev pub separator : ℕ → List ℕ
+separator column = if column == 0 then [] else 44 ∷ []
+
+-- a line
+unfoldable pub line : List (List ℕ) → List ℕ
+line [] = 10 ∷ []
+line (field ∷ fields) = field ++ fields_behind fields
+
+-- lines, one after the other
+unfoldable pub lines_of : List (List (List ℕ)) → List ℕ
+lines_of [] = []
+lines_of (row ∷ rows) = line row ++ lines_of rows
+
+-- the lines of rows
+unfoldable pub rows_lines : List Kind → List (List ℕ) → List ℕ
+rows_lines kinds [] = []
+rows_lines kinds (row ∷ rows) = line (row_texts 0 kinds row) ++ rows_lines kinds rows

@@ -1,0 +1,66 @@
+-- The texts of fields: how one is read by its kind, and how it is written.
+use Rattle.std.specs.Prelude.{ℕ, ◌==◌, Bool, List, [], ◌∷◌, length, Result, Ok, Err, Option, Some, None, if◌then◌else◌}
+use Rattle.kt_money.specs.NumberText.{count_text, plain}
+use Rattle.kt_text.specs.Numbers.{count_value, decimal_value}
+use Rattle.kt_text.specs.declared.bad_text.BadText.{BadText}
+use Rattle.kt_cells.specs.Kinds.{in_range, under}
+use Rattle.kt_text.specs.Rows.{csv_rows, rows_of_width, first_ragged}
+use Rattle.kt_cells.specs.Reading.{and_then, rule_after, table_rows}
+use Rattle.kt_cells.specs.Stops.{cause_of}
+use Rattle.kt_cells.specs.declared.kind.Kind.{Kind}
+use Rattle.kt_cells.specs.declared.kind.Kind.TheVariants as kind
+use Rattle.kt_cells.specs.declared.stop.Cause.{Cause}
+use Rattle.kt_cells.specs.declared.stop.Cause.TheVariants as cause
+use Rattle.kt_cells.specs.declared.stop.TableStop.{TableStop}
+use Rattle.kt_cells.specs.declared.stop.TableStop.TheVariants.{Bad}
+
+-- a number, or the cause why a text stands for none
+abbrev pub or_cause : Result ℕ BadText → Result ℕ Cause
+or_cause (Ok value) = Ok value
+or_cause (Err text) = Err (cause_of text)
+
+-- how many decimals the values of a kind are written with: counts with none, cents with two, parts per million with six
+abbrev pub decimals : Kind → ℕ
+decimals kind.Tiv = 2
+decimals kind.Amount = 2
+decimals (kind.Term t) = 2
+decimals kind.Ppm = 6
+decimals kind.Id = 0
+decimals kind.Count = 0
+decimals kind.IntensityBin = 0
+decimals kind.DamageBin = 0
+decimals kind.Level = 0
+decimals kind.Layer = 0
+decimals kind.SummarySet = 0
+decimals kind.Rule = 0
+decimals kind.Offset = 0
+
+-- the number that a text with so many decimals stands for
+abbrev pub number_in : ℕ → List ℕ → Result ℕ BadText
+number_in scale text = if scale == 0 then count_value text else decimal_value scale text
+
+-- the value that the text of a field gives
+unfoldable pub text_value : Kind → List ℕ → Result ℕ Cause
+text_value kind text = and_then (or_cause (number_in (decimals kind) text)) (in_range kind)
+
+-- the text of a value
+abbrev pub value_text : Kind → ℕ → List ℕ
+value_text kind value = if decimals kind == 0 then count_text value else plain (decimals kind) value
+
+-- the texts of a row, a term by the rule before it
+unfoldable pub row_texts : ℕ → List Kind → List ℕ → List (List ℕ)
+row_texts rule [] values = []
+row_texts rule (kind ∷ kinds) [] = []
+row_texts rule (kind ∷ kinds) (value ∷ values) =
+    value_text (under rule kind) value ∷ row_texts (rule_after rule kind value) kinds values
+
+-- the rows, unless one behind them is ragged
+abbrev pub unless_ragged : Option ℕ → List (List ℕ) → Result (List (List ℕ)) TableStop
+unless_ragged None rows = Ok rows
+unless_ragged (Some row) rows = Err (Bad row 0 cause.Columns)
+
+-- the rows of a text: those before the first ragged one, which hides no bad field in front of it
+unfoldable pub text_rows : Bool → List Kind → List ℕ → Result (List (List ℕ)) TableStop
+text_rows ordered kinds text =
+    and_then (table_rows text_value ordered 1 kinds 0 1 (rows_of_width (length kinds) (csv_rows text)))
+    (unless_ragged (first_ragged (length kinds) (csv_rows text)))

@@ -1,0 +1,46 @@
+//! Rows as records of little-endian numbers.
+ghost use Rattle.std.specs.Prelude.{◌≡◌, ◌<◌, ◌++◌, ◌⊎◌, OnOk, length};
+ghost use Rattle.byteorder.specs.Endian.{little_bytes};
+ghost use Rattle.kt_cells.specs.Records.{record_bytes, records_bytes};
+
+use crate::kind::Kind;
+use kt_money::Bytes;
+use std::alloc::AllocError;
+
+// Appends a number in four or eight bytes.
+fn push_number(out: &mut Bytes, width: usize, value: u64) -> Result<(), AllocError>
+    requires { (width ≡ 4) ⊎ (width ≡ 8) }
+    ensures ok { OnOk result (out.new ≡ out.old ++ little_bytes width value) }
+{
+    if width == 4 {
+        out.append(&value.to_le_bytes()[..4])
+    } else {
+        out.append(&value.to_le_bytes())
+    }
+}
+
+/// Appends a row as a record. An error is want of memory; a part may stand in `out` then.
+pub fn push_record(out: &mut Bytes, kinds: &[Kind], values: &[u64]) -> Result<(), AllocError>
+    requires { length values.now ≡ length kinds.now }
+    ensures ok { OnOk result (out.new ≡ out.old ++ record_bytes kinds.now values.now) }
+{
+    for (column, kind) in kinds.iter().enumerate() {
+        push_number(out, kind.width(), values[column])?;
+    }
+    Ok(())
+}
+
+/// Appends rows as records. An error is want of memory; a part may stand in `out` then.
+pub fn push_records<const N: usize>(
+    out: &mut Bytes,
+    kinds: &[Kind; N],
+    rows: &[[u64; N]],
+) -> Result<(), AllocError>
+    requires { N < 100 }
+    ensures ok { OnOk result (out.new ≡ out.old ++ records_bytes kinds.now rows.now) }
+{
+    for row in rows {
+        push_record(out, kinds, row)?;
+    }
+    Ok(())
+}

@@ -1,0 +1,89 @@
+//! Why a table is refused.
+ghost use Rattle.std.specs.Prelude.{◌≡◌};
+ghost use Rattle.kt_cells.specs.Stops.{cause_of};
+ghost use Rattle.kt_cells.specs.declared.stop.TableStop.TheVariants.{OutOfMemory};
+
+use kt_text::BadText;
+use std::alloc::{AllocError, AllocFailed};
+
+/// What is wrong with a row or a field.
+#[derive(Clone, Copy, Debug, PartialEq, Eq)]
+pub enum Cause {
+    /// The row has another number of fields than the table has columns.
+    Columns,
+    /// The text has not the form of a number.
+    NotANumber,
+    /// The number has more than 18 digits.
+    TooManyDigits,
+    /// The exponent is not from -30 to 30.
+    ExponentRange,
+    /// The value is above the range of its kind.
+    TooLarge,
+    /// The value is below the range of its kind.
+    Zero,
+    /// The value is no calculation rule.
+    Rule,
+    /// The event is below that of the row before.
+    Order,
+}
+
+/// Why a table is refused: the first place that is wrong.
+#[derive(Clone, Copy, Debug, PartialEq, Eq)]
+pub enum TableStop {
+    /// The bytes are too few for a header, or do not begin with its mark.
+    NotProfile,
+    /// The header has the number of another table.
+    WrongTable {
+        /// That number.
+        found: u32,
+    },
+    /// The header has another version.
+    WrongVersion {
+        /// That version.
+        found: u32,
+    },
+    /// The bytes end within a record.
+    CutRecord {
+        /// The row that it would be, counted from 1.
+        row: u64,
+    },
+    /// A row or a field is wrong.
+    Bad {
+        /// The row, counted from 1; 0 for the header.
+        row: u64,
+        /// The column, counted from 1; 0 for the row as a whole.
+        column: u32,
+        /// What is wrong.
+        cause: Cause,
+    },
+    /// There is not enough memory.
+    OutOfMemory,
+}
+
+impl From<AllocError> for TableStop {
+    ghost from_gives = { λ _ stop. stop ≡ OutOfMemory };
+
+    fn from(_error: AllocError) -> TableStop {
+        TableStop::OutOfMemory
+    }
+}
+
+impl<T: Drop> From<AllocFailed<T>> for TableStop {
+    ghost from_gives = { λ _ stop. stop ≡ OutOfMemory };
+
+    fn from(_error: AllocFailed<T>) -> TableStop {
+        TableStop::OutOfMemory
+    }
+}
+
+/// The cause for which a text stands for no number.
+pub(crate) fn cause_of_text(text: BadText) -> Cause
+    ensures { result ≡ cause_of text }
+{
+    match text {
+        BadText::NotANumber => Cause::NotANumber,
+        BadText::TooManyDigits => Cause::TooManyDigits,
+        BadText::ExponentRange => Cause::ExponentRange,
+        BadText::TooLarge => Cause::TooLarge,
+    }
+}

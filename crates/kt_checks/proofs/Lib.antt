@@ -1,0 +1,5 @@
+pub mod FirstRowLemmas
+pub mod LookupLemmas
+pub mod OutputLemmas
+pub mod RefusalLemmas
+pub mod StageLemmas

@@ -1,0 +1,10 @@
+use Rattle.std.proofs.Common.{◌∙◌}
+use Rattle.kt_checks.specs.ProgrammeChecks.{profile_check}
+use Rattle.kt_checks.proofs.StageLemmas.{stages-none, stages-step}
+use Rattle.kt_checks.proofs.names.profile_checks.Goals as goal
+
+pub loop-stage-init : goal.loop-stage-init
+loop-stage-init c = stages-none (profile_check c.args.tables.now c.args.need.now)
+
+pub loop-stage-preserved : goal.loop-stage-preserved
+loop-stage-preserved c = c.or-found.ensures ∙ stages-step (profile_check c.args.tables.now c.args.need.now) c.loop-stage.stage _ _ c.loop-stage.invariant c.in_ok-next.ensures.value

@@ -1,0 +1,12 @@
+pub mod FirstRow
+pub mod Refusals
+pub mod Keys
+pub mod KeyChecks
+pub mod TableChecks
+pub mod ProgrammeChecks
+pub mod OutputChecks
+pub mod SummaryChecks
+pub mod Checks
+pub mod CheckLaws
+pub mod TotalLaws
+pub mod KeptChecks

@@ -1,0 +1,84 @@
+-- The checks of the outputs that items, or units of the top level, owe.
+use Rattle.std.specs.Prelude.{ℕ, ◌+◌, ◌&&◌, ◌||◌, nat_eq, not, Bool, false, cond, List, map, suc, zero, Option, Some, None}
+use Rattle.std.specs.List.{list_any, filter}
+use Rattle.std.specs.Map.{lookup}
+use Rattle.kt_rec.specs.declared.financial.FmProgramme.{FmProgramme}
+use Rattle.kt_rec.specs.declared.financial.FmPolicytc.{FmPolicytc}
+use Rattle.kt_rec.specs.declared.financial.FmXref.{FmXref}
+use Rattle.kt_rec.specs.declared.table.Table.TheVariants.{Items, FmProgramme as TheProgramme, FmPolicytc as ThePolicytc, FmXref as TheXref}
+use Rattle.kt_rec.specs.declared.tables.Tables.{Tables}
+use Rattle.kt_checks.specs.declared.need.Need.{Need}
+use Rattle.kt_checks.specs.declared.need.Refusal.{Refusal}
+use Rattle.kt_checks.specs.FirstRow.{first_where, unknown_at}
+use Rattle.kt_checks.specs.Refusals.{at_stage, is_loaded, refusal}
+use Rattle.kt_checks.specs.Keys.{programme_of, policytc_of, same_pair}
+use Rattle.kt_checks.specs.ProgrammeChecks.{top_level}
+
+-- the units of the top level
+abbrev pub top_targets : List FmProgramme → List ℕ
+top_targets programme = map (λ row. row.to_agg_id) (filter (λ row. nat_eq row.level_id (top_level programme)) programme)
+
+-- what an output may be for: by rule 0 a unit of the top level, by the others an item
+abbrev pub output_units : Tables → ℕ → List ℕ
+output_units tables rule = cond (nat_eq rule 0) (top_targets (programme_of tables 0)) (map (λ row. row.item_id) tables.items.items)
+
+-- whether the tables are loaded that have the outputs and what they may be for
+abbrev pub has_units : Need → Bool
+has_units need = is_loaded need 0 TheXref && is_loaded need 0 (cond (nat_eq need.rule 0) TheProgramme Items)
+
+-- check 15: an output is for no item, or by rule 0 for no unit of the top level
+abbrev pub output_unit_check : Tables → Need → Option Refusal
+output_unit_check tables need = refusal 15 (at_stage 0 TheXref) (has_units need) (unknown_at nat_eq (output_units tables need.rule) (map (λ row. row.agg_id) tables.fm_xref.items))
+
+-- the unit that a unit's losses at a level go to
+abbrev pub next_unit : List FmProgramme → ℕ × ℕ → Option ℕ
+next_unit programme unit = lookup (same_pair unit) (map (λ row. ((row.level_id, row.from_agg_id), row.to_agg_id)) programme)
+
+-- what follows a unit that may be absent
+abbrev pub after : Option ℕ → (ℕ → Option ℕ) → Option ℕ
+after None follow = None
+after (Some unit) follow = follow unit
+
+-- the unit that a unit's losses come to over so many levels, from a level on
+abbrev pub climbed : (ℕ × ℕ → Option ℕ) → ℕ → ℕ → ℕ → Option ℕ
+climbed next zero level unit = Some unit
+climbed next (suc levels) level unit = after (next (level, unit)) (climbed next levels (level + 1))
+
+-- whether one of the layers from 1 to a last one passes a test
+unfoldable pub some_layer : (ℕ → Bool) → ℕ → Bool
+some_layer test zero = false
+some_layer test (suc last) = some_layer test last || test (last + 1)
+
+-- whether a unit of the top level has a layer by its terms; one without terms has layer 1
+abbrev pub has_layer : (ℕ → Bool) → (ℕ × ℕ → Bool) → ℕ → ℕ → Bool
+has_layer has_terms is_layer unit layer = cond (has_terms unit) (is_layer (unit, layer)) (nat_eq layer 1)
+
+-- whether for some layer, 1 to 50, of a unit of the top level its owner has no output
+abbrev pub lacks_output : (ℕ → Bool) → (ℕ × ℕ → Bool) → (ℕ × ℕ → Bool) → ℕ → ℕ → Bool
+lacks_output has_terms is_layer is_output unit owner = some_layer (λ layer. has_layer has_terms is_layer unit layer && not (is_output (owner, layer))) 50
+
+-- whether an item lacks an output for some layer of the unit that its losses come to; one whose losses come to none owes none
+abbrev pub lacks_at : (ℕ → ℕ → Bool) → Option ℕ → ℕ → Bool
+lacks_at lacks None item = false
+lacks_at lacks (Some unit) item = lacks unit item
+
+-- whether the item of a row of level 1, or by rule 0 the unit of a row of the top level, lacks an output
+abbrev pub owes_output : ℕ → ℕ → (ℕ × ℕ → Option ℕ) → (ℕ → ℕ → Bool) → FmProgramme → Bool
+owes_output rule top next lacks row = cond (nat_eq rule 0) (nat_eq row.level_id top && lacks row.to_agg_id row.to_agg_id) (nat_eq row.level_id 1 && lacks_at lacks (climbed next top 1 row.from_agg_id) row.from_agg_id)
+
+-- the layers of the units of the top level
+abbrev pub top_layers : List FmProgramme → List FmPolicytc → List (ℕ × ℕ)
+top_layers programme policytc = map (λ row. (row.agg_id, row.layer_id)) (filter (λ row. nat_eq row.level_id (top_level programme)) policytc)
+
+-- the first row of a programme that lacks an output, by a rule
+unfoldable pub owing_at : ℕ → List FmProgramme → List FmPolicytc → List FmXref → Option ℕ
+owing_at rule programme policytc outputs =
+    first_where (owes_output rule (top_level programme) (next_unit programme) (lacks_output
+    (λ unit. list_any (nat_eq unit) (map (λ pair. pair.0) (top_layers programme policytc)))
+    (λ pair. list_any (same_pair pair) (top_layers programme policytc))
+    (λ pair. list_any (same_pair pair) (map (λ row. (row.agg_id, row.layer_id)) outputs)))) programme
+
+-- check 16: an item, or by rule 0 a unit of the top level, lacks an output for some layer
+abbrev pub missing_output_check : Tables → Need → Option Refusal
+missing_output_check tables need =
+    refusal 16 (at_stage 0 TheProgramme) (is_loaded need 0 TheProgramme && is_loaded need 0 ThePolicytc && is_loaded need 0 TheXref) (owing_at need.rule (programme_of tables 0) (policytc_of tables 0) tables.fm_xref.items)

@@ -1,0 +1,165 @@
+//! The check of the outputs that items, or units of the top level, owe.
+ghost use Rattle.std.specs.Prelude.{◌≡◌, ◌&&◌, ℕ, nat_eq, not, map, IfOk};
+ghost use Rattle.std.specs.List.{list_any};
+ghost use Rattle.std.specs.HashMap.{get};
+ghost use Rattle.std.specs.HashSet.{contains};
+ghost use Rattle.kt_checks.specs.FirstRow.{first_where};
+ghost use Rattle.kt_checks.specs.Keys.{same_pair};
+ghost use Rattle.kt_checks.specs.OutputChecks.{next_unit, climbed, has_layer, lacks_output, lacks_at, owes_output, top_layers, owing_at, missing_output_check};
+
+use crate::columns;
+use crate::need::{Need, Refusal};
+use crate::rows::{pair_set, pair_values, set_of};
+use crate::stages::{base, has_base, has_both, policytc, programme};
+use crate::units::{steps_of, top_layers, top_level, units_of};
+use kt_rec::{FmPolicytc, FmProgramme, FmXref, Table, Tables};
+use std::alloc::{AllocError, Global};
+use std::collections::{HashMap, HashSet};
+
+/// The greatest number of layers.
+const LAYERS: u32 = 50;
+
+/// What the search for a missing output looks up.
+#[derive(Drop)]
+struct Lookups {
+    /// The unit that a unit's losses at a level go to.
+    next: HashMap<(u32, u32), u32>,
+    /// The units of the top level that have terms.
+    with_terms: HashSet<u32>,
+    /// These units with their layers.
+    layers: HashSet<(u32, u32)>,
+    /// What the outputs are for, with their layers.
+    outputs: HashSet<(u32, u32)>,
+}
+
+/// The unit of the top level that an item's losses come to over so many levels.
+fn climbed(next: &HashMap<(u32, u32), u32>, levels: u32, item: u32) -> Option<u32>
+    ensures value { result ≡ climbed (get same_pair next.now) levels 1 item }
+{
+    let mut unit = item;
+    for below in 0..levels {
+        unit = next.get(&(below + 1, unit)).copied()?;
+    }
+    Some(unit)
+}
+
+/// Whether a layer of a unit of the top level has no output for its owner.
+fn lacks_layer(lookups: &Lookups, unit: u32, owner: u32, layer: u32) -> bool
+    ensures value { result ≡ (has_layer (contains nat_eq lookups.now.with_terms) (contains same_pair lookups.now.layers) unit layer && not (contains same_pair lookups.now.outputs (owner, layer))) }
+{
+    has_layer(lookups, unit, layer) && !lookups.outputs.contains(&(owner, layer))
+}
+
+/// Whether a unit of the top level has a layer; one without terms has layer 1.
+fn has_layer(lookups: &Lookups, unit: u32, layer: u32) -> bool
+    ensures value { result ≡ has_layer (contains nat_eq lookups.now.with_terms) (contains same_pair lookups.now.layers) unit layer }
+{
+    if lookups.with_terms.contains(&unit) {
+        lookups.layers.contains(&(unit, layer))
+    } else {
+        layer == 1
+    }
+}
+
+/// Whether for some layer of a unit of the top level its owner has no output.
+fn lacks_output(lookups: &Lookups, unit: u32, owner: u32) -> bool
+    ensures value { result ≡ lacks_output (contains nat_eq lookups.now.with_terms) (contains same_pair lookups.now.layers) (contains same_pair lookups.now.outputs) unit owner }
+{
+    let mut lacks = false;
+    for below in 0..LAYERS {
+        let here = lacks_layer(lookups, unit, owner, below + 1);
+        lacks = lacks || here;
+    }
+    lacks
+}
+
+/// Whether an item lacks an output for some layer of the unit of the top level that its losses come to.
+fn item_lacks_output(lookups: &Lookups, top: u32, item: u32) -> bool
+    ensures value { result ≡ lacks_at (lacks_output (contains nat_eq lookups.now.with_terms) (contains same_pair lookups.now.layers) (contains same_pair lookups.now.outputs)) (climbed (get same_pair lookups.now.next) top 1 item) item }
+{
+    match climbed(&lookups.next, top, item) {
+        Some(unit) => lacks_output(lookups, unit, item),
+        None => false,
+    }
+}
+
+/// Whether the item of a row of level 1, or by rule 0 the unit of a row of the top level, lacks an output.
+fn owes_output(lookups: &Lookups, rule: u32, top: u32, row: &FmProgramme) -> bool
+    ensures value { result ≡ owes_output rule top (get same_pair lookups.now.next) (lacks_output (contains nat_eq lookups.now.with_terms) (contains same_pair lookups.now.layers) (contains same_pair lookups.now.outputs)) row.now }
+{
+    if rule == 0 {
+        row.level_id == top && lacks_output(lookups, row.to_agg_id, row.to_agg_id)
+    } else {
+        row.level_id == 1 && item_lacks_output(lookups, top, row.from_agg_id)
+    }
+}
+
+/// The first row that lacks an output.
+fn first_owing(lookups: &Lookups, rule: u32, top: u32, rows: &[FmProgramme]) -> Option<u64>
+    ensures value { result ≡ first_where (owes_output rule top (get same_pair lookups.now.next) (lacks_output (contains nat_eq lookups.now.with_terms) (contains same_pair lookups.now.layers) (contains same_pair lookups.now.outputs))) rows.now }
+{
+    for (index, row) in rows.iter().enumerate() {
+        if owes_output(lookups, rule, top, row) {
+            return Some(index as u64 + 1);
+        }
+    }
+    None
+}
+
+/// Reads what is looked up from the tables.
+fn lookups_of(
+    alloc: Global,
+    programme: &[FmProgramme],
+    policytc: &[FmPolicytc],
+    outputs: &[FmXref],
+) -> Result<Lookups, AllocError>
+    ensures next { IfOk result (λ lookups. (unit : ℕ × ℕ) → get same_pair lookups.next unit ≡ next_unit programme.now unit) }
+    ensures with_terms { IfOk result (λ lookups. (unit : ℕ) → contains nat_eq lookups.with_terms unit ≡ list_any (nat_eq unit) (map (λ (pair : ℕ × ℕ). pair.0) (top_layers programme.now policytc.now))) }
+    ensures layers { IfOk result (λ lookups. (pair : ℕ × ℕ) → contains same_pair lookups.layers pair ≡ list_any (same_pair pair) (top_layers programme.now policytc.now)) }
+    ensures outputs { IfOk result (λ lookups. (pair : ℕ × ℕ) → contains same_pair lookups.outputs pair ≡ list_any (same_pair pair) (map (λ row. (row.agg_id, row.layer_id)) outputs.now)) }
+{
+    let steps = steps_of(alloc, programme)?;
+    let layers = top_layers(alloc, programme, policytc)?;
+    let units = units_of(alloc, &layers)?;
+    let outputs = columns::layers_of_outputs(alloc, outputs)?;
+    Ok(Lookups {
+        next: pair_values(alloc, &steps)?,
+        with_terms: set_of(alloc, &units)?,
+        layers: pair_set(alloc, &layers)?,
+        outputs: pair_set(alloc, &outputs)?,
+    })
+}
+
+/// The first row of a programme that lacks an output, by a rule.
+fn owing_at(
+    alloc: Global,
+    rule: u32,
+    programme: &[FmProgramme],
+    policytc: &[FmPolicytc],
+    outputs: &[FmXref],
+) -> Result<Option<u64>, AllocError>
+    ensures value { IfOk result (λ row. row ≡ owing_at rule programme.now policytc.now outputs.now) }
+{
+    let lookups = lookups_of(alloc, programme, policytc, outputs)?;
+    Ok(first_owing(&lookups, rule, top_level(programme), programme))
+}
+
+/// Check 16: an item, or by rule 0 a unit of the top level, lacks an output for some layer.
+pub(crate) fn missing_output_check(
+    alloc: Global,
+    tables: &Tables,
+    need: &Need,
+) -> Result<Option<Refusal>, AllocError>
+    ensures value { IfOk result (λ found. found ≡ missing_output_check tables.now need.now) }
+{
+    let row = owing_at(
+        alloc,
+        need.rule,
+        programme(tables, 0),
+        policytc(tables, 0),
+        &tables.fm_xref,
+    )?;
+    let made = has_both(need, Table::FmProgramme, Table::FmPolicytc)
+        && has_base(need, Table::FmXref);
+    Ok(Refusal::of(16, base(Table::FmProgramme), made, row))
+}

@@ -1,0 +1,182 @@
+//! The checks of the sizes of tables.
+ghost use Rattle.std.specs.Prelude.{◌≡◌, ◌+◌, ◌*◌, ◌<◌, ◌^◌};
+ghost use Rattle.kt_checks.specs.TableChecks.{row_past, limit_check, programme_limits, limit_checks, none_at, empty_checks, rows_above, damage_size_check, empty_programme};
+ghost use Rattle.kt_checks.specs.Refusals.{over_stages};
+
+use crate::need::{Need, Refusal};
+use crate::stages::{
+    STAGES, base, has_base, has_both, has_financial, policytc, profile, programme,
+};
+use kt_rec::{Table, TableId, Tables};
+
+/// The row behind the last that a table may have, where there is one.
+fn row_past(most: u64, rows: usize) -> Option<u64>
+    requires { most < 2 ^ 63 }
+    ensures value { result ≡ row_past most rows }
+{
+    if rows as u64 > most {
+        Some(most + 1)
+    } else {
+        None
+    }
+}
+
+/// Check 1 of a table of the base.
+fn limit_check(need: &Need, table: Table, most: u64, rows: usize) -> Option<Refusal>
+    requires { most < 2 ^ 63 }
+    ensures value { result ≡ limit_check need.now 0 table most rows }
+{
+    Refusal::of(1, base(table), has_base(need, table), row_past(most, rows))
+}
+
+/// Check 1 of the financial tables of the base, at 0, or of a stage.
+fn programme_limits(tables: &Tables, need: &Need, stage: u32) -> Option<Refusal>
+    requires { stage < 10 }
+    ensures value { result ≡ programme_limits tables.now need.now stage }
+{
+    let limit = |table, most, rows| {
+        Refusal::of(
+            1,
+            TableId { stage, table },
+            has_financial(need, stage, table),
+            row_past(most, rows),
+        )
+    };
+    limit(
+        Table::FmProgramme,
+        1_200_000,
+        programme(tables, stage).len(),
+    )
+    .or(limit(Table::FmPolicytc, 1_200_000, policytc(tables, stage).len()))
+    .or(limit(Table::FmProfile, 1_000_000, profile(tables, stage).len()))
+}
+
+/// Check 1: a table has more rows than its limit.
+pub(crate) fn limit_checks(tables: &Tables, need: &Need) -> Option<Refusal>
+    ensures value { result ≡ limit_checks tables.now need.now }
+{
+    let base = limit_check(need, Table::Events, 1_000_000, tables.events.len())
+        .or(limit_check(need, Table::Items, 100_000, tables.items.len()))
+        .or(limit_check(need, Table::Coverages, 100_000, tables.coverages.len()))
+        .or(limit_check(
+            need,
+            Table::FootprintIdx,
+            1_000_000,
+            tables.footprint_idx.len(),
+        ))
+        .or(limit_check(
+            need,
+            Table::Vulnerability,
+            10_000_000,
+            tables.vulnerability.len(),
+        ))
+        .or(limit_check(
+            need,
+            Table::DamageBinDict,
+            1_000,
+            tables.damage_bin_dict.len(),
+        ))
+        .or(limit_check(need, Table::Random, 10_000_000, tables.random.len()))
+        .or(programme_limits(tables, need, 0))
+        .or(limit_check(need, Table::FmXref, 100_000, tables.fm_xref.len()))
+        .or(limit_check(
+            need,
+            Table::GulSummaryXref,
+            900_000,
+            tables.gulsummaryxref.len(),
+        ))
+        .or(limit_check(
+            need,
+            Table::FmSummaryXref,
+            900_000,
+            tables.fmsummaryxref.len(),
+        ))
+        .or(limit_check(need, Table::Occurrence, 1_000_000, tables.occurrence.len()))
+        .or(limit_check(
+            need,
+            Table::ReturnPeriods,
+            1_000,
+            tables.returnperiods.len(),
+        ));
+    base.or(stage_limits(tables, need))
+}
+
+/// Check 1 of the financial tables of the stages.
+fn stage_limits(tables: &Tables, need: &Need) -> Option<Refusal>
+    ensures value { result ≡ over_stages (λ later. programme_limits tables.now need.now (later + 1)) 9 }
+{
+    let mut found = None;
+    for later in 0..STAGES - 1 {
+        found = found.or(programme_limits(tables, need, later + 1));
+    }
+    found
+}
+
+/// Row 0, where a table has no row.
+fn none_at(rows: usize) -> Option<u64>
+    ensures value { result ≡ none_at rows }
+{
+    if rows == 0 { Some(0) } else { None }
+}
+
+/// Check 10: there is no random number, or a programme has no row.
+pub(crate) fn empty_checks(tables: &Tables, need: &Need) -> Option<Refusal>
+    ensures value { result ≡ empty_checks tables.now need.now }
+{
+    Refusal::of(
+        10,
+        base(Table::Random),
+        has_base(need, Table::Random),
+        none_at(tables.random.len()),
+    )
+    .or(empty_programmes(tables, need))
+}
+
+/// Check 10 of the programme of the base, at 0, or of a stage.
+fn empty_programme(tables: &Tables, need: &Need, stage: u32) -> Option<Refusal>
+    requires { stage < 10 }
+    ensures value { result ≡ empty_programme tables.now need.now stage }
+{
+    let table = TableId {
+        stage,
+        table: Table::FmProgramme,
+    };
+    let made = has_financial(need, stage, Table::FmProgramme);
+    Refusal::of(10, table, made, none_at(programme(tables, stage).len()))
+}
+
+/// Check 10 of the programmes of the base and of the stages.
+fn empty_programmes(tables: &Tables, need: &Need) -> Option<Refusal>
+    ensures value { result ≡ over_stages (empty_programme tables.now need.now) 10 }
+{
+    let mut found = None;
+    for stage in 0..STAGES {
+        found = found.or(empty_programme(tables, need, stage));
+    }
+    found
+}
+
+/// The number of rows, where they times what each brings are above the most.
+pub(crate) fn rows_above(most: u64, rows: usize, each: u64) -> Option<u64>
+    requires { each < 2 ^ 63 }
+    ensures value { result ≡ rows_above most rows each }
+{
+    if rows as u128 * u128::from(each) > u128::from(most) {
+        Some(rows as u64)
+    } else {
+        None
+    }
+}
+
+/// Check 21: the damage bins times the items are above 2,000,000.
+pub(crate) fn damage_size_check(tables: &Tables, need: &Need) -> Option<Refusal>
+    ensures value { result ≡ damage_size_check tables.now need.now }
+{
+    let row = rows_above(
+        2_000_000,
+        tables.damage_bin_dict.len(),
+        tables.items.len() as u64,
+    );
+    let made = has_both(need, Table::DamageBinDict, Table::Items);
+    Refusal::of(21, base(Table::DamageBinDict), made, row)
+}

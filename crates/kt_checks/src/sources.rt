@@ -1,0 +1,121 @@
+//! The check of what a programme takes losses from, over the base and the stages.
+ghost use Rattle.std.specs.Prelude.{◌≡◌, ◌<◌, nat_eq, IfOk};
+ghost use Rattle.std.specs.HashSet.{contains};
+ghost use Rattle.kt_checks.specs.FirstRow.{first_where};
+ghost use Rattle.kt_checks.specs.Keys.{same_pair};
+ghost use Rattle.kt_checks.specs.Refusals.{over_stages};
+ghost use Rattle.kt_checks.specs.ProgrammeChecks.{inputs_of, has_sources, is_rootless, rootless_at, source_check};
+
+use crate::columns;
+use crate::need::{Need, Refusal};
+use crate::rows::{pair_set, set_of};
+use crate::stages::{STAGES, has_base, has_financial, programme};
+use crate::units::targets_of;
+use kt_rec::{FmProgramme, Table, TableId, Tables};
+use std::alloc::{AllocError, Global};
+use std::collections::HashSet;
+
+/// Whether a row takes, at level 1, from what is no input, or above it from no unit of the level below.
+fn is_rootless(inputs: &HashSet<u32>, units: &HashSet<(u32, u32)>, row: &FmProgramme) -> bool
+    ensures value { result ≡ is_rootless (contains nat_eq inputs.now) (contains same_pair units.now) row.now }
+{
+    if row.level_id == 1 {
+        !inputs.contains(&row.from_agg_id)
+    } else {
+        !units.contains(&(row.level_id.saturating_sub(1), row.from_agg_id))
+    }
+}
+
+/// The first row that takes losses from what has none.
+fn first_rootless(
+    inputs: &HashSet<u32>,
+    units: &HashSet<(u32, u32)>,
+    rows: &[FmProgramme],
+) -> Option<u64>
+    ensures value { result ≡ first_where (is_rootless (contains nat_eq inputs.now) (contains same_pair units.now)) rows.now }
+{
+    for (index, row) in rows.iter().enumerate() {
+        if is_rootless(inputs, units, row) {
+            return Some(index as u64 + 1);
+        }
+    }
+    None
+}
+
+/// The first row of a programme that takes losses from what has none.
+fn rootless_at(
+    alloc: Global,
+    inputs: &[u32],
+    programme: &[FmProgramme],
+) -> Result<Option<u64>, AllocError>
+    ensures value { IfOk result (λ row. row ≡ rootless_at inputs.now programme.now) }
+{
+    let inputs = set_of(alloc, inputs)?;
+    let targets = targets_of(alloc, programme)?;
+    let units = pair_set(alloc, &targets)?;
+    Ok(first_rootless(&inputs, &units, programme))
+}
+
+/// What the losses of a programme are of: items for the base, and the base's outputs for a stage.
+fn inputs_of(alloc: Global, tables: &Tables, stage: u32) -> Result<Vec<u32>, AllocError>
+    ensures value { IfOk result (λ inputs. inputs.items ≡ inputs_of tables.now stage) }
+{
+    if stage == 0 {
+        columns::item_ids(alloc, &tables.items)
+    } else {
+        columns::output_ids(alloc, &tables.fm_xref)
+    }
+}
+
+/// Whether the programme is loaded, and the table that its losses are of.
+fn has_sources(need: &Need, stage: u32) -> bool
+    requires { stage < 10 }
+    ensures value { result ≡ has_sources need.now stage }
+{
+    let inputs = if stage == 0 {
+        Table::Items
+    } else {
+        Table::FmXref
+    };
+    has_financial(need, stage, Table::FmProgramme) && has_base(need, inputs)
+}
+
+/// Check 11 of the base, at 0, or of a stage: a programme takes losses from what has none.
+fn source_check(
+    alloc: Global,
+    tables: &Tables,
+    need: &Need,
+    stage: u32,
+) -> Result<Option<Refusal>, AllocError>
+    requires { stage < 10 }
+    ensures value { IfOk result (λ found. found ≡ source_check tables.now need.now stage) }
+{
+    let inputs = inputs_of(alloc, tables, stage)?;
+    let row = rootless_at(alloc, &inputs, programme(tables, stage))?;
+    let made = has_sources(need, stage);
+    Ok(Refusal::of(
+        11,
+        TableId {
+            stage,
+            table: Table::FmProgramme,
+        },
+        made,
+        row,
+    ))
+}
+
+/// Check 11: a programme takes losses from what has none.
+pub(crate) fn source_checks(
+    alloc: Global,
+    tables: &Tables,
+    need: &Need,
+) -> Result<Option<Refusal>, AllocError>
+    ensures value { IfOk result (λ found. found ≡ over_stages (source_check tables.now need.now) 10) }
+{
+    let mut found = None;
+    for stage in 0..STAGES {
+        let next = source_check(alloc, tables, need, stage)?;
+        found = found.or(next);
+    }
+    Ok(found)
+}

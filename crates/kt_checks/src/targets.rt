@@ -1,0 +1,82 @@
+//! The check of where a programme's losses go, over the base and the stages.
+ghost use Rattle.std.specs.Prelude.{◌≡◌, ◌<◌, IfOk};
+ghost use Rattle.std.specs.HashSet.{contains};
+ghost use Rattle.kt_checks.specs.FirstRow.{first_where};
+ghost use Rattle.kt_checks.specs.Keys.{same_pair};
+ghost use Rattle.kt_checks.specs.Refusals.{over_stages};
+ghost use Rattle.kt_checks.specs.ProgrammeChecks.{is_dead_end, dead_end_at, target_check};
+
+use crate::need::{Need, Refusal};
+use crate::rows::pair_set;
+use crate::stages::{STAGES, has_financial, programme};
+use crate::units::{sources_of, top_level};
+use kt_rec::{FmProgramme, Table, TableId, Tables};
+use std::alloc::{AllocError, Global};
+use std::collections::HashSet;
+
+/// Whether a row below the top level puts losses into a unit that the next level does not take from.
+fn is_dead_end(top: u32, sources: &HashSet<(u32, u32)>, row: &FmProgramme) -> bool
+    ensures value { result ≡ is_dead_end top (contains same_pair sources.now) row.now }
+{
+    row.level_id < top && !sources.contains(&(row.level_id + 1, row.to_agg_id))
+}
+
+/// The first row whose losses go no further, below the top level.
+fn first_dead_end(top: u32, sources: &HashSet<(u32, u32)>, rows: &[FmProgramme]) -> Option<u64>
+    ensures value { result ≡ first_where (is_dead_end top (contains same_pair sources.now)) rows.now }
+{
+    for (index, row) in rows.iter().enumerate() {
+        if is_dead_end(top, sources, row) {
+            return Some(index as u64 + 1);
+        }
+    }
+    None
+}
+
+/// The first row of a programme whose losses go no further, below the top level.
+fn dead_end_at(alloc: Global, programme: &[FmProgramme]) -> Result<Option<u64>, AllocError>
+    ensures value { IfOk result (λ row. row ≡ dead_end_at programme.now) }
+{
+    let sources = sources_of(alloc, programme)?;
+    let units = pair_set(alloc, &sources)?;
+    Ok(first_dead_end(top_level(programme), &units, programme))
+}
+
+/// Check 12 of the base, at 0, or of a stage: a programme's losses go no further, below its top level.
+fn target_check(
+    alloc: Global,
+    tables: &Tables,
+    need: &Need,
+    stage: u32,
+) -> Result<Option<Refusal>, AllocError>
+    requires { stage < 10 }
+    ensures value { IfOk result (λ found. found ≡ target_check tables.now need.now stage) }
+{
+    let row = dead_end_at(alloc, programme(tables, stage))?;
+    let made = has_financial(need, stage, Table::FmProgramme);
+    Ok(Refusal::of(
+        12,
+        TableId {
+            stage,
+            table: Table::FmProgramme,
+        },
+        made,
+        row,
+    ))
+}
+
+/// Check 12: a programme's losses go no further, below its top level.
+pub(crate) fn target_checks(
+    alloc: Global,
+    tables: &Tables,
+    need: &Need,
+) -> Result<Option<Refusal>, AllocError>
+    ensures value { IfOk result (λ found. found ≡ over_stages (target_check tables.now need.now) 10) }
+{
+    let mut found = None;
+    for stage in 0..STAGES {
+        let next = target_check(alloc, tables, need, stage)?;
+        found = found.or(next);
+    }
+    Ok(found)
+}

@@ -1,0 +1,194 @@
+//! The checks of values: of insured values, damage bins, probabilities, places and periods.
+ghost use Rattle.std.specs.Prelude.{◌≡◌, map, nat_eq, nat_lt, unwrap_or, IfOk};
+ghost use Rattle.std.specs.HashMap.{get};
+ghost use Rattle.kt_checks.specs.Keys.{same_pair};
+ghost use Rattle.kt_checks.specs.FirstRow.{first_where, above_at};
+ghost use Rattle.kt_checks.specs.TableChecks.{sum_above_at, value_above_at, value_check, bad_bin_at, bin_check, probability_check, is_misplaced, place_check, period_check};
+
+use crate::need::{Need, Refusal};
+use crate::rows::{first_above, first_values};
+use crate::stages::{base, has_base, has_both};
+use kt_rec::{Coverage, DamageBin, FootprintIdx, Item, Occurrence, Table, Tables, Vulnerability};
+use std::alloc::{AllocError, Global};
+use std::collections::HashMap;
+
+/// The bytes of the footprint file's header, and of each of its records.
+const HEADER: u64 = 16;
+
+const RECORD: u64 = 12;
+
+/// The first item at which the insured values so far add to more than 10^14 cents.
+fn value_above(
+    alloc: Global,
+    coverages: &[Coverage],
+    items: &[Item],
+) -> Result<Option<u64>, AllocError>
+    ensures value { IfOk result (λ row. row ≡ value_above_at coverages.now items.now) }
+{
+    let pairs = values_of(alloc, coverages)?;
+    let values = first_values(alloc, &pairs)?;
+    Ok(sum_above(&values, items))
+}
+
+/// The coverages with their values.
+fn values_of(alloc: Global, coverages: &[Coverage]) -> Result<Vec<(u32, u64)>, AllocError>
+    ensures value { IfOk result (λ values. values.items ≡ map (λ row. (row.coverage_id, row.tiv)) coverages.now) }
+{
+    coverages
+        .iter()
+        .map(|row| (row.coverage_id, row.tiv))
+        .collect(alloc)
+}
+
+/// The first item at which the values of the coverages so far, one for each item, add to more than 10^14 cents.
+fn sum_above(values: &HashMap<u32, u64>, items: &[Item]) -> Option<u64>
+    ensures value { result ≡ sum_above_at (λ row. unwrap_or (get nat_eq values.now row.coverage_id) 0) items.now }
+{
+    let most = 100_000_000_000_000u64;
+    let mut sum = 0u64;
+    for (index, item) in items.iter().enumerate() {
+        let value = values.get(&item.coverage_id).copied().unwrap_or(0);
+        if value > most - sum {
+            return Some(index as u64 + 1);
+        }
+        sum += value;
+    }
+    None
+}
+
+/// Check 5: the insured values of the items up to a row add to more than 10^14 cents.
+pub(crate) fn value_check(
+    alloc: Global,
+    tables: &Tables,
+    need: &Need,
+) -> Result<Option<Refusal>, AllocError>
+    ensures value { IfOk result (λ found. found ≡ value_check tables.now need.now) }
+{
+    let row = value_above(alloc, &tables.coverages, &tables.items)?;
+    let made = has_both(need, Table::Items, Table::Coverages);
+    Ok(Refusal::of(5, base(Table::Items), made, row))
+}
+
+/// The first damage bin whose index is not its row's number, or which begins above its end.
+fn bad_bin(bins: &[DamageBin]) -> Option<u64>
+    ensures value { result ≡ bad_bin_at bins.now }
+{
+    for (index, bin) in bins.iter().enumerate() {
+        let row = index as u64 + 1;
+        if u64::from(bin.bin_index) != row || bin.bin_from > bin.bin_to {
+            return Some(row);
+        }
+    }
+    None
+}
+
+/// Check 6: a damage bin is out of order or begins above its end.
+pub(crate) fn bin_check(tables: &Tables, need: &Need) -> Option<Refusal>
+    ensures value { result ≡ bin_check tables.now need.now }
+{
+    let row = bad_bin(&tables.damage_bin_dict);
+    Refusal::of(
+        6,
+        base(Table::DamageBinDict),
+        has_base(need, Table::DamageBinDict),
+        row,
+    )
+}
+
+/// The probability of each row, with its vulnerability and intensity.
+fn probabilities(
+    alloc: Global,
+    rows: &[Vulnerability],
+) -> Result<Vec<((u32, u32), u64)>, AllocError>
+    ensures value { IfOk result (λ parts. parts.items ≡ map (λ row. ((row.vulnerability_id, row.intensity_bin_id), row.prob)) rows.now) }
+{
+    rows.iter()
+        .map(|row| {
+            let pair = (row.vulnerability_id, row.intensity_bin_id);
+            (pair, u64::from(row.prob))
+        })
+        .collect(alloc)
+}
+
+/// The first row at which the probabilities of its pair so far add to more than 1,001,000 ppm.
+fn probability_above(alloc: Global, parts: &[((u32, u32), u64)]) -> Result<Option<u64>, AllocError>
+    ensures value { IfOk result (λ row. row ≡ above_at same_pair 1001000 parts.now) }
+{
+    first_above(alloc, 1_001_000, parts)
+}
+
+/// Check 8: the probabilities of a vulnerability at an intensity add to more than 1,001,000 ppm up to a row.
+pub(crate) fn probability_check(
+    alloc: Global,
+    tables: &Tables,
+    need: &Need,
+) -> Result<Option<Refusal>, AllocError>
+    ensures value { IfOk result (λ found. found ≡ probability_check tables.now need.now) }
+{
+    let parts = probabilities(alloc, &tables.vulnerability)?;
+    let row = probability_above(alloc, &parts)?;
+    Ok(Refusal::of(
+        8,
+        base(Table::Vulnerability),
+        has_base(need, Table::Vulnerability),
+        row,
+    ))
+}
+
+/// Whether the records of an event do not lie in the footprint file as whole records, or are too many.
+fn is_misplaced(file: u64, row: &FootprintIdx) -> bool
+    ensures value { result ≡ is_misplaced file row.now }
+{
+    let FootprintIdx { offset, size, .. } = *row;
+    offset < HEADER
+        || (offset - HEADER) % RECORD != 0
+        || size % RECORD != 0
+        || size > 1_200_000
+        || u128::from(offset) + u128::from(size) > u128::from(file)
+}
+
+/// The first row of the footprint's index whose records do not lie in the footprint file.
+fn first_misplaced(file: u64, rows: &[FootprintIdx]) -> Option<u64>
+    ensures value { result ≡ first_where (is_misplaced file) rows.now }
+{
+    for (index, row) in rows.iter().enumerate() {
+        if is_misplaced(file, row) {
+            return Some(index as u64 + 1);
+        }
+    }
+    None
+}
+
+/// Check 9: the records of an event do not lie in the footprint file as whole records, or are too many.
+pub(crate) fn place_check(tables: &Tables, need: &Need) -> Option<Refusal>
+    ensures value { result ≡ place_check tables.now need.now }
+{
+    let row = first_misplaced(tables.footprint_size, &tables.footprint_idx);
+    let made = has_both(need, Table::FootprintIdx, Table::Footprint);
+    Refusal::of(9, base(Table::FootprintIdx), made, row)
+}
+
+/// The first occurrence in a period above the number of periods.
+fn first_late(periods: u32, rows: &[Occurrence]) -> Option<u64>
+    ensures value { result ≡ first_where (λ row. nat_lt periods row.period_no) rows.now }
+{
+    for (index, row) in rows.iter().enumerate() {
+        if row.period_no > periods {
+            return Some(index as u64 + 1);
+        }
+    }
+    None
+}
+
+/// Check 20: a period is above the number of periods.
+pub(crate) fn period_check(tables: &Tables, need: &Need) -> Option<Refusal>
+    ensures value { result ≡ period_check tables.now need.now }
+{
+    let row = first_late(tables.periods, &tables.occurrence);
+    Refusal::of(
+        20,
+        base(Table::Occurrence),
+        has_base(need, Table::Occurrence),
+        row,
+    )
+}

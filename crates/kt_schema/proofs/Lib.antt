@@ -1,0 +1,4 @@
+pub mod IndexLemmas
+pub mod FootprintLemmas
+pub mod FileLemmas
+pub mod CanonLemmas

@@ -1,0 +1,7 @@
+pub mod Conversions
+pub mod Footprint
+pub mod Index
+pub mod Laws
+pub mod Loading
+pub mod Rows
+pub mod Tables

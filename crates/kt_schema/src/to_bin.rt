@@ -1,0 +1,108 @@
+//! From the text of a table to its file.
+ghost use Rattle.std.specs.Prelude.{◌≡◌, ◌<◌, ◌++◌, false, true, map, drop, IfOk, IfErr, OnOk, Ok};
+ghost use Rattle.kt_cells.specs.Texts.{text_rows};
+ghost use Rattle.kt_cells.specs.Reading.{and_then};
+ghost use Rattle.kt_cells.specs.Stops.{Tells};
+ghost use Rattle.kt_schema.specs.Conversions.{csv_bin, file_bytes, footprint_bytes, index_bytes, header_part};
+
+use crate::index::{push_footprint, push_index};
+use crate::schema::*;
+use kt_cells::{TableStop, push_header, push_records, read_text};
+use kt_money::Bytes;
+use kt_rec::Table;
+use std::alloc::{AllocError, Global};
+
+// Appends the header of a file that has one.
+fn push_header_part(
+    out: &mut Bytes,
+    header: bool,
+    number: u32,
+    extra: u32,
+) -> Result<(), AllocError>
+    ensures ok { OnOk result (out.new ≡ out.old ++ header_part header number extra) }
+{
+    if header {
+        push_header(out, number, extra)
+    } else {
+        Ok(())
+    }
+}
+
+// The file of a table whose records have all its columns.
+fn converted<const N: usize>(
+    alloc: Global,
+    schema: &Schema<N>,
+    extra: u32,
+    text: &[u8],
+) -> Result<Bytes, TableStop>
+    requires size { N < 100 }
+    requires some { 0 < N }
+    ensures value { IfOk result (λ bytes. and_then (text_rows false schema.now.kinds text.now) (λ rows. Ok (file_bytes schema.now.header schema.now.number extra schema.now.kinds rows)) ≡ Ok bytes) }
+
+    ensures refused { IfErr result (Tells (and_then (text_rows false schema.now.kinds text.now) (λ rows. Ok (file_bytes schema.now.header schema.now.number extra schema.now.kinds rows)))) }
+{
+    let values = read_text(alloc, text, &schema.kinds, false)?;
+    let mut out = Bytes::new(alloc);
+    push_header_part(&mut out, schema.header, schema.number, extra)?;
+    push_records(&mut out, &schema.kinds, values.as_slice())?;
+    Ok(out)
+}
+
+/// The file of a table, from its text. `extra` is the number of periods for `occurrence`, and 0 else.
+///
+/// `footprint_idx` is made from the text of the footprint. An error is the first bad place of the text: by row, in a row
+/// the number of its fields first (column 0), then by column, both counted from 1 after the heading; or want of memory.
+pub fn csv_to_bin(alloc: Global, table: Table, extra: u32, text: &[u8]) -> Result<Bytes, TableStop>
+    ensures value { IfOk result (λ bytes. csv_bin table extra text.now ≡ Ok bytes) }
+
+    ensures refused { IfErr result (Tells (csv_bin table extra text.now)) }
+{
+    macro_rules! convert {
+        ($schema:expr) => {
+            converted(alloc, &$schema, extra, text)
+        };
+    }
+    match table {
+        Table::Footprint => footprint(alloc, text),
+        Table::FootprintIdx => footprint_index(alloc, text),
+        Table::Events => convert!(EVENTS),
+        Table::Items => convert!(ITEMS),
+        Table::Coverages => convert!(COVERAGES),
+        Table::Vulnerability => convert!(VULNERABILITY),
+        Table::DamageBinDict => convert!(DAMAGE_BIN_DICT),
+        Table::Random => convert!(RANDOM),
+        Table::FmProgramme => convert!(FM_PROGRAMME),
+        Table::FmPolicytc => convert!(FM_POLICYTC),
+        Table::FmProfile => convert!(FM_PROFILE),
+        Table::FmXref => convert!(FM_XREF),
+        Table::GulSummaryXref => convert!(GUL_SUMMARY_XREF),
+        Table::FmSummaryXref => convert!(FM_SUMMARY_XREF),
+        Table::Occurrence => convert!(OCCURRENCE),
+        Table::ReturnPeriods => convert!(RETURN_PERIODS),
+    }
+}
+
+// The footprint file, whose records leave the event out.
+fn footprint(alloc: Global, text: &[u8]) -> Result<Bytes, TableStop>
+    ensures value { IfOk result (λ bytes. and_then (text_rows true FOOTPRINT.kinds text.now) (λ rows. Ok (footprint_bytes rows)) ≡ Ok bytes) }
+
+    ensures refused { IfErr result (Tells (and_then (text_rows true FOOTPRINT.kinds text.now) (λ rows. Ok (footprint_bytes rows)))) }
+{
+    let values = read_text(alloc, text, &FOOTPRINT.kinds, true)?;
+    let mut out = Bytes::new(alloc);
+    push_header(&mut out, FOOTPRINT.number, 0)?;
+    push_footprint(&mut out, values.as_slice())?;
+    Ok(out)
+}
+
+// The index of a footprint file.
+fn footprint_index(alloc: Global, text: &[u8]) -> Result<Bytes, TableStop>
+    ensures value { IfOk result (λ bytes. and_then (text_rows true FOOTPRINT.kinds text.now) (λ rows. Ok (index_bytes rows)) ≡ Ok bytes) }
+
+    ensures refused { IfErr result (Tells (and_then (text_rows true FOOTPRINT.kinds text.now) (λ rows. Ok (index_bytes rows)))) }
+{
+    let values = read_text(alloc, text, &FOOTPRINT.kinds, true)?;
+    let mut out = Bytes::new(alloc);
+    push_index(&mut out, values.as_slice())?;
+    Ok(out)
+}

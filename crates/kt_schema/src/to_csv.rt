@@ -1,0 +1,124 @@
+//! From the file of a table to its text.
+ghost use Rattle.std.specs.Prelude.{◌≡◌, ◌≢◌, ◌<◌, ◌++◌, IfOk, IfErr, OnOk, Ok, All};
+ghost use Rattle.kt_cells.specs.Reading.{and_then};
+ghost use Rattle.kt_cells.specs.Lines.{rows_lines};
+ghost use Rattle.kt_cells.specs.Ranges.{AreRows, FitsBytes};
+ghost use Rattle.kt_cells.specs.Stops.{Tells};
+ghost use Rattle.kt_schema.specs.Conversions.{bin_csv, body_rows, extra_of, body_of};
+
+use crate::headings::heading;
+use crate::schema::*;
+use kt_cells::{HEADER_WIDTH, TableStop, Values, push_lines, read_header, read_records};
+use kt_money::Bytes;
+use kt_rec::Table;
+use std::alloc::Global;
+
+/// The greatest number of periods.
+pub const MOST_PERIODS: u32 = 100_000;
+
+// The number that the header of a file ends with, 0 where it has no header.
+pub(crate) fn extra(
+    header: bool,
+    number: u32,
+    least: u32,
+    most: u32,
+    bytes: &[u8],
+) -> Result<u32, TableStop>
+    ensures { result ≡ extra_of header number least most bytes.now }
+{
+    if header {
+        read_header(number, least, most, bytes)
+    } else {
+        Ok(0)
+    }
+}
+
+// What stands behind the header of a file.
+pub(crate) fn body(header: bool, bytes: &[u8]) -> &[u8]
+    ensures { result.now ≡ body_of header bytes.now }
+{
+    if header {
+        bytes.get(HEADER_WIDTH..).unwrap_or(&[])
+    } else {
+        bytes
+    }
+}
+
+/// The values of a file, and the number that its header ends with, which lies from `least` to `most`.
+pub(crate) fn read_file<const N: usize>(
+    alloc: Global,
+    schema: &Schema<N>,
+    least: u32,
+    most: u32,
+    bytes: &[u8],
+) -> Result<(u32, Values<N>), TableStop>
+    requires size { N < 100 }
+    requires some { 0 < N }
+    ensures value { IfOk result (λ file. body_rows schema.now.header schema.now.number least most 1 schema.now.kinds bytes.now ≡ Ok (file.0, file.1)) }
+    ensures ranges { IfOk result (λ file. AreRows schema.now.kinds file.1) }
+    ensures fits { IfOk result (λ file. All (FitsBytes schema.now.kinds) file.1) }
+
+    ensures refused { IfErr result (Tells (body_rows schema.now.header schema.now.number least most 1 schema.now.kinds bytes.now)) }
+{
+    let extra = extra(schema.header, schema.number, least, most, bytes)?;
+    let values = read_records(alloc, &schema.kinds, 1, body(schema.header, bytes))?;
+    Ok((extra, values))
+}
+
+// The text of a file, under a heading.
+fn converted<const N: usize>(
+    alloc: Global,
+    schema: &Schema<N>,
+    least: u32,
+    most: u32,
+    heading: &[u8],
+    bytes: &[u8],
+) -> Result<Bytes, TableStop>
+    requires size { N < 100 }
+    requires some { 0 < N }
+    ensures value { IfOk result (λ text. and_then (body_rows schema.now.header schema.now.number least most 1 schema.now.kinds bytes.now) (λ file. Ok (heading.now ++ rows_lines schema.now.kinds file.1)) ≡ Ok text) }
+
+    ensures refused { IfErr result (Tells (and_then (body_rows schema.now.header schema.now.number least most 1 schema.now.kinds bytes.now) (λ file. Ok (heading.now ++ rows_lines schema.now.kinds file.1)))) }
+{
+    let (_extra, values) = read_file(alloc, schema, least, most, bytes)?;
+    let mut out = Bytes::new(alloc);
+    out.append(heading)?;
+    push_lines(&mut out, &schema.kinds, values.as_slice())?;
+    Ok(out)
+}
+
+/// The text of a table, from its file; for the footprint see `footprint_to_csv`.
+///
+/// An error is the first that is wrong: the header, then the fields of the records by row and column, counted from 1,
+/// then a record that is cut by the end; or want of memory.
+pub fn bin_to_csv(alloc: Global, table: Table, bytes: &[u8]) -> Result<Bytes, TableStop>
+    requires { table ≢ Table.Footprint }
+    ensures value { IfOk result (λ text. bin_csv table bytes.now ≡ Ok text) }
+
+    ensures refused { IfErr result (Tells (bin_csv table bytes.now)) }
+{
+    let heading = heading(table);
+    macro_rules! convert {
+        ($schema:expr) => {
+            converted(alloc, &$schema, 0, 0, heading, bytes)
+        };
+    }
+    match table {
+        Table::Footprint => unreachable!(),
+        Table::Occurrence => converted(alloc, &OCCURRENCE, 1, MOST_PERIODS, heading, bytes),
+        Table::Events => convert!(EVENTS),
+        Table::Items => convert!(ITEMS),
+        Table::Coverages => convert!(COVERAGES),
+        Table::FootprintIdx => convert!(FOOTPRINT_IDX),
+        Table::Vulnerability => convert!(VULNERABILITY),
+        Table::DamageBinDict => convert!(DAMAGE_BIN_DICT),
+        Table::Random => convert!(RANDOM),
+        Table::FmProgramme => convert!(FM_PROGRAMME),
+        Table::FmPolicytc => convert!(FM_POLICYTC),
+        Table::FmProfile => convert!(FM_PROFILE),
+        Table::FmXref => convert!(FM_XREF),
+        Table::GulSummaryXref => convert!(GUL_SUMMARY_XREF),
+        Table::FmSummaryXref => convert!(FM_SUMMARY_XREF),
+        Table::ReturnPeriods => convert!(RETURN_PERIODS),
+    }
+}

@@ -1,0 +1,78 @@
+//! The tools that give the source, a table in one form, in its other form.
+//! The rules: docs/COMMANDS.md, "tobin and tocsv".
+ghost use Rattle.std.specs.Prelude.{◌≡◌, IfOk, IfErr, Ok, Err};
+ghost use Rattle.kt_cells.specs.Stops.{Tells};
+ghost use Rattle.kt_tools.specs.Converting.{IsConversion, IsTableStop, other_form};
+ghost use Rattle.kt_tools.specs.Outcome.{convert_outcome};
+ghost use Rattle.kt_tools.specs.Stops.{end_status};
+ghost use Rattle.kt_tools.specs.Tool.{StreamToolEnds};
+
+use crate::command::Conversion;
+use crate::status::Refusal;
+use crate::tool::{ToolStop, write_stop};
+use crate::whole_source::{read_whole, source_label};
+use kt_cells::TableStop;
+use kt_money::Bytes;
+use kt_out::{Sink, Source, write_all};
+use kt_schema::{bin_to_csv, csv_to_bin};
+use std::alloc::Global;
+
+/// The other form of a table.
+fn other_form_of(alloc: Global, conversion: Conversion, bytes: &[u8]) -> Result<Bytes, TableStop>
+    requires { IsConversion conversion }
+    ensures value { IfOk result (λ made. other_form conversion bytes.now ≡ Ok made) }
+    ensures refused { IfErr result (Tells (other_form conversion bytes.now)) }
+{
+    match conversion {
+        Conversion::ToFile { table, periods } => csv_to_bin(alloc, table, periods, bytes),
+        Conversion::ToText { table } => bin_to_csv(alloc, table, bytes),
+    }
+}
+
+/// How the refusal of the source ends the tool.
+fn source_stop(alloc: Global, stop: TableStop) -> ToolStop
+    ensures { IsTableStop stop result }
+{
+    let Ok(name) = source_label(alloc) else {
+        return ToolStop::NoMemory;
+    };
+    match stop {
+        TableStop::NotProfile => ToolStop::Refused(Refusal::NotProfile { name }),
+        TableStop::WrongTable { found } => ToolStop::Refused(Refusal::WrongTable { name, found }),
+        TableStop::WrongVersion { found } => {
+            ToolStop::Refused(Refusal::WrongVersion { name, found })
+        }
+        TableStop::CutRecord { row } => ToolStop::Refused(Refusal::CutRecord { name, row }),
+        TableStop::Bad { row, column, cause } => ToolStop::Refused(Refusal::Bad {
+            name,
+            row,
+            column,
+            cause,
+        }),
+        TableStop::OutOfMemory => ToolStop::NoMemory,
+    }
+}
+
+/// Reads the whole source and writes its other form.
+pub fn convert<S: Source, K: Sink>(
+    alloc: Global,
+    conversion: Conversion,
+    source: &mut S,
+    sink: &mut K,
+) -> Result<(), ToolStop>
+    requires { IsConversion conversion }
+    ensures { StreamToolEnds (convert_outcome conversion) (S.left source.old) (S.left source.new) (K.taken sink.old) (K.taken sink.new) (S.fault_count source.old) (S.fault_count source.new) (K.fault_count sink.old) (K.fault_count sink.new) (end_status result) }
+{
+    let bytes = match read_whole(alloc, source) {
+        Ok(bytes) => bytes,
+        Err(stop) => return Err(stop),
+    };
+    let made = match other_form_of(alloc, conversion, bytes.as_slice()) {
+        Ok(made) => made,
+        Err(stop) => return Err(source_stop(alloc, stop)),
+    };
+    match write_all(sink, made.as_slice()) {
+        Ok(()) => Ok(()),
+        Err(fault) => Err(write_stop(fault)),
+    }
+}
