@@ -1,3 +1,4 @@
 pub mod TableNames
 pub mod TableSet
-pub mod Tables
+pub mod Rows
+pub mod Ranges

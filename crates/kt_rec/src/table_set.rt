@@ -1,7 +1,7 @@
 //! A set of tables.
 ghost use Rattle.std.specs.Prelude.{◌≡◌, ◌||◌, false};
 ghost use Rattle.kt_rec.specs.TableNames.{IsTableId};
-ghost use Rattle.kt_rec.specs.TableSet.{is_in, place_of, is_same};
+ghost use Rattle.kt_rec.specs.TableSet.{is_in, place_of, is_same, no_tables, with_table};
 
 use crate::table::TableId;
 
@@ -24,6 +24,7 @@ fn place(id: TableId) -> usize
 impl TableSet {
     /// No table.
     pub fn new() -> Self
+        ensures exact { result ≡ no_tables }
         ensures absent { (id : _) → is_in result id ≡ false }
     {
         TableSet {
@@ -34,6 +35,7 @@ impl TableSet {
     /// Puts a table in, if it is not there yet.
     pub fn add(&mut self, id: TableId)
         requires { IsTableId id }
+        ensures exact { self.new ≡ with_table self.old id }
         ensures value { (other : _) → IsTableId other → is_in self.new other ≡ (is_same id other || is_in self.old other) }
     {
         self.present[place(id)] = true;

@@ -1,5 +1,6 @@
 //! The rows of all tables that a run has loaded.
-ghost use Rattle.kt_rec.specs.Tables.{IsEmpty, IsEmptyFinancial};
+ghost use Rattle.std.specs.Prelude.{◌≡◌};
+ghost use Rattle.kt_rec.specs.Rows.{rows_of, financial_rows, no_rows, no_financial_rows};
 
 use crate::exposure::{Coverage, Item};
 use crate::financial::{FmPolicytc, FmProfile, FmProgramme, FmXref};
@@ -59,7 +60,7 @@ pub struct Tables {
 
 // No rows yet.
 fn no_financial_tables(alloc: Global) -> FinancialTables
-    ensures { IsEmptyFinancial result }
+    ensures { financial_rows result ≡ no_financial_rows }
 {
     FinancialTables {
         programme: Vec::new(alloc),
@@ -71,7 +72,7 @@ fn no_financial_tables(alloc: Global) -> FinancialTables
 impl Tables {
     /// No rows in any table. Takes no memory.
     pub fn new(alloc: Global) -> Self
-        ensures absent { IsEmpty result }
+        ensures absent { rows_of result ≡ no_rows }
     {
         Tables {
             events: Vec::new(alloc),

@@ -9,5 +9,5 @@ get_or-replicate_same zero k = refl
 get_or-replicate_same (suc n) zero = refl
 get_or-replicate_same (suc n) (suc k) = get_or-replicate_same n k
 
-pub returns : goal.returns
-returns c = record { absent = λ id. get_or-replicate_same 160 (place_of id) }
+pub returns-clause-absent : goal.returns-clause-absent
+returns-clause-absent c = λ id. get_or-replicate_same 160 (place_of id)
