@@ -2,6 +2,8 @@
 use Rattle.std.specs.Prelude.{◌≡◌, ℕ, ◌-◌, ◌<◌, ◌≤◌, List, ◌++◌, length, take, drop, ⊤, Option, None, Some, Result, Ok, Err}
 use Rattle.kt_out.specs.declared.fault.Absent.{Absent}
 use Rattle.kt_out.specs.declared.fault.Absent.TheVariants.{Failed, Missing, OutOfMemory}
+use Rattle.kt_out.specs.declared.fault.Fault.{Fault}
+use Rattle.kt_out.specs.Counts.{one_more}
 use Rattle.kt_out.specs.NamedFiles.{FileMap}
 
 -- the size of what a name stands for: its length, and Missing exactly where it stands for nothing
@@ -47,3 +49,29 @@ ReadsFrom held at room filled (Err fault) = ⊤
 abbrev pub ReadsAt : {E : Type 0} → Option FileMap → List ℕ → ℕ → List ℕ → List ℕ → Result ℕ E → Type 0
 ReadsAt None name at room filled answer = ⊤
 ReadsAt (Some files) name at room filled answer = ReadsFrom (files name) at room filled answer
+
+-- the counts of real input files: how many calls have failed, and how many have asked for a file that is not there
+pub record FileCounts : Type 0 where
+  pub faults : ℕ
+  pub misses : ℕ
+
+-- one more fault
+abbrev pub with_fault : FileCounts → FileCounts
+with_fault counts = record { faults = one_more counts.faults; misses = counts.misses }
+
+-- one more miss
+abbrev pub with_miss : FileCounts → FileCounts
+with_miss counts = record { faults = counts.faults; misses = one_more counts.misses }
+
+-- the counts after a call for a size has answered
+abbrev pub after_size_answer : FileCounts → Result ℕ Absent → FileCounts
+after_size_answer counts (Ok n) = counts
+after_size_answer counts (Err Failed) = with_fault counts
+after_size_answer counts (Err Missing) = with_miss counts
+after_size_answer counts (Err OutOfMemory) = counts
+
+-- the counts after a read has answered
+abbrev pub after_read_answer : FileCounts → Result ℕ Fault → FileCounts
+after_read_answer counts (Ok n) = counts
+after_read_answer counts (Err Fault.Failed) = with_fault counts
+after_read_answer counts (Err Fault.OutOfMemory) = counts

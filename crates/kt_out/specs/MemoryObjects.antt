@@ -1,8 +1,10 @@
 -- What contracts see of the objects in memory, and in which of their calls they fail.
-use Rattle.std.specs.Prelude.{ℕ, List, Bool, if◌then◌else◌, ◌==◌}
+use Rattle.std.specs.Prelude.{ℕ, ◌-◌, List, length, min, Bool, if◌then◌else◌, ◌==◌, Option, None, Some, Result, Ok, Err}
 use Rattle.std.specs.List.{list_any}
+use Rattle.kt_out.specs.declared.fault.Absent.{Absent}
+use Rattle.kt_out.specs.declared.fault.Fault.{Fault}
 use Rattle.kt_out.specs.Counts.{one_more}
-use Rattle.kt_out.specs.NamedFiles.{File}
+use Rattle.kt_out.specs.NamedFiles.{File, bytes_of}
 
 -- the calls so far: how many, the numbers of those that are to fail (the first is 1), the most bytes that one moves, and how many failed
 pub record CallsSoFar : Type 0 where
@@ -18,6 +20,10 @@ fails_next calls = list_any (λ number. number == one_more calls.made) calls.to_
 -- the calls so far once one more is made
 abbrev pub after_call : CallsSoFar → CallsSoFar
 after_call calls = record { made = one_more calls.made; to_fail = calls.to_fail; most = calls.most; failed = if fails_next calls then one_more calls.failed else calls.failed }
+
+-- the calls so far once one more is made that does not fail, also where it is one of those that are to fail
+abbrev pub after_pass : CallsSoFar → CallsSoFar
+after_pass calls = record { made = one_more calls.made; to_fail = calls.to_fail; most = calls.most; failed = calls.failed }
 
 -- no call yet
 abbrev pub no_calls : List ℕ → ℕ → CallsSoFar
@@ -37,3 +43,32 @@ pub record MemorySink : Type 0 where
 pub record SureFiles : Type 0 where
   pub files : List File
   pub misses : ℕ
+
+-- input files in memory that fail when told: the files, the count of calls that asked for a name that is not held, and the calls
+pub record MemoryInputs : Type 0 where
+  pub files : List File
+  pub misses : ℕ
+  pub calls : CallsSoFar
+
+-- the size of what a name stands for: Missing where it stands for nothing, else Failed in a call that is to fail
+abbrev pub size_or_fault : Option (List ℕ) → Bool → Result ℕ Absent
+size_or_fault None fails = Err Absent.Missing
+size_or_fault (Some bytes) fails = if fails then Err Absent.Failed else Ok (length bytes)
+
+-- the input files after a name was looked up: whether it is held says which count the call may raise
+abbrev pub after_look_up : MemoryInputs → Option (List ℕ) → MemoryInputs
+after_look_up inputs None = record { files = inputs.files; misses = one_more inputs.misses; calls = after_pass inputs.calls }
+after_look_up inputs (Some bytes) = record { files = inputs.files; misses = inputs.misses; calls = after_call inputs.calls }
+
+-- the input files after a call for the size of a name: a miss is a call, and no fault
+abbrev pub after_size : MemoryInputs → List ℕ → MemoryInputs
+after_size inputs name = after_look_up inputs (bytes_of inputs.files name)
+
+-- the length of what a name stands for, 0 where it is not held
+abbrev pub length_of : Option (List ℕ) → ℕ
+length_of None = 0
+length_of (Some bytes) = length bytes
+
+-- how many bytes a read from a place on gives: as many as there is room for and as lie behind the place, and at most so many
+abbrev pub read_or_fault : Option (List ℕ) → ℕ → ℕ → CallsSoFar → Result ℕ Fault
+read_or_fault held at room calls = if fails_next calls then Err Fault.Failed else Ok (min room (min (length_of held - at) calls.most))

@@ -1,8 +1,11 @@
 //! The outside world as traits (a source and a sink of bytes, input and output files, a gate for
-//! workers), with objects in memory that keep them and adapters over the standard streams.
+//! workers), with objects in memory that keep them and adapters over the standard streams
+//! and the current folder.
 #![tactic(auto)]
 
+mod dir_inputs;
 mod fault;
+mod folder;
 mod gate;
 mod inputs;
 mod memory;
@@ -13,10 +16,11 @@ mod source;
 mod std_streams;
 mod writing;
 
+pub use dir_inputs::DirInputs;
 pub use fault::{Absent, Failed, Fault};
 pub use gate::{Gate, Open};
 pub use inputs::Inputs;
-pub use memory::{MemSink, MemSource, SureInputs, SureOutputs, SureSink, SureSource};
+pub use memory::{MemInputs, MemSink, MemSource, SureInputs, SureOutputs, SureSink, SureSource};
 pub use outputs::Outputs;
 pub use sink::Sink;
 pub use source::Source;

@@ -1,6 +1,7 @@
 //! The objects in memory, for tests and for what is made inside the program.
 mod calls;
 mod files;
+mod mem_inputs;
 mod mem_sink;
 mod mem_source;
 mod named_bytes;
@@ -9,6 +10,7 @@ mod sure_outputs;
 mod sure_sink;
 mod sure_source;
 
+pub use mem_inputs::MemInputs;
 pub use mem_sink::MemSink;
 pub use mem_source::MemSource;
 pub use sure_inputs::SureInputs;

@@ -1,7 +1,9 @@
 //! The types of this crate may be sent to other threads and shared by them.
 use crate::{
-    Absent, Failed, Fault, MemSink, MemSource, Open, SureInputs, SureOutputs, SureSink, SureSource,
+    Absent, DirInputs, Failed, Fault, MemInputs, MemSink, MemSource, Open, SureInputs, SureOutputs,
+    SureSink, SureSource,
 };
+use std::fs::Files;
 
 fn is_shared<T: Send + Sync>(_: &T) {}
 
@@ -22,7 +24,16 @@ fn streams_are_shared(a: &MemSource, b: &MemSink, c: &SureSource, d: &SureSink) 
 }
 
 /// The files in memory.
-fn files_are_shared(inputs: &SureInputs, outputs: &SureOutputs) {
+fn files_are_shared(a: &MemInputs, b: &SureInputs, c: &SureOutputs) {
+    is_shared(a);
+    is_shared(b);
+    is_shared(c);
+}
+
+/// The real files, where the runtime and its open files may be shared.
+fn real_files_are_shared<R: Files + Sync>(inputs: &DirInputs<'_, R>)
+where
+    R::File: Send + Sync,
+{
     is_shared(inputs);
-    is_shared(outputs);
 }

@@ -54,8 +54,8 @@ impl<R: Read + Drop> Source for StdSource<R> {
     }
 }
 
-// One read, made again where a signal interrupts it; None where it fails.
-fn read_some<R: Read>(reader: &mut R, buf: &mut [u8]) -> Option<usize>
+/// One read, made again where a signal interrupts it; None where it fails.
+pub fn read_some<R: Read>(reader: &mut R, buf: &mut [u8]) -> Option<usize>
     ensures { IfSome result (λ n. n ≤ length buf.old) }
 {
     for _ in 0..TRIES {

@@ -1,6 +1,6 @@
 //! The calls of an object in memory: which of them fail, and how many bytes one moves.
 ghost use Rattle.std.specs.Prelude.{◌≡◌, ◌<◌, ◌≤◌, min};
-ghost use Rattle.kt_out.specs.MemoryObjects.{fails_next, after_call, no_calls};
+ghost use Rattle.kt_out.specs.MemoryObjects.{fails_next, after_call, after_pass, no_calls};
 
 use std::marker::Model;
 
@@ -51,6 +51,13 @@ impl Calls {
             self.failed = self.failed.saturating_add(1);
         }
         fails
+    }
+
+    /// Counts one more call, which does not fail.
+    pub fn pass_next(&mut self)
+        ensures exact { self.new ≡ after_pass self.old }
+    {
+        self.made = self.made.saturating_add(1);
     }
 
     /// How many calls have failed.
