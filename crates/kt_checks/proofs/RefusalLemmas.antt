@@ -3,8 +3,8 @@ use Rattle.std.proofs.Common.{◌≡◌, true, false, List, [], ◌∷◌, ◌++
 use Rattle.std.specs.Prelude.{is_some}
 use Rattle.std.specs.List.{fold}
 use Rattle.std.specs.Option.{option_or}
-use Rattle.kt_checks.specs.declared.need.Refusal.{Refusal}
-use Rattle.kt_checks.specs.Refusals.{first_of}
+use Rattle.kt_keys.specs.declared.need.Refusal.{Refusal}
+use Rattle.kt_keys.specs.Refusals.{first_of}
 
 -- what is found stays found
 fold-found : (found : Refusal) (refusals : List (Option Refusal)) → Some found ≡ fold option_or (Some found) refusals

@@ -1,18 +1,19 @@
 -- What follows where a check refuses nothing.
-use Rattle.std.specs.Prelude.{◌≡◌, ℕ, ◌≤◌, ◌+◌, ◌-◌, ◌<◌, Bool, true, false, not, cond, List, [], ◌∷◌, ◌++◌, length, nat_lt, refl, Option, Some, None, All, slice_index_or, zero, suc}
+use Rattle.std.specs.Prelude.{◌≡◌, ℕ, ◌≤◌, ◌+◌, ◌-◌, ◌<◌, ◌%◌, nat_eq, Bool, true, false, not, cond, List, [], ◌∷◌, ◌++◌, length, nat_lt, refl, Option, Some, None, All, slice_index_or, zero, suc}
 use Rattle.std.specs.List.{AllPass, IsDistinct, fold, list_any, sum_by}
 use Rattle.std.specs.Cmp.{IsEquivalence}
 use Rattle.std.specs.Option.{option_or}
 use Rattle.std.proofs.Common.{sym, subst, ◌∙◌, append-nil, append_assoc, arith}
-use Rattle.std.proofs.lemmas.Bool.{ltb-false}
+use Rattle.std.proofs.lemmas.Bool.{eqb-true, ltb-false, not-false, or_parts}
 use Rattle.std.proofs.lemmas.Map.Keys.{IsDistinct-push}
+use Rattle.kt_rec.specs.declared.hazard.FootprintIdx.{FootprintIdx}
 use Rattle.kt_rec.specs.declared.table.TableId.{TableId}
-use Rattle.kt_rec.specs.declared.tables.Tables.{Tables}
-use Rattle.kt_checks.specs.declared.need.Need.{Need}
-use Rattle.kt_checks.specs.declared.need.Refusal.{Refusal}
-use Rattle.kt_checks.specs.FirstRow.{first_where, first_refused_after, repeated_at, unknown_at}
-use Rattle.kt_checks.specs.TableChecks.{sum_above_at}
-use Rattle.kt_checks.specs.Refusals.{refusal, first_of}
+use Rattle.kt_rec.specs.Rows.{Rows}
+use Rattle.kt_keys.specs.declared.need.Need.{Need}
+use Rattle.kt_keys.specs.declared.need.Refusal.{Refusal}
+use Rattle.kt_keys.specs.FirstRow.{first_where, first_refused_after, repeated_at, unknown_at}
+use Rattle.kt_checks.specs.TableChecks.{IsPlaced, is_misplaced, sum_above_at}
+use Rattle.kt_keys.specs.Refusals.{refusal, first_of}
 use Rattle.kt_checks.specs.Checks.{IsValid, KeepsCheck, first_refusal, checks_of}
 
 -- where the first of several refusals is none, each is none
@@ -31,9 +32,9 @@ each_none refusals none = from None refusals none
     from (Some found) (refusal ∷ refusals) h place = let e = sym (stays found refusals) ∙ h in cc
 
 -- valid tables keep each check
-pub keeps-from_valid : (number : ℕ) (tables : Tables) (need : Need) → IsValid tables need → KeepsCheck number tables need
+pub keeps-from_valid : (number : ℕ) (rows : Rows) (need : Need) → IsValid rows need → KeepsCheck number rows need
 unfolding first_refusal
-keeps-from_valid number tables need valid = record { none = each_none (checks_of tables need) valid.none (number - 1) }
+keeps-from_valid number rows need valid = record { none = each_none (checks_of rows need) valid.none (number - 1) }
 
 -- a check that is made and refuses nothing finds no row
 pub no_row : (number : ℕ) (table : TableId) (made : Bool) (row : Option ℕ) → refusal number table made row ≡ None → made ≡ true → row ≡ None
@@ -56,6 +57,25 @@ none_passes {A} test rows none = from [] rows none
     from : (earlier rows : List A) → first_refused_after (λ _ row. test row) earlier rows ≡ None → All (λ row. test row ≡ false) rows
     from earlier [] h = λ k d below. absurd (omega arith)
     from earlier (row ∷ rows) h = step (test row) earlier row rows refl h (from (earlier ++ row ∷ []) rows)
+
+-- what is not misplaced is placed
+placed : (bytes : ℕ) (row : FootprintIdx) → is_misplaced bytes row ≡ false → IsPlaced bytes row
+placed bytes row h =
+    let within = or_parts _ (nat_lt bytes (row.offset + row.size)) h in
+    let few = or_parts _ (nat_lt 1200000 row.size) within.0 in
+    let size = or_parts _ (not (nat_eq (row.size % 12) 0)) few.0 in
+    let place = or_parts (nat_lt row.offset 16) (not (nat_eq ((row.offset - 16) % 12) 0)) size.0 in
+    record {
+      behind_header = ltb-false _ _ place.0;
+      whole_place = eqb-true _ _ (not-false _ place.1);
+      whole_size = eqb-true _ _ (not-false _ size.1);
+      few = ltb-false _ _ few.1;
+      within = ltb-false _ _ within.1;
+    }
+
+-- where no row of the footprint's index is misplaced, each is placed
+pub each_placed : (bytes : ℕ) (rows : List FootprintIdx) → first_where (is_misplaced bytes) rows ≡ None → All (IsPlaced bytes) rows
+each_placed bytes rows none = λ k d below. placed bytes _ (none_passes (is_misplaced bytes) rows none k d below)
 
 -- where no key is unknown, each is among the known ones
 pub each_known : {K : Type 0} (same : K → K → Bool) (known keys : List K) → unknown_at same known keys ≡ None → AllPass (λ key. list_any (same key) known) keys

@@ -1,34 +1,18 @@
 -- The checks of the outputs that items, or units of the top level, owe.
 use Rattle.std.specs.Prelude.{ℕ, ◌+◌, ◌&&◌, ◌||◌, nat_eq, not, Bool, false, cond, List, map, suc, zero, Option, Some, None}
-use Rattle.std.specs.List.{list_any, filter}
+use Rattle.std.specs.List.{list_any}
 use Rattle.std.specs.Map.{lookup}
 use Rattle.kt_rec.specs.declared.financial.FmProgramme.{FmProgramme}
 use Rattle.kt_rec.specs.declared.financial.FmPolicytc.{FmPolicytc}
 use Rattle.kt_rec.specs.declared.financial.FmXref.{FmXref}
-use Rattle.kt_rec.specs.declared.table.Table.TheVariants.{Items, FmProgramme as TheProgramme, FmPolicytc as ThePolicytc, FmXref as TheXref}
-use Rattle.kt_rec.specs.declared.tables.Tables.{Tables}
-use Rattle.kt_checks.specs.declared.need.Need.{Need}
-use Rattle.kt_checks.specs.declared.need.Refusal.{Refusal}
-use Rattle.kt_checks.specs.FirstRow.{first_where, unknown_at}
-use Rattle.kt_checks.specs.Refusals.{at_stage, is_loaded, refusal}
-use Rattle.kt_checks.specs.Keys.{programme_of, policytc_of, same_pair}
-use Rattle.kt_checks.specs.ProgrammeChecks.{top_level}
-
--- the units of the top level
-abbrev pub top_targets : List FmProgramme → List ℕ
-top_targets programme = map (λ row. row.to_agg_id) (filter (λ row. nat_eq row.level_id (top_level programme)) programme)
-
--- what an output may be for: by rule 0 a unit of the top level, by the others an item
-abbrev pub output_units : Tables → ℕ → List ℕ
-output_units tables rule = cond (nat_eq rule 0) (top_targets (programme_of tables 0)) (map (λ row. row.item_id) tables.items.items)
-
--- whether the tables are loaded that have the outputs and what they may be for
-abbrev pub has_units : Need → Bool
-has_units need = is_loaded need 0 TheXref && is_loaded need 0 (cond (nat_eq need.rule 0) TheProgramme Items)
-
--- check 15: an output is for no item, or by rule 0 for no unit of the top level
-abbrev pub output_unit_check : Tables → Need → Option Refusal
-output_unit_check tables need = refusal 15 (at_stage 0 TheXref) (has_units need) (unknown_at nat_eq (output_units tables need.rule) (map (λ row. row.agg_id) tables.fm_xref.items))
+use Rattle.kt_rec.specs.declared.table.Table.TheVariants.{FmProgramme as TheProgramme, FmPolicytc as ThePolicytc, FmXref as TheXref}
+use Rattle.kt_rec.specs.Rows.{Rows}
+use Rattle.kt_keys.specs.declared.need.Need.{Need}
+use Rattle.kt_keys.specs.declared.need.Refusal.{Refusal}
+use Rattle.kt_keys.specs.FirstRow.{first_where}
+use Rattle.kt_keys.specs.Refusals.{at_stage, is_loaded, refusal}
+use Rattle.kt_keys.specs.Keys.{programme_of, policytc_of, same_pair}
+use Rattle.kt_keys.specs.Units.{top_level, top_layers}
 
 -- the unit that a unit's losses at a level go to
 abbrev pub next_unit : List FmProgramme → ℕ × ℕ → Option ℕ
@@ -66,10 +50,6 @@ lacks_at lacks (Some unit) item = lacks unit item
 abbrev pub owes_output : ℕ → ℕ → (ℕ × ℕ → Option ℕ) → (ℕ → ℕ → Bool) → FmProgramme → Bool
 owes_output rule top next lacks row = cond (nat_eq rule 0) (nat_eq row.level_id top && lacks row.to_agg_id row.to_agg_id) (nat_eq row.level_id 1 && lacks_at lacks (climbed next top 1 row.from_agg_id) row.from_agg_id)
 
--- the layers of the units of the top level
-abbrev pub top_layers : List FmProgramme → List FmPolicytc → List (ℕ × ℕ)
-top_layers programme policytc = map (λ row. (row.agg_id, row.layer_id)) (filter (λ row. nat_eq row.level_id (top_level programme)) policytc)
-
 -- the first row of a programme that lacks an output, by a rule
 unfoldable pub owing_at : ℕ → List FmProgramme → List FmPolicytc → List FmXref → Option ℕ
 owing_at rule programme policytc outputs =
@@ -79,6 +59,6 @@ owing_at rule programme policytc outputs =
     (λ pair. list_any (same_pair pair) (map (λ row. (row.agg_id, row.layer_id)) outputs)))) programme
 
 -- check 16: an item, or by rule 0 a unit of the top level, lacks an output for some layer
-abbrev pub missing_output_check : Tables → Need → Option Refusal
-missing_output_check tables need =
-    refusal 16 (at_stage 0 TheProgramme) (is_loaded need 0 TheProgramme && is_loaded need 0 ThePolicytc && is_loaded need 0 TheXref) (owing_at need.rule (programme_of tables 0) (policytc_of tables 0) tables.fm_xref.items)
+abbrev pub missing_output_check : Rows → Need → Option Refusal
+missing_output_check rows need =
+    refusal 16 (at_stage 0 TheProgramme) (is_loaded need 0 TheProgramme && is_loaded need 0 ThePolicytc && is_loaded need 0 TheXref) (owing_at need.rule (programme_of rows 0) (policytc_of rows 0) rows.fm_xref)

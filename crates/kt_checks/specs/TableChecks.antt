@@ -1,5 +1,5 @@
 -- The checks of single tables, of what items, coverages and vulnerabilities name, and of the sizes of tables.
-use Rattle.std.specs.Prelude.{ℕ, ◌+◌, ◌-◌, ◌*◌, ◌%◌, ◌&&◌, ◌||◌, nat_eq, nat_lt, not, Bool, cond, List, [], ◌∷◌, ◌++◌, map, length, Option, Some, None, unwrap_or}
+use Rattle.std.specs.Prelude.{◌≡◌, ◌≤◌, ℕ, ◌+◌, ◌-◌, ◌*◌, ◌%◌, ◌&&◌, ◌||◌, nat_eq, nat_lt, not, Bool, cond, List, [], ◌∷◌, ◌++◌, map, length, Option, Some, None, unwrap_or}
 use Rattle.std.specs.List.{sum_by}
 use Rattle.std.specs.Map.{lookup}
 use Rattle.kt_rec.specs.declared.exposure.Item.{Item}
@@ -8,12 +8,12 @@ use Rattle.kt_rec.specs.declared.hazard.DamageBin.{DamageBin}
 use Rattle.kt_rec.specs.declared.hazard.FootprintIdx.{FootprintIdx}
 use Rattle.kt_rec.specs.declared.table.Table.{Table}
 use Rattle.kt_rec.specs.declared.table.Table.TheVariants.{Events, Items, Coverages, Footprint, FootprintIdx as TheFootprintIdx, Vulnerability as TheVulnerability, DamageBinDict, Random, FmProgramme, FmPolicytc, FmProfile, FmXref, GulSummaryXref, FmSummaryXref, Occurrence as TheOccurrence, ReturnPeriods}
-use Rattle.kt_rec.specs.declared.tables.Tables.{Tables}
-use Rattle.kt_checks.specs.declared.need.Need.{Need}
-use Rattle.kt_checks.specs.declared.need.Refusal.{Refusal}
-use Rattle.kt_checks.specs.FirstRow.{first_where, first_refused, unknown_at, above_at}
-use Rattle.kt_checks.specs.Refusals.{at_stage, is_loaded, refusal, first_of, over_stages}
-use Rattle.kt_checks.specs.Keys.{programme_of, policytc_of, profile_of, same_pair}
+use Rattle.kt_rec.specs.Rows.{Rows}
+use Rattle.kt_keys.specs.declared.need.Need.{Need}
+use Rattle.kt_keys.specs.declared.need.Refusal.{Refusal}
+use Rattle.kt_keys.specs.FirstRow.{first_where, first_refused, above_at}
+use Rattle.kt_keys.specs.Refusals.{at_stage, is_loaded, refusal, first_of, over_stages}
+use Rattle.kt_keys.specs.Keys.{programme_of, policytc_of, profile_of, same_pair}
 
 -- the row behind the last that a table may have
 abbrev pub row_past : ℕ → ℕ → Option ℕ
@@ -24,35 +24,31 @@ abbrev pub limit_check : Need → ℕ → Table → ℕ → ℕ → Option Refus
 limit_check need stage table most rows = refusal 1 (at_stage stage table) (is_loaded need stage table) (row_past most rows)
 
 -- check 1 of the financial tables of the base or of a stage
-abbrev pub programme_limits : Tables → Need → ℕ → Option Refusal
-programme_limits tables need stage = first_of (
-    limit_check need stage FmProgramme 1200000 (length (programme_of tables stage))
-    ∷ limit_check need stage FmPolicytc 1200000 (length (policytc_of tables stage))
-    ∷ limit_check need stage FmProfile 1000000 (length (profile_of tables stage))
+abbrev pub programme_limits : Rows → Need → ℕ → Option Refusal
+programme_limits rows need stage = first_of (
+    limit_check need stage FmProgramme 1200000 (length (programme_of rows stage))
+    ∷ limit_check need stage FmPolicytc 1200000 (length (policytc_of rows stage))
+    ∷ limit_check need stage FmProfile 1000000 (length (profile_of rows stage))
     ∷ [])
 
 -- check 1: a table has more rows than its limit
-abbrev pub limit_checks : Tables → Need → Option Refusal
-limit_checks tables need = first_of (
-    limit_check need 0 Events 1000000 (length tables.events.items)
-    ∷ limit_check need 0 Items 100000 (length tables.items.items)
-    ∷ limit_check need 0 Coverages 100000 (length tables.coverages.items)
-    ∷ limit_check need 0 TheFootprintIdx 1000000 (length tables.footprint_idx.items)
-    ∷ limit_check need 0 TheVulnerability 10000000 (length tables.vulnerability.items)
-    ∷ limit_check need 0 DamageBinDict 1000 (length tables.damage_bin_dict.items)
-    ∷ limit_check need 0 Random 10000000 (length tables.random.items)
-    ∷ programme_limits tables need 0
-    ∷ limit_check need 0 FmXref 100000 (length tables.fm_xref.items)
-    ∷ limit_check need 0 GulSummaryXref 900000 (length tables.gulsummaryxref.items)
-    ∷ limit_check need 0 FmSummaryXref 900000 (length tables.fmsummaryxref.items)
-    ∷ limit_check need 0 TheOccurrence 1000000 (length tables.occurrence.items)
-    ∷ limit_check need 0 ReturnPeriods 1000 (length tables.returnperiods.items)
-    ∷ over_stages (λ later. programme_limits tables need (later + 1)) 9
+abbrev pub limit_checks : Rows → Need → Option Refusal
+limit_checks rows need = first_of (
+    limit_check need 0 Events 1000000 (length rows.events)
+    ∷ limit_check need 0 Items 100000 (length rows.items)
+    ∷ limit_check need 0 Coverages 100000 (length rows.coverages)
+    ∷ limit_check need 0 TheFootprintIdx 1000000 (length rows.footprint_idx)
+    ∷ limit_check need 0 TheVulnerability 10000000 (length rows.vulnerability)
+    ∷ limit_check need 0 DamageBinDict 1000 (length rows.damage_bin_dict)
+    ∷ limit_check need 0 Random 10000000 (length rows.random)
+    ∷ programme_limits rows need 0
+    ∷ limit_check need 0 FmXref 100000 (length rows.fm_xref)
+    ∷ limit_check need 0 GulSummaryXref 900000 (length rows.gulsummaryxref)
+    ∷ limit_check need 0 FmSummaryXref 900000 (length rows.fmsummaryxref)
+    ∷ limit_check need 0 TheOccurrence 1000000 (length rows.occurrence)
+    ∷ limit_check need 0 ReturnPeriods 1000 (length rows.returnperiods)
+    ∷ over_stages (λ later. programme_limits rows need (later + 1)) 9
     ∷ [])
-
--- check 4: the coverage of an item is not in the coverages
-abbrev pub coverage_check : Tables → Need → Option Refusal
-coverage_check tables need = refusal 4 (at_stage 0 Items) (is_loaded need 0 Items && is_loaded need 0 Coverages) (unknown_at nat_eq (map (λ row. row.coverage_id) tables.coverages.items) (map (λ row. row.coverage_id) tables.items.items))
 
 -- the total insured value of a coverage in cents, 0 where there is no such coverage
 abbrev pub tiv_of : List Coverage → ℕ → ℕ
@@ -67,57 +63,61 @@ abbrev pub value_above_at : List Coverage → List Item → Option ℕ
 value_above_at coverages items = sum_above_at (λ row. tiv_of coverages row.coverage_id) items
 
 -- check 5: the insured values of the items up to a row add to more than 10^14 cents
-abbrev pub value_check : Tables → Need → Option Refusal
-value_check tables need = refusal 5 (at_stage 0 Items) (is_loaded need 0 Items && is_loaded need 0 Coverages) (value_above_at tables.coverages.items tables.items.items)
+abbrev pub value_check : Rows → Need → Option Refusal
+value_check rows need = refusal 5 (at_stage 0 Items) (is_loaded need 0 Items && is_loaded need 0 Coverages) (value_above_at rows.coverages rows.items)
 
 -- the first damage bin whose index is not its row's number, or which begins above its end
 abbrev pub bad_bin_at : List DamageBin → Option ℕ
 bad_bin_at bins = first_refused (λ earlier bin. not (nat_eq bin.bin_index (length earlier + 1)) || nat_lt bin.bin_to bin.bin_from) bins
 
 -- check 6: a damage bin is out of order or begins above its end
-abbrev pub bin_check : Tables → Need → Option Refusal
-bin_check tables need = refusal 6 (at_stage 0 DamageBinDict) (is_loaded need 0 DamageBinDict) (bad_bin_at tables.damage_bin_dict.items)
-
--- check 7: the damage bin of a vulnerability is not in the dictionary
-abbrev pub damage_check : Tables → Need → Option Refusal
-damage_check tables need = refusal 7 (at_stage 0 TheVulnerability) (is_loaded need 0 TheVulnerability && is_loaded need 0 DamageBinDict) (unknown_at nat_eq (map (λ row. row.bin_index) tables.damage_bin_dict.items) (map (λ row. row.damage_bin_id) tables.vulnerability.items))
+abbrev pub bin_check : Rows → Need → Option Refusal
+bin_check rows need = refusal 6 (at_stage 0 DamageBinDict) (is_loaded need 0 DamageBinDict) (bad_bin_at rows.damage_bin_dict)
 
 -- check 8: the probabilities of a vulnerability at an intensity add to more than 1,001,000 ppm up to a row
-abbrev pub probability_check : Tables → Need → Option Refusal
-probability_check tables need = refusal 8 (at_stage 0 TheVulnerability) (is_loaded need 0 TheVulnerability) (above_at same_pair 1001000 (map (λ row. ((row.vulnerability_id, row.intensity_bin_id), row.prob)) tables.vulnerability.items))
+abbrev pub probability_check : Rows → Need → Option Refusal
+probability_check rows need = refusal 8 (at_stage 0 TheVulnerability) (is_loaded need 0 TheVulnerability) (above_at same_pair 1001000 (map (λ row. ((row.vulnerability_id, row.intensity_bin_id), row.prob)) rows.vulnerability))
 
 -- whether the records of an event do not lie in the footprint file as whole records, or are too many
 abbrev pub is_misplaced : ℕ → FootprintIdx → Bool
 is_misplaced file row =
     nat_lt row.offset 16 || not (nat_eq ((row.offset - 16) % 12) 0) || not (nat_eq (row.size % 12) 0) || nat_lt 1200000 row.size || nat_lt file (row.offset + row.size)
 
+-- the records of an event lie in a footprint file of so many bytes as whole records, and are not too many
+pub record IsPlaced (bytes : ℕ) (row : FootprintIdx) : Type 0 where
+  pub behind_header : 16 ≤ row.offset
+  pub whole_place : (row.offset - 16) % 12 ≡ 0
+  pub whole_size : row.size % 12 ≡ 0
+  pub few : row.size ≤ 1200000
+  pub within : row.offset + row.size ≤ bytes
+
 -- check 9: the records of an event do not lie in the footprint file as whole records, or are too many
-abbrev pub place_check : Tables → Need → Option Refusal
-place_check tables need = refusal 9 (at_stage 0 TheFootprintIdx) (is_loaded need 0 TheFootprintIdx && is_loaded need 0 Footprint) (first_where (is_misplaced tables.footprint_size) tables.footprint_idx.items)
+abbrev pub place_check : Rows → Need → Option Refusal
+place_check rows need = refusal 9 (at_stage 0 TheFootprintIdx) (is_loaded need 0 TheFootprintIdx && is_loaded need 0 Footprint) (first_where (is_misplaced rows.footprint_size) rows.footprint_idx)
 
 -- row 0, where a table has no row
 abbrev pub none_at : ℕ → Option ℕ
 none_at rows = cond (nat_eq rows 0) (Some 0) None
 
 -- check 10 of the programme of the base or of a stage: it has no row
-abbrev pub empty_programme : Tables → Need → ℕ → Option Refusal
-empty_programme tables need stage = refusal 10 (at_stage stage FmProgramme) (is_loaded need stage FmProgramme) (none_at (length (programme_of tables stage)))
+abbrev pub empty_programme : Rows → Need → ℕ → Option Refusal
+empty_programme rows need stage = refusal 10 (at_stage stage FmProgramme) (is_loaded need stage FmProgramme) (none_at (length (programme_of rows stage)))
 
 -- check 10: there is no random number, or a programme has no row
-abbrev pub empty_checks : Tables → Need → Option Refusal
-empty_checks tables need = first_of (
-    refusal 10 (at_stage 0 Random) (is_loaded need 0 Random) (none_at (length tables.random.items))
-    ∷ over_stages (empty_programme tables need) 10
+abbrev pub empty_checks : Rows → Need → Option Refusal
+empty_checks rows need = first_of (
+    refusal 10 (at_stage 0 Random) (is_loaded need 0 Random) (none_at (length rows.random))
+    ∷ over_stages (empty_programme rows need) 10
     ∷ [])
 
 -- check 20: a period is above the number of periods
-abbrev pub period_check : Tables → Need → Option Refusal
-period_check tables need = refusal 20 (at_stage 0 TheOccurrence) (is_loaded need 0 TheOccurrence) (first_where (λ row. nat_lt tables.periods row.period_no) tables.occurrence.items)
+abbrev pub period_check : Rows → Need → Option Refusal
+period_check rows need = refusal 20 (at_stage 0 TheOccurrence) (is_loaded need 0 TheOccurrence) (first_where (λ row. nat_lt rows.periods row.period_no) rows.occurrence)
 
 -- the number of rows, where there are too many for what each brings
 abbrev pub rows_above : ℕ → ℕ → ℕ → Option ℕ
 rows_above most rows each = cond (nat_lt most (rows * each)) (Some rows) None
 
 -- check 21: the damage bins times the items are above 2,000,000
-abbrev pub damage_size_check : Tables → Need → Option Refusal
-damage_size_check tables need = refusal 21 (at_stage 0 DamageBinDict) (is_loaded need 0 DamageBinDict && is_loaded need 0 Items) (rows_above 2000000 (length tables.damage_bin_dict.items) (length tables.items.items))
+abbrev pub damage_size_check : Rows → Need → Option Refusal
+damage_size_check rows need = refusal 21 (at_stage 0 DamageBinDict) (is_loaded need 0 DamageBinDict && is_loaded need 0 Items) (rows_above 2000000 (length rows.damage_bin_dict) (length rows.items))

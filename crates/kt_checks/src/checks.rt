@@ -1,29 +1,29 @@
 //! All checks in their order, and the first refusal.
 ghost use Rattle.std.specs.Prelude.{◌≡◌, ◌⊎◌, IfOk};
-ghost use Rattle.kt_checks.specs.Refusals.{first_of};
+ghost use Rattle.kt_rec.specs.Rows.{rows_of};
+ghost use Rattle.kt_keys.specs.Refusals.{first_of};
 ghost use Rattle.kt_checks.specs.SummaryChecks.{CountsSummaries, sample_checks, summary_size_check};
 ghost use Rattle.kt_checks.specs.Checks.{table_checks, programme_checks, known_samples, size_checks, first_refusal, samples_refusal, answer_of};
 
-use crate::base_keys::output_check;
-use crate::keys::key_checks;
-use crate::names::{
-    coverage_check, damage_check, output_unit_check, profile_checks, summary_checks,
-};
-use crate::need::{CheckStop, Need, Refusal};
 use crate::outputs::missing_output_check;
+use crate::places::place_check;
 use crate::samples::{SummaryCounts, sample_checks, summary_counts, summary_size_check};
 use crate::sizes::{damage_size_check, empty_checks, limit_checks};
 use crate::sources::source_checks;
 use crate::targets::target_checks;
 use crate::terms::terms_checks;
-use crate::values::{bin_check, period_check, place_check, probability_check, value_check};
+use crate::values::{bin_check, period_check, probability_check, value_check};
+use kt_keys::{
+    CheckStop, Need, Refusal, coverage_check, damage_check, key_checks, output_check,
+    output_unit_check, profile_checks, summary_checks,
+};
 use kt_rec::Tables;
 use std::alloc::{AllocError, Global};
 
 /// The checks 1 to 10.
 #[tactic(auto, unfolding(crate::specs::Checks::table_checks))]
 fn table_checks(alloc: Global, tables: &Tables, need: &Need) -> Result<Option<Refusal>, AllocError>
-    ensures value { IfOk result (λ found. found ≡ first_of (table_checks tables.now need.now)) }
+    ensures value { IfOk result (λ found. found ≡ first_of (table_checks (rows_of tables.now) need.now)) }
 {
     Ok(
         limit_checks(tables, need)
@@ -46,7 +46,7 @@ fn programme_checks(
     tables: &Tables,
     need: &Need,
 ) -> Result<Option<Refusal>, AllocError>
-    ensures value { IfOk result (λ found. found ≡ first_of (programme_checks tables.now need.now)) }
+    ensures value { IfOk result (λ found. found ≡ first_of (programme_checks (rows_of tables.now) need.now)) }
 {
     Ok(
         source_checks(alloc, tables, need)?
@@ -64,8 +64,8 @@ fn known_sample_checks(
     tables: &Tables,
     need: &Need,
 ) -> Result<(Option<Refusal>, Option<Refusal>), AllocError>
-    ensures rows { IfOk result (λ found. found.0 ≡ known_samples need.now (sample_checks tables.now need.now need.now.samples)) }
-    ensures summaries { IfOk result (λ found. found.1 ≡ known_samples need.now (summary_size_check tables.now need.now need.now.samples)) }
+    ensures rows { IfOk result (λ found. found.0 ≡ known_samples need.now (sample_checks (rows_of tables.now) need.now need.now.samples)) }
+    ensures summaries { IfOk result (λ found. found.1 ≡ known_samples need.now (summary_size_check (rows_of tables.now) need.now need.now.samples)) }
 {
     if need.samples == 0 {
         return Ok((None, None));
@@ -80,7 +80,7 @@ fn known_sample_checks(
 /// The checks 17 to 21.
 #[tactic(auto, unfolding(crate::specs::Checks::size_checks))]
 fn size_checks(alloc: Global, tables: &Tables, need: &Need) -> Result<Option<Refusal>, AllocError>
-    ensures value { IfOk result (λ found. found ≡ first_of (size_checks tables.now need.now)) }
+    ensures value { IfOk result (λ found. found ≡ first_of (size_checks (rows_of tables.now) need.now)) }
 {
     let (rows, summaries) = known_sample_checks(alloc, tables, need)?;
     Ok(
@@ -94,7 +94,7 @@ fn size_checks(alloc: Global, tables: &Tables, need: &Need) -> Result<Option<Ref
 
 /// The first refusal, group by group: a later group is not made where an earlier one refuses.
 fn first_refusal(alloc: Global, tables: &Tables, need: &Need) -> Result<Option<Refusal>, AllocError>
-    ensures value { IfOk result (λ found. found ≡ first_refusal tables.now need.now) }
+    ensures value { IfOk result (λ found. found ≡ first_refusal (rows_of tables.now) need.now) }
 {
     let found = table_checks(alloc, tables, need)?;
     if found.is_some() {
@@ -121,7 +121,7 @@ fn answer_of(found: Option<Refusal>) -> Result<(), CheckStop>
 /// then by the row. A check is made where all tables that it names are loaded, 18 and 19 only where `need.samples` is
 /// above 0. The other error is want of memory.
 pub fn first_check(alloc: Global, tables: &Tables, need: &Need) -> Result<(), CheckStop>
-    ensures exact { (result ≡ answer_of (first_refusal tables.now need.now)) ⊎ (result ≡ Err CheckStop.OutOfMemory) }
+    ensures exact { (result ≡ answer_of (first_refusal (rows_of tables.now) need.now)) ⊎ (result ≡ Err CheckStop.OutOfMemory) }
 {
     match first_refusal(alloc, tables, need) {
         Ok(found) => answer_of(found),
@@ -138,8 +138,8 @@ pub fn samples_check(
     counts: &SummaryCounts,
     samples: u32,
 ) -> Result<(), CheckStop>
-    requires { CountsSummaries tables.now counts.now }
-    ensures exact { result ≡ answer_of (samples_refusal tables.now need.now samples) }
+    requires { CountsSummaries (rows_of tables.now) counts.now }
+    ensures exact { result ≡ answer_of (samples_refusal (rows_of tables.now) need.now samples) }
 {
     answer_of(sample_checks(tables, need, samples).or(summary_size_check(
         tables, need, counts, samples,

@@ -3,15 +3,16 @@ ghost use Rattle.std.specs.Prelude.{◌≡◌, ◌&&◌, ℕ, nat_eq, not, map, 
 ghost use Rattle.std.specs.List.{list_any};
 ghost use Rattle.std.specs.HashMap.{get};
 ghost use Rattle.std.specs.HashSet.{contains};
-ghost use Rattle.kt_checks.specs.FirstRow.{first_where};
-ghost use Rattle.kt_checks.specs.Keys.{same_pair};
-ghost use Rattle.kt_checks.specs.OutputChecks.{next_unit, climbed, has_layer, lacks_output, lacks_at, owes_output, top_layers, owing_at, missing_output_check};
+ghost use Rattle.kt_rec.specs.Rows.{rows_of};
+ghost use Rattle.kt_keys.specs.FirstRow.{first_where};
+ghost use Rattle.kt_keys.specs.Keys.{same_pair};
+ghost use Rattle.kt_keys.specs.Units.{top_layers};
+ghost use Rattle.kt_checks.specs.OutputChecks.{next_unit, climbed, has_layer, lacks_output, lacks_at, owes_output, owing_at, missing_output_check};
 
-use crate::columns;
-use crate::need::{Need, Refusal};
-use crate::rows::{pair_set, pair_values, set_of};
-use crate::stages::{base, has_base, has_both, policytc, programme};
-use crate::units::{steps_of, top_layers, top_level, units_of};
+use kt_keys::{
+    Need, Refusal, base, has_base, has_both, layers_of_outputs, pair_set, pair_values, policytc,
+    programme, set_of, steps_of, top_layers, top_level, units_of,
+};
 use kt_rec::{FmPolicytc, FmProgramme, FmXref, Table, Tables};
 use std::alloc::{AllocError, Global};
 use std::collections::{HashMap, HashSet};
@@ -33,7 +34,7 @@ struct Lookups {
 }
 
 /// The unit of the top level that an item's losses come to over so many levels.
-fn climbed(next: &HashMap<(u32, u32), u32>, levels: u32, item: u32) -> Option<u32>
+pub fn climbed(next: &HashMap<(u32, u32), u32>, levels: u32, item: u32) -> Option<u32>
     ensures value { result ≡ climbed (get same_pair next.now) levels 1 item }
 {
     let mut unit = item;
@@ -121,7 +122,7 @@ fn lookups_of(
     let steps = steps_of(alloc, programme)?;
     let layers = top_layers(alloc, programme, policytc)?;
     let units = units_of(alloc, &layers)?;
-    let outputs = columns::layers_of_outputs(alloc, outputs)?;
+    let outputs = layers_of_outputs(alloc, outputs)?;
     Ok(Lookups {
         next: pair_values(alloc, &steps)?,
         with_terms: set_of(alloc, &units)?,
@@ -150,7 +151,7 @@ pub(crate) fn missing_output_check(
     tables: &Tables,
     need: &Need,
 ) -> Result<Option<Refusal>, AllocError>
-    ensures value { IfOk result (λ found. found ≡ missing_output_check tables.now need.now) }
+    ensures value { IfOk result (λ found. found ≡ missing_output_check (rows_of tables.now) need.now) }
 {
     let row = owing_at(
         alloc,

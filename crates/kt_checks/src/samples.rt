@@ -1,12 +1,10 @@
 //! The checks of the number of cells that the samples make.
 ghost use Rattle.std.specs.Prelude.{◌≡◌, ◌<◌, ◌^◌, IfOk};
+ghost use Rattle.kt_rec.specs.Rows.{rows_of};
 ghost use Rattle.kt_checks.specs.SummaryChecks.{CountsSummaries, sample_checks, summaries_of, zero_above, summary_size_check};
 
-use crate::columns;
-use crate::need::{Need, Refusal};
-use crate::rows::distinct_pairs;
 use crate::sizes::rows_above;
-use crate::stages::{base, has_base};
+use kt_keys::{Need, Refusal, base, distinct_pairs, has_base, item_summaries, output_summaries};
 use kt_rec::{Table, Tables};
 use std::alloc::{AllocError, Global};
 
@@ -21,10 +19,10 @@ pub struct SummaryCounts {
 
 /// Counts the distinct summaries of the tables. An error is want of memory.
 pub fn summary_counts(alloc: Global, tables: &Tables) -> Result<SummaryCounts, AllocError>
-    ensures value { IfOk result (CountsSummaries tables.now) }
+    ensures value { IfOk result (CountsSummaries (rows_of tables.now)) }
 {
-    let by_item = columns::item_summaries(alloc, &tables.gulsummaryxref)?;
-    let by_output = columns::output_summaries(alloc, &tables.fmsummaryxref)?;
+    let by_item = item_summaries(alloc, &tables.gulsummaryxref)?;
+    let by_output = output_summaries(alloc, &tables.fmsummaryxref)?;
     Ok(SummaryCounts {
         of_items: distinct_pairs(alloc, &by_item)?,
         of_outputs: distinct_pairs(alloc, &by_output)?,
@@ -33,7 +31,7 @@ pub fn summary_counts(alloc: Global, tables: &Tables) -> Result<SummaryCounts, A
 
 /// Check 18: the items, or the outputs, times the cells of each are above 2,000,000.
 pub(crate) fn sample_checks(tables: &Tables, need: &Need, samples: u32) -> Option<Refusal>
-    ensures value { result ≡ sample_checks tables.now need.now samples }
+    ensures value { result ≡ sample_checks (rows_of tables.now) need.now samples }
 {
     let cells = u64::from(samples) + 2;
     let items = rows_above(2_000_000, tables.items.len(), cells);
@@ -48,8 +46,8 @@ pub(crate) fn sample_checks(tables: &Tables, need: &Need, samples: u32) -> Optio
 
 /// The summaries of all perspectives.
 fn summaries_of(tables: &Tables, need: &Need, counts: &SummaryCounts) -> u128
-    requires { CountsSummaries tables.now counts.now }
-    ensures value { result ≡ summaries_of tables.now need.now }
+    requires { CountsSummaries (rows_of tables.now) counts.now }
+    ensures value { result ≡ summaries_of (rows_of tables.now) need.now }
     ensures bound { result < 2 ^ 66 }
 {
     let by_item = if has_base(need, Table::GulSummaryXref) {
@@ -86,8 +84,8 @@ pub(crate) fn summary_size_check(
     counts: &SummaryCounts,
     samples: u32,
 ) -> Option<Refusal>
-    requires { CountsSummaries tables.now counts.now }
-    ensures value { result ≡ summary_size_check tables.now need.now samples }
+    requires { CountsSummaries (rows_of tables.now) counts.now }
+    ensures value { result ≡ summary_size_check (rows_of tables.now) need.now samples }
 {
     let by_output = has_base(need, Table::FmSummaryXref);
     let table = if by_output {

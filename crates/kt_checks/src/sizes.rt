@@ -1,11 +1,11 @@
 //! The checks of the sizes of tables.
 ghost use Rattle.std.specs.Prelude.{◌≡◌, ◌+◌, ◌*◌, ◌<◌, ◌^◌};
+ghost use Rattle.kt_rec.specs.Rows.{rows_of};
 ghost use Rattle.kt_checks.specs.TableChecks.{row_past, limit_check, programme_limits, limit_checks, none_at, empty_checks, rows_above, damage_size_check, empty_programme};
-ghost use Rattle.kt_checks.specs.Refusals.{over_stages};
+ghost use Rattle.kt_keys.specs.Refusals.{over_stages};
 
-use crate::need::{Need, Refusal};
-use crate::stages::{
-    STAGES, base, has_base, has_both, has_financial, policytc, profile, programme,
+use kt_keys::{
+    Need, Refusal, STAGES, base, has_base, has_both, has_financial, policytc, profile, programme,
 };
 use kt_rec::{Table, TableId, Tables};
 
@@ -32,7 +32,7 @@ fn limit_check(need: &Need, table: Table, most: u64, rows: usize) -> Option<Refu
 /// Check 1 of the financial tables of the base, at 0, or of a stage.
 fn programme_limits(tables: &Tables, need: &Need, stage: u32) -> Option<Refusal>
     requires { stage < 10 }
-    ensures value { result ≡ programme_limits tables.now need.now stage }
+    ensures value { result ≡ programme_limits (rows_of tables.now) need.now stage }
 {
     let limit = |table, most, rows| {
         Refusal::of(
@@ -53,7 +53,7 @@ fn programme_limits(tables: &Tables, need: &Need, stage: u32) -> Option<Refusal>
 
 /// Check 1: a table has more rows than its limit.
 pub(crate) fn limit_checks(tables: &Tables, need: &Need) -> Option<Refusal>
-    ensures value { result ≡ limit_checks tables.now need.now }
+    ensures value { result ≡ limit_checks (rows_of tables.now) need.now }
 {
     let base = limit_check(need, Table::Events, 1_000_000, tables.events.len())
         .or(limit_check(need, Table::Items, 100_000, tables.items.len()))
@@ -103,7 +103,7 @@ pub(crate) fn limit_checks(tables: &Tables, need: &Need) -> Option<Refusal>
 
 /// Check 1 of the financial tables of the stages.
 fn stage_limits(tables: &Tables, need: &Need) -> Option<Refusal>
-    ensures value { result ≡ over_stages (λ later. programme_limits tables.now need.now (later + 1)) 9 }
+    ensures value { result ≡ over_stages (λ later. programme_limits (rows_of tables.now) need.now (later + 1)) 9 }
 {
     let mut found = None;
     for later in 0..STAGES - 1 {
@@ -121,7 +121,7 @@ fn none_at(rows: usize) -> Option<u64>
 
 /// Check 10: there is no random number, or a programme has no row.
 pub(crate) fn empty_checks(tables: &Tables, need: &Need) -> Option<Refusal>
-    ensures value { result ≡ empty_checks tables.now need.now }
+    ensures value { result ≡ empty_checks (rows_of tables.now) need.now }
 {
     Refusal::of(
         10,
@@ -135,7 +135,7 @@ pub(crate) fn empty_checks(tables: &Tables, need: &Need) -> Option<Refusal>
 /// Check 10 of the programme of the base, at 0, or of a stage.
 fn empty_programme(tables: &Tables, need: &Need, stage: u32) -> Option<Refusal>
     requires { stage < 10 }
-    ensures value { result ≡ empty_programme tables.now need.now stage }
+    ensures value { result ≡ empty_programme (rows_of tables.now) need.now stage }
 {
     let table = TableId {
         stage,
@@ -147,7 +147,7 @@ fn empty_programme(tables: &Tables, need: &Need, stage: u32) -> Option<Refusal>
 
 /// Check 10 of the programmes of the base and of the stages.
 fn empty_programmes(tables: &Tables, need: &Need) -> Option<Refusal>
-    ensures value { result ≡ over_stages (empty_programme tables.now need.now) 10 }
+    ensures value { result ≡ over_stages (empty_programme (rows_of tables.now) need.now) 10 }
 {
     let mut found = None;
     for stage in 0..STAGES {
@@ -170,7 +170,7 @@ pub(crate) fn rows_above(most: u64, rows: usize, each: u64) -> Option<u64>
 
 /// Check 21: the damage bins times the items are above 2,000,000.
 pub(crate) fn damage_size_check(tables: &Tables, need: &Need) -> Option<Refusal>
-    ensures value { result ≡ damage_size_check tables.now need.now }
+    ensures value { result ≡ damage_size_check (rows_of tables.now) need.now }
 {
     let row = rows_above(
         2_000_000,

@@ -1,16 +1,16 @@
 //! The check of what a programme takes losses from, over the base and the stages.
 ghost use Rattle.std.specs.Prelude.{◌≡◌, ◌<◌, nat_eq, IfOk};
 ghost use Rattle.std.specs.HashSet.{contains};
-ghost use Rattle.kt_checks.specs.FirstRow.{first_where};
-ghost use Rattle.kt_checks.specs.Keys.{same_pair};
-ghost use Rattle.kt_checks.specs.Refusals.{over_stages};
+ghost use Rattle.kt_rec.specs.Rows.{rows_of};
+ghost use Rattle.kt_keys.specs.FirstRow.{first_where};
+ghost use Rattle.kt_keys.specs.Keys.{same_pair};
+ghost use Rattle.kt_keys.specs.Refusals.{over_stages};
 ghost use Rattle.kt_checks.specs.ProgrammeChecks.{inputs_of, has_sources, is_rootless, rootless_at, source_check};
 
-use crate::columns;
-use crate::need::{Need, Refusal};
-use crate::rows::{pair_set, set_of};
-use crate::stages::{STAGES, has_base, has_financial, programme};
-use crate::units::targets_of;
+use kt_keys::{
+    Need, Refusal, STAGES, has_base, has_financial, item_ids, output_ids, pair_set, programme,
+    set_of, targets_of,
+};
 use kt_rec::{FmProgramme, Table, TableId, Tables};
 use std::alloc::{AllocError, Global};
 use std::collections::HashSet;
@@ -58,12 +58,12 @@ fn rootless_at(
 
 /// What the losses of a programme are of: items for the base, and the base's outputs for a stage.
 fn inputs_of(alloc: Global, tables: &Tables, stage: u32) -> Result<Vec<u32>, AllocError>
-    ensures value { IfOk result (λ inputs. inputs.items ≡ inputs_of tables.now stage) }
+    ensures value { IfOk result (λ inputs. inputs.items ≡ inputs_of (rows_of tables.now) stage) }
 {
     if stage == 0 {
-        columns::item_ids(alloc, &tables.items)
+        item_ids(alloc, &tables.items)
     } else {
-        columns::output_ids(alloc, &tables.fm_xref)
+        output_ids(alloc, &tables.fm_xref)
     }
 }
 
@@ -88,7 +88,7 @@ fn source_check(
     stage: u32,
 ) -> Result<Option<Refusal>, AllocError>
     requires { stage < 10 }
-    ensures value { IfOk result (λ found. found ≡ source_check tables.now need.now stage) }
+    ensures value { IfOk result (λ found. found ≡ source_check (rows_of tables.now) need.now stage) }
 {
     let inputs = inputs_of(alloc, tables, stage)?;
     let row = rootless_at(alloc, &inputs, programme(tables, stage))?;
@@ -110,7 +110,7 @@ pub(crate) fn source_checks(
     tables: &Tables,
     need: &Need,
 ) -> Result<Option<Refusal>, AllocError>
-    ensures value { IfOk result (λ found. found ≡ over_stages (source_check tables.now need.now) 10) }
+    ensures value { IfOk result (λ found. found ≡ over_stages (source_check (rows_of tables.now) need.now) 10) }
 {
     let mut found = None;
     for stage in 0..STAGES {

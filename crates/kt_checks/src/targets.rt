@@ -1,15 +1,13 @@
 //! The check of where a programme's losses go, over the base and the stages.
 ghost use Rattle.std.specs.Prelude.{◌≡◌, ◌<◌, IfOk};
 ghost use Rattle.std.specs.HashSet.{contains};
-ghost use Rattle.kt_checks.specs.FirstRow.{first_where};
-ghost use Rattle.kt_checks.specs.Keys.{same_pair};
-ghost use Rattle.kt_checks.specs.Refusals.{over_stages};
+ghost use Rattle.kt_rec.specs.Rows.{rows_of};
+ghost use Rattle.kt_keys.specs.FirstRow.{first_where};
+ghost use Rattle.kt_keys.specs.Keys.{same_pair};
+ghost use Rattle.kt_keys.specs.Refusals.{over_stages};
 ghost use Rattle.kt_checks.specs.ProgrammeChecks.{is_dead_end, dead_end_at, target_check};
 
-use crate::need::{Need, Refusal};
-use crate::rows::pair_set;
-use crate::stages::{STAGES, has_financial, programme};
-use crate::units::{sources_of, top_level};
+use kt_keys::{Need, Refusal, STAGES, has_financial, pair_set, programme, sources_of, top_level};
 use kt_rec::{FmProgramme, Table, TableId, Tables};
 use std::alloc::{AllocError, Global};
 use std::collections::HashSet;
@@ -50,7 +48,7 @@ fn target_check(
     stage: u32,
 ) -> Result<Option<Refusal>, AllocError>
     requires { stage < 10 }
-    ensures value { IfOk result (λ found. found ≡ target_check tables.now need.now stage) }
+    ensures value { IfOk result (λ found. found ≡ target_check (rows_of tables.now) need.now stage) }
 {
     let row = dead_end_at(alloc, programme(tables, stage))?;
     let made = has_financial(need, stage, Table::FmProgramme);
@@ -71,7 +69,7 @@ pub(crate) fn target_checks(
     tables: &Tables,
     need: &Need,
 ) -> Result<Option<Refusal>, AllocError>
-    ensures value { IfOk result (λ found. found ≡ over_stages (target_check tables.now need.now) 10) }
+    ensures value { IfOk result (λ found. found ≡ over_stages (target_check (rows_of tables.now) need.now) 10) }
 {
     let mut found = None;
     for stage in 0..STAGES {

@@ -2,15 +2,15 @@
 ghost use Rattle.std.specs.Prelude.{◌≡◌, ◌<◌, ◌&&◌, IfOk};
 ghost use Rattle.std.specs.HashSet.{contains};
 ghost use Rattle.kt_rec.specs.declared.table.Table.TheVariants.{FmPolicytc as ThePolicytc, FmProgramme as TheProgramme};
-ghost use Rattle.kt_checks.specs.FirstRow.{first_where};
-ghost use Rattle.kt_checks.specs.Keys.{same_pair};
-ghost use Rattle.kt_checks.specs.Refusals.{is_loaded, over_stages};
+ghost use Rattle.kt_rec.specs.Rows.{rows_of};
+ghost use Rattle.kt_keys.specs.FirstRow.{first_where};
+ghost use Rattle.kt_keys.specs.Keys.{same_pair};
+ghost use Rattle.kt_keys.specs.Refusals.{is_loaded, over_stages};
 ghost use Rattle.kt_checks.specs.ProgrammeChecks.{is_unplaced, unplaced_at, terms_check};
 
-use crate::need::{Need, Refusal};
-use crate::rows::pair_set;
-use crate::stages::{STAGES, has_financial, policytc, programme};
-use crate::units::{targets_of, top_level};
+use kt_keys::{
+    Need, Refusal, STAGES, has_financial, pair_set, policytc, programme, targets_of, top_level,
+};
 use kt_rec::{FmPolicytc, FmProgramme, Table, TableId, Tables};
 use std::alloc::{AllocError, Global};
 use std::collections::HashSet;
@@ -65,7 +65,7 @@ fn terms_check(
     stage: u32,
 ) -> Result<Option<Refusal>, AllocError>
     requires { stage < 10 }
-    ensures value { IfOk result (λ found. found ≡ terms_check tables.now need.now stage) }
+    ensures value { IfOk result (λ found. found ≡ terms_check (rows_of tables.now) need.now stage) }
 {
     let row = unplaced_at(alloc, programme(tables, stage), policytc(tables, stage))?;
     let made = has_terms(need, stage);
@@ -86,7 +86,7 @@ pub(crate) fn terms_checks(
     tables: &Tables,
     need: &Need,
 ) -> Result<Option<Refusal>, AllocError>
-    ensures value { IfOk result (λ found. found ≡ over_stages (terms_check tables.now need.now) 10) }
+    ensures value { IfOk result (λ found. found ≡ over_stages (terms_check (rows_of tables.now) need.now) 10) }
 {
     let mut found = None;
     for stage in 0..STAGES {

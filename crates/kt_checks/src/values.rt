@@ -1,21 +1,15 @@
-//! The checks of values: of insured values, damage bins, probabilities, places and periods.
+//! The checks of values: of insured values, damage bins, probabilities and periods.
 ghost use Rattle.std.specs.Prelude.{◌≡◌, map, nat_eq, nat_lt, unwrap_or, IfOk};
 ghost use Rattle.std.specs.HashMap.{get};
-ghost use Rattle.kt_checks.specs.Keys.{same_pair};
-ghost use Rattle.kt_checks.specs.FirstRow.{first_where, above_at};
-ghost use Rattle.kt_checks.specs.TableChecks.{sum_above_at, value_above_at, value_check, bad_bin_at, bin_check, probability_check, is_misplaced, place_check, period_check};
+ghost use Rattle.kt_rec.specs.Rows.{rows_of};
+ghost use Rattle.kt_keys.specs.Keys.{same_pair};
+ghost use Rattle.kt_keys.specs.FirstRow.{first_where, above_at};
+ghost use Rattle.kt_checks.specs.TableChecks.{sum_above_at, value_above_at, value_check, bad_bin_at, bin_check, probability_check, period_check};
 
-use crate::need::{Need, Refusal};
-use crate::rows::{first_above, first_values};
-use crate::stages::{base, has_base, has_both};
-use kt_rec::{Coverage, DamageBin, FootprintIdx, Item, Occurrence, Table, Tables, Vulnerability};
+use kt_keys::{Need, Refusal, base, first_above, first_values, has_base, has_both};
+use kt_rec::{Coverage, DamageBin, Item, Occurrence, Table, Tables, Vulnerability};
 use std::alloc::{AllocError, Global};
 use std::collections::HashMap;
-
-/// The bytes of the footprint file's header, and of each of its records.
-const HEADER: u64 = 16;
-
-const RECORD: u64 = 12;
 
 /// The first item at which the insured values so far add to more than 10^14 cents.
 fn value_above(
@@ -62,7 +56,7 @@ pub(crate) fn value_check(
     tables: &Tables,
     need: &Need,
 ) -> Result<Option<Refusal>, AllocError>
-    ensures value { IfOk result (λ found. found ≡ value_check tables.now need.now) }
+    ensures value { IfOk result (λ found. found ≡ value_check (rows_of tables.now) need.now) }
 {
     let row = value_above(alloc, &tables.coverages, &tables.items)?;
     let made = has_both(need, Table::Items, Table::Coverages);
@@ -84,7 +78,7 @@ fn bad_bin(bins: &[DamageBin]) -> Option<u64>
 
 /// Check 6: a damage bin is out of order or begins above its end.
 pub(crate) fn bin_check(tables: &Tables, need: &Need) -> Option<Refusal>
-    ensures value { result ≡ bin_check tables.now need.now }
+    ensures value { result ≡ bin_check (rows_of tables.now) need.now }
 {
     let row = bad_bin(&tables.damage_bin_dict);
     Refusal::of(
@@ -123,7 +117,7 @@ pub(crate) fn probability_check(
     tables: &Tables,
     need: &Need,
 ) -> Result<Option<Refusal>, AllocError>
-    ensures value { IfOk result (λ found. found ≡ probability_check tables.now need.now) }
+    ensures value { IfOk result (λ found. found ≡ probability_check (rows_of tables.now) need.now) }
 {
     let parts = probabilities(alloc, &tables.vulnerability)?;
     let row = probability_above(alloc, &parts)?;
@@ -133,39 +127,6 @@ pub(crate) fn probability_check(
         has_base(need, Table::Vulnerability),
         row,
     ))
-}
-
-/// Whether the records of an event do not lie in the footprint file as whole records, or are too many.
-fn is_misplaced(file: u64, row: &FootprintIdx) -> bool
-    ensures value { result ≡ is_misplaced file row.now }
-{
-    let FootprintIdx { offset, size, .. } = *row;
-    offset < HEADER
-        || (offset - HEADER) % RECORD != 0
-        || size % RECORD != 0
-        || size > 1_200_000
-        || u128::from(offset) + u128::from(size) > u128::from(file)
-}
-
-/// The first row of the footprint's index whose records do not lie in the footprint file.
-fn first_misplaced(file: u64, rows: &[FootprintIdx]) -> Option<u64>
-    ensures value { result ≡ first_where (is_misplaced file) rows.now }
-{
-    for (index, row) in rows.iter().enumerate() {
-        if is_misplaced(file, row) {
-            return Some(index as u64 + 1);
-        }
-    }
-    None
-}
-
-/// Check 9: the records of an event do not lie in the footprint file as whole records, or are too many.
-pub(crate) fn place_check(tables: &Tables, need: &Need) -> Option<Refusal>
-    ensures value { result ≡ place_check tables.now need.now }
-{
-    let row = first_misplaced(tables.footprint_size, &tables.footprint_idx);
-    let made = has_both(need, Table::FootprintIdx, Table::Footprint);
-    Refusal::of(9, base(Table::FootprintIdx), made, row)
 }
 
 /// The first occurrence in a period above the number of periods.
@@ -182,7 +143,7 @@ fn first_late(periods: u32, rows: &[Occurrence]) -> Option<u64>
 
 /// Check 20: a period is above the number of periods.
 pub(crate) fn period_check(tables: &Tables, need: &Need) -> Option<Refusal>
-    ensures value { result ≡ period_check tables.now need.now }
+    ensures value { result ≡ period_check (rows_of tables.now) need.now }
 {
     let row = first_late(tables.periods, &tables.occurrence);
     Refusal::of(

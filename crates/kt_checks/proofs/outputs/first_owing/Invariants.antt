@@ -1,9 +1,9 @@
 use Rattle.std.proofs.Common.{◌≡◌, nat_eq, take, drop}
 use Rattle.std.specs.HashMap.{get}
 use Rattle.std.specs.HashSet.{contains}
-use Rattle.kt_checks.specs.Keys.{same_pair}
+use Rattle.kt_keys.specs.Keys.{same_pair}
 use Rattle.kt_checks.specs.OutputChecks.{owes_output, lacks_output}
-use Rattle.kt_checks.specs.FirstRow.{first_where, first_refused_after}
+use Rattle.kt_keys.specs.FirstRow.{first_where, first_refused_after}
 use Rattle.kt_checks.proofs.outputs.first_owing.Given as goal
 
 abbrev pub invariant-loop-index : goal.invariant-loop-index

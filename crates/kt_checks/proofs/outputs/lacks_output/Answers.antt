@@ -1,6 +1,6 @@
 use Rattle.std.proofs.Common.{◌≡◌, ◌+◌, ℕ, ◌&&◌, ◌||◌, not, nat_eq, ap, sym, ◌∙◌}
 use Rattle.std.specs.HashSet.{contains}
-use Rattle.kt_checks.specs.Keys.{same_pair}
+use Rattle.kt_keys.specs.Keys.{same_pair}
 use Rattle.kt_checks.specs.OutputChecks.{some_layer, has_layer}
 use Rattle.kt_checks.proofs.OutputLemmas.{layers-none, layers-step}
 use Rattle.kt_checks.proofs.outputs.lacks_output.Goals as goal

@@ -1,6 +1,6 @@
 use Rattle.std.proofs.Common.{◌≡◌, ◌&&◌, not, nat_eq}
 use Rattle.std.specs.HashSet.{contains}
-use Rattle.kt_checks.specs.Keys.{same_pair}
+use Rattle.kt_keys.specs.Keys.{same_pair}
 use Rattle.kt_checks.specs.OutputChecks.{some_layer, has_layer}
 use Rattle.kt_checks.proofs.outputs.lacks_output.Given as goal
 

@@ -3,10 +3,10 @@ use Rattle.std.proofs.Math.Path.{fun_ext}
 use Rattle.std.specs.List.{list_any}
 use Rattle.std.specs.HashMap.{get}
 use Rattle.std.specs.HashSet.{contains}
-use Rattle.kt_checks.specs.FirstRow.{first_where}
-use Rattle.kt_checks.specs.Keys.{same_pair}
-use Rattle.kt_checks.specs.ProgrammeChecks.{top_level}
-use Rattle.kt_checks.specs.OutputChecks.{next_unit, lacks_output, owes_output, top_layers, owing_at}
+use Rattle.kt_keys.specs.FirstRow.{first_where}
+use Rattle.kt_keys.specs.Keys.{same_pair}
+use Rattle.kt_keys.specs.Units.{top_level, top_layers}
+use Rattle.kt_checks.specs.OutputChecks.{next_unit, lacks_output, owes_output, owing_at}
 use Rattle.kt_checks.proofs.outputs.owing_at.Goals as goal
 
 pub returns : goal.returns

@@ -1,8 +1,8 @@
 use Rattle.std.proofs.Common.{◌≡◌, nat_eq, take, drop}
 use Rattle.std.specs.HashSet.{contains}
-use Rattle.kt_checks.specs.Keys.{same_pair}
+use Rattle.kt_keys.specs.Keys.{same_pair}
 use Rattle.kt_checks.specs.ProgrammeChecks.{is_rootless}
-use Rattle.kt_checks.specs.FirstRow.{first_where, first_refused_after}
+use Rattle.kt_keys.specs.FirstRow.{first_where, first_refused_after}
 use Rattle.kt_checks.proofs.sources.first_rootless.Given as goal
 
 abbrev pub invariant-loop-index : goal.invariant-loop-index

@@ -1,10 +1,11 @@
 use Rattle.std.proofs.Common.{◌∙◌}
+use Rattle.kt_rec.specs.Rows.{rows_of}
 use Rattle.kt_checks.specs.ProgrammeChecks.{source_check}
-use Rattle.kt_checks.proofs.StageLemmas.{stages-none, stages-step}
+use Rattle.kt_keys.specs.StageLaws.{stages-none, stages-step}
 use Rattle.kt_checks.proofs.sources.source_checks.Goals as goal
 
 pub loop-stage-init : goal.loop-stage-init
-loop-stage-init c = stages-none (source_check c.args.tables.now c.args.need.now)
+loop-stage-init c = stages-none (source_check (rows_of c.args.tables.now) c.args.need.now)
 
 pub loop-stage-preserved : goal.loop-stage-preserved
-loop-stage-preserved c = c.or-found.ensures ∙ stages-step (source_check c.args.tables.now c.args.need.now) c.loop-stage.stage _ _ c.loop-stage.invariant c.in_ok-next.ensures.value
+loop-stage-preserved c = c.or-found.ensures ∙ stages-step (source_check (rows_of c.args.tables.now) c.args.need.now) c.loop-stage.stage _ _ c.loop-stage.invariant c.in_ok-next.ensures.value

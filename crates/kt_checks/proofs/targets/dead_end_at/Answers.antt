@@ -2,9 +2,10 @@ use Rattle.std.proofs.Common.{ap, ◌∙◌}
 use Rattle.std.proofs.Math.Path.{fun_ext}
 use Rattle.std.specs.List.{list_any}
 use Rattle.std.specs.HashSet.{contains}
-use Rattle.kt_checks.specs.FirstRow.{first_where}
-use Rattle.kt_checks.specs.Keys.{same_pair}
-use Rattle.kt_checks.specs.ProgrammeChecks.{top_level, is_dead_end}
+use Rattle.kt_keys.specs.FirstRow.{first_where}
+use Rattle.kt_keys.specs.Keys.{same_pair}
+use Rattle.kt_keys.specs.Units.{top_level}
+use Rattle.kt_checks.specs.ProgrammeChecks.{is_dead_end}
 use Rattle.kt_checks.proofs.targets.dead_end_at.Goals as goal
 
 pub returns : goal.returns

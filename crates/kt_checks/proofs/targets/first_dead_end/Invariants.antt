@@ -1,8 +1,8 @@
 use Rattle.std.proofs.Common.{◌≡◌, take, drop}
 use Rattle.std.specs.HashSet.{contains}
-use Rattle.kt_checks.specs.Keys.{same_pair}
+use Rattle.kt_keys.specs.Keys.{same_pair}
 use Rattle.kt_checks.specs.ProgrammeChecks.{is_dead_end}
-use Rattle.kt_checks.specs.FirstRow.{first_where, first_refused_after}
+use Rattle.kt_keys.specs.FirstRow.{first_where, first_refused_after}
 use Rattle.kt_checks.proofs.targets.first_dead_end.Given as goal
 
 abbrev pub invariant-loop-index : goal.invariant-loop-index

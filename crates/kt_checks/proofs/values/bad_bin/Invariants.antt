@@ -1,6 +1,6 @@
 use Rattle.std.proofs.Common.{◌≡◌, ◌+◌, ◌||◌, not, nat_eq, length, take, drop}
 use Rattle.std.specs.Prelude.{nat_lt}
-use Rattle.kt_checks.specs.FirstRow.{first_refused_after}
+use Rattle.kt_keys.specs.FirstRow.{first_refused_after}
 use Rattle.kt_checks.specs.TableChecks.{bad_bin_at}
 use Rattle.kt_checks.proofs.values.bad_bin.Given as goal
 

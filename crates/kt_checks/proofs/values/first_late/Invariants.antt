@@ -1,6 +1,6 @@
 use Rattle.std.proofs.Common.{◌≡◌, take, drop}
 use Rattle.std.specs.Prelude.{nat_lt}
-use Rattle.kt_checks.specs.FirstRow.{first_where, first_refused_after}
+use Rattle.kt_keys.specs.FirstRow.{first_where, first_refused_after}
 use Rattle.kt_checks.proofs.values.first_late.Given as goal
 
 abbrev pub invariant-loop-index : goal.invariant-loop-index

@@ -2,7 +2,7 @@ use Rattle.std.proofs.Common.{◌≡◌, ◌≤◌, ◌++◌, ◌∷◌, [], nat
 use Rattle.std.specs.Prelude.{nat_lt}
 use Rattle.std.specs.List.{sum_by}
 use Rattle.std.specs.HashMap.{get}
-use Rattle.kt_checks.specs.FirstRow.{first_refused_after}
+use Rattle.kt_keys.specs.FirstRow.{first_refused_after}
 use Rattle.kt_checks.specs.TableChecks.{sum_above_at}
 use Rattle.kt_checks.proofs.values.sum_above.Given as goal
 

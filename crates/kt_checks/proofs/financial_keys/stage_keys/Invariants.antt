@@ -1,7 +1,0 @@
-use Rattle.std.proofs.Common.{◌≡◌, ◌+◌}
-use Rattle.kt_checks.specs.Refusals.{over_stages}
-use Rattle.kt_checks.specs.KeyChecks.{programme_keys}
-use Rattle.kt_checks.proofs.financial_keys.stage_keys.Given as goal
-
-abbrev pub invariant-loop-later : goal.invariant-loop-later
-invariant-loop-later l = l.found ≡ over_stages (λ later. programme_keys l.tables l.need (later + 1)) l.later

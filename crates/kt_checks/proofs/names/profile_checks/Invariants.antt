@@ -1,7 +1,0 @@
-use Rattle.std.proofs.Common.{◌≡◌}
-use Rattle.kt_checks.specs.Refusals.{over_stages}
-use Rattle.kt_checks.specs.ProgrammeChecks.{profile_check}
-use Rattle.kt_checks.proofs.names.profile_checks.Given as goal
-
-abbrev pub invariant-loop-stage : goal.invariant-loop-stage
-invariant-loop-stage l = l.found ≡ over_stages (profile_check l.tables l.need) l.stage

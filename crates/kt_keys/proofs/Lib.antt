@@ -1,0 +1,2 @@
+pub mod FirstRowLemmas
+pub mod LookupLemmas

@@ -1,0 +1,174 @@
+//! The checks of what a table names but another table lacks.
+ghost use Rattle.std.specs.Prelude.{◌≡◌, ◌<◌, ◌&&◌, IfOk};
+ghost use Rattle.kt_rec.specs.declared.table.Table.TheVariants.{FmPolicytc, FmProfile};
+ghost use Rattle.kt_rec.specs.Rows.{rows_of};
+ghost use Rattle.kt_keys.specs.Refusals.{is_loaded, over_stages};
+ghost use Rattle.kt_keys.specs.NameChecks.{coverage_check, damage_check, profile_check, output_units, has_units, output_unit_check, item_summary_check, output_summary_check, summary_checks};
+
+use crate::columns;
+use crate::need::{Need, Refusal};
+use crate::rows::first_unknown;
+use crate::stages::{STAGES, base, has_both, has_financial, policytc, profile};
+use crate::units::top_targets;
+use kt_rec::{Table, TableId, Tables};
+use std::alloc::{AllocError, Global};
+
+/// Check 4: the coverage of an item is not in the coverages. The error is want of memory.
+pub fn coverage_check(
+    alloc: Global,
+    tables: &Tables,
+    need: &Need,
+) -> Result<Option<Refusal>, AllocError>
+    ensures value { IfOk result (λ found. found ≡ coverage_check (rows_of tables.now) need.now) }
+{
+    let known = columns::coverage_ids(alloc, &tables.coverages)?;
+    let named = columns::coverages_of_items(alloc, &tables.items)?;
+    let row = first_unknown(alloc, &known, &named)?;
+    let made = has_both(need, Table::Items, Table::Coverages);
+    Ok(Refusal::of(4, base(Table::Items), made, row))
+}
+
+/// Check 7: the damage bin of a vulnerability is not in the dictionary. The error is want of memory.
+pub fn damage_check(
+    alloc: Global,
+    tables: &Tables,
+    need: &Need,
+) -> Result<Option<Refusal>, AllocError>
+    ensures value { IfOk result (λ found. found ≡ damage_check (rows_of tables.now) need.now) }
+{
+    let known = columns::damage_bins(alloc, &tables.damage_bin_dict)?;
+    let named = columns::damages(alloc, &tables.vulnerability)?;
+    let row = first_unknown(alloc, &known, &named)?;
+    let made = has_both(need, Table::Vulnerability, Table::DamageBinDict);
+    Ok(Refusal::of(7, base(Table::Vulnerability), made, row))
+}
+
+/// Whether the policy terms and the profiles of the base, at 0, or of a stage are loaded.
+fn has_profiles(need: &Need, stage: u32) -> bool
+    requires { stage < 10 }
+    ensures value { result ≡ (is_loaded need.now stage FmPolicytc && is_loaded need.now stage FmProfile) }
+{
+    has_financial(need, stage, Table::FmPolicytc) && has_financial(need, stage, Table::FmProfile)
+}
+
+/// Check 14 of the base, at 0, or of a stage: the profile of policy terms is not in the profiles.
+fn profile_check(
+    alloc: Global,
+    tables: &Tables,
+    need: &Need,
+    stage: u32,
+) -> Result<Option<Refusal>, AllocError>
+    requires { stage < 10 }
+    ensures value { IfOk result (λ found. found ≡ profile_check (rows_of tables.now) need.now stage) }
+{
+    let known = columns::profile_ids(alloc, profile(tables, stage))?;
+    let named = columns::profiles_of_terms(alloc, policytc(tables, stage))?;
+    let row = first_unknown(alloc, &known, &named)?;
+    let made = has_profiles(need, stage);
+    Ok(Refusal::of(
+        14,
+        TableId {
+            stage,
+            table: Table::FmPolicytc,
+        },
+        made,
+        row,
+    ))
+}
+
+/// Check 14: the profile of policy terms is not in the profiles. The error is want of memory.
+pub fn profile_checks(
+    alloc: Global,
+    tables: &Tables,
+    need: &Need,
+) -> Result<Option<Refusal>, AllocError>
+    ensures value { IfOk result (λ found. found ≡ over_stages (profile_check (rows_of tables.now) need.now) 10) }
+{
+    let mut found = None;
+    for stage in 0..STAGES {
+        let next = profile_check(alloc, tables, need, stage)?;
+        found = found.or(next);
+    }
+    Ok(found)
+}
+
+/// The units that an output may be for: by rule 0 those of the top level, by the others the items.
+fn output_units(alloc: Global, tables: &Tables, rule: u32) -> Result<Vec<u32>, AllocError>
+    ensures value { IfOk result (λ units. units.items ≡ output_units (rows_of tables.now) rule) }
+{
+    if rule == 0 {
+        top_targets(alloc, tables)
+    } else {
+        columns::item_ids(alloc, &tables.items)
+    }
+}
+
+/// Check 15: an output is for no item, or by rule 0 for no unit of the top level. The error is want of memory.
+pub fn output_unit_check(
+    alloc: Global,
+    tables: &Tables,
+    need: &Need,
+) -> Result<Option<Refusal>, AllocError>
+    ensures value { IfOk result (λ found. found ≡ output_unit_check (rows_of tables.now) need.now) }
+{
+    let known = output_units(alloc, tables, need.rule)?;
+    let named = columns::owners_of_outputs(alloc, &tables.fm_xref)?;
+    let row = first_unknown(alloc, &known, &named)?;
+    Ok(Refusal::of(15, base(Table::FmXref), has_units(need), row))
+}
+
+/// Whether the tables are loaded that have the outputs and what they may be for.
+fn has_units(need: &Need) -> bool
+    ensures value { result ≡ has_units need.now }
+{
+    has_both(
+        need,
+        Table::FmXref,
+        if need.rule == 0 {
+            Table::FmProgramme
+        } else {
+            Table::Items
+        },
+    )
+}
+
+/// Check 17 of items: a summary is of no item.
+fn item_summary_check(
+    alloc: Global,
+    tables: &Tables,
+    need: &Need,
+) -> Result<Option<Refusal>, AllocError>
+    ensures value { IfOk result (λ found. found ≡ item_summary_check (rows_of tables.now) need.now) }
+{
+    let known = columns::item_ids(alloc, &tables.items)?;
+    let named = columns::items_of_summaries(alloc, &tables.gulsummaryxref)?;
+    let row = first_unknown(alloc, &known, &named)?;
+    let made = has_both(need, Table::GulSummaryXref, Table::Items);
+    Ok(Refusal::of(17, base(Table::GulSummaryXref), made, row))
+}
+
+/// Check 17 of outputs: a summary is of no output.
+fn output_summary_check(
+    alloc: Global,
+    tables: &Tables,
+    need: &Need,
+) -> Result<Option<Refusal>, AllocError>
+    ensures value { IfOk result (λ found. found ≡ output_summary_check (rows_of tables.now) need.now) }
+{
+    let known = columns::output_ids(alloc, &tables.fm_xref)?;
+    let named = columns::outputs_of_summaries(alloc, &tables.fmsummaryxref)?;
+    let row = first_unknown(alloc, &known, &named)?;
+    let made = has_both(need, Table::FmSummaryXref, Table::FmXref);
+    Ok(Refusal::of(17, base(Table::FmSummaryXref), made, row))
+}
+
+/// Check 17: a summary is of no item, or of no output. The error is want of memory.
+pub fn summary_checks(
+    alloc: Global,
+    tables: &Tables,
+    need: &Need,
+) -> Result<Option<Refusal>, AllocError>
+    ensures value { IfOk result (λ found. found ≡ summary_checks (rows_of tables.now) need.now) }
+{
+    Ok(item_summary_check(alloc, tables, need)?.or(output_summary_check(alloc, tables, need)?))
+}

@@ -1,0 +1,132 @@
+//! The first row of a list that repeats a key, has an unknown key, or makes a sum too large.
+ghost use Rattle.std.specs.Prelude.{◌≡◌, ℕ, not, IfOk};
+ghost use Rattle.std.specs.HashSet.{contains, IsFromIterResult};
+ghost use Rattle.std.specs.HashMap.{get};
+ghost use Rattle.std.specs.Map.{lookup};
+ghost use Rattle.std.specs.Set.{distinct_count};
+ghost use Rattle.kt_keys.specs.Keys.{same_pair};
+ghost use Rattle.kt_keys.specs.FirstRow.{first_where, repeated_at, unknown_at, above_at};
+
+use std::alloc::{AllocError, Global};
+use std::collections::{HashMap, HashSet};
+use std::hash::Hash;
+
+/// The first row, counted from 1, whose key stands in an earlier row.
+pub(crate) fn first_repeated<K: Copy + Eq + Hash + Drop>(
+    alloc: Global,
+    keys: &[K],
+) -> Result<Option<u64>, AllocError>
+    ensures value { IfOk result (λ row. row ≡ repeated_at K.eq keys.now) }
+{
+    let mut seen: HashSet<K> = HashSet::new(alloc);
+    for (index, key) in keys.iter().enumerate() {
+        if !seen.insert(*key)? {
+            return Ok(Some(index as u64 + 1));
+        }
+    }
+    Ok(None)
+}
+
+/// The keys of a list as a set. The error is want of memory.
+pub fn set_of<K: Copy + Eq + Hash + Drop>(
+    alloc: Global,
+    keys: &[K],
+) -> Result<HashSet<K>, AllocError>
+    ensures value { IfOk result (IsFromIterResult K.eq keys.now) }
+{
+    keys.iter().copied().collect(alloc)
+}
+
+/// The first row, counted from 1, whose key is not in the set.
+fn first_outside<K: Copy + Eq + Hash + Drop>(known: &HashSet<K>, keys: &[K]) -> Option<u64>
+    ensures value { result ≡ first_where (λ key. not (contains K.eq known.now key)) keys.now }
+{
+    for (index, key) in keys.iter().enumerate() {
+        if !known.contains(key) {
+            return Some(index as u64 + 1);
+        }
+    }
+    None
+}
+
+/// The first row, counted from 1, whose key is not among the known ones.
+pub(crate) fn first_unknown<K: Copy + Eq + Hash + Drop>(
+    alloc: Global,
+    known: &[K],
+    keys: &[K],
+) -> Result<Option<u64>, AllocError>
+    ensures value { IfOk result (λ row. row ≡ unknown_at K.eq known.now keys.now) }
+{
+    let known = set_of(alloc, known)?;
+    Ok(first_outside(&known, keys))
+}
+
+/// The first row, counted from 1, at which what its key has so far adds to more than `most`.
+/// The error is want of memory.
+pub fn first_above<K: Copy + Eq + Hash + Drop>(
+    alloc: Global,
+    most: u64,
+    parts: &[(K, u64)],
+) -> Result<Option<u64>, AllocError>
+    ensures value { IfOk result (λ row. row ≡ above_at K.eq most parts.now) }
+{
+    let mut totals: HashMap<K, u64> = HashMap::new(alloc);
+    for (index, part) in parts.iter().enumerate() {
+        let (key, amount) = *part;
+        let before = totals.get(&key).copied().unwrap_or(0);
+        if amount > most - before {
+            return Ok(Some(index as u64 + 1));
+        }
+        totals.insert(key, before + amount)?;
+    }
+    Ok(None)
+}
+
+/// The value that each key has in its first row; a key of no row has none. The error is want of memory.
+pub fn first_values<K: Copy + Eq + Hash + Drop, V: Copy + Drop>(
+    alloc: Global,
+    pairs: &[(K, V)],
+) -> Result<HashMap<K, V>, AllocError>
+    ensures value { IfOk result (λ values. (key : K) → get K.eq values key ≡ lookup (K.eq key) pairs.now) }
+{
+    let mut values: HashMap<K, V> = HashMap::new(alloc);
+    for pair in pairs {
+        let (key, value) = *pair;
+        if !values.contains_key(&key) {
+            values.insert(key, value)?;
+        }
+    }
+    Ok(values)
+}
+
+/// The value that each pair has in its first row. The error is want of memory.
+pub fn pair_values(
+    alloc: Global,
+    pairs: &[((u32, u32), u32)],
+) -> Result<HashMap<(u32, u32), u32>, AllocError>
+    ensures value { IfOk result (λ values. (key : ℕ × ℕ) → get same_pair values key ≡ lookup (same_pair key) pairs.now) }
+{
+    first_values(alloc, pairs)
+}
+
+/// The pairs of a list as a set. The error is want of memory.
+pub fn pair_set(alloc: Global, pairs: &[(u32, u32)]) -> Result<HashSet<(u32, u32)>, AllocError>
+    ensures value { IfOk result (IsFromIterResult same_pair pairs.now) }
+{
+    set_of(alloc, pairs)
+}
+
+/// How many keys a list has, where those that are equal count once.
+fn distinct<K: Copy + Eq + Hash + Drop>(alloc: Global, keys: &[K]) -> Result<u64, AllocError>
+    ensures value { IfOk result (λ count. count ≡ distinct_count K.eq keys.now) }
+{
+    let set = set_of(alloc, keys)?;
+    Ok(set.len() as u64)
+}
+
+/// How many pairs a list has, where those that are equal count once. The error is want of memory.
+pub fn distinct_pairs(alloc: Global, pairs: &[(u32, u32)]) -> Result<u64, AllocError>
+    ensures value { IfOk result (λ count. count ≡ distinct_count same_pair pairs.now) }
+{
+    distinct(alloc, pairs)
+}

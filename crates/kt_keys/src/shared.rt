@@ -1,0 +1,12 @@
+//! The types of this crate may be sent to threads and shared by them.
+use crate::need::{CheckStop, Need, Refusal};
+
+/// Takes what may be sent to threads and shared by them.
+fn is_shared<T: Send + Sync>(_: &T) {}
+
+/// Each type once.
+pub(crate) fn are_shared(need: &Need, refusal: &Refusal, stop: &CheckStop) {
+    is_shared(need);
+    is_shared(refusal);
+    is_shared(stop);
+}
