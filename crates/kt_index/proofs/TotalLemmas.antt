@@ -1,0 +1,105 @@
+-- Steps of a loop that keeps the total of each summary.
+use Rattle.std.proofs.Common.{◌≡◌, ℕ, ◌+◌, ◌*◌, ◌^◌, ◌<◌, Bool, true, false, cond, List, [], ◌∷◌, length, get_or, take, refl, ap, sym, subst, ◌∙◌, nat_eq, Option, None, Some, unwrap_or, arith}
+use Rattle.std.proofs.Math.Path.{fun_ext}
+use Rattle.std.specs.Prelude.{◌&&◌, ◌||◌, is_some, MatchOption}
+use Rattle.std.specs.List.{IsDistinct, filter, list_any}
+use Rattle.std.specs.List.Sorted.{IsPermutation}
+use Rattle.std.proofs.lemmas.List.Sorted.{list_any-IsPermutation}
+use Rattle.std.proofs.lemmas.Bool.{eqb-true}
+use Rattle.std.proofs.lemmas.Bool.Decides.{nat_tests}
+use Rattle.std.proofs.lemmas.List.Folds.{list_any_more}
+use Rattle.kt_keys.specs.Keys.{same_pair}
+use Rattle.kt_index.specs.declared.exposure.SummaryUnit.{SummaryUnit}
+use Rattle.kt_index.specs.declared.exposure.UnitCoverage.{UnitCoverage}
+use Rattle.kt_index.specs.Exposure.{unit_covers, summary_covers, IsTotalOf}
+use Rattle.kt_index.proofs.CoverLemmas.{list_any-filter}
+
+-- pairs with the same parts are equal
+same_is : (one other : ℕ × ℕ) → same_pair one other ≡ true → one ≡ other
+same_is (a, b) (c, d) is = by (nat_eq a c) (nat_eq b d) refl refl is
+  where
+    by : (x y : Bool) → nat_eq a c ≡ x → nat_eq b d ≡ y → (x && y) ≡ true → ◌≡◌ {A = ℕ × ℕ} (a, b) (c, d)
+    by true true e f h = ap {B = ℕ × ℕ} (λ n. (n, b)) (eqb-true a c e) ∙ ap {B = ℕ × ℕ} (λ n. (c, n)) (eqb-true b d f)
+    by true false e f h = cc
+    by false y e f h = cc
+
+-- what fails a test fails it and another
+none-also : {X : Type 0} (one other : X → Bool) (rows : List X) → list_any one rows ≡ false → list_any (λ row. one row && other row) rows ≡ false
+none-also one other [] h = refl
+none-also one other (row ∷ rows) h = by (one row) (none-also one other rows) h
+  where
+    by : (b : Bool) → (list_any one rows ≡ false → list_any (λ x. one x && other x) rows ≡ false) → (b || list_any one rows) ≡ false → ((b && other row) || list_any (λ x. one x && other x) rows) ≡ false
+    by true rest e = cc
+    by false rest e = rest e
+
+-- a total by a test is one by a test that agrees
+pub total-agree : (test other : ℕ → Bool) (value : ℕ → ℕ) (total : ℕ) → ((id : ℕ) → test id ≡ other id) → IsTotalOf test value total → IsTotalOf other value total
+total-agree test other value total agree h = record { ids = h.ids; distinct = h.distinct; passing = λ id. h.passing id ∙ agree id; is = h.is }
+
+-- nothing passes a test that always fails
+total-nothing : (test : ℕ → Bool) (value : ℕ → ℕ) → ((id : ℕ) → test id ≡ false) → IsTotalOf test value 0
+unfolding IsDistinct
+total-nothing test value fails = record { ids = []; distinct = tt; passing = λ id. sym (fails id); is = refl }
+
+-- a number is equal to itself
+eq_refl : (n : ℕ) → nat_eq n n ≡ true
+eq_refl n = grind (arith, nat_tests)
+
+-- a row of a summary has its key
+absorbs : (a b s m : ℕ) (rest : Bool) → (nat_eq (a * 2 ^ 32 + b) (s * 2 ^ 32 + m) && (nat_eq a s && nat_eq b m && rest)) ≡ (nat_eq a s && nat_eq b m && rest)
+absorbs a b s m rest = by (nat_eq a s) (nat_eq b m) refl refl
+  where
+    kept : (x : Bool) → x ≡ true → (x && rest) ≡ rest
+    kept true e = refl
+    kept false e = cc
+
+    none : (x : Bool) → (x && false) ≡ false
+    none true = refl
+    none false = refl
+
+    by : (x y : Bool) → nat_eq a s ≡ x → nat_eq b m ≡ y → (nat_eq (a * 2 ^ 32 + b) (s * 2 ^ 32 + m) && (x && y && rest)) ≡ (x && y && rest)
+    by true true e f = kept _ (ap (λ n. nat_eq (n * 2 ^ 32 + b) (s * 2 ^ 32 + m)) (eqb-true a s e) ∙ (ap (λ n. nat_eq (s * 2 ^ 32 + n) (s * 2 ^ 32 + m)) (eqb-true b m f) ∙ eq_refl (s * 2 ^ 32 + m)))
+    by true false e f = none _
+    by false y e f = none _
+
+-- the rows of a summary's key have all its coverages
+pub group-covers : (rows : List SummaryUnit) (pairs : List UnitCoverage) (set summary key : ℕ) (coverage : ℕ) → key ≡ set * 2 ^ 32 + summary → summary_covers (filter (λ row. nat_eq (row.set * 2 ^ 32 + row.summary) key) rows) pairs (set, summary) coverage ≡ summary_covers rows pairs (set, summary) coverage
+group-covers rows pairs set summary key coverage is =
+    ap (λ n. summary_covers (filter (λ row. nat_eq (row.set * 2 ^ 32 + row.summary) n) rows) pairs (set, summary) coverage) is
+    ∙ (list_any-filter (λ row. nat_eq (row.set * 2 ^ 32 + row.summary) (set * 2 ^ 32 + summary)) (λ row. nat_eq row.set set && nat_eq row.summary summary && unit_covers pairs row.unit coverage) rows
+    ∙ ap (λ test. list_any test rows) (fun_ext (λ (row : SummaryUnit). absorbs row.set row.summary set summary (unit_covers pairs row.unit coverage))))
+
+-- the order of the rows does not matter
+pub covers-moved : (rows moved : List SummaryUnit) (pairs others : List UnitCoverage) → IsPermutation rows moved → IsPermutation pairs others → (key : ℕ × ℕ) (coverage : ℕ) → summary_covers moved others key coverage ≡ summary_covers rows pairs key coverage
+covers-moved rows moved pairs others one other key coverage =
+    sym (list_any-IsPermutation (λ row. nat_eq row.set key.0 && nat_eq row.summary key.1 && unit_covers others row.unit coverage) rows moved one)
+    ∙ ap (λ test. list_any test rows) (fun_ext (λ (row : SummaryUnit). ap (λ b. nat_eq row.set key.0 && nat_eq row.summary key.1 && b) (sym (list_any-IsPermutation (λ pair. nat_eq pair.unit row.unit && nat_eq pair.coverage coverage) pairs others other))))
+
+module _ (rows : List SummaryUnit) (pairs : List UnitCoverage) (value : ℕ → ℕ) where
+  -- what is kept of a key: its total, or nothing where no row so far is of it
+  abbrev pub KnownTotal : List SummaryUnit → ℕ × ℕ → Option ℕ → Type 0
+  KnownTotal seen key found = MatchOption found (list_any (λ row. same_pair (row.set, row.summary) key) seen ≡ false) (IsTotalOf (summary_covers rows pairs key) value)
+
+  -- after all rows, a key without a total has no coverage
+  pub total-known : (key : ℕ × ℕ) (found : Option ℕ) → KnownTotal rows key found → IsTotalOf (summary_covers rows pairs key) value (unwrap_or found 0)
+  total-known key (Some total) known = known
+  total-known key None known = total-nothing (summary_covers rows pairs key) value (λ coverage. none-also (λ row. same_pair (row.set, row.summary) key) (λ row. unit_covers pairs row.unit coverage) rows known)
+
+  module _ (i : ℕ) (d : SummaryUnit) (within : i < length rows) (key : ℕ × ℕ) where
+    -- a key without a total is not that of the row
+    step : (b : Bool) (found : Option ℕ) → same_pair ((get_or rows i d).set, (get_or rows i d).summary) key ≡ b → (b ≡ true → is_some found ≡ true) → KnownTotal (take i rows) key found → KnownTotal (take (i + 1) rows) key found
+    step b (Some total) e h known = known
+    step true None e h known = let never = h refl in cc
+    step false None e h known = list_any_more (λ row. same_pair (row.set, row.summary) key) rows i d within ∙ (ap (λ x. x || same_pair ((get_or rows i d).set, (get_or rows i d).summary) key) known ∙ e)
+
+    -- a row whose key has a total
+    pub known-kept : (found : ℕ × ℕ → Option ℕ) → is_some (found ((get_or rows i d).set, (get_or rows i d).summary)) ≡ true → KnownTotal (take i rows) key (found key) → KnownTotal (take (i + 1) rows) key (found key)
+    known-kept found there known = step (same_pair ((get_or rows i d).set, (get_or rows i d).summary) key) (found key) refl (λ e. subst (λ k. is_some (found k) ≡ true) (same_is _ key e) there) known
+
+    -- a row whose key gets a total
+    pub known-added : (new old : Option ℕ) (total : ℕ) → new ≡ cond (same_pair ((get_or rows i d).set, (get_or rows i d).summary) key) (Some total) old → KnownTotal (take i rows) key old → IsTotalOf (summary_covers rows pairs ((get_or rows i d).set, (get_or rows i d).summary)) value total → KnownTotal (take (i + 1) rows) key new
+    known-added new old total put known is = subst (KnownTotal (take (i + 1) rows) key) (sym put) (by (same_pair ((get_or rows i d).set, (get_or rows i d).summary) key) refl)
+      where
+        by : (b : Bool) → same_pair ((get_or rows i d).set, (get_or rows i d).summary) key ≡ b → KnownTotal (take (i + 1) rows) key (cond b (Some total) old)
+        by true e = subst (λ k. IsTotalOf (summary_covers rows pairs k) value total) (same_is _ key e) is
+        by false e = step false old e (λ h. cc) known

@@ -1,0 +1,89 @@
+//! Rows in the order of a key, and the rows of one key.
+ghost use Rattle.std.specs.Prelude.{◌≡◌, ◌≤◌, ◌-◌, ℕ, nat_eq, length, take, drop, IfOk};
+ghost use Rattle.std.specs.List.{filter};
+ghost use Rattle.std.specs.List.Sorted.{IsPermutation, IsNonDecreasingBy};
+ghost use Rattle.kt_index.specs.KeyEnds.{KeyEnds};
+
+use std::alloc::{AllocError, Global};
+use std::marker::Model;
+
+/// A row that has a key.
+pub trait Keyed: Copy + Drop {
+    ghost key_of: { Self → ℕ };
+
+    /// The row's key.
+    fn key(&self) -> u64
+        ensures value { result ≡ key_of self.now };
+}
+
+/// Rows by rising key. Contracts see the list of the rows in that order.
+#[derive(Debug, Drop)]
+pub struct ByKey<T: Keyed> {
+    rows: Vec<T>,
+}
+
+impl<T: Keyed> Model for ByKey<T> {
+    ghost use Rattle.std.specs.Prelude.{List};
+    ghost use Rattle.std.specs.List.Sorted.{IsNonDecreasingBy};
+
+    ghost Value = { List T };
+
+    ghost view = { λ index. index.rows.items };
+
+    ghost invariant = { λ index. IsNonDecreasingBy T.key_of index.rows.items };
+}
+
+impl<T: Keyed> ByKey<T> {
+    /// The rows by rising key; rows of one key stay in their order. An error is want of memory.
+    pub fn new(alloc: Global, rows: &[T]) -> Result<ByKey<T>, AllocError>
+        ensures permutation { IfOk result (IsPermutation rows.now) }
+        ensures kept { IfOk result (λ index. (key : ℕ) → filter (λ row. nat_eq (T.key_of row) key) index ≡ filter (λ row. nat_eq (T.key_of row) key) rows.now) }
+    {
+        let mut rows = copy_of(alloc, rows)?;
+        rows.sort_by_key(|row| row.key())?;
+        Ok(ByKey { rows })
+    }
+
+    /// All rows by rising key.
+    pub fn as_slice(&self) -> &[T]
+        ensures value { result.now ≡ self.now }
+        ensures rising { IsNonDecreasingBy T.key_of self.now }
+    {
+        &self.rows
+    }
+
+    /// The rows of a key, none where it has none.
+    pub fn of(&self, key: u64) -> &[T]
+        ensures value { result.now ≡ filter (λ row. nat_eq (T.key_of row) key) self.now }
+    {
+        let rows = self.rows.as_slice();
+        let (start, end) = ends(rows, key);
+        between(rows, start, end)
+    }
+}
+
+/// A copy of rows.
+fn copy_of<T: Copy + Drop>(alloc: Global, rows: &[T]) -> Result<Vec<T>, AllocError>
+    ensures value { IfOk result (λ copy. copy.items ≡ rows.now) }
+{
+    rows.iter().copied().collect(alloc)
+}
+
+/// The places at which the rows of a key begin and end.
+fn ends<T: Keyed>(rows: &[T], key: u64) -> (usize, usize)
+    requires { IsNonDecreasingBy T.key_of rows.now }
+    ensures value { KeyEnds T.key_of rows.now key result.0 result.1 }
+{
+    let start = rows.partition_point(|row| row.key() < key);
+    let end = rows.partition_point(|row| row.key() <= key);
+    (start, end)
+}
+
+/// The rows from a place up to but not including another.
+fn between<T>(rows: &[T], start: usize, end: usize) -> &[T]
+    requires order { start ≤ end }
+    requires within { end ≤ length rows.now }
+    ensures value { result.now ≡ take (end - start) (drop start rows.now) }
+{
+    &rows[start..end]
+}

@@ -1,0 +1,159 @@
+//! The exposures of summaries: what the distinct coverages of each are worth.
+//! The rules: docs/CALCULATION.md, "Summary".
+ghost use Rattle.std.specs.Prelude.{◌≡◌, ◌<◌, ◌^◌, ◌*◌, ◌+◌, ◌&&◌, ◌||◌, ℕ, nat_eq, unwrap_or, IfOk};
+ghost use Rattle.std.specs.List.{list_any, sum_by};
+ghost use Rattle.std.specs.HashMap.{get};
+ghost use Rattle.std.specs.HashSet.{contains, IsUnique};
+ghost use Rattle.kt_keys.specs.Keys.{same_pair};
+ghost use Rattle.kt_index.specs.Exposure.{summary_covers, value_in, IsTotalOf, AddsUp};
+
+use crate::by_key::{ByKey, Keyed};
+use std::alloc::{AllocError, Global};
+use std::collections::{HashMap, HashSet};
+
+/// A unit whose losses are added to a summary of a set.
+#[derive(Clone, Copy, Debug, PartialEq, Eq, Drop)]
+pub struct SummaryUnit {
+    /// The summary set.
+    pub set: u32,
+    /// The summary.
+    pub summary: u32,
+    /// The item or unit.
+    pub unit: u32,
+}
+
+/// A coverage that an item or a unit is of.
+#[derive(Clone, Copy, Debug, PartialEq, Eq, Drop)]
+pub struct UnitCoverage {
+    /// The item or unit.
+    pub unit: u32,
+    /// The coverage.
+    pub coverage: u32,
+}
+
+/// The key of a summary of a set.
+fn summary_key(set: u32, summary: u32) -> u64
+    ensures value { result ≡ set * 2 ^ 32 + summary }
+{
+    u64::from(set) * 4_294_967_296 + u64::from(summary)
+}
+
+impl Keyed for SummaryUnit {
+    ghost use Rattle.std.specs.Prelude.{◌*◌, ◌+◌, ◌^◌};
+
+    ghost key_of = { λ row. row.set * 2 ^ 32 + row.summary };
+
+    fn key(&self) -> u64 {
+        summary_key(self.set, self.summary)
+    }
+}
+
+impl Keyed for UnitCoverage {
+    ghost key_of = { λ row. row.unit };
+
+    fn key(&self) -> u64 {
+        u64::from(self.unit)
+    }
+}
+
+/// Puts the coverages of pairs into a set.
+fn insert_all(seen: &mut HashSet<u32>, pairs: &[UnitCoverage]) -> Result<(), AllocError>
+    ensures value { IfOk result (λ _. (coverage : ℕ) → contains nat_eq seen.new coverage ≡ (contains nat_eq seen.old coverage || list_any (λ pair. nat_eq pair.coverage coverage) pairs.now)) }
+{
+    for pair in pairs {
+        seen.insert(pair.coverage)?;
+    }
+    Ok(())
+}
+
+/// Whether a row is of a summary of a set.
+fn is_of(row: &SummaryUnit, set: u32, summary: u32) -> bool
+    ensures value { result ≡ (nat_eq row.now.set set && nat_eq row.now.summary summary) }
+{
+    row.set == set && row.summary == summary
+}
+
+/// The coverages of a summary of a set.
+fn coverages_of(
+    alloc: Global,
+    rows: &[SummaryUnit],
+    pairs: &ByKey<UnitCoverage>,
+    set: u32,
+    summary: u32,
+) -> Result<HashSet<u32>, AllocError>
+    ensures value { IfOk result (λ seen. (coverage : ℕ) → contains nat_eq seen coverage ≡ summary_covers rows.now pairs.now (set, summary) coverage) }
+{
+    let mut seen: HashSet<u32> = HashSet::new(alloc);
+    for row in rows {
+        if is_of(row, set, summary) {
+            insert_all(&mut seen, pairs.of(u64::from(row.unit)))?;
+        }
+    }
+    Ok(seen)
+}
+
+/// What coverages are worth together.
+fn value_of(tivs: &HashMap<u32, u64>, coverages: &HashSet<u32>) -> u64
+    requires { AddsUp (value_in tivs.now) }
+    ensures unique { IsUnique nat_eq coverages.now }
+    ensures value { result ≡ sum_by (value_in tivs.now) coverages.now.keys }
+{
+    coverages
+        .iter()
+        .map(|coverage| tivs.get(coverage).copied().unwrap_or(0))
+        .sum()
+}
+
+/// What the coverages of a summary of a set are worth.
+fn summary_value(
+    alloc: Global,
+    rows: &[SummaryUnit],
+    pairs: &ByKey<UnitCoverage>,
+    tivs: &HashMap<u32, u64>,
+    set: u32,
+    summary: u32,
+) -> Result<u64, AllocError>
+    requires { AddsUp (value_in tivs.now) }
+    ensures value { IfOk result (IsTotalOf (summary_covers rows.now pairs.now (set, summary)) (value_in tivs.now)) }
+{
+    let coverages = coverages_of(alloc, rows, pairs, set, summary)?;
+    Ok(value_of(tivs, &coverages))
+}
+
+/// The exposures of the summaries of rows: for each pair of a set and a summary, what the coverages of its units are worth,
+/// each once. What is not there is 0. An error is want of memory.
+pub fn exposures(
+    alloc: Global,
+    rows: &[SummaryUnit],
+    pairs: &[UnitCoverage],
+    tivs: &HashMap<u32, u64>,
+) -> Result<HashMap<(u32, u32), u64>, AllocError>
+    requires { AddsUp (value_in tivs.now) }
+    ensures value { IfOk result (λ totals. (key : ℕ × ℕ) → IsTotalOf (summary_covers rows.now pairs.now key) (value_in tivs.now) (unwrap_or (get same_pair totals key) 0)) }
+{
+    let rows = ByKey::new(alloc, rows)?;
+    let pairs = ByKey::new(alloc, pairs)?;
+    totals_of(alloc, &rows, &pairs, tivs)
+}
+
+/// The exposures of the summaries of sorted rows.
+fn totals_of(
+    alloc: Global,
+    rows: &ByKey<SummaryUnit>,
+    pairs: &ByKey<UnitCoverage>,
+    tivs: &HashMap<u32, u64>,
+) -> Result<HashMap<(u32, u32), u64>, AllocError>
+    requires { AddsUp (value_in tivs.now) }
+    ensures value { IfOk result (λ totals. (key : ℕ × ℕ) → IsTotalOf (summary_covers rows.now pairs.now key) (value_in tivs.now) (unwrap_or (get same_pair totals key) 0)) }
+{
+    let mut totals: HashMap<(u32, u32), u64> = HashMap::new(alloc);
+    for row in rows.as_slice() {
+        let (set, summary) = (row.set, row.summary);
+        if !totals.contains_key(&(set, summary)) {
+            let group = rows.of(row.key());
+            let value = summary_value(alloc, group, pairs, tivs, set, summary)?;
+            totals.insert((set, summary), value)?;
+        }
+    }
+    Ok(totals)
+}
