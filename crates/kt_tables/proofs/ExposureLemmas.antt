@@ -1,0 +1,187 @@
+-- The exposures of summaries: sums over distinct coverages, and the units of items and outputs.
+use Rattle.std.proofs.Common.{◌≡◌, ℕ, ◌+◌, ◌≤◌, Bool, true, false, cond, List, [], ◌∷◌, length, map, refl, ap, sym, subst, ◌∙◌, nat_eq, Option, None, Some, unwrap_or, arith, zero-add}
+use Rattle.std.proofs.Math.Path.{fun_ext}
+use Rattle.std.specs.Prelude.{◌&&◌, ◌||◌, option_map, All}
+use Rattle.std.specs.List.{IsDistinct, AllByRecursion, cons_option, filter_map, list_any, sum_by}
+use Rattle.std.specs.Map.{lookup}
+use Rattle.std.proofs.lemmas.Bool.{eqb-true}
+use Rattle.std.proofs.lemmas.Bool.Decides.{nat_tests}
+use Rattle.std.proofs.lemmas.List.Sums.{sum_by-cons, sum_by-le, sum_by-le-sum_by}
+use Rattle.std.proofs.lemmas.Map.Keys.{IsDistinct-head, IsDistinct-tail}
+use Rattle.kt_rec.specs.declared.exposure.Coverage.{Coverage}
+use Rattle.kt_rec.specs.declared.exposure.Item.{Item}
+use Rattle.kt_rec.specs.declared.financial.FmXref.{FmXref}
+use Rattle.kt_checks.specs.TableChecks.{tiv_of}
+use Rattle.kt_index.specs.declared.exposure.SummaryUnit.{SummaryUnit}
+use Rattle.kt_index.specs.declared.exposure.UnitCoverage.{UnitCoverage}
+use Rattle.kt_index.specs.Exposure.{unit_covers, summary_covers, IsTotalOf, AddsUp}
+use Rattle.kt_rec.specs.Ranges.{IsCoverage}
+use Rattle.kt_tables.specs.Portfolio.{PortfolioRows, IsPortfolio}
+use Rattle.kt_tables.specs.PortfolioLaws.{coverages_distinct, outputs_distinct, coverages_within}
+use Rattle.kt_tables.specs.Kept.{AreAddable}
+use Rattle.kt_tables.specs.declared.summaries.SummaryRow.{SummaryRow}
+use Rattle.kt_rec.specs.Rows.{Rows}
+use Rattle.kt_tables.specs.Lookups.{item_has, is_unit, lies_beneath, unit_has}
+
+-- a test of what a function gives
+list_any-map : {A B : Type 0} (f : A → B) (test : B → Bool) (rows : List A) → list_any test (map f rows) ≡ list_any (λ row. test (f row)) rows
+list_any-map f test [] = refl
+list_any-map f test (row ∷ rows) = ap (λ b. test (f row) || b) (list_any-map f test rows)
+
+-- nothing passes a test and what fails
+and_false : (b : Bool) → (b && false) ≡ false
+and_false true = refl
+and_false false = refl
+
+-- a key that differs from all others is not among them
+absent : (key : ℕ) (keys : List ℕ) → AllByRecursion (λ other. nat_eq key other ≡ false) keys → list_any (nat_eq key) keys ≡ false
+absent key [] apart = refl
+absent key (other ∷ keys) apart = ap (λ b. b || list_any (nat_eq key) keys) apart.0 ∙ absent key keys apart.1
+
+-- a number is equal to itself
+eq_refl : (n : ℕ) → nat_eq n n ≡ true
+eq_refl n = grind (arith, nat_tests)
+
+-- equality of numbers goes both ways
+eq_flip : (m n : ℕ) → nat_eq m n ≡ nat_eq n m
+eq_flip m n = grind (arith, nat_tests)
+
+-- the value of a coverage that is absent is 0
+tiv_of-absent : (coverages : List Coverage) (id : ℕ) → list_any (nat_eq id) (map (λ row. row.coverage_id) coverages) ≡ false → tiv_of coverages id ≡ 0
+tiv_of-absent [] id h = refl
+tiv_of-absent (row ∷ coverages) id h = by (nat_eq id row.coverage_id) (tiv_of-absent coverages id) h
+  where
+    by : (b : Bool) → (list_any (nat_eq id) (map (λ x. x.coverage_id) coverages) ≡ false → tiv_of coverages id ≡ 0) → (b || list_any (nat_eq id) (map (λ x. x.coverage_id) coverages)) ≡ false → unwrap_or (cond b (Some row.tiv) (lookup (nat_eq id) (map (λ x. (x.coverage_id, x.tiv)) coverages))) 0 ≡ 0
+    by true rest e = cc
+    by false rest e = rest e
+
+-- the sum of values over distinct ids, of which one may have another value in place of 0
+sum-one : (value : ℕ → ℕ) (key amount : ℕ) → value key ≡ 0 → (ids : List ℕ) → IsDistinct nat_eq ids → sum_by (λ id. cond (nat_eq id key) amount (value id)) ids ≡ cond (list_any (nat_eq key) ids) amount 0 + sum_by value ids
+sum-one value key amount zero [] apart = refl
+sum-one value key amount zero (id ∷ ids) apart =
+    sum_by-cons (λ x. cond (nat_eq x key) amount (value x)) id ids
+    ∙ (by (nat_eq id key) refl (sum-one value key amount zero ids (IsDistinct-tail nat_eq id ids apart)) (absent id ids (IsDistinct-head nat_eq id ids apart))
+    ∙ ap (λ n. cond (list_any (nat_eq key) (id ∷ ids)) amount 0 + n) (sym (sum_by-cons value id ids)))
+  where
+    by : (b : Bool) → nat_eq id key ≡ b → sum_by (λ x. cond (nat_eq x key) amount (value x)) ids ≡ cond (list_any (nat_eq key) ids) amount 0 + sum_by value ids → list_any (nat_eq id) ids ≡ false → cond (nat_eq id key) amount (value id) + sum_by (λ x. cond (nat_eq x key) amount (value x)) ids ≡ cond (nat_eq key id || list_any (nat_eq key) ids) amount 0 + (value id + sum_by value ids)
+    by true e rest none =
+        let same : id ≡ key = eqb-true id key e in
+        let gone : list_any (nat_eq key) ids ≡ false = subst (λ n. list_any (nat_eq n) ids ≡ false) same none in
+        let nothing : value id ≡ 0 = ap value same ∙ zero in
+        rw (e, eq_flip key id, e, rest, gone, nothing) refl
+    by false e rest none = rw (e, eq_flip key id, e, rest) (omega arith)
+
+-- the values of distinct ids that pass a test are those of the distinct coverages that pass it
+pub total_is : (coverages : List Coverage) → IsDistinct nat_eq (map (λ row. row.coverage_id) coverages) → (test : ℕ → Bool) (ids : List ℕ) → IsDistinct nat_eq ids → ((id : ℕ) → list_any (nat_eq id) ids ≡ test id) → sum_by (tiv_of coverages) ids ≡ sum_by (λ row. cond (test row.coverage_id) row.tiv 0) coverages
+total_is [] apart test ids distinct passing = zeros ids
+  where
+    zeros : (ids : List ℕ) → sum_by (tiv_of []) ids ≡ 0
+    zeros [] = refl
+    zeros (id ∷ ids) = sum_by-cons (tiv_of []) id ids ∙ (zero-add (sum_by (tiv_of []) ids) ∙ zeros ids)
+total_is (row ∷ coverages) apart test ids distinct passing =
+    ap (λ value. sum_by value ids) (fun_ext (λ (id : ℕ). value_is (lookup (nat_eq id) (map (λ x. (x.coverage_id, x.tiv)) coverages)) (nat_eq id row.coverage_id)))
+    ∙ (sum-one (tiv_of coverages) row.coverage_id row.tiv (tiv_of-absent coverages row.coverage_id (absent row.coverage_id _ (IsDistinct-head nat_eq row.coverage_id (map (λ x. x.coverage_id) coverages) apart))) ids distinct
+    ∙ (ap (λ b. cond b row.tiv 0 + sum_by (tiv_of coverages) ids) (passing row.coverage_id)
+    ∙ (ap (λ n. cond (test row.coverage_id) row.tiv 0 + n) (total_is coverages (IsDistinct-tail nat_eq row.coverage_id (map (λ x. x.coverage_id) coverages) apart) test ids distinct passing)
+    ∙ sym (sum_by-cons (λ x. cond (test x.coverage_id) x.tiv 0) row coverages))))
+  where
+    value_is : (found : Option ℕ) (b : Bool) → unwrap_or (cond b (Some row.tiv) found) 0 ≡ cond b row.tiv (unwrap_or found 0)
+    value_is found true = refl
+    value_is found false = refl
+
+-- a value that may be left out is at most the value
+cond_at_most : (b : Bool) (n : ℕ) → cond b n 0 ≤ n
+cond_at_most true n = omega arith
+cond_at_most false n = omega arith
+
+-- the values of few coverages do not add to 2^64
+pub adds_up : (coverages : List Coverage) → IsDistinct nat_eq (map (λ row. row.coverage_id) coverages) → All IsCoverage coverages → length coverages ≤ 100000 → AddsUp (tiv_of coverages)
+adds_up coverages apart ranges few = λ ids distinct.
+    let same = total_is coverages apart (λ id. list_any (nat_eq id) ids) ids distinct (λ id. refl) in
+    let most = sum_by-le (λ (row : Coverage). row.tiv) 100000000000000 coverages (λ k d below. (ranges k d below).tiv) in
+    let less = sum_by-le-sum_by (λ (row : Coverage). cond (list_any (nat_eq row.coverage_id) ids) row.tiv 0) (λ (row : Coverage). row.tiv) coverages (λ (row : Coverage). cond_at_most (list_any (nat_eq row.coverage_id) ids) row.tiv) in
+    omega (arith, same, most, less)
+
+-- what every portfolio's exposures stand on
+pub addable : (portfolio : PortfolioRows) → IsPortfolio portfolio → AreAddable portfolio.rows
+addable portfolio valid = record {
+  coverages = coverages_distinct portfolio valid;
+  outputs = outputs_distinct portfolio valid;
+  values = adds_up portfolio.rows.coverages (coverages_distinct portfolio valid) valid.in_range.coverages (coverages_within portfolio valid);
+}
+
+-- the exposure of a summary is its total
+pub total-exposure : (coverages : List Coverage) → IsDistinct nat_eq (map (λ row. row.coverage_id) coverages) → (value : ℕ → ℕ) → ((id : ℕ) → value id ≡ tiv_of coverages id) → (test other : ℕ → Bool) → ((id : ℕ) → test id ≡ other id) → (total : ℕ) → IsTotalOf test value total → total ≡ sum_by (λ row. cond (other row.coverage_id) row.tiv 0) coverages
+total-exposure coverages apart value is test other agree total h =
+    h.is ∙ (ap (λ f. sum_by f h.ids) (fun_ext is) ∙ total_is coverages apart other h.ids h.distinct (λ id. h.passing id ∙ agree id))
+
+-- an item covers what it has
+pub item-unit : (items : List Item) (item coverage : ℕ) → unit_covers (map (λ row. record { unit = row.item_id; coverage = row.coverage_id }) items) item coverage ≡ item_has items item coverage
+item-unit items item coverage = list_any-map (λ row. record { unit = row.item_id; coverage = row.coverage_id }) (λ pair. nat_eq pair.unit item && nat_eq pair.coverage coverage) items
+
+-- by a rule other than 0 outputs are for items
+pub unit-not_zero : (rows : Rows) (rule unit coverage : ℕ) → (rule ≡ 0 → ⊥) → item_has rows.items unit coverage ≡ unit_has rows rule unit coverage
+unit-not_zero rows rule unit coverage other = by (nat_eq rule 0) refl
+  where
+    by : (b : Bool) → nat_eq rule 0 ≡ b → item_has rows.items unit coverage ≡ cond b (lies_beneath rows unit coverage) (item_has rows.items unit coverage)
+    by true e = absurd (other (eqb-true rule 0 e))
+    by false e = refl
+
+-- the items of a summary cover what its items have
+pub item-covers : (rows : List SummaryRow) (items : List Item) (units : List SummaryUnit) (pairs : List UnitCoverage) → units ≡ map (λ row. record { set = row.set; summary = row.summary; unit = row.id }) rows → pairs ≡ map (λ row. record { unit = row.item_id; coverage = row.coverage_id }) items → (key : ℕ × ℕ) (coverage : ℕ) → summary_covers units pairs key coverage ≡ list_any (λ row. nat_eq row.set key.0 && nat_eq row.summary key.1 && item_has items row.id coverage) rows
+item-covers rows items units pairs units_are pairs_are key coverage =
+    ap (λ (list : List SummaryUnit). summary_covers list pairs key coverage) units_are
+    ∙ (list_any-map (λ row. record { set = row.set; summary = row.summary; unit = row.id }) (λ row. nat_eq row.set key.0 && nat_eq row.summary key.1 && unit_covers pairs row.unit coverage) rows
+    ∙ ap (λ test. list_any test rows) (fun_ext (λ (row : SummaryRow). ap (λ b. nat_eq row.set key.0 && nat_eq row.summary key.1 && b) (ap (λ (list : List UnitCoverage). unit_covers list row.id coverage) pairs_are ∙ item-unit items row.id coverage))))
+
+-- what the items beneath the units of the top level have
+pub beneath-covers : (climb : ℕ → Option ℕ) (items : List Item) (unit coverage : ℕ) → unit_covers (filter_map (λ row. option_map (λ found. record { unit = found; coverage = row.coverage_id }) (climb row.item_id)) items) unit coverage ≡ list_any (λ row. is_unit unit (climb row.item_id) && nat_eq row.coverage_id coverage) items
+beneath-covers climb [] unit coverage = refl
+beneath-covers climb (row ∷ items) unit coverage = by (climb row.item_id) (beneath-covers climb items unit coverage)
+  where
+    by : (found : Option ℕ) → unit_covers (filter_map (λ x. option_map (λ y. record { unit = y; coverage = x.coverage_id }) (climb x.item_id)) items) unit coverage ≡ list_any (λ x. is_unit unit (climb x.item_id) && nat_eq x.coverage_id coverage) items → unit_covers (cons_option (option_map (λ y. record { unit = y; coverage = row.coverage_id }) found) (filter_map (λ x. option_map (λ y. record { unit = y; coverage = x.coverage_id }) (climb x.item_id)) items)) unit coverage ≡ ((is_unit unit found && nat_eq row.coverage_id coverage) || list_any (λ x. is_unit unit (climb x.item_id) && nat_eq x.coverage_id coverage) items)
+    by None rest = rest
+    by (Some other) rest = ap (λ b. (nat_eq other unit && nat_eq row.coverage_id coverage) || b) rest
+
+-- whether what an output is for, which may be absent, has a coverage
+abbrev pub found_has : (ℕ → ℕ → Bool) → ℕ → Option ℕ → Bool
+found_has has coverage None = false
+found_has has coverage (Some unit) = has unit coverage
+
+module _ (has : ℕ → ℕ → Bool) (coverage : ℕ) where
+  -- an output that is absent has nothing
+  xref-none : (rows : List FmXref) (output : ℕ) → list_any (nat_eq output) (map (λ row. row.output_id) rows) ≡ false → list_any (λ row. nat_eq row.output_id output && has row.agg_id coverage) rows ≡ false
+  xref-none [] output none = refl
+  xref-none (row ∷ rows) output none = ap (λ b. (b && has row.agg_id coverage) || list_any (λ x. nat_eq x.output_id output && has x.agg_id coverage) rows) (eq_flip row.output_id output) ∙ by (nat_eq output row.output_id) (xref-none rows output) none
+    where
+      by : (b : Bool) → (list_any (nat_eq output) (map (λ x. x.output_id) rows) ≡ false → list_any (λ x. nat_eq x.output_id output && has x.agg_id coverage) rows ≡ false) → (b || list_any (nat_eq output) (map (λ x. x.output_id) rows)) ≡ false → ((b && has row.agg_id coverage) || list_any (λ x. nat_eq x.output_id output && has x.agg_id coverage) rows) ≡ false
+      by true rest e = cc
+      by false rest e = rest e
+
+  -- where outputs are distinct, an output has what its only row has
+  xref-has : (rows : List FmXref) (output : ℕ) → IsDistinct nat_eq (map (λ row. row.output_id) rows) → list_any (λ row. nat_eq row.output_id output && has row.agg_id coverage) rows ≡ found_has has coverage (lookup (nat_eq output) (map (λ row. (row.output_id, row.agg_id)) rows))
+  xref-has [] output apart = refl
+  xref-has (row ∷ rows) output apart =
+      ap (λ b. (b && has row.agg_id coverage) || list_any (λ x. nat_eq x.output_id output && has x.agg_id coverage) rows) (eq_flip row.output_id output)
+      ∙ by (nat_eq output row.output_id) refl (xref-has rows output (IsDistinct-tail nat_eq row.output_id (map (λ x. x.output_id) rows) apart)) (xref-none rows row.output_id (absent row.output_id _ (IsDistinct-head nat_eq row.output_id (map (λ x. x.output_id) rows) apart)))
+    where
+      or_false : (b : Bool) → (b || false) ≡ b
+      or_false true = refl
+      or_false false = refl
+
+      by : (b : Bool) → nat_eq output row.output_id ≡ b → list_any (λ x. nat_eq x.output_id output && has x.agg_id coverage) rows ≡ found_has has coverage (lookup (nat_eq output) (map (λ x. (x.output_id, x.agg_id)) rows)) → list_any (λ x. nat_eq x.output_id row.output_id && has x.agg_id coverage) rows ≡ false → ((b && has row.agg_id coverage) || list_any (λ x. nat_eq x.output_id output && has x.agg_id coverage) rows) ≡ found_has has coverage (cond b (Some row.agg_id) (lookup (nat_eq output) (map (λ x. (x.output_id, x.agg_id)) rows)))
+      by true e rest none = ap (λ b. has row.agg_id coverage || b) (subst (λ n. list_any (λ x. nat_eq x.output_id n && has x.agg_id coverage) rows ≡ false) (sym (eqb-true output row.output_id e)) none) ∙ or_false (has row.agg_id coverage)
+      by false e rest none = rest
+
+  -- the units of the summaries of outputs cover what the outputs have
+  pub output-covers : (rows : List SummaryRow) (outputs : List FmXref) (pairs : List UnitCoverage) (units : ℕ → Option ℕ) (key : ℕ × ℕ) → IsDistinct nat_eq (map (λ row. row.output_id) outputs) → ((id : ℕ) → units id ≡ lookup (nat_eq id) (map (λ row. (row.output_id, row.agg_id)) outputs)) → ((unit : ℕ) → unit_covers pairs unit coverage ≡ has unit coverage) → summary_covers (filter_map (λ row. option_map (λ unit. record { set = row.set; summary = row.summary; unit = unit }) (units row.id)) rows) pairs key coverage ≡ list_any (λ row. nat_eq row.set key.0 && nat_eq row.summary key.1 && list_any (λ x. nat_eq x.output_id row.id && has x.agg_id coverage) outputs) rows
+  output-covers [] outputs pairs units key apart known agree = refl
+  output-covers (row ∷ rows) outputs pairs units key apart known agree = by (units row.id) (xref-has outputs row.id apart ∙ ap (found_has has coverage) (sym (known row.id))) (output-covers rows outputs pairs units key apart known agree)
+    where
+      skip : (a b : Bool) → b ≡ (a && false || b)
+      skip true b = refl
+      skip false b = refl
+
+      by : (found : Option ℕ) → list_any (λ x. nat_eq x.output_id row.id && has x.agg_id coverage) outputs ≡ found_has has coverage found → summary_covers (filter_map (λ x. option_map (λ unit. record { set = x.set; summary = x.summary; unit = unit }) (units x.id)) rows) pairs key coverage ≡ list_any (λ x. nat_eq x.set key.0 && nat_eq x.summary key.1 && list_any (λ y. nat_eq y.output_id x.id && has y.agg_id coverage) outputs) rows → summary_covers (cons_option (option_map (λ unit. record { set = row.set; summary = row.summary; unit = unit }) found) (filter_map (λ x. option_map (λ unit. record { set = x.set; summary = x.summary; unit = unit }) (units x.id)) rows)) pairs key coverage ≡ ((nat_eq row.set key.0 && nat_eq row.summary key.1 && list_any (λ y. nat_eq y.output_id row.id && has y.agg_id coverage) outputs) || list_any (λ x. nat_eq x.set key.0 && nat_eq x.summary key.1 && list_any (λ y. nat_eq y.output_id x.id && has y.agg_id coverage) outputs) rows)
+      by None here rest = rest ∙ (skip (nat_eq row.set key.0 && nat_eq row.summary key.1) _ ∙ ap (λ b. (nat_eq row.set key.0 && nat_eq row.summary key.1 && b) || list_any (λ x. nat_eq x.set key.0 && nat_eq x.summary key.1 && list_any (λ y. nat_eq y.output_id x.id && has y.agg_id coverage) outputs) rows) (sym here))
+      by (Some unit) here rest = ap (λ b. (nat_eq row.set key.0 && nat_eq row.summary key.1 && b) || summary_covers (filter_map (λ x. option_map (λ u. record { set = x.set; summary = x.summary; unit = u }) (units x.id)) rows) pairs key coverage) (agree unit ∙ sym here) ∙ ap (λ b. (nat_eq row.set key.0 && nat_eq row.summary key.1 && list_any (λ y. nat_eq y.output_id row.id && has y.agg_id coverage) outputs) || b) rest

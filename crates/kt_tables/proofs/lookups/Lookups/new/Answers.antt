@@ -1,0 +1,20 @@
+use Rattle.std.proofs.Common.{rules, ◌∙◌, List, subst}
+use Rattle.kt_tables.specs.declared.summaries.SummaryRow.{SummaryRow}
+use Rattle.kt_tables.specs.Kept.{AreSummaries}
+use Rattle.kt_tables.proofs.lookups.Lookups.new.Goals as goal
+
+pub returns : goal.returns
+returns c = record {
+  value = record {
+    event_ids = search rules;
+    return_periods = search rules;
+    items = c.in_ok-items.ensures.value;
+    tivs = c.in_ok-tivs.ensures.value;
+    occurrences = c.in_ok-occurrences.ensures.value;
+    places = c.in_ok-places.ensures.value;
+    of_items = subst (λ (rows : List SummaryRow). AreSummaries rows c.in_ok-new.field-0) (c.deref-3.ensures.value ∙ c.in_ok-item_rows.ensures.value) c.in_ok-new.ensures.value;
+    of_outputs = subst (λ (rows : List SummaryRow). AreSummaries rows c.in_ok-new-2.field-0) (c.deref-4.ensures.value ∙ c.in_ok-output_rows.ensures.value) c.in_ok-new-2.ensures.value;
+    item_exposures = c.in_ok-item_exposures.ensures.value c.args.rule;
+    output_exposures = c.in_ok-output_exposures.ensures.value;
+  };
+}

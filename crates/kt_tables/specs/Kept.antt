@@ -1,0 +1,68 @@
+-- What a portfolio keeps beside its rows, for the lookups.
+use Rattle.std.specs.Prelude.{◌≡◌, ℕ, nat_eq, List, map, unwrap_or}
+use Rattle.std.specs.List.{IsDistinct, filter, list_any}
+use Rattle.std.specs.List.Sorted.{IsPermutation}
+use Rattle.std.specs.Map.{lookup}
+use Rattle.std.specs.HashMap.{HashMap, get}
+use Rattle.std.specs.HashSet.{contains}
+use Rattle.kt_rec.specs.Rows.{Rows, rows_of}
+use Rattle.kt_keys.specs.Keys.{same_pair}
+use Rattle.kt_checks.specs.TableChecks.{tiv_of}
+use Rattle.kt_index.specs.Exposure.{AddsUp}
+use Rattle.kt_checks.specs.SummaryChecks.{CountsSummaries}
+use Rattle.kt_tables.specs.Portfolio.{IsPortfolio}
+use Rattle.kt_tables.specs.Lookups.{event_ids, return_periods_of, item_summary_rows, output_summary_rows, place_in, exposure_of}
+use Rattle.kt_tables.specs.declared.place.Place.{Place}
+use Rattle.kt_rec.specs.declared.perspective.Perspective.{Perspective}
+use Rattle.kt_rec.specs.declared.perspective.Perspective.TheVariants.{Gul, Il}
+use Rattle.kt_rec.specs.declared.periods.Occurrence.{Occurrence}
+use Rattle.kt_tables.specs.declared.lookups.Lookups.{Lookups}
+use Rattle.kt_tables.specs.declared.summaries.SummaryRow.{SummaryRow}
+use Rattle.kt_tables.specs.declared.summaries.Summaries.{Summaries}
+use Rattle.kt_tables.specs.declared.portfolio.Portfolio.TheInside.{Inside}
+
+-- the summaries of ids are those of their rows
+pub record AreSummaries (rows : List SummaryRow) (summaries : Summaries) : Type 0 where
+  pub sets : (set : ℕ) → contains nat_eq summaries.sets set ≡ list_any (nat_eq set) (map (λ row. row.set) rows)
+  pub by_id : (key : ℕ × ℕ) → get same_pair summaries.by_id key ≡ lookup (same_pair key) (map (λ row. ((row.id, row.set), row.summary)) rows)
+
+-- the insured value of each coverage is that of its first row
+abbrev pub AreTivs : {S : Type 0} → Rows → HashMap ℕ ℕ S → Type 0
+AreTivs rows tivs = (coverage : ℕ) → get nat_eq tivs coverage ≡ lookup (nat_eq coverage) (map (λ row. (row.coverage_id, row.tiv)) rows.coverages)
+
+-- the rows of each event are those of the occurrence table, in table order
+abbrev pub AreOccurrences : Rows → List Occurrence → Type 0
+AreOccurrences rows occurrences = (event : ℕ) → filter (λ row. nat_eq row.event_id event) occurrences ≡ filter (λ row. nat_eq row.event_id event) rows.occurrence
+
+-- the place of each event is that of its first row
+abbrev pub ArePlaces : {S : Type 0} → Rows → HashMap ℕ Place S → Type 0
+ArePlaces rows places = (event : ℕ) → get nat_eq places event ≡ place_in rows event
+
+-- what the sums of exposures stand on: distinct coverages, distinct outputs, and values that do not add to 2^64
+pub record AreAddable (rows : Rows) : Type 0 where
+  pub coverages : IsDistinct nat_eq (map (λ row. row.coverage_id) rows.coverages)
+  pub outputs : IsDistinct nat_eq (map (λ row. row.output_id) rows.fm_xref)
+  pub values : AddsUp (tiv_of rows.coverages)
+
+-- the exposures of the summaries of a perspective, by set and summary
+abbrev pub AreExposures : {S : Type 0} → Perspective → Rows → ℕ → HashMap (ℕ × ℕ) ℕ S → Type 0
+AreExposures perspective rows rule exposures = (key : ℕ × ℕ) → unwrap_or (get same_pair exposures key) 0 ≡ exposure_of perspective rows rule key.0 key.1
+
+-- what is kept for the lookups is that of the rows
+pub record AreLookups (rows : Rows) (rule : ℕ) (lookups : Lookups) : Type 0 where
+  pub event_ids : lookups.event_ids.items ≡ event_ids rows
+  pub return_periods : lookups.return_periods.items ≡ return_periods_of rows
+  pub items : IsPermutation rows.items lookups.items
+  pub tivs : AreTivs rows lookups.tivs
+  pub occurrences : AreOccurrences rows lookups.occurrences
+  pub places : ArePlaces rows lookups.places
+  pub of_items : AreSummaries (item_summary_rows rows) lookups.of_items
+  pub of_outputs : AreSummaries (output_summary_rows rows) lookups.of_outputs
+  pub item_exposures : AreExposures Gul rows rule lookups.item_exposures
+  pub output_exposures : AreExposures Il rows rule lookups.output_exposures
+
+-- what is kept beside the tables is that of their rows
+pub record IsKept (portfolio : Inside) : Type 0 where
+  pub valid : IsPortfolio (record { rows = rows_of portfolio.tables; need = portfolio.need })
+  pub counts : CountsSummaries (rows_of portfolio.tables) portfolio.counts
+  pub lookups : AreLookups (rows_of portfolio.tables) portfolio.need.rule portfolio.lookups

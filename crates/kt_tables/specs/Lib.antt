@@ -1,0 +1,4 @@
+pub mod Lookups
+pub mod Portfolio
+pub mod Kept
+pub mod PortfolioLaws

@@ -1,0 +1,25 @@
+-- What contracts see of a portfolio: the rows of its tables, and what they are needed for.
+-- The rules: docs/CHECKS.md.
+use Rattle.std.specs.Prelude.{◌≡◌, false}
+use Rattle.kt_rec.specs.Ranges.{AreInRange}
+use Rattle.kt_rec.specs.Rows.{Rows, row_count}
+use Rattle.kt_rec.specs.TableNames.{IsTableId}
+use Rattle.kt_rec.specs.TableSet.{is_in}
+use Rattle.kt_rec.specs.declared.table.TableId.{TableId}
+use Rattle.kt_checks.specs.Checks.{IsValid}
+use Rattle.kt_keys.specs.declared.need.Need.{Need}
+
+-- the rows of a portfolio, and what they are needed for
+pub record PortfolioRows : Type 0 where
+  pub rows : Rows
+  pub need : Need
+
+-- a table that is not needed has no row
+abbrev pub HasOnlyNeeded : Rows → Need → Type 0
+HasOnlyNeeded rows need = (id : TableId) → IsTableId id → is_in need.loaded id ≡ false → row_count rows id ≡ 0
+
+-- what every portfolio keeps: its rows are in the ranges of their fields, only what is needed has rows, and no check refuses it
+pub record IsPortfolio (portfolio : PortfolioRows) : Type 0 where
+  pub in_range : AreInRange portfolio.rows
+  pub only_needed : HasOnlyNeeded portfolio.rows portfolio.need
+  pub valid : IsValid portfolio.rows portfolio.need

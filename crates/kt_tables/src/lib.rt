@@ -1,0 +1,14 @@
+//! A valid portfolio, and the lookups in its tables.
+#![tactic(auto)]
+
+mod columns;
+mod exposures;
+mod lookups;
+mod place;
+mod portfolio;
+mod searches;
+mod shared;
+mod summaries;
+
+pub use place::Place;
+pub use portfolio::Portfolio;

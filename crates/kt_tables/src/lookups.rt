@@ -1,0 +1,110 @@
+//! What is kept for the lookups in the tables.
+ghost use Rattle.std.specs.Prelude.{◌≡◌, IfOk};
+ghost use Rattle.std.specs.List.Sorted.{IsPermutation};
+ghost use Rattle.kt_rec.specs.Rows.{rows_of};
+ghost use Rattle.kt_tables.specs.Lookups.{item_summary_rows, output_summary_rows};
+ghost use Rattle.kt_tables.specs.Kept.{AreTivs, AreOccurrences, ArePlaces, AreAddable, AreLookups};
+
+use crate::columns;
+use crate::exposures::{item_exposures, output_exposures};
+use crate::place::Place;
+use crate::summaries::{Summaries, SummaryRow};
+use kt_index::ByKey;
+use kt_keys::first_values;
+use kt_rec::{Item, Occurrence, Tables};
+use std::alloc::{AllocError, Global};
+use std::collections::HashMap;
+
+/// What is kept for the lookups.
+#[derive(Drop)]
+pub(crate) struct Lookups {
+    /// The events in table order.
+    pub(crate) event_ids: Vec<u32>,
+    /// The return periods in table order.
+    pub(crate) return_periods: Vec<u32>,
+    /// The items by rising id.
+    pub(crate) items: ByKey<Item>,
+    /// The insured value of each coverage.
+    pub(crate) tivs: HashMap<u32, u64>,
+    /// The occurrences by event.
+    pub(crate) occurrences: ByKey<Occurrence>,
+    /// Where the records of each event stand in the footprint file.
+    pub(crate) places: HashMap<u32, Place>,
+    /// The summaries of items.
+    pub(crate) of_items: Summaries,
+    /// The summaries of outputs.
+    pub(crate) of_outputs: Summaries,
+    /// The exposures of the summaries of items, by set and summary.
+    pub(crate) item_exposures: HashMap<(u32, u32), u64>,
+    /// The exposures of the summaries of outputs, by set and summary.
+    pub(crate) output_exposures: HashMap<(u32, u32), u64>,
+}
+
+/// The insured values of coverages.
+fn tivs(alloc: Global, tables: &Tables) -> Result<HashMap<u32, u64>, AllocError>
+    ensures value { IfOk result (AreTivs (rows_of tables.now)) }
+{
+    let pairs = columns::tivs_of(alloc, &tables.coverages)?;
+    first_values(alloc, &pairs)
+}
+
+/// The places of the records of events.
+fn places(alloc: Global, tables: &Tables) -> Result<HashMap<u32, Place>, AllocError>
+    ensures value { IfOk result (ArePlaces (rows_of tables.now)) }
+{
+    let pairs = columns::places_of(alloc, &tables.footprint_idx)?;
+    first_values(alloc, &pairs)
+}
+
+/// The items by rising id.
+fn items(alloc: Global, tables: &Tables) -> Result<ByKey<Item>, AllocError>
+    ensures value { IfOk result (IsPermutation (rows_of tables.now).items) }
+{
+    ByKey::new(alloc, &tables.items)
+}
+
+/// The occurrences by event.
+fn occurrences(alloc: Global, tables: &Tables) -> Result<ByKey<Occurrence>, AllocError>
+    ensures value { IfOk result (AreOccurrences (rows_of tables.now)) }
+{
+    ByKey::new(alloc, &tables.occurrence)
+}
+
+/// The summaries of items.
+fn item_rows(alloc: Global, tables: &Tables) -> Result<Vec<SummaryRow>, AllocError>
+    ensures value { IfOk result (λ found. found.items ≡ item_summary_rows (rows_of tables.now)) }
+{
+    columns::item_rows(alloc, &tables.gulsummaryxref)
+}
+
+/// The summaries of outputs.
+fn output_rows(alloc: Global, tables: &Tables) -> Result<Vec<SummaryRow>, AllocError>
+    ensures value { IfOk result (λ found. found.items ≡ output_summary_rows (rows_of tables.now)) }
+{
+    columns::output_rows(alloc, &tables.fmsummaryxref)
+}
+
+impl Lookups {
+    /// What is kept for the lookups in tables, whose outputs are for items, or by rule 0 for units of the top level. An
+    /// error is want of memory.
+    pub(crate) fn new(alloc: Global, tables: &Tables, rule: u32) -> Result<Lookups, AllocError>
+        requires { AreAddable (rows_of tables.now) }
+        ensures value { IfOk result (AreLookups (rows_of tables.now) rule) }
+    {
+        let tivs = tivs(alloc, tables)?;
+        let item_rows = item_rows(alloc, tables)?;
+        let output_rows = output_rows(alloc, tables)?;
+        Ok(Lookups {
+            event_ids: columns::event_ids(alloc, &tables.events)?,
+            return_periods: columns::return_periods(alloc, &tables.returnperiods)?,
+            items: items(alloc, tables)?,
+            occurrences: occurrences(alloc, tables)?,
+            places: places(alloc, tables)?,
+            of_items: Summaries::new(alloc, &item_rows)?,
+            of_outputs: Summaries::new(alloc, &output_rows)?,
+            item_exposures: item_exposures(alloc, tables, &item_rows, &tivs)?,
+            output_exposures: output_exposures(alloc, tables, rule, &output_rows, &tivs)?,
+            tivs,
+        })
+    }
+}

@@ -1,0 +1,10 @@
+//! Where the records of an event stand in the footprint file.
+
+/// The place of the records of an event in the footprint file.
+#[derive(Clone, Copy, Debug, PartialEq, Eq, Drop)]
+pub struct Place {
+    /// The byte at which the first record begins.
+    pub at: u64,
+    /// The size of all records in bytes.
+    pub size: u64,
+}

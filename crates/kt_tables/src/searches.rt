@@ -1,0 +1,137 @@
+//! The lookups in a portfolio. None takes memory.
+//! The rules: docs/TABLES.md, "Tables".
+ghost use Rattle.std.specs.Prelude.{◌≡◌, ◌≤◌, ◌<◌, ◌^◌, true, map, unwrap_or};
+ghost use Rattle.std.specs.HashMap.{get};
+ghost use Rattle.std.specs.List.Sorted.{IsPermutation, IsStrictlyIncreasing};
+ghost use Rattle.kt_rec.specs.declared.table.Table.TheVariants as table;
+ghost use Rattle.kt_keys.specs.Keys.{same_pair};
+ghost use Rattle.kt_keys.specs.Refusals.{is_loaded};
+ghost use Rattle.kt_checks.specs.TableChecks.{tiv_of};
+ghost use Rattle.kt_tables.specs.Kept.{AreSummaries, AreExposures};
+ghost use Rattle.kt_tables.specs.Lookups.{return_periods_of, random_place, random_of, occurrences_of, place_in, summary_rows, has_summary_set, summary_in, exposure_of};
+
+use crate::place::Place;
+use crate::portfolio::Portfolio;
+use crate::summaries::Summaries;
+use kt_rec::{Item, Occurrence, Perspective};
+use std::collections::HashMap;
+
+/// The place of the random number of an event, a group and a sample, of so many numbers.
+fn random_place(numbers: u64, event: u32, group: u32, sidx: u32) -> u64
+    requires numbers { 1 ≤ numbers }
+    requires short { numbers < 2 ^ 63 }
+    requires sample { 1 ≤ sidx }
+    ensures value { result ≡ random_place numbers event group sidx }
+    ensures within { result < numbers }
+{
+    let first = (u64::from(event) * 1_543_270_363 + u64::from(group) * 1_943_272_559) % numbers;
+    (first + u64::from(sidx) - 1) % numbers
+}
+
+/// The value of a key, 0 where it has none.
+fn value_at(values: &HashMap<(u32, u32), u64>, key: (u32, u32)) -> u64
+    ensures value { result ≡ unwrap_or (get same_pair values.now key) 0 }
+{
+    values.get(&key).copied().unwrap_or(0)
+}
+
+impl Portfolio {
+    /// The items by rising id.
+    pub fn items(&self) -> &[Item]
+        ensures permutation { IsPermutation self.now.rows.items result.now }
+        ensures rising { IsStrictlyIncreasing (map (λ row. row.item_id) result.now) }
+    {
+        self.lookups.items.as_slice()
+    }
+
+    /// The insured value of a coverage in cents, 0 where it is unknown.
+    pub fn tiv(&self, coverage: u32) -> u64
+        ensures value { result ≡ tiv_of self.now.rows.coverages coverage }
+    {
+        self.lookups.tivs.get(&coverage).copied().unwrap_or(0)
+    }
+
+    /// The random number of an event, a group and a sample from 1 on, in parts per million. The table of random numbers
+    /// must be loaded.
+    pub fn random(&self, event: u32, group: u32, sidx: u32) -> u32
+        requires loaded { is_loaded self.now.need 0 table.Random ≡ true }
+        requires sample { 1 ≤ sidx }
+        ensures value { result ≡ random_of self.now.rows event group sidx }
+    {
+        let numbers = self.tables.random.as_slice();
+        let place = random_place(numbers.len() as u64, event, group, sidx);
+        numbers[place as usize].random
+    }
+
+    /// The rows of an event in the occurrence table, in table order; none where it has none.
+    pub fn occurrences(&self, event: u32) -> &[Occurrence]
+        ensures value { result.now ≡ occurrences_of self.now.rows event }
+    {
+        self.lookups.occurrences.of(u64::from(event))
+    }
+
+    /// The number of periods, 0 where the occurrences are not loaded.
+    pub fn periods(&self) -> u32
+        ensures value { result ≡ self.now.rows.periods }
+    {
+        self.tables.periods
+    }
+
+    /// The return periods in table order.
+    pub fn return_periods(&self) -> &[u32]
+        ensures value { result.now ≡ return_periods_of self.now.rows }
+    {
+        &self.lookups.return_periods
+    }
+
+    /// What is kept of the summaries of a perspective.
+    fn summaries(&self, perspective: Perspective) -> &Summaries
+        ensures value { AreSummaries (summary_rows perspective self.now.rows) result.now }
+    {
+        match perspective {
+            Perspective::Gul => &self.lookups.of_items,
+            Perspective::Il | Perspective::Ri => &self.lookups.of_outputs,
+        }
+    }
+
+    /// Whether a perspective has a summary set.
+    pub fn has_set(&self, perspective: Perspective, set: u32) -> bool
+        ensures value { result ≡ has_summary_set perspective self.now.rows set }
+    {
+        self.summaries(perspective).sets.contains(&set)
+    }
+
+    /// The summary of an item, or of an output, in a set; `None` where it has none.
+    pub fn summary_of(&self, perspective: Perspective, set: u32, id: u32) -> Option<u32>
+        ensures value { result ≡ summary_in perspective self.now.rows set id }
+    {
+        let summaries = self.summaries(perspective);
+        summaries.by_id.get(&(id, set)).copied()
+    }
+
+    /// What is kept of the exposures of a perspective.
+    fn exposures(&self, perspective: Perspective) -> &HashMap<(u32, u32), u64>
+        ensures value { AreExposures perspective self.now.rows self.now.need.rule result.now }
+    {
+        match perspective {
+            Perspective::Gul => &self.lookups.item_exposures,
+            Perspective::Il => &self.lookups.output_exposures,
+            Perspective::Ri => &self.lookups.output_exposures,
+        }
+    }
+
+    /// The exposure of a summary of a set in cents: the insured values of the distinct coverages of all items, or outputs,
+    /// that are added to it; 0 where there is no such summary.
+    pub fn exposure(&self, perspective: Perspective, set: u32, summary: u32) -> u64
+        ensures value { result ≡ exposure_of perspective self.now.rows self.now.need.rule set summary }
+    {
+        value_at(self.exposures(perspective), (set, summary))
+    }
+
+    /// Where the records of an event stand in the footprint file; `None` where the index has no such event.
+    pub fn place_of(&self, event: u32) -> Option<Place>
+        ensures value { result ≡ place_in self.now.rows event }
+    {
+        self.lookups.places.get(&event).copied()
+    }
+}
