@@ -1,25 +1,24 @@
 -- Lines of plain fields are read back as their rows.
-use Rattle.std.proofs.Common.{◌≡◌, ℕ, zero, suc, ◌+◌, ◌^◌, ◌/◌, ◌<◌, ◌≤◌, ◌⊎◌, Bool, true, false, List, [], ◌∷◌, ◌++◌, length, take, drop, refl, sym, ap, ◌∙◌, arith, subst, length-append, append_assoc}
-use Rattle.std.specs.Prelude.{Result, Ok, Err, Option, Some, None, nat_lt, map, ◌==◌, ◌||◌, decimal, if◌then◌else◌}
+use Rattle.std.proofs.Common.{◌≡◌, ℕ, suc, ◌+◌, ◌^◌, ◌/◌, ◌<◌, ◌≤◌, Bool, true, false, List, [], ◌∷◌, ◌++◌, length, take, refl, sym, ap, ◌∙◌, arith, subst, length-append, append_assoc}
+use Rattle.std.specs.Prelude.{Some, None, nat_lt, map, ◌==◌, ◌||◌, decimal, if◌then◌else◌}
 use Rattle.std.specs.Char.{digit_value}
 use Rattle.std.specs.List.{AllByRecursion, list_any, prefix_len}
 use Rattle.std.specs.Str.Parse.{AllDigits}
 use Rattle.std.proofs.lemmas.Bool.Decides.{nat_tests}
 use Rattle.std.proofs.lemmas.Fmt.{decimal_is_IsNumeral}
-use Rattle.std.proofs.lemmas.List.{append-nil}
 use Rattle.std.proofs.lemmas.List.Folds.{list_any-append}
 use Rattle.csv.specs.Reading.{strip_bom}
-use Rattle.csv.specs.Writing.{default_writer, needs_quotes, needs_byte, by_style, quoted, field_text, fields_text, row_text, row_body, is_blank, read_back}
-use Rattle.kt_money.specs.NumberText.{count_text, plain, padded_digits}
+use Rattle.csv.specs.Writing.{default_writer, needs_quotes, needs_byte, by_style, quoted, field_text, fields_text, row_text, is_blank, read_back}
+use Rattle.kt_money.specs.NumberText.{plain, padded_digits}
 use Rattle.kt_money.specs.NumberTextLaws.{plain-decimals, padded_digits-digits}
 use Rattle.kt_text.specs.Laws.{CountsAreReadBack, AmountsAreReadBack, RowsAreReadBack}
 use Rattle.kt_text.specs.Rows.{csv_rows, rows_of_width, first_ragged, rows_text, has_width}
-use Rattle.kt_cells.specs.Kinds.{under, highest}
+use Rattle.kt_cells.specs.Kinds.{under}
 use Rattle.kt_cells.specs.Laws.{IsPlain, LinesAreReadBack}
 use Rattle.kt_cells.specs.Lines.{line, fields_behind, rows_lines}
-use Rattle.kt_cells.specs.Ranges.{IsRow, AreRows, AreInOrder}
-use Rattle.kt_cells.specs.Reading.{rule_after, table_rows, and_then}
-use Rattle.kt_cells.specs.Texts.{text_value, text_rows, row_texts, value_text, unless_ragged}
+use Rattle.kt_cells.specs.Ranges.{IsRow, AreRows}
+use Rattle.kt_cells.specs.Reading.{rule_after, table_rows}
+use Rattle.kt_cells.specs.Texts.{text_value, row_texts, value_text}
 use Rattle.kt_cells.specs.declared.kind.Kind.{Kind}
 use Rattle.kt_cells.proofs.KindLemmas.{in_range-ok, highest-most, texts-read_back}
 use Rattle.kt_cells.proofs.TextLemmas.{text_rows-even}

@@ -29,7 +29,7 @@ not_below-ok floor value x good =
     (passed.1, omega (arith, passed.1, above))
 
 -- a value above the floor passes it
-not_below-above : (floor value : ℕ) → floor ≤ value → not_below floor value ≡ Ok value
+pub not_below-above : (floor value : ℕ) → floor ≤ value → not_below floor value ≡ Ok value
 not_below-above floor value above =
     let passes : nat_lt value floor ≡ false = grind (arith, nat_tests) in
     rw passes refl

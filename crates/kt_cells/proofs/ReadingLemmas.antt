@@ -18,12 +18,12 @@ pub drop-step : {A : Type 0} (xs : List A) (i : ℕ) (d : A) → i < length xs �
 drop-step xs i d here = rw add-one (drop-cons xs i d here)
 
 -- nothing before changes nothing
-behind-nil : {A E : Type 0} (rest : Result (List A) E) → behind [] rest ≡ rest
+pub behind-nil : {A E : Type 0} (rest : Result (List A) E) → behind [] rest ≡ rest
 behind-nil (Ok more) = refl
 behind-nil (Err e) = refl
 
 -- a result in front of the rest goes behind what is there
-behind-in_front : {A E : Type 0} (before : List A) (x : A) (rest : Result (List A) E) → behind before (in_front x rest) ≡ behind (before ++ x ∷ []) rest
+pub behind-in_front : {A E : Type 0} (before : List A) (x : A) (rest : Result (List A) E) → behind before (in_front x rest) ≡ behind (before ++ x ∷ []) rest
 behind-in_front before x (Ok more) = ap Ok (sym (append_assoc before (x ∷ []) more))
 behind-in_front before x (Err e) = refl
 

@@ -1,16 +1,10 @@
 -- Records as bytes: their widths, and where a field stands.
-use Rattle.std.proofs.Common.{◌≡◌, ℕ, zero, suc, ◌+◌, ◌*◌, ◌<◌, ◌≤◌, List, [], ◌∷◌, length, take, drop, get_or, refl, sym, ap, ◌∙◌, arith, drop-drop}
+use Rattle.std.proofs.Common.{◌≡◌, ℕ, zero, suc, ◌+◌, ◌*◌, ◌<◌, ◌≤◌, List, [], ◌∷◌, length, take, drop, get_or, refl, ap, ◌∙◌, arith, drop-drop}
 use Rattle.std.proofs.Math.Seq.{drop-length}
 use Rattle.kt_cells.proofs.ReadingLemmas.{drop-step}
 use Rattle.kt_cells.specs.Kinds.{width}
-use Rattle.std.proofs.Common.{length-drop}
-use Rattle.std.proofs.lemmas.List.{length-take-le}
 use Rattle.std.proofs.Math.Nat.{mul-le-mul_right}
-use Rattle.byteorder.specs.Endian.{little_number}
-use Rattle.byteorder.specs.Numbers.{little_from-take}
 use Rattle.kt_text.specs.Rows.{AreEven}
-use Rattle.kt_cells.specs.Cells.{cell_at}
-use Rattle.kt_cells.specs.Kinds.{in_range}
 use Rattle.kt_cells.specs.Records.{record_width, record_fields, records_in, field_value, record_rows, record_count, whole_records}
 use Rattle.kt_cells.specs.Reading.{table_rows, Tells-and_then}
 use Rattle.kt_cells.specs.Stops.{Tells}
@@ -129,33 +123,6 @@ record-room wide count row within =
     let next : (row + 1) * wide ≤ count * wide = mul-le-mul_right wide (omega arith) in
     let split : (row + 1) * wide ≡ row * wide + wide = grind arith in
     omega arith
-
--- a field stands within the bytes
-pub field-room : (kinds : List Kind) (count row column all : ℕ) (d : Kind) → row < count → column < length kinds → count * record_width kinds ≤ all
-    → row * record_width kinds + record_width (take column kinds) + width (get_or kinds column d) ≤ all
-field-room kinds count row column all d here field fits =
-    omega (arith, record-room (record_width kinds) count row here, record_width-place kinds column d field)
-
--- the value of a field is that of the number at its place
-pub field_value-at : (kinds : List Kind) (count row column : ℕ) (kind d : Kind) (bytes : List ℕ) → row < count → column < length kinds → count * record_width kinds ≤ length bytes
-    → in_range kind (little_number (width (get_or kinds column d)) (drop (row * record_width kinds + record_width (take column kinds)) bytes))
-    ≡ field_value kind (cell_at (records_in kinds count bytes) row column)
-field_value-at kinds count row column kind d bytes here field fits =
-    let w : ℕ = width (get_or kinds column d) in
-    let rest : List ℕ = drop (row * record_width kinds + record_width (take column kinds)) bytes in
-    let room = field-room kinds count row column (length bytes) d here field fits in
-    let cell : cell_at (records_in kinds count bytes) row column ≡ take w rest =
-    ap (λ fields. get_or fields column []) (records_in-record kinds count row bytes here)
-    ∙ record_fields-field kinds (drop (row * record_width kinds) bytes) column d field
-    ∙ ap (take w) (drop-drop (record_width (take column kinds)) (row * record_width kinds) bytes) in
-    let long : length (take w rest) ≡ w = length-take-le w rest (omega (arith, length-drop (row * record_width kinds + record_width (take column kinds)) bytes, room)) in
-    sym (ap (field_value kind) cell ∙ ap (λ n. in_range kind (little_number n (take w rest))) long ∙ ap (in_range kind) (little_from-take 0 w w rest (omega arith)))
-
--- a field stands within the bytes, where its record and its place there are known by their numbers
-pub place-room : (kinds : List Kind) (count row column all wide place columns : ℕ) (bytes : List ℕ) (d : Kind) → row < length (records_in kinds count bytes) → column < columns → length kinds ≡ columns → wide ≡ record_width kinds → count * wide ≤ all
-    → place ≡ record_width (take column kinds) → row * wide + place + width (get_or kinds column d) ≤ all
-place-room kinds count row column all wide place columns bytes d here field long wide_is fits place_is =
-    rw (wide_is, place_is) (field-room kinds count row column all d (rw length-records_in at here) (rw (sym long) at field) (rw wide_is at fits))
 
 -- whole records alone give their rows
 pub record_rows-whole : (first : ℕ) (kinds : List Kind) (bytes : List ℕ) (rows : List (List ℕ)) → table_rows field_value false first kinds 0 1 (whole_records kinds bytes) ≡ Ok rows → length bytes % record_width kinds ≡ 0

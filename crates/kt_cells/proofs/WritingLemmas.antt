@@ -1,16 +1,16 @@
 -- How far a row, and rows, are written.
 use Rattle.std.proofs.Common.{◌≡◌, ℕ, zero, suc, add-one, ◌+◌, ◌<◌, List, [], ◌∷◌, ◌++◌, length, drop, get_or, refl, sym, ap, ◌∙◌, arith, append_assoc}
-use Rattle.std.specs.Prelude.{Ok, ◌==◌, false}
+use Rattle.std.specs.Prelude.{◌==◌, false}
 use Rattle.std.proofs.lemmas.Bool.Decides.{nat_tests}
 use Rattle.std.proofs.lemmas.List.{append-nil}
 use Rattle.std.proofs.Math.Seq.{drop-length}
 use Rattle.byteorder.specs.Endian.{little_bytes}
-use Rattle.kt_cells.specs.Kinds.{width, under, in_range}
-use Rattle.kt_cells.specs.Lines.{line, fields_behind, separator, rows_lines}
+use Rattle.kt_money.specs.NumberText.{count_text}
+use Rattle.kt_cells.specs.Kinds.{width}
+use Rattle.kt_cells.specs.Lines.{line, fields_behind, separator, rows_lines, lines_behind}
 use Rattle.kt_cells.specs.Ranges.{IsRow, AreRows}
-use Rattle.kt_cells.specs.Reading.{rule_after}
 use Rattle.kt_cells.specs.Records.{record_bytes, records_bytes}
-use Rattle.kt_cells.specs.Texts.{row_texts, value_text}
+use Rattle.kt_cells.specs.Texts.{row_texts}
 use Rattle.kt_cells.specs.declared.kind.Kind.{Kind}
 use Rattle.kt_cells.proofs.ReadingLemmas.{drop-step}
 
@@ -52,16 +52,25 @@ pub rows_lines-end : (kinds : List Kind) (rows : List (List ℕ)) → rows_lines
 unfolding rows_lines
 rows_lines-end kinds rows = let none : drop (length rows) rows ≡ [] = drop-length rows in rw none refl
 
+-- one line more behind a count
+pub lines_behind-more : (count : ℕ) (kinds : List Kind) (rows : List (List ℕ)) (done : ℕ) (d : List ℕ) → done < length rows
+    → lines_behind count kinds (drop done rows) ≡ (count_text count ++ 44 ∷ line (row_texts 0 kinds (get_or rows done d))) ++ lines_behind count kinds (drop (done + 1) rows)
+unfolding lines_behind
+lines_behind-more count kinds rows done d row =
+    let here : drop done rows ≡ get_or rows done d ∷ drop (done + 1) rows = drop-step rows done d row in
+    rw here refl
+
+-- no such line is left
+pub lines_behind-end : (count : ℕ) (kinds : List Kind) (rows : List (List ℕ)) → lines_behind count kinds (drop (length rows) rows) ≡ []
+unfolding lines_behind
+lines_behind-end count kinds rows = let none : drop (length rows) rows ≡ [] = drop-length rows in rw none refl
+
 -- each row in range has its place among them
 pub AreRows-row : (kinds : List Kind) (rows : List (List ℕ)) (row : ℕ) (d : List ℕ) → AreRows kinds rows → row < length rows → IsRow 0 kinds (get_or rows row d)
 unfolding AreRows
 AreRows-row kinds [] row d range within = absurd (omega arith)
 AreRows-row kinds (values ∷ rows) zero d range within = range.0
 AreRows-row kinds (values ∷ rows) (suc row) d range within = AreRows-row kinds rows row d range.1 (omega arith)
-
--- a piece behind what is written joins it
-pub behind_text : (start out piece rest all : List ℕ) → out ++ (piece ++ rest) ≡ start ++ all → (out ++ piece) ++ rest ≡ start ++ all
-behind_text start out piece rest all now = append_assoc out piece rest ∙ now
 
 -- a piece is written, and the rest is left
 pub text-more : (start out next piece rest left all : List ℕ) → out ++ rest ≡ start ++ all → next ≡ out ++ piece → rest ≡ piece ++ left → next ++ left ≡ start ++ all
@@ -81,53 +90,16 @@ abbrev pub line_rest : ℕ → List (List ℕ) → List ℕ
 line_rest zero fields = line fields
 line_rest (suc column) fields = fields_behind fields
 
--- a line is written as far as a column, with this rule for the rest, which is in range
-pub record LineWritten (kinds : List Kind) (values start out : List ℕ) (done rule : ℕ) : Type 0 where
-  pub text : out ++ line_rest done (row_texts rule (drop done kinds) (drop done values)) ≡ start ++ line (row_texts 0 kinds values)
-  pub range : IsRow rule (drop done kinds) (drop done values)
-
 -- what is left begins with the separator of its column
-line_rest-field : (column : ℕ) (field : List ℕ) (fields : List (List ℕ)) → line_rest column (field ∷ fields) ≡ separator column ++ (field ++ fields_behind fields)
+pub line_rest-field : (column : ℕ) (field : List ℕ) (fields : List (List ℕ)) → line_rest column (field ∷ fields) ≡ separator column ++ (field ++ fields_behind fields)
 unfolding line fields_behind
 line_rest-field zero field fields = refl
 line_rest-field (suc column) field fields = let later : (suc column == 0) ≡ false = grind (arith, nat_tests) in rw later refl
 
-line_rest-later : (column : ℕ) (fields : List (List ℕ)) → line_rest (column + 1) fields ≡ fields_behind fields
+pub line_rest-later : (column : ℕ) (fields : List (List ℕ)) → line_rest (column + 1) fields ≡ fields_behind fields
 line_rest-later column fields = rw add-one refl
 
-line_rest-end : (column : ℕ) → line_rest column [] ≡ 10 ∷ []
+pub line_rest-end : (column : ℕ) → line_rest column [] ≡ 10 ∷ []
 unfolding line fields_behind
 line_rest-end zero = refl
 line_rest-end (suc column) = refl
-
-module _ (kinds : List Kind) (values start out : List ℕ) (done rule : ℕ) (now : LineWritten kinds values start out done rule) (d : Kind) (column : done < length kinds) (long : length values ≡ length kinds) where
-  -- the value of the next column is in range
-  pub line-range : (in_range (under rule (get_or kinds done d)) (get_or values done 0) ≡ Ok (get_or values done 0)) × IsRow (rule_after rule (get_or kinds done d) (get_or values done 0)) (drop (done + 1) kinds) (drop (done + 1) values)
-  unfolding IsRow
-  line-range =
-      let here : drop done kinds ≡ get_or kinds done d ∷ drop (done + 1) kinds = drop-step kinds done d column in
-      let value : drop done values ≡ get_or values done 0 ∷ drop (done + 1) values = drop-step values done 0 (omega arith) in
-      rw (here, value) at now.range
-
-  -- a field more
-  pub line-more : LineWritten kinds values start ((out ++ separator done) ++ value_text (under rule (get_or kinds done d)) (get_or values done 0)) (done + 1) (rule_after rule (get_or kinds done d) (get_or values done 0))
-  unfolding row_texts
-  line-more =
-      let here : drop done kinds ≡ get_or kinds done d ∷ drop (done + 1) kinds = drop-step kinds done d column in
-      let value : drop done values ≡ get_or values done 0 ∷ drop (done + 1) values = drop-step values done 0 (omega arith) in
-      let text : List ℕ = value_text (under rule (get_or kinds done d)) (get_or values done 0) in
-      let rest : List (List ℕ) = row_texts (rule_after rule (get_or kinds done d) (get_or values done 0)) (drop (done + 1) kinds) (drop (done + 1) values) in
-      let before : out ++ (separator done ++ (text ++ fields_behind rest)) ≡ start ++ line (row_texts 0 kinds values) =
-      ap (λ left. out ++ left) (sym (line_rest-field done text rest)) ∙ (rw (here, value) at now.text) in
-      record {
-        text = rw (line_rest-later done rest) (behind_text start (out ++ separator done) text (fields_behind rest) (line (row_texts 0 kinds values))
-            (behind_text start out (separator done) (text ++ fields_behind rest) (line (row_texts 0 kinds values)) before));
-        range = line-range.1;
-      }
-
--- the line feed ends a line
-pub line-end : (kinds : List Kind) (values start out : List ℕ) (rule : ℕ) → LineWritten kinds values start out (length kinds) rule → out ++ 10 ∷ [] ≡ start ++ line (row_texts 0 kinds values)
-unfolding row_texts
-line-end kinds values start out rule now =
-    let none : drop (length kinds) kinds ≡ [] = drop-length kinds in
-    ap (λ left. out ++ left) (sym (line_rest-end (length kinds))) ∙ (rw none at now.text)

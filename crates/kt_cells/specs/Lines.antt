@@ -1,5 +1,8 @@
 -- Lines of text: fields with commas between them and a line feed behind them.
 use Rattle.std.specs.Prelude.{ℕ, List, [], ◌∷◌, ◌++◌, ◌==◌, if◌then◌else◌}
+use Rattle.kt_money.specs.NumberText.{count_text}
+use Rattle.kt_cells.specs.Kinds.{under}
+use Rattle.kt_cells.specs.Reading.{rule_after}
 use Rattle.kt_cells.specs.Texts.{row_texts}
 use Rattle.kt_cells.specs.declared.kind.Kind.{Kind}
 
@@ -26,3 +29,14 @@ lines_of (row ∷ rows) = line row ++ lines_of rows
 unfoldable pub rows_lines : List Kind → List (List ℕ) → List ℕ
 rows_lines kinds [] = []
 rows_lines kinds (row ∷ rows) = line (row_texts 0 kinds row) ++ rows_lines kinds rows
+
+-- the lines of rows, each with the same count as its first field
+unfoldable pub lines_behind : ℕ → List Kind → List (List ℕ) → List ℕ
+lines_behind count kinds [] = []
+lines_behind count kinds (row ∷ rows) = (count_text count ++ 44 ∷ line (row_texts 0 kinds row)) ++ lines_behind count kinds rows
+
+-- the kinds of a row, a term by the rule before it
+unfoldable pub units_under : ℕ → List Kind → List ℕ → List Kind
+units_under rule [] values = []
+units_under rule (kind ∷ kinds) [] = []
+units_under rule (kind ∷ kinds) (value ∷ values) = under rule kind ∷ units_under (rule_after rule kind value) kinds values

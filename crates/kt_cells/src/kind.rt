@@ -76,6 +76,7 @@ impl Kind {
     }
 
     /// The kind under a calculation rule: a term is an amount or parts per million.
+    #[inline(always)]
     pub fn under(self, rule: u64) -> Kind
         ensures { result ≡ under rule self }
     {
@@ -88,6 +89,7 @@ impl Kind {
     /// The value, if it is one of the kind: below its range is `Zero`, above it `TooLarge`, and a number that is no
     /// calculation rule is `Rule`.
     #[tactic(auto, unfolding(crate::specs::Kinds::in_range))]
+    #[inline(always)]
     pub fn in_range(self, value: u64) -> Result<u64, Cause>
         ensures { result ≡ in_range self value }
     {
@@ -150,6 +152,7 @@ fn checked_rule(value: u64) -> Result<u64, Cause>
 }
 
 /// The value, if it lies from `least` to `most`.
+#[inline(always)]
 pub(crate) fn checked(least: u64, most: u64, value: u64) -> Result<u64, Cause>
     ensures { result ≡ within least most value }
 {

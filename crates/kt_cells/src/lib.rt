@@ -5,10 +5,14 @@ mod cells;
 mod header;
 mod kind;
 mod laws;
+mod lines;
 mod reader;
+mod record_lines;
 mod record_writer;
 mod records;
+mod shared;
 mod stop;
+mod text_rows;
 mod texts;
 mod values;
 
@@ -17,8 +21,11 @@ pub use kind::{Kind, Term};
 pub use laws::{
     headers_are_read_back, lines_are_read_back, records_are_read_back, texts_are_in_range,
 };
+pub use lines::{push_line, push_lines, push_lines_behind};
+pub use record_lines::push_record_lines;
 pub use record_writer::{push_record, push_records};
 pub use records::read_records;
 pub use stop::{Cause, TableStop};
-pub use texts::{push_line, push_lines, read_grid, read_text};
+pub use text_rows::read_text;
+pub use texts::read_grid;
 pub use values::Values;

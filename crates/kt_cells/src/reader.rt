@@ -12,6 +12,7 @@ use crate::values::Values;
 use std::alloc::Global;
 
 // The value, if it is not below the floor.
+#[inline(always)]
 fn checked_order(floor: u64, value: u64) -> Result<u64, Cause>
     ensures { result ≡ not_below floor value }
 {
@@ -23,6 +24,7 @@ fn checked_order(floor: u64, value: u64) -> Result<u64, Cause>
 }
 
 /// The rule by which the rest of a row is read.
+#[inline(always)]
 pub(crate) fn rule_after(rule: u64, kind: Kind, value: u64) -> u64
     ensures { result ≡ rule_behind rule kind value }
 {
@@ -32,8 +34,9 @@ pub(crate) fn rule_after(rule: u64, kind: Kind, value: u64) -> u64
     }
 }
 
-// The floor of the row behind a row.
-fn floor_after<const N: usize>(ordered: bool, values: &[u64; N]) -> u64
+/// The floor of the row behind a row.
+#[inline(always)]
+pub(crate) fn floor_after<const N: usize>(ordered: bool, values: &[u64; N]) -> u64
     requires { N < 100 }
     ensures { result ≡ floor_behind ordered values.now }
 {
@@ -45,6 +48,7 @@ fn floor_after<const N: usize>(ordered: bool, values: &[u64; N]) -> u64
 }
 
 // The value of a cell, if it is not below the floor.
+#[inline(always)]
 fn value_of<const N: usize, C: Cells<N>>(
     cells: &C,
     row: u64,
@@ -61,20 +65,21 @@ fn value_of<const N: usize, C: Cells<N>>(
     checked_order(floor, value)
 }
 
-// The values of a row. The floor is for the first of them.
-fn read_row<const N: usize, C: Cells<N>>(
+/// The values of a row, which is named by its number. The floor is for the first of them.
+#[inline(always)]
+pub(crate) fn read_row<const N: usize, C: Cells<N>>(
     cells: &C,
     kinds: &[Kind; N],
     first: u32,
     row: u64,
+    number: u64,
     floor: u64,
 ) -> Result<[u64; N], TableStop>
     requires size { N < 100 }
     requires first { first < 100 }
     requires row { row < length (C.cells cells.now) }
-    requires rows { length (C.cells cells.now) < 2 ^ 64 }
     requires even { length (row_at (C.cells cells.now) row) ≡ N }
-    ensures { result ≡ row_values C.read 0 floor (row + 1) first kinds.now (row_at (C.cells cells.now) row) }
+    ensures { result ≡ row_values C.read 0 floor number first kinds.now (row_at (C.cells cells.now) row) }
 {
     let mut values = [0; N];
     let mut rule = 0;
@@ -88,7 +93,7 @@ fn read_row<const N: usize, C: Cells<N>>(
             }
             Err(cause) => {
                 return Err(TableStop::Bad {
-                    row: row + 1,
+                    row: number,
                     column: first + column as u32,
                     cause,
                 });
@@ -116,7 +121,7 @@ pub(crate) fn read_rows<const N: usize, C: Cells<N>>(
     let mut rows = Vec::new(alloc);
     let mut floor = 0;
     for row in 0..cells.rows() {
-        let values = read_row(cells, kinds, first, row, floor)?;
+        let values = read_row(cells, kinds, first, row, row + 1, floor)?;
         floor = floor_after(ordered, &values);
         rows.push(values)?;
     }

@@ -1,39 +1,24 @@
-//! Records of little-endian numbers as cells.
+//! The rows that records of little-endian numbers give.
 ghost use Rattle.kt_cells.specs.Ranges.{AreRows, FitsBytes};
 ghost use Rattle.kt_cells.specs.Stops.{Tells};
-ghost use Rattle.std.specs.Prelude.{◌≡◌, All, IfOk, IfErr, Ok, ◌+◌, ◌*◌, ◌<◌, ◌≤◌, ◌^◌, ◌⊎◌, length, take, drop};
+ghost use Rattle.std.specs.Prelude.{◌≡◌, All, OnOk, IfOk, IfErr, Ok, Err, ◌+◌, ◌*◌, ◌<◌, ◌≤◌, ◌^◌, ◌⊎◌, length, take, drop};
 ghost use Rattle.byteorder.specs.Endian.{little_number};
 ghost use Rattle.kt_cells.specs.Kinds.{width};
-ghost use Rattle.kt_cells.specs.Records.{record_width as width_of, record_count, record_rows, records_in, field_value};
+ghost use Rattle.kt_cells.specs.Reading.{row_values};
+ghost use Rattle.kt_cells.specs.Records.{record_width as width_of, record_count, record_fields, record_rows, field_value};
 
-use crate::cells::Cells;
 use crate::kind::Kind;
-use crate::reader::read_rows;
-use crate::stop::{Cause, TableStop};
+use crate::reader::rule_after;
+use crate::stop::TableStop;
 use crate::values::Values;
 use byteorder::{ByteOrder, LittleEndian};
 use std::alloc::Global;
 
-/// The whole records at the front of some bytes.
-#[derive(Drop)]
-pub(crate) struct Records<'a, const N: usize> {
-    bytes: &'a [u8],
-    kinds: [Kind; N],
-    // How many bytes a record takes.
-    width: usize,
-    // How many whole records there are.
-    count: usize,
-    ghost small: { N < 100 },
-    ghost columns: { length kinds ≡ N },
-    ghost wide: { width ≡ width_of kinds },
-    ghost fits: { count * width ≤ length bytes.now },
-    ghost addressable: { length bytes.now < 2 ^ 63 },
-}
-
 /// How many bytes a record with these columns takes.
 pub(crate) fn record_width(kinds: &[Kind]) -> usize
     requires { length kinds.now < 100 }
-    ensures { result ≡ width_of kinds.now }
+    ensures value { result ≡ width_of kinds.now }
+    ensures some { 0 < length kinds.now → 0 < result }
 {
     let mut bytes = 0;
     for kind in kinds {
@@ -55,47 +40,43 @@ fn number(bytes: &[u8], width: usize) -> u64
     }
 }
 
-impl<'a, const N: usize> Records<'a, N> {
-    /// The whole records at the front of the bytes.
-    pub(crate) fn new(kinds: &[Kind; N], bytes: &'a [u8]) -> Records<'a, N>
-        requires size { N < 100 }
-        requires some { 0 < N }
-        ensures bytes { result.bytes.now ≡ bytes.now }
-        ensures kinds { result.kinds ≡ kinds.now }
-        ensures count { result.count ≡ record_count kinds.now bytes.now }
-        ensures wide { 0 < result.width }
-    {
-        let width = record_width(kinds);
-        Records {
-            bytes,
-            kinds: *kinds,
-            width,
-            count: bytes.len() / width,
+/// Reads the values of the record at the front of some bytes, the first column of which has the number `first`. An error
+/// is the first bad field; its row is `row`.
+#[inline(always)]
+pub(crate) fn read_record<const N: usize>(
+    kinds: &[Kind; N],
+    first: u32,
+    row: u64,
+    bytes: &[u8],
+    values: &mut [u64; N],
+) -> Result<(), TableStop>
+    requires size { N < 100 }
+    requires first { first < 100 }
+    requires whole { width_of kinds.now ≤ length bytes.now }
+    ensures ok { OnOk result (row_values field_value 0 0 row first kinds.now (record_fields kinds.now bytes.now) ≡ Ok values.new) }
+
+    ensures refused { IfErr result (λ stop. row_values field_value 0 0 row first kinds.now (record_fields kinds.now bytes.now) ≡ Err stop) }
+{
+    let mut rule = 0;
+    let mut at = 0;
+    for (column, kind) in kinds.iter().enumerate() {
+        let width = kind.width();
+        match kind.under(rule).in_range(number(&bytes[at..], width)) {
+            Ok(value) => {
+                values[column] = value;
+                rule = rule_after(rule, *kind, value);
+                at += width;
+            }
+            Err(cause) => {
+                return Err(TableStop::Bad {
+                    row,
+                    column: first + column as u32,
+                    cause,
+                });
+            }
         }
     }
-
-    // The place of a field behind the first byte of its record.
-    fn place_of(&self, column: usize) -> usize
-        requires { column < N }
-        ensures { result ≡ width_of (take column self.now.kinds) }
-    {
-        record_width(&self.kinds[..column])
-    }
-}
-
-impl<'a, const N: usize> Cells<N> for Records<'a, N> {
-    ghost cells = { λ r. records_in r.kinds r.count r.bytes.now };
-
-    ghost read = { field_value };
-
-    fn rows(&self) -> u64 {
-        self.count as u64
-    }
-
-    fn value(&self, row: u64, column: usize, kind: Kind) -> Result<u64, Cause> {
-        let at = row as usize * self.width + self.place_of(column);
-        kind.in_range(number(&self.bytes[at..], self.kinds[column].width()))
-    }
+    Ok(())
 }
 
 /// The values of all records with columns of these kinds, the first of which has the number `first`. An error is the
@@ -116,12 +97,19 @@ pub fn read_records<const N: usize>(
 
     ensures refused { IfErr result (Tells (record_rows first kinds.now bytes.now)) }
 {
-    let records = Records::new(kinds, bytes);
-    let values = read_rows(alloc, &records, kinds, false, first)?;
-    if bytes.len() % records.width != 0 {
+    let width = record_width(kinds);
+    let count = bytes.len() / width;
+    let mut rows = Vec::with_capacity(alloc, count)?;
+    let mut values = [0; N];
+    for row in 0..count {
+        let rest = &bytes[row * width..];
+        read_record(kinds, first, row as u64 + 1, rest, &mut values)?;
+        rows.push(values)?;
+    }
+    if bytes.len() % width != 0 {
         return Err(TableStop::CutRecord {
-            row: records.count as u64 + 1,
+            row: count as u64 + 1,
         });
     }
-    Ok(values)
+    Ok(Values { rows })
 }

@@ -4,9 +4,10 @@ ghost use Rattle.kt_money.specs.NumberText.{plain};
 
 use itoa::write_digits;
 
-/// Writes `n / unit` with `scale` decimals so that it ends at `end`, and returns where it starts.
+/// Writes `n / unit` with `scale` decimals into `text` so that it ends at `end`, and returns where it starts: 1 to 6
+/// decimals, and the unit is 10 to that power. What stands from `end` on and before the start stays.
 #[inline(always)]
-pub(crate) fn write_plain(n: u64, scale: usize, unit: u64, text: &mut [u8], end: usize) -> usize
+pub fn write_plain(n: u64, scale: usize, unit: u64, text: &mut [u8], end: usize) -> usize
     requires positive { 1 ≤ scale }
     requires unit { unit ≡ 10 ^ scale }
     requires small { scale ≤ 6 }

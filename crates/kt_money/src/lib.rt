@@ -11,6 +11,7 @@ mod shared;
 mod square_root;
 
 pub use bytes::{Bytes, OutOfMemory};
+pub use decimals::write_plain;
 pub use moments::{MeanSd, mean_sd};
 pub use number_text::{push_count, push_money, push_ppm};
 pub use quotient::{div_half_up, ppm_of};

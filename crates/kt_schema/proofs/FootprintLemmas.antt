@@ -5,7 +5,7 @@ use Rattle.std.proofs.lemmas.List.{append-nil, take_rest}
 use Rattle.std.proofs.Math.Seq.{drop-length}
 use Rattle.kt_rec.specs.declared.hazard.FootprintIdx.{FootprintIdx}
 use Rattle.kt_rec.specs.declared.table.Table.TheVariants.{Footprint}
-use Rattle.kt_cells.specs.Lines.{line, fields_behind, rows_lines}
+use Rattle.kt_cells.specs.Lines.{line, fields_behind, rows_lines, lines_behind}
 use Rattle.kt_cells.specs.Ranges.{IsRow, AreRows}
 use Rattle.kt_cells.specs.Texts.{row_texts}
 use Rattle.kt_cells.specs.declared.kind.Kind.{Kind}
@@ -14,11 +14,14 @@ use Rattle.kt_schema.specs.Footprint.{IsEntryOf, HasRecords, entry_rows, indexed
 use Rattle.kt_schema.specs.Tables.{kinds_of}
 use Rattle.kt_schema.proofs.IndexLemmas.{drop-step}
 
--- a line begins with the event
-pub footprint_line : (event : ℕ) (row : List ℕ) → length row ≡ 3 → line (row_texts 0 (kinds_of Footprint) (event ∷ row)) ≡ count_text event ++ (44 ∷ line (row_texts 0 (drop 1 (kinds_of Footprint)) row))
-unfolding line fields_behind row_texts
-footprint_line event [] long = absurd (omega arith)
-footprint_line event (first ∷ rest) long = refl
+-- each line of an event begins with the event
+pub event_lines : (event : ℕ) (rows : List (List ℕ)) → AreRows (drop 1 (kinds_of Footprint)) rows
+    → rows_lines (kinds_of Footprint) (map (λ row. event ∷ row) rows) ≡ lines_behind event (drop 1 (kinds_of Footprint)) rows
+unfolding rows_lines lines_behind line fields_behind row_texts AreRows IsRow
+event_lines event [] range = refl
+event_lines event ([] ∷ rows) range = absurd range.0
+event_lines event ((first ∷ rest) ∷ rows) range =
+    ap (λ lines. (count_text event ++ 44 ∷ line (row_texts 0 (drop 1 (kinds_of Footprint)) (first ∷ rest))) ++ lines) (event_lines event rows range.1)
 
 -- rows in range are so from a place on
 pub AreRows-drop : (kinds : List Kind) (rows : List (List ℕ)) (first : ℕ) → AreRows kinds rows → AreRows kinds (drop first rows)
@@ -33,34 +36,6 @@ unfolding AreRows
 AreRows-take kinds rows zero range = tt
 AreRows-take kinds [] (suc count) range = tt
 AreRows-take kinds (row ∷ rows) (suc count) range = (range.0, AreRows-take kinds rows count range.1)
-
--- each row of them is in range
-pub AreRows-at : (kinds : List Kind) (rows : List (List ℕ)) (row : ℕ) (d : List ℕ) → AreRows kinds rows → row < length rows → IsRow 0 kinds (get_or rows row d)
-unfolding AreRows
-AreRows-at kinds [] row d range within = absurd (omega arith)
-AreRows-at kinds (values ∷ rows) zero d range within = range.0
-AreRows-at kinds (values ∷ rows) (suc row) d range within = AreRows-at kinds rows row d range.1 (omega arith)
-
--- a line more of an event
-pub event_lines-more : (event : ℕ) (start out more : List ℕ) (rows : List (List ℕ)) (done : ℕ) (d : List ℕ) → done < length rows
-    → out ++ rows_lines (kinds_of Footprint) (map (λ row. event ∷ row) (drop done rows)) ≡ start ++ rows_lines (kinds_of Footprint) (map (λ row. event ∷ row) rows)
-    → more ≡ out ++ line (row_texts 0 (kinds_of Footprint) (event ∷ get_or rows done d))
-    → more ++ rows_lines (kinds_of Footprint) (map (λ row. event ∷ row) (drop (done + 1) rows)) ≡ start ++ rows_lines (kinds_of Footprint) (map (λ row. event ∷ row) rows)
-unfolding rows_lines
-event_lines-more event start out more rows done d within now written =
-    let step : drop done rows ≡ get_or rows done d ∷ drop (done + 1) rows = drop-step rows done d within in
-    let rest : List ℕ = rows_lines (kinds_of Footprint) (map (λ row. event ∷ row) (drop (done + 1) rows)) in
-    ap (λ text. text ++ rest) written ∙ append_assoc out (line (row_texts 0 (kinds_of Footprint) (event ∷ get_or rows done d))) rest
-    ∙ ap (λ left. out ++ rows_lines (kinds_of Footprint) (map (λ row. event ∷ row) left)) (sym step) ∙ now
-
--- no line is left
-pub event_lines-end : (event : ℕ) (start out : List ℕ) (rows : List (List ℕ))
-    → out ++ rows_lines (kinds_of Footprint) (map (λ row. event ∷ row) (drop (length rows) rows)) ≡ start ++ rows_lines (kinds_of Footprint) (map (λ row. event ∷ row) rows)
-    → out ≡ start ++ rows_lines (kinds_of Footprint) (map (λ row. event ∷ row) rows)
-unfolding rows_lines
-event_lines-end event start out rows now =
-    let none : drop (length rows) rows ≡ [] = drop-length rows in
-    sym (append-nil out) ∙ ap (λ left. out ++ rows_lines (kinds_of Footprint) (map (λ row. event ∷ row) left)) (sym none) ∙ now
 
 -- the lines of some rows and more are the lines of both
 rows_lines-append : (kinds : List Kind) (xs ys : List (List ℕ)) → rows_lines kinds (xs ++ ys) ≡ rows_lines kinds xs ++ rows_lines kinds ys

@@ -1,9 +1,8 @@
 //! From the footprint file and its index to the text of the footprint.
 ghost use Rattle.std.specs.Prelude.{◌≡◌, ◌<◌, ◌++◌, ◌∷◌, Ok, map, IfOk, IfErr, OnOk, All, length};
 ghost use Rattle.kt_rec.specs.declared.table.Table.TheVariants.{Footprint};
-ghost use Rattle.kt_cells.specs.Ranges.{AreRows, IsRow};
-ghost use Rattle.kt_cells.specs.Lines.{line, rows_lines};
-ghost use Rattle.kt_cells.specs.Texts.{row_texts};
+ghost use Rattle.kt_cells.specs.Ranges.{AreRows};
+ghost use Rattle.kt_cells.specs.Lines.{rows_lines};
 ghost use Rattle.kt_cells.specs.Stops.{Tells};
 ghost use Rattle.kt_schema.specs.Footprint.{footprint_csv, entry_rows, indexed_rows, IsEntryOf, HasRecords};
 ghost use Rattle.kt_schema.specs.Tables.{kinds_of};
@@ -11,8 +10,8 @@ ghost use Rattle.kt_schema.specs.Tables.{kinds_of};
 use crate::headings::heading;
 use crate::schema::{FOOTPRINT, FOOTPRINT_RECORD};
 use crate::to_csv::body;
-use kt_cells::{TableStop, push_line, read_header, read_records};
-use kt_money::{Bytes, push_count};
+use kt_cells::{TableStop, push_lines_behind, read_header, read_records};
+use kt_money::Bytes;
 use kt_rec::{FootprintIdx, Table};
 use std::alloc::{AllocError, Global};
 
@@ -74,19 +73,5 @@ fn push_event_lines(out: &mut Bytes, event: u32, rows: &[[u64; 3]]) -> Result<()
     requires { AreRows FOOTPRINT_RECORD rows.now }
     ensures ok { OnOk result (out.new ≡ out.old ++ rows_lines FOOTPRINT.kinds (map (λ row. event ∷ row) rows.now)) }
 {
-    for row in rows {
-        push_footprint_line(out, event, row)?;
-    }
-    Ok(())
-}
-
-// Appends a line of the footprint.
-fn push_footprint_line(out: &mut Bytes, event: u32, row: &[u64; 3]) -> Result<(), AllocError>
-    requires { IsRow 0 FOOTPRINT_RECORD row.now }
-    ensures ok { OnOk result (out.new ≡ out.old ++ line (row_texts 0 FOOTPRINT.kinds (event ∷ row.now))) }
-{
-    push_count(out, u64::from(event))?;
-    out.push(b',')?;
-    push_line(out, &FOOTPRINT_RECORD, row)?;
-    Ok(())
+    push_lines_behind(out, u64::from(event), &FOOTPRINT_RECORD, rows)
 }

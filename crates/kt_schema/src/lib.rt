@@ -8,6 +8,7 @@ mod laws;
 mod loading;
 mod rows;
 mod schema;
+mod shared;
 mod to_bin;
 mod to_csv;
 mod typed_row;

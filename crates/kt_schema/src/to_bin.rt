@@ -29,6 +29,7 @@ fn push_header_part(
 }
 
 // The file of a table whose records have all its columns.
+#[inline(always)]
 fn converted<const N: usize>(
     alloc: Global,
     schema: &Schema<N>,

@@ -8,7 +8,7 @@ ghost use Rattle.kt_schema.specs.Conversions.{bin_csv, body_rows, extra_of, body
 
 use crate::headings::heading;
 use crate::schema::*;
-use kt_cells::{HEADER_WIDTH, TableStop, Values, push_lines, read_header, read_records};
+use kt_cells::{HEADER_WIDTH, TableStop, Values, push_record_lines, read_header, read_records};
 use kt_money::Bytes;
 use kt_rec::Table;
 use std::alloc::Global;
@@ -65,7 +65,8 @@ pub(crate) fn read_file<const N: usize>(
     Ok((extra, values))
 }
 
-// The text of a file, under a heading.
+// The text of a file, under a heading. Each table has its own copy of this code, in which its kinds are known.
+#[inline(always)]
 fn converted<const N: usize>(
     alloc: Global,
     schema: &Schema<N>,
@@ -80,10 +81,10 @@ fn converted<const N: usize>(
 
     ensures refused { IfErr result (Tells (and_then (body_rows schema.now.header schema.now.number least most 1 schema.now.kinds bytes.now) (λ file. Ok (heading.now ++ rows_lines schema.now.kinds file.1)))) }
 {
-    let (_extra, values) = read_file(alloc, schema, least, most, bytes)?;
+    let _extra = extra(schema.header, schema.number, least, most, bytes)?;
     let mut out = Bytes::new(alloc);
     out.append(heading)?;
-    push_lines(&mut out, &schema.kinds, values.as_slice())?;
+    push_record_lines(&mut out, &schema.kinds, 1, body(schema.header, bytes))?;
     Ok(out)
 }
 

@@ -1,12 +1,13 @@
 -- How many digits a number has, and how large it then is.
-use Rattle.std.proofs.Common.{◌≡◌, ℕ, zero, suc, ◌+◌, ◌-◌, ◌*◌, ◌^◌, ◌<◌, ◌≤◌, min, Bool, true, false, ◌&&◌, List, [], ◌∷◌, ◌++◌, length, get_or, take, refl, ap, arith, lit<, inl, inr}
+use Rattle.std.proofs.Common.{◌≡◌, ℕ, zero, suc, ◌+◌, ◌-◌, ◌*◌, ◌^◌, ◌<◌, ◌≤◌, min, Bool, true, false, ◌&&◌, List, [], ◌∷◌, ◌++◌, length, get_or, take, refl, ap, arith, lit<, inl, inr, subst, sym}
 use Rattle.std.proofs.lemmas.Bool.{cases_Bool, cases_lt, and_parts, eqb-true, lt-ltb, le-ltb}
 use Rattle.std.specs.Char.{digit_value, is_ascii_digit}
 use Rattle.std.specs.List.{list_all}
 use Rattle.std.specs.Str.Parse.{AllDigits, digits_value, digits_value_after}
 use Rattle.std.proofs.Common.{eqb}
 use Rattle.std.proofs.lemmas.Bool.{leb-true, le-leb, eqb-false}
-use Rattle.std.proofs.lemmas.Int.Digits.{digits_value-lt}
+use Rattle.std.proofs.lemmas.Int.Digits.{digits_value-lt, digits_value_more}
+use Rattle.std.proofs.lemmas.List.{length-take-le, take_more}
 use Rattle.std.proofs.lemmas.Str.{digit_value_digit}
 use Rattle.std.proofs.lemmas.Str.Parse.{digit_from_value}
 use native.Mathlib.Nat.{pow-le-pow_right, mul-le-mul_right, mul-le-mul_left, add-mul, pow-succ'}
@@ -147,3 +148,24 @@ capped-join whole fraction most =
           let whole_kept : w * 1 ≤ w * power = mul-le-mul_left w (ten_to_positive (length fraction)) in
           rw (min-right w most g) (omega arith))
     ])
+
+-- a digit more at the front of a text: the number fits 64 bits
+pub front-more : (text : List ℕ) (count value digit : ℕ) → count < length text → count < 18 → AllDigits 10 (take count text) → value ≡ digits_value 10 (take count text) → is_ascii_digit (get_or text count 0) ≡ true → digit ≡ get_or text count 0 - 48
+    → (value * 10 + digit < 10 ^ 18) × AllDigits 10 (take (count + 1) text) × (value * 10 + digit ≡ digits_value 10 (take (count + 1) text))
+front-more text count value digit within few all value_is test digit_is =
+    let range = digit_range (get_or text count 0) test in
+    let here = digit_value_digit (get_or text count 0) range in
+    let below = digits_value-lt 10 (take count text) all in
+    let short : length (take count text) ≤ 17 = omega (arith, length-take-le count text (omega arith)) in
+    let power : 10 ^ length (take count text) ≤ 10 ^ 17 = pow-le-pow_right (lit< tt) short in
+    let next : take (count + 1) text ≡ take count text ++ get_or text count 0 ∷ [] = take_more text count 0 within in (
+      omega (arith, range, below, power, value_is, digit_is),
+      subst (λ (ds : List ℕ). AllDigits 10 ds) (sym next) (AllDigits-append (take count text) (get_or text count 0 ∷ []) all (omega (arith, here), tt)),
+      omega (arith, digits_value_more 10 text count within, here, value_is, digit_is),
+    )
+
+-- so many digits write a number below that power of ten
+pub front-bound : (text : List ℕ) (count value : ℕ) → count ≤ length text → AllDigits 10 (take count text) → value ≡ digits_value 10 (take count text) → value < 10 ^ count
+front-bound text count value within all value_is =
+    let long : length (take count text) ≡ count = length-take-le count text within in
+    omega (arith, value_is, rw long at (digits_value-lt 10 (take count text) all))

@@ -1,6 +1,7 @@
 pub mod FieldStop
 pub mod Laws
 pub mod Numbers
+pub mod PlainText
 pub mod Records
 pub mod Rows
 pub mod Trimming

@@ -25,16 +25,16 @@ pub enum FieldStop {
 
 /// The rows of a text before the first one that has another number of fields.
 #[derive(Drop)]
-pub struct EvenRows<const N: usize> {
+pub(crate) struct EvenRows<const N: usize> {
     /// The fields of those rows.
-    pub grid: Grid<N>,
+    pub(crate) grid: Grid<N>,
     /// The number of that first row, counted from 1 after the heading, if there is one.
-    pub ragged: Option<u64>,
+    pub(crate) ragged: Option<u64>,
 }
 
 /// The rows of a text, its heading left out, before the first that has not `N` fields, and the number
 /// of that row. A text without any record has no rows. It fails for want of memory alone.
-pub fn fields_before_ragged<const N: usize>(
+pub(crate) fn fields_before_ragged<const N: usize>(
     alloc: Global,
     text: &[u8],
 ) -> Result<EvenRows<N>, AllocError>

@@ -1,6 +1,6 @@
 //! The records of a CSV text, one after the other.
 
-ghost use Rattle.std.specs.Prelude.{◌≡◌, ◌≤◌, [], length, IfOk};
+ghost use Rattle.std.specs.Prelude.{◌≡◌, ◌≤◌, ◌<◌, [], length, slice_index_or, IfOk};
 ghost use Rattle.std.specs.Bool.{MatchBool};
 ghost use Rattle.csv.specs.Reading.{records, default_config, strip_bom};
 ghost use Rattle.csv.specs.Records.{fields_of};
@@ -11,7 +11,7 @@ use std::alloc::{AllocError, Global};
 
 /// A reader before the first record of a text, which takes no record for a heading and records of any
 /// length.
-pub(crate) fn reader_of(alloc: Global, text: &[u8]) -> Reader<&[u8]>
+pub fn reader_of(alloc: Global, text: &[u8]) -> Reader<&[u8]>
     ensures stands { StandsBetween result }
     ensures bytes { bytes_left result ≤ length text.now }
     ensures all { records_left result ≡ records default_config (strip_bom text.now) }
@@ -23,10 +23,7 @@ pub(crate) fn reader_of(alloc: Global, text: &[u8]) -> Reader<&[u8]>
 }
 
 /// The next record into `row`, and whether there was one.
-pub(crate) fn next_record(
-    reader: &mut Reader<&[u8]>,
-    row: &mut ByteRecord,
-) -> Result<bool, AllocError>
+pub fn next_record(reader: &mut Reader<&[u8]>, row: &mut ByteRecord) -> Result<bool, AllocError>
     requires { StandsBetween reader.old }
     ensures { IfOk result (λ found. MatchBool found
         (TakesRecord reader.old reader.new (fields_of row.new)) (records_left reader.old ≡ [])) }
@@ -40,4 +37,12 @@ pub(crate) fn next_record(
             _ => Err(AllocError),
         },
     }
+}
+
+/// The field of a record at a column, counted from 0.
+pub fn record_field(row: &ByteRecord, column: usize) -> &[u8]
+    requires { column < length (fields_of row.now) }
+    ensures { result.now ≡ slice_index_or (fields_of row.now) column [] }
+{
+    row.get(column).unwrap()
 }

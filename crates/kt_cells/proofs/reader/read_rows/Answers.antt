@@ -9,7 +9,7 @@ pub read_row-requires : goal.read_row-requires
 read_row-requires g c =
     let row : c.loop-row.row < length (g.C.Cells.cells c.args.cells.now) = omega (arith, c.rows-row-end.ensures.value) in
     let even = even-row g.row.N (g.C.Cells.cells c.args.cells.now) c.loop-row.row c.rows-row-end.ensures.even row in
-    (omega arith, (omega arith, (c.requires.size, (c.requires.first, (row, (omega (arith, c.rows-row-end.ensures.value, c.rows-row-end.type_inv), even))))))
+    (omega arith, (omega arith, (c.requires.size, (c.requires.first, (row, even)))))
 
 pub returns-in_err-values-clause-refused : goal.returns-in_err-values-clause-refused
 returns-in_err-values-clause-refused g c =

@@ -1,6 +1,6 @@
 use Rattle.std.proofs.Common.{◌≡◌, arith, length}
 use Rattle.kt_cells.specs.declared.kind.Kind.TheVariants.{Id}
-use Rattle.kt_cells.proofs.RecordLemmas.{record_width-more, record_width-most, record_width-end}
+use Rattle.kt_cells.proofs.RecordLemmas.{record_width-more, record_width-most, record_width-some, record_width-end}
 use Rattle.kt_cells.proofs.records.record_width.Goals as goal
 
 pub overflow_add-bytes : goal.overflow_add-bytes
@@ -14,4 +14,7 @@ loop-kind-preserved c =
 pub returns : goal.returns
 returns c =
     let done : c.loop-kind.kind-index ≡ length c.args.kinds.now = omega arith in
-    omega (arith, rw done at c.loop-kind.invariant, record_width-end c.args.kinds.now)
+    record {
+      value = omega (arith, rw done at c.loop-kind.invariant, record_width-end c.args.kinds.now);
+      some = λ some. omega (arith, rw done at c.loop-kind.invariant, record_width-end c.args.kinds.now, record_width-some c.args.kinds.now some);
+    }

@@ -1,0 +1,163 @@
+//! Rows as lines of text.
+ghost use Rattle.std.specs.Prelude.{◌≡◌, ◌+◌, ◌<◌, ◌≤◌, ◌∷◌, ◌++◌, OnOk, Ok, length, drop};
+ghost use Rattle.kt_money.specs.NumberText.{count_text};
+ghost use Rattle.kt_cells.specs.Kinds.{in_range};
+ghost use Rattle.kt_cells.specs.Lines.{line, separator, rows_lines, lines_behind, units_under};
+ghost use Rattle.kt_cells.specs.Ranges.{IsRow, AreRows};
+ghost use Rattle.kt_cells.specs.Texts.{row_texts, value_text};
+ghost use Rattle.kt_cells.specs.declared.lines.TheConstants.{LINE_BYTES};
+
+use crate::kind::Kind;
+use crate::reader::rule_after;
+use itoa::write_digits;
+use kt_money::{Bytes, write_plain};
+use std::alloc::AllocError;
+
+/// So many bytes have room for a line, and for a count in front of it, whatever the values are.
+pub(crate) const LINE_BYTES: usize = 2_400;
+
+// Writes the comma that stands before a field so that it ends at `end`, unless the field is the first, and returns where
+// it starts.
+#[inline(always)]
+fn write_separator(column: usize, text: &mut [u8], end: usize) -> usize
+    requires room { 1 ≤ end }
+    requires within { end ≤ length text.old }
+    ensures start { result ≤ end }
+    ensures short { end ≤ result + 1 }
+    ensures written { drop result text.new ≡ separator column ++ drop end text.old }
+{
+    if column == 0 {
+        return end;
+    }
+    text[end - 1] = b',';
+    end - 1
+}
+
+// Writes the text of a value so that it ends at `end`, and returns where it starts: at most 23 bytes.
+#[inline(always)]
+#[tactic(auto, unfolding(crate::specs::Kinds::in_range))]
+fn write_value(kind: Kind, value: u64, text: &mut [u8], end: usize) -> usize
+    requires range { in_range kind value ≡ Ok value }
+    requires room { 27 ≤ end }
+    requires within { end ≤ length text.old }
+    ensures start { result ≤ end }
+    ensures short { end ≤ result + 23 }
+    ensures written { drop result text.new ≡ value_text kind value ++ drop end text.old }
+{
+    match kind {
+        Kind::Tiv | Kind::Amount | Kind::Term(_) => write_plain(value, 2, 100, text, end),
+        Kind::Ppm => write_plain(value, 6, 1_000_000, text, end),
+        _ => write_digits(value, text, end),
+    }
+}
+
+// The kinds of a row, where a term is an amount or parts per million by the rule before it.
+#[inline(always)]
+fn units_of<const N: usize>(kinds: &[Kind; N], values: &[u64; N]) -> [Kind; N]
+    requires { N < 100 }
+    ensures { result ≡ units_under 0 kinds.now values.now }
+{
+    let mut units = *kinds;
+    let mut rule = 0;
+    for (column, kind) in kinds.iter().enumerate() {
+        units[column] = kind.under(rule);
+        rule = rule_after(rule, *kind, values[column]);
+    }
+    units
+}
+
+/// Writes a row as a line that ends with the buffer, from its last field to its first, and returns where it starts.
+#[inline(always)]
+pub(crate) fn write_line<const N: usize>(
+    kinds: &[Kind; N],
+    values: &[u64; N],
+    text: &mut [u8; LINE_BYTES],
+) -> usize
+    requires size { N < 100 }
+    requires range { IsRow 0 kinds.now values.now }
+    ensures start { result ≤ LINE_BYTES }
+    ensures room { 20 < result }
+    ensures written { drop result text.new ≡ line (row_texts 0 kinds.now values.now) }
+{
+    let units = units_of(kinds, values);
+    let mut at = LINE_BYTES - 1;
+    text[at] = b'\n';
+    let mut column = N;
+    while column > 0 {
+        column -= 1;
+        at = write_value(units[column], values[column], text, at);
+        at = write_separator(column, text, at);
+    }
+    at
+}
+
+/// Appends a row as a line of text. An error is want of memory; a part may stand in `out` then.
+pub fn push_line<const N: usize>(
+    out: &mut Bytes,
+    kinds: &[Kind; N],
+    values: &[u64; N],
+) -> Result<(), AllocError>
+    requires size { N < 100 }
+    requires range { IsRow 0 kinds.now values.now }
+    ensures ok { OnOk result (out.new ≡ out.old ++ line (row_texts 0 kinds.now values.now)) }
+{
+    let mut text = [0; LINE_BYTES];
+    let start = write_line(kinds, values, &mut text);
+    out.append(&text[start..])
+}
+
+/// Appends rows as lines of text. An error is want of memory; a part may stand in `out` then.
+pub fn push_lines<const N: usize>(
+    out: &mut Bytes,
+    kinds: &[Kind; N],
+    rows: &[[u64; N]],
+) -> Result<(), AllocError>
+    requires size { N < 100 }
+    requires range { AreRows kinds.now rows.now }
+    ensures ok { OnOk result (out.new ≡ out.old ++ rows_lines kinds.now rows.now) }
+{
+    let mut text = [0; LINE_BYTES];
+    for row in rows {
+        let start = write_line(kinds, row, &mut text);
+        out.append(&text[start..])?;
+    }
+    Ok(())
+}
+
+// Writes a row as a line that ends with the buffer, with a count and a comma in front, and returns where it starts.
+#[inline(always)]
+fn write_line_behind<const N: usize>(
+    count: u64,
+    kinds: &[Kind; N],
+    values: &[u64; N],
+    text: &mut [u8; LINE_BYTES],
+) -> usize
+    requires size { N < 100 }
+    requires range { IsRow 0 kinds.now values.now }
+    ensures start { result ≤ LINE_BYTES }
+    ensures written { drop result text.new ≡ count_text count ++ 44 ∷ line (row_texts 0 kinds.now values.now) }
+{
+    let behind = write_line(kinds, values, text) - 1;
+    text[behind] = b',';
+    write_digits(count, text, behind)
+}
+
+/// Appends rows as lines of text, each with the same count as its first field. An error is want of memory; a part may
+/// stand in `out` then.
+pub fn push_lines_behind<const N: usize>(
+    out: &mut Bytes,
+    count: u64,
+    kinds: &[Kind; N],
+    rows: &[[u64; N]],
+) -> Result<(), AllocError>
+    requires size { N < 100 }
+    requires range { AreRows kinds.now rows.now }
+    ensures ok { OnOk result (out.new ≡ out.old ++ lines_behind count kinds.now rows.now) }
+{
+    let mut text = [0; LINE_BYTES];
+    for row in rows {
+        let start = write_line_behind(count, kinds, row, &mut text);
+        out.append(&text[start..])?;
+    }
+    Ok(())
+}

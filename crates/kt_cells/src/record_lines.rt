@@ -1,0 +1,47 @@
+//! The records of a table as lines of text.
+ghost use Rattle.std.specs.Prelude.{◌≡◌, ◌<◌, ◌++◌, OnOk, IfErr, Ok};
+ghost use Rattle.kt_cells.specs.Lines.{rows_lines};
+ghost use Rattle.kt_cells.specs.Reading.{and_then};
+ghost use Rattle.kt_cells.specs.Records.{record_rows};
+ghost use Rattle.kt_cells.specs.Stops.{Tells};
+
+use crate::kind::Kind;
+use crate::lines::{LINE_BYTES, write_line};
+use crate::records::{read_record, record_width};
+use crate::stop::TableStop;
+use kt_money::Bytes;
+
+/// Appends the rows that some bytes give as lines of text, without a list of the rows between. The first column has the
+/// number `first`. An error is the first bad field, by record and then by column; then a record that is cut by the end;
+/// or want of memory; a part may stand in `out` then.
+#[inline(always)]
+pub fn push_record_lines<const N: usize>(
+    out: &mut Bytes,
+    kinds: &[Kind; N],
+    first: u32,
+    bytes: &[u8],
+) -> Result<(), TableStop>
+    requires size { N < 100 }
+    requires some { 0 < N }
+    requires first { first < 100 }
+    ensures ok { OnOk result (and_then (record_rows first kinds.now bytes.now) (λ rows. Ok (out.old ++ rows_lines kinds.now rows)) ≡ Ok out.new) }
+
+    ensures refused { IfErr result (Tells (record_rows first kinds.now bytes.now)) }
+{
+    let width = record_width(kinds);
+    let count = bytes.len() / width;
+    let mut values = [0; N];
+    let mut text = [0; LINE_BYTES];
+    for row in 0..count {
+        let rest = &bytes[row * width..];
+        read_record(kinds, first, row as u64 + 1, rest, &mut values)?;
+        let start = write_line(kinds, &values, &mut text);
+        out.append(&text[start..])?;
+    }
+    if bytes.len() % width != 0 {
+        return Err(TableStop::CutRecord {
+            row: count as u64 + 1,
+        });
+    }
+    Ok(())
+}
