@@ -1,0 +1,88 @@
+-- The header of the footprint's file is read from its first bytes.
+use Rattle.std.proofs.Common.{◌≡◌, ◌≤◌, ◌<◌, ◌+◌, ℕ, List, [], ◌∷◌, length, take, drop, min, refl, ap, sym, ◌∙◌, zero, suc, arith, Bool, true, false}
+use Rattle.std.specs.Prelude.{nat_lt, slice_index, not, ◌==◌, if◌then◌else◌, Result, Ok, Err, ◌*◌}
+use Rattle.std.proofs.lemmas.Bool.{ltb-true, ltb-false, lt-ltb, le-ltb}
+use Rattle.std.proofs.Math.Seq.{take-length}
+use Rattle.std.proofs.lemmas.List.{length-take, take_all}
+use Rattle.byteorder.specs.Endian.{little_number, little_from}
+use Rattle.kt_rec.specs.declared.table.Table.{Table}
+use Rattle.kt_rec.specs.declared.table.Table.TheVariants as table
+use Rattle.kt_cells.specs.Header.{header_extra, mark, version}
+use Rattle.kt_cells.specs.Kinds.{within}
+use Rattle.kt_cells.specs.Reading.{and_then, at_place}
+use Rattle.kt_cells.specs.declared.stop.TableStop.{TableStop}
+use Rattle.kt_cells.specs.declared.stop.TableStop.TheVariants.{NotProfile, WrongTable, WrongVersion}
+use Rattle.kt_schema.specs.Loading.{loaded_rows}
+use Rattle.kt_load.specs.Ends.{bytes_wanted}
+
+-- a byte of the front is that of the whole
+front_byte : (bytes : List ℕ) (size place : ℕ) → place < size → slice_index (take size bytes) place ≡ slice_index bytes place
+front_byte [] zero place below = refl
+front_byte [] (suc size) place below = refl
+front_byte (byte ∷ bytes) zero place below = absurd (omega arith)
+front_byte (byte ∷ bytes) (suc size) zero below = refl
+front_byte (byte ∷ bytes) (suc size) (suc place) below = front_byte bytes size place (omega arith)
+
+-- so is a number
+front_number : (bytes : List ℕ) (size place width : ℕ) → place + width ≤ size → little_from place width (take size bytes) ≡ little_from place width bytes
+front_number bytes size place zero fits = refl
+front_number bytes size place (suc width) fits = (λ i. front_byte bytes size place (omega arith) i + 256 * front_number bytes size (suc place) width (omega arith) i)
+
+-- and one behind some bytes
+front_number_at : (bytes : List ℕ) (size place width : ℕ) → place + width ≤ size → little_number width (drop place (take size bytes)) ≡ little_number width (drop place bytes)
+front_number_at bytes size zero width fits = front_number bytes size 0 width fits
+front_number_at [] zero (suc place) width fits = refl
+front_number_at [] (suc size) (suc place) width fits = refl
+front_number_at (byte ∷ bytes) zero (suc place) width fits = absurd (omega arith)
+front_number_at (byte ∷ bytes) (suc size) (suc place) width fits = front_number_at bytes size place width (omega arith)
+
+-- the first bytes are too few for a header where all are
+as_few : (size : ℕ) → nat_lt (min 16 size) 16 ≡ nat_lt size 16
+as_few size = by_test (nat_lt size 16) refl
+  where
+    by_test : (few : Bool) → nat_lt size 16 ≡ few → nat_lt (min 16 size) 16 ≡ few
+    by_test true is = lt-ltb (min 16 size) 16 (omega (arith, ltb-true size 16 is))
+    by_test false is = le-ltb (min 16 size) 16 (omega (arith, ltb-false size 16 is))
+
+-- the header of the first 16 bytes
+front_header : (bytes : List ℕ) → header_extra 4 0 0 (take 16 bytes) ≡ header_extra 4 0 0 bytes
+unfolding header_extra
+front_header bytes = λ i. header_by (few i) (front_number bytes 16 0 4 (omega arith) i) (front_number_at bytes 16 4 4 (omega arith) i) (front_number_at bytes 16 8 4 (omega arith) i) (front_number_at bytes 16 12 4 (omega arith) i)
+  where
+    header_by : Bool → ℕ → ℕ → ℕ → ℕ → Result ℕ TableStop
+    header_by short first second third fourth =
+        if short then Err NotProfile
+        else if not (first == mark) then Err NotProfile
+        else if not (second == 4) then Err (WrongTable second)
+        else if not (third == version) then Err (WrongVersion third)
+        else at_place 0 0 (within 0 0 fourth)
+
+    few : nat_lt (length (take 16 bytes)) 16 ≡ nat_lt (length bytes) 16
+    few = ap (λ n. nat_lt n 16) (length-take 16 bytes) ∙ as_few (length bytes)
+
+-- the first bytes, as many as there are
+front_of : (size : ℕ) (bytes : List ℕ) → take (min (length bytes) size) bytes ≡ take size bytes
+front_of size bytes = by_test (nat_lt size (length bytes)) refl
+  where
+    by_test : (more : Bool) → nat_lt size (length bytes) ≡ more → take (min (length bytes) size) bytes ≡ take size bytes
+    by_test true is = ap (λ n. take n bytes) (omega (arith, ltb-true size (length bytes) is))
+    by_test false is = ap (λ n. take n bytes) (omega (arith, ltb-false size (length bytes) is)) ∙ take-length bytes ∙ sym (take_all size bytes (ltb-false size (length bytes) is))
+
+-- what is loaded of the bytes that are read is what is loaded of all
+pub front-loads : (t : Table) (bytes : List ℕ) → loaded_rows t (take (bytes_wanted t (length bytes)) bytes) ≡ loaded_rows t bytes
+front-loads table.Footprint bytes = ap (λ extra. and_then extra (λ e. Ok (e, []))) (ap (header_extra 4 0 0) (front_of 16 bytes) ∙ front_header bytes)
+front-loads table.Events bytes = ap (loaded_rows table.Events) (take-length bytes)
+front-loads table.Items bytes = ap (loaded_rows table.Items) (take-length bytes)
+front-loads table.Coverages bytes = ap (loaded_rows table.Coverages) (take-length bytes)
+front-loads table.FootprintIdx bytes = ap (loaded_rows table.FootprintIdx) (take-length bytes)
+front-loads table.Vulnerability bytes = ap (loaded_rows table.Vulnerability) (take-length bytes)
+front-loads table.DamageBinDict bytes = ap (loaded_rows table.DamageBinDict) (take-length bytes)
+front-loads table.Random bytes = ap (loaded_rows table.Random) (take-length bytes)
+front-loads table.FmProgramme bytes = ap (loaded_rows table.FmProgramme) (take-length bytes)
+front-loads table.FmPolicytc bytes = ap (loaded_rows table.FmPolicytc) (take-length bytes)
+front-loads table.FmProfile bytes = ap (loaded_rows table.FmProfile) (take-length bytes)
+front-loads table.FmXref bytes = ap (loaded_rows table.FmXref) (take-length bytes)
+front-loads table.GulSummaryXref bytes = ap (loaded_rows table.GulSummaryXref) (take-length bytes)
+front-loads table.FmSummaryXref bytes = ap (loaded_rows table.FmSummaryXref) (take-length bytes)
+front-loads table.Occurrence bytes = ap (loaded_rows table.Occurrence) (take-length bytes)
+front-loads table.ReturnPeriods bytes = ap (loaded_rows table.ReturnPeriods) (take-length bytes)

@@ -1,0 +1,19 @@
+use Rattle.std.proofs.Common.{subst, sym, All}
+use Rattle.kt_rec.specs.Ranges.{AreInRange}
+use Rattle.kt_rec.specs.Rows.{rows_of}
+use Rattle.kt_rec.specs.TableNames.{IsTableId}
+use Rattle.kt_load.specs.Steps.{NoneOutside}
+use Rattle.kt_load.proofs.NeedLemmas.{each-is_table, no_rows-in_range, no_rows-outside, only_needed}
+use Rattle.kt_load.proofs.loading.load.Goals as goal
+
+-- src/loading.rt:106:11
+pub read_tables-requires : goal.read_tables-requires
+read_tables-requires g c = subst (All IsTableId) (sym c.load_order.ensures) each-is_table
+
+-- src/loading.rt:110:11
+pub new-requires-clause-ranges : goal.new-requires-clause-ranges
+new-requires-clause-ranges g c = c.in-Ok.ensures.in_range (subst AreInRange (sym c.new-tables.ensures.absent) no_rows-in_range)
+
+-- src/loading.rt:110:11
+pub new-requires-clause-needed : goal.new-requires-clause-needed
+new-requires-clause-needed g c = only_needed c.args.need.loaded (rows_of c.read_tables.new.tables) (c.in-Ok.ensures.outside (subst (NoneOutside c.args.need.loaded) (sym c.new-tables.ensures.absent) (no_rows-outside c.args.need.loaded)))

@@ -1,0 +1,6 @@
+pub mod FileNames
+pub mod Typed
+pub mod Reading
+pub mod Loaded
+pub mod Ends
+pub mod Steps

@@ -1,0 +1,52 @@
+//! Reads a file in blocks.
+//! The rules: docs/REFUSALS.md, "Order".
+ghost use Rattle.std.specs.Prelude.{◌≡◌, ◌≤◌, IfOk, IfErr, OnOk, length};
+ghost use Rattle.kt_load.specs.Ends.{HasFront, IsFront, IsReadStop, KeepsInputs};
+ghost use Rattle.kt_load.specs.Reading.{file_limit};
+
+use crate::stop::LoadStop;
+use kt_out::{Fault, Inputs};
+use std::alloc::Global;
+
+/// Fills the room with the first bytes of a file, which has so many. The errors are a fault of the inputs and want of
+/// memory.
+fn fill<I: Inputs>(inputs: &mut I, name: &[u8], room: &mut [u8]) -> Result<(), LoadStop>
+    requires limit { length room.old ≤ file_limit }
+    requires front { HasFront (I.held inputs.old) name.now (length room.old) }
+    ensures value { OnOk result (IsFront (I.held inputs.old) name.now (length room.old) room.new) }
+
+    ensures cause { IfErr result (λ stop. IsReadStop stop (I.fault_count inputs.old) (I.fault_count inputs.new)) }
+
+    ensures inputs { KeepsInputs (I.held inputs.old) (I.held inputs.new) (I.fault_count inputs.old) (I.fault_count inputs.new) (I.miss_count inputs.old) (I.miss_count inputs.new) }
+{
+    let mut at = 0;
+    while at < room.len() {
+        match inputs.read_at(name, at as u64, &mut room[at..]) {
+            Ok(read) => at += read,
+            Err(Fault::Failed) => return Err(LoadStop::ReadFault),
+            Err(Fault::OutOfMemory) => return Err(LoadStop::OutOfMemory),
+        }
+    }
+    Ok(())
+}
+
+/// Reads the first bytes of a file, which has so many. The errors are a fault of the inputs and want of memory.
+pub(crate) fn read_front<I: Inputs>(
+    alloc: Global,
+    inputs: &mut I,
+    name: &[u8],
+    wanted: usize,
+) -> Result<Vec<u8>, LoadStop>
+    requires limit { wanted ≤ file_limit }
+    requires front { HasFront (I.held inputs.old) name.now wanted }
+    ensures value { IfOk result (λ bytes. IsFront (I.held inputs.old) name.now wanted bytes.items) }
+
+    ensures cause { IfErr result (λ stop. IsReadStop stop (I.fault_count inputs.old) (I.fault_count inputs.new)) }
+
+    ensures inputs { KeepsInputs (I.held inputs.old) (I.held inputs.new) (I.fault_count inputs.old) (I.fault_count inputs.new) (I.miss_count inputs.old) (I.miss_count inputs.new) }
+{
+    let mut bytes = Vec::new(alloc);
+    bytes.resize(wanted, 0)?;
+    fill(inputs, name, bytes.as_mut_slice())?;
+    Ok(bytes)
+}

@@ -1,0 +1,114 @@
+//! Loads the tables that a command needs, and makes their checks.
+//! The rules: docs/REFUSALS.md, "Order".
+ghost use Rattle.std.specs.Prelude.{◌≡◌, IfOk, IfErr, IfSome};
+ghost use Rattle.kt_load.specs.Ends.{IsCounted, KeepsInputs, IsCheckEnd};
+ghost use Rattle.kt_load.specs.FileNames.{load_order as order_of_loading};
+ghost use Rattle.kt_load.specs.Loaded.{TellsLoaded, loaded};
+
+use crate::naming::file_name;
+use crate::stop::LoadStop;
+use crate::table::read_tables;
+use kt_checks::{CheckStop, Need};
+use kt_out::Inputs;
+use kt_rec::{Table, TableId, Tables};
+use kt_tables::Portfolio;
+use std::alloc::Global;
+
+/// All tables in the order of loading: the base by number, then stage by stage.
+fn load_order() -> [TableId; 43]
+    ensures { result ≡ order_of_loading }
+{
+    macro_rules! at {
+        ($stage:expr, $table:ident) => {
+            TableId {
+                stage: $stage,
+                table: Table::$table,
+            }
+        };
+    }
+    [
+        at!(0, Events),
+        at!(0, Items),
+        at!(0, Coverages),
+        at!(0, Footprint),
+        at!(0, FootprintIdx),
+        at!(0, Vulnerability),
+        at!(0, DamageBinDict),
+        at!(0, Random),
+        at!(0, FmProgramme),
+        at!(0, FmPolicytc),
+        at!(0, FmProfile),
+        at!(0, FmXref),
+        at!(0, GulSummaryXref),
+        at!(0, FmSummaryXref),
+        at!(0, Occurrence),
+        at!(0, ReturnPeriods),
+        at!(1, FmProgramme),
+        at!(1, FmPolicytc),
+        at!(1, FmProfile),
+        at!(2, FmProgramme),
+        at!(2, FmPolicytc),
+        at!(2, FmProfile),
+        at!(3, FmProgramme),
+        at!(3, FmPolicytc),
+        at!(3, FmProfile),
+        at!(4, FmProgramme),
+        at!(4, FmPolicytc),
+        at!(4, FmProfile),
+        at!(5, FmProgramme),
+        at!(5, FmPolicytc),
+        at!(5, FmProfile),
+        at!(6, FmProgramme),
+        at!(6, FmPolicytc),
+        at!(6, FmProfile),
+        at!(7, FmProgramme),
+        at!(7, FmPolicytc),
+        at!(7, FmProfile),
+        at!(8, FmProgramme),
+        at!(8, FmPolicytc),
+        at!(8, FmProfile),
+        at!(9, FmProgramme),
+        at!(9, FmPolicytc),
+        at!(9, FmProfile),
+    ]
+}
+
+impl LoadStop {
+    /// The stop for tables that a check refuses.
+    fn of_check(alloc: Global, stop: CheckStop) -> LoadStop
+        ensures { IsCheckEnd stop result }
+    {
+        match stop {
+            CheckStop::OutOfMemory => LoadStop::OutOfMemory,
+            CheckStop::Check { number, table, row } => match file_name(alloc, table) {
+                Ok(name) => LoadStop::Check { number, name, row },
+                Err(_) => LoadStop::OutOfMemory,
+            },
+        }
+    }
+}
+
+/// Loads the tables that `need` names and makes their checks.
+///
+/// An error is, by table in the order of loading, that its file is missing, has more than 2^30 bytes, or its first bad
+/// place; then the first check that refuses; or a fault of the inputs, or want of memory. A file is read in blocks, and
+/// its bytes are dropped before the next one is read. Of the footprint only the header and the size are read.
+pub fn load<I: Inputs>(alloc: Global, inputs: &mut I, need: Need) -> Result<Portfolio, LoadStop>
+    ensures exact { IfSome (I.held inputs.old) (λ files. TellsLoaded (loaded files need) result) }
+    ensures need { IfOk result (λ portfolio. portfolio.need ≡ need) }
+
+    // A fault and a miss come only where the inputs counted one.
+    ensures cause { IfErr result (λ stop. IsCounted stop (I.fault_count inputs.old) (I.fault_count inputs.new) (I.miss_count inputs.old) (I.miss_count inputs.new)) }
+
+    ensures inputs { KeepsInputs (I.held inputs.old) (I.held inputs.new) (I.fault_count inputs.old) (I.fault_count inputs.new) (I.miss_count inputs.old) (I.miss_count inputs.new) }
+{
+    let mut tables = Tables::new(alloc);
+    match read_tables(alloc, inputs, &need.loaded, &load_order(), &mut tables) {
+        Ok(()) => {}
+        Err(stop) => return Err(stop),
+    }
+    match Portfolio::new(alloc, tables, need) {
+        Ok(portfolio) => Ok(portfolio),
+        Err(stop) => Err(LoadStop::of_check(alloc, stop)),
+    }
+}
