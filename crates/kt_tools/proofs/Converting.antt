@@ -8,14 +8,13 @@ use Rattle.kt_out.specs.Reading.{Reads}
 use Rattle.kt_out.specs.Writing.{WritesAll}
 use Rattle.kt_out.specs.declared.fault.Fault.{Fault}
 use Rattle.kt_out.specs.declared.fault.Fault.TheVariants.{Failed}
-use Rattle.kt_cells.specs.declared.stop.TableStop.{TableStop}
-use Rattle.kt_tools.specs.declared.command.Conversion.{Conversion}
-use Rattle.kt_tools.specs.Outcome.{Outcome, converted, convert_outcome}
+use Rattle.kt_tools.specs.declared.status.Status.TheVariants.{Done}
+use Rattle.kt_tools.specs.Outcome.{Outcome, within_limit}
 use Rattle.kt_tools.specs.Stops.{stop_status, fault_stop}
 use Rattle.kt_tools.specs.Tool.{StreamToolEnds}
 use Rattle.kt_tools.proofs.Ending.{FrontGained, ends_cut}
 use Rattle.kt_tools.proofs.EltLoop.{HasRead, read_none, read_more, write_is_fault, write_not_read, write_failed}
-use Rattle.kt_tools.specs.Converting.{source_limit, other_form, ReadsWhole}
+use Rattle.kt_tools.specs.Converting.{source_limit, ReadsWhole}
 
 -- these bytes were read in so many turns
 pub record Reading (left left_now : Option (List ℕ)) (reads reads_now : ℕ) (bytes : List ℕ) (turns : ℕ) : Type 0 where
@@ -38,33 +37,33 @@ reading_more E left left_now left_next reads reads_now reads_next bytes more roo
 
 -- ---- how a conversion ends
 
--- a source within the limit gives what its other form is
-convert_within : (conversion : Conversion) (source : List ℕ) → length source ≤ source_limit → convert_outcome conversion source ≡ converted (other_form conversion source)
-convert_within conversion source few = rw (le-leb (length source) source_limit few) refl
+-- a source within the limit gives what is made of it
+made_within : (made : List ℕ → Outcome) (source : List ℕ) → length source ≤ source_limit → within_limit made source ≡ made source
+made_within made source few = rw (le-leb (length source) source_limit few) refl
 
 abbrev output_in : Outcome → List ℕ
 output_in outcome = outcome.output
 
 -- what was read is the source
-within_outcome : (conversion : Conversion) (source bytes : List ℕ) (form : Result (List ℕ) TableStop) → length bytes ≤ source_limit → source ≡ bytes → other_form conversion bytes ≡ form → convert_outcome conversion source ≡ converted form
-within_outcome conversion source bytes form few same is = ap (convert_outcome conversion) same ∙ convert_within conversion bytes few ∙ ap converted is
+pub within_outcome : (made : List ℕ → Outcome) (source bytes : List ℕ) (outcome : Outcome) → length bytes ≤ source_limit → source ≡ bytes → made bytes ≡ outcome → within_limit made source ≡ outcome
+within_outcome made source bytes outcome few same is = ap (within_limit made) same ∙ made_within made bytes few ∙ is
 
-made_front : (T : Type 0) (conversion : Conversion) (left left_now taken taken_now : Option (List ℕ)) (reads reads_now : ℕ) (bytes made : List ℕ) (fault : Fault) → ReadsWhole left left_now reads reads_now (Ok bytes) → other_form conversion bytes ≡ Ok made → WritesAll {T = T} taken taken_now made (Err fault)
-    → FrontGained (convert_outcome conversion) left taken taken_now
-made_front T conversion None left_now taken taken_now reads reads_now bytes made fault whole is writes = tt
-made_front T conversion (Some source) left_now None taken_now reads reads_now bytes made fault whole is writes = tt
-made_front T conversion (Some source) left_now (Some before) taken_now reads reads_now bytes made fault whole is writes = record {
-  front = take writes.0 made;
-  rest = drop writes.0 made;
-  whole = ap output_in (within_outcome conversion source bytes (Ok made) whole.0 whole.1.0 is) ∙ sym (take-append-drop writes.0 made);
+made_front : (T : Type 0) (made : List ℕ → Outcome) (left left_now taken taken_now : Option (List ℕ)) (reads reads_now : ℕ) (bytes text : List ℕ) (fault : Fault) → ReadsWhole left left_now reads reads_now (Ok bytes) → made bytes ≡ record { status = Done; output = text } → WritesAll {T = T} taken taken_now text (Err fault)
+    → FrontGained (within_limit made) left taken taken_now
+made_front T made None left_now taken taken_now reads reads_now bytes text fault whole is writes = tt
+made_front T made (Some source) left_now None taken_now reads reads_now bytes text fault whole is writes = tt
+made_front T made (Some source) left_now (Some before) taken_now reads reads_now bytes text fault whole is writes = record {
+  front = take writes.0 text;
+  rest = drop writes.0 text;
+  whole = ap output_in (within_outcome made source bytes (record { status = Done; output = text }) whole.0 whole.1.0 is) ∙ sym (take-append-drop writes.0 text);
   gained = writes.2;
 }
 
 -- the write failed
-pub ends_unwritten_made : (T : Type 0) (conversion : Conversion) (left left_now taken taken_now : Option (List ℕ)) (reads reads_now writes writes_now : ℕ) (bytes made : List ℕ) (fault : Fault) → ReadsWhole left left_now reads reads_now (Ok bytes) → reads ≤ reads_now → other_form conversion bytes ≡ Ok made
-    → WritesAll {T = T} taken taken_now made (Err fault) → (fault ≡ Failed → Rose writes writes_now) → writes ≤ writes_now → StreamToolEnds (convert_outcome conversion) left left_now taken taken_now reads reads_now writes writes_now (stop_status (fault_stop fault))
-ends_unwritten_made T conversion left left_now taken taken_now reads reads_now writes writes_now bytes made fault whole up is written rose writes_up =
-    ends_cut (convert_outcome conversion) left left_now taken taken_now reads reads_now writes writes_now (stop_status (fault_stop fault)) (write_is_fault true fault) (made_front T conversion left left_now taken taken_now reads reads_now bytes made fault whole is written)
+pub ends_unwritten_made : (T : Type 0) (made : List ℕ → Outcome) (left left_now taken taken_now : Option (List ℕ)) (reads reads_now writes writes_now : ℕ) (bytes text : List ℕ) (fault : Fault) → ReadsWhole left left_now reads reads_now (Ok bytes) → reads ≤ reads_now → made bytes ≡ record { status = Done; output = text }
+    → WritesAll {T = T} taken taken_now text (Err fault) → (fault ≡ Failed → Rose writes writes_now) → writes ≤ writes_now → StreamToolEnds (within_limit made) left left_now taken taken_now reads reads_now writes writes_now (stop_status (fault_stop fault))
+ends_unwritten_made T made left left_now taken taken_now reads reads_now writes writes_now bytes text fault whole up is written rose writes_up =
+    ends_cut (within_limit made) left left_now taken taken_now reads reads_now writes writes_now (stop_status (fault_stop fault)) (write_is_fault true fault) (made_front T made left left_now taken taken_now reads reads_now bytes text fault whole is written)
     (λ e. absurd (write_not_read true fault e)) (λ e. rose (write_failed true fault e)) up writes_up
 
 -- ---- texts of a row

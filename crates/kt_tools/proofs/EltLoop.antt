@@ -21,8 +21,8 @@ use Rattle.kt_tools.specs.declared.status.Status.{Status}
 use Rattle.kt_tools.specs.declared.status.Status.TheVariants as status
 use Rattle.kt_tools.specs.Outcome.{stream_status, elt_rows, elt_heading_part, elt_table, elt_outcome}
 use Rattle.kt_tools.specs.Stops.{fault_stop, stop_status}
-use Rattle.kt_tools.proofs.Ending.{IsFault, fault_verdict, fault_gained, fault_not_done, IsVerdict, so_verdict, so_gained, not_read_fault, not_write_fault}
-use Rattle.kt_tools.specs.Tool.{Verdict, GainedFront, Gained, StreamToolEnds}
+use Rattle.kt_tools.proofs.Ending.{IsFault, fault_verdict, fault_gained, fault_not_done, fault_not_missing, IsVerdict, so_verdict, so_gained, not_read_fault, not_write_fault}
+use Rattle.kt_tools.specs.Tool.{Verdict, GainedFront, Gained, IsMissing, StreamToolEnds}
 use Rattle.kt_tools.specs.EltReading.{Stands, table_of, MakesPart}
 use Rattle.kt_tools.proofs.EltPart.{ReadStays}
 
@@ -175,6 +175,7 @@ module _ (heading : Bool) where
     write = write;
     reads_counted = reads_counted;
     writes_counted = writes_counted;
+    none_missing = fault_not_missing end fault;
   }
 
   -- what the source's bytes give, where they are known, is this status and the table of what was read
@@ -191,8 +192,8 @@ module _ (heading : Bool) where
   so_outputs (Some source) (Some before) now fed end speaks gives wrote = so_gained (table_of heading source) before now end speaks (wrote ∙ ap (λ (xs : List ℕ). Some (before ++ xs)) (sym gives.1))
 
   pub ends_so : (left left_now taken taken_now : Option (List ℕ)) (reads reads_now writes writes_now : ℕ) (fed : List ℕ) (end : Status) → IsVerdict end → GivesSo left fed end → HasWritten taken taken_now (table_of heading fed)
-      → (end ≡ status.Done → IfSome left (λ source. left_now ≡ Some [])) → reads ≤ reads_now → writes ≤ writes_now → StreamToolEnds (elt_outcome heading) left left_now taken taken_now reads reads_now writes writes_now end
-  ends_so left left_now taken taken_now reads reads_now writes writes_now fed end speaks gives wrote at_end reads_counted writes_counted = record {
+      → (end ≡ status.Done → IfSome left (λ source. left_now ≡ Some [])) → (IsMissing end → ⊥) → reads ≤ reads_now → writes ≤ writes_now → StreamToolEnds (elt_outcome heading) left left_now taken taken_now reads reads_now writes writes_now end
+  ends_so left left_now taken taken_now reads reads_now writes writes_now fed end speaks gives wrote at_end none_missing reads_counted writes_counted = record {
     verdict = so_verdicts left fed end speaks gives;
     output = so_outputs left taken taken_now fed end speaks gives wrote;
     at_end = at_end;
@@ -200,6 +201,7 @@ module _ (heading : Bool) where
     write = λ is. absurd (not_write_fault end speaks is);
     reads_counted = reads_counted;
     writes_counted = writes_counted;
+    none_missing = none_missing;
   }
 
   -- ---- the end of the source, and a refusal before it
@@ -367,4 +369,4 @@ module _ (heading : Bool) where
       ends_so left left_now taken taken_next reads reads_now writes writes_next turn.fed (status.Refused (OfStream by)) tt
       (gives_refused stays left turn.fed by (fed_of left left_now turn.fed turn.read) (turn.refused by is))
       (rw turn.table (written_more E taken taken_now taken_next (table_of heading turn.before) text done turn.wrote write))
-      (λ other. cc) turn.reads_counted (omega (arith, turn.writes_counted, writes_up))
+      (λ other. cc) (λ missing. missing) turn.reads_counted (omega (arith, turn.writes_counted, writes_up))

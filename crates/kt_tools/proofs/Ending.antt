@@ -5,7 +5,7 @@ use Rattle.kt_out.specs.Counts.{Rose}
 use Rattle.kt_tools.specs.declared.status.Status.{Status}
 use Rattle.kt_tools.specs.declared.status.Status.TheVariants as status
 use Rattle.kt_tools.specs.Outcome.{Outcome}
-use Rattle.kt_tools.specs.Tool.{Verdict, GainedFront, Gained, StreamToolEnds}
+use Rattle.kt_tools.specs.Tool.{Verdict, GainedFront, Gained, IsMissing, StreamToolEnds}
 
 -- a status that says nothing of the input
 abbrev pub IsFault : Status → Type 0
@@ -34,6 +34,14 @@ fault_gained output taken now status.NoMemory fault front = front
 
 pub fault_not_done : (end : Status) → IsFault end → end ≡ status.Done → ⊥
 fault_not_done end fault is = rw is at fault
+
+pub fault_not_missing : (end : Status) → IsFault end → IsMissing end → ⊥
+fault_not_missing status.Done fault missing = missing
+fault_not_missing (status.Words stop) fault missing = missing
+fault_not_missing (status.Refused refusal) fault missing = fault
+fault_not_missing status.ReadFault fault missing = missing
+fault_not_missing status.WriteFault fault missing = missing
+fault_not_missing status.NoMemory fault missing = missing
 
 -- a status that speaks of the input
 abbrev pub IsVerdict : Status → Type 0
@@ -91,4 +99,5 @@ ends_cut outcome left left_now taken taken_now reads reads_now writes writes_now
   write = write;
   reads_counted = read_up;
   writes_counted = written_up;
+  none_missing = fault_not_missing end fault;
 }

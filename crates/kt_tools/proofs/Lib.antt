@@ -7,3 +7,6 @@ mod Naming
 mod Taking
 mod Ending
 mod Converting
+mod LoadedLemmas
+mod FootprintLemmas
+mod EveLemmas

@@ -2,6 +2,7 @@
 -- The rules: docs/COMMANDS.md, "Words".
 use Rattle.std.specs.Prelude.{ℕ, ◌+◌, List, [], ◌∷◌, Bool, true, false, Option, Some, None, Result, Ok, Err, length, nat_lt, not, codes, if◌then◌else◌}
 use Rattle.std.specs.Str.{bytes_eq}
+use Rattle.kt_eve.specs.Parts.{has_part}
 use Rattle.kt_rec.specs.declared.table.Table.{Table}
 use Rattle.kt_rec.specs.declared.table.Table.TheVariants as table
 use Rattle.kt_tools.specs.declared.command.Command.{Command}
@@ -10,7 +11,7 @@ use Rattle.kt_tools.specs.declared.command.Conversion.TheVariants.{ToFile, ToTex
 use Rattle.kt_tools.specs.declared.command.Tool.{Tool}
 use Rattle.kt_tools.specs.declared.command.Tool.TheVariants as tool
 use Rattle.kt_tools.specs.declared.command.WordCause.{WordCause}
-use Rattle.kt_tools.specs.declared.command.WordCause.TheVariants.{Missing, UnknownTool, NeedsValue, BadValue, NotTogether}
+use Rattle.kt_tools.specs.declared.command.WordCause.TheVariants.{Missing, UnknownTool, NeedsValue, BadValue, NotTogether, BadPart}
 use Rattle.kt_tools.specs.declared.command.WordStop.{WordStop}
 use Rattle.kt_tools.specs.declared.given.Given.{Given}
 use Rattle.kt_tools.specs.declared.given.PeriodsOption.{PeriodsOption}
@@ -25,7 +26,8 @@ abbrev pub tool_named : List ℕ → Option Tool
 tool_named word =
     if bytes_eq word (codes "eltcalc") then Some tool.Eltcalc
     else (if bytes_eq word (codes "tobin") then Some tool.Tobin
-    else (if bytes_eq word (codes "tocsv") then Some tool.Tocsv else None))
+    else (if bytes_eq word (codes "tocsv") then Some tool.Tocsv
+    else (if bytes_eq word (codes "eve") then Some tool.Eve else None)))
 
 abbrev pub known_tool : Option Tool → Result Tool WordCause
 known_tool None = Err UnknownTool
@@ -68,15 +70,26 @@ finish_tobin None periods count = refused_word (count + 1) Missing
 finish_tobin (Some t) periods count = with_file (needs_periods t) t periods count
 
 -- the conversion to a text
+abbrev pub to_text : Table → Command
+to_text table.Footprint = command.FootprintText
+to_text t = command.Convert (ToText t)
+
 abbrev pub finish_tocsv : Option Table → ℕ → Result Command WordStop
 finish_tocsv None count = refused_word (count + 1) Missing
-finish_tocsv (Some t) count = Ok (command.Convert (ToText t))
+finish_tocsv (Some t) count = Ok (to_text t)
+
+-- the part of the event list, by its number and how many there are: both are needed, and there is such a part
+abbrev pub finish_eve : Option ℕ → Option ℕ → ℕ → Result Command WordStop
+finish_eve None parts count = refused_word (count + 1) Missing
+finish_eve (Some part) None count = refused_word (count + 1) Missing
+finish_eve (Some part) (Some parts) count = if has_part part parts then Ok (command.Eve part parts) else refused_word 2 BadPart
 
 -- the command of a tool whose words were all read, so many with that of the tool
 abbrev pub finish : Tool → Given → ℕ → Result Command WordStop
 finish tool.Eltcalc given count = Ok (command.Eltcalc (not given.silent))
 finish tool.Tobin given count = finish_tobin given.table given.periods count
 finish tool.Tocsv given count = finish_tocsv given.table count
+finish tool.Eve given count = finish_eve given.part given.parts count
 
 -- an option whose value is wanted is no last word
 abbrev pub finished : Tool → Given → ℕ → Result Command WordStop

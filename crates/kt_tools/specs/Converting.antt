@@ -1,11 +1,14 @@
 -- What a conversion of a table from the source gives.
--- The rules: docs/COMMANDS.md, "tobin" and "tocsv".
-use Rattle.std.specs.Prelude.{◌≡◌, ◌⊎◌, ◌≤◌, ◌<◌, ◌^◌, ℕ, List, [], length, codes, Option, Some, Result, Ok, Err, IfSome}
+-- The rules: docs/COMMANDS.md, "tobin and tocsv".
+use Rattle.std.specs.Prelude.{◌≡◌, ◌⊎◌, ◌≤◌, ◌<◌, ◌^◌, ℕ, true, List, [], length, codes, Option, Some, Result, Ok, Err, IfSome}
 use Rattle.kt_out.specs.Counts.{Rose}
 use Rattle.kt_rec.specs.declared.table.Table.TheVariants as table
 use Rattle.kt_cells.specs.declared.stop.TableStop.{TableStop}
 use Rattle.kt_cells.specs.declared.stop.TableStop.TheVariants as stop
 use Rattle.kt_schema.specs.Conversions.{csv_bin, bin_csv}
+use Rattle.kt_eve.specs.Parts.{has_part}
+use Rattle.kt_tools.specs.declared.command.Command.{Command}
+use Rattle.kt_tools.specs.declared.command.Command.TheVariants.{Eltcalc, Convert, FootprintText, Eve}
 use Rattle.kt_tools.specs.declared.command.Conversion.{Conversion}
 use Rattle.kt_tools.specs.declared.command.Conversion.TheVariants.{ToFile, ToText}
 use Rattle.kt_tools.specs.declared.status.Refusal.TheVariants as refusal
@@ -38,6 +41,13 @@ other_form (ToText t) bytes = bin_csv t bytes
 abbrev pub IsConversion : Conversion → Type 0
 IsConversion (ToFile t periods) = Unit {0}
 IsConversion (ToText t) = t ≡ table.Footprint → ⊥
+
+-- what every command keeps: a conversion that there is, and a part that there is
+abbrev pub IsCommand : Command → Type 0
+IsCommand (Eltcalc heading) = Unit {0}
+IsCommand (Convert conversion) = IsConversion conversion
+IsCommand FootprintText = Unit {0}
+IsCommand (Eve part parts) = has_part part parts ≡ true
 
 -- the whole source was read, or it is too large, or a read failed
 abbrev pub ReadsWhole : Option (List ℕ) → Option (List ℕ) → ℕ → ℕ → Result (List ℕ) ToolStop → Type 0

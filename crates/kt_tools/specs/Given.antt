@@ -10,7 +10,7 @@ use Rattle.kt_rec.specs.TableNames.{name_of}
 use Rattle.kt_rec.specs.declared.table.Table.{Table}
 use Rattle.kt_rec.specs.declared.table.Table.TheVariants as table
 use Rattle.kt_tools.specs.declared.command.Tool.{Tool}
-use Rattle.kt_tools.specs.declared.command.Tool.TheVariants.{Eltcalc, Tobin, Tocsv}
+use Rattle.kt_tools.specs.declared.command.Tool.TheVariants.{Eltcalc, Tobin, Tocsv, Eve}
 use Rattle.kt_tools.specs.declared.command.WordCause.{WordCause}
 use Rattle.kt_tools.specs.declared.command.WordCause.TheVariants.{UnknownOption, Repeated, BadValue, Unexpected}
 use Rattle.kt_tools.specs.declared.given.Given.{Given}
@@ -18,7 +18,7 @@ use Rattle.kt_tools.specs.declared.given.PeriodsOption.{PeriodsOption}
 
 -- no word was read
 abbrev pub none_given : Given
-none_given = record { silent = false; periods = None; table = None }
+none_given = record { silent = false; periods = None; table = None; part = None; parts = None }
 
 -- the word of this number, if its value was not read
 abbrev pub unless_read : ℕ → Option ℕ → Option ℕ
@@ -56,6 +56,15 @@ in_periods (Some value) = if (nat_le 1 value && nat_le value 100000) then Some v
 abbrev pub periods_of_word : List ℕ → Option ℕ
 periods_of_word word = in_periods (number_of_word word)
 
+-- a number of parts is below 2^32
+abbrev pub in_parts : Option ℕ → Option ℕ
+in_parts None = None
+in_parts (Some value) = if nat_le value 4294967295 then Some value else None
+
+-- the number of a part, or of all parts, that a word is
+abbrev pub part_of_word : List ℕ → Option ℕ
+part_of_word word = in_parts (number_of_word word)
+
 -- all tables by number
 abbrev pub tables : List Table
 tables = table.Events ∷ table.Items ∷ table.Coverages ∷ table.Footprint ∷ table.FootprintIdx ∷ table.Vulnerability ∷ table.DamageBinDict ∷ table.Random ∷ table.FmProgramme ∷ table.FmPolicytc ∷ table.FmProfile ∷ table.FmXref ∷ table.GulSummaryXref ∷ table.FmSummaryXref ∷ table.Occurrence ∷ table.ReturnPeriods ∷ []
@@ -68,14 +77,6 @@ named_in (t ∷ ts) word = if bytes_eq (name_of t) word then Some t else named_i
 -- the table of this name
 abbrev pub table_named : List ℕ → Option Table
 table_named word = named_in tables word
-
--- the table that a tool takes: `tocsv` makes no text of the footprint without its index
-abbrev pub takes_table : Tool → Option Table → Option Table
-takes_table Tocsv (Some table.Footprint) = None
-takes_table tool found = found
-
-abbrev pub table_for : Tool → List ℕ → Option Table
-table_for tool word = takes_table tool (table_named word)
 
 -- with the number of periods, whose option is the word of this number
 abbrev pub set_periods : Given → ℕ → Option ℕ → Result Given WordCause
@@ -95,17 +96,33 @@ with_option given Tobin number letter attached =
     else (if length attached == 0 then Ok (record given { periods = Some (record { word = number; value = None }) }) else with_periods given number attached))
     else Err UnknownOption
 with_option given Tocsv number letter attached = Err UnknownOption
+with_option given Eve number letter attached = Err UnknownOption
 
 -- with the table of a plain word
 abbrev pub set_table : Given → Option Table → Result Given WordCause
 set_table given None = Err BadValue
 set_table given (Some t) = Ok (record given { table = Some t })
 
--- with a plain word: `tobin` and `tocsv` take one
+-- with the name of a table, of which one is taken
+abbrev pub with_table : Given → List ℕ → Result Given WordCause
+with_table given word = if is_some given.table then Err Unexpected else set_table given (table_named word)
+
+-- with a number of parts: the first is that of the part, the second that of all
+abbrev pub set_part : Given → Option ℕ → Option ℕ → Result Given WordCause
+set_part given None part = Err BadValue
+set_part given (Some number) None = Ok (record given { part = Some number })
+set_part given (Some number) (Some part) = Ok (record given { parts = Some number })
+
+-- with a number of parts, of which two are taken
+abbrev pub with_part : Given → List ℕ → Result Given WordCause
+with_part given word = if is_some given.parts then Err Unexpected else set_part given (part_of_word word) given.part
+
+-- with a plain word: `tobin` and `tocsv` take a table, `eve` takes the number of a part and of all parts
 abbrev pub with_plain : Given → Tool → List ℕ → Result Given WordCause
 with_plain given Eltcalc word = Err Unexpected
-with_plain given Tobin word = if is_some given.table then Err Unexpected else set_table given (table_for Tobin word)
-with_plain given Tocsv word = if is_some given.table then Err Unexpected else set_table given (table_for Tocsv word)
+with_plain given Tobin word = with_table given word
+with_plain given Tocsv word = with_table given word
+with_plain given Eve word = with_part given word
 
 -- with a word that is an option or a plain word
 abbrev pub with_own : Given → Tool → ℕ → List ℕ → Result Given WordCause

@@ -2,6 +2,7 @@ pub mod Words
 pub mod Command
 pub mod Status
 pub mod Line
+pub mod Loading
 pub mod Outcome
 pub mod Tool
 pub mod Run
@@ -9,3 +10,4 @@ pub mod EltReading
 pub mod Given
 pub mod Converting
 pub mod Stops
+pub mod FootprintText

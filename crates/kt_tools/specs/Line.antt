@@ -6,7 +6,7 @@ use Rattle.kt_stream.specs.declared.stop.RecordCause.TheVariants.{Record}
 use Rattle.kt_stream.specs.declared.stop.StreamStop.{StreamStop}
 use Rattle.kt_stream.specs.declared.stop.StreamStop.TheVariants.{NotProfile, BadRecord, Cut, TooLong, OutOfMemory}
 use Rattle.kt_tools.specs.declared.command.WordCause.{WordCause}
-use Rattle.kt_tools.specs.declared.command.WordCause.TheVariants.{Missing, UnknownTool, UnknownOption, Repeated, NeedsValue, BadValue, Unexpected, NotTogether}
+use Rattle.kt_tools.specs.declared.command.WordCause.TheVariants.{Missing, UnknownTool, UnknownOption, Repeated, NeedsValue, BadValue, Unexpected, NotTogether, BadPart}
 use Rattle.kt_cells.specs.declared.stop.Cause.{Cause}
 use Rattle.kt_cells.specs.declared.stop.Cause.TheVariants as cause
 use Rattle.kt_tools.specs.declared.status.Refusal.{Refusal}
@@ -25,6 +25,7 @@ cause_text NeedsValue = codes "needs a value"
 cause_text BadValue = codes "bad value"
 cause_text Unexpected = codes "unexpected"
 cause_text NotTogether = codes "not together"
+cause_text BadPart = codes "bad part"
 
 -- a byte of the stream, and what is wrong there
 abbrev pub place_text : ℕ → List ℕ → List ℕ
@@ -56,6 +57,7 @@ file_text name text = name ++ (codes ": " ++ text)
 -- why a run is refused
 abbrev pub refusal_text : Refusal → List ℕ
 refusal_text (refusal.Stream stop) = stream_text stop
+refusal_text (refusal.Missing name) = file_text name (codes "missing")
 refusal_text (refusal.TooLarge name) = file_text name (codes "too large")
 refusal_text (refusal.NotProfile name) = file_text name (codes "not of this profile")
 refusal_text (refusal.WrongTable name found) = file_text name (codes "wrong table " ++ count_text found)
@@ -63,6 +65,7 @@ refusal_text (refusal.WrongVersion name found) = file_text name (codes "wrong ve
 refusal_text (refusal.CutRecord name row) = file_text name (codes "row " ++ (count_text row ++ codes ": cut record"))
 refusal_text (refusal.Bad name row column why) =
     file_text name (codes "row " ++ (count_text row ++ (codes " column " ++ (count_text column ++ (codes ": " ++ field_text why)))))
+refusal_text (refusal.Check number name row) = file_text name (codes "row " ++ (count_text row ++ (codes ": check " ++ count_text number)))
 
 -- what a status says: nothing, unless the words or the input are refused
 abbrev pub status_text : Status → List ℕ

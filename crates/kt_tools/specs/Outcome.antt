@@ -2,6 +2,20 @@
 -- The rules: docs/COMMANDS.md.
 use Rattle.std.specs.Prelude.{ℕ, Bool, true, false, List, [], ◌++◌, length, nat_le, Option, Some, None, Result, Ok, Err, if◌then◌else◌}
 use Rattle.std.specs.List.{flat_map}
+use Rattle.byteorder.specs.Endian.{little_bytes}
+use Rattle.kt_out.specs.NamedFiles.{FileMap}
+use Rattle.kt_rec.specs.Rows.{Rows}
+use Rattle.kt_rec.specs.declared.hazard.FootprintIdx.{FootprintIdx}
+use Rattle.kt_rec.specs.declared.table.Table.TheVariants as table
+use Rattle.kt_keys.specs.FirstRow.{first_where}
+use Rattle.kt_checks.specs.TableChecks.{is_misplaced}
+use Rattle.kt_eve.specs.Parts.{part_of}
+use Rattle.kt_load.specs.FileNames.{file_name_of, table_at}
+use Rattle.kt_load.specs.Loaded.{loaded}
+use Rattle.kt_load.specs.declared.stop.LoadStop.{LoadStop}
+use Rattle.kt_schema.specs.Footprint.{footprint_csv}
+use Rattle.kt_tables.specs.Lookups.{event_ids}
+use Rattle.kt_tools.specs.Loading.{need_of, load_stop}
 use Rattle.kt_stream.specs.declared.entry.Placed.{Placed}
 use Rattle.kt_stream.specs.declared.entry.SummaryRecord.{SummaryRecord}
 use Rattle.kt_stream.specs.declared.stop.StreamStop.{StreamStop}
@@ -10,10 +24,10 @@ use Rattle.kt_stream.specs.Stream.{stream_of, fault_of}
 use Rattle.kt_cells.specs.declared.stop.TableStop.{TableStop}
 use Rattle.kt_elt.specs.EventLoss.{elt_heading_text, event_loss_rows}
 use Rattle.kt_tools.specs.declared.command.Command.{Command}
-use Rattle.kt_tools.specs.declared.command.Command.TheVariants.{Eltcalc, Convert}
+use Rattle.kt_tools.specs.declared.command.Command.TheVariants.{Eltcalc, Convert, FootprintText, Eve}
 use Rattle.kt_tools.specs.declared.command.Conversion.{Conversion}
 use Rattle.kt_tools.specs.declared.command.WordStop.{WordStop}
-use Rattle.kt_tools.specs.declared.status.Refusal.TheVariants.{Stream, TooLarge}
+use Rattle.kt_tools.specs.declared.status.Refusal.TheVariants.{Stream, TooLarge, Check}
 use Rattle.kt_tools.specs.declared.status.Status.{Status}
 use Rattle.kt_tools.specs.declared.status.Status.TheVariants.{Done, Words, Refused}
 use Rattle.kt_tools.specs.Command.{command_of}
@@ -53,20 +67,51 @@ abbrev pub converted : Result (List ℕ) TableStop → Outcome
 converted (Ok bytes) = record { status = Done; output = bytes }
 converted (Err stop) = record { status = stop_status (table_stop source_name stop); output = [] }
 
--- the conversion of the source: one that is too large is refused, whatever else is wrong with it
+-- what is made of the source: one that is too large is refused, whatever else is wrong with it
+abbrev pub within_limit : (List ℕ → Outcome) → List ℕ → Outcome
+within_limit made source = if nat_le (length source) source_limit then made source else record { status = Refused (TooLarge source_name); output = [] }
+
+-- the conversion of the source
 abbrev pub convert_outcome : Conversion → List ℕ → Outcome
-convert_outcome conversion source =
-    if nat_le (length source) source_limit then converted (other_form conversion source) else record { status = Refused (TooLarge source_name); output = [] }
+convert_outcome conversion source = within_limit (λ bytes. converted (other_form conversion bytes)) source
+
+-- the text of a footprint by its index, unless a row of the index lies outside it
+abbrev pub text_unless : List FootprintIdx → List ℕ → Option ℕ → Outcome
+text_unless index bytes None = converted (footprint_csv bytes index)
+text_unless index bytes (Some row) = record { status = Refused (Check 9 (file_name_of (table_at 0 table.FootprintIdx)) row); output = [] }
+
+-- the text of the source, a footprint, by its index: the index is judged by the size of the source first
+abbrev pub footprint_text : List FootprintIdx → List ℕ → Outcome
+footprint_text index source = within_limit (λ bytes. text_unless index bytes (first_where (is_misplaced (length bytes)) index)) source
+
+-- what is done with the rows of loaded tables, or why there are none
+abbrev pub with_tables : Result Rows LoadStop → (Rows → Outcome) → Outcome
+with_tables (Ok rows) made = made rows
+with_tables (Err why) made = record { status = stop_status (load_stop why); output = [] }
+
+-- the ids of events as a stream: four bytes each, the lowest first
+abbrev pub event_bytes : List ℕ → List ℕ
+event_bytes ids = flat_map (little_bytes 4) ids
+
+-- the events of a part of the event list
+abbrev pub eve_outcome : ℕ → ℕ → FileMap → Outcome
+eve_outcome part parts files = with_tables (loaded files (need_of table.Events)) (λ rows. record { status = Done; output = event_bytes (part_of (event_ids rows) part parts) })
+
+-- the text of the source, a footprint, by its index among the tables
+abbrev pub footprint_outcome : FileMap → List ℕ → Outcome
+footprint_outcome files source = with_tables (loaded files (need_of table.FootprintIdx)) (λ rows. footprint_text rows.footprint_idx source)
 
 -- the outcome of each tool, over the named files and the source
-abbrev pub tool_outcome : Command → (List ℕ → Option (List ℕ)) → List ℕ → Outcome
+abbrev pub tool_outcome : Command → FileMap → List ℕ → Outcome
 tool_outcome (Eltcalc heading) files source = elt_outcome heading source
 tool_outcome (Convert conversion) files source = convert_outcome conversion source
+tool_outcome FootprintText files source = footprint_outcome files source
+tool_outcome (Eve part parts) files source = eve_outcome part parts files
 
-abbrev pub words_outcome : Result Command WordStop → (List ℕ → Option (List ℕ)) → List ℕ → Outcome
+abbrev pub words_outcome : Result Command WordStop → FileMap → List ℕ → Outcome
 words_outcome (Ok command) files source = tool_outcome command files source
 words_outcome (Err stop) files source = record { status = Words stop; output = [] }
 
 -- the outcome of a run with these words, named files and source
-abbrev pub outcome : List (List ℕ) → (List ℕ → Option (List ℕ)) → List ℕ → Outcome
+abbrev pub outcome : List (List ℕ) → FileMap → List ℕ → Outcome
 outcome words files source = words_outcome (command_of words) files source

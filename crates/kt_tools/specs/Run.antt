@@ -3,38 +3,25 @@
 use Rattle.std.specs.Prelude.{◌≡◌, ◌⊎◌, ℕ, List, [], ◌++◌, Bool, true, false, Option, Some, Result, Ok, Err, IfSome}
 use Rattle.kt_out.specs.Counts.{Rose, IsUntouched}
 use Rattle.kt_tools.specs.declared.command.Command.{Command}
-use Rattle.kt_tools.specs.declared.command.Command.TheVariants.{Eltcalc, Convert}
+use Rattle.kt_tools.specs.declared.command.Command.TheVariants.{Eltcalc, Convert, FootprintText, Eve}
 use Rattle.kt_tools.specs.declared.command.WordStop.{WordStop}
 use Rattle.kt_tools.specs.declared.status.Status.{Status}
 use Rattle.kt_tools.specs.declared.status.Status.TheVariants as status
 use Rattle.kt_tools.specs.Line.{status_line}
 use Rattle.kt_tools.specs.Command.{command_of}
 use Rattle.kt_tools.specs.Outcome.{tool_outcome}
-use Rattle.kt_tools.specs.Tool.{GainedFront, StreamToolEnds}
-
--- a fact about two things that are both known
-abbrev pub Known : {A B : Type 0} → Option A → Option B → (A → B → Type 0) → Type 0
-Known a b P = IfSome a (λ x. IfSome b (λ y. P x y))
-
--- the objects that a command uses
-pub record Uses : Type 0 where
-  pub inputs : Bool
-  pub outputs : Bool
-  pub source : Bool
-  pub sink : Bool
+use Rattle.kt_tools.specs.Tool.{Uses, Outside, GainedFront, ToolEnds}
 
 abbrev pub command_uses : Command → Uses
 command_uses (Eltcalc heading) = record { inputs = false; outputs = false; source = true; sink = true }
 command_uses (Convert conversion) = record { inputs = false; outputs = false; source = true; sink = true }
+command_uses FootprintText = record { inputs = true; outputs = false; source = true; sink = true }
+command_uses (Eve part parts) = record { inputs = true; outputs = false; source = false; sink = true }
 
 -- faulty words use nothing
 abbrev pub words_use : Result Command WordStop → Uses
 words_use (Ok command) = command_uses command
 words_use (Err stop) = record { inputs = false; outputs = false; source = false; sink = false }
-
--- an object that is not used is as it was
-abbrev pub Keeps : {H : Type 0} → Bool → H → H → ℕ → ℕ → Type 0
-Keeps uses held held_now count count_now = uses ≡ false → IsUntouched held held_now count count_now
 
 -- faulty words are answered by the first faulty one, unless memory is wanting, and nothing else is answered so
 pub record AnswersWords (command : Result Command WordStop) (answer : Status) : Type 0 where
@@ -68,18 +55,17 @@ abbrev pub ReadsToEnd : Uses → Status → Option (List ℕ) → Option (List �
 ReadsToEnd uses answer left left_now = answer ≡ status.Done → uses.source ≡ true → IfSome left (λ bytes. left_now ≡ Some [])
 
 -- What a run comes to before its report: faulty words leave all as it was, and a tool ends by its outcome.
-pub record EndsByTool (command : Command) (left left_now taken taken_now : Option (List ℕ)) (reads reads_now writes writes_now : ℕ) (end : Status) : Type 0 where
-  pub tool : (files : List ℕ → Option (List ℕ)) → StreamToolEnds (tool_outcome command files) left left_now taken taken_now reads reads_now writes writes_now end
+pub record EndsByTool (command : Command) (before after : Outside) (end : Status) : Type 0 where
+  pub tool : ToolEnds (command_uses command) (tool_outcome command) before after end
   pub no_words : (stop : WordStop) → end ≡ status.Words stop → ⊥
 
-pub record EndsByWords (stop : WordStop) (left left_now taken taken_now : Option (List ℕ)) (reads reads_now writes writes_now : ℕ) (end : Status) : Type 0 where
+pub record EndsByWords (stop : WordStop) (before after : Outside) (end : Status) : Type 0 where
   pub words : end ≡ status.Words stop
-  pub source : IsUntouched left left_now reads reads_now
-  pub sink : IsUntouched taken taken_now writes writes_now
+  pub same : after ≡ before
 
-abbrev pub EndsBy : Result Command WordStop → Option (List ℕ) → Option (List ℕ) → Option (List ℕ) → Option (List ℕ) → ℕ → ℕ → ℕ → ℕ → Status → Type 0
-EndsBy (Ok command) left left_now taken taken_now reads reads_now writes writes_now end = EndsByTool command left left_now taken taken_now reads reads_now writes writes_now end
-EndsBy (Err stop) left left_now taken taken_now reads reads_now writes writes_now end = EndsByWords stop left left_now taken taken_now reads reads_now writes writes_now end
+abbrev pub EndsBy : Result Command WordStop → Outside → Outside → Status → Type 0
+EndsBy (Ok command) before after end = EndsByTool command before after end
+EndsBy (Err stop) before after end = EndsByWords stop before after end
 
-abbrev pub EndsRun : List (List ℕ) → Option (List ℕ) → Option (List ℕ) → Option (List ℕ) → Option (List ℕ) → ℕ → ℕ → ℕ → ℕ → Status → Type 0
-EndsRun words left left_now taken taken_now reads reads_now writes writes_now end = EndsBy (command_of words) left left_now taken taken_now reads reads_now writes writes_now end
+abbrev pub EndsRun : List (List ℕ) → Outside → Outside → Status → Type 0
+EndsRun words before after end = EndsBy (command_of words) before after end

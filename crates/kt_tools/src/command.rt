@@ -1,7 +1,8 @@
 //! What the words of a call ask for.
 //! The rules: docs/COMMANDS.md, "Words".
 ghost use Rattle.std.specs.Prelude.{◌≡◌, ◌≤◌, ◌<◌, length};
-ghost use Rattle.kt_tools.specs.Command.{command_of, tool_named, read_tool as tool_word, needs_periods as periods_are_needed, finish_tobin as tobin_finished, finished};
+ghost use Rattle.kt_tools.specs.Command.{command_of, tool_named, read_tool as tool_word, needs_periods as periods_are_needed, finish_tobin as tobin_finished, finish_tocsv as tocsv_finished, finish_eve as eve_finished, finished};
+ghost use Rattle.kt_eve.specs.Parts.{has_part};
 
 use crate::given::Given;
 use crate::words::Words;
@@ -26,6 +27,8 @@ pub enum WordCause {
     Unexpected,
     /// The option does not go together with the other words.
     NotTogether,
+    /// There is no part of this number among so many.
+    BadPart,
 }
 
 /// The first faulty word, and why it is refused.
@@ -47,7 +50,7 @@ pub enum Conversion {
         /// The number of periods for `occurrence`, and 0 else.
         periods: u32,
     },
-    /// From file to text: each table but the footprint, whose file needs its index.
+    /// From file to text: each table but the footprint, whose text needs its index too.
     ToText {
         /// The table.
         table: Table,
@@ -64,6 +67,15 @@ pub enum Command {
     },
     /// A table in its other form.
     Convert(Conversion),
+    /// The text of the footprint, from its file and its index.
+    FootprintText,
+    /// The events of a part of the event list.
+    Eve {
+        /// The number of the part, from 1.
+        part: u32,
+        /// How many parts there are.
+        parts: u32,
+    },
 }
 
 /// A tool, by the first word.
@@ -75,6 +87,8 @@ pub enum Tool {
     Tobin,
     /// `tocsv`.
     Tocsv,
+    /// `eve`.
+    Eve,
 }
 
 /// The longest word, in bytes.
@@ -89,6 +103,8 @@ fn tool_of(word: &[u8]) -> Option<Tool>
         Some(Tool::Tobin)
     } else if word == b"tocsv".as_slice() {
         Some(Tool::Tocsv)
+    } else if word == b"eve".as_slice() {
+        Some(Tool::Eve)
     } else {
         None
     }
@@ -139,6 +155,37 @@ fn finish_tobin(given: Given, count: u32) -> Result<Command, WordStop>
     }
 }
 
+/// The conversion to a text that so many words ask for.
+fn finish_tocsv(table: Option<Table>, count: u32) -> Result<Command, WordStop>
+    requires { count < 4294967295 }
+    ensures { result ≡ tocsv_finished table count }
+{
+    match table {
+        None => refused(count + 1, WordCause::Missing),
+        Some(Table::Footprint) => Ok(Command::FootprintText),
+        Some(table) => Ok(Command::Convert(Conversion::ToText { table })),
+    }
+}
+
+/// Whether there is a part of this number among so many.
+fn is_part(part: u32, parts: u32) -> bool
+    ensures { result ≡ has_part part parts }
+{
+    1 <= part && part <= parts
+}
+
+/// The part of the event list that so many words ask for.
+fn finish_eve(given: Given, count: u32) -> Result<Command, WordStop>
+    requires { count < 4294967295 }
+    ensures { result ≡ eve_finished given.part given.parts count }
+{
+    match (given.part, given.parts) {
+        (Some(part), Some(parts)) if is_part(part, parts) => Ok(Command::Eve { part, parts }),
+        (Some(_), Some(_)) => refused(2, WordCause::BadPart),
+        _ => refused(count + 1, WordCause::Missing),
+    }
+}
+
 /// The command of a tool whose words were all read, so many with that of the tool.
 fn finish(tool: Tool, given: Given, count: u32) -> Result<Command, WordStop>
     requires { count < 4294967295 }
@@ -152,10 +199,8 @@ fn finish(tool: Tool, given: Given, count: u32) -> Result<Command, WordStop>
             heading: !given.silent,
         }),
         Tool::Tobin => finish_tobin(given, count),
-        Tool::Tocsv => match given.table {
-            None => refused(count + 1, WordCause::Missing),
-            Some(table) => Ok(Command::Convert(Conversion::ToText { table })),
-        },
+        Tool::Tocsv => finish_tocsv(given.table, count),
+        Tool::Eve => finish_eve(given, count),
     }
 }
 

@@ -2,7 +2,7 @@
 //! The rules: docs/COMMANDS.md, "tobin and tocsv".
 ghost use Rattle.std.specs.Prelude.{◌≡◌, IfOk, IfErr, Ok, Err};
 ghost use Rattle.kt_cells.specs.Stops.{Tells};
-ghost use Rattle.kt_tools.specs.Converting.{IsConversion, IsTableStop, other_form};
+ghost use Rattle.kt_tools.specs.Converting.{IsConversion, IsTableStop, other_form, table_stop as stop_of_table};
 ghost use Rattle.kt_tools.specs.Outcome.{convert_outcome};
 ghost use Rattle.kt_tools.specs.Stops.{end_status};
 ghost use Rattle.kt_tools.specs.Tool.{StreamToolEnds};
@@ -14,6 +14,7 @@ use crate::whole_source::{read_whole, source_label};
 use kt_cells::TableStop;
 use kt_money::Bytes;
 use kt_out::{Sink, Source, write_all};
+use kt_rec::Name;
 use kt_schema::{bin_to_csv, csv_to_bin};
 use std::alloc::Global;
 
@@ -29,13 +30,10 @@ fn other_form_of(alloc: Global, conversion: Conversion, bytes: &[u8]) -> Result<
     }
 }
 
-/// How the refusal of the source ends the tool.
-fn source_stop(alloc: Global, stop: TableStop) -> ToolStop
-    ensures { IsTableStop stop result }
+/// How the refusal of a table ends a tool, by the name of its file.
+pub fn table_stop(name: Name, stop: TableStop) -> ToolStop
+    ensures { result ≡ stop_of_table name stop }
 {
-    let Ok(name) = source_label(alloc) else {
-        return ToolStop::NoMemory;
-    };
     match stop {
         TableStop::NotProfile => ToolStop::Refused(Refusal::NotProfile { name }),
         TableStop::WrongTable { found } => ToolStop::Refused(Refusal::WrongTable { name, found }),
@@ -50,6 +48,16 @@ fn source_stop(alloc: Global, stop: TableStop) -> ToolStop
             cause,
         }),
         TableStop::OutOfMemory => ToolStop::NoMemory,
+    }
+}
+
+/// How the refusal of the source ends the tool.
+pub fn source_stop(alloc: Global, stop: TableStop) -> ToolStop
+    ensures { IsTableStop stop result }
+{
+    match source_label(alloc) {
+        Ok(name) => table_stop(name, stop),
+        Err(_) => ToolStop::NoMemory,
     }
 }
 

@@ -3,7 +3,7 @@
 ghost use Rattle.std.specs.Prelude.{◌≡◌, ◌≤◌, ◌<◌, length};
 ghost use Rattle.std.specs.Char.{is_ascii_digit};
 ghost use Rattle.std.specs.List.{list_all};
-ghost use Rattle.kt_tools.specs.Given.{none_given, is_awaiting, awaited_by, has_number_form, number_of_word, periods_of_word, named_in, table_named, table_for, with_periods, with_option, with_plain, with_own as own_word, with_word as word_step};
+ghost use Rattle.kt_tools.specs.Given.{none_given, is_awaiting, awaited_by, has_number_form, number_of_word, periods_of_word, part_of_word, named_in, table_named, with_periods, with_option, with_table, with_part, with_plain, with_own as own_word, with_word as word_step};
 
 use crate::command::{LONGEST_WORD, Tool, WordCause};
 use kt_rec::Table;
@@ -27,6 +27,10 @@ pub struct Given {
     pub periods: Option<PeriodsOption>,
     /// The table that a plain word named.
     pub table: Option<Table>,
+    /// The number of a part, the first plain word of `eve`.
+    pub part: Option<u32>,
+    /// How many parts there are, the second plain word of `eve`.
+    pub parts: Option<u32>,
 }
 
 /// The tables in the order of their numbers.
@@ -105,13 +109,13 @@ fn table(word: &[u8]) -> Option<Table>
     find_named(&TABLES, word)
 }
 
-/// The table that a tool takes by this word: no text is made of the footprint without its index.
-fn table_for_tool(tool: Tool, word: &[u8]) -> Option<Table>
-    ensures { result ≡ table_for tool word.now }
+/// The number of a part, or of all parts, that a word is.
+fn part_number(word: &[u8]) -> Option<u32>
+    ensures { result ≡ part_of_word word.now }
 {
-    match (tool, table(word)) {
-        (Tool::Tocsv, Some(Table::Footprint)) => None,
-        (_, found) => found,
+    match number(word) {
+        Some(value) if value <= 4_294_967_295 => Some(value as u32),
+        _ => None,
     }
 }
 
@@ -124,6 +128,8 @@ impl Given {
             silent: false,
             periods: None,
             table: None,
+            part: None,
+            parts: None,
         }
     }
 
@@ -199,16 +205,41 @@ impl Given {
         }
     }
 
+    /// With the name of a table.
+    fn with_table(self, word: &[u8]) -> Result<Self, WordCause>
+        ensures { result ≡ with_table self word.now }
+    {
+        if self.table.is_some() {
+            return Err(WordCause::Unexpected);
+        }
+        match table(word) {
+            None => Err(WordCause::BadValue),
+            table => Ok(Given { table, ..self }),
+        }
+    }
+
+    /// With the number of a part, or after it that of all parts.
+    fn with_part(self, word: &[u8]) -> Result<Self, WordCause>
+        ensures { result ≡ with_part self word.now }
+    {
+        if self.parts.is_some() {
+            return Err(WordCause::Unexpected);
+        }
+        match (part_number(word), self.part) {
+            (None, _) => Err(WordCause::BadValue),
+            (part, None) => Ok(Given { part, ..self }),
+            (parts, Some(_)) => Ok(Given { parts, ..self }),
+        }
+    }
+
     /// With a plain word.
     fn with_plain(self, tool: Tool, word: &[u8]) -> Result<Self, WordCause>
         ensures { result ≡ with_plain self tool word.now }
     {
-        if tool == Tool::Eltcalc || self.table.is_some() {
-            return Err(WordCause::Unexpected);
-        }
-        match table_for_tool(tool, word) {
-            None => Err(WordCause::BadValue),
-            table => Ok(Given { table, ..self }),
+        match tool {
+            Tool::Eltcalc => Err(WordCause::Unexpected),
+            Tool::Tobin | Tool::Tocsv => self.with_table(word),
+            Tool::Eve => self.with_part(word),
         }
     }
 

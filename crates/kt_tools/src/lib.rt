@@ -5,10 +5,13 @@ mod block;
 mod command;
 mod convert;
 mod eltcalc;
+mod eve;
+mod footprint;
 mod given;
 mod line;
 mod report;
 mod status;
+mod tables;
 #[cfg(test)]
 mod tests;
 mod tool;

@@ -26,6 +26,7 @@ fn cause_words(cause: WordCause) -> &'static [u8]
         WordCause::BadValue => b"bad value",
         WordCause::Unexpected => b"unexpected",
         WordCause::NotTogether => b"not together",
+        WordCause::BadPart => b"bad part",
     }
 }
 
@@ -106,12 +107,21 @@ fn push_field(out: &mut Bytes, column: u32, cause: Cause) -> Result<(), OutOfMem
     out.append(field_words(cause))
 }
 
+/// Appends `: check N`.
+fn push_check(out: &mut Bytes, number: u32) -> Result<(), OutOfMemory>
+    ensures { OnOk result (out.new ≡ out.old ++ (codes ": check " ++ count_text number)) }
+{
+    out.append(b": check ")?;
+    push_count(out, number as u64)
+}
+
 /// Appends why a run is refused.
 fn push_refusal(out: &mut Bytes, refusal: &Refusal) -> Result<(), OutOfMemory>
     ensures { OnOk result (out.new ≡ out.old ++ refusal_text refusal.now) }
 {
     match refusal {
         Refusal::Stream(stop) => push_stream_text(out, *stop),
+        Refusal::Missing { name } => push_file(out, name, b"missing"),
         Refusal::TooLarge { name } => push_file(out, name, b"too large"),
         Refusal::NotProfile { name } => push_file(out, name, b"not of this profile"),
         Refusal::WrongTable { name, found } => push_found(out, name, b"wrong table ", *found),
@@ -128,6 +138,10 @@ fn push_refusal(out: &mut Bytes, refusal: &Refusal) -> Result<(), OutOfMemory>
         } => {
             push_row(out, name, *row)?;
             push_field(out, *column, *cause)
+        }
+        Refusal::Check { number, name, row } => {
+            push_row(out, name, *row)?;
+            push_check(out, *number)
         }
     }
 }

@@ -14,6 +14,11 @@ use kt_stream::StreamStop;
 pub enum Refusal {
     /// The stream is refused.
     Stream(StreamStop),
+    /// There is no file of this name. Comes only where the inputs counted a miss.
+    Missing {
+        /// The table's file.
+        name: Name,
+    },
     /// A table has more than 2^30 bytes.
     TooLarge {
         /// The table's file.
@@ -55,6 +60,15 @@ pub enum Refusal {
         column: u32,
         /// What is wrong.
         cause: Cause,
+    },
+    /// A check refuses the tables.
+    Check {
+        /// The number of the check, 1 to 21.
+        number: u32,
+        /// The table's file.
+        name: Name,
+        /// The first row that is refused, counted from 1; 0 for the table as a whole.
+        row: u64,
     },
 }
 

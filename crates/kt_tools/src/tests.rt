@@ -2,13 +2,25 @@
 //! after a fault of each call.
 //! The expected values are those of docs/EXAMPLES.md.
 
+mod check_order;
+mod checks_of_keys;
+mod checks_of_outputs;
+mod checks_of_programmes;
+mod checks_of_sizes;
+mod checks_of_tables;
 mod conversions;
+mod folder;
+mod loading;
+mod lookups;
 mod portfolio;
+mod run_cases;
+mod run_files;
 mod streams;
+mod table_tools;
 mod words;
 
 use crate::{Words, run};
-use kt_out::{MemSink, MemSource, Open, SureInputs, SureOutputs};
+use kt_out::{Inputs, MemSink, MemSource, Open, SureInputs, SureOutputs};
 use std::alloc::{AllocError, AllocGlobal};
 use std::process::Abort;
 use std::thread::Threads;
@@ -38,10 +50,21 @@ pub(crate) struct Seen {
     pub(crate) line: Vec<u8>,
 }
 
-/// Runs the words over these bytes.
+/// Runs the words over these bytes, where there are no files.
 pub(crate) fn see<R: Threads + Sync + AllocGlobal>(
     rt: &R,
     words: &[&[u8]],
+    bytes: &[u8],
+    calls: &Calls,
+) -> Result<Seen, AllocError> {
+    see_over(rt, words, &mut SureInputs::new(rt.alloc()), bytes, calls)
+}
+
+/// Runs the words over these files and bytes.
+pub(crate) fn see_over<R: Threads + Sync + AllocGlobal, I: Inputs>(
+    rt: &R,
+    words: &[&[u8]],
+    inputs: &mut I,
     bytes: &[u8],
     calls: &Calls,
 ) -> Result<Seen, AllocError> {
@@ -59,7 +82,7 @@ pub(crate) fn see<R: Threads + Sync + AllocGlobal>(
         alloc,
         &Open,
         &given,
-        &mut SureInputs::new(alloc),
+        inputs,
         &mut SureOutputs::new(alloc),
         &mut source,
         &mut sink,

@@ -5,12 +5,14 @@ ghost use Rattle.kt_out.specs.Counts.{Rose};
 ghost use Rattle.kt_tools.specs.declared.status.Status.TheVariants as status;
 ghost use Rattle.kt_tools.specs.Command.{command_of};
 ghost use Rattle.kt_tools.specs.Outcome.{outcome};
-ghost use Rattle.kt_tools.specs.Tool.{Verdict, Gained};
-ghost use Rattle.kt_tools.specs.Run.{Known, AnswersWords, Keeps, words_use, SaysWhy, EndsRun, ReadsToEnd};
+ghost use Rattle.kt_tools.specs.Tool.{Verdict, Gained, Known, Keeps, IsMissing, outside};
+ghost use Rattle.kt_tools.specs.Run.{AnswersWords, words_use, SaysWhy, EndsRun, ReadsToEnd};
 
 use crate::command::{Command, read_command};
 use crate::convert::convert;
 use crate::eltcalc::eltcalc;
+use crate::eve::eve;
+use crate::footprint::footprint_to_text;
 use crate::report::report;
 use crate::status::Status;
 use crate::tool::status_of;
@@ -20,18 +22,21 @@ use std::alloc::Global;
 use std::thread::Threads;
 
 /// Runs the command up to its status, without the report of a refusal.
-fn carry_out<S: Source, K: Sink>(
+fn carry_out<I: Inputs, S: Source, K: Sink>(
     alloc: Global,
     words: &Words,
+    inputs: &mut I,
     source: &mut S,
     sink: &mut K,
 ) -> Status
-    ensures { EndsRun words.now (S.left source.old) (S.left source.new) (K.taken sink.old) (K.taken sink.new) (S.fault_count source.old) (S.fault_count source.new) (K.fault_count sink.old) (K.fault_count sink.new) result }
+    ensures { EndsRun words.now (outside (I.held inputs.old) (I.fault_count inputs.old) (I.miss_count inputs.old) (S.left source.old) (S.fault_count source.old) (K.taken sink.old) (K.fault_count sink.old)) (outside (I.held inputs.new) (I.fault_count inputs.new) (I.miss_count inputs.new) (S.left source.new) (S.fault_count source.new) (K.taken sink.new) (K.fault_count sink.new)) result }
 {
     match read_command(words) {
         Err(stop) => Status::Words(stop),
         Ok(Command::Eltcalc { heading }) => status_of(eltcalc(alloc, heading, source, sink)),
         Ok(Command::Convert(conversion)) => status_of(convert(alloc, conversion, source, sink)),
+        Ok(Command::FootprintText) => status_of(footprint_to_text(alloc, inputs, source, sink)),
+        Ok(Command::Eve { part, parts }) => status_of(eve(alloc, part, parts, inputs, sink)),
     }
 }
 
@@ -59,6 +64,9 @@ pub fn run<R: Threads + Sync, G: Gate + Sync, I: Inputs, O: Outputs, S: Source, 
     // Faults come only where an object's count of faults rose.
     ensures read { result ≡ status.ReadFault → Rose (S.fault_count source.old) (S.fault_count source.new) ⊎ Rose (I.fault_count inputs.old) (I.fault_count inputs.new) }
     ensures write { result ≡ status.WriteFault → Rose (K.fault_count sink.old) (K.fault_count sink.new) ⊎ Rose (O.fault_count outputs.old) (O.fault_count outputs.new) }
+    // So does the refusal of a file that is missing: only where the inputs counted a miss. No call changes what the files hold.
+    ensures missing { IsMissing result → Rose (I.miss_count inputs.old) (I.miss_count inputs.new) }
+    ensures files { I.held inputs.new ≡ I.held inputs.old }
     // Standard error gains the line of a refusal, and nothing else.
     ensures line { SaysWhy result (E.taken err.old) (E.taken err.new) (E.fault_count err.old) (E.fault_count err.new) }
 
@@ -71,6 +79,6 @@ pub fn run<R: Threads + Sync, G: Gate + Sync, I: Inputs, O: Outputs, S: Source, 
         × Keeps uses.sink (K.taken sink.old) (K.taken sink.new) (K.fault_count sink.old) (K.fault_count sink.new) }
     ensures at_end { ReadsToEnd (words_use (command_of words.now)) result (S.left source.old) (S.left source.new) }
 {
-    let status = carry_out(alloc, words, source, sink);
+    let status = carry_out(alloc, words, inputs, source, sink);
     report(alloc, status, err)
 }

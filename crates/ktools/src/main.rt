@@ -6,7 +6,7 @@
 mod arguments;
 
 use arguments::words_of;
-use kt_out::{Open, StdErr, StdSink, StdSource, SureInputs, SureOutputs};
+use kt_out::{DirInputs, Open, StdErr, StdSink, StdSource, SureOutputs};
 use kt_tools::{Status, run};
 use std::process::ExitCode;
 
@@ -20,7 +20,7 @@ fn main(rt: HostRuntime) -> ExitCode {
             alloc,
             &Open,
             &words,
-            &mut SureInputs::new(alloc),
+            &mut DirInputs::new(&rt, alloc),
             &mut SureOutputs::new(alloc),
             &mut StdSource::new(rt.stdin()),
             &mut StdSink::new(rt.stdout()),
