@@ -1,6 +1,7 @@
 -- Loading begins with no rows, and reads the tables that are needed.
-use Rattle.std.proofs.Common.{◌≡◌, ℕ, [], length, refl, ap, subst, zero, suc, arith, true, false, Bool, inl, inr}
-use Rattle.std.specs.Prelude.{All, slice_index_or, replicate, nat_le, ◌==◌, ◌&&◌, ◌||◌}
+use Rattle.std.proofs.Common.{◌≡◌, ℕ, List, [], length, refl, ap, sym, ◌∙◌, subst, Option, Some, None, Ok, zero, suc, arith, true, false, Bool, inl, inr}
+use Rattle.std.specs.Prelude.{All, IfSome, slice_index_or, replicate, nat_le, ◌==◌, ◌&&◌, ◌||◌}
+use Rattle.std.specs.List.{filter}
 use Rattle.std.proofs.lemmas.Bool.{eqb-true, leb-true}
 use Rattle.std.proofs.lemmas.List.Sums.{AllPass-from_list_all}
 use Rattle.kt_rec.specs.Ranges.{AreInRange}
@@ -11,7 +12,13 @@ use Rattle.kt_rec.specs.declared.table.Table.{Table}
 use Rattle.kt_rec.specs.declared.table.Table.TheVariants as table
 use Rattle.kt_rec.specs.declared.table.TableId.{TableId}
 use Rattle.kt_rec.specs.declared.table_set.TableSet.{TableSet}
+use Rattle.kt_checks.specs.Checks.{first_refusal}
+use Rattle.kt_keys.specs.declared.need.Need.{Need}
+use Rattle.kt_out.specs.NamedFiles.{FileMap}
+use Rattle.kt_tables.specs.Portfolio.{PortfolioRows}
 use Rattle.kt_load.specs.FileNames.{table_at, load_order}
+use Rattle.kt_load.specs.Loaded.{TellsLoaded, loaded, unless_refused}
+use Rattle.kt_load.specs.Reading.{with_files, go_on}
 use Rattle.kt_load.specs.Steps.{NoneOutside}
 use Rattle.kt_load.proofs.OutsideLemmas.{of_base}
 
@@ -92,3 +99,13 @@ counted set rows stage table.ReturnPeriods id h out = ap length (h.returnperiods
 -- a table that is not needed has no row
 pub only_needed : (set : TableSet) (rows : Rows) → NoneOutside set rows → (id : TableId) → IsTableId id → is_in set id ≡ false → row_count rows id ≡ 0
 only_needed set rows h id is out = counted set rows id.stage id.table is h out
+
+-- what was read makes a portfolio where no check refuses it
+pub loads_portfolio : (held : Option FileMap) (need : Need) (order : List TableId) (empty now : Rows) (portfolio : PortfolioRows) → order ≡ load_order → empty ≡ no_rows → IfSome held (λ files. with_files files (filter (is_in need.loaded) order) empty ≡ Ok now) → first_refusal now need ≡ None → portfolio ≡ record { rows = now; need = need } → IfSome held (λ files. TellsLoaded (loaded files need) (Ok portfolio))
+loads_portfolio None need order empty now portfolio ordered none read valid is = tt
+loads_portfolio (Some files) need order empty now portfolio ordered none read valid is =
+    ap (λ o. go_on (with_files files (filter (is_in need.loaded) o) no_rows) (λ rows. unless_refused rows (first_refusal rows need))) (sym ordered)
+    ∙ ap (λ e. go_on (with_files files (filter (is_in need.loaded) order) e) (λ rows. unless_refused rows (first_refusal rows need))) (sym none)
+    ∙ ap (λ r. go_on r (λ rows. unless_refused rows (first_refusal rows need))) read
+    ∙ ap (unless_refused now) valid
+    ∙ ap (λ p. Ok p.rows) (sym is)

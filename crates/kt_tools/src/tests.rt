@@ -2,21 +2,12 @@
 //! after a fault of each call.
 //! The expected values are those of docs/EXAMPLES.md.
 
-mod check_order;
-mod checks_of_keys;
-mod checks_of_outputs;
-mod checks_of_programmes;
-mod checks_of_sizes;
-mod checks_of_tables;
 mod conversions;
 mod folder;
-mod loading;
-mod lookups;
 mod portfolio;
-mod run_cases;
-mod run_files;
 mod streams;
 mod table_tools;
+mod values;
 mod words;
 
 use crate::{Words, run};
