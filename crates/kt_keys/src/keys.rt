@@ -17,7 +17,7 @@ use std::alloc::{AllocError, Global};
 use std::hash::Hash;
 
 /// Check 2 of a table whose keys are given.
-pub(crate) fn key_check<K: Copy + Eq + Hash + Drop>(
+pub(crate) fn key_check<K: Copy + Ord + Hash + Drop>(
     alloc: Global,
     need: &Need,
     table: TableId,

@@ -1,5 +1,5 @@
 //! The first row of a list that repeats a key, has an unknown key, or makes a sum too large.
-ghost use Rattle.std.specs.Prelude.{◌≡◌, ℕ, not, IfOk};
+ghost use Rattle.std.specs.Prelude.{◌≡◌, ℕ, not, true, None, IfOk};
 ghost use Rattle.std.specs.HashSet.{contains, IsFromIterResult};
 ghost use Rattle.std.specs.HashMap.{get};
 ghost use Rattle.std.specs.Map.{lookup};
@@ -11,13 +11,34 @@ use std::alloc::{AllocError, Global};
 use std::collections::{HashMap, HashSet};
 use std::hash::Hash;
 
-/// The first row, counted from 1, whose key stands in an earlier row.
-pub(crate) fn first_repeated<K: Copy + Eq + Hash + Drop>(
+/// Whether each key is above the one before it, so that none is repeated.
+fn rises<K: Copy + Ord + Drop>(keys: &[K]) -> bool
+    ensures distinct { result ≡ true → repeated_at K.eq keys.now ≡ None }
+{
+    let Some(first) = keys.first() else {
+        return true;
+    };
+    let mut last = *first;
+    for key in &keys[1..] {
+        if last.cmp(key).is_ge() {
+            return false;
+        }
+        last = *key;
+    }
+    true
+}
+
+/// The first row, counted from 1, whose key stands in an earlier row. Keys that rise, as they do in most tables, are seen in
+/// one pass and take no memory.
+pub(crate) fn first_repeated<K: Copy + Ord + Hash + Drop>(
     alloc: Global,
     keys: &[K],
 ) -> Result<Option<u64>, AllocError>
     ensures value { IfOk result (λ row. row ≡ repeated_at K.eq keys.now) }
 {
+    if rises(keys) {
+        return Ok(None);
+    }
     let mut seen: HashSet<K> = HashSet::new(alloc);
     for (index, key) in keys.iter().enumerate() {
         if !seen.insert(*key)? {
