@@ -81,6 +81,7 @@ pub(crate) fn read_record<const N: usize>(
 
 /// The values of all records with columns of these kinds, the first of which has the number `first`. An error is the
 /// first bad field, by record and then by column; then a record that is cut by the end; or want of memory.
+#[inline(always)]
 pub fn read_records<const N: usize>(
     alloc: Global,
     kinds: &[Kind; N],

@@ -14,6 +14,7 @@ use kt_rec::{Table, TableId, Tables};
 use std::alloc::{AllocError, Global};
 
 // The rows with these values.
+#[inline(always)]
 fn typed<const N: usize, T: TypedRow<N>>(
     alloc: Global,
     rows: &[[u64; N]],
@@ -22,14 +23,16 @@ fn typed<const N: usize, T: TypedRow<N>>(
     requires fits { All (FitsBytes T.kinds) rows.now }
     ensures value { IfOk result (λ list. map T.values list.items ≡ rows.now) }
 {
-    let mut list = Vec::new(alloc);
+    let mut list = Vec::with_capacity(alloc, rows.len())?;
     for row in rows {
         list.push(T::from_values(row))?;
     }
     Ok(list)
 }
 
-// The rows of a file, and the number that its header ends with.
+// The rows of a file, and the number that its header ends with. Each table has its own copy of this code, in which its kinds
+// are known.
+#[inline(always)]
 fn read_list<const N: usize, T: TypedRow<N>>(
     alloc: Global,
     schema: &Schema<N>,

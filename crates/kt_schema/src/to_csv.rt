@@ -45,6 +45,7 @@ pub(crate) fn body(header: bool, bytes: &[u8]) -> &[u8]
 }
 
 /// The values of a file, and the number that its header ends with, which lies from `least` to `most`.
+#[inline(always)]
 pub(crate) fn read_file<const N: usize>(
     alloc: Global,
     schema: &Schema<N>,
