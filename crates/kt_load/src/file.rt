@@ -1,4 +1,4 @@
-//! Reads a file in blocks.
+//! Reads the first bytes of a file.
 //! The rules: docs/REFUSALS.md, "Order".
 ghost use Rattle.std.specs.Prelude.{◌≡◌, ◌≤◌, IfOk, IfErr, OnOk, length};
 ghost use Rattle.kt_load.specs.Ends.{HasFront, IsFront, IsReadStop, KeepsInputs};

@@ -8,6 +8,6 @@ mod shared;
 mod stop;
 mod table;
 
-pub use loading::load;
+pub use loading::{load, load_order};
 pub use naming::file_name;
 pub use stop::LoadStop;

@@ -1,6 +1,7 @@
 //! Loads the tables that a command needs, and makes their checks.
 //! The rules: docs/REFUSALS.md, "Order".
-ghost use Rattle.std.specs.Prelude.{◌≡◌, IfOk, IfErr, IfSome};
+ghost use Rattle.std.specs.Prelude.{◌≡◌, IfOk, IfErr, IfSome, All};
+ghost use Rattle.kt_rec.specs.TableNames.{IsTableId};
 ghost use Rattle.kt_load.specs.Ends.{IsCounted, KeepsInputs, IsCheckEnd};
 ghost use Rattle.kt_load.specs.FileNames.{load_order as order_of_loading};
 ghost use Rattle.kt_load.specs.Loaded.{TellsLoaded, loaded};
@@ -14,9 +15,10 @@ use kt_rec::{Table, TableId, Tables};
 use kt_tables::Portfolio;
 use std::alloc::Global;
 
-/// All tables in the order of loading: the base by number, then stage by stage.
-fn load_order() -> [TableId; 43]
-    ensures { result ≡ order_of_loading }
+/// All tables in the order of loading: the base by number, then the stages 1 to 9, each with its three tables.
+pub fn load_order() -> [TableId; 43]
+    ensures value { result ≡ order_of_loading }
+    ensures ids { All IsTableId result }
 {
     macro_rules! at {
         ($stage:expr, $table:ident) => {
@@ -91,8 +93,8 @@ impl LoadStop {
 /// Loads the tables that `need` names and makes their checks.
 ///
 /// An error is, by table in the order of loading, that its file is missing, has more than 2^30 bytes, or its first bad
-/// place; then the first check that refuses; or a fault of the inputs, or want of memory. A file is read in blocks, and
-/// its bytes are dropped before the next one is read. Of the footprint only the header and the size are read.
+/// place; then the first check that refuses; or a fault of the inputs, or want of memory. A file is read in the pieces that the
+/// inputs give, and its bytes are dropped before the next one is read. Of the footprint only the header and the size are read.
 pub fn load<I: Inputs>(alloc: Global, inputs: &mut I, need: Need) -> Result<Portfolio, LoadStop>
     ensures exact { IfSome (I.held inputs.old) (λ files. TellsLoaded (loaded files need) result) }
     ensures need { IfOk result (λ portfolio. portfolio.need ≡ need) }

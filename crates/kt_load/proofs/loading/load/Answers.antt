@@ -1,14 +1,13 @@
-use Rattle.std.proofs.Common.{subst, sym, All}
+use Rattle.std.proofs.Common.{subst, sym}
 use Rattle.kt_rec.specs.Ranges.{AreInRange}
 use Rattle.kt_rec.specs.Rows.{rows_of}
-use Rattle.kt_rec.specs.TableNames.{IsTableId}
 use Rattle.kt_load.specs.Steps.{NoneOutside}
-use Rattle.kt_load.proofs.NeedLemmas.{each-is_table, no_rows-in_range, no_rows-outside, only_needed, loads_portfolio}
+use Rattle.kt_load.proofs.NeedLemmas.{no_rows-in_range, no_rows-outside, only_needed, loads_portfolio}
 use Rattle.kt_load.proofs.loading.load.Goals as goal
 
 -- src/loading.rt:106:11
 pub read_tables-requires : goal.read_tables-requires
-read_tables-requires g c = subst (All IsTableId) (sym c.load_order.ensures) each-is_table
+read_tables-requires g c = c.load_order.ensures.ids
 
 -- src/loading.rt:110:11
 pub new-requires-clause-ranges : goal.new-requires-clause-ranges
@@ -20,4 +19,4 @@ new-requires-clause-needed g c = only_needed c.args.need.loaded (rows_of c.read_
 
 -- the portfolio that was made
 pub returns-in-Ok-new-clause-exact : goal.returns-in-Ok-new-clause-exact
-returns-in-Ok-new-clause-exact g c = loads_portfolio (g.I.Inputs.held c.args.inputs.now) c.args.need c.load_order.result (rows_of c.new-tables.result) (rows_of c.read_tables.new.tables) c.in-Ok-new.portfolio c.load_order.ensures c.new-tables.ensures.absent c.in-Ok.ensures.ok c.in-Ok-new.ensures.valid c.in-Ok-new.ensures.ok
+returns-in-Ok-new-clause-exact g c = loads_portfolio (g.I.Inputs.held c.args.inputs.now) c.args.need c.load_order.result (rows_of c.new-tables.result) (rows_of c.read_tables.new.tables) c.in-Ok-new.portfolio c.load_order.ensures.value c.new-tables.ensures.absent c.in-Ok.ensures.ok c.in-Ok-new.ensures.valid c.in-Ok-new.ensures.ok

@@ -1,0 +1,6 @@
+use Rattle.kt_load.proofs.NeedLemmas.{each-is_table}
+use Rattle.kt_load.proofs.loading.load_order.Goals as goal
+
+-- each is a table of the base or of a stage
+pub returns-clause-ids : goal.returns-clause-ids
+returns-clause-ids c = each-is_table
