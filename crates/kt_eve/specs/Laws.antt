@@ -1,4 +1,5 @@
 -- What the parts of an event list make together.
+-- The rules: docs/COMMANDS.md, "eve".
 use Rattle.std.specs.Prelude.{◌≡◌, ℕ, ◌+◌, ◌-◌, ◌≤◌, List, ◌++◌, length, take, drop}
 use Rattle.std.specs.List.{flat_map, range_with_len}
 use Rattle.kt_eve.specs.Parts.{end_of_part, part_of}

@@ -1,4 +1,5 @@
 -- The parts of the event list: n parts, whose ends lie at whole quotients of its length.
+-- The rules: docs/COMMANDS.md, "eve".
 use Rattle.std.specs.Prelude.{ℕ, ◌-◌, ◌*◌, ◌/◌, Bool, ◌&&◌, nat_le, if◌then◌else◌, List, length, take, drop, Result, Ok, Err}
 use Rattle.kt_eve.specs.declared.event_part.BadPart.{BadPart}
 

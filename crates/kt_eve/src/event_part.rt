@@ -1,4 +1,5 @@
 //! One part of an event list.
+//! The rules: docs/COMMANDS.md, "eve".
 ghost use Rattle.std.specs.Prelude.{◌≡◌, ◌<◌, ◌≤◌, length};
 ghost use Rattle.std.specs.Result.{result_map_both};
 ghost use Rattle.kt_eve.specs.Parts.{end_of_part, part_or_none};

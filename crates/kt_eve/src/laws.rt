@@ -1,4 +1,5 @@
 //! Theorems over the definitions: what the parts make together.
+//! The rules: docs/COMMANDS.md, "eve".
 ghost use Rattle.kt_eve.specs.Laws.{PartsMakeAFront, PartsMakeTheEvents, PartsMeet};
 
 /// The parts 1 to n in order make the event list, for every n from 1.
