@@ -12,8 +12,6 @@ mod line;
 mod report;
 mod status;
 mod tables;
-#[cfg(test)]
-mod tests;
 mod tool;
 mod top_call;
 mod whole_source;

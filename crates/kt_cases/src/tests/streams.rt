@@ -1,8 +1,8 @@
 //! Event loss tables of summary streams.
 
-use super::{Calls, Case, SOUND, assert_cases, see};
-use crate::{Words, run};
+use super::{Calls, SOUND, see};
 use kt_out::{Inputs, Open, Outputs, SureInputs, SureOutputs, SureSink, SureSource};
+use kt_tools::{Words, run};
 use std::test::Fail;
 
 /// A summary stream: set 1 with 2 samples, and one record with mean, deviation and both samples.
@@ -33,38 +33,6 @@ fn table_by(read: u64) -> &'static [u8] {
         12..76 => HEADING,
         _ => TABLE,
     }
-}
-
-#[test]
-fn writes_the_rows_before_a_refusal_and_says_why(rt: HostRuntime) -> Result<(), Fail> {
-    let mut repeated = ONE_RECORD;
-    repeated[52] = 1;
-    let cases = [
-        Case::done(ELTCALC, &ONE_RECORD, TABLE),
-        Case::done(
-            &[b"eltcalc", b"-s"],
-            &ONE_RECORD,
-            b"1,1,1,50.00,0.00,10000.00\n1,2,1,50.00,14.14,10000.00\n",
-        ),
-        Case::done(ELTCALC, &ONE_RECORD[..12], HEADING),
-        Case::done(&[b"eltcalc", b"-s"], &ONE_RECORD[..12], b""),
-        Case::refused(
-            ELTCALC,
-            &ONE_RECORD[..45],
-            HEADING,
-            b"ktools: byte 45: cut\n",
-        ),
-        Case::refused(ELTCALC, b"", b"", b"ktools: byte 0: cut\n"),
-        Case::refused(ELTCALC, &repeated, HEADING, b"ktools: byte 12: record\n"),
-        Case::refused(
-            ELTCALC,
-            b"\x01\x00\x00\x01",
-            b"",
-            b"ktools: not of this profile\n",
-        ),
-    ];
-    assert_cases(&rt, &cases)?;
-    Ok(())
 }
 
 #[test]
