@@ -4,10 +4,7 @@ use Rattle.std.specs.Prelude.{ℕ, ◌≤◌, All}
 use Rattle.kt_rec.specs.declared.exposure.Coverage.{Coverage}
 use Rattle.kt_rec.specs.declared.exposure.Item.{Item}
 use Rattle.kt_rec.specs.declared.hazard.DamageBin.{DamageBin}
-use Rattle.kt_rec.specs.declared.hazard.Event.{Event}
-use Rattle.kt_rec.specs.declared.hazard.Random.{Random}
 use Rattle.kt_rec.specs.declared.hazard.Vulnerability.{Vulnerability}
-use Rattle.kt_rec.specs.declared.periods.ReturnPeriod.{ReturnPeriod}
 use Rattle.kt_rec.specs.Rows.{Rows}
 
 -- an id

@@ -1,6 +1,6 @@
 -- What `eve` writes.
-use Rattle.std.proofs.Common.{◌≡◌, ℕ, List, Ok, Err, Result, true, refl, ap, ◌∙◌, sym}
-use Rattle.std.specs.Prelude.{Bool, if◌then◌else◌}
+use Rattle.std.proofs.Common.{◌≡◌, ℕ, List, Ok, Err, Result, true, ap, ◌∙◌, sym}
+use Rattle.std.specs.Prelude.{if◌then◌else◌}
 use Rattle.kt_eve.specs.Parts.{has_part, part_of, part_or_none}
 use Rattle.kt_eve.specs.declared.event_part.BadPart.{BadPart}
 use Rattle.kt_rec.specs.Rows.{Rows}

@@ -1,8 +1,7 @@
 -- How the making of a footprint's text ends.
-use Rattle.std.proofs.Common.{◌≡◌, ◌⊎◌, ◌≤◌, ℕ, List, [], ◌++◌, length, All, Option, Some, None, Result, Ok, Err, refl, sym, ap, subst, ◌∙◌, inl, inr, arith}
+use Rattle.std.proofs.Common.{◌≡◌, ◌≤◌, ℕ, List, [], ◌++◌, length, All, Option, Some, None, Ok, Err, refl, sym, ap, subst, ◌∙◌, inl, inr, arith}
 use Rattle.std.specs.Prelude.{IfSome}
 use Rattle.std.proofs.lemmas.List.{append-nil}
-use Rattle.kt_out.specs.Counts.{Rose}
 use Rattle.kt_cells.specs.Stops.{Tells}
 use Rattle.kt_cells.specs.declared.stop.TableStop.{TableStop}
 use Rattle.kt_cells.specs.declared.stop.TableStop.TheVariants as table
@@ -13,12 +12,10 @@ use Rattle.kt_rec.specs.declared.hazard.FootprintIdx.{FootprintIdx}
 use Rattle.kt_schema.specs.Footprint.{IsEntryOf, footprint_csv}
 use Rattle.kt_tools.specs.Converting.{IsTableStop, ReadsWhole}
 use Rattle.kt_tools.specs.FootprintText.{IsPlaceStop, MakesText, StopsText, text_of}
-use Rattle.kt_tools.specs.Outcome.{Outcome, converted, text_unless, within_limit}
+use Rattle.kt_tools.specs.Outcome.{converted, text_unless, within_limit}
 use Rattle.kt_tools.specs.Stops.{stop_status}
 use Rattle.kt_tools.specs.Tool.{Verdict, Gained, IsMissing, StreamToolEnds}
 use Rattle.kt_tools.specs.declared.status.Refusal.{Refusal}
-use Rattle.kt_tools.specs.declared.status.Refusal.TheVariants as refusal
-use Rattle.kt_tools.specs.declared.status.Status.{Status}
 use Rattle.kt_tools.specs.declared.status.Status.TheVariants as status
 use Rattle.kt_tools.specs.declared.tool.ToolStop.{ToolStop}
 use Rattle.kt_tools.specs.declared.tool.ToolStop.TheVariants as tool

@@ -1,5 +1,5 @@
 -- How a tool ends that loads tables.
-use Rattle.std.proofs.Common.{◌≡◌, ◌⊎◌, ◌≤◌, ℕ, List, [], ◌++◌, Option, Some, None, Result, Ok, Err, refl, sym, ap, subst, ◌∙◌, true, false, inl, inr, Bool, take, drop, arith}
+use Rattle.std.proofs.Common.{◌≡◌, ℕ, List, [], ◌++◌, Option, Some, None, Result, Ok, Err, refl, sym, ap, subst, ◌∙◌, true, false, inl, inr, take, drop}
 use Rattle.std.specs.Prelude.{IfSome}
 use Rattle.std.proofs.lemmas.Bool.{true≢false}
 use Rattle.std.proofs.lemmas.List.{append-nil, take-append-drop}
@@ -8,7 +8,6 @@ use Rattle.kt_out.specs.NamedFiles.{FileMap}
 use Rattle.kt_out.specs.Writing.{WritesAll}
 use Rattle.kt_out.specs.declared.fault.Fault.{Fault}
 use Rattle.kt_out.specs.declared.fault.Fault.TheVariants.{Failed, OutOfMemory}
-use Rattle.kt_cells.specs.declared.stop.TableStop.{TableStop}
 use Rattle.kt_cells.specs.declared.stop.TableStop.TheVariants as table
 use Rattle.kt_keys.specs.declared.need.Need.{Need}
 use Rattle.kt_load.specs.Ends.{TellsLoad, IsCounted, KeepsInputs}
@@ -19,7 +18,7 @@ use Rattle.kt_rec.specs.Rows.{Rows}
 use Rattle.kt_tools.specs.Loading.{load_stop}
 use Rattle.kt_tools.specs.Outcome.{Outcome, with_tables}
 use Rattle.kt_tools.specs.Stops.{stop_status, fault_stop}
-use Rattle.kt_tools.specs.Tool.{Known, Uses, Keeps, Verdict, GainedFront, Gained, IsMissing, StreamToolEnds, ToolEnds, outside}
+use Rattle.kt_tools.specs.Tool.{Known, Uses, Verdict, GainedFront, Gained, IsMissing, StreamToolEnds, ToolEnds, outside}
 use Rattle.kt_tools.specs.declared.status.Status.{Status}
 use Rattle.kt_tools.specs.declared.status.Status.TheVariants as status
 

@@ -1,5 +1,5 @@
 -- A run's clauses, from what its tool left and what its report answered.
-use Rattle.std.proofs.Common.{◌≡◌, ◌⊎◌, ℕ, List, [], ◌++◌, Bool, Option, Some, None, Result, Ok, Err, true, false, refl, sym, ap, subst, ◌∙◌, inl, inr}
+use Rattle.std.proofs.Common.{◌≡◌, ◌⊎◌, ℕ, List, [], ◌++◌, Bool, Option, Some, None, Result, Ok, Err, true, refl, sym, ap, subst, ◌∙◌, inl, inr}
 use Rattle.std.specs.Prelude.{IfSome}
 use Rattle.std.proofs.lemmas.Bool.{true≢false, false≢true}
 use Rattle.std.proofs.lemmas.List.{append-nil}
@@ -11,7 +11,6 @@ use Rattle.kt_tools.specs.declared.command.WordStop.{WordStop}
 use Rattle.kt_tools.specs.declared.status.Status.{Status}
 use Rattle.kt_tools.specs.declared.status.Status.TheVariants.{Done, Words, Refused, ReadFault, WriteFault}
 use Rattle.kt_tools.specs.declared.status.Status.TheVariants as status
-use Rattle.kt_tools.specs.declared.status.Refusal.{Refusal}
 use Rattle.kt_tools.specs.declared.tool.ToolStop.{ToolStop}
 use Rattle.kt_tools.specs.declared.tool.ToolStop.TheVariants as tool
 use Rattle.kt_tools.specs.Outcome.{Outcome, tool_outcome, words_outcome}

@@ -6,7 +6,7 @@ use Rattle.kt_rec.specs.declared.table.Table.{Table}
 use Rattle.kt_rec.specs.declared.table.Table.TheVariants as table
 use Rattle.kt_tools.specs.declared.command.Command.{Command}
 use Rattle.kt_tools.specs.declared.command.Command.TheVariants as command
-use Rattle.kt_tools.specs.declared.command.Conversion.TheVariants.{ToFile, ToText}
+use Rattle.kt_tools.specs.declared.command.Conversion.TheVariants.{ToFile}
 use Rattle.kt_tools.specs.declared.command.Tool.{Tool}
 use Rattle.kt_tools.specs.declared.command.Tool.TheVariants as tool
 use Rattle.kt_tools.specs.declared.command.WordCause.{WordCause}

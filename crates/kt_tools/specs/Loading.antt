@@ -1,6 +1,6 @@
 -- What the tools need of the tables, and how a refusal of the tables ends a tool.
 -- The rules: docs/REFUSALS.md, "Order".
-use Rattle.std.specs.Prelude.{◌≡◌, ◌⊎◌, ◌≤◌, ℕ, false, List, IfSome}
+use Rattle.std.specs.Prelude.{false}
 use Rattle.kt_keys.specs.declared.need.Need.{Need}
 use Rattle.kt_load.specs.FileNames.{table_at}
 use Rattle.kt_load.specs.declared.stop.LoadStop.{LoadStop}

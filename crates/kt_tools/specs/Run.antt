@@ -1,6 +1,6 @@
 -- What a run says and leaves, whatever the command.
 -- The rules: docs/COMMANDS.md, docs/REFUSALS.md.
-use Rattle.std.specs.Prelude.{◌≡◌, ◌⊎◌, ℕ, List, [], ◌++◌, Bool, true, false, Option, Some, Result, Ok, Err, IfSome}
+use Rattle.std.specs.Prelude.{◌≡◌, ◌⊎◌, ℕ, List, [], ◌++◌, true, false, Option, Some, Result, Ok, Err, IfSome}
 use Rattle.kt_out.specs.Counts.{Rose, IsUntouched}
 use Rattle.kt_tools.specs.declared.command.Command.{Command}
 use Rattle.kt_tools.specs.declared.command.Command.TheVariants.{Eltcalc, Convert, FootprintText, Eve}

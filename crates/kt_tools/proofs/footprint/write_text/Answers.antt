@@ -1,5 +1,5 @@
-use Rattle.std.proofs.Common.{ap, true, sym, ◌∙◌}
-use Rattle.kt_tools.specs.FootprintText.{text_of, StopsText, MakesText}
+use Rattle.std.proofs.Common.{ap, true}
+use Rattle.kt_tools.specs.FootprintText.{text_of}
 use Rattle.kt_tools.proofs.Converting.{ends_unwritten_made}
 use Rattle.kt_tools.proofs.EltLoop.{failed_write}
 use Rattle.kt_tools.proofs.FootprintLemmas.{ends_stopped}
