@@ -1,5 +1,5 @@
 -- Values in the range of their kind.
-use Rattle.std.proofs.Common.{◌≡◌, ℕ, zero, suc, All, ◌^◌, ◌<◌, ◌≤◌, Bool, true, false, List, [], ◌∷◌, length, refl, sym, ap, ◌∙◌, inl, inr, arith, subst}
+use Rattle.std.proofs.Common.{◌≡◌, ℕ, zero, suc, ◌^◌, ◌<◌, ◌≤◌, Bool, true, false, List, [], ◌∷◌, length, refl, sym, ap, ◌∙◌, inl, inr, arith, subst}
 use Rattle.std.specs.Prelude.{Result, Ok, Err, nat_lt, if◌then◌else◌}
 use Rattle.std.proofs.lemmas.Bool.Decides.{nat_tests}
 use Rattle.std.proofs.lemmas.List.{append-nil}
@@ -8,7 +8,7 @@ use Rattle.byteorder.specs.Numbers.{length-bytes_low_first, little_number-reads_
 use Rattle.kt_text.specs.Laws.{CountsAreReadBack, AmountsAreReadBack}
 use Rattle.kt_cells.specs.Kinds.{under, width, is_ppm, is_rule, highest, within, known_rule, in_range}
 use Rattle.kt_cells.specs.Reading.{and_then, and_then-ok, rule_after}
-use Rattle.kt_cells.specs.Ranges.{IsRow, AreRows, FitsBytes}
+use Rattle.kt_cells.specs.Ranges.{IsRow, FitsBytes}
 use Rattle.kt_cells.specs.Records.{field_value}
 use Rattle.kt_cells.specs.Texts.{decimals, number_in, or_cause, text_value, value_text}
 use Rattle.kt_cells.specs.declared.kind.Kind.{Kind}
@@ -148,10 +148,3 @@ IsRow-fits rule [] values range column within = absurd (omega arith)
 IsRow-fits rule (kind ∷ kinds) [] range column within = absurd range
 IsRow-fits rule (kind ∷ kinds) (value ∷ values) range zero within = omega (arith, (in_range-ok (under rule kind) value value range.0).1, highest-fits rule kind)
 IsRow-fits rule (kind ∷ kinds) (value ∷ values) range (suc column) within = IsRow-fits (rule_after rule kind value) kinds values range.1 column (omega arith)
-
--- so do those of all rows
-pub AreRows-fit : (kinds : List Kind) (rows : List (List ℕ)) → AreRows kinds rows → All (FitsBytes kinds) rows
-unfolding AreRows
-AreRows-fit kinds [] range row d within = absurd (omega arith)
-AreRows-fit kinds (values ∷ rows) range zero d within = IsRow-fits 0 kinds values range.0
-AreRows-fit kinds (values ∷ rows) range (suc row) d within = AreRows-fit kinds rows range.1 row d (omega arith)

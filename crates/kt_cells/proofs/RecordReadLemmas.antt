@@ -1,5 +1,5 @@
 -- How far a record, and records, are read.
-use Rattle.std.proofs.Common.{◌≡◌, All, ℕ, zero, suc, ◌+◌, ◌*◌, ◌/◌, ◌<◌, ◌≤◌, List, [], ◌∷◌, ◌++◌, length, take, drop, get_or, add-one, refl, sym, ap, ◌∙◌, arith, length-drop}
+use Rattle.std.proofs.Common.{◌≡◌, ℕ, zero, suc, ◌+◌, ◌*◌, ◌/◌, ◌<◌, ◌≤◌, List, [], ◌∷◌, ◌++◌, length, take, drop, get_or, add-one, refl, sym, ap, ◌∙◌, arith, length-drop}
 use Rattle.std.specs.Prelude.{Result, Ok, Err, slice_set, false}
 use Rattle.std.proofs.lemmas.List.{length-take-le}
 use Rattle.std.proofs.Math.Nat.{div-mul-le_self}
@@ -14,8 +14,8 @@ use Rattle.kt_cells.specs.declared.stop.Cause.{Cause}
 use Rattle.kt_cells.specs.declared.stop.TableStop.{TableStop}
 use Rattle.kt_cells.specs.declared.stop.TableStop.TheVariants.{Bad}
 use Rattle.kt_cells.specs.Ranges.{AreRows, FitsBytes}
-use Rattle.kt_cells.proofs.KindLemmas.{field_value-range, AreRows-fit}
-use Rattle.kt_cells.proofs.RangeLemmas.{not_below-above, table_rows-range, table_rows-length}
+use Rattle.kt_cells.proofs.KindLemmas.{field_value-range, IsRow-fits}
+use Rattle.kt_cells.proofs.RangeLemmas.{not_below-above, row_values-range, table_rows-range, table_rows-length}
 use Rattle.kt_cells.proofs.ReadingLemmas.{RowRead, row-start, row-more, row-stops, row-end, TableRead, table-more, table-stops, table-end}
 use Rattle.kt_cells.proofs.RecordLemmas.{record_fields-field, length-record_fields, record_width-place, records_in-record, records_in-even, length-records_in, record-room, record_rows-stops}
 
@@ -93,6 +93,10 @@ record-end row first kinds bytes values rule place now = row-end field_value 0 r
 pub record-fits : (all wide row : ℕ) → row < all / wide → row * wide + wide ≤ all
 record-fits all wide row here = omega (arith, record-room wide (all / wide) row here, div-mul-le_self all wide)
 
+-- the values of a record fit the bytes of their kinds
+pub values-fit : (row first : ℕ) (kinds : List Kind) (bytes values : List ℕ) → Ok values ≡ row_values field_value 0 0 row first kinds (record_fields kinds bytes) → FitsBytes kinds values
+values-fit row first kinds bytes values read = IsRow-fits 0 kinds values (row_values-range field_value field_value-range 0 0 row first kinds (record_fields kinds bytes) values (length-record_fields kinds bytes) (sym read)).0
+
 -- records are read as far as these rows
 abbrev pub RecordsRead : ℕ → List Kind → List ℕ → List (List ℕ) → ℕ → Type 0
 RecordsRead first kinds bytes rows done = TableRead field_value false first kinds (whole_records kinds bytes) rows done 0
@@ -129,10 +133,6 @@ module _ (first : ℕ) (kinds : List Kind) (bytes : List ℕ) (rows : List (List
   -- the rows that are read are in range
   pub rows-range : AreRows kinds rows
   rows-range = (table_rows-range field_value field_value-range false first kinds 0 1 (whole_records kinds bytes) rows some (records_in-even kinds (record_count kinds bytes) bytes) read).0
-
-  -- their values fit the bytes of their kinds
-  pub rows-fit : All (FitsBytes kinds) rows
-  rows-fit = AreRows-fit kinds rows rows-range
 
   -- they are as many as there are records
   pub rows-count : length rows ≡ record_count kinds bytes

@@ -1,7 +1,7 @@
 //! The rows that records of little-endian numbers give.
 ghost use Rattle.kt_cells.specs.Ranges.{AreRows, FitsBytes};
 ghost use Rattle.kt_cells.specs.Stops.{Tells};
-ghost use Rattle.std.specs.Prelude.{◌≡◌, All, OnOk, IfOk, IfErr, Ok, Err, ◌+◌, ◌*◌, ◌<◌, ◌≤◌, ◌^◌, ◌⊎◌, length, take, drop};
+ghost use Rattle.std.specs.Prelude.{◌≡◌, ℕ, List, [], OnOk, IfErr, Ok, Err, ◌+◌, ◌*◌, ◌<◌, ◌≤◌, ◌^◌, ◌⊎◌, length, take, drop};
 ghost use Rattle.byteorder.specs.Endian.{little_number};
 ghost use Rattle.kt_cells.specs.Kinds.{width};
 ghost use Rattle.kt_cells.specs.Reading.{row_values};
@@ -9,10 +9,9 @@ ghost use Rattle.kt_cells.specs.Records.{record_width as width_of, record_count,
 
 use crate::kind::Kind;
 use crate::reader::rule_after;
+use crate::row_sink::RowSink;
 use crate::stop::TableStop;
-use crate::values::Values;
 use byteorder::{ByteOrder, LittleEndian};
-use std::alloc::Global;
 
 /// How many bytes a record with these columns takes.
 pub(crate) fn record_width(kinds: &[Kind]) -> usize
@@ -79,38 +78,38 @@ pub(crate) fn read_record<const N: usize>(
     Ok(())
 }
 
-/// The values of all records with columns of these kinds, the first of which has the number `first`. An error is the
-/// first bad field, by record and then by column; then a record that is cut by the end; or want of memory.
+/// Hands the values of all records to a sink that has no row yet, where the first column has the number `first`. An error is
+/// the first bad field, by record and then by column; then a record that is cut by the end; or want of memory.
 #[inline(always)]
-pub fn read_records<const N: usize>(
-    alloc: Global,
+pub fn read_records<const N: usize, S: RowSink<N>>(
     kinds: &[Kind; N],
     first: u32,
     bytes: &[u8],
-) -> Result<Values<N>, TableStop>
+    sink: &mut S,
+) -> Result<(), TableStop>
     requires size { N < 100 }
     requires some { 0 < N }
     requires first { first < 100 }
-    ensures value { IfOk result (λ values. record_rows first kinds.now bytes.now ≡ Ok values) }
-    ensures ranges { IfOk result (AreRows kinds.now) }
-    ensures fits { IfOk result (All (FitsBytes kinds.now)) }
-    ensures count { IfOk result (λ values. length values ≡ record_count kinds.now bytes.now) }
+    requires takes { (row : List ℕ) → FitsBytes kinds.now row → S.takes row }
+    requires empty { S.taken sink.old ≡ [] }
+    ensures value { OnOk result (record_rows first kinds.now bytes.now ≡ Ok (S.taken sink.new)) }
+    ensures ranges { OnOk result (AreRows kinds.now (S.taken sink.new)) }
+    ensures count { OnOk result (length (S.taken sink.new) ≡ record_count kinds.now bytes.now) }
 
     ensures refused { IfErr result (Tells (record_rows first kinds.now bytes.now)) }
 {
     let width = record_width(kinds);
     let count = bytes.len() / width;
-    let mut rows = Vec::with_capacity(alloc, count)?;
     let mut values = [0; N];
     for row in 0..count {
         let rest = &bytes[row * width..];
         read_record(kinds, first, row as u64 + 1, rest, &mut values)?;
-        rows.push(values)?;
+        sink.take(&values)?;
     }
     if bytes.len() % width != 0 {
         return Err(TableStop::CutRecord {
             row: count as u64 + 1,
         });
     }
-    Ok(Values { rows })
+    Ok(())
 }

@@ -1,7 +1,8 @@
 //! The values of a table's rows.
-ghost use Rattle.std.specs.Prelude.{◌≡◌, ◌<◌, length};
+ghost use Rattle.std.specs.Prelude.{◌≡◌, ◌<◌, [], length};
 ghost use Rattle.kt_cells.specs.Cells.{value_at};
 
+use std::alloc::Global;
 use std::marker::Model;
 
 /// The values of a table with `N` columns, row by row: counts, cents and parts per million, each by the kind of its
@@ -20,6 +21,16 @@ impl<const N: usize> Model for Values<N> {
 }
 
 impl<const N: usize> Values<N> {
+    /// No row yet. Takes no memory.
+    pub fn new(alloc: Global) -> Self
+        requires { N < 100 }
+        ensures value { result ≡ [] }
+    {
+        Values {
+            rows: Vec::new(alloc),
+        }
+    }
+
     /// How many rows there are.
     pub fn rows(&self) -> u64
         ensures value { result ≡ length self.now }

@@ -1,5 +1,5 @@
 -- What stands in a text is read back.
-use Rattle.std.proofs.Common.{◌≡◌, ◌≢◌, ℕ, ◌<◌, ◌≤◌, Bool, true, false, List, [], ◌∷◌, ◌++◌, length, refl, ap, ◌∙◌, arith}
+use Rattle.std.proofs.Common.{◌≡◌, ◌≢◌, ℕ, ◌≤◌, false, List, refl, ap, arith}
 use Rattle.std.specs.Prelude.{Ok}
 use Rattle.csv.specs.Reading.{strip_bom}
 use Rattle.kt_rec.specs.declared.table.Table.{Table}
@@ -8,7 +8,7 @@ use Rattle.kt_cells.specs.Laws.{LinesAreReadBack, TextsAreInRange}
 use Rattle.kt_cells.specs.Lines.{line, fields_behind}
 use Rattle.kt_cells.specs.Ranges.{AreRows, AreInOrder}
 use Rattle.kt_cells.specs.Reading.{and_then}
-use Rattle.kt_schema.specs.Conversions.{bin, bin_csv, bin_rows, canon, csv_rows}
+use Rattle.kt_schema.specs.Conversions.{bin, bin_csv, canon, csv_rows}
 use Rattle.kt_schema.specs.Laws.{FilesAreReadBack}
 use Rattle.kt_schema.specs.Tables.{is_ordered, kinds_of, first_name, names_behind, least_extra, most_extra}
 

@@ -10,7 +10,7 @@ ghost use Rattle.kt_schema.specs.Tables.{kinds_of};
 use crate::headings::heading;
 use crate::schema::{FOOTPRINT, FOOTPRINT_RECORD};
 use crate::to_csv::body;
-use kt_cells::{TableStop, push_lines_behind, read_header, read_records};
+use kt_cells::{TableStop, Values, push_lines_behind, read_header, read_records};
 use kt_money::Bytes;
 use kt_rec::{FootprintIdx, Table};
 use std::alloc::{AllocError, Global};
@@ -37,7 +37,8 @@ pub fn footprint_to_csv(
     ensures refused { IfErr result (Tells (footprint_csv bytes.now index.now)) }
 {
     let _extra = read_header(FOOTPRINT.number, 0, 0, bytes)?;
-    let values = read_records(alloc, &FOOTPRINT_RECORD, 2, body(true, bytes))?;
+    let mut values = Values::new(alloc);
+    read_records(&FOOTPRINT_RECORD, 2, body(true, bytes), &mut values)?;
     let mut out = Bytes::new(alloc);
     out.append(heading(Table::Footprint))?;
     push_events(&mut out, index, values.as_slice())?;

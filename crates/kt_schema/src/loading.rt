@@ -9,25 +9,26 @@ ghost use Rattle.kt_schema.specs.Loading.{Loads, loaded_rows};
 use crate::schema::*;
 use crate::to_csv::{MOST_PERIODS, extra, read_file};
 use crate::typed_row::TypedRow;
-use kt_cells::TableStop;
+use kt_cells::{RowSink, TableStop};
 use kt_rec::{Table, TableId, Tables};
 use std::alloc::{AllocError, Global};
 
-// The rows with these values.
-#[inline(always)]
-fn typed<const N: usize, T: TypedRow<N>>(
-    alloc: Global,
-    rows: &[[u64; N]],
-) -> Result<Vec<T>, AllocError>
-    requires size { N < 100 }
-    requires fits { All (FitsBytes T.kinds) rows.now }
-    ensures value { IfOk result (λ list. map T.values list.items ≡ rows.now) }
-{
-    let mut list = Vec::with_capacity(alloc, rows.len())?;
-    for row in rows {
-        list.push(T::from_values(row))?;
+// Rows, each made of its values.
+#[derive(Drop)]
+struct TypedRows<T> {
+    rows: Vec<T>,
+}
+
+impl<const N: usize, T: TypedRow<N>> RowSink<N> for TypedRows<T> {
+    ghost takes = { FitsBytes T.kinds };
+
+    ghost taken = { λ list. map T.values list.rows.items };
+
+    #[inline(always)]
+    fn take(&mut self, row: &[u64; N]) -> Result<(), AllocError> {
+        self.rows.push(T::from_values(row))?;
+        Ok(())
     }
-    Ok(list)
 }
 
 // The rows of a file, and the number that its header ends with. Each table has its own copy of this code, in which its kinds
@@ -48,9 +49,11 @@ fn read_list<const N: usize, T: TypedRow<N>>(
 
     ensures refused { IfErr result (Tells (body_rows schema.now.header schema.now.number least most 1 schema.now.kinds bytes.now)) }
 {
-    let (extra, values) = read_file(alloc, schema, least, most, bytes)?;
-    let list = typed(alloc, values.as_slice())?;
-    Ok((extra, list))
+    let mut list: TypedRows<T> = TypedRows {
+        rows: Vec::new(alloc),
+    };
+    let extra = read_file(schema, least, most, bytes, &mut list)?;
+    Ok((extra, list.rows))
 }
 
 /// Puts the rows of a file into the list of its table, in place of what is there, and for `occurrence` the number of

@@ -1,5 +1,5 @@
 //! From the file of a table to its text.
-ghost use Rattle.std.specs.Prelude.{◌≡◌, ◌≢◌, ◌<◌, ◌++◌, IfOk, IfErr, OnOk, Ok, All};
+ghost use Rattle.std.specs.Prelude.{◌≡◌, ◌≢◌, ◌<◌, ◌++◌, ℕ, List, [], IfOk, IfErr, OnOk, Ok};
 ghost use Rattle.kt_cells.specs.Reading.{and_then};
 ghost use Rattle.kt_cells.specs.Lines.{rows_lines};
 ghost use Rattle.kt_cells.specs.Ranges.{AreRows, FitsBytes};
@@ -8,7 +8,7 @@ ghost use Rattle.kt_schema.specs.Conversions.{bin_csv, body_rows, extra_of, body
 
 use crate::headings::heading;
 use crate::schema::*;
-use kt_cells::{HEADER_WIDTH, TableStop, Values, push_record_lines, read_header, read_records};
+use kt_cells::{HEADER_WIDTH, RowSink, TableStop, push_record_lines, read_header, read_records};
 use kt_money::Bytes;
 use kt_rec::Table;
 use std::alloc::Global;
@@ -44,26 +44,28 @@ pub(crate) fn body(header: bool, bytes: &[u8]) -> &[u8]
     }
 }
 
-/// The values of a file, and the number that its header ends with, which lies from `least` to `most`.
+/// Hands the values of a file to a sink that has no row yet: the number that its header ends with, which lies from `least`
+/// to `most`.
 #[inline(always)]
-pub(crate) fn read_file<const N: usize>(
-    alloc: Global,
+pub(crate) fn read_file<const N: usize, S: RowSink<N>>(
     schema: &Schema<N>,
     least: u32,
     most: u32,
     bytes: &[u8],
-) -> Result<(u32, Values<N>), TableStop>
+    sink: &mut S,
+) -> Result<u32, TableStop>
     requires size { N < 100 }
     requires some { 0 < N }
-    ensures value { IfOk result (λ file. body_rows schema.now.header schema.now.number least most 1 schema.now.kinds bytes.now ≡ Ok (file.0, file.1)) }
-    ensures ranges { IfOk result (λ file. AreRows schema.now.kinds file.1) }
-    ensures fits { IfOk result (λ file. All (FitsBytes schema.now.kinds) file.1) }
+    requires takes { (row : List ℕ) → FitsBytes schema.now.kinds row → S.takes row }
+    requires empty { S.taken sink.old ≡ [] }
+    ensures value { IfOk result (λ extra. body_rows schema.now.header schema.now.number least most 1 schema.now.kinds bytes.now ≡ Ok (extra, S.taken sink.new)) }
+    ensures ranges { OnOk result (AreRows schema.now.kinds (S.taken sink.new)) }
 
     ensures refused { IfErr result (Tells (body_rows schema.now.header schema.now.number least most 1 schema.now.kinds bytes.now)) }
 {
     let extra = extra(schema.header, schema.number, least, most, bytes)?;
-    let values = read_records(alloc, &schema.kinds, 1, body(schema.header, bytes))?;
-    Ok((extra, values))
+    read_records(&schema.kinds, 1, body(schema.header, bytes), sink)?;
+    Ok(extra)
 }
 
 // The text of a file, under a heading. Each table has its own copy of this code, in which its kinds are known.

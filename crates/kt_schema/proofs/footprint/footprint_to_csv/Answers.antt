@@ -8,4 +8,4 @@ pub push_events-requires-clause-entries : goal.push_events-requires-clause-entri
 unfolding record_width
 push_events-requires-clause-entries c = λ k d within.
     entry-within (length c.args.bytes.now) (length c.as_slice.result.now) (slice_index_or c.args.index.now k d) (c.requires k d within)
-    (ap length c.as_slice.ensures.value ∙ c.in_ok-values.ensures.count ∙ ap (λ body. length body / 12) c.body.ensures ∙ ap (λ n. n / 12) (length-drop 16 c.args.bytes.now))
+    (ap length c.as_slice.ensures.value ∙ c.in_ok-read_records.ensures.count ∙ ap (λ body. length body / 12) c.body.ensures ∙ ap (λ n. n / 12) (length-drop 16 c.args.bytes.now))

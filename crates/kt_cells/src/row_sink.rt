@@ -1,0 +1,36 @@
+//! What takes the rows of a table, one after the other as they are read.
+ghost use Rattle.std.specs.Prelude.{◌≡◌, ◌++◌, ◌∷◌, [], ◌<◌, OnOk};
+
+use crate::values::Values;
+use std::alloc::AllocError;
+
+/// What takes rows of `N` values as they are read, so that no list of the values stands between.
+pub trait RowSink<const N: usize> {
+    ghost use Rattle.std.specs.Prelude.{ℕ, List};
+
+    // The values that it can take as a row.
+    ghost takes: { List ℕ → Type 0 };
+
+    // The values of the rows that it has taken.
+    ghost taken: { Self → List (List ℕ) };
+
+    /// Takes a row. An error is want of memory.
+    fn take(&mut self, row: &[u64; N]) -> Result<(), AllocError>
+        requires size { N < 100 }
+        requires fits { takes row.now }
+        ensures ok { OnOk result (taken self.new ≡ taken self.old ++ row.now ∷ []) };
+}
+
+impl<const N: usize> RowSink<N> for Values<N> {
+    ghost use Rattle.std.specs.Prelude.{⊤};
+
+    ghost takes = { λ _. ⊤ };
+
+    ghost taken = { λ values. values };
+
+    #[inline(always)]
+    fn take(&mut self, row: &[u64; N]) -> Result<(), AllocError> {
+        self.rows.push(*row)?;
+        Ok(())
+    }
+}
