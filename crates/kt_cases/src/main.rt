@@ -10,8 +10,6 @@ mod lookups;
 mod rows;
 mod runs;
 mod script;
-#[cfg(test)]
-mod tests;
 
 use script::Script;
 use std::fs;
