@@ -101,6 +101,12 @@ values-fit row first kinds bytes values read = IsRow-fits 0 kinds values (row_va
 abbrev pub RecordsRead : ℕ → List Kind → List ℕ → List (List ℕ) → ℕ → Type 0
 RecordsRead first kinds bytes rows done = TableRead field_value false first kinds (whole_records kinds bytes) rows done 0
 
+-- records are read so far, and a sink has taken their rows
+pub record RecordsHanded (has_taken : List (List ℕ) → Type 0) (first : ℕ) (kinds : List Kind) (bytes : List ℕ) (done : ℕ) : Type 0 where
+  pub rows : List (List ℕ)
+  pub are_read : RecordsRead first kinds bytes rows done
+  pub are_taken : has_taken rows
+
 module _ (first : ℕ) (kinds : List Kind) (bytes : List ℕ) (rows : List (List ℕ)) (done : ℕ) (now : RecordsRead first kinds bytes rows done) (here : done < record_count kinds bytes) where
   -- the fields of the next record
   fields-here : get_or (whole_records kinds bytes) done [] ≡ record_fields kinds (drop (done * record_width kinds) bytes)

@@ -13,6 +13,10 @@ use Rattle.kt_cells.specs.declared.kind.Kind.{Kind}
 use Rattle.kt_cells.specs.declared.stop.Cause.TheVariants.{Columns}
 use Rattle.kt_cells.specs.declared.stop.TableStop.{TableStop}
 use Rattle.kt_cells.specs.declared.stop.TableStop.TheVariants.{Bad}
+use Rattle.kt_cells.specs.Ranges.{FitsBytes}
+use Rattle.kt_cells.specs.Taking.{HandsOver, HandsFront}
+use Rattle.kt_cells.proofs.KindLemmas.{IsRow-fits, text_value-range}
+use Rattle.kt_cells.proofs.RangeLemmas.{row_values-range}
 use Rattle.kt_cells.proofs.ReadingLemmas.{behind-nil, behind-in_front}
 
 -- the number of the first ragged row, where the first row has a number of its own
@@ -144,6 +148,46 @@ module _ (ordered : Bool) (kinds : List Kind) where
     pub taken-end : left ≡ [] → all ≡ Ok rows
     taken-end none =
         now.so_far ∙ ap (λ fields. behind rows (rows_from ordered kinds floor (length rows + 1) fields)) none ∙ ap (behind rows) (from-end floor (length rows + 1)) ∙ ap Ok (append-nil rows)
+
+-- the values of a row that is read fit the bytes of their kinds
+pub row-fits : (kinds : List Kind) (floor row : ℕ) (values : List ℕ) (fields : List (List ℕ)) → length fields ≡ length kinds → Ok values ≡ row_values text_value 0 floor row 1 kinds fields → FitsBytes kinds values
+row-fits kinds floor row values fields width good = IsRow-fits 0 kinds values (row_values-range text_value text_value-range 0 floor row 1 kinds fields values width (sym good)).0
+
+module _ (has_taken : List (List ℕ) → Type 0) (ordered : Bool) (kinds : List Kind) (all : Result (List (List ℕ)) TableStop) (count floor : ℕ) (left : List (List (List ℕ))) (now : HandsFront has_taken ordered kinds all count floor left) where
+  -- the rows that a sink has taken are read
+  front-taken : RowsTaken ordered kinds all now.rows floor left
+  front-taken = record { so_far = now.so_far ∙ ap (λ n. behind now.rows (rows_from ordered kinds floor (n + 1) left)) now.counted }
+
+  -- what is read of a row by its number is read of it behind those that are taken
+  same-number : (fields : List (List ℕ)) → row_values text_value 0 floor (count + 1) 1 kinds fields ≡ row_values text_value 0 floor (length now.rows + 1) 1 kinds fields
+  same-number fields = ap (λ n. row_values text_value 0 floor (n + 1) 1 kinds fields) now.counted
+
+  -- a row more is handed over
+  pub front-more : (has_taken_more : List (List ℕ) → Type 0) (values : List ℕ) (fields : List (List ℕ)) (rest : List (List (List ℕ))) → left ≡ fields ∷ rest → length fields ≡ length kinds
+      → Ok values ≡ row_values text_value 0 floor (count + 1) 1 kinds fields → ((rows : List (List ℕ)) → has_taken rows → has_taken_more (rows ++ values ∷ []))
+      → HandsFront has_taken_more ordered kinds all (count + 1) (floor_after ordered values) rest
+  front-more has_taken_more values fields rest split width good take =
+      let counted : count + 1 ≡ length (now.rows ++ values ∷ []) = omega (arith, now.counted, length-append now.rows (values ∷ [])) in
+      let more = taken-more ordered kinds all now.rows floor left front-taken values fields rest split width (good ∙ same-number fields) in
+      record {
+        rows = now.rows ++ values ∷ [];
+        counted = counted;
+        are_taken = take now.rows now.are_taken;
+        so_far = more.so_far ∙ ap (λ n. behind (now.rows ++ values ∷ []) (rows_from ordered kinds (floor_after ordered values) (n + 1) rest)) (sym counted);
+      }
+
+  -- the row at which they stop
+  pub front-stops : (stop : TableStop) (fields : List (List ℕ)) (rest : List (List (List ℕ))) → left ≡ fields ∷ rest → length fields ≡ length kinds
+      → Err stop ≡ row_values text_value 0 floor (count + 1) 1 kinds fields → all ≡ Err stop
+  front-stops stop fields rest split width bad = taken-stops ordered kinds all now.rows floor left front-taken stop fields rest split width (bad ∙ same-number fields)
+
+  -- a ragged row
+  pub front-ragged : (fields : List (List ℕ)) (rest : List (List (List ℕ))) → left ≡ fields ∷ rest → length fields ≢ length kinds → all ≡ Err (Bad (count + 1) 0 Columns)
+  front-ragged fields rest split other = taken-ragged ordered kinds all now.rows floor left front-taken fields rest split other ∙ ap (λ n. Err (Bad (n + 1) 0 Columns)) (sym now.counted)
+
+  -- all rows are handed over
+  pub front-end : left ≡ [] → HandsOver has_taken all
+  front-end none = record { rows = now.rows; are_read = taken-end ordered kinds all now.rows floor left front-taken none; are_taken = now.are_taken }
 
 -- what stops behind good rows stops with them
 pub stop-behind : {A : Type 0} (before : List A) (rest : Result (List A) TableStop) (stop : TableStop) → behind before rest ≡ Err stop → rest ≡ Err stop

@@ -1,6 +1,6 @@
 -- The rows of a text.
 use Rattle.std.proofs.Common.{◌≡◌, ◌<◌, ℕ, Bool, true, false, List, [], ◌∷◌, length, refl, sym, ap, ◌∙◌, arith, subst}
-use Rattle.std.specs.Prelude.{Result, Ok, Err, IfOk, Option, Some, None, ◌==◌, if◌then◌else◌}
+use Rattle.std.specs.Prelude.{Result, Ok, Err, OnOk, Option, Some, None, ◌==◌, if◌then◌else◌}
 use Rattle.std.proofs.lemmas.Bool.Decides.{nat_tests}
 use Rattle.std.proofs.lemmas.List.Sums.{take_while-cons}
 use Rattle.kt_text.specs.Rows.{AreEven, has_width, csv_rows, rows_of_width, first_ragged}
@@ -69,17 +69,11 @@ text_rows-ranges ordered kinds text rows some good =
     let same = unragged (first_ragged (length kinds) (csv_rows text)) found.0 rows found.2 in
     text_rows-range ordered kinds text (length kinds) (rows_of_width (length kinds) (csv_rows text)) (first_ragged (length kinds) (csv_rows text)) refl refl refl rows some (found.1 ∙ ap Ok same.1)
 
--- the rows that a call gives are in range
-pub ranges-given : (ordered : Bool) (kinds : List Kind) (text : List ℕ) (result : Result (List (List ℕ)) TableStop) → 0 < length kinds
-    → IfOk result (λ rows. text_rows ordered kinds text ≡ Ok rows) → IfOk result (AreRows kinds)
-ranges-given ordered kinds text (Ok rows) some good = (text_rows-ranges ordered kinds text rows some good).0
-ranges-given ordered kinds text (Err stop) some good = tt
-
--- and in order
-pub order-given : (ordered : Bool) (kinds : List Kind) (text : List ℕ) (result : Result (List (List ℕ)) TableStop) → 0 < length kinds
-    → IfOk result (λ rows. text_rows ordered kinds text ≡ Ok rows) → IfOk result (AreInOrder ordered 0)
-order-given ordered kinds text (Ok rows) some good = (text_rows-ranges ordered kinds text rows some good).1
-order-given ordered kinds text (Err stop) some good = tt
+-- the rows that a call hands over are in range and in order
+pub ranges-given : {A : Type 0} (ordered : Bool) (kinds : List Kind) (text : List ℕ) (result : Result A TableStop) → 0 < length kinds
+    → OnOk result ((rows : List (List ℕ)) → text_rows ordered kinds text ≡ Ok rows → AreRows kinds rows × AreInOrder ordered 0 rows)
+ranges-given ordered kinds text (Ok x) some = λ rows good. text_rows-ranges ordered kinds text rows some good
+ranges-given ordered kinds text (Err stop) some = tt
 
 -- a count is read as the number that it writes
 pub counted_value : (kind : Kind) (text : List ℕ) (value : ℕ) → decimals kind ≡ 0 → count_value text ≡ Ok value → in_range kind value ≡ text_value kind text

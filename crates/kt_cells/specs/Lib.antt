@@ -8,3 +8,4 @@ pub mod Reading
 pub mod Records
 pub mod Stops
 pub mod Texts
+pub mod Taking

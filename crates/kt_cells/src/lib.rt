@@ -24,7 +24,7 @@ pub use laws::{
 };
 pub use lines::{push_line, push_lines, push_lines_behind};
 pub use record_lines::push_record_lines;
-pub use record_writer::{push_record, push_records};
+pub use record_writer::push_record;
 pub use records::read_records;
 pub use row_sink::RowSink;
 pub use stop::{Cause, TableStop};

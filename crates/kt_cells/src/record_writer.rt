@@ -1,7 +1,7 @@
 //! Rows as records of little-endian numbers.
-ghost use Rattle.std.specs.Prelude.{◌≡◌, ◌<◌, ◌++◌, ◌⊎◌, OnOk, length};
+ghost use Rattle.std.specs.Prelude.{◌≡◌, ◌++◌, ◌⊎◌, OnOk, length};
 ghost use Rattle.byteorder.specs.Endian.{little_bytes};
-ghost use Rattle.kt_cells.specs.Records.{record_bytes, records_bytes};
+ghost use Rattle.kt_cells.specs.Records.{record_bytes};
 
 use crate::kind::Kind;
 use kt_money::Bytes;
@@ -26,21 +26,6 @@ pub fn push_record(out: &mut Bytes, kinds: &[Kind], values: &[u64]) -> Result<()
 {
     for (column, kind) in kinds.iter().enumerate() {
         push_number(out, kind.width(), values[column])?;
-    }
-    Ok(())
-}
-
-/// Appends rows as records. An error is want of memory; a part may stand in `out` then.
-pub fn push_records<const N: usize>(
-    out: &mut Bytes,
-    kinds: &[Kind; N],
-    rows: &[[u64; N]],
-) -> Result<(), AllocError>
-    requires { N < 100 }
-    ensures ok { OnOk result (out.new ≡ out.old ++ records_bytes kinds.now rows.now) }
-{
-    for row in rows {
-        push_record(out, kinds, row)?;
     }
     Ok(())
 }

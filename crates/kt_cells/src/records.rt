@@ -1,6 +1,7 @@
 //! The rows that records of little-endian numbers give.
 ghost use Rattle.kt_cells.specs.Ranges.{AreRows, FitsBytes};
 ghost use Rattle.kt_cells.specs.Stops.{Tells};
+ghost use Rattle.kt_cells.specs.Taking.{HandsOver};
 ghost use Rattle.std.specs.Prelude.{◌≡◌, ℕ, List, [], OnOk, IfErr, Ok, Err, ◌+◌, ◌*◌, ◌<◌, ◌≤◌, ◌^◌, ◌⊎◌, length, take, drop};
 ghost use Rattle.byteorder.specs.Endian.{little_number};
 ghost use Rattle.kt_cells.specs.Kinds.{width};
@@ -78,7 +79,7 @@ pub(crate) fn read_record<const N: usize>(
     Ok(())
 }
 
-/// Hands the values of all records to a sink that has no row yet, where the first column has the number `first`. An error is
+/// Hands the values of all records to a sink, where the first column has the number `first`. An error is
 /// the first bad field, by record and then by column; then a record that is cut by the end; or want of memory.
 #[inline(always)]
 pub fn read_records<const N: usize, S: RowSink<N>>(
@@ -91,10 +92,10 @@ pub fn read_records<const N: usize, S: RowSink<N>>(
     requires some { 0 < N }
     requires first { first < 100 }
     requires takes { (row : List ℕ) → FitsBytes kinds.now row → S.takes row }
-    requires empty { S.taken sink.old ≡ [] }
-    ensures value { OnOk result (record_rows first kinds.now bytes.now ≡ Ok (S.taken sink.new)) }
-    ensures ranges { OnOk result (AreRows kinds.now (S.taken sink.new)) }
-    ensures count { OnOk result (length (S.taken sink.new) ≡ record_count kinds.now bytes.now) }
+    requires fresh { S.takes_to sink.old [] sink.old }
+    ensures value { OnOk result (HandsOver (λ rows. S.takes_to sink.old rows sink.new) (record_rows first kinds.now bytes.now)) }
+    ensures ranges { OnOk result ((rows : List (List ℕ)) → record_rows first kinds.now bytes.now ≡ Ok rows → AreRows kinds.now rows) }
+    ensures count { OnOk result ((rows : List (List ℕ)) → record_rows first kinds.now bytes.now ≡ Ok rows → length rows ≡ record_count kinds.now bytes.now) }
 
     ensures refused { IfErr result (Tells (record_rows first kinds.now bytes.now)) }
 {

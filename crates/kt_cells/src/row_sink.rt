@@ -11,14 +11,14 @@ pub trait RowSink<const N: usize> {
     // The values that it can take as a row.
     ghost takes: { List ℕ → Type 0 };
 
-    // The values of the rows that it has taken.
-    ghost taken: { Self → List (List ℕ) };
+    // What was a sink has taken rows of these values, and is this sink now.
+    ghost takes_to: { Self → List (List ℕ) → Self → Type 0 };
 
     /// Takes a row. An error is want of memory.
     fn take(&mut self, row: &[u64; N]) -> Result<(), AllocError>
         requires size { N < 100 }
         requires fits { takes row.now }
-        ensures ok { OnOk result (taken self.new ≡ taken self.old ++ row.now ∷ []) };
+        ensures ok { OnOk result ((start : Self) (rows : List (List ℕ)) → takes_to start rows self.old → takes_to start (rows ++ row.now ∷ []) self.new) };
 }
 
 impl<const N: usize> RowSink<N> for Values<N> {
@@ -26,7 +26,7 @@ impl<const N: usize> RowSink<N> for Values<N> {
 
     ghost takes = { λ _. ⊤ };
 
-    ghost taken = { λ values. values };
+    ghost takes_to = { λ start rows values. values ≡ start ++ rows };
 
     #[inline(always)]
     fn take(&mut self, row: &[u64; N]) -> Result<(), AllocError> {

@@ -1,19 +1,20 @@
 //! The rows of a CSV text, read one after the other.
-ghost use Rattle.std.specs.Prelude.{◌≡◌, ◌∷◌, ◌<◌, ◌+◌, [], IfOk, IfErr, length, map, Ok};
+ghost use Rattle.std.specs.Prelude.{◌≡◌, ◌∷◌, ◌<◌, ◌≤◌, ◌+◌, ◌^◌, ℕ, List, [], IfOk, IfErr, OnOk, length, map, Ok};
 ghost use Rattle.csv.specs.Records.{fields_of};
 ghost use Rattle.kt_text.specs.PlainText.{csv_records, cut};
-ghost use Rattle.kt_text.specs.Records.{StandsBetween, records_left};
+ghost use Rattle.kt_text.specs.Records.{StandsBetween, bytes_left, records_left};
 ghost use Rattle.kt_text.specs.Rows.{csv_rows};
 ghost use Rattle.kt_cells.specs.Texts.{text_value, text_rows, rows_from};
 ghost use Rattle.kt_cells.specs.Stops.{Tells};
 ghost use Rattle.kt_cells.specs.Reading.{behind, row_values};
-ghost use Rattle.kt_cells.specs.Ranges.{AreRows, AreInOrder};
+ghost use Rattle.kt_cells.specs.Ranges.{AreRows, AreInOrder, FitsBytes};
+ghost use Rattle.kt_cells.specs.Taking.{HandsOver, HandsFront};
 
 use crate::cells::Cells;
 use crate::kind::Kind;
 use crate::reader::{floor_after, read_row};
+use crate::row_sink::RowSink;
 use crate::stop::{Cause, TableStop};
-use crate::values::Values;
 use csv::{ByteRecord, Reader};
 use kt_text::{PlainRow, behind_heading, next_record, plain_row, reader_of, record_field};
 use std::alloc::Global;
@@ -57,42 +58,43 @@ impl<'a, const N: usize> Cells<N> for RecordRow<'a, N> {
     }
 }
 
-// The rows at the front of a text that stand there without quotes.
-#[derive(Drop)]
-struct PlainRows<'a, const N: usize> {
-    rows: Vec<[u64; N]>,
-    // The least first value that the next row may have.
+// How far the rows of a text are read: how many, and the least first value that the next one may have.
+#[derive(Clone, Copy, Drop)]
+struct PlainFront<'a> {
+    count: u64,
     floor: u64,
     // The text behind them.
     rest: &'a [u8],
 }
 
-// The values of the rows at the front of a text that stand there without quotes.
+// Hands over the rows at the front of a text that stand there without quotes.
 #[inline(always)]
-fn read_plain_rows<'a, const N: usize>(
-    alloc: Global,
+fn read_plain_rows<'a, const N: usize, S: RowSink<N>>(
     text: &'a [u8],
     kinds: &[Kind; N],
     ordered: bool,
-) -> Result<PlainRows<'a, N>, TableStop>
+    sink: &mut S,
+) -> Result<PlainFront<'a>, TableStop>
     requires size { N < 100 }
     requires some { 0 < N }
-    ensures value { IfOk result (λ front. rows_from ordered kinds.now 0 1 (csv_records text.now)
-        ≡ behind front.rows.items (rows_from ordered kinds.now front.floor (length front.rows.items + 1) (csv_records front.rest.now))) }
+    requires takes { (row : List ℕ) → FitsBytes kinds.now row → S.takes row }
+    requires fresh { S.takes_to sink.old [] sink.old }
+    ensures value { IfOk result (λ front. HandsFront (λ rows. S.takes_to sink.old rows sink.new) ordered kinds.now (rows_from ordered kinds.now 0 1 (csv_records text.now)) front.count front.floor (csv_records front.rest.now)) }
+    ensures within { IfOk result (λ front. front.count + length front.rest.now ≤ length text.now) }
 
     ensures refused { IfErr result (Tells (rows_from ordered kinds.now 0 1 (csv_records text.now))) }
 {
-    let mut rows = Vec::new(alloc);
+    let mut count = 0;
     let mut floor = 0;
     let mut rest = text;
     while let Some(row) = plain_row(rest) {
-        let number = rows.len() as u64 + 1;
-        let values = read_row(&row, kinds, 1, 0, number, floor)?;
+        count += 1;
+        let values = read_row(&row, kinds, 1, 0, count, floor)?;
         floor = floor_after(ordered, &values);
-        rows.push(values)?;
+        sink.take(&values)?;
         rest = row.rest();
     }
-    Ok(PlainRows { rows, floor, rest })
+    Ok(PlainFront { count, floor, rest })
 }
 
 // The values of a record with as many fields as there are columns.
@@ -110,110 +112,122 @@ fn read_record<const N: usize>(
     read_row(&row, kinds, 1, 0, number, floor)
 }
 
-// The rows that were read, and those that the reader has left, the first of them not below the floor.
+// Hands over the rows that the reader has left, behind so many that were read, the first of them not below the floor.
 #[inline(never)]
-fn read_rows_left<const N: usize>(
+fn read_rows_left<const N: usize, S: RowSink<N>>(
     reader: &mut Reader<&[u8]>,
     fields: &mut ByteRecord,
-    before: Vec<[u64; N]>,
+    before: u64,
     least: u64,
     kinds: &[Kind; N],
     ordered: bool,
-) -> Result<Values<N>, TableStop>
+    sink: &mut S,
+) -> Result<(), TableStop>
     requires size { N < 100 }
     requires some { 0 < N }
     requires stands { StandsBetween reader.old }
-    ensures value { IfOk result (λ values. behind before.entry.items (rows_from ordered kinds.now least (length before.entry.items + 1) (records_left reader.old)) ≡ Ok values) }
+    requires room { before + bytes_left reader.old < 2 ^ 64 }
+    requires takes { (row : List ℕ) → FitsBytes kinds.now row → S.takes row }
+    requires before { (start : S) × (rows : List (List ℕ)) × (before ≡ length rows) × S.takes_to start rows sink.old }
+    ensures value { OnOk result ((start : S) (rows : List (List ℕ)) → before ≡ length rows → S.takes_to start rows sink.old → HandsOver (λ all. S.takes_to start all sink.new) (behind rows (rows_from ordered kinds.now least (before + 1) (records_left reader.old)))) }
 
-    ensures refused { IfErr result (Tells (rows_from ordered kinds.now least (length before.entry.items + 1) (records_left reader.old))) }
+    ensures refused { IfErr result (Tells (rows_from ordered kinds.now least (before + 1) (records_left reader.old))) }
 {
-    let mut rows = before;
+    let mut count = before;
     let mut floor = least;
     while next_record(reader, fields)? {
-        let number = rows.len() as u64 + 1;
+        count += 1;
         if fields.len() != N {
             return Err(TableStop::Bad {
-                row: number,
+                row: count,
                 column: 0,
                 cause: Cause::Columns,
             });
         }
-        let values = read_record(fields, kinds, number, floor)?;
+        let values = read_record(fields, kinds, count, floor)?;
         floor = floor_after(ordered, &values);
-        rows.push(values)?;
+        sink.take(&values)?;
     }
-    Ok(Values { rows })
+    Ok(())
 }
 
-// The values of all records of a text.
+// Hands over the values of all records of a text.
 #[inline(always)]
-fn read_all_rows<const N: usize>(
+fn read_all_rows<const N: usize, S: RowSink<N>>(
     alloc: Global,
     text: &[u8],
     kinds: &[Kind; N],
     ordered: bool,
-) -> Result<Values<N>, TableStop>
+    sink: &mut S,
+) -> Result<(), TableStop>
     requires size { N < 100 }
     requires some { 0 < N }
-    ensures value { IfOk result (λ values. rows_from ordered kinds.now 0 1 (csv_records text.now) ≡ Ok values) }
+    requires takes { (row : List ℕ) → FitsBytes kinds.now row → S.takes row }
+    requires fresh { S.takes_to sink.old [] sink.old }
+    ensures value { OnOk result (HandsOver (λ rows. S.takes_to sink.old rows sink.new) (rows_from ordered kinds.now 0 1 (csv_records text.now))) }
 
     ensures refused { IfErr result (Tells (rows_from ordered kinds.now 0 1 (csv_records text.now))) }
 {
-    let front = read_plain_rows(alloc, text, kinds, ordered)?;
+    let front = read_plain_rows(text, kinds, ordered, sink)?;
     let mut reader = reader_of(alloc, front.rest);
     let mut fields = ByteRecord::new(alloc);
     read_rows_left(
         &mut reader,
         &mut fields,
-        front.rows,
+        front.count,
         front.floor,
         kinds,
         ordered,
+        sink,
     )
 }
 
-// The values of all records of a text but the first.
+// Hands over the values of all records of a text but the first.
 #[inline(never)]
-fn read_rows_behind_heading<const N: usize>(
+fn read_rows_behind_heading<const N: usize, S: RowSink<N>>(
     alloc: Global,
     text: &[u8],
     kinds: &[Kind; N],
     ordered: bool,
-) -> Result<Values<N>, TableStop>
+    sink: &mut S,
+) -> Result<(), TableStop>
     requires size { N < 100 }
     requires some { 0 < N }
-    ensures value { IfOk result (λ values. rows_from ordered kinds.now 0 1 (csv_rows text.now) ≡ Ok values) }
+    requires takes { (row : List ℕ) → FitsBytes kinds.now row → S.takes row }
+    requires fresh { S.takes_to sink.old [] sink.old }
+    ensures value { OnOk result (HandsOver (λ rows. S.takes_to sink.old rows sink.new) (rows_from ordered kinds.now 0 1 (csv_rows text.now))) }
 
     ensures refused { IfErr result (Tells (rows_from ordered kinds.now 0 1 (csv_rows text.now))) }
 {
     let mut reader = reader_of(alloc, text);
     let mut fields = ByteRecord::new(alloc);
-    let rows = Vec::new(alloc);
     if !next_record(&mut reader, &mut fields)? {
-        return Ok(Values { rows });
+        return Ok(());
     }
-    read_rows_left(&mut reader, &mut fields, rows, 0, kinds, ordered)
+    read_rows_left(&mut reader, &mut fields, 0, 0, kinds, ordered, sink)
 }
 
-/// The values of a CSV text, its heading left out. An error is the first bad place: by row, in a row the number of its
-/// fields first, then by column; or want of memory.
+/// Hands the values of a CSV text, its heading left out, to a sink. An error is the first bad place: by
+/// row, in a row the number of its fields first, then by column; or want of memory.
 #[inline(always)]
-pub fn read_text<const N: usize>(
+pub fn read_text<const N: usize, S: RowSink<N>>(
     alloc: Global,
     text: &[u8],
     kinds: &[Kind; N],
     ordered: bool,
-) -> Result<Values<N>, TableStop>
+    sink: &mut S,
+) -> Result<(), TableStop>
     requires size { N < 100 }
     requires some { 0 < N }
-    ensures value { IfOk result (λ values. text_rows ordered kinds.now text.now ≡ Ok values) }
-    ensures ranges { IfOk result (AreRows kinds.now) }
-    ensures ordered { IfOk result (AreInOrder ordered 0) }
+    requires takes { (row : List ℕ) → FitsBytes kinds.now row → S.takes row }
+    requires fresh { S.takes_to sink.old [] sink.old }
+    ensures value { OnOk result (HandsOver (λ rows. S.takes_to sink.old rows sink.new) (text_rows ordered kinds.now text.now)) }
+    ensures ranges { OnOk result ((rows : List (List ℕ)) → text_rows ordered kinds.now text.now ≡ Ok rows → AreRows kinds.now rows × AreInOrder ordered 0 rows) }
 
     ensures refused { IfErr result (Tells (text_rows ordered kinds.now text.now)) }
 {
     match behind_heading(text) {
-        Some(rest) => read_all_rows(alloc, rest, kinds, ordered),
-        None => read_rows_behind_heading(alloc, text, kinds, ordered),
+        Some(rest) => read_all_rows(alloc, rest, kinds, ordered, sink),
+        None => read_rows_behind_heading(alloc, text, kinds, ordered, sink),
     }
 }

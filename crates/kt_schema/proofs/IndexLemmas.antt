@@ -1,11 +1,11 @@
--- How far the index of the footprint, and its records, are written.
+-- How far the index of the footprint is written.
 use Rattle.std.proofs.Common.{◌≡◌, ℕ, ◌+◌, ◌*◌, ◌<◌, true, false, List, [], ◌∷◌, ◌++◌, length, drop, get_or, refl, sym, ap, ◌∙◌, arith, append_assoc, add-one, drop-cons}
-use Rattle.std.specs.Prelude.{◌==◌, map}
+use Rattle.std.specs.Prelude.{◌==◌}
 use Rattle.std.proofs.lemmas.Bool.Decides.{nat_tests}
 use Rattle.std.proofs.lemmas.List.{append-nil}
 use Rattle.std.proofs.Math.Seq.{drop-length}
 use Rattle.kt_cells.specs.Records.{record_bytes, records_bytes}
-use Rattle.kt_rec.specs.declared.table.Table.TheVariants.{Footprint, FootprintIdx}
+use Rattle.kt_rec.specs.declared.table.Table.TheVariants.{FootprintIdx}
 use Rattle.kt_schema.specs.Index.{index_of, index_from, index_row, event_of, first_offset, footprint_width}
 use Rattle.kt_schema.specs.Tables.{kinds_of}
 
@@ -88,24 +88,3 @@ pub index-some : (rows : List (List ℕ)) → 0 < length rows → index_of rows 
 unfolding index_of
 index-some [] some = absurd (omega arith)
 index-some (row ∷ rows) some = refl
-
--- a record more of the footprint
-pub footprint-more : (start out more : List ℕ) (rows : List (List ℕ)) (done : ℕ) (row d : List ℕ) → row ≡ get_or rows done d → done < length rows
-    → out ++ records_bytes (drop 1 (kinds_of Footprint)) (map (drop 1) (drop done rows)) ≡ start ++ records_bytes (drop 1 (kinds_of Footprint)) (map (drop 1) rows)
-    → more ≡ out ++ record_bytes (drop 1 (kinds_of Footprint)) (drop 1 row)
-    → more ++ records_bytes (drop 1 (kinds_of Footprint)) (map (drop 1) (drop (done + 1) rows)) ≡ start ++ records_bytes (drop 1 (kinds_of Footprint)) (map (drop 1) rows)
-unfolding records_bytes
-footprint-more start out more rows done row d here within now written =
-    let step : drop done rows ≡ row ∷ drop (done + 1) rows = drop-step rows done d within ∙ ap (λ r. r ∷ drop (done + 1) rows) (sym here) in
-    let rest : List ℕ = records_bytes (drop 1 (kinds_of Footprint)) (map (drop 1) (drop (done + 1) rows)) in
-    ap (λ text. text ++ rest) written
-    ∙ append_assoc out (record_bytes (drop 1 (kinds_of Footprint)) (drop 1 row)) rest
-    ∙ ap (λ left. out ++ records_bytes (drop 1 (kinds_of Footprint)) (map (drop 1) left)) (sym step) ∙ now
-
--- no record is left
-pub footprint-end : (start out : List ℕ) (rows : List (List ℕ)) → out ++ records_bytes (drop 1 (kinds_of Footprint)) (map (drop 1) (drop (length rows) rows)) ≡ start ++ records_bytes (drop 1 (kinds_of Footprint)) (map (drop 1) rows)
-    → out ≡ start ++ records_bytes (drop 1 (kinds_of Footprint)) (map (drop 1) rows)
-unfolding records_bytes
-footprint-end start out rows now =
-    let none : drop (length rows) rows ≡ [] = drop-length rows in
-    sym (append-nil out) ∙ ap (λ left. out ++ records_bytes (drop 1 (kinds_of Footprint)) (map (drop 1) left)) (sym none) ∙ now

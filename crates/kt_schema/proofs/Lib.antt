@@ -2,3 +2,4 @@ pub mod IndexLemmas
 pub mod FootprintLemmas
 pub mod FileLemmas
 pub mod CanonLemmas
+pub mod SinkLemmas

@@ -1,13 +1,11 @@
-//! The index of the footprint, and the records of the footprint file.
-ghost use Rattle.std.specs.Prelude.{◌≡◌, ◌<◌, ◌++◌, ◌∷◌, [], OnOk, map, drop};
+//! The index of the footprint.
+ghost use Rattle.std.specs.Prelude.{◌≡◌, ◌<◌, ◌++◌, ◌∷◌, [], OnOk};
 ghost use Rattle.byteorder.specs.Endian.{little_bytes};
 ghost use Rattle.kt_cells.specs.Records.{record_bytes, records_bytes};
-ghost use Rattle.kt_rec.specs.declared.table.Table.TheVariants.{Footprint, FootprintIdx};
+ghost use Rattle.kt_rec.specs.declared.table.Table.TheVariants.{FootprintIdx};
 ghost use Rattle.kt_schema.specs.Index.{index_of, index_from, index_row, first_offset, footprint_width};
 ghost use Rattle.kt_schema.specs.Tables.{kinds_of};
 
-use crate::schema::FOOTPRINT_RECORD;
-use kt_cells::push_record;
 use kt_money::Bytes;
 use std::alloc::AllocError;
 
@@ -57,16 +55,5 @@ fn push_entries(out: &mut Bytes, first: u64, rows: &[[u64; 4]]) -> Result<(), Al
         }
     }
     push_entry(out, event, offset, size)?;
-    Ok(())
-}
-
-/// Appends the records of footprint rows, which leave the event out. An error is want of memory; a part may stand in
-/// `out` then.
-pub(crate) fn push_footprint(out: &mut Bytes, rows: &[[u64; 4]]) -> Result<(), AllocError>
-    ensures ok { OnOk result (out.new ≡ out.old ++ records_bytes (drop 1 (kinds_of Footprint)) (map (drop 1) rows.now)) }
-{
-    for row in rows {
-        push_record(out, &FOOTPRINT_RECORD, &row[1..])?;
-    }
     Ok(())
 }

@@ -6,6 +6,7 @@ mod headings;
 mod index;
 mod laws;
 mod loading;
+mod record_sinks;
 mod rows;
 mod schema;
 mod shared;

@@ -1,5 +1,5 @@
 //! From the files of the tables to their rows.
-ghost use Rattle.std.specs.Prelude.{◌≡◌, ◌<◌, ◌≤◌, IfOk, IfErr, OnOk, OnErr, Ok, All, map};
+ghost use Rattle.std.specs.Prelude.{◌≡◌, ◌++◌, ◌<◌, ◌≤◌, IfOk, IfErr, OnOk, OnErr, Ok, All, map};
 ghost use Rattle.kt_cells.specs.Ranges.{AreRows, FitsBytes};
 ghost use Rattle.kt_cells.specs.Stops.{Tells};
 ghost use Rattle.kt_rec.specs.TableNames.{IsTableId};
@@ -22,7 +22,7 @@ struct TypedRows<T> {
 impl<const N: usize, T: TypedRow<N>> RowSink<N> for TypedRows<T> {
     ghost takes = { FitsBytes T.kinds };
 
-    ghost taken = { λ list. map T.values list.rows.items };
+    ghost takes_to = { λ start rows list. map T.values list.rows.items ≡ map T.values start.rows.items ++ rows };
 
     #[inline(always)]
     fn take(&mut self, row: &[u64; N]) -> Result<(), AllocError> {

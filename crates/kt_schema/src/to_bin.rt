@@ -5,9 +5,10 @@ ghost use Rattle.kt_cells.specs.Reading.{and_then};
 ghost use Rattle.kt_cells.specs.Stops.{Tells};
 ghost use Rattle.kt_schema.specs.Conversions.{csv_bin, file_bytes, footprint_bytes, index_bytes, header_part};
 
-use crate::index::{push_footprint, push_index};
+use crate::index::push_index;
+use crate::record_sinks::{FootprintRecords, Records};
 use crate::schema::*;
-use kt_cells::{TableStop, push_header, push_records, read_text};
+use kt_cells::{TableStop, Values, push_header, read_text};
 use kt_money::Bytes;
 use kt_rec::Table;
 use std::alloc::{AllocError, Global};
@@ -42,11 +43,12 @@ fn converted<const N: usize>(
 
     ensures refused { IfErr result (Tells (and_then (text_rows false schema.now.kinds text.now) (λ rows. Ok (file_bytes schema.now.header schema.now.number extra schema.now.kinds rows)))) }
 {
-    let values = read_text(alloc, text, &schema.kinds, false)?;
     let mut out = Bytes::new(alloc);
     push_header_part(&mut out, schema.header, schema.number, extra)?;
-    push_records(&mut out, &schema.kinds, values.as_slice())?;
-    Ok(out)
+    let kinds = &schema.kinds;
+    let mut records = Records { kinds, out };
+    read_text(alloc, text, kinds, false, &mut records)?;
+    Ok(records.out)
 }
 
 /// The file of a table, from its text. `extra` is the number of periods for `occurrence`, and 0 else.
@@ -89,11 +91,11 @@ fn footprint(alloc: Global, text: &[u8]) -> Result<Bytes, TableStop>
 
     ensures refused { IfErr result (Tells (and_then (text_rows true FOOTPRINT.kinds text.now) (λ rows. Ok (footprint_bytes rows)))) }
 {
-    let values = read_text(alloc, text, &FOOTPRINT.kinds, true)?;
     let mut out = Bytes::new(alloc);
     push_header(&mut out, FOOTPRINT.number, 0)?;
-    push_footprint(&mut out, values.as_slice())?;
-    Ok(out)
+    let mut records = FootprintRecords { out };
+    read_text(alloc, text, &FOOTPRINT.kinds, true, &mut records)?;
+    Ok(records.out)
 }
 
 // The index of a footprint file.
@@ -102,7 +104,8 @@ fn footprint_index(alloc: Global, text: &[u8]) -> Result<Bytes, TableStop>
 
     ensures refused { IfErr result (Tells (and_then (text_rows true FOOTPRINT.kinds text.now) (λ rows. Ok (index_bytes rows)))) }
 {
-    let values = read_text(alloc, text, &FOOTPRINT.kinds, true)?;
+    let mut values = Values::new(alloc);
+    read_text(alloc, text, &FOOTPRINT.kinds, true, &mut values)?;
     let mut out = Bytes::new(alloc);
     push_index(&mut out, values.as_slice())?;
     Ok(out)

@@ -2,9 +2,9 @@
 ghost use Rattle.std.specs.Prelude.{◌≡◌, ◌≢◌, ◌<◌, ◌++◌, ℕ, List, [], IfOk, IfErr, OnOk, Ok};
 ghost use Rattle.kt_cells.specs.Reading.{and_then};
 ghost use Rattle.kt_cells.specs.Lines.{rows_lines};
-ghost use Rattle.kt_cells.specs.Ranges.{AreRows, FitsBytes};
+ghost use Rattle.kt_cells.specs.Ranges.{FitsBytes};
 ghost use Rattle.kt_cells.specs.Stops.{Tells};
-ghost use Rattle.kt_schema.specs.Conversions.{bin_csv, body_rows, extra_of, body_of};
+ghost use Rattle.kt_schema.specs.Conversions.{HandsFile, bin_csv, body_rows, extra_of, body_of};
 
 use crate::headings::heading;
 use crate::schema::*;
@@ -44,8 +44,7 @@ pub(crate) fn body(header: bool, bytes: &[u8]) -> &[u8]
     }
 }
 
-/// Hands the values of a file to a sink that has no row yet: the number that its header ends with, which lies from `least`
-/// to `most`.
+/// Hands the values of a file to a sink: the number that its header ends with, which lies from `least` to `most`.
 #[inline(always)]
 pub(crate) fn read_file<const N: usize, S: RowSink<N>>(
     schema: &Schema<N>,
@@ -57,9 +56,8 @@ pub(crate) fn read_file<const N: usize, S: RowSink<N>>(
     requires size { N < 100 }
     requires some { 0 < N }
     requires takes { (row : List ℕ) → FitsBytes schema.now.kinds row → S.takes row }
-    requires empty { S.taken sink.old ≡ [] }
-    ensures value { IfOk result (λ extra. body_rows schema.now.header schema.now.number least most 1 schema.now.kinds bytes.now ≡ Ok (extra, S.taken sink.new)) }
-    ensures ranges { OnOk result (AreRows schema.now.kinds (S.taken sink.new)) }
+    requires fresh { S.takes_to sink.old [] sink.old }
+    ensures value { IfOk result (HandsFile (λ rows. S.takes_to sink.old rows sink.new) schema.now.kinds (body_rows schema.now.header schema.now.number least most 1 schema.now.kinds bytes.now)) }
 
     ensures refused { IfErr result (Tells (body_rows schema.now.header schema.now.number least most 1 schema.now.kinds bytes.now)) }
 {

@@ -1,5 +1,5 @@
-use Rattle.kt_cells.proofs.RecordReadLemmas.{RecordsRead}
+use Rattle.kt_cells.proofs.RecordReadLemmas.{RecordsHanded}
 use Rattle.kt_cells.proofs.records.read_records.Given as goal
 
 abbrev pub invariant-loop-row : goal.invariant-loop-row
-invariant-loop-row g l = RecordsRead l.first l.kinds l.bytes (g.S.RowSink.taken l.sink) l.row
+invariant-loop-row g l = RecordsHanded (λ rows. g.S.RowSink.takes_to l.fn.sink rows l.sink) l.first l.kinds l.bytes l.row

@@ -1,11 +1,14 @@
-use Rattle.std.proofs.Common.{length}
+use Rattle.std.proofs.Common.{◌+◌, ◌≤◌, length}
 use Rattle.kt_text.specs.PlainText.{csv_records}
+use Rattle.kt_cells.specs.Taking.{HandsFront}
 use Rattle.kt_cells.specs.Texts.{rows_from}
-use Rattle.kt_cells.proofs.StreamLemmas.{RowsTaken}
 use Rattle.kt_cells.proofs.text_rows.read_plain_rows.Given as goal
 
 abbrev pub invariant-loop-row : goal.invariant-loop-row
-invariant-loop-row g l = RowsTaken l.ordered l.kinds (rows_from l.ordered l.kinds 0 1 (csv_records l.fn.text)) l.rows.items l.floor (csv_records l.rest)
+invariant-loop-row g l = record {
+  within : l.count + length l.rest ≤ length l.fn.text;
+  front : HandsFront (λ rows. g.S.RowSink.takes_to l.fn.sink rows l.sink) l.ordered l.kinds (rows_from l.ordered l.kinds 0 1 (csv_records l.fn.text)) l.count l.floor (csv_records l.rest);
+}
 
 abbrev pub decreases-loop-row : goal.decreases-loop-row
 decreases-loop-row g l = length l.rest

@@ -1,8 +1,8 @@
-use Rattle.std.proofs.Common.{◌≡◌, ◌<◌, length, ap, ◌∙◌, arith}
+use Rattle.std.proofs.Common.{◌≡◌, ap, ◌∙◌, arith}
 use Rattle.kt_text.specs.PlainText.{csv_records}
 use Rattle.kt_cells.specs.Texts.{text_rows, rows_from}
 use Rattle.kt_cells.proofs.StreamLemmas.{text_rows-from}
-use Rattle.kt_cells.proofs.TextLemmas.{ranges-given, order-given}
+use Rattle.kt_cells.proofs.TextLemmas.{ranges-given}
 use Rattle.kt_cells.proofs.text_rows.read_text.Goals as goal
 
 pub returns-in-Some-clause-value : goal.returns-in-Some-clause-value
@@ -12,14 +12,7 @@ returns-in-Some-clause-value g c =
     rw same c.read_all_rows.ensures.value
 
 pub returns-in-Some-clause-ranges : goal.returns-in-Some-clause-ranges
-returns-in-Some-clause-ranges g c =
-    let some : 0 < length c.args.kinds.now = omega (arith, c.told-kinds, c.requires.some) in
-    ranges-given c.args.ordered c.args.kinds.now c.args.text.now c.read_all_rows.result some (returns-in-Some-clause-value g c)
-
-pub returns-in-Some-clause-ordered : goal.returns-in-Some-clause-ordered
-returns-in-Some-clause-ordered g c =
-    let some : 0 < length c.args.kinds.now = omega (arith, c.told-kinds, c.requires.some) in
-    order-given c.args.ordered c.args.kinds.now c.args.text.now c.read_all_rows.result some (returns-in-Some-clause-value g c)
+returns-in-Some-clause-ranges g c = ranges-given c.args.ordered c.args.kinds.now c.args.text.now c.read_all_rows.result (omega (arith, c.told-kinds, c.requires.some))
 
 pub returns-in-Some-clause-refused : goal.returns-in-Some-clause-refused
 returns-in-Some-clause-refused g c =
@@ -31,14 +24,7 @@ pub returns-in-None-clause-value : goal.returns-in-None-clause-value
 returns-in-None-clause-value g c = rw (text_rows-from c.args.ordered c.args.kinds.now c.args.text.now) c.read_rows_behind_heading.ensures.value
 
 pub returns-in-None-clause-ranges : goal.returns-in-None-clause-ranges
-returns-in-None-clause-ranges g c =
-    let some : 0 < length c.args.kinds.now = omega (arith, c.told-kinds, c.requires.some) in
-    ranges-given c.args.ordered c.args.kinds.now c.args.text.now c.read_rows_behind_heading.result some (returns-in-None-clause-value g c)
-
-pub returns-in-None-clause-ordered : goal.returns-in-None-clause-ordered
-returns-in-None-clause-ordered g c =
-    let some : 0 < length c.args.kinds.now = omega (arith, c.told-kinds, c.requires.some) in
-    order-given c.args.ordered c.args.kinds.now c.args.text.now c.read_rows_behind_heading.result some (returns-in-None-clause-value g c)
+returns-in-None-clause-ranges g c = ranges-given c.args.ordered c.args.kinds.now c.args.text.now c.read_rows_behind_heading.result (omega (arith, c.told-kinds, c.requires.some))
 
 pub returns-in-None-clause-refused : goal.returns-in-None-clause-refused
 returns-in-None-clause-refused g c = rw (text_rows-from c.args.ordered c.args.kinds.now c.args.text.now) c.read_rows_behind_heading.ensures.refused

@@ -1,6 +1,0 @@
-use Rattle.std.proofs.Common.{◌≡◌, ◌++◌, drop}
-use Rattle.kt_cells.specs.Records.{records_bytes}
-use Rattle.kt_cells.proofs.record_writer.push_records.Given as goal
-
-abbrev pub invariant-loop-row : goal.invariant-loop-row
-invariant-loop-row g l = l.out ++ records_bytes l.kinds (drop l.row-index l.rows) ≡ l.fn.out ++ records_bytes l.kinds l.rows

@@ -1,0 +1,52 @@
+//! The records of a file as a sink of the rows that they are made of.
+ghost use Rattle.std.specs.Prelude.{◌≡◌, ◌++◌, map, drop};
+ghost use Rattle.kt_cells.specs.Records.{records_bytes};
+ghost use Rattle.kt_rec.specs.declared.table.Table.TheVariants.{Footprint};
+ghost use Rattle.kt_schema.specs.Tables.{kinds_of};
+
+use crate::schema::FOOTPRINT_RECORD;
+use kt_cells::{Kind, RowSink, push_record};
+use kt_money::Bytes;
+use std::alloc::AllocError;
+
+/// Records with columns of these kinds, which stand behind what is in `out`.
+#[derive(Drop)]
+pub(crate) struct Records<'a, const N: usize> {
+    pub(crate) kinds: &'a [Kind; N],
+    pub(crate) out: Bytes,
+}
+
+impl<'a, const N: usize> RowSink<N> for Records<'a, N> {
+    ghost use Rattle.std.specs.Prelude.{⊤};
+
+    ghost takes = { λ _. ⊤ };
+
+    ghost takes_to = { λ start rows now. (now.kinds.now ≡ start.kinds.now) × (now.out ≡ start.out ++ records_bytes start.kinds.now rows) };
+
+    #[inline(always)]
+    fn take(&mut self, row: &[u64; N]) -> Result<(), AllocError> {
+        let kinds = self.kinds;
+        push_record(&mut self.out, kinds, row)?;
+        Ok(())
+    }
+}
+
+/// Records of the footprint, which leave the event out, behind what is in `out`.
+#[derive(Drop)]
+pub(crate) struct FootprintRecords {
+    pub(crate) out: Bytes,
+}
+
+impl RowSink<4> for FootprintRecords {
+    ghost use Rattle.std.specs.Prelude.{⊤};
+
+    ghost takes = { λ _. ⊤ };
+
+    ghost takes_to = { λ start rows now. now.out ≡ start.out ++ records_bytes (drop 1 (kinds_of Footprint)) (map (drop 1) rows) };
+
+    #[inline(always)]
+    fn take(&mut self, row: &[u64; 4]) -> Result<(), AllocError> {
+        push_record(&mut self.out, &FOOTPRINT_RECORD, &row[1..])?;
+        Ok(())
+    }
+}
