@@ -10,3 +10,4 @@ pub mod StreamLemmas
 pub mod FieldLemmas
 pub mod RecordReadLemmas
 pub mod RecordLinesLemmas
+pub mod SliceLemmas

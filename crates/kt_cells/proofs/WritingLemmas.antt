@@ -5,12 +5,9 @@ use Rattle.std.proofs.lemmas.Bool.Decides.{nat_tests}
 use Rattle.std.proofs.lemmas.List.{append-nil}
 use Rattle.std.proofs.Math.Seq.{drop-length}
 use Rattle.byteorder.specs.Endian.{little_bytes}
-use Rattle.kt_money.specs.NumberText.{count_text}
 use Rattle.kt_cells.specs.Kinds.{width}
-use Rattle.kt_cells.specs.Lines.{line, fields_behind, separator, rows_lines, lines_behind}
-use Rattle.kt_cells.specs.Ranges.{IsRow, AreRows}
-use Rattle.kt_cells.specs.Records.{record_bytes, records_bytes}
-use Rattle.kt_cells.specs.Texts.{row_texts}
+use Rattle.kt_cells.specs.Lines.{line, fields_behind, separator}
+use Rattle.kt_cells.specs.Records.{record_bytes}
 use Rattle.kt_cells.specs.declared.kind.Kind.{Kind}
 use Rattle.kt_cells.proofs.ReadingLemmas.{drop-step}
 
@@ -27,50 +24,6 @@ record_bytes-more kinds values done d column long =
 pub record_bytes-end : (kinds : List Kind) (values : List ℕ) → record_bytes (drop (length kinds) kinds) values ≡ []
 unfolding record_bytes
 record_bytes-end kinds values = let none : drop (length kinds) kinds ≡ [] = drop-length kinds in rw none refl
-
--- one record more
-pub records_bytes-more : (kinds : List Kind) (rows : List (List ℕ)) (done : ℕ) (d : List ℕ) → done < length rows → records_bytes kinds (drop done rows) ≡ record_bytes kinds (get_or rows done d) ++ records_bytes kinds (drop (done + 1) rows)
-unfolding records_bytes
-records_bytes-more kinds rows done d row =
-    let here : drop done rows ≡ get_or rows done d ∷ drop (done + 1) rows = drop-step rows done d row in
-    rw here refl
-
--- no record is left
-pub records_bytes-end : (kinds : List Kind) (rows : List (List ℕ)) → records_bytes kinds (drop (length rows) rows) ≡ []
-unfolding records_bytes
-records_bytes-end kinds rows = let none : drop (length rows) rows ≡ [] = drop-length rows in rw none refl
-
--- one line more
-pub rows_lines-more : (kinds : List Kind) (rows : List (List ℕ)) (done : ℕ) (d : List ℕ) → done < length rows → rows_lines kinds (drop done rows) ≡ line (row_texts 0 kinds (get_or rows done d)) ++ rows_lines kinds (drop (done + 1) rows)
-unfolding rows_lines
-rows_lines-more kinds rows done d row =
-    let here : drop done rows ≡ get_or rows done d ∷ drop (done + 1) rows = drop-step rows done d row in
-    rw here refl
-
--- no line is left
-pub rows_lines-end : (kinds : List Kind) (rows : List (List ℕ)) → rows_lines kinds (drop (length rows) rows) ≡ []
-unfolding rows_lines
-rows_lines-end kinds rows = let none : drop (length rows) rows ≡ [] = drop-length rows in rw none refl
-
--- one line more behind a count
-pub lines_behind-more : (count : ℕ) (kinds : List Kind) (rows : List (List ℕ)) (done : ℕ) (d : List ℕ) → done < length rows
-    → lines_behind count kinds (drop done rows) ≡ (count_text count ++ 44 ∷ line (row_texts 0 kinds (get_or rows done d))) ++ lines_behind count kinds (drop (done + 1) rows)
-unfolding lines_behind
-lines_behind-more count kinds rows done d row =
-    let here : drop done rows ≡ get_or rows done d ∷ drop (done + 1) rows = drop-step rows done d row in
-    rw here refl
-
--- no such line is left
-pub lines_behind-end : (count : ℕ) (kinds : List Kind) (rows : List (List ℕ)) → lines_behind count kinds (drop (length rows) rows) ≡ []
-unfolding lines_behind
-lines_behind-end count kinds rows = let none : drop (length rows) rows ≡ [] = drop-length rows in rw none refl
-
--- each row in range has its place among them
-pub AreRows-row : (kinds : List Kind) (rows : List (List ℕ)) (row : ℕ) (d : List ℕ) → AreRows kinds rows → row < length rows → IsRow 0 kinds (get_or rows row d)
-unfolding AreRows
-AreRows-row kinds [] row d range within = absurd (omega arith)
-AreRows-row kinds (values ∷ rows) zero d range within = range.0
-AreRows-row kinds (values ∷ rows) (suc row) d range within = AreRows-row kinds rows row d range.1 (omega arith)
 
 -- a piece is written, and the rest is left
 pub text-more : (start out next piece rest left all : List ℕ) → out ++ rest ≡ start ++ all → next ≡ out ++ piece → rest ≡ piece ++ left → next ++ left ≡ start ++ all

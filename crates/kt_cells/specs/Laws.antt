@@ -1,12 +1,12 @@
 -- What is written is read back.
-use Rattle.std.specs.Prelude.{◌≡◌, ℕ, ◌^◌, ◌<◌, ◌≤◌, Bool, false, List, ◌∷◌, ◌++◌, Ok, length}
+use Rattle.std.specs.Prelude.{◌≡◌, ℕ, ◌+◌, ◌*◌, ◌^◌, take, drop, ◌<◌, ◌≤◌, Bool, false, List, ◌∷◌, ◌++◌, Ok, length}
 use Rattle.std.specs.List.{AllByRecursion}
 use Rattle.csv.specs.Reading.{strip_bom}
 use Rattle.csv.specs.Writing.{default_writer, needs_quotes}
 use Rattle.kt_cells.specs.Header.{header_extra, header_bytes}
 use Rattle.kt_cells.specs.Lines.{line, rows_lines}
 use Rattle.kt_cells.specs.Ranges.{AreRows, AreInOrder}
-use Rattle.kt_cells.specs.Records.{record_rows, records_bytes}
+use Rattle.kt_cells.specs.Records.{record_rows, record_width, records_bytes}
 use Rattle.kt_cells.specs.Texts.{text_rows}
 use Rattle.kt_cells.specs.declared.kind.Kind.{Kind}
 
@@ -33,3 +33,8 @@ LinesAreReadBack = (ordered : Bool) (kinds : List Kind) (name : List ℕ) (names
 -- the rows of a text are in range, and in order where they are ordered
 abbrev pub TextsAreInRange : Type 0
 TextsAreInRange = (ordered : Bool) (kinds : List Kind) (text : List ℕ) (rows : List (List ℕ)) → 0 < length kinds → text_rows ordered kinds text ≡ Ok rows → AreRows kinds rows × AreInOrder ordered 0 rows
+
+-- the records of a slice that begins and ends with whole ones give those rows
+abbrev pub SlicesGiveSlices : Type 0
+SlicesGiveSlices = (first : ℕ) (kinds : List Kind) (bytes : List ℕ) (rows : List (List ℕ)) (from count : ℕ) → 0 < length kinds → record_rows first kinds bytes ≡ Ok rows → from + count ≤ length rows
+    → record_rows first kinds (take (count * record_width kinds) (drop (from * record_width kinds) bytes)) ≡ Ok (take count (drop from rows))

@@ -1,5 +1,5 @@
 -- Lines of text: fields with commas between them and a line feed behind them.
-use Rattle.std.specs.Prelude.{ℕ, List, [], ◌∷◌, ◌++◌, ◌==◌, if◌then◌else◌}
+use Rattle.std.specs.Prelude.{ℕ, Option, None, Some, List, [], ◌∷◌, ◌++◌, ◌==◌, if◌then◌else◌}
 use Rattle.kt_money.specs.NumberText.{count_text}
 use Rattle.kt_cells.specs.Kinds.{under}
 use Rattle.kt_cells.specs.Reading.{rule_after}
@@ -34,6 +34,16 @@ rows_lines kinds (row ∷ rows) = line (row_texts 0 kinds row) ++ rows_lines kin
 unfoldable pub lines_behind : ℕ → List Kind → List (List ℕ) → List ℕ
 lines_behind count kinds [] = []
 lines_behind count kinds (row ∷ rows) = (count_text count ++ 44 ∷ line (row_texts 0 kinds row)) ++ lines_behind count kinds rows
+
+-- the line of a row, behind a count as its first field where there is one
+abbrev pub line_with : Option ℕ → List Kind → List ℕ → List ℕ
+line_with None kinds row = line (row_texts 0 kinds row)
+line_with (Some count) kinds row = count_text count ++ 44 ∷ line (row_texts 0 kinds row)
+
+-- the lines of rows, behind a count as the first field of each where there is one
+abbrev pub lines_with : Option ℕ → List Kind → List (List ℕ) → List ℕ
+lines_with None kinds rows = rows_lines kinds rows
+lines_with (Some count) kinds rows = lines_behind count kinds rows
 
 -- the kinds of a row, a term by the rule before it
 unfoldable pub units_under : ℕ → List Kind → List ℕ → List Kind

@@ -1,5 +1,5 @@
 //! Theorems over the definitions: what is written is read back.
-ghost use Rattle.kt_cells.specs.Laws.{RecordsAreReadBack, HeadersAreReadBack, LinesAreReadBack, TextsAreInRange};
+ghost use Rattle.kt_cells.specs.Laws.{RecordsAreReadBack, HeadersAreReadBack, LinesAreReadBack, SlicesGiveSlices, TextsAreInRange};
 
 use kt_text::{amounts_are_read_back, counts_are_read_back, rows_are_read_back};
 
@@ -25,4 +25,9 @@ pub fn lines_are_read_back()
 /// The rows of a text are in range, and in order where they are ordered.
 pub fn texts_are_in_range()
     ensures { TextsAreInRange }
+{}
+
+/// The records of a slice that begins and ends with whole ones give those rows.
+pub fn slices_give_slices()
+    ensures { SlicesGiveSlices }
 {}

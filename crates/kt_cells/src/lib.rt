@@ -20,9 +20,9 @@ mod values;
 pub use header::{HEADER_WIDTH, push_header, read_header};
 pub use kind::{Kind, Term};
 pub use laws::{
-    headers_are_read_back, lines_are_read_back, records_are_read_back, texts_are_in_range,
+    headers_are_read_back, lines_are_read_back, records_are_read_back, slices_give_slices,
+    texts_are_in_range,
 };
-pub use lines::{push_line, push_lines, push_lines_behind};
 pub use record_lines::push_record_lines;
 pub use record_writer::push_record;
 pub use records::read_records;

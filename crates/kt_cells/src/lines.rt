@@ -1,17 +1,16 @@
 //! Rows as lines of text.
-ghost use Rattle.std.specs.Prelude.{◌≡◌, ◌+◌, ◌<◌, ◌≤◌, ◌∷◌, ◌++◌, OnOk, Ok, length, drop};
+ghost use Rattle.std.specs.Prelude.{◌≡◌, ◌+◌, ◌<◌, ◌≤◌, ◌∷◌, ◌++◌, Ok, length, drop};
 ghost use Rattle.kt_money.specs.NumberText.{count_text};
 ghost use Rattle.kt_cells.specs.Kinds.{in_range};
-ghost use Rattle.kt_cells.specs.Lines.{line, separator, rows_lines, lines_behind, units_under};
-ghost use Rattle.kt_cells.specs.Ranges.{IsRow, AreRows};
+ghost use Rattle.kt_cells.specs.Lines.{line, line_with, separator, units_under};
+ghost use Rattle.kt_cells.specs.Ranges.{IsRow};
 ghost use Rattle.kt_cells.specs.Texts.{row_texts, value_text};
 ghost use Rattle.kt_cells.specs.declared.lines.TheConstants.{LINE_BYTES};
 
 use crate::kind::Kind;
 use crate::reader::rule_after;
 use itoa::write_digits;
-use kt_money::{Bytes, write_plain};
-use std::alloc::AllocError;
+use kt_money::write_plain;
 
 /// So many bytes have room for a line, and for a count in front of it, whatever the values are.
 pub(crate) const LINE_BYTES: usize = 2_400;
@@ -91,39 +90,6 @@ pub(crate) fn write_line<const N: usize>(
     at
 }
 
-/// Appends a row as a line of text. An error is want of memory; a part may stand in `out` then.
-pub fn push_line<const N: usize>(
-    out: &mut Bytes,
-    kinds: &[Kind; N],
-    values: &[u64; N],
-) -> Result<(), AllocError>
-    requires size { N < 100 }
-    requires range { IsRow 0 kinds.now values.now }
-    ensures ok { OnOk result (out.new ≡ out.old ++ line (row_texts 0 kinds.now values.now)) }
-{
-    let mut text = [0; LINE_BYTES];
-    let start = write_line(kinds, values, &mut text);
-    out.append(&text[start..])
-}
-
-/// Appends rows as lines of text. An error is want of memory; a part may stand in `out` then.
-pub fn push_lines<const N: usize>(
-    out: &mut Bytes,
-    kinds: &[Kind; N],
-    rows: &[[u64; N]],
-) -> Result<(), AllocError>
-    requires size { N < 100 }
-    requires range { AreRows kinds.now rows.now }
-    ensures ok { OnOk result (out.new ≡ out.old ++ rows_lines kinds.now rows.now) }
-{
-    let mut text = [0; LINE_BYTES];
-    for row in rows {
-        let start = write_line(kinds, row, &mut text);
-        out.append(&text[start..])?;
-    }
-    Ok(())
-}
-
 // Writes a row as a line that ends with the buffer, with a count and a comma in front, and returns where it starts.
 #[inline(always)]
 fn write_line_behind<const N: usize>(
@@ -142,22 +108,22 @@ fn write_line_behind<const N: usize>(
     write_digits(count, text, behind)
 }
 
-/// Appends rows as lines of text, each with the same count as its first field. An error is want of memory; a part may
-/// stand in `out` then.
-pub fn push_lines_behind<const N: usize>(
-    out: &mut Bytes,
-    count: u64,
+/// Writes a row as a line that ends with the buffer, behind a count as its first field where there is one, and returns where
+/// it starts.
+#[inline(always)]
+pub(crate) fn write_line_with<const N: usize>(
+    before: Option<u64>,
     kinds: &[Kind; N],
-    rows: &[[u64; N]],
-) -> Result<(), AllocError>
+    values: &[u64; N],
+    text: &mut [u8; LINE_BYTES],
+) -> usize
     requires size { N < 100 }
-    requires range { AreRows kinds.now rows.now }
-    ensures ok { OnOk result (out.new ≡ out.old ++ lines_behind count kinds.now rows.now) }
+    requires range { IsRow 0 kinds.now values.now }
+    ensures start { result ≤ LINE_BYTES }
+    ensures written { drop result text.new ≡ line_with before kinds.now values.now }
 {
-    let mut text = [0; LINE_BYTES];
-    for row in rows {
-        let start = write_line_behind(count, kinds, row, &mut text);
-        out.append(&text[start..])?;
+    match before {
+        None => write_line(kinds, values, text),
+        Some(count) => write_line_behind(count, kinds, values, text),
     }
-    Ok(())
 }

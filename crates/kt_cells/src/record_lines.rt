@@ -1,22 +1,23 @@
 //! The records of a table as lines of text.
 ghost use Rattle.std.specs.Prelude.{◌≡◌, ◌<◌, ◌++◌, OnOk, IfErr, Ok};
-ghost use Rattle.kt_cells.specs.Lines.{rows_lines};
+ghost use Rattle.kt_cells.specs.Lines.{lines_with};
 ghost use Rattle.kt_cells.specs.Reading.{and_then};
 ghost use Rattle.kt_cells.specs.Records.{record_rows};
 ghost use Rattle.kt_cells.specs.Stops.{Tells};
 
 use crate::kind::Kind;
-use crate::lines::{LINE_BYTES, write_line};
+use crate::lines::{LINE_BYTES, write_line_with};
 use crate::records::{read_record, record_width};
 use crate::stop::TableStop;
 use kt_money::Bytes;
 
-/// Appends the rows that some bytes give as lines of text, without a list of the rows between. The first column has the
-/// number `first`. An error is the first bad field, by record and then by column; then a record that is cut by the end;
+/// Appends the rows that some bytes give as lines of text, without a list of the rows between, behind a count as the first
+/// field of each where there is one. The first column has the number `first`. An error is the first bad field, by record and then by column; then a record that is cut by the end;
 /// or want of memory; a part may stand in `out` then.
 #[inline(always)]
 pub fn push_record_lines<const N: usize>(
     out: &mut Bytes,
+    before: Option<u64>,
     kinds: &[Kind; N],
     first: u32,
     bytes: &[u8],
@@ -24,7 +25,7 @@ pub fn push_record_lines<const N: usize>(
     requires size { N < 100 }
     requires some { 0 < N }
     requires first { first < 100 }
-    ensures ok { OnOk result (and_then (record_rows first kinds.now bytes.now) (λ rows. Ok (out.old ++ rows_lines kinds.now rows)) ≡ Ok out.new) }
+    ensures ok { OnOk result (and_then (record_rows first kinds.now bytes.now) (λ rows. Ok (out.old ++ lines_with before kinds.now rows)) ≡ Ok out.new) }
 
     ensures refused { IfErr result (Tells (record_rows first kinds.now bytes.now)) }
 {
@@ -35,7 +36,7 @@ pub fn push_record_lines<const N: usize>(
     for row in 0..count {
         let rest = &bytes[row * width..];
         read_record(kinds, first, row as u64 + 1, rest, &mut values)?;
-        let start = write_line(kinds, &values, &mut text);
+        let start = write_line_with(before, kinds, &values, &mut text);
         out.append(&text[start..])?;
     }
     if bytes.len() % width != 0 {

@@ -1,16 +1,26 @@
 -- The lines of the footprint, event by event.
-use Rattle.std.proofs.Common.{◌≡◌, ℕ, zero, suc, ◌+◌, ◌-◌, ◌/◌, ◌<◌, List, [], ◌∷◌, ◌++◌, length, take, drop, get_or, refl, sym, ap, ◌∙◌, arith, append_assoc}
-use Rattle.std.specs.Prelude.{map}
-use Rattle.std.proofs.lemmas.List.{append-nil, take_rest}
+use Rattle.std.proofs.Common.{◌≡◌, ℕ, zero, suc, ◌+◌, ◌-◌, ◌*◌, ◌/◌, ◌<◌, List, [], ◌∷◌, ◌++◌, length, take, drop, get_or, refl, sym, ap, ◌∙◌, arith, append_assoc}
+use Rattle.std.specs.Prelude.{map, Result, Ok}
+use Rattle.std.proofs.lemmas.List.{append-nil}
+use Rattle.std.proofs.Math.Nat.{div-mul-le_self}
 use Rattle.std.proofs.Math.Seq.{drop-length}
 use Rattle.kt_rec.specs.declared.hazard.FootprintIdx.{FootprintIdx}
 use Rattle.kt_rec.specs.declared.table.Table.TheVariants.{Footprint}
 use Rattle.kt_cells.specs.Lines.{line, fields_behind, rows_lines, lines_behind}
+use Rattle.kt_cells.specs.Header.{header_extra}
+use Rattle.kt_cells.specs.Laws.{SlicesGiveSlices}
 use Rattle.kt_cells.specs.Ranges.{IsRow, AreRows}
+use Rattle.kt_cells.specs.Reading.{and_then}
+use Rattle.kt_cells.specs.Records.{record_rows, record_width}
+use Rattle.kt_cells.specs.Stops.{Tells}
+use Rattle.kt_cells.specs.declared.stop.TableStop.{TableStop}
+use Rattle.kt_cells.specs.declared.stop.TableStop.TheVariants as stop
 use Rattle.kt_cells.specs.Texts.{row_texts}
 use Rattle.kt_cells.specs.declared.kind.Kind.{Kind}
 use Rattle.kt_money.specs.NumberText.{count_text}
-use Rattle.kt_schema.specs.Footprint.{IsEntryOf, HasRecords, entry_rows, indexed_rows}
+use Rattle.kt_schema.specs.Footprint.{footprint_csv, AreRecords, IsEntryOf, HasRecords, first_record, record_number, entry_rows, indexed_rows}
+use Rattle.kt_schema.specs.Conversions.{canon}
+use Rattle.kt_schema.specs.Index.{footprint_width}
 use Rattle.kt_schema.specs.Tables.{kinds_of}
 use Rattle.kt_schema.proofs.IndexLemmas.{drop-step}
 
@@ -75,6 +85,44 @@ entry-within bytes rows entry names count = record {
   within = omega (arith, names.behind_header, names.whole_place, names.whole_size, names.within);
 }
 
--- the records of an entry are in range
-pub entry-range : (rows : List (List ℕ)) (first count : ℕ) → AreRows (drop 1 (kinds_of Footprint)) rows → AreRows (drop 1 (kinds_of Footprint)) (take count (take (length rows - first) (drop first rows)))
-entry-range rows first count range = rw take_rest (AreRows-take (drop 1 (kinds_of Footprint)) (drop first rows) count (AreRows-drop (drop 1 (kinds_of Footprint)) rows first range))
+-- the rows that are read, as many as there are records
+pub records-are : (bytes : List ℕ) (rows : List (List ℕ)) → record_rows 2 (drop 1 (kinds_of Footprint)) bytes ≡ Ok rows → AreRows (drop 1 (kinds_of Footprint)) rows → length rows ≡ length bytes / footprint_width → AreRecords bytes rows
+records-are bytes rows read range count = record { are_read = read; in_range = range; room = omega (arith, count, div-mul-le_self (length bytes) footprint_width) }
+
+-- the records that an entry names
+abbrev pub part_of : List ℕ → FootprintIdx → List ℕ
+part_of records entry = take (record_number entry * footprint_width) (drop (first_record entry * footprint_width) records)
+
+module _ (records : List ℕ) (rows : List (List ℕ)) (entry : FootprintIdx) (are : AreRecords records rows) (has : HasRecords (length rows) entry) where
+  -- they give its rows
+  pub part-read : SlicesGiveSlices → record_rows 2 (drop 1 (kinds_of Footprint)) (part_of records entry) ≡ Ok (take (record_number entry) (drop (first_record entry) rows))
+  unfolding record_width
+  part-read law = law 2 (drop 1 (kinds_of Footprint)) records rows (first_record entry) (record_number entry) (omega arith) are.are_read has.within
+
+  -- and the lines of these are those of the event
+  pub part-written : SlicesGiveSlices → (out after : List ℕ) → and_then (record_rows 2 (drop 1 (kinds_of Footprint)) (part_of records entry)) (λ part. Ok (out ++ lines_behind entry.event_id (drop 1 (kinds_of Footprint)) part)) ≡ Ok after
+      → after ≡ out ++ rows_lines (kinds_of Footprint) (entry_rows rows entry)
+  part-written law out after written =
+      let part : List (List ℕ) = take (record_number entry) (drop (first_record entry) rows) in
+      let range = AreRows-take (drop 1 (kinds_of Footprint)) (drop (first_record entry) rows) (record_number entry) (AreRows-drop (drop 1 (kinds_of Footprint)) rows (first_record entry) are.in_range) in
+      let all = sym (ap (λ read. and_then read (λ part. Ok (out ++ lines_behind entry.event_id (drop 1 (kinds_of Footprint)) part))) (part-read law)) ∙ written in
+      let same : out ++ lines_behind entry.event_id (drop 1 (kinds_of Footprint)) part ≡ after = cc (all) in
+      sym same ∙ ap (λ lines. out ++ lines) (sym (event_lines entry.event_id part range))
+
+-- what is right is refused for want of memory alone
+pub memory-alone : {A : Type 0} (read : Result A TableStop) (x : A) (why : TableStop) → read ≡ Ok x → Tells read why → why ≡ stop.OutOfMemory
+memory-alone read x stop.OutOfMemory good told = refl
+memory-alone read x stop.NotProfile good told = absurd (cc)
+memory-alone read x (stop.WrongTable found) good told = absurd (cc)
+memory-alone read x (stop.WrongVersion found) good told = absurd (cc)
+memory-alone read x (stop.CutRecord row) good told = absurd (cc)
+memory-alone read x (stop.Bad row column cause) good told = absurd (cc)
+
+-- the text of a footprint whose records are read
+pub text-made : (bytes : List ℕ) (index : List FootprintIdx) (extra : ℕ) (rows : List (List ℕ)) (out : List ℕ) → header_extra 4 0 0 bytes ≡ Ok extra → record_rows 2 (drop 1 (kinds_of Footprint)) (drop 16 bytes) ≡ Ok rows
+    → out ≡ canon Footprint (indexed_rows rows index) → footprint_csv bytes index ≡ Ok out
+text-made bytes index extra rows out header read text =
+    let text_of : Result (ℕ × List (List ℕ)) TableStop → Result (List ℕ) TableStop = λ found. and_then found (λ file. Ok (canon Footprint (indexed_rows file.1 index))) in
+    let behind : Result ℕ TableStop → Result (ℕ × List (List ℕ)) TableStop = λ found. and_then found (λ extra. and_then (record_rows 2 (drop 1 (kinds_of Footprint)) (drop 16 bytes)) (λ rows. Ok (extra, rows))) in
+    let beside : Result (List (List ℕ)) TableStop → Result (ℕ × List (List ℕ)) TableStop = λ found. and_then found (λ rows. Ok (extra, rows)) in
+    ap (λ found. text_of (behind found)) header ∙ ap (λ found. text_of (beside found)) read ∙ ap Ok (sym text)

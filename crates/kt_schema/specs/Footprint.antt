@@ -1,11 +1,14 @@
 -- The footprint file and its index together.
-use Rattle.std.specs.Prelude.{◌≡◌, ◌≤◌, ℕ, ◌+◌, ◌-◌, ◌/◌, ◌%◌, List, [], ◌∷◌, ◌++◌, map, take, drop, Result, Ok}
+use Rattle.std.specs.Prelude.{◌≡◌, ◌≤◌, ℕ, ◌+◌, ◌-◌, ◌*◌, ◌/◌, ◌%◌, List, [], ◌∷◌, ◌++◌, length, map, take, drop, Result, Ok}
 use Rattle.kt_rec.specs.declared.hazard.FootprintIdx.{FootprintIdx}
 use Rattle.kt_rec.specs.declared.table.Table.TheVariants.{Footprint}
+use Rattle.kt_cells.specs.Ranges.{AreRows}
 use Rattle.kt_cells.specs.Reading.{and_then}
+use Rattle.kt_cells.specs.Records.{record_rows}
 use Rattle.kt_cells.specs.declared.stop.TableStop.{TableStop}
 use Rattle.kt_schema.specs.Conversions.{bin_rows, canon}
 use Rattle.kt_schema.specs.Index.{footprint_width, first_offset}
+use Rattle.kt_schema.specs.Tables.{kinds_of}
 
 -- the most bytes that the records of an event may have
 abbrev pub most_event_bytes : ℕ
@@ -31,6 +34,12 @@ record_number entry = entry.size / footprint_width
 pub record HasRecords (records : ℕ) (entry : FootprintIdx) : Type 0 where
   pub behind_header : first_offset ≤ entry.offset
   pub within : first_record entry + record_number entry ≤ records
+
+-- the rows that some bytes give as records of the footprint file
+pub record AreRecords (bytes : List ℕ) (rows : List (List ℕ)) : Type 0 where
+  pub are_read : record_rows 2 (drop 1 (kinds_of Footprint)) bytes ≡ Ok rows
+  pub in_range : AreRows (drop 1 (kinds_of Footprint)) rows
+  pub room : length rows * footprint_width ≤ length bytes
 
 -- the rows of an entry: its records, with its event in front
 abbrev pub entry_rows : List (List ℕ) → FootprintIdx → List (List ℕ)

@@ -1,19 +1,19 @@
 //! From the footprint file and its index to the text of the footprint.
-ghost use Rattle.std.specs.Prelude.{◌≡◌, ◌<◌, ◌++◌, ◌∷◌, Ok, map, IfOk, IfErr, OnOk, All, length};
+ghost use Rattle.std.specs.Prelude.{◌≡◌, ◌++◌, ℕ, List, Ok, IfOk, IfErr, OnOk, All, length};
 ghost use Rattle.kt_rec.specs.declared.table.Table.TheVariants.{Footprint};
-ghost use Rattle.kt_cells.specs.Ranges.{AreRows};
 ghost use Rattle.kt_cells.specs.Lines.{rows_lines};
 ghost use Rattle.kt_cells.specs.Stops.{Tells};
-ghost use Rattle.kt_schema.specs.Footprint.{footprint_csv, entry_rows, indexed_rows, IsEntryOf, HasRecords};
+ghost use Rattle.kt_schema.specs.Footprint.{footprint_csv, entry_rows, indexed_rows, AreRecords, IsEntryOf, HasRecords};
 ghost use Rattle.kt_schema.specs.Tables.{kinds_of};
 
 use crate::headings::heading;
+use crate::record_sinks::Judged;
 use crate::schema::{FOOTPRINT, FOOTPRINT_RECORD};
 use crate::to_csv::body;
-use kt_cells::{TableStop, Values, push_lines_behind, read_header, read_records};
+use kt_cells::{TableStop, push_record_lines, read_header, read_records, slices_give_slices};
 use kt_money::Bytes;
 use kt_rec::{FootprintIdx, Table};
-use std::alloc::{AllocError, Global};
+use std::alloc::Global;
 
 // How many bytes a record of the footprint file takes.
 const FOOTPRINT_WIDTH: u64 = 12;
@@ -37,42 +37,43 @@ pub fn footprint_to_csv(
     ensures refused { IfErr result (Tells (footprint_csv bytes.now index.now)) }
 {
     let _extra = read_header(FOOTPRINT.number, 0, 0, bytes)?;
-    let mut values = Values::new(alloc);
-    read_records(&FOOTPRINT_RECORD, 2, body(true, bytes), &mut values)?;
+    let records = body(true, bytes);
+    read_records(&FOOTPRINT_RECORD, 2, records, &mut Judged)?;
     let mut out = Bytes::new(alloc);
     out.append(heading(Table::Footprint))?;
-    push_events(&mut out, index, values.as_slice())?;
+    push_events(&mut out, index, records)?;
     Ok(out)
 }
 
-// Appends the lines of all events of the index.
-fn push_events(out: &mut Bytes, index: &[FootprintIdx], rows: &[[u64; 3]]) -> Result<(), AllocError>
-    requires entries { All (HasRecords (length rows.now)) index.now }
-    requires range { AreRows FOOTPRINT_RECORD rows.now }
-    ensures ok { OnOk result (out.new ≡ out.old ++ rows_lines FOOTPRINT.kinds (indexed_rows rows.now index.now)) }
+// Appends the lines of all events of the index. The error is want of memory.
+fn push_events(out: &mut Bytes, index: &[FootprintIdx], records: &[u8]) -> Result<(), TableStop>
+    requires records { (rows : List (List ℕ)) × AreRecords records.now rows × All (HasRecords (length rows)) index.now }
+    ensures ok { OnOk result ((rows : List (List ℕ)) → AreRecords records.now rows → out.new ≡ out.old ++ rows_lines FOOTPRINT.kinds (indexed_rows rows index.now)) }
+    ensures memory { IfErr result (λ stop. stop ≡ TableStop.OutOfMemory) }
 {
     for entry in index {
-        push_event(out, entry, rows)?;
+        match push_event(out, entry, records) {
+            Ok(()) => {}
+            Err(stop) => return Err(stop),
+        }
     }
     Ok(())
 }
 
-// Appends the lines of the records of an event.
-fn push_event(out: &mut Bytes, entry: &FootprintIdx, rows: &[[u64; 3]]) -> Result<(), AllocError>
-    requires entry { HasRecords (length rows.now) entry.now }
-    requires range { AreRows FOOTPRINT_RECORD rows.now }
-    ensures ok { OnOk result (out.new ≡ out.old ++ rows_lines FOOTPRINT.kinds (entry_rows rows.now entry.now)) }
+// Appends the lines of the records of an event. The error is want of memory.
+fn push_event(out: &mut Bytes, entry: &FootprintIdx, records: &[u8]) -> Result<(), TableStop>
+    requires records { (rows : List (List ℕ)) × AreRecords records.now rows × HasRecords (length rows) entry.now }
+    ensures ok { OnOk result ((rows : List (List ℕ)) → AreRecords records.now rows → out.new ≡ out.old ++ rows_lines FOOTPRINT.kinds (entry_rows rows entry.now)) }
+    ensures memory { IfErr result (λ stop. stop ≡ TableStop.OutOfMemory) }
 {
-    let first = (entry.offset - FIRST_OFFSET) / FOOTPRINT_WIDTH;
-    let count = entry.size / FOOTPRINT_WIDTH;
-    let behind = &rows[first as usize..];
-    push_event_lines(out, entry.event_id, &behind[..count as usize])
-}
-
-// Appends the lines of some records of an event.
-fn push_event_lines(out: &mut Bytes, event: u32, rows: &[[u64; 3]]) -> Result<(), AllocError>
-    requires { AreRows FOOTPRINT_RECORD rows.now }
-    ensures ok { OnOk result (out.new ≡ out.old ++ rows_lines FOOTPRINT.kinds (map (λ row. event ∷ row) rows.now)) }
-{
-    push_lines_behind(out, u64::from(event), &FOOTPRINT_RECORD, rows)
+    slices_give_slices();
+    let first = (entry.offset - FIRST_OFFSET) / FOOTPRINT_WIDTH * FOOTPRINT_WIDTH;
+    let size = entry.size / FOOTPRINT_WIDTH * FOOTPRINT_WIDTH;
+    let behind = &records[first as usize..];
+    let before = Some(u64::from(entry.event_id));
+    let part = &behind[..size as usize];
+    match push_record_lines(out, before, &FOOTPRINT_RECORD, 2, part) {
+        Ok(()) => Ok(()),
+        Err(stop) => Err(stop),
+    }
 }

@@ -1,4 +1,4 @@
-//! The records of a file as a sink of the rows that they are made of.
+//! Sinks of rows: the records of a file, made of them, and one that keeps none.
 ghost use Rattle.std.specs.Prelude.{◌≡◌, ◌++◌, map, drop};
 ghost use Rattle.kt_cells.specs.Records.{records_bytes};
 ghost use Rattle.kt_rec.specs.declared.table.Table.TheVariants.{Footprint};
@@ -47,6 +47,23 @@ impl RowSink<4> for FootprintRecords {
     #[inline(always)]
     fn take(&mut self, row: &[u64; 4]) -> Result<(), AllocError> {
         push_record(&mut self.out, &FOOTPRINT_RECORD, &row[1..])?;
+        Ok(())
+    }
+}
+
+/// Takes rows and keeps none: what is read is judged, and no more.
+#[derive(Clone, Copy, Debug)]
+pub(crate) struct Judged;
+
+impl<const N: usize> RowSink<N> for Judged {
+    ghost use Rattle.std.specs.Prelude.{⊤};
+
+    ghost takes = { λ _. ⊤ };
+
+    ghost takes_to = { λ _ _ _. ⊤ };
+
+    #[inline(always)]
+    fn take(&mut self, _row: &[u64; N]) -> Result<(), AllocError> {
         Ok(())
     }
 }

@@ -85,7 +85,7 @@ fn converted<const N: usize>(
     let _extra = extra(schema.header, schema.number, least, most, bytes)?;
     let mut out = Bytes::new(alloc);
     out.append(heading)?;
-    push_record_lines(&mut out, &schema.kinds, 1, body(schema.header, bytes))?;
+    push_record_lines(&mut out, None, &schema.kinds, 1, body(schema.header, bytes))?;
     Ok(out)
 }
 

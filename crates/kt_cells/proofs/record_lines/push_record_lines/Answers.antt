@@ -6,17 +6,17 @@ use Rattle.kt_cells.proofs.RecordLinesLemmas.{record-range, lines-start, lines-m
 use Rattle.kt_cells.proofs.record_lines.push_record_lines.Goals as goal
 
 pub loop-row-init : goal.loop-row-init
-loop-row-init g c = lines-start c.args.first c.args.kinds.now c.args.bytes.now c.args.out.now
+loop-row-init g c = lines-start c.args.before c.args.first c.args.kinds.now c.args.bytes.now c.args.out.now
 
 pub returns-in_err-read_record-clause-refused : goal.returns-in_err-read_record-clause-refused
 returns-in_err-read_record-clause-refused g c =
     let p = err_from_is_err_and c.from_residual.result c.from_residual.ensures.1 in
     rw (p.1, p.2)
-    (lines-stop c.args.first c.args.kinds.now c.args.bytes.now c.args.out.now c.loop-row.out c.loop-row.row c.loop-row.invariant _
+    (lines-stop c.args.before c.args.first c.args.kinds.now c.args.bytes.now c.args.out.now c.loop-row.out c.loop-row.row c.loop-row.invariant _
     (rw c.record_width-width.ensures.value at c.loop-row-test.true) (sym (rw (take_rest, c.record_width-width.ensures.value) at c.in_err-read_record.ensures.refused)))
 
-pub write_line-start-requires : goal.write_line-start-requires
-write_line-start-requires g c = (
+pub write_line_with-start-requires : goal.write_line_with-start-requires
+write_line_with-start-requires g c = (
   omega arith,
   (
     omega arith,
@@ -26,17 +26,17 @@ write_line-start-requires g c = (
 
 pub loop-row-preserved : goal.loop-row-preserved
 loop-row-preserved g c =
-    lines-more c.args.first c.args.kinds.now c.args.bytes.now c.args.out.now c.loop-row.out c.loop-row.row c.loop-row.invariant c.read_record.new.values c.append.new.self
+    lines-more c.args.before c.args.first c.args.kinds.now c.args.bytes.now c.args.out.now c.loop-row.out c.loop-row.row c.loop-row.invariant c.read_record.new.values c.append.new.self
     (rw c.record_width-width.ensures.value at c.loop-row-test.true) (sym (rw (take_rest, c.record_width-width.ensures.value) at c.in_ok-read_record.ensures.ok))
-    (line-appended c.loop-row.out c.append.new.self c.write_line-start.new.text _ c.write_line-start.result c.in_ok-append.ensures.ok (omega arith) c.write_line-start.ensures.written)
+    (line-appended c.loop-row.out c.append.new.self c.write_line_with-start.new.text _ c.write_line_with-start.result c.in_ok-append.ensures.ok (omega arith) c.write_line_with-start.ensures.written)
 
 pub returns-then-bytes-width-ne0-clause-refused : goal.returns-then-bytes-width-ne0-clause-refused
 returns-then-bytes-width-ne0-clause-refused g c =
     rw c.record_width-width.ensures.value
-    (lines-cut c.args.first c.args.kinds.now c.args.bytes.now c.args.out.now c.loop-row.out c.loop-row.row c.loop-row.invariant
+    (lines-cut c.args.before c.args.first c.args.kinds.now c.args.bytes.now c.args.out.now c.loop-row.out c.loop-row.row c.loop-row.invariant
     c.record_width-width.result c.record_width-width.ensures.value (omega arith) (rw c.record_width-width.ensures.value at c.if-bytes-width-ne0.true))
 
 pub returns-clause-ok : goal.returns-clause-ok
 returns-clause-ok g c =
-    lines-end c.args.first c.args.kinds.now c.args.bytes.now c.args.out.now c.loop-row.out c.loop-row.row c.loop-row.invariant
+    lines-end c.args.before c.args.first c.args.kinds.now c.args.bytes.now c.args.out.now c.loop-row.out c.loop-row.row c.loop-row.invariant
     c.record_width-width.result c.record_width-width.ensures.value (omega arith) (rw c.record_width-width.ensures.value at c.if-bytes-width-ne0.false)
