@@ -1,5 +1,5 @@
 -- Counts of 64 bits that never fall, and stay at their last value once they have reached it.
-use Rattle.std.specs.Prelude.{◌≡◌, ℕ, ◌+◌, ◌-◌, ◌^◌, ◌≤◌, min}
+use Rattle.std.specs.Prelude.{ℕ, ◌+◌, ◌-◌, ◌^◌, ◌≤◌, min}
 
 -- one more, on a count of 64 bits that stays at its last value
 abbrev pub one_more : ℕ → ℕ
@@ -8,8 +8,3 @@ one_more count = min (count + 1) (2 ^ 64 - 1)
 -- a count rose in a call; one that stands at its last value counts as risen
 abbrev pub Rose : ℕ → ℕ → Type 0
 Rose before now = one_more before ≤ now
-
--- an object is as it was: what it holds, and its count of faults
-pub record IsUntouched {H : Type 0} (held held_now : H) (count count_now : ℕ) : Type 0 where
-  pub holds : held_now ≡ held
-  pub counts : count_now ≡ count

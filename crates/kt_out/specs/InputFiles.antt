@@ -1,10 +1,41 @@
--- What the calls of input files answer, where the map from names to bytes is known.
+-- Input files as contracts see them, and what their calls answer and count.
 use Rattle.std.specs.Prelude.{◌≡◌, ℕ, ◌-◌, ◌<◌, ◌≤◌, List, ◌++◌, length, take, drop, ⊤, Option, None, Some, Result, Ok, Err}
 use Rattle.kt_out.specs.declared.fault.Absent.{Absent}
 use Rattle.kt_out.specs.declared.fault.Absent.TheVariants.{Failed, Missing, OutOfMemory}
 use Rattle.kt_out.specs.declared.fault.Fault.{Fault}
-use Rattle.kt_out.specs.Counts.{one_more}
+use Rattle.kt_out.specs.Counts.{one_more, Rose}
 use Rattle.kt_out.specs.NamedFiles.{FileMap}
+
+-- what each name stands for, where it is known, how many calls have failed, and how many have asked for a name that is not held
+pub record InputsState : Type 0 where
+  pub held : Option FileMap
+  pub faults : ℕ
+  pub misses : ℕ
+
+-- a call failed: that was counted, and nothing else
+pub record CountsFault (before after : InputsState) : Type 0 where
+  pub kept : after.held ≡ before.held
+  pub counted : Rose before.faults after.faults
+  pub misses : after.misses ≡ before.misses
+
+-- a call asked for a name that is not held: that was counted, and nothing else
+pub record CountsMiss (before after : InputsState) : Type 0 where
+  pub kept : after.held ≡ before.held
+  pub counted : Rose before.misses after.misses
+  pub faults : after.faults ≡ before.faults
+
+-- what a call for a size leaves: a count rose exactly by its answer
+abbrev pub AfterSize : InputsState → InputsState → Result ℕ Absent → Type 0
+AfterSize before after (Ok n) = after ≡ before
+AfterSize before after (Err Failed) = CountsFault before after
+AfterSize before after (Err Missing) = CountsMiss before after
+AfterSize before after (Err OutOfMemory) = after ≡ before
+
+-- what a read leaves: the count of faults rose exactly by its answer
+abbrev pub AfterRead : InputsState → InputsState → Result ℕ Fault → Type 0
+AfterRead before after (Ok n) = after ≡ before
+AfterRead before after (Err Fault.Failed) = CountsFault before after
+AfterRead before after (Err Fault.OutOfMemory) = after ≡ before
 
 -- the size of what a name stands for: its length, and Missing exactly where it stands for nothing
 abbrev pub IsSizeOf : Option (List ℕ) → Result ℕ Absent → Type 0
@@ -62,6 +93,10 @@ with_fault counts = record { faults = one_more counts.faults; misses = counts.mi
 -- one more miss
 abbrev pub with_miss : FileCounts → FileCounts
 with_miss counts = record { faults = counts.faults; misses = one_more counts.misses }
+
+-- such files as all input files are seen: what they hold is not known
+abbrev pub real_files : FileCounts → InputsState
+real_files counts = record { held = None; faults = counts.faults; misses = counts.misses }
 
 -- the counts after a call for a size has answered
 abbrev pub after_size_answer : FileCounts → Result ℕ Absent → FileCounts

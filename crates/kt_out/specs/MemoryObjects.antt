@@ -5,6 +5,8 @@ use Rattle.kt_out.specs.declared.fault.Absent.{Absent}
 use Rattle.kt_out.specs.declared.fault.Fault.{Fault}
 use Rattle.kt_out.specs.Counts.{one_more}
 use Rattle.kt_out.specs.NamedFiles.{File, bytes_of}
+use Rattle.kt_out.specs.Reading.{SourceState}
+use Rattle.kt_out.specs.Writing.{SinkState}
 
 -- the calls so far: how many, the numbers of those that are to fail (the first is 1), the most bytes that one moves, and how many failed
 pub record CallsSoFar : Type 0 where
@@ -49,6 +51,22 @@ pub record MemoryInputs : Type 0 where
   pub files : List File
   pub misses : ℕ
   pub calls : CallsSoFar
+
+-- such a source as each source is seen
+abbrev pub source_state : MemorySource → SourceState
+source_state source = record { left = Some source.left; faults = source.calls.failed }
+
+-- such a sink as each sink is seen
+abbrev pub sink_state : MemorySink → SinkState
+sink_state sink = record { taken = Some sink.taken; faults = sink.calls.failed }
+
+-- a source in memory that never fails, with these bytes left
+abbrev pub sure_source_state : List ℕ → SourceState
+sure_source_state left = record { left = Some left; faults = 0 }
+
+-- a sink in memory that never fails, with these bytes taken
+abbrev pub sure_sink_state : List ℕ → SinkState
+sure_sink_state taken = record { taken = Some taken; faults = 0 }
 
 -- the size of what a name stands for: Missing where it stands for nothing, else Failed in a call that is to fail
 abbrev pub size_or_fault : Option (List ℕ) → Bool → Result ℕ Absent

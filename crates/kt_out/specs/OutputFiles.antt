@@ -1,6 +1,20 @@
--- What the calls of output files leave in the map from names to bytes, where it is known.
+-- Output files as contracts see them, and what their calls leave.
 use Rattle.std.specs.Prelude.{◌≡◌, ◌≢◌, ◌⊎◌, ℕ, List, [], ◌++◌, take, Option, None, Some, Result, Ok, Err, unwrap_or, IsSomeAnd}
+use Rattle.kt_out.specs.Counts.{Rose}
 use Rattle.kt_out.specs.NamedFiles.{FileMap}
+use Rattle.kt_out.specs.declared.fault.Fault.{Fault}
+use Rattle.kt_out.specs.declared.fault.Fault.TheVariants.{Failed, OutOfMemory}
+
+-- what each name stands for, where it is known, and how many calls have failed
+pub record OutputsState : Type 0 where
+  pub written : Option FileMap
+  pub faults : ℕ
+
+-- what a call leaves of the count of faults: it rose exactly where the call failed
+abbrev pub CountsOutput : {T : Type 0} → ℕ → ℕ → Result T Fault → Type 0
+CountsOutput before now (Ok done) = now ≡ before
+CountsOutput before now (Err Failed) = Rose before now
+CountsOutput before now (Err OutOfMemory) = now ≡ before
 
 -- a name stands for these bytes now, and every other name for what it stood for
 pub record Sets (files : FileMap) (name bytes : List ℕ) (now : FileMap) : Type 0 where

@@ -1,7 +1,6 @@
 //! The adapter over the files of the current folder: the trusted edge, which tells nothing of bytes.
-ghost use Rattle.std.specs.Prelude.{◌≡◌, ◌<◌, ◌≤◌, length, IfOk, IsErrOf};
-ghost use Rattle.kt_out.specs.Counts.{Rose};
-ghost use Rattle.kt_out.specs.InputFiles.{after_size_answer, after_read_answer};
+ghost use Rattle.std.specs.Prelude.{◌≡◌, ◌<◌, ◌≤◌, length, IfOk};
+ghost use Rattle.kt_out.specs.InputFiles.{AfterRead, AfterSize, after_read_answer, after_size_answer, real_files};
 
 use crate::folder::Folder;
 use crate::{Absent, Fault, Inputs};
@@ -40,13 +39,7 @@ impl<'a, R: Files> DirInputs<'a, R> {
 }
 
 impl<R: Files> Inputs for DirInputs<'_, R> {
-    ghost use Rattle.std.specs.Prelude.{None};
-
-    ghost held = { λ _. None };
-
-    ghost fault_count = { λ s. s.faults };
-
-    ghost miss_count = { λ s. s.misses };
+    ghost state = { λ s. real_files s };
 
     fn faults(&self) -> u64 {
         self.faults
@@ -60,10 +53,8 @@ impl<R: Files> Inputs for DirInputs<'_, R> {
     /// read and any other fault is `Failed`.
     fn size(&mut self, name: &[u8]) -> Result<u64, Absent>
         // A count rises by one exactly where its answer came.
-        ensures counts { self.new ≡ after_size_answer self.old result }
-        ensures absent { IsErrOf result Absent.Missing → Rose self.old.misses self.new.misses × (self.new.faults ≡ self.old.faults) }
-        ensures cause { IsErrOf result Absent.Failed → Rose self.old.faults self.new.faults }
-        ensures memory { IsErrOf result Absent.OutOfMemory → (self.new.faults ≡ self.old.faults) × (self.new.misses ≡ self.old.misses) }
+        ensures exact { self.new ≡ after_size_answer self.old result }
+        ensures counts { AfterSize (real_files self.old) (real_files self.new) result }
 
         ensures counted { (self.old.faults ≤ self.new.faults) × (self.old.misses ≤ self.new.misses) }
     {
@@ -83,11 +74,10 @@ impl<R: Files> Inputs for DirInputs<'_, R> {
         ensures within { IfOk result (λ n. (0 < n) × (n ≤ length buf.old)) }
 
         // The count of faults rises by one exactly where `Failed` came.
-        ensures counts { self.new ≡ after_read_answer self.old result }
-        ensures cause { IsErrOf result Fault.Failed → Rose self.old.faults self.new.faults }
-        ensures memory { IsErrOf result Fault.OutOfMemory → self.new.faults ≡ self.old.faults }
+        ensures exact { self.new ≡ after_read_answer self.old result }
+        ensures counts { AfterRead (real_files self.old) (real_files self.new) result }
 
-        ensures counted { (self.old.faults ≤ self.new.faults) × (self.old.misses ≤ self.new.misses) }
+        ensures counted { self.old.faults ≤ self.new.faults }
     {
         let answer = self.folder.read_at(name, at, buf);
         if let Err(Fault::Failed) = answer {

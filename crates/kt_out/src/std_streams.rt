@@ -35,9 +35,7 @@ impl<R: Read + Drop> StdSource<R> {
 impl<R: Read + Drop> Source for StdSource<R> {
     ghost use Rattle.std.specs.Prelude.{None};
 
-    ghost left = { λ _. None };
-
-    ghost fault_count = { λ faults. faults };
+    ghost state = { λ faults. record { left = None; faults = faults } };
 
     fn faults(&self) -> u64 {
         self.faults
@@ -96,9 +94,7 @@ impl<W: Write + Drop> StdSink<W> {
 impl<W: Write + Drop> Sink for StdSink<W> {
     ghost use Rattle.std.specs.Prelude.{None};
 
-    ghost taken = { λ _. None };
-
-    ghost fault_count = { λ faults. faults };
+    ghost state = { λ faults. record { taken = None; faults = faults } };
 
     fn faults(&self) -> u64 {
         self.faults

@@ -56,11 +56,7 @@ impl MemInputs {
 }
 
 impl Inputs for MemInputs {
-    ghost held = { λ s. Some (bytes_of s.files) };
-
-    ghost fault_count = { λ s. s.calls.failed };
-
-    ghost miss_count = { λ s. s.misses };
+    ghost state = { λ s. record { held = Some (bytes_of s.files); faults = s.calls.failed; misses = s.misses } };
 
     fn faults(&self) -> u64 {
         self.calls.failed()

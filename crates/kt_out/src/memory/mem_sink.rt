@@ -1,6 +1,6 @@
 //! A sink in memory that fails in the calls that it is told to.
-ghost use Rattle.std.specs.Prelude.{◌≡◌, ◌↔◌, ◌<◌, ◌≤◌, [], Some, length, min, IfOk, IsErrOf, IsTrue};
-ghost use Rattle.kt_out.specs.MemoryObjects.{fails_next, after_call, no_calls};
+ghost use Rattle.std.specs.Prelude.{◌≡◌, ◌↔◌, ◌<◌, ◌≤◌, [], length, min, IfOk, IsErrOf, IsTrue};
+ghost use Rattle.kt_out.specs.MemoryObjects.{fails_next, after_call, no_calls, sink_state};
 ghost use Rattle.kt_out.specs.Writing.{Writes};
 
 use super::calls::{Calls, moved_bytes};
@@ -46,9 +46,7 @@ impl MemSink {
 }
 
 impl Sink for MemSink {
-    ghost taken = { λ s. Some s.taken };
-
-    ghost fault_count = { λ s. s.calls.failed };
+    ghost state = { λ s. sink_state s };
 
     fn faults(&self) -> u64 {
         self.calls.failed()
@@ -57,13 +55,12 @@ impl Sink for MemSink {
     fn write(&mut self, piece: &[u8]) -> Result<usize, Fault>
         requires { 0 < length piece.now }
 
-        ensures moved { Writes (Some self.old.taken) (Some self.new.taken) piece.now result }
+        ensures moved { Writes (sink_state self.old) (sink_state self.new) piece.now result }
         ensures within { IfOk result (λ n. (0 < n) × (n ≤ length piece.now)) }
         ensures exact { IfOk result (λ n. n ≡ min (length piece.now) self.old.calls.most) }
 
         // It fails exactly in the calls that are listed.
         ensures refused { IsErrOf result Fault.Failed ↔ IsTrue (fails_next self.old.calls) }
-        ensures memory { IsErrOf result Fault.OutOfMemory → self.new.calls.failed ≡ self.old.calls.failed }
 
         ensures counted { self.old.calls.failed ≤ self.new.calls.failed }
         ensures calls { self.new.calls ≡ after_call self.old.calls }

@@ -1,7 +1,6 @@
 //! A source in memory that fails in the calls that it is told to.
-ghost use Rattle.std.specs.Prelude.{◌≡◌, ◌↔◌, ◌<◌, ◌≤◌, Some, drop, length, min, IfOk, IsErr, IsTrue, OnErr};
-ghost use Rattle.kt_out.specs.Counts.{Rose};
-ghost use Rattle.kt_out.specs.MemoryObjects.{fails_next, after_call, no_calls};
+ghost use Rattle.std.specs.Prelude.{◌≡◌, ◌↔◌, ◌<◌, ◌≤◌, length, min, IfOk, IsErr, IsTrue, OnErr};
+ghost use Rattle.kt_out.specs.MemoryObjects.{fails_next, after_call, no_calls, source_state};
 ghost use Rattle.kt_out.specs.Reading.{Reads};
 
 use super::calls::{Calls, moved_bytes};
@@ -51,9 +50,7 @@ impl MemSource {
 }
 
 impl Source for MemSource {
-    ghost left = { λ s. Some s.left };
-
-    ghost fault_count = { λ s. s.calls.failed };
+    ghost state = { λ s. source_state s };
 
     fn faults(&self) -> u64 {
         self.calls.failed()
@@ -62,7 +59,7 @@ impl Source for MemSource {
     fn read(&mut self, buf: &mut [u8]) -> Result<usize, Failed>
         requires { 0 < length buf.old }
 
-        ensures moved { Reads (Some self.old.left) (Some self.new.left) buf.old buf.new result }
+        ensures moved { Reads (source_state self.old) (source_state self.new) buf.old buf.new result }
         ensures exact { IfOk result (λ n. n ≡ min (length buf.old) (min (length self.old.left) self.old.calls.most)) }
 
         // It fails exactly in the calls that are listed.

@@ -50,11 +50,7 @@ impl SureInputs {
 }
 
 impl Inputs for SureInputs {
-    ghost held = { λ s. Some (bytes_of s.files) };
-
-    ghost fault_count = { λ _. 0 };
-
-    ghost miss_count = { λ s. s.misses };
+    ghost state = { λ s. record { held = Some (bytes_of s.files); faults = 0; misses = s.misses } };
 
     fn faults(&self) -> u64 {
         0

@@ -61,9 +61,7 @@ impl SureOutputs {
 }
 
 impl Outputs for SureOutputs {
-    ghost written = { λ files. Some (bytes_of files) };
-
-    ghost fault_count = { λ _. 0 };
+    ghost state = { λ files. record { written = Some (bytes_of files); faults = 0 } };
 
     fn faults(&self) -> u64 {
         0

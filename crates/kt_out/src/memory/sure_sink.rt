@@ -1,5 +1,6 @@
 //! A sink in memory that never fails.
-ghost use Rattle.std.specs.Prelude.{◌≡◌, ◌<◌, [], Some, length, IfOk, IfErr};
+ghost use Rattle.std.specs.Prelude.{◌≡◌, ◌<◌, [], length, IfOk, IfErr};
+ghost use Rattle.kt_out.specs.MemoryObjects.{sure_sink_state};
 ghost use Rattle.kt_out.specs.Writing.{Writes};
 
 use crate::{Fault, Sink};
@@ -39,9 +40,7 @@ impl SureSink {
 }
 
 impl Sink for SureSink {
-    ghost taken = { λ s. Some s };
-
-    ghost fault_count = { λ _. 0 };
+    ghost state = { λ s. sure_sink_state s };
 
     fn faults(&self) -> u64 {
         0
@@ -51,7 +50,7 @@ impl Sink for SureSink {
     fn write(&mut self, piece: &[u8]) -> Result<usize, Fault>
         requires { 0 < length piece.now }
 
-        ensures moved { Writes (Some self.old) (Some self.new) piece.now result }
+        ensures moved { Writes (sure_sink_state self.old) (sure_sink_state self.new) piece.now result }
         ensures exact { IfOk result (λ n. n ≡ length piece.now) }
 
         // It never fails.

@@ -1,5 +1,6 @@
 //! A source in memory that never fails.
-ghost use Rattle.std.specs.Prelude.{◌≡◌, ◌<◌, Some, length, min, Ok};
+ghost use Rattle.std.specs.Prelude.{◌≡◌, ◌<◌, length, min, Ok};
+ghost use Rattle.kt_out.specs.MemoryObjects.{sure_source_state};
 ghost use Rattle.kt_out.specs.Reading.{Reads};
 
 use crate::{Failed, Source};
@@ -39,9 +40,7 @@ impl SureSource {
 }
 
 impl Source for SureSource {
-    ghost left = { λ s. Some s };
-
-    ghost fault_count = { λ _. 0 };
+    ghost state = { λ s. sure_source_state s };
 
     fn faults(&self) -> u64 {
         0
@@ -51,7 +50,7 @@ impl Source for SureSource {
     fn read(&mut self, buf: &mut [u8]) -> Result<usize, Failed>
         requires { 0 < length buf.old }
 
-        ensures moved { Reads (Some self.old) (Some self.new) buf.old buf.new result }
+        ensures moved { Reads (sure_source_state self.old) (sure_source_state self.new) buf.old buf.new result }
         ensures exact { result ≡ Ok (min (length buf.old) (length self.old)) }
     {
         let rest = &self.bytes[self.place..];

@@ -1,0 +1,175 @@
+//! The line on standard error that says why a run was refused.
+//! The rules: docs/REFUSALS.md, "Texts".
+ghost use Rattle.std.specs.Prelude.{◌≡◌, ◌++◌, OnOk, IfOk, codes};
+ghost use Rattle.kt_money.specs.NumberText.{count_text};
+ghost use Rattle.kt_ends.specs.Line.{cause_text, field_text, file_text, refusal_text, stream_text, status_text, status_line};
+ghost use Rattle.kt_ends.specs.Line.{IsRefused};
+
+use crate::status::{Refusal, Status};
+use kt_cells::Cause;
+use kt_money::{Bytes, OutOfMemory, push_count};
+use kt_rec::Name;
+use kt_stream::{RecordCause, StreamStop};
+use kt_words::WordCause;
+use std::alloc::Global;
+
+/// The text of a word's cause.
+fn cause_words(cause: WordCause) -> &'static [u8]
+    ensures { result.now ≡ cause_text cause }
+{
+    match cause {
+        WordCause::Missing => b"missing",
+        WordCause::UnknownTool => b"unknown tool",
+        WordCause::UnknownOption => b"unknown option",
+        WordCause::Repeated => b"repeated",
+        WordCause::NeedsValue => b"needs a value",
+        WordCause::BadValue => b"bad value",
+        WordCause::Unexpected => b"unexpected",
+        WordCause::NotTogether => b"not together",
+        WordCause::BadPart => b"bad part",
+    }
+}
+
+/// Appends `byte B: TEXT`.
+fn push_place(out: &mut Bytes, byte: u64, text: &[u8]) -> Result<(), OutOfMemory>
+    ensures { OnOk result (out.new ≡ out.old ++ (codes "byte " ++ (count_text byte ++ (codes ": " ++ text.now)))) }
+{
+    out.append(b"byte ")?;
+    push_count(out, byte)?;
+    out.append(b": ")?;
+    out.append(text)
+}
+
+/// Appends the text of a refused stream.
+fn push_stream_text(out: &mut Bytes, stop: StreamStop) -> Result<(), OutOfMemory>
+    ensures { OnOk result (out.new ≡ out.old ++ stream_text stop) }
+{
+    match stop {
+        StreamStop::NotProfile => out.append(b"not of this profile"),
+        StreamStop::BadRecord {
+            byte,
+            cause: RecordCause::Record,
+        } => push_place(out, byte, b"record"),
+        StreamStop::Cut { byte } => push_place(out, byte, b"cut"),
+        StreamStop::TooLong => out.append(b"too long"),
+        StreamStop::OutOfMemory => Ok(()),
+    }
+}
+
+/// The text of what is wrong with a row or a field.
+fn field_words(cause: Cause) -> &'static [u8]
+    ensures { result.now ≡ field_text cause }
+{
+    match cause {
+        Cause::Columns => b"columns",
+        Cause::NotANumber => b"notanumber",
+        Cause::TooManyDigits => b"toomanydigits",
+        Cause::ExponentRange => b"exponentrange",
+        Cause::TooLarge => b"toolarge",
+        Cause::Zero => b"zero",
+        Cause::Rule => b"rule",
+        Cause::Order => b"order",
+    }
+}
+
+/// Appends `NAME: TEXT`.
+fn push_file(out: &mut Bytes, name: &Name, text: &[u8]) -> Result<(), OutOfMemory>
+    ensures { OnOk result (out.new ≡ out.old ++ file_text name.now text.now) }
+{
+    out.append(name.as_slice())?;
+    out.append(b": ")?;
+    out.append(text)
+}
+
+/// Appends `NAME: TEXT N`, where a blank ends the text.
+fn push_found(out: &mut Bytes, name: &Name, text: &[u8], found: u32) -> Result<(), OutOfMemory>
+    ensures { OnOk result (out.new ≡ out.old ++ file_text name.now (text.now ++ count_text found)) }
+{
+    push_file(out, name, text)?;
+    push_count(out, found as u64)
+}
+
+/// Appends `NAME: row R`.
+fn push_row(out: &mut Bytes, name: &Name, row: u64) -> Result<(), OutOfMemory>
+    ensures { OnOk result (out.new ≡ out.old ++ file_text name.now (codes "row " ++ count_text row)) }
+{
+    push_file(out, name, b"row ")?;
+    push_count(out, row)
+}
+
+/// Appends ` column C: CAUSE`.
+fn push_field(out: &mut Bytes, column: u32, cause: Cause) -> Result<(), OutOfMemory>
+    ensures { OnOk result (out.new ≡ out.old ++ (codes " column " ++ (count_text column ++ (codes ": " ++ field_text cause)))) }
+{
+    out.append(b" column ")?;
+    push_count(out, column as u64)?;
+    out.append(b": ")?;
+    out.append(field_words(cause))
+}
+
+/// Appends `: check N`.
+fn push_check(out: &mut Bytes, number: u32) -> Result<(), OutOfMemory>
+    ensures { OnOk result (out.new ≡ out.old ++ (codes ": check " ++ count_text number)) }
+{
+    out.append(b": check ")?;
+    push_count(out, number as u64)
+}
+
+/// Appends why a run is refused.
+fn push_refusal(out: &mut Bytes, refusal: &Refusal) -> Result<(), OutOfMemory>
+    ensures { OnOk result (out.new ≡ out.old ++ refusal_text refusal.now) }
+{
+    match refusal {
+        Refusal::Stream(stop) => push_stream_text(out, *stop),
+        Refusal::Missing { name } => push_file(out, name, b"missing"),
+        Refusal::TooLarge { name } => push_file(out, name, b"too large"),
+        Refusal::NotProfile { name } => push_file(out, name, b"not of this profile"),
+        Refusal::WrongTable { name, found } => push_found(out, name, b"wrong table ", *found),
+        Refusal::WrongVersion { name, found } => push_found(out, name, b"wrong version ", *found),
+        Refusal::CutRecord { name, row } => {
+            push_row(out, name, *row)?;
+            out.append(b": cut record")
+        }
+        Refusal::Bad {
+            name,
+            row,
+            column,
+            cause,
+        } => {
+            push_row(out, name, *row)?;
+            push_field(out, *column, *cause)
+        }
+        Refusal::Check { number, name, row } => {
+            push_row(out, name, *row)?;
+            push_check(out, *number)
+        }
+    }
+}
+
+/// Appends what a status says: nothing, unless the words or the input are refused.
+fn push_status_text(out: &mut Bytes, status: &Status) -> Result<(), OutOfMemory>
+    ensures { OnOk result (out.new ≡ out.old ++ status_text status.now) }
+{
+    match status {
+        Status::Words(stop) => {
+            out.append(b"word ")?;
+            push_count(out, stop.word as u64)?;
+            out.append(b": ")?;
+            out.append(cause_words(stop.cause))
+        }
+        Status::Refused(refusal) => push_refusal(out, refusal),
+        _ => Ok(()),
+    }
+}
+
+/// The line that a refused run has on standard error.
+pub fn line_of(alloc: Global, status: &Status) -> Result<Bytes, OutOfMemory>
+    requires { IsRefused status.now }
+    ensures { IfOk result (λ text. text ≡ status_line status.now) }
+{
+    let mut out = Bytes::new(alloc);
+    out.append(b"ktools: ")?;
+    push_status_text(&mut out, status)?;
+    out.append(b"\n")?;
+    Ok(out)
+}

@@ -1,0 +1,106 @@
+//! How a run ends.
+//! The rules: docs/REFUSALS.md, "Statuses".
+ghost use Rattle.std.specs.Prelude.{◌≡◌};
+ghost use Rattle.kt_ends.specs.Status.{status_code};
+
+use kt_cells::Cause;
+use kt_rec::Name;
+use kt_stream::StreamStop;
+use kt_words::WordStop;
+
+/// Why a run was refused: the first bad record or exceeded limit. A table is named by its file; that of
+/// the source is `source`.
+#[derive(Debug, Drop)]
+pub enum Refusal {
+    /// The stream is refused.
+    Stream(StreamStop),
+    /// There is no file of this name. Comes only where the inputs counted a miss.
+    Missing {
+        /// The table's file.
+        name: Name,
+    },
+    /// A table has more than 2^30 bytes.
+    TooLarge {
+        /// The table's file.
+        name: Name,
+    },
+    /// A file does not begin as that of a table does.
+    NotProfile {
+        /// The table's file.
+        name: Name,
+    },
+    /// A file is that of another table.
+    WrongTable {
+        /// The table's file.
+        name: Name,
+        /// The number of the table that it has.
+        found: u32,
+    },
+    /// A file has another version.
+    WrongVersion {
+        /// The table's file.
+        name: Name,
+        /// The version that it has.
+        found: u32,
+    },
+    /// A file ends within a record.
+    CutRecord {
+        /// The table's file.
+        name: Name,
+        /// The row that the record would be, counted from 1.
+        row: u64,
+    },
+    /// A row or a field is wrong.
+    Bad {
+        /// The table's file.
+        name: Name,
+        /// The row, counted from 1; 0 for the header of a file.
+        row: u64,
+        /// The column, counted from 1; 0 for the row as a whole.
+        column: u32,
+        /// What is wrong.
+        cause: Cause,
+    },
+    /// A check refuses the tables.
+    Check {
+        /// The number of the check, 1 to 21.
+        number: u32,
+        /// The table's file.
+        name: Name,
+        /// The first row that is refused, counted from 1; 0 for the table as a whole.
+        row: u64,
+    },
+}
+
+/// How a run ended.
+#[derive(Debug, Drop)]
+pub enum Status {
+    /// The input was read to its end, and all output was taken.
+    Done,
+    /// The words are faulty; nothing was read or written.
+    Words(WordStop),
+    /// The input is refused.
+    Refused(Refusal),
+    /// The source or a table could not be read.
+    ReadFault,
+    /// The sink or an output file could not be written.
+    WriteFault,
+    /// No memory was there.
+    NoMemory,
+}
+
+impl Status {
+    /// The exit status of the program: 0, or 2 to 6 in the order of the variants.
+    pub fn code(&self) -> u8
+        ensures value { result ≡ status_code self.now }
+    {
+        match self {
+            Status::Done => 0,
+            Status::Words(_) => 2,
+            Status::Refused(_) => 3,
+            Status::ReadFault => 4,
+            Status::WriteFault => 5,
+            Status::NoMemory => 6,
+        }
+    }
+}

@@ -1,0 +1,6 @@
+//! The words of a call.
+#![tactic(auto)]
+
+mod stop;
+
+pub use stop::{WordCause, WordStop};
