@@ -60,13 +60,13 @@ abbrev pub made_over : List File → FileMap → FileMap
 made_over made files name = option_or (bytes_of made name) (files name)
 
 -- these files were made: a front of the list of those that are wanted, each with some front of its text
-unfoldable pub AreFronts : List File → List File → Type 0
+abbrev pub AreFronts : List File → List File → Type 0
 AreFronts [] wanted = Unit {0}
 AreFronts (one ∷ more) [] = ⊥
 AreFronts (one ∷ more) (want ∷ rest) = (one.name ≡ want.name) × IsFront one.bytes want.bytes × AreFronts more rest
 
 -- the name that would be made next
-unfoldable pub next_name : List File → List File → Option (List ℕ)
+abbrev pub next_name : List File → List File → Option (List ℕ)
 next_name [] [] = None
 next_name [] (want ∷ rest) = Some want.name
 next_name (one ∷ more) [] = None
