@@ -3,7 +3,7 @@
 use Rattle.std.proofs.Common.{subst, sym, ap, ◌∙◌, refl, inl, inr}
 use Rattle.std.proofs.lemmas.Bool.{false≢true}
 use Rattle.std.proofs.lemmas.List.{append-nil, take-append-drop}
-use Rattle.std.specs.Prelude.{◌≡◌, ◌⊎◌, ℕ, Bool, true, false, List, [], ◌∷◌, ◌++◌, take, drop, Option, Some, None, IfSome, IsSomeAnd, Result, Ok, Err}
+use Rattle.std.specs.Prelude.{◌≡◌, ℕ, Bool, true, List, [], ◌++◌, take, drop, Option, Some, None, IfSome, IsSomeAnd, Result, Ok, Err}
 use Rattle.kt_out.specs.Counts.{Rose}
 use Rattle.kt_out.specs.InputFiles.{InputsState, CountsFault, CountsMiss}
 use Rattle.kt_out.specs.NamedFiles.{File, FileMap}
@@ -12,7 +12,7 @@ use Rattle.kt_out.specs.Reading.{SourceState}
 use Rattle.kt_out.specs.Writing.{SinkState, Gains, GainsFront, WritesAll}
 use Rattle.kt_out.specs.declared.fault.Fault.{Fault}
 use Rattle.kt_out.specs.declared.fault.Fault.TheVariants.{Failed, OutOfMemory}
-use Rattle.kt_ends.specs.Ending.{Verdict, Gained, GainedFront, IsFront, IsMissing, Made, PartlyMade, AllMade, NoFault, NoCount, KeepsReads, KeepsWrites, Counted, CountedMiss, CountedRead, CountedWrite, AtEnd, Ended}
+use Rattle.kt_ends.specs.Ending.{Verdict, Gained, GainedFront, IsMissing, Made, PartlyMade, AllMade, NoCount, KeepsReads, Counted, Ended}
 use Rattle.kt_ends.specs.Outcome.{Outcome}
 use Rattle.kt_ends.specs.Stops.{fault_stop, stop_status}
 use Rattle.kt_ends.specs.World.{World, Uses, Keeps, KeepsOthers}

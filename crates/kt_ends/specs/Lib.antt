@@ -6,3 +6,4 @@ pub mod World
 pub mod Ending
 pub mod Report
 pub mod Endings
+pub mod RunEnds

@@ -1,6 +1,6 @@
 -- The objects outside, as contracts see them, and those of them that a command uses.
 -- The rules: docs/REFUSALS.md, "Statuses".
-use Rattle.std.specs.Prelude.{◌≡◌, ℕ, Bool, true, false, List, Option, Some}
+use Rattle.std.specs.Prelude.{◌≡◌, ℕ, Bool, true, false, List, Some}
 use Rattle.kt_out.specs.InputFiles.{InputsState}
 use Rattle.kt_out.specs.NamedFiles.{FileMap}
 use Rattle.kt_out.specs.OutputFiles.{OutputsState}
