@@ -1,5 +1,5 @@
 -- The words of a call, one after the other.
-use Rattle.std.proofs.Common.{◌≡◌, ℕ, ◌+◌, ◌<◌, ◌≤◌, List, ◌∷◌, length, drop, get_or, [], Some, Result, Ok, Err, refl, sym, ap, ◌∙◌, drop-cons, add-one, arith}
+use Rattle.std.proofs.Common.{◌≡◌, ℕ, ◌+◌, ◌<◌, ◌≤◌, List, ◌∷◌, length, drop, get_or, [], Some, Result, Ok, Err, refl, sym, ap, ◌∙◌, drop-cons, add-one}
 use Rattle.std.specs.List.{slice_get}
 use Rattle.std.proofs.lemmas.List.{drop_all}
 use Rattle.std.proofs.lemmas.Option.{slice_get_within, unwrap_or-slice_get}
@@ -50,4 +50,6 @@ sound_words words tool given n count end so_far is past judged =
 -- the command by the tool of the first word
 pub command_by_first : (words : List (List ℕ)) (word : List ℕ) (known : Result Tool WordCause) → slice_get words 0 ≡ Some word → known ≡ known_tool word → command_of words ≡ by_tool known words
 command_by_first [] word known first is = cc
-command_by_first (one ∷ rest) word known first is = rw (is) (let same : one ≡ word = cc in rw same refl)
+command_by_first (one ∷ rest) word known first is =
+    let same : one ≡ word = cc in
+    ap (λ (head : List ℕ). by_tool (known_tool head) (one ∷ rest)) same ∙ ap (λ (tool : Result Tool WordCause). by_tool tool (one ∷ rest)) (sym is)

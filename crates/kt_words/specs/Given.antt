@@ -1,6 +1,6 @@
 -- What the words of a tool have said so far, word by word.
 -- The rules: docs/COMMANDS.md, "Words".
-use Rattle.std.specs.Prelude.{ℕ, List, [], ◌∷◌, Bool, false, Option, Some, None, Result, Ok, Err, is_some, length, drop, find, nat_lt, ◌==◌, ◌&&◌, ◌||◌, not, if◌then◌else◌, slice_index, slice_index_or, slice_set, replicate}
+use Rattle.std.specs.Prelude.{ℕ, List, Bool, false, Option, Some, None, Result, Ok, Err, is_some, length, drop, find, nat_lt, ◌==◌, ◌&&◌, ◌||◌, not, if◌then◌else◌, slice_index, slice_index_or, slice_set, replicate}
 use Rattle.std.specs.List.{list_any}
 use Rattle.kt_words.specs.Rows.{letter_of, form_of, is_of_choice, form_at}
 use Rattle.kt_words.specs.Table.{options_of, plain_of}
