@@ -1,6 +1,19 @@
-//! The words of a call.
+//! The words of a call: what each tool takes, as a table, and the command that the words are.
 #![tactic(auto)]
 
+mod command;
+mod given;
+mod judging;
+mod reading;
+mod rows;
 mod stop;
+mod table;
+mod tool;
+mod value;
+mod words;
 
+pub use command::{Command, Conversion, read_command};
+pub use reading::judge_words;
 pub use stop::{WordCause, WordStop};
+pub use tool::Tool;
+pub use words::Words;

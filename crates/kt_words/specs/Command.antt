@@ -1,0 +1,92 @@
+-- What the words of a call ask for, and the first faulty word.
+-- The rules: docs/COMMANDS.md, "Words".
+use Rattle.std.specs.Prelude.{◌≡◌, ℕ, List, [], ◌∷◌, true, Option, Some, None, Result, Ok, Err, not, if◌then◌else◌}
+use Rattle.kt_eve.specs.Parts.{has_part}
+use Rattle.kt_rec.specs.declared.table.Table.{Table}
+use Rattle.kt_rec.specs.declared.table.Table.TheVariants as table
+use Rattle.kt_words.specs.Given.{given_at, is_given}
+use Rattle.kt_words.specs.Judging.{refused_word}
+use Rattle.kt_words.specs.Reading.{given_by}
+use Rattle.kt_words.specs.Tools.{known_tool}
+use Rattle.kt_words.specs.declared.command.Command.{Command}
+use Rattle.kt_words.specs.declared.command.Command.TheVariants as command
+use Rattle.kt_words.specs.declared.command.Conversion.{Conversion}
+use Rattle.kt_words.specs.declared.command.Conversion.TheVariants.{ToFile, ToText}
+use Rattle.kt_words.specs.declared.given.Given.{Given}
+use Rattle.kt_words.specs.declared.given.GivenWord.{GivenWord}
+use Rattle.kt_words.specs.declared.stop.WordCause.{WordCause}
+use Rattle.kt_words.specs.declared.stop.WordCause.TheVariants.{Missing, UnknownTool, BadPart}
+use Rattle.kt_words.specs.declared.stop.WordStop.{WordStop}
+use Rattle.kt_words.specs.declared.tool.Tool.{Tool}
+use Rattle.kt_words.specs.declared.tool.Tool.TheVariants as tool
+use Rattle.kt_words.specs.declared.value.Value.{Value}
+use Rattle.kt_words.specs.declared.value.Value.TheVariants as value
+
+-- no text is made of the footprint without its index
+abbrev pub IsConversion : Conversion → Type 0
+IsConversion (ToFile t periods) = Unit {0}
+IsConversion (ToText t) = t ≡ table.Footprint → ⊥
+
+-- what every command keeps: a conversion that there is, and a part that there is
+abbrev pub IsCommand : Command → Type 0
+IsCommand (command.Eltcalc heading) = Unit {0}
+IsCommand (command.Convert conversion) = IsConversion conversion
+IsCommand command.FootprintText = Unit {0}
+IsCommand (command.Eve part parts) = has_part part parts ≡ true
+
+abbrev pub number_in : Value → ℕ
+number_in (value.Number number) = number
+number_in other = 0
+
+-- the number that a word said; 0 where there is none
+abbrev pub number_or_0 : Option GivenWord → ℕ
+number_or_0 None = 0
+number_or_0 (Some given) = number_in given.value
+
+abbrev pub table_in : Value → Table
+table_in (value.Table t) = t
+table_in other = table.Events
+
+-- the table that a word said; the first where there is none
+abbrev pub table_or_first : Option GivenWord → Table
+table_or_first None = table.Events
+table_or_first (Some given) = table_in given.value
+
+-- the number of a word; 0 where there is none
+abbrev pub word_or_0 : Option GivenWord → ℕ
+word_or_0 None = 0
+word_or_0 (Some given) = given.word
+
+-- the text of a table: that of the footprint needs its index too
+abbrev pub to_text : Table → Command
+to_text table.Footprint = command.FootprintText
+to_text t = command.Convert (ToText t)
+
+-- part `part` of `parts`, where there is one; else the first plain word, of this number, is refused
+abbrev pub part_command : ℕ → ℕ → ℕ → Result Command WordStop
+part_command part parts word = if has_part part parts then Ok (command.Eve part parts) else refused_word word BadPart
+
+-- the part of the event list by its number and how many there are
+abbrev pub eve_command : Given → Result Command WordStop
+eve_command given = part_command (number_or_0 given.first) (number_or_0 given.second) (word_or_0 given.first)
+
+-- the command of a tool by what its words said: of `eltcalc` whether -s was left out, of `tobin` the value of -P
+abbrev pub command_from : Tool → Given → Result Command WordStop
+command_from tool.Eltcalc given = Ok (command.Eltcalc (not (is_given given 115)))
+command_from tool.Tobin given = Ok (command.Convert (ToFile (table_or_first given.first) (number_or_0 (given_at given 80))))
+command_from tool.Tocsv given = Ok (to_text (table_or_first given.first))
+command_from tool.Eve given = eve_command given
+command_from unbuilt given = refused_word 1 UnknownTool
+
+abbrev pub command_by : Tool → Result Given WordStop → Result Command WordStop
+command_by tool (Ok given) = command_from tool given
+command_by tool (Err stop) = Err stop
+
+abbrev pub by_tool : Result Tool WordCause → List (List ℕ) → Result Command WordStop
+by_tool (Ok tool) words = command_by tool (given_by tool words)
+by_tool (Err cause) words = refused_word 1 cause
+
+-- the command that the words are, or the first faulty word
+abbrev pub command_of : List (List ℕ) → Result Command WordStop
+command_of [] = refused_word 1 Missing
+command_of (word ∷ words) = by_tool (known_tool word) (word ∷ words)

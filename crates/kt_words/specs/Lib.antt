@@ -1,0 +1,9 @@
+pub mod Words
+pub mod Tools
+pub mod Rows
+pub mod Table
+pub mod Values
+pub mod Given
+pub mod Judging
+pub mod Reading
+pub mod Command

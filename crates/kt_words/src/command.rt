@@ -1,0 +1,163 @@
+//! What the words of a call ask for.
+//! The rules: docs/COMMANDS.md, "Words".
+ghost use Rattle.std.specs.Prelude.{◌≡◌, IfOk, length};
+ghost use Rattle.kt_eve.specs.Parts.{has_part};
+ghost use Rattle.kt_words.specs.Given.{given_at};
+ghost use Rattle.kt_words.specs.Command.{number_or_0, table_or_first, word_or_0, to_text, eve_command, command_from, command_of, IsCommand};
+
+use crate::given::{Given, GivenWord};
+use crate::judging::refused;
+use crate::reading::read_given;
+use crate::stop::{WordCause, WordStop};
+use crate::tool::{Tool, read_tool};
+use crate::value::Value;
+use crate::words::Words;
+use kt_rec::Table;
+
+/// A way from one form of a table to the other.
+#[derive(Clone, Copy, Debug, PartialEq, Eq)]
+pub enum Conversion {
+    /// From text to file.
+    ToFile {
+        /// The table.
+        table: Table,
+        /// The number of periods for `occurrence`, and 0 else.
+        periods: u32,
+    },
+    /// From file to text: each table but the footprint, whose text needs its index too.
+    ToText {
+        /// The table.
+        table: Table,
+    },
+}
+
+/// What the words ask for.
+#[derive(Clone, Copy, Debug, PartialEq, Eq)]
+pub enum Command {
+    /// The event loss table of a summary stream.
+    Eltcalc {
+        /// Whether the table begins with the names of its columns.
+        heading: bool,
+    },
+    /// A table in its other form.
+    Convert(Conversion),
+    /// The text of the footprint, from its file and its index.
+    FootprintText,
+    /// The events of a part of the event list.
+    Eve {
+        /// The number of the part, from 1.
+        part: u32,
+        /// How many parts there are.
+        parts: u32,
+    },
+}
+
+/// The number that a word said; 0 where there is none.
+fn number(given: Option<GivenWord>) -> u32
+    ensures { result ≡ number_or_0 given }
+{
+    match given {
+        Some(
+            GivenWord {
+                value: Value::Number(number),
+                ..
+            },
+        ) => number,
+        _ => 0,
+    }
+}
+
+/// The table that a word said; the first where there is none.
+fn table(given: Option<GivenWord>) -> Table
+    ensures { result ≡ table_or_first given }
+{
+    match given {
+        Some(
+            GivenWord {
+                value: Value::Table(table),
+                ..
+            },
+        ) => table,
+        _ => Table::Events,
+    }
+}
+
+/// The number of a word; 0 where there is none.
+fn word_number(given: Option<GivenWord>) -> u32
+    ensures { result ≡ word_or_0 given }
+{
+    match given {
+        Some(given) => given.word,
+        None => 0,
+    }
+}
+
+/// The text of a table: that of the footprint needs its index too.
+fn text_command(table: Table) -> Command
+    ensures value { result ≡ to_text table }
+    ensures keeps { IsCommand result }
+{
+    match table {
+        Table::Footprint => Command::FootprintText,
+        table => Command::Convert(Conversion::ToText { table }),
+    }
+}
+
+/// Whether there is a part of this number among so many.
+fn is_part(part: u32, parts: u32) -> bool
+    ensures { result ≡ has_part part parts }
+{
+    1 <= part && part <= parts
+}
+
+/// The part of the event list by its number and how many there are.
+fn part_command(given: &Given) -> Result<Command, WordStop>
+    ensures value { result ≡ eve_command given.now }
+    ensures keeps { IfOk result (λ command. IsCommand command) }
+{
+    let (part, parts) = (number(given.first), number(given.second));
+    if is_part(part, parts) {
+        Ok(Command::Eve { part, parts })
+    } else {
+        refused(word_number(given.first), WordCause::BadPart)
+    }
+}
+
+/// The command of a tool by what its words said.
+fn tool_command(tool: Tool, given: &Given) -> Result<Command, WordStop>
+    ensures value { result ≡ command_from tool given.now }
+    ensures keeps { IfOk result (λ command. IsCommand command) }
+{
+    match tool {
+        Tool::Eltcalc => Ok(Command::Eltcalc {
+            heading: !given.has(b's'),
+        }),
+        Tool::Tobin => Ok(Command::Convert(Conversion::ToFile {
+            table: table(given.first),
+            periods: number(given.option(b'P')),
+        })),
+        Tool::Tocsv => Ok(text_command(table(given.first))),
+        Tool::Eve => part_command(given),
+        _ => refused(1, WordCause::UnknownTool),
+    }
+}
+
+/// The command that the words are, or the first faulty word. No words have a first that is missing. A first word that is
+/// no built tool is an unknown tool. Behind it each word is judged by itself, from left to right; then come the words
+/// that are missing, those that do not go together, and a part that there is not.
+pub fn read_command(words: &Words) -> Result<Command, WordStop>
+    ensures value { result ≡ command_of words.now }
+    ensures keeps { IfOk result (λ command. IsCommand command) }
+{
+    if words.len() == 0 {
+        return refused(1, WordCause::Missing);
+    }
+    let tool = match read_tool(words.word(0)) {
+        Ok(tool) => tool,
+        Err(cause) => return refused(1, cause),
+    };
+    match read_given(tool, words) {
+        Ok(given) => tool_command(tool, &given),
+        Err(stop) => Err(stop),
+    }
+}
