@@ -1,0 +1,47 @@
+-- Which faults the calls of a stage and of the loop count, by how they end.
+-- The rules: docs/REFUSALS.md, "Statuses".
+use Rattle.std.specs.Prelude.{◌≡◌, ℕ, Result, Ok, Err}
+use Rattle.kt_out.specs.Counts.{Rose}
+use Rattle.kt_out.specs.InputFiles.{InputsState, CountsFault, CountsMiss}
+use Rattle.kt_ends.specs.declared.status.Refusal.TheVariants as refusal
+use Rattle.kt_ends.specs.declared.tool_stop.ToolStop.{ToolStop}
+use Rattle.kt_ends.specs.declared.tool_stop.ToolStop.TheVariants as stop
+
+-- what a call of a stage leaves of the input files: a fault or a miss was counted exactly where it is answered
+abbrev pub Consults : {T : Type 0} → InputsState → InputsState → Result T ToolStop → Type 0
+Consults before after (Ok done) = after ≡ before
+Consults before after (Err (stop.Refused (refusal.Missing name))) = CountsMiss before after
+Consults before after (Err (stop.Refused other)) = after ≡ before
+Consults before after (Err stop.ReadFault) = CountsFault before after
+Consults before after (Err stop.WriteFault) = ⊥
+Consults before after (Err stop.NoMemory) = after ≡ before
+
+-- what writing leaves of the sink's count of faults
+abbrev pub CountsWrite : {T : Type 0} → ℕ → ℕ → Result T ToolStop → Type 0
+CountsWrite before after (Ok done) = after ≡ before
+CountsWrite before after (Err (stop.Refused why)) = ⊥
+CountsWrite before after (Err stop.ReadFault) = ⊥
+CountsWrite before after (Err stop.WriteFault) = Rose before after
+CountsWrite before after (Err stop.NoMemory) = after ≡ before
+
+-- the same for calls that write too: of the input files
+abbrev pub InputsCounted : {T : Type 0} → InputsState → InputsState → Result T ToolStop → Type 0
+InputsCounted before after (Ok done) = after ≡ before
+InputsCounted before after (Err (stop.Refused (refusal.Missing name))) = CountsMiss before after
+InputsCounted before after (Err (stop.Refused other)) = after ≡ before
+InputsCounted before after (Err stop.ReadFault) = CountsFault before after
+InputsCounted before after (Err stop.WriteFault) = after ≡ before
+InputsCounted before after (Err stop.NoMemory) = after ≡ before
+
+-- of the sink
+abbrev pub SinkCounted : {T : Type 0} → ℕ → ℕ → Result T ToolStop → Type 0
+SinkCounted before after (Ok done) = after ≡ before
+SinkCounted before after (Err (stop.Refused why)) = after ≡ before
+SinkCounted before after (Err stop.ReadFault) = after ≡ before
+SinkCounted before after (Err stop.WriteFault) = Rose before after
+SinkCounted before after (Err stop.NoMemory) = after ≡ before
+
+-- of both
+pub record Counts {T : Type 0} (inputs inputs_now : InputsState) (faults faults_now : ℕ) (result : Result T ToolStop) : Type 0 where
+  pub of_inputs : InputsCounted inputs inputs_now result
+  pub of_sink : SinkCounted faults faults_now result

@@ -1,0 +1,68 @@
+//! Carrying a calculation on with what a reader holds.
+//! The rules: docs/STREAMS.md, "Tools over streams".
+ghost use Rattle.std.specs.Prelude.{◌≡◌, ℕ, true, false, List, [], ◌∷◌, ◌++◌, Option, Some, None, OnOk};
+ghost use Rattle.std.specs.List.{AllByRecursion};
+ghost use Rattle.kt_out.specs.InputFiles.{InputsState};
+ghost use Rattle.kt_stream.specs.declared.entry.Placed.{Placed};
+ghost use Rattle.kt_ends.specs.declared.status.Refusal.{Refusal};
+ghost use Rattle.kt_loop.specs.Calculation.{Course, opened, took, took_all};
+ghost use Rattle.kt_loop.specs.Carrying.{carried, header_if};
+ghost use Rattle.kt_loop.specs.Counts.{Counts};
+ghost use Rattle.kt_loop.specs.Reading.{AreGood};
+ghost use Rattle.kt_loop.specs.Steps.{Stands, Comes};
+
+use crate::reader::StreamReader;
+use crate::spill::spill;
+use crate::stage::Stage;
+use kt_ends::ToolStop;
+use kt_money::Bytes;
+use kt_out::Sink;
+use kt_stream::Placed;
+
+/// Where so many bytes are pending they are written, so that the memory is bounded whatever the stream.
+const SPILL: usize = 65_536;
+
+/// Opens a stage.
+fn open_stage<H, E, W, T: Stage<H, E, W>, K: Sink>(
+    stage: &mut T,
+    world: &mut W,
+    head: H,
+    sink: &K,
+    out: &mut Bytes,
+) -> Result<(), ToolStop>
+    requires accepted { T.accepts head }
+    requires ready { T.is_ready None stage.old }
+
+    ensures course { (before : Option (List ℕ)) (course : Course T.State Refusal) → Stands (λ state. T.is_at state stage.old world.old) before (K.state sink.now).taken out.old course → Comes (λ state. T.is_at state stage.new world.new) before (K.state sink.now).taken out.new (opened T.calculation head course) result }
+    ensures ready { OnOk result (T.is_ready (Some head) stage.new) }
+    ensures counted { (beside : InputsState) → Counts (T.inputs beside world.old) (T.inputs beside world.new) (K.state sink.now).faults (K.state sink.now).faults result }
+{
+    stage.open(world, head, out)
+}
+
+/// Takes one record, and writes what is pending where that is much.
+fn take_one<H, E, W, T: Stage<H, E, W>, K: Sink>(
+    stage: &mut T,
+    world: &mut W,
+    head: H,
+    placed: Placed<E>,
+    sink: &mut K,
+    out: &mut Bytes,
+) -> Result<(), ToolStop>
+    requires accepted { T.accepts head }
+    requires good { T.is_good head placed }
+    requires ready { T.is_ready (Some head) stage.old }
+
+    ensures course { (before : Option (List ℕ)) (course : Course T.State Refusal) → Stands (λ state. T.is_at state stage.old world.old) before (K.state sink.old).taken out.old course → Comes (λ state. T.is_at state stage.new world.new) before (K.state sink.new).taken out.new (took T.calculation head course placed) result }
+    ensures ready { OnOk result (T.is_ready (Some head) stage.new) }
+    ensures counted { (beside : InputsState) → Counts (T.inputs beside world.old) (T.inputs beside world.new) (K.state sink.old).faults (K.state sink.new).faults result }
+{
+    let Placed { at, entry } = placed;
+    if let Err(stop) = stage.take(world, head, at, entry, out) {
+        return Err(stop);
+    }
+    if out.len() < SPILL {
+        return Ok(());
+    }
+    spill(sink, out)
+}
