@@ -1,3 +1,4 @@
 pub mod Courses
 pub mod Giving
 pub mod Stepping
+pub mod Taking

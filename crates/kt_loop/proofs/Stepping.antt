@@ -80,3 +80,7 @@ counts_write T before after faults faults_now (Err stop.NoMemory) same by = reco
 pub counts_behind : (T : Type 0) (before between after : InputsState) (faults faults_between faults_now : ℕ) (result : Result T ToolStop) → (between ≡ before) → (faults_between ≡ faults) → Counts between after faults_between faults_now result → Counts before after faults faults_now result
 counts_behind T before between after faults faults_between faults_now result same same_faults counts =
     subst (λ (inputs : InputsState). Counts inputs after faults faults_now result) same (subst (λ (n : ℕ). Counts between after n faults_now result) same_faults counts)
+
+-- some input files
+abbrev pub no_inputs : InputsState
+no_inputs = record { held = None; faults = 0; misses = 0 }

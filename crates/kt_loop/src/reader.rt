@@ -10,22 +10,22 @@ use kt_stream::{Placed, StreamStop};
 /// A reader of a stream, which is fed pieces of any size and holds the whole records that were not taken yet.
 pub trait StreamReader {
     /// The header of a stream.
-    type Head;
+    type Head: Copy;
 
     /// A record of a stream.
     type Entry;
 
     /// What a stream of these bytes holds.
-    ghost contents: { List ℕ → Contents Head Entry };
+    ghost contents: { List ℕ → Contents Self.Head Self.Entry };
 
     /// The reader was given these bytes, in whatever pieces, and these records were taken from it.
-    ghost represents: { List ℕ → List (Placed Entry) → Self → Type 0 };
+    ghost represents: { List ℕ → List (Placed Self.Entry) → Self → Type 0 };
 
     /// The header, once it is whole and good.
-    ghost header: { Self → Option Head };
+    ghost header: { Self → Option Self.Head };
 
     /// The whole records that were not taken yet.
-    ghost held: { Self → List (Placed Entry) };
+    ghost held: { Self → List (Placed Self.Entry) };
 
     /// The header, once it is whole and good.
     fn head(&self) -> Option<Self::Head>
@@ -45,7 +45,7 @@ pub trait StreamReader {
     /// The next whole record, if one is held.
     fn take(&mut self) -> Option<Placed<Self::Entry>>
         ensures found { IfSome result (λ first. held self.old ≡ first ∷ held self.new) }
-        ensures stands { IfSome result (λ first. (fed : List ℕ) (taken : List (Placed Entry)) → represents fed taken self.old → represents fed (taken ++ first ∷ []) self.new) }
+        ensures stands { IfSome result (λ first. (fed : List ℕ) (taken : List (Placed Self.Entry)) → represents fed taken self.old → represents fed (taken ++ first ∷ []) self.new) }
 
         ensures absent { IfNone result (held self.old ≡ []) }
         ensures unchanged { IfNone result (self.new ≡ self.old) }
@@ -58,5 +58,5 @@ pub trait StreamReader {
 
     /// What was taken and what is held is what was read: a theorem, as a function with an empty body.
     fn what_is_held_was_read()
-        ensures { (fed : List ℕ) (taken : List (Placed Entry)) (reader : Self) → represents fed taken reader → IsRead (contents fed) taken (header reader) (held reader) };
+        ensures { (fed : List ℕ) (taken : List (Placed Self.Entry)) (reader : Self) → represents fed taken reader → IsRead (contents fed) taken (header reader) (held reader) };
 }
