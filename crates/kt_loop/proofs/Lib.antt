@@ -2,3 +2,5 @@ pub mod Courses
 pub mod Giving
 pub mod Stepping
 pub mod Taking
+pub mod Growing
+pub mod Settling

@@ -84,3 +84,20 @@ counts_behind T before between after faults faults_between faults_now result sam
 -- some input files
 abbrev pub no_inputs : InputsState
 no_inputs = record { held = None; faults = 0; misses = 0 }
+
+-- what a stop counted is the same whatever else could have been answered
+inputs_as : (T U : Type 0) (before after : InputsState) (why : ToolStop) → InputsCounted {T = T} before after (Err why) → InputsCounted {T = U} before after (Err why)
+inputs_as T U before after (stop.Refused (refusal.Missing name)) by = by
+inputs_as T U before after (stop.Refused why) by = by
+inputs_as T U before after stop.ReadFault by = by
+inputs_as T U before after stop.WriteFault by = by
+inputs_as T U before after stop.NoMemory by = by
+
+sink_as : (T U : Type 0) (before after : ℕ) (why : ToolStop) → SinkCounted {T = T} before after (Err why) → SinkCounted {T = U} before after (Err why)
+sink_as T U before after (stop.Refused why) by = by
+sink_as T U before after stop.ReadFault by = by
+sink_as T U before after stop.WriteFault by = by
+sink_as T U before after stop.NoMemory by = by
+
+pub counts_as : (T U : Type 0) (before after : InputsState) (faults faults_now : ℕ) (why : ToolStop) → Counts {T = T} before after faults faults_now (Err why) → Counts {T = U} before after faults faults_now (Err why)
+counts_as T U before after faults faults_now why by = record { of_inputs = inputs_as T U before after why by.of_inputs; of_sink = sink_as T U faults faults_now why by.of_sink }

@@ -1,6 +1,6 @@
 -- Which faults the calls of a stage and of the loop count, by how they end.
 -- The rules: docs/REFUSALS.md, "Statuses".
-use Rattle.std.specs.Prelude.{◌≡◌, ℕ, Result, Ok, Err}
+use Rattle.std.specs.Prelude.{◌≡◌, ◌⊎◌, ℕ, Result, Ok, Err}
 use Rattle.kt_out.specs.Counts.{Rose}
 use Rattle.kt_out.specs.InputFiles.{InputsState, CountsFault, CountsMiss}
 use Rattle.kt_ends.specs.declared.status.Refusal.TheVariants as refusal
@@ -45,3 +45,12 @@ SinkCounted before after (Err stop.NoMemory) = after ≡ before
 pub record Counts {T : Type 0} (inputs inputs_now : InputsState) (faults faults_now : ℕ) (result : Result T ToolStop) : Type 0 where
   pub of_inputs : InputsCounted inputs inputs_now result
   pub of_sink : SinkCounted faults faults_now result
+
+-- what reading leaves of the source's count of faults, beside the input files and the sink
+abbrev pub CountsRead : {T : Type 0} → InputsState → InputsState → ℕ → ℕ → ℕ → ℕ → Result T ToolStop → Type 0
+CountsRead inputs inputs_now reads reads_now faults faults_now (Ok done) = (inputs_now ≡ inputs) × (reads_now ≡ reads) × (faults_now ≡ faults)
+CountsRead inputs inputs_now reads reads_now faults faults_now (Err (stop.Refused (refusal.Missing name))) = CountsMiss inputs inputs_now × (reads_now ≡ reads) × (faults_now ≡ faults)
+CountsRead inputs inputs_now reads reads_now faults faults_now (Err (stop.Refused other)) = (inputs_now ≡ inputs) × (reads_now ≡ reads) × (faults_now ≡ faults)
+CountsRead inputs inputs_now reads reads_now faults faults_now (Err stop.ReadFault) = ((CountsFault inputs inputs_now × (reads_now ≡ reads)) ⊎ ((inputs_now ≡ inputs) × Rose reads reads_now)) × (faults_now ≡ faults)
+CountsRead inputs inputs_now reads reads_now faults faults_now (Err stop.WriteFault) = (inputs_now ≡ inputs) × (reads_now ≡ reads) × Rose faults faults_now
+CountsRead inputs inputs_now reads reads_now faults faults_now (Err stop.NoMemory) = (inputs_now ≡ inputs) × (reads_now ≡ reads) × (faults_now ≡ faults)

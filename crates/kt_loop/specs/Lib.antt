@@ -6,3 +6,6 @@ pub mod Counts
 pub mod Steps
 pub mod Reading
 pub mod Carrying
+pub mod Outcome
+pub mod Settling
+pub mod Running

@@ -56,3 +56,8 @@ pub record TakesFirst {T E : Type 0} (represents : List ℕ → List (Placed E) 
 abbrev pub AreGood : {H E : Type 0} → (H → Type 0) → (H → Placed E → Type 0) → Option H → List (Placed E) → Type 0
 AreGood accepts is_good None entries = Unit {0}
 AreGood accepts is_good (Some head) entries = accepts head × AllByRecursion (is_good head) entries
+
+-- a reader stands for some bytes, of which all records were taken
+pub record Stood {T H E : Type 0} (contents : List ℕ → Contents H E) (represents : List ℕ → List (Placed E) → T → Type 0) (reader : T) : Type 0 where
+  pub fed : List ℕ
+  pub stands : represents fed (contents fed).entries reader

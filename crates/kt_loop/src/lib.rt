@@ -4,8 +4,11 @@
 mod carry;
 pub mod laws;
 mod reader;
+mod run;
 mod spill;
 mod stage;
+mod turn;
 
 pub use reader::StreamReader;
+pub use run::run_stage;
 pub use stage::Stage;
