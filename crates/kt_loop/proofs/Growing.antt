@@ -82,7 +82,7 @@ module _ {H E S : Type 0} (calculation : Calculation H E S Refusal) (start : S) 
   turned before now header header_now held held_now was read read_now grows is =
       ap (λ (w : Bool). carried calculation w header_now (course_of calculation start before.head before.entries) held_now) (is ∙ ap (λ (head : Option H). is_some head) read.head)
       ∙ ap (λ (head : Option H). carried calculation (is_some before.head) head (course_of calculation start before.head before.entries) held_now) read_now.head
-      ∙ course_carried calculation start before.head now.head before.entries now.entries held_now (record { head_stays = grows.head; headless = λ none. read.headless (read.head ∙ none); records = read_now.records })
+      ∙ course_carried calculation start before.head now.head before.entries now.entries held_now (record { head_stays = grows.head; headless = grows.headless; records = read_now.records })
 
   abbrev no_header : Option H
   no_header = None
@@ -97,16 +97,16 @@ module _ {H E S : Type 0} (calculation : Calculation H E S Refusal) (start : S) 
       ∙ course_carried calculation start None now.head [] now.entries held_now (record { head_stays = λ known is. absurd (no_head known is); headless = λ none. refl; records = read_now.records })
 
   -- the text grows with what is read
-  pub text_grows : (before now : Contents H E) (header : Option H) (held : List (Placed E)) → IsRead before before.entries header held → Grows before now
+  pub text_grows : (before now : Contents H E) → Grows before now
       → (more : List ℕ) × ((course_of calculation start now.head now.entries).text ≡ (course_of calculation start before.head before.entries).text ++ more)
-  text_grows before now header held read grows =
-      course_longer calculation start before.head now.head before.entries now.entries grows.entries.0 (record { head_stays = grows.head; headless = λ none. read.headless (read.head ∙ none); records = grows.entries.1 })
+  text_grows before now grows =
+      course_longer calculation start before.head now.head before.entries now.entries grows.entries.0 (record { head_stays = grows.head; headless = grows.headless; records = grows.entries.1 })
 
   -- a refusal stays whatever is read behind it
-  pub refusal_stays : (before now : Contents H E) (header : Option H) (held : List (Placed E)) (why : Refusal) → IsRead before before.entries header held → Grows before now → (course_of calculation start before.head before.entries).reached ≡ Err why
+  pub refusal_stays : (before now : Contents H E) (why : Refusal) → Grows before now → (course_of calculation start before.head before.entries).reached ≡ Err why
       → course_of calculation start now.head now.entries ≡ course_of calculation start before.head before.entries
-  refusal_stays before now header held why read grows refused =
-      course_refused calculation start before.head now.head before.entries now.entries grows.entries.0 why (record { head_stays = grows.head; headless = λ none. read.headless (read.head ∙ none); records = grows.entries.1 }) refused
+  refusal_stays before now why grows refused =
+      course_refused calculation start before.head now.head before.entries now.entries grows.entries.0 why (record { head_stays = grows.head; headless = grows.headless; records = grows.entries.1 }) refused
 
 -- the reader stands for what it was fed, whether the stream is refused or not
 pub fed_stands : {T H E : Type 0} (contents : List ℕ → Contents H E) (represents : List ℕ → List (Placed E) → T → Type 0) (stop : Option StreamStop) (fed : List ℕ) (taken : List (Placed E)) (new : T) → FeedsBy contents represents stop fed taken new → represents fed taken new

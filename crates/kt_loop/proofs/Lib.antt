@@ -4,3 +4,4 @@ pub mod Stepping
 pub mod Taking
 pub mod Growing
 pub mod Settling
+pub mod Going

@@ -1,5 +1,5 @@
 -- Steps of a stage, and where the calculation comes by them.
-use Rattle.std.proofs.Common.{◌≡◌, ℕ, List, [], ◌∷◌, ◌++◌, Option, Some, None, Result, Ok, Err, refl, sym, ap, ◌∙◌, append_assoc, subst}
+use Rattle.std.proofs.Common.{◌≡◌, ℕ, List, [], ◌∷◌, ◌++◌, Option, Some, None, Result, Ok, Err, refl, sym, ap, ◌∙◌, append_assoc, subst, inl}
 use Rattle.std.specs.Prelude.{IfSome}
 use Rattle.kt_out.specs.InputFiles.{InputsState, CountsFault, CountsMiss}
 use Rattle.kt_stream.specs.declared.entry.Placed.{Placed}
@@ -8,7 +8,7 @@ use Rattle.kt_ends.specs.declared.status.Refusal.TheVariants as refusal
 use Rattle.kt_ends.specs.declared.tool_stop.ToolStop.{ToolStop}
 use Rattle.kt_ends.specs.declared.tool_stop.ToolStop.TheVariants as stop
 use Rattle.kt_loop.specs.Calculation.{Step, Calculation, Course, behind, started, opened_from, opened, took_from, took, took_all}
-use Rattle.kt_loop.specs.Counts.{Consults, CountsWrite, InputsCounted, SinkCounted, Counts}
+use Rattle.kt_loop.specs.Counts.{Consults, CountsWrite, InputsCounted, SinkCounted, Counts, CountsRead}
 use Rattle.kt_loop.specs.Given.{Given, GivenFront, Spills}
 use Rattle.kt_loop.specs.Steps.{StepsBy, EndsWith, Stands, Refuses, Comes}
 use Rattle.kt_loop.proofs.Giving.{given_more, given_front, front_longer}
@@ -101,3 +101,12 @@ sink_as T U before after stop.NoMemory by = by
 
 pub counts_as : (T U : Type 0) (before after : InputsState) (faults faults_now : ℕ) (why : ToolStop) → Counts {T = T} before after faults faults_now (Err why) → Counts {T = U} before after faults faults_now (Err why)
 counts_as T U before after faults faults_now why by = record { of_inputs = inputs_as T U before after why by.of_inputs; of_sink = sink_as T U faults faults_now why by.of_sink }
+
+-- what calls counted that read nothing of the source
+pub counts_read : (T : Type 0) (before after : InputsState) (reads reads_now faults faults_now : ℕ) (result : Result T ToolStop) → Counts before after faults faults_now result → reads_now ≡ reads → CountsRead before after reads reads_now faults faults_now result
+counts_read T before after reads reads_now faults faults_now (Ok done) by same = (by.of_inputs, same, by.of_sink)
+counts_read T before after reads reads_now faults faults_now (Err (stop.Refused (refusal.Missing name))) by same = (by.of_inputs, same, by.of_sink)
+counts_read T before after reads reads_now faults faults_now (Err (stop.Refused why)) by same = (by.of_inputs, same, by.of_sink)
+counts_read T before after reads reads_now faults faults_now (Err stop.ReadFault) by same = (inl (by.of_inputs, same), by.of_sink)
+counts_read T before after reads reads_now faults faults_now (Err stop.WriteFault) by same = (by.of_inputs, same, by.of_sink)
+counts_read T before after reads reads_now faults faults_now (Err stop.NoMemory) by same = (by.of_inputs, same, by.of_sink)

@@ -11,8 +11,6 @@ use Rattle.kt_loop.specs.Contents.{Contents, IsRefused}
 pub record IsRead {H E : Type 0} (contents : Contents H E) (taken : List (Placed E)) (header : Option H) (held : List (Placed E)) : Type 0 where
   pub head : header ≡ contents.head
   pub records : contents.entries ≡ taken ++ held
-  -- no record stands before the header
-  pub headless : header ≡ None → contents.entries ≡ []
 
 -- the reader was given the piece too, and goes on; a stream has at most 2^40 bytes
 pub record GoesOn {T E : Type 0} (represents : List ℕ → List (Placed E) → T → Type 0) (fed : List ℕ) (taken : List (Placed E)) (new : T) : Type 0 where

@@ -113,6 +113,7 @@ pub(crate) fn carry_on<R: StreamReader, W, T: Stage<R::Head, R::Entry, W>, K: Si
     ensures ready { OnOk result (T.is_ready (R.header reader.new) stage.new) }
     ensures counted { (beside : InputsState) → Counts (T.inputs beside world.old) (T.inputs beside world.new) (K.state sink.old).faults (K.state sink.new).faults result }
 {
+    R::what_is_read_stays();
     R::what_is_held_was_read();
     let Some(head) = reader.head() else {
         return Ok(());

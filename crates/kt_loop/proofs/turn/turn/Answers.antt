@@ -13,8 +13,7 @@ use Rattle.kt_loop.proofs.turn.turn.Goals as goal
 
 pub returns-in-Err-clause-course : goal.returns-in-Err-clause-course
 returns-in-Err-clause-course g c before fed start stood standing =
-    let read = c.what_is_held_was_read.ensures fed _ c.args.reader.now stood in
-    let longer = text_grows g.T.Stage.calculation start _ _ _ _ read (c.what_is_read_stays.ensures fed c.args.piece.now) in
+    let longer = text_grows g.T.Stage.calculation start _ _ (c.what_is_read_stays.ensures fed c.args.piece.now) in
     front_longer before _ _ _ longer.0 (given_front before _ c.args.out.now _ standing.given) longer.1
 
 pub carry_on-requires-clause-good : goal.carry_on-requires-clause-good
