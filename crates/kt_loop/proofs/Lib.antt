@@ -5,3 +5,4 @@ pub mod Taking
 pub mod Growing
 pub mod Settling
 pub mod Going
+pub mod Ending

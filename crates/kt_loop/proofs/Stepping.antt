@@ -1,7 +1,7 @@
 -- Steps of a stage, and where the calculation comes by them.
 use Rattle.std.proofs.Common.{◌≡◌, ℕ, List, [], ◌∷◌, ◌++◌, Option, Some, None, Result, Ok, Err, refl, sym, ap, ◌∙◌, append_assoc, subst, inl}
 use Rattle.std.specs.Prelude.{IfSome}
-use Rattle.kt_out.specs.InputFiles.{InputsState, CountsFault, CountsMiss}
+use Rattle.kt_out.specs.InputFiles.{InputsState, CountsFault}
 use Rattle.kt_stream.specs.declared.entry.Placed.{Placed}
 use Rattle.kt_ends.specs.declared.status.Refusal.{Refusal}
 use Rattle.kt_ends.specs.declared.status.Refusal.TheVariants as refusal
@@ -51,7 +51,7 @@ spilled T stands before now next pending pending_now faults faults_now course (E
 
 inputs_consulted : (T : Type 0) (before after : InputsState) (result : Result T ToolStop) → Consults before after result → InputsCounted before after result
 inputs_consulted T before after (Ok done) by = by
-inputs_consulted T before after (Err (stop.Refused (refusal.Missing name))) by = by
+inputs_consulted T before after (Err (stop.Refused (refusal.Missing name))) by = absurd by
 inputs_consulted T before after (Err (stop.Refused why)) by = by
 inputs_consulted T before after (Err stop.ReadFault) by = by
 inputs_consulted T before after (Err stop.WriteFault) by = absurd by
@@ -87,7 +87,7 @@ no_inputs = record { held = None; faults = 0; misses = 0 }
 
 -- what a stop counted is the same whatever else could have been answered
 inputs_as : (T U : Type 0) (before after : InputsState) (why : ToolStop) → InputsCounted {T = T} before after (Err why) → InputsCounted {T = U} before after (Err why)
-inputs_as T U before after (stop.Refused (refusal.Missing name)) by = by
+inputs_as T U before after (stop.Refused (refusal.Missing name)) by = absurd by
 inputs_as T U before after (stop.Refused why) by = by
 inputs_as T U before after stop.ReadFault by = by
 inputs_as T U before after stop.WriteFault by = by
@@ -105,7 +105,7 @@ counts_as T U before after faults faults_now why by = record { of_inputs = input
 -- what calls counted that read nothing of the source
 pub counts_read : (T : Type 0) (before after : InputsState) (reads reads_now faults faults_now : ℕ) (result : Result T ToolStop) → Counts before after faults faults_now result → reads_now ≡ reads → CountsRead before after reads reads_now faults faults_now result
 counts_read T before after reads reads_now faults faults_now (Ok done) by same = (by.of_inputs, same, by.of_sink)
-counts_read T before after reads reads_now faults faults_now (Err (stop.Refused (refusal.Missing name))) by same = (by.of_inputs, same, by.of_sink)
+counts_read T before after reads reads_now faults faults_now (Err (stop.Refused (refusal.Missing name))) by same = absurd by.of_inputs
 counts_read T before after reads reads_now faults faults_now (Err (stop.Refused why)) by same = (by.of_inputs, same, by.of_sink)
 counts_read T before after reads reads_now faults faults_now (Err stop.ReadFault) by same = (inl (by.of_inputs, same), by.of_sink)
 counts_read T before after reads reads_now faults faults_now (Err stop.WriteFault) by same = (by.of_inputs, same, by.of_sink)

@@ -1,6 +1,7 @@
 -- How the loop ends, before what is pending is written.
 -- The rules: docs/STREAMS.md, "Tools over streams".
-use Rattle.std.specs.Prelude.{◌≡◌, List, ℕ, Option, Result, Ok, Err}
+use Rattle.std.specs.Prelude.{◌≡◌, List, ℕ, Option, IfSome, Result, Ok, Err}
+use Rattle.kt_ends.specs.Ending.{Verdict, Gained}
 use Rattle.kt_ends.specs.Outcome.{Outcome}
 use Rattle.kt_ends.specs.declared.status.Status.{Status}
 use Rattle.kt_ends.specs.declared.status.Status.TheVariants.{Done, Refused}
@@ -20,3 +21,12 @@ Settles outcome before now pending (Err (stop.Refused refusal)) = IsSettled outc
 Settles outcome before now pending (Err stop.ReadFault) = GivenFront before now outcome.output
 Settles outcome before now pending (Err stop.WriteFault) = GivenFront before now outcome.output
 Settles outcome before now pending (Err stop.NoMemory) = GivenFront before now outcome.output
+
+-- the same of a stop
+abbrev pub StopSettles : Outcome → Option (List ℕ) → Option (List ℕ) → List ℕ → ToolStop → Type 0
+StopSettles outcome before now pending why = Settles {T = Unit {0}} outcome before now pending (Err why)
+
+-- the outcome of a run, and what was written of it
+pub record IsEnd (made : Outcome) (before now : Option (List ℕ)) (end : Status) : Type 0 where
+  pub verdict : Verdict made.status end
+  pub output : IfSome before (λ taken. Gained made.output taken now end)

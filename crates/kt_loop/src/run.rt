@@ -4,14 +4,16 @@ ghost use Rattle.std.specs.Prelude.{◌≡◌, ℕ, Bool, List, [], ◌++◌, le
 ghost use Rattle.kt_out.specs.InputFiles.{InputsState};
 ghost use Rattle.kt_out.specs.NamedFiles.{FileMap};
 ghost use Rattle.kt_out.specs.OutputFiles.{OutputsState};
-ghost use Rattle.kt_ends.specs.Ending.{AtEnd};
+ghost use Rattle.kt_out.specs.Reading.{SourceState};
+ghost use Rattle.kt_out.specs.Writing.{SinkState};
+ghost use Rattle.kt_ends.specs.Ending.{AtEnd, Counted};
 ghost use Rattle.kt_ends.specs.Outcome.{Outcome};
-ghost use Rattle.kt_ends.specs.Stops.{end_status};
-ghost use Rattle.kt_loop.specs.Counts.{Counts, CountsRead};
+ghost use Rattle.kt_ends.specs.Stops.{end_status, stop_status};
+ghost use Rattle.kt_loop.specs.Counts.{CountsRead, StopCounts};
 ghost use Rattle.kt_loop.specs.Outcome.{outcome};
 ghost use Rattle.kt_loop.specs.Reading.{AreGood};
 ghost use Rattle.kt_loop.specs.Running.{EndsRun, around};
-ghost use Rattle.kt_loop.specs.Settling.{Settles};
+ghost use Rattle.kt_loop.specs.Settling.{Settles, StopSettles, IsEnd};
 
 use crate::reader::StreamReader;
 use crate::spill::spill;
@@ -83,6 +85,20 @@ fn read_all<R: StreamReader, W, T: Stage<R::Head, R::Entry, W>, S: Source, K: Si
     unreachable!()
 }
 
+/// Writes what is pending behind a refusal: how the run ends that stopped so.
+fn settle<K: Sink>(stop: ToolStop, sink: &mut K, out: &mut Bytes) -> ToolStop
+    ensures end { (made : Outcome) (before : Option (List ℕ)) → StopSettles made before (K.state sink.old).taken out.old stop → IsEnd made before (K.state sink.new).taken (stop_status result) }
+    ensures counted { (inputs : InputsState) (inputs_now : InputsState) (outputs : OutputsState) (source : SourceState) (source_now : SourceState) (first : SinkState) → StopCounts inputs inputs_now source.faults source_now.faults first.faults (K.state sink.old).faults stop → Counted (around inputs outputs source first) (around inputs_now outputs source_now (K.state sink.new)) (stop_status result) }
+{
+    match stop {
+        ToolStop::Refused(refusal) => match spill(sink, out) {
+            Ok(()) => ToolStop::Refused(refusal),
+            Err(why) => why,
+        },
+        other => other,
+    }
+}
+
 /// Reads a stream to its end and carries out the calculation of a stage over it: writes what the stage writes at the
 /// header, at each record and at the end, in blocks. A refusal of the stage or of the stream ends it, with all text
 /// before it written.
@@ -103,12 +119,6 @@ pub fn run_stage<R: StreamReader, W, T: Stage<R::Head, R::Entry, W>, S: Source, 
     let mut out = Bytes::new(alloc);
     match read_all(alloc, reader, stage, world, source, sink, &mut out) {
         Ok(()) => spill(sink, &mut out),
-        Err(ToolStop::Refused(refusal)) => {
-            if let Err(why) = spill(sink, &mut out) {
-                return Err(why);
-            }
-            Err(ToolStop::Refused(refusal))
-        }
-        Err(stop) => Err(stop),
+        Err(stop) => Err(settle(stop, sink, &mut out)),
     }
 }
