@@ -6,3 +6,4 @@ pub mod Growing
 pub mod Settling
 pub mod Going
 pub mod Ending
+pub mod SummaryStreams

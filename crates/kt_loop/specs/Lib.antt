@@ -9,3 +9,4 @@ pub mod Carrying
 pub mod Outcome
 pub mod Settling
 pub mod Running
+pub mod SummaryStream

@@ -7,6 +7,7 @@ mod reader;
 mod run;
 mod spill;
 mod stage;
+mod summary;
 mod turn;
 
 pub use reader::StreamReader;
