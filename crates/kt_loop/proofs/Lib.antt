@@ -7,3 +7,4 @@ pub mod Settling
 pub mod Going
 pub mod Ending
 pub mod SummaryStreams
+pub mod Rows

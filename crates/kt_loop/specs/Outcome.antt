@@ -14,6 +14,11 @@ use Rattle.kt_loop.specs.Contents.{Contents}
 abbrev pub gives : Status → List ℕ → Outcome
 gives end text = record { status = end; output = text; files = [] }
 
+-- the status of a stream with this first fault, if any
+abbrev pub stream_status : Option StreamStop → Status
+stream_status None = Done
+stream_status (Some stop) = Refused (Stream stop)
+
 -- how a course ends: by its refusal, else by the fault of the stream, and else with what is written at the end
 abbrev pub ended_by : {H E S : Type 0} → Calculation H E S Refusal → Option H → Option StreamStop → List ℕ → Result S Refusal → Outcome
 ended_by calculation head fault text (Err refusal) = gives (Refused refusal) text
