@@ -8,3 +8,4 @@ pub mod Going
 pub mod Ending
 pub mod SummaryStreams
 pub mod Rows
+pub mod RunsGiven

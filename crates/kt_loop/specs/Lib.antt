@@ -10,3 +10,5 @@ pub mod Outcome
 pub mod Settling
 pub mod Running
 pub mod SummaryStream
+pub mod Runs
+pub mod ByRun

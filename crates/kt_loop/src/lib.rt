@@ -5,6 +5,7 @@ mod carry;
 pub mod laws;
 mod reader;
 mod run;
+mod run_key;
 mod spill;
 mod stage;
 mod summary;
@@ -12,4 +13,5 @@ mod turn;
 
 pub use reader::StreamReader;
 pub use run::run_stage;
+pub use run_key::{RunKey, RunRecord};
 pub use stage::Stage;
