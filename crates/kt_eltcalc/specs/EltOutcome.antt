@@ -1,0 +1,30 @@
+-- The event loss table of a summary stream.
+-- The rules: docs/COMMANDS.md, "eltcalc".
+use Rattle.std.specs.Prelude.{ℕ, Bool, true, false, List, []}
+use Rattle.kt_stream.specs.declared.entry.Placed.{Placed}
+use Rattle.kt_stream.specs.declared.entry.SummaryRecord.{SummaryRecord}
+use Rattle.kt_stream.specs.declared.summary.Head.{Head}
+use Rattle.kt_stream.specs.Stream.{stream_of, fault_of}
+use Rattle.kt_elt.specs.EventLoss.{elt_heading_text, event_loss_rows}
+use Rattle.kt_ends.specs.Outcome.{Outcome}
+use Rattle.kt_ends.specs.declared.status.Refusal.{Refusal}
+use Rattle.kt_loop.specs.ByRecord.{by_record, table_of}
+use Rattle.kt_loop.specs.Calculation.{Calculation}
+use Rattle.kt_loop.specs.Outcome.{gives, stream_status}
+
+-- the names of the columns, where they are wanted
+abbrev pub elt_heading_part : Bool → Head → List ℕ
+elt_heading_part true head = elt_heading_text
+elt_heading_part false head = []
+
+-- the rows of a record
+abbrev pub elt_record_rows : Bool → Head → Placed SummaryRecord → List ℕ
+elt_record_rows heading head placed = event_loss_rows head.samples placed.entry
+
+-- the calculation: the names of the columns, and then the rows of each record
+abbrev pub elt_calculation : Calculation Head SummaryRecord Bool Refusal
+elt_calculation = by_record elt_heading_part elt_record_rows
+
+-- the event loss table of a summary stream, up to the first refused record
+abbrev pub elt_outcome : Bool → List ℕ → Outcome
+elt_outcome heading source = gives (stream_status (fault_of source)) (table_of elt_heading_part elt_record_rows heading (stream_of source).head (stream_of source).entries)

@@ -1,0 +1,85 @@
+//! The tool that makes the event loss table of a summary stream.
+//! The rules: docs/COMMANDS.md, "eltcalc".
+ghost use Rattle.kt_out.specs.InputFiles.{InputsState};
+ghost use Rattle.kt_out.specs.OutputFiles.{OutputsState};
+ghost use Rattle.kt_ends.specs.Ending.{Ended};
+ghost use Rattle.kt_ends.specs.Stops.{end_status};
+ghost use Rattle.kt_ends.specs.World.{Finds};
+ghost use Rattle.kt_eltcalc.specs.EltOutcome.{elt_outcome};
+ghost use Rattle.kt_loop.specs.Running.{around, stream_uses};
+ghost use Rattle.std.specs.Prelude.{false};
+
+use kt_elt::{elt_heading, elt_text};
+use kt_ends::ToolStop;
+use kt_loop::laws::records_give_their_rows;
+use kt_loop::{Stage, run_stage};
+use kt_money::Bytes;
+use kt_out::{Sink, Source};
+use kt_stream::laws::what_is_read_fits;
+use kt_stream::{Head, SummaryReader, SummaryRecord};
+use std::alloc::Global;
+
+/// The event loss table of a summary stream, with or without the names of its columns.
+#[derive(Drop)]
+struct EventLosses {
+    heading: bool,
+}
+
+impl Stage<Head, SummaryRecord, ()> for EventLosses {
+    ghost use Rattle.std.specs.Prelude.{◌≡◌, Bool};
+    ghost use Rattle.kt_stream.specs.Grammar.{IsHead, IsSummary};
+    ghost use Rattle.kt_eltcalc.specs.EltOutcome.{elt_calculation};
+
+    ghost State = { Bool };
+
+    ghost calculation = { elt_calculation };
+
+    ghost is_at = { λ heading stage _. stage.heading ≡ heading };
+
+    ghost is_ready = { λ _ _. Unit {0} };
+
+    ghost accepts = { IsHead };
+
+    ghost is_good = { λ head placed. IsSummary head.samples placed.entry };
+
+    ghost inputs = { λ beside _. beside };
+
+    fn open(&mut self, _world: &mut (), _head: Head, out: &mut Bytes) -> Result<(), ToolStop> {
+        if self.heading {
+            out.append(elt_heading())?;
+        }
+        Ok(())
+    }
+
+    fn take(
+        &mut self,
+        _world: &mut (),
+        head: Head,
+        _at: u64,
+        entry: SummaryRecord,
+        out: &mut Bytes,
+    ) -> Result<(), ToolStop> {
+        elt_text(out, head.samples, &entry)?;
+        Ok(())
+    }
+
+    fn end(&mut self, _world: &mut (), _head: Head, _out: &mut Bytes) -> Result<(), ToolStop> {
+        Ok(())
+    }
+}
+
+/// Reads a summary stream and writes its event loss table, with or without the names of its columns.
+pub fn eltcalc<S: Source, K: Sink>(
+    alloc: Global,
+    heading: bool,
+    source: &mut S,
+    sink: &mut K,
+) -> Result<(), ToolStop>
+    ensures { (inputs : InputsState) (outputs : OutputsState) → Ended (Finds (stream_uses false) (around inputs outputs (S.state source.old) (K.state sink.old))) (stream_uses false) (λ files bytes. elt_outcome heading bytes) (around inputs outputs (S.state source.old) (K.state sink.old)) (around inputs outputs (S.state source.new) (K.state sink.new)) (end_status result) }
+{
+    what_is_read_fits();
+    records_give_their_rows::<Head, SummaryRecord, bool>();
+    let mut reader = SummaryReader::new(alloc);
+    let mut stage = EventLosses { heading };
+    run_stage(alloc, &mut reader, &mut stage, &mut (), source, sink)
+}

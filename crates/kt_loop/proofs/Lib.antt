@@ -1,0 +1,11 @@
+pub mod Courses
+pub mod Giving
+pub mod Stepping
+pub mod Taking
+pub mod Growing
+pub mod Settling
+pub mod Going
+pub mod Ending
+pub mod SummaryStreams
+pub mod Rows
+pub mod RunsGiven

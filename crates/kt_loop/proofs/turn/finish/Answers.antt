@@ -1,0 +1,13 @@
+use Rattle.std.proofs.Common.{sym, ap, ◌∙◌}
+use Rattle.kt_loop.proofs.Stepping.{counts_call}
+use Rattle.kt_loop.proofs.Settling.{settled_end}
+use Rattle.kt_loop.proofs.turn.finish.Goals as goal
+
+pub returns-clause-course : goal.returns-clause-course
+returns-clause-course g c before fed start stood standing =
+    let read = c.what_is_held_was_read.ensures fed _ c.args.reader.now stood in
+    settled_end g.T.Stage.calculation start _ _ before _ _ standing (Unit {0}) c.in-Some.head c.end.new.out c.end.result (c.in_default.ensures.exact fed _ stood)
+    (sym read.head ∙ sym (ap g.R.StreamReader.header c.in_default.ensures.unchanged) ∙ sym c.in-Some.ensures) c.end.ensures.end
+
+pub returns-clause-counted : goal.returns-clause-counted
+returns-clause-counted g c beside = counts_call (Unit {0}) _ _ _ c.end.result (c.end.ensures.counted beside)
