@@ -10,7 +10,7 @@ use Rattle.kt_rec.specs.declared.table.TableId.{TableId}
 use Rattle.kt_rec.specs.declared.table_set.TableSet.{TableSet}
 use Rattle.kt_load.specs.declared.stop.LoadStop.{LoadStop}
 use Rattle.kt_load.specs.declared.stop.LoadStop.TheVariants.{Missing, TooLarge, Table, Check, ReadFault, OutOfMemory}
-use Rattle.kt_load.specs.Ends.{TellsLoad, IsCounted, KeepsInputs}
+use Rattle.kt_load.specs.Ends.{TellsLoad}
 use Rattle.kt_load.specs.FileNames.{file_name_of}
 use Rattle.kt_load.specs.Reading.{with_file, with_files, go_on}
 use Rattle.kt_load.specs.Steps.{KeepsRows, NoneOutside}
@@ -74,16 +74,3 @@ reads-all (Some files) set ids old now before = before.gives
 pub on_the_way : (held : Option FileMap) (set : TableSet) (ids : List TableId) (old : Rows) → IsOnTheWay held set ids ids old old
 on_the_way None set ids old = record { gives = tt; in_range = λ h. h; outside = λ h. h }
 on_the_way (Some files) set ids old = record { gives = refl; in_range = λ h. h; outside = λ h. h }
-
--- one call after another
-pub inputs-on : {held mid now : Option FileMap} {faults faults_mid faults_now misses misses_mid misses_now : ℕ} → KeepsInputs held mid faults faults_mid misses misses_mid → KeepsInputs mid now faults_mid faults_now misses_mid misses_now → KeepsInputs held now faults faults_now misses misses_now
-inputs-on before after = record { holds = after.holds ∙ before.holds; faults_counted = omega (arith, before.faults_counted, after.faults_counted); misses_counted = omega (arith, before.misses_counted, after.misses_counted) }
-
--- what rose in a later call rose in all
-pub counts-on : (stop : LoadStop) (faults faults_mid faults_now misses misses_mid misses_now : ℕ) → faults ≤ faults_mid → misses ≤ misses_mid → IsCounted stop faults_mid faults_now misses_mid misses_now → IsCounted stop faults faults_now misses misses_now
-counts-on ReadFault faults faults_mid faults_now misses misses_mid misses_now f m is = omega (arith, f, is)
-counts-on (Missing name) faults faults_mid faults_now misses misses_mid misses_now f m is = omega (arith, m, is)
-counts-on OutOfMemory faults faults_mid faults_now misses misses_mid misses_now f m is = tt
-counts-on (TooLarge name) faults faults_mid faults_now misses misses_mid misses_now f m is = tt
-counts-on (Table name why) faults faults_mid faults_now misses misses_mid misses_now f m is = tt
-counts-on (Check number name row) faults faults_mid faults_now misses misses_mid misses_now f m is = tt

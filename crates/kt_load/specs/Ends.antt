@@ -1,7 +1,7 @@
 -- How reading the files of tables ends, and what it leaves of the inputs.
 -- The rules: docs/REFUSALS.md, "Order".
-use Rattle.std.specs.Prelude.{◌≡◌, ◌⊎◌, ◌≤◌, ℕ, List, length, min, take, Option, None, Some, Result, Err, IfSome, IsSomeAnd, ⊤}
-use Rattle.kt_out.specs.Counts.{Rose}
+use Rattle.std.specs.Prelude.{◌≡◌, ◌⊎◌, ◌≤◌, ℕ, List, length, min, take, Option, None, Some, Result, Ok, Err, IfSome, IsSomeAnd, ⊤}
+use Rattle.kt_out.specs.InputFiles.{InputsState, CountsFault, CountsMiss}
 use Rattle.kt_out.specs.NamedFiles.{FileMap}
 use Rattle.kt_rec.specs.declared.table.Table.{Table as TheTable}
 use Rattle.kt_rec.specs.declared.table.Table.TheVariants as which
@@ -58,26 +58,25 @@ TellsLoad expected (TooLarge name) = expected ≡ Err (TooLarge name)
 TellsLoad expected (Table name stop) = expected ≡ Err (Table name stop)
 TellsLoad expected (Check number name row) = expected ≡ Err (Check number name row)
 
--- what a stop says of the counts of faults and of misses
-abbrev pub IsCounted : LoadStop → ℕ → ℕ → ℕ → ℕ → Type 0
-IsCounted ReadFault faults faults_now misses misses_now = Rose faults faults_now
-IsCounted (Missing name) faults faults_now misses misses_now = Rose misses misses_now
-IsCounted OutOfMemory faults faults_now misses misses_now = ⊤
-IsCounted (TooLarge name) faults faults_now misses misses_now = ⊤
-IsCounted (Table name stop) faults faults_now misses misses_now = ⊤
-IsCounted (Check number name row) faults faults_now misses misses_now = ⊤
+-- what a stop leaves of the inputs: a count rose exactly where the stop is the answer to it
+abbrev pub AfterStop : InputsState → InputsState → LoadStop → Type 0
+AfterStop before after ReadFault = CountsFault before after
+AfterStop before after (Missing name) = CountsMiss before after
+AfterStop before after OutOfMemory = after ≡ before
+AfterStop before after (TooLarge name) = after ≡ before
+AfterStop before after (Table name stop) = after ≡ before
+AfterStop before after (Check number name row) = after ≡ before
 
--- the inputs after reading: what they hold is as it was, and their counts do not fall
-pub record KeepsInputs (held held_now : Option FileMap) (faults faults_now misses misses_now : ℕ) : Type 0 where
-  pub holds : held_now ≡ held
-  pub faults_counted : faults ≤ faults_now
-  pub misses_counted : misses ≤ misses_now
+-- what loading leaves of the inputs
+abbrev pub AfterLoad : {A : Type 0} → InputsState → InputsState → Result A LoadStop → Type 0
+AfterLoad before after (Ok loaded) = after ≡ before
+AfterLoad before after (Err stop) = AfterStop before after stop
 
 -- a stop in reading is a fault that was counted, or want of memory
-abbrev pub IsReadStop : LoadStop → ℕ → ℕ → Type 0
-IsReadStop ReadFault faults faults_now = Rose faults faults_now
-IsReadStop OutOfMemory faults faults_now = ⊤
-IsReadStop (Missing name) faults faults_now = ⊥
-IsReadStop (TooLarge name) faults faults_now = ⊥
-IsReadStop (Table name stop) faults faults_now = ⊥
-IsReadStop (Check number name row) faults faults_now = ⊥
+abbrev pub IsReadStop : InputsState → InputsState → LoadStop → Type 0
+IsReadStop before after ReadFault = CountsFault before after
+IsReadStop before after OutOfMemory = after ≡ before
+IsReadStop before after (Missing name) = ⊥
+IsReadStop before after (TooLarge name) = ⊥
+IsReadStop before after (Table name stop) = ⊥
+IsReadStop before after (Check number name row) = ⊥

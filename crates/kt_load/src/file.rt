@@ -1,7 +1,7 @@
 //! Reads the first bytes of a file.
 //! The rules: docs/REFUSALS.md, "Order".
-ghost use Rattle.std.specs.Prelude.{◌≡◌, ◌≤◌, IfOk, IfErr, OnOk, length};
-ghost use Rattle.kt_load.specs.Ends.{HasFront, IsFront, IsReadStop, KeepsInputs};
+ghost use Rattle.std.specs.Prelude.{◌≡◌, ◌≤◌, IfOk, MatchResult, OnOk, length};
+ghost use Rattle.kt_load.specs.Ends.{HasFront, IsFront, IsReadStop};
 ghost use Rattle.kt_load.specs.Reading.{file_limit};
 
 use crate::stop::LoadStop;
@@ -12,12 +12,10 @@ use std::alloc::Global;
 /// memory.
 fn fill<I: Inputs>(inputs: &mut I, name: &[u8], room: &mut [u8]) -> Result<(), LoadStop>
     requires limit { length room.old ≤ file_limit }
-    requires front { HasFront (I.held inputs.old) name.now (length room.old) }
-    ensures value { OnOk result (IsFront (I.held inputs.old) name.now (length room.old) room.new) }
+    requires front { HasFront (I.state inputs.old).held name.now (length room.old) }
+    ensures value { OnOk result (IsFront (I.state inputs.old).held name.now (length room.old) room.new) }
 
-    ensures cause { IfErr result (λ stop. IsReadStop stop (I.fault_count inputs.old) (I.fault_count inputs.new)) }
-
-    ensures inputs { KeepsInputs (I.held inputs.old) (I.held inputs.new) (I.fault_count inputs.old) (I.fault_count inputs.new) (I.miss_count inputs.old) (I.miss_count inputs.new) }
+    ensures inputs { MatchResult result (λ _. I.state inputs.new ≡ I.state inputs.old) (IsReadStop (I.state inputs.old) (I.state inputs.new)) }
 {
     let mut at = 0;
     while at < room.len() {
@@ -38,12 +36,10 @@ pub(crate) fn read_front<I: Inputs>(
     wanted: usize,
 ) -> Result<Vec<u8>, LoadStop>
     requires limit { wanted ≤ file_limit }
-    requires front { HasFront (I.held inputs.old) name.now wanted }
-    ensures value { IfOk result (λ bytes. IsFront (I.held inputs.old) name.now wanted bytes.items) }
+    requires front { HasFront (I.state inputs.old).held name.now wanted }
+    ensures value { IfOk result (λ bytes. IsFront (I.state inputs.old).held name.now wanted bytes.items) }
 
-    ensures cause { IfErr result (λ stop. IsReadStop stop (I.fault_count inputs.old) (I.fault_count inputs.new)) }
-
-    ensures inputs { KeepsInputs (I.held inputs.old) (I.held inputs.new) (I.fault_count inputs.old) (I.fault_count inputs.new) (I.miss_count inputs.old) (I.miss_count inputs.new) }
+    ensures inputs { MatchResult result (λ _. I.state inputs.new ≡ I.state inputs.old) (IsReadStop (I.state inputs.old) (I.state inputs.new)) }
 {
     let mut bytes = Vec::new(alloc);
     bytes.resize(wanted, 0)?;

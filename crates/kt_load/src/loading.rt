@@ -2,7 +2,7 @@
 //! The rules: docs/REFUSALS.md, "Order".
 ghost use Rattle.std.specs.Prelude.{◌≡◌, IfOk, IfErr, IfSome, All};
 ghost use Rattle.kt_rec.specs.TableNames.{IsTableId};
-ghost use Rattle.kt_load.specs.Ends.{IsCounted, KeepsInputs, IsCheckEnd};
+ghost use Rattle.kt_load.specs.Ends.{AfterLoad, IsCheckEnd};
 ghost use Rattle.kt_load.specs.FileNames.{load_order as order_of_loading};
 ghost use Rattle.kt_load.specs.Loaded.{TellsLoaded, loaded};
 
@@ -96,13 +96,11 @@ impl LoadStop {
 /// place; then the first check that refuses; or a fault of the inputs, or want of memory. A file is read in the pieces that the
 /// inputs give, and its bytes are dropped before the next one is read. Of the footprint only the header and the size are read.
 pub fn load<I: Inputs>(alloc: Global, inputs: &mut I, need: Need) -> Result<Portfolio, LoadStop>
-    ensures exact { IfSome (I.held inputs.old) (λ files. TellsLoaded (loaded files need) result) }
+    ensures exact { IfSome (I.state inputs.old).held (λ files. TellsLoaded (loaded files need) result) }
     ensures need { IfOk result (λ portfolio. portfolio.need ≡ need) }
 
-    // A fault and a miss come only where the inputs counted one.
-    ensures cause { IfErr result (λ stop. IsCounted stop (I.fault_count inputs.old) (I.fault_count inputs.new) (I.miss_count inputs.old) (I.miss_count inputs.new)) }
-
-    ensures inputs { KeepsInputs (I.held inputs.old) (I.held inputs.new) (I.fault_count inputs.old) (I.fault_count inputs.new) (I.miss_count inputs.old) (I.miss_count inputs.new) }
+    // A fault and a miss come exactly where the inputs counted one.
+    ensures inputs { AfterLoad (I.state inputs.old) (I.state inputs.new) result }
 {
     let mut tables = Tables::new(alloc);
     match read_tables(alloc, inputs, &need.loaded, &load_order(), &mut tables) {

@@ -5,7 +5,7 @@ ghost use Rattle.std.specs.List.{filter};
 ghost use Rattle.kt_rec.specs.Rows.{rows_of};
 ghost use Rattle.kt_rec.specs.TableNames.{IsTableId};
 ghost use Rattle.kt_rec.specs.TableSet.{is_in};
-ghost use Rattle.kt_load.specs.Ends.{TellsLoad, IsCounted, KeepsInputs};
+ghost use Rattle.kt_load.specs.Ends.{TellsLoad, AfterLoad};
 ghost use Rattle.kt_load.specs.FileNames.{file_name_of};
 ghost use Rattle.kt_load.specs.Reading.{with_file, with_files};
 ghost use Rattle.kt_load.specs.Reading.{file_limit, with_size};
@@ -56,13 +56,12 @@ fn read_table<I: Inputs>(
     tables: &mut Tables,
 ) -> Result<(), LoadStop>
     requires { IsTableId id }
-    ensures ok { OnOk result (IfSome (I.held inputs.old) (λ files. with_file (rows_of tables.old) id (files (file_name_of id)) ≡ Ok (rows_of tables.new))) }
+    ensures ok { OnOk result (IfSome (I.state inputs.old).held (λ files. with_file (rows_of tables.old) id (files (file_name_of id)) ≡ Ok (rows_of tables.new))) }
     ensures keeps { OnOk result (KeepsRows id (rows_of tables.old) (rows_of tables.new)) }
 
-    ensures refused { IfErr result (λ stop. IfSome (I.held inputs.old) (λ files. TellsLoad (with_file (rows_of tables.old) id (files (file_name_of id))) stop)) }
-    ensures cause { IfErr result (λ stop. IsCounted stop (I.fault_count inputs.old) (I.fault_count inputs.new) (I.miss_count inputs.old) (I.miss_count inputs.new)) }
+    ensures refused { IfErr result (λ stop. IfSome (I.state inputs.old).held (λ files. TellsLoad (with_file (rows_of tables.old) id (files (file_name_of id))) stop)) }
 
-    ensures inputs { KeepsInputs (I.held inputs.old) (I.held inputs.new) (I.fault_count inputs.old) (I.fault_count inputs.new) (I.miss_count inputs.old) (I.miss_count inputs.new) }
+    ensures inputs { AfterLoad (I.state inputs.old) (I.state inputs.new) result }
 {
     let name = file_name(alloc, id)?;
     let size = match inputs.size(name.as_slice()) {
@@ -92,14 +91,13 @@ pub(crate) fn read_tables<I: Inputs>(
     tables: &mut Tables,
 ) -> Result<(), LoadStop>
     requires { All IsTableId ids.now }
-    ensures ok { OnOk result (IfSome (I.held inputs.old) (λ files. with_files files (filter (is_in set.now) ids.now) (rows_of tables.old) ≡ Ok (rows_of tables.new))) }
+    ensures ok { OnOk result (IfSome (I.state inputs.old).held (λ files. with_files files (filter (is_in set.now) ids.now) (rows_of tables.old) ≡ Ok (rows_of tables.new))) }
     ensures in_range { OnOk result (AreInRange (rows_of tables.old) → AreInRange (rows_of tables.new)) }
     ensures outside { OnOk result (NoneOutside set.now (rows_of tables.old) → NoneOutside set.now (rows_of tables.new)) }
 
-    ensures refused { IfErr result (λ stop. IfSome (I.held inputs.old) (λ files. TellsLoad (with_files files (filter (is_in set.now) ids.now) (rows_of tables.old)) stop)) }
-    ensures cause { IfErr result (λ stop. IsCounted stop (I.fault_count inputs.old) (I.fault_count inputs.new) (I.miss_count inputs.old) (I.miss_count inputs.new)) }
+    ensures refused { IfErr result (λ stop. IfSome (I.state inputs.old).held (λ files. TellsLoad (with_files files (filter (is_in set.now) ids.now) (rows_of tables.old)) stop)) }
 
-    ensures inputs { KeepsInputs (I.held inputs.old) (I.held inputs.new) (I.fault_count inputs.old) (I.fault_count inputs.new) (I.miss_count inputs.old) (I.miss_count inputs.new) }
+    ensures inputs { AfterLoad (I.state inputs.old) (I.state inputs.new) result }
 {
     for id in ids {
         if set.has(*id) {

@@ -20,4 +20,4 @@ new-requires-clause-needed g c = c.in-Ok.ensures.outside (subst (NoneOutside c.a
 
 -- the portfolio that was made
 pub returns-in-Ok-new-clause-exact : goal.returns-in-Ok-new-clause-exact
-returns-in-Ok-new-clause-exact g c = loads_portfolio (g.I.Inputs.held c.args.inputs.now) c.args.need c.load_order.result (rows_of c.new-tables.result) (rows_of c.read_tables.new.tables) c.in-Ok-new.portfolio c.load_order.ensures.value c.new-tables.ensures.absent c.in-Ok.ensures.ok c.in-Ok-new.ensures.valid c.in-Ok-new.ensures.ok
+returns-in-Ok-new-clause-exact g c = loads_portfolio (g.I.Inputs.state c.args.inputs.now).held c.args.need c.load_order.result (rows_of c.new-tables.result) (rows_of c.read_tables.new.tables) c.in-Ok-new.portfolio c.load_order.ensures.value c.new-tables.ensures.absent c.in-Ok.ensures.ok c.in-Ok-new.ensures.valid c.in-Ok-new.ensures.ok
