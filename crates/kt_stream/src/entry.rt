@@ -1,4 +1,4 @@
-//! The records of a stream as values.
+//! The records of a stream as values, and what a kind of record owes to be read.
 //! The rules: docs/STREAMS.md, "Records".
 ghost use Rattle.std.specs.Prelude.{◌≡◌, ◌≤◌, List, [], ◌∷◌, ◌++◌, length, take, OnOk, OnErr};
 

@@ -1,20 +1,22 @@
-//! The streams between the tools: their records, and readers that take them in pieces of any size.
+//! The streams between the tools: their records, how they are written, and readers that take them in pieces of any size.
 #![tactic(auto)]
 
-mod advance;
-mod decode;
 mod entry;
 mod gather;
-pub mod laws;
+mod header;
+mod kind;
 mod number;
+mod pairs;
 mod read;
 mod reader;
-mod scan;
 mod shared;
 mod stop;
 mod summary;
+mod unit;
 
 pub use entry::{Pair, Pairs, Placed, SummaryRecord};
-pub use reader::SummaryReader;
+pub use kind::{Head, Shape, StreamKind};
+pub use reader::RecordReader;
 pub use stop::{RecordCause, StreamStop};
-pub use summary::Head;
+pub use summary::SummaryReader;
+pub use unit::Entry;

@@ -1,9 +1,9 @@
 //! The types of this crate may be sent to threads and shared by them.
 //! The rules: docs/STREAMS.md, "Readers".
 use crate::entry::{Pair, Pairs, Placed, SummaryRecord};
-use crate::reader::SummaryReader;
+use crate::kind::{Head, StreamKind};
 use crate::stop::{RecordCause, StreamStop};
-use crate::summary::Head;
+use crate::summary::SummaryReader;
 
 /// Takes what may be sent to threads and shared by them.
 fn is_shared<T: Send + Sync>(_: &T) {}
@@ -18,11 +18,13 @@ pub(crate) fn values_are_shared(head: &Head, pair: &Pair, pairs: &Pairs, entry: 
 
 /// Each type once: a reader and what it answers.
 pub(crate) fn answers_are_shared(
+    kind: &StreamKind,
     reader: &SummaryReader,
     placed: &Placed<SummaryRecord>,
     stop: &StreamStop,
     cause: &RecordCause,
 ) {
+    is_shared(kind);
     is_shared(reader);
     is_shared(placed);
     is_shared(stop);

@@ -1,5 +1,0 @@
-use Rattle.kt_stream.proofs.Growing.{stream_grows}
-use Rattle.kt_stream.proofs.laws.what_is_read_stays.Goals as goal
-
-pub returns : goal.returns
-returns c = stream_grows
