@@ -11,3 +11,5 @@ pub mod PairsLoop
 pub mod Gathering
 pub mod Representing
 pub mod Fitting
+pub mod Growing
+pub mod Spelling

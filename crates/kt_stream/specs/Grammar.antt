@@ -25,6 +25,11 @@ abbrev pub placed_from : {E : Type 0} → Form E → ℕ → List E → List (Pl
 placed_from form at [] = []
 placed_from form at (entry ∷ entries) = record { at = at; entry = entry } ∷ placed_from form (at + length (form.bytes entry)) entries
 
+-- records without their places
+abbrev pub entries_of : {E : Type 0} → List (Placed E) → List E
+entries_of [] = []
+entries_of (placed ∷ rest) = placed.entry ∷ entries_of rest
+
 -- the stream of this header and these records
 abbrev pub spelled : {E : Type 0} → Form E → Shape → Head → List E → Stream E
 spelled form shape head entries = record { head = Some head; entries = placed_from form (header_size shape.kind) entries; end = Whole }

@@ -8,3 +8,4 @@ pub mod Growth
 pub mod Grammar
 pub mod Reader
 pub mod Gather
+pub mod Write

@@ -39,3 +39,6 @@ loop-step-preserved c =
     let left : c.args.samples + 4 - c.loop-step._step ≡ suc (c.args.samples + 4 - (c.loop-step._step + 1)) = omega (arith, c.loop-step-test.true) in
     rw c.order-least.ensures (pair_more c.args.samples c.args.bytes.now c.args.at c.loop-step.pairs.items c.push.new.self.items c.loop-step.least c.loop-step.used (c.args.samples + 4 - c.loop-step._step) (c.args.samples + 4 - (c.loop-step._step + 1)) c.in-Got.pair c.loop-step.invariant left
     (sym (rw take_rest at c.in-Got.ensures)) c.if-pair-eq0.false (c.in_ok-push-in-Got.ensures.items ∙ rw c.signed_pair.ensures refl))
+
+pub returns : goal.returns
+returns c = no_step c.args.samples c.args.bytes.now c.args.at c.loop-step.pairs.items c.loop-step.least c.loop-step.used (c.args.samples + 4 - c.loop-step._step) c.loop-step.invariant (omega (arith, c.loop-step-test.false))
