@@ -13,3 +13,4 @@ pub mod Representing
 pub mod Fitting
 pub mod Growing
 pub mod Spelling
+pub mod Writing

@@ -1,6 +1,7 @@
 //! Writes headers and records.
 //! The rules: docs/STREAMS.md, "Headers" and "Records".
 ghost use Rattle.std.specs.Prelude.{◌≡◌, ◌+◌, ◌<◌, ◌≤◌, ◌^◌, ℕ, List, ◌++◌, length, OnOk, OnErr};
+ghost use Rattle.std.specs.Int.{w32, cast_unsigned};
 ghost use Rattle.byteorder.specs.Endian.{little_bytes};
 ghost use Rattle.kt_stream.specs.declared.read.Read.TheVariants.{Got};
 ghost use Rattle.kt_stream.specs.Header.{header_bytes, header_in, IsHead};
@@ -72,9 +73,18 @@ fn put_fields_and_pairs(
 {
     out.append(fields)?;
     for pair in pairs {
-        put_pair(out, pair.sidx.cast_unsigned(), pair.loss)?;
+        put_pair(out, word_of(pair), pair.loss)?;
     }
-    put_pair(out, 0, 0)
+    put_pair(out, 0, 0)?;
+    Ok(())
+}
+
+/// The four bytes of the sidx of a pair as a number.
+#[inline]
+fn word_of(pair: &Pair) -> u32
+    ensures { result ≡ cast_unsigned w32 pair.now.sidx }
+{
+    pair.sidx.cast_unsigned()
 }
 
 /// Appends a pair by the four bytes of its sidx as a number.
