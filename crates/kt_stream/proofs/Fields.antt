@@ -1,14 +1,13 @@
 -- Fields that stand one after the other: whatever follows them, as they are written, and as they are read back.
-use Rattle.std.proofs.Common.{◌≡◌, ℕ, ◌+◌, ◌≤◌, ◌<◌, ◌^◌, true, leb, List, [], ◌∷◌, ◌++◌, length, take, drop, Option, None, refl, sym, ap, subst, ◌∙◌, append_assoc, arith, inl, inr, ◌⊎◌, ◌&&◌}
+use Rattle.std.proofs.Common.{◌≡◌, ℕ, ◌+◌, ◌≤◌, ◌<◌, ◌^◌, true, leb, List, [], ◌∷◌, ◌++◌, length, take, drop, None, refl, sym, ap, ◌∙◌, append_assoc, arith, inl, inr, ◌⊎◌, ◌&&◌}
 use Rattle.std.proofs.lemmas.Bool.{leb-true, le-leb, cases_Bool, cases_lt, and_parts}
 use Rattle.std.proofs.lemmas.List.{length-append, drop-append-le, length-drop, append-nil, drop_at, drop-drop, length-take-le, take-append-drop, get_or-drop, get_or-take, get_or_past}
 use Rattle.std.proofs.lemmas.Nat.{le_bytes_4, le_bytes_8}
 use Rattle.std.specs.Int.{w32, w64, from_le_bytes}
 use Rattle.byteorder.specs.Endian.{little_bytes}
 use Rattle.byteorder.specs.Numbers.{little_from-append, little_from-take, little_number-reads_back, length-bytes_low_first}
-use Rattle.kt_stream.specs.declared.read.Read.{Read}
-use Rattle.kt_stream.specs.declared.read.Read.TheVariants.{Got, Short, Wrong}
-use Rattle.kt_stream.specs.Read.{◌>>=◌, number_of, number, accepted, between, Field, field, fields_in, width_of, fields_then, AreJudged, AreSmall}
+use Rattle.kt_stream.specs.declared.read.Read.TheVariants.{Got}
+use Rattle.kt_stream.specs.Read.{number_of, number, accepted, between, Field, field, fields_in, width_of, fields_then, AreJudged, AreSmall}
 use Rattle.kt_stream.specs.Stream.{Kept, AreBytes}
 use Rattle.kt_stream.proofs.Cases.{got_is, short_not_got, some_is_none, bind_got, accepted_is, kept_same, kept_then}
 

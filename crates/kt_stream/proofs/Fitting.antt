@@ -1,5 +1,5 @@
 -- The header and the records that are read are in their ranges, and within the limit.
-use Rattle.std.proofs.Common.{◌≡◌, ℕ, zero, suc, ◌+◌, ◌≤◌, ◌<◌, List, [], ◌∷◌, ◌++◌, length, drop, take, Option, Some, None, refl, sym, ap, subst, ◌∙◌, arith, inl, inr}
+use Rattle.std.proofs.Common.{◌≡◌, ℕ, zero, suc, ◌+◌, ◌≤◌, List, [], ◌∷◌, ◌++◌, length, drop, take, Option, Some, None, refl, sym, ap, subst, ◌∙◌, arith, inl, inr}
 use Rattle.std.proofs.lemmas.Bool.{cases_lt}
 use Rattle.std.proofs.lemmas.List.{length-drop, length-take-le}
 use Rattle.std.specs.Prelude.{IfSome, IfNone}
@@ -14,7 +14,7 @@ use Rattle.kt_stream.specs.declared.read.Read.{Read}
 use Rattle.kt_stream.specs.declared.read.Read.TheVariants.{Got, Short, Wrong}
 use Rattle.kt_stream.specs.Header.{IsHead, header_in, header_size}
 use Rattle.kt_stream.specs.Stream.{Form, Walk, Stream, step, walk, headed, reads_on, stream_of, stream_limit, IsLawful}
-use Rattle.kt_stream.specs.Reader.{Reading, IsPlaced, Represents, Stands}
+use Rattle.kt_stream.specs.Reader.{Reading, IsPlaced, Stands}
 use Rattle.kt_stream.proofs.Cases.{none_is_some, some_is, some_is_none}
 use Rattle.kt_stream.proofs.Heading.{HeaderRead, header_got, few_samples}
 use Rattle.kt_stream.proofs.Representing.{room_within, room_beyond, taken_stands}

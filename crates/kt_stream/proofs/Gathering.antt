@@ -1,5 +1,5 @@
 -- How the records of some bytes are gathered, whatever bytes follow.
-use Rattle.std.proofs.Common.{◌≡◌, ℕ, ◌+◌, ◌≤◌, ◌<◌, List, [], ◌∷◌, ◌++◌, length, drop, Option, Some, None, refl, sym, ap, ◌∙◌, arith, add-zero}
+use Rattle.std.proofs.Common.{◌≡◌, ℕ, ◌+◌, ◌≤◌, List, [], ◌∷◌, ◌++◌, length, drop, Option, Some, None, refl, ap, ◌∙◌, arith, add-zero}
 use Rattle.std.proofs.lemmas.List.{drop-append-le, length-drop, drop-drop, append-nil}
 use Rattle.kt_stream.specs.declared.entry.Placed.{Placed}
 use Rattle.kt_stream.specs.declared.kind.Head.{Head}
@@ -11,7 +11,7 @@ use Rattle.kt_stream.specs.declared.read.Read.TheVariants.{Got, Short, Wrong}
 use Rattle.kt_stream.specs.declared.stop.StreamStop.{StreamStop}
 use Rattle.kt_stream.specs.Header.{header_in, header_size}
 use Rattle.kt_stream.specs.Stop.{IsRefusal, header_stop, record_stop}
-use Rattle.kt_stream.specs.Stream.{Form, Walk, Stream, with_entries, with_head, records_in, reads_on, IsLawful}
+use Rattle.kt_stream.specs.Stream.{Form, Stream, with_entries, with_head, records_in, reads_on, IsLawful}
 use Rattle.kt_stream.specs.declared.gather.Moved.{Moved}
 use Rattle.kt_stream.specs.Gather.{MovesOn, MovesToStop, MovesBy, Moves}
 use Rattle.kt_stream.proofs.Cases.{kept_got, kept_wrong}
@@ -101,7 +101,7 @@ unfolding reads_on
 moved_header form shape h start bytes moved is moves = record {
   within = moves.within;
   by = moves_as moved.stop form shape (behind_header form shape h start bytes (header_size shape.kind)) (from_start form shape None start bytes) start bytes moved.head moved.records.items moved.used (λ more.
-  rw (kept_got (header_in shape.kind bytes) _ h is (header_kept shape.kind bytes more), drop-append-le (header_size shape.kind) bytes more (header_got shape.kind bytes h is).long) refl) moves.by;
+      rw (kept_got (header_in shape.kind bytes) _ h is (header_kept shape.kind bytes more), drop-append-le (header_size shape.kind) bytes more (header_got shape.kind bytes h is).long) refl) moves.by;
 }
 
 -- a header that is not whole

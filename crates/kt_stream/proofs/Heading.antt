@@ -1,5 +1,5 @@
 -- The header of a stream, whatever bytes follow, as it is read, and as it is read back.
-use Rattle.std.proofs.Common.{◌≡◌, ℕ, ◌+◌, ◌*◌, ◌/◌, ◌%◌, ◌≤◌, ◌<◌, ◌^◌, eqb, List, [], ◌∷◌, ◌++◌, length, drop, None, refl, sym, ap, subst, ◌∙◌, append_assoc, arith, inl, inr}
+use Rattle.std.proofs.Common.{◌≡◌, ℕ, ◌+◌, ◌*◌, ◌/◌, ◌%◌, ◌≤◌, eqb, List, [], ◌∷◌, ◌++◌, length, drop, None, refl, sym, ap, subst, ◌∙◌, append_assoc, arith, inl, inr}
 use Rattle.std.proofs.lemmas.Bool.{cases_Bool, eqb-true}
 use Rattle.byteorder.specs.Endian.{little_bytes}
 use Rattle.kt_stream.specs.declared.kind.Head.{Head}
@@ -7,9 +7,8 @@ use Rattle.kt_stream.specs.declared.kind.StreamKind.{StreamKind}
 use Rattle.kt_stream.specs.declared.kind.StreamKind.TheVariants.{Cdf, Gul, Loss, Summary}
 use Rattle.kt_stream.specs.declared.read.HeaderFault.{HeaderFault}
 use Rattle.kt_stream.specs.declared.read.HeaderFault.TheVariants.{NotProfile, WrongStream, BadSamples, BadSet}
-use Rattle.kt_stream.specs.declared.read.Read.{Read}
 use Rattle.kt_stream.specs.declared.read.Read.TheVariants.{Got, Short}
-use Rattle.kt_stream.specs.Read.{◌>>=◌, fields_in, fields_then, AreJudged, AreSmall}
+use Rattle.kt_stream.specs.Read.{fields_in, fields_then, AreJudged, AreSmall}
 use Rattle.kt_stream.specs.Header.{id_of, mark_judge, header_fields, header_size, head_of, header_in, IsHead, header_bytes}
 use Rattle.kt_stream.specs.Stream.{Kept, AreBytes}
 use Rattle.kt_stream.proofs.Cases.{got_is, some_is_none, bind_got, kept_then}

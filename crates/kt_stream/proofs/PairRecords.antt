@@ -4,7 +4,6 @@ use Rattle.std.proofs.lemmas.List.{drop-append-le, length-drop, drop-drop}
 use Rattle.byteorder.specs.Endian.{little_bytes}
 use Rattle.kt_stream.specs.declared.entry.Pair.{Pair}
 use Rattle.kt_stream.specs.declared.read.Misfit.{Misfit}
-use Rattle.kt_stream.specs.declared.read.Read.{Read}
 use Rattle.kt_stream.specs.declared.read.Read.TheVariants.{Got}
 use Rattle.kt_stream.specs.Read.{◌>>=◌, Field, fields_in, width_of, fields_then, AreJudged, AreSmall}
 use Rattle.kt_stream.specs.Pairs.{pairs_in, pair_record, ArePairs, pairs_bytes}

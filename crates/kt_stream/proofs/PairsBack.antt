@@ -1,5 +1,5 @@
 -- Pairs are read back as they were written.
-use Rattle.std.proofs.Common.{◌≡◌, ℕ, zero, suc, ◌+◌, ◌≤◌, ◌<◌, ◌^◌, List, [], ◌∷◌, ◌++◌, length, drop, None, refl, ap, ◌∙◌, append_assoc, arith}
+use Rattle.std.proofs.Common.{◌≡◌, ℕ, zero, suc, ◌+◌, ◌≤◌, ◌<◌, ◌^◌, List, [], ◌∷◌, ◌++◌, length, None, refl, ap, append_assoc, arith}
 use Rattle.std.proofs.lemmas.Bool.{ne_eqb}
 use Rattle.std.proofs.lemmas.List.{drop_at}
 use Rattle.std.proofs.lemmas.Int.{ints}
@@ -8,15 +8,11 @@ use Rattle.std.specs.Int.{w32, cast_unsigned}
 use Rattle.std.specs.List.{AllByRecursion}
 use Rattle.byteorder.specs.Endian.{little_bytes}
 use Rattle.kt_stream.specs.declared.entry.Pair.{Pair}
-use Rattle.kt_stream.specs.declared.pairs.RawPair.{RawPair}
-use Rattle.kt_stream.specs.declared.read.Misfit.{Misfit}
-use Rattle.kt_stream.specs.declared.read.Read.{Read}
 use Rattle.kt_stream.specs.declared.read.Read.TheVariants.{Got}
 use Rattle.kt_stream.specs.declared.stop.RecordCause.TheVariants.{Sidx, Loss}
-use Rattle.kt_stream.specs.Read.{◌>>=◌, fields_in}
-use Rattle.kt_stream.specs.Pairs.{misfit, order_of, sidx_judge, loss_judge, pair_fields, raw_pair, pair_in, signed, pairs_in, IsPair, BeginsAbove, RisingSidx, ArePairs, pair_bytes, end_bytes, pairs_bytes}
+use Rattle.kt_stream.specs.Pairs.{misfit, order_of, sidx_judge, loss_judge, pair_fields, pair_in, signed, pairs_in, IsPair, BeginsAbove, RisingSidx, ArePairs, pair_bytes, end_bytes, pairs_bytes}
 use Rattle.kt_stream.proofs.Fields.{between_none, fields_back}
-use Rattle.kt_stream.proofs.PairsRead.{pair_length, end_length}
+use Rattle.kt_stream.proofs.PairsRead.{pair_length}
 use Rattle.kt_stream.proofs.Sidx.{has_place}
 
 abbrev word_of : Pair → ℕ

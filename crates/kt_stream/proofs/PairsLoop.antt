@@ -1,5 +1,5 @@
 -- How the pairs of a record are read one after the other.
-use Rattle.std.proofs.Common.{◌≡◌, ℕ, zero, suc, ◌+◌, ◌-◌, ◌≤◌, List, [], ◌∷◌, ◌++◌, length, drop, refl, sym, ap, ◌∙◌, append_assoc, arith, add-zero}
+use Rattle.std.proofs.Common.{◌≡◌, ℕ, suc, ◌+◌, ◌≤◌, List, [], ◌∷◌, ◌++◌, length, drop, refl, sym, ap, ◌∙◌, append_assoc, arith, add-zero}
 use Rattle.std.proofs.lemmas.Bool.{ne_eqb, eq-eqb}
 use Rattle.std.proofs.lemmas.List.{drop-drop, length-drop, append-nil}
 use Rattle.kt_stream.specs.declared.entry.Pair.{Pair}
@@ -7,7 +7,6 @@ use Rattle.kt_stream.specs.declared.pairs.RawPair.{RawPair}
 use Rattle.kt_stream.specs.declared.read.Misfit.{Misfit}
 use Rattle.kt_stream.specs.declared.read.Read.{Read}
 use Rattle.kt_stream.specs.declared.read.Read.TheVariants.{Got, Short, Wrong}
-use Rattle.kt_stream.specs.Read.{◌>>=◌}
 use Rattle.kt_stream.specs.Pairs.{order_of, pair_in, signed, in_front, pairs_in}
 use Rattle.kt_stream.proofs.PairsRead.{pair_got, order_fits}
 

@@ -1,8 +1,8 @@
 -- Pairs as they are read: whatever follows them, in their ranges, and as they are written.
-use Rattle.std.proofs.Common.{◌≡◌, ℕ, zero, suc, ◌+◌, ◌*◌, ◌≤◌, ◌<◌, cond, eqb, List, [], ◌∷◌, ◌++◌, length, drop, None, refl, sym, ap, subst, ◌∙◌, append_assoc, arith, inl, inr}
+use Rattle.std.proofs.Common.{◌≡◌, ℕ, zero, suc, ◌+◌, ◌*◌, ◌≤◌, cond, eqb, List, [], ◌∷◌, ◌++◌, length, drop, None, refl, sym, ap, subst, ◌∙◌, append_assoc, arith, inl, inr}
 use Rattle.std.proofs.lemmas.Bool.{ne_eqb, eq-eqb, cases_eq}
 use Rattle.std.proofs.lemmas.List.{drop-append-le, length-drop, drop-drop, length-append}
-use Rattle.std.specs.Prelude.{ℤ, pos, ◌+ℤ◌, slice_index}
+use Rattle.std.specs.Prelude.{ℤ, pos, ◌+ℤ◌}
 use Rattle.std.specs.Int.{w32, cast_signed, cast_unsigned}
 use Rattle.std.specs.List.{AllByRecursion}
 use Rattle.byteorder.specs.Endian.{little_bytes}
@@ -10,11 +10,10 @@ use Rattle.byteorder.specs.Numbers.{length-bytes_low_first}
 use Rattle.kt_stream.specs.declared.entry.Pair.{Pair}
 use Rattle.kt_stream.specs.declared.pairs.RawPair.{RawPair}
 use Rattle.kt_stream.specs.declared.read.Misfit.{Misfit}
-use Rattle.kt_stream.specs.declared.read.Read.{Read}
-use Rattle.kt_stream.specs.declared.read.Read.TheVariants.{Got, Short, Wrong}
+use Rattle.kt_stream.specs.declared.read.Read.TheVariants.{Got}
 use Rattle.kt_stream.specs.declared.stop.RecordCause.TheVariants.{Empty, Sidx, Loss}
 use Rattle.kt_stream.specs.declared.stop.RecordCause.TheVariants as causes
-use Rattle.kt_stream.specs.Read.{◌>>=◌, Field, fields_in, fields_then, AreJudged}
+use Rattle.kt_stream.specs.Read.{fields_in, fields_then, AreJudged}
 use Rattle.kt_stream.specs.Pairs.{misfit, order_of, sidx_judge, loss_judge, pair_fields, raw_pair, pair_in, signed, in_front, pairs_in, IsPair, BeginsAbove, RisingSidx, ArePairs, pair_bytes, end_bytes, pairs_bytes}
 use Rattle.kt_stream.specs.Stream.{Kept, AreBytes}
 use Rattle.kt_stream.proofs.Cases.{got_is, some_is_none, bind_got, kept_then}

@@ -1,5 +1,5 @@
 -- A reader stands for the bytes that it was given, piece by piece.
-use Rattle.std.proofs.Common.{◌≡◌, ℕ, ◌+◌, ◌-◌, ◌≤◌, ◌<◌, List, [], ◌∷◌, ◌++◌, length, take, drop, Option, Some, None, Result, Ok, Err, refl, sym, ap, subst, ◌∙◌, append_assoc, arith, inl, inr}
+use Rattle.std.proofs.Common.{◌≡◌, ℕ, ◌+◌, ◌-◌, ◌≤◌, ◌<◌, List, [], ◌∷◌, ◌++◌, length, take, drop, Option, Some, None, Result, Ok, Err, refl, sym, ap, ◌∙◌, append_assoc, arith, inl, inr}
 use Rattle.std.specs.Prelude.{MatchResult}
 use Rattle.std.proofs.lemmas.Bool.{le-leb, lt-leb, cases_lt}
 use Rattle.std.proofs.lemmas.List.{length-append, length-take-le, length-drop, append-nil, take-append-drop}
@@ -10,9 +10,9 @@ use Rattle.kt_stream.specs.declared.kind.Shape.{Shape}
 use Rattle.kt_stream.specs.declared.stop.StreamStop.{StreamStop}
 use Rattle.kt_stream.specs.declared.stop.StreamStop.TheVariants.{NotProfile, WrongStream, BadSamples, BadSet, BadRecord, TooLong, Cut, OutOfMemory}
 use Rattle.kt_stream.specs.Stop.{IsRefusal}
-use Rattle.kt_stream.specs.Stream.{Form, End, Whole, Partial, Refused, Stream, after, reads_on, overlong, too_long, within_room, stream_of, stream_limit, refusal, fault_at, fault_of, at_border}
+use Rattle.kt_stream.specs.Stream.{Form, End, Partial, Refused, Stream, after, reads_on, overlong, too_long, within_room, stream_of, stream_limit, refusal, fault_at}
 use Rattle.kt_stream.specs.Reader.{Reading, refused, goes_on, stream_by, stream_from, rest_end, end_by, stop_or_too_long, IsAt, Represents, Stands, IsFurther, Absorbs, Extends, Feeds, Ends}
-use Rattle.kt_stream.specs.Gather.{MovesOn, MovesToStop, MovesBy}
+use Rattle.kt_stream.specs.Gather.{MovesBy}
 use Rattle.kt_stream.proofs.Heading.{header_nothing}
 
 -- ---- room
@@ -121,7 +121,7 @@ past_limit form shape head held start pending more full some rests =
     let exact : room ≡ length pending = omega arith in
     let front : take room (pending ++ more) ≡ pending = ap (λ (n : ℕ). take n (pending ++ more)) exact ∙ take-append_seam pending more in
     let here : after held (read pending) ≡ record { head = head; entries = held; end = rest_end head pending } =
-        ap (after held) (sym (room_within room read pending (omega arith))) ∙ ap (λ (xs : List ℕ). after held (within_room room read xs)) (sym (append-nil pending)) ∙ rests in
+    ap (after held) (sym (room_within room read pending (omega arith))) ∙ ap (λ (xs : List ℕ). after held (within_room room read xs)) (sym (append-nil pending)) ∙ rests in
     ap (after held) (room_beyond room read (pending ++ more) beyond ∙ ap (λ (xs : List ℕ). overlong (read xs)) front) ∙ ap overlong here
     ∙ ap (λ (e : End). record { head = head; entries = held; end = e }) (rests_too_long head pending)
 
@@ -174,7 +174,7 @@ represents_by : {E : Type 0} (form : Form E) (bytes : List ℕ) (taken : List (P
     → stream_from form r [] ≡ record { head = r.head; entries = r.held; end = end_by r.stop r.head r.pending } → IsAt r.stop (r.start + length r.pending) (length bytes) → Represents E form bytes taken r
 represents_by {E} form bytes taken r onward rests place =
     let now : stream_of form r.shape bytes ≡ record { head = r.head; entries = taken ++ r.held; end = end_by r.stop r.head r.pending } =
-        ap (stream_of form r.shape) (sym (append-nil bytes)) ∙ onward [] ∙ ap (after taken) rests in
+    ap (stream_of form r.shape) (sym (append-nil bytes)) ∙ onward [] ∙ ap (after taken) rests in
     record {
       head = sym (ap (λ (s : Stream E). s.head) now);
       records = sym (ap (λ (s : Stream E). s.entries) now);

@@ -1,16 +1,14 @@
 -- What is written as a stream is read back, and what is read as one without a fault is written so.
-use Rattle.std.proofs.Common.{◌≡◌, ℕ, zero, suc, ◌+◌, ◌≤◌, ◌<◌, List, [], ◌∷◌, ◌++◌, length, take, drop, Option, None, refl, sym, ap, ◌∙◌, append_assoc, arith, inl, inr}
+use Rattle.std.proofs.Common.{◌≡◌, ℕ, zero, suc, ◌+◌, ◌≤◌, ◌<◌, List, [], ◌∷◌, ◌++◌, length, take, drop, None, refl, sym, ap, ◌∙◌, arith, inl, inr}
 use Rattle.std.proofs.lemmas.Bool.{cases_lt}
 use Rattle.std.proofs.lemmas.List.{drop_at}
 use Rattle.std.specs.List.{AllByRecursion}
-use Rattle.kt_stream.specs.declared.entry.Placed.{Placed}
 use Rattle.kt_stream.specs.declared.kind.Head.{Head}
 use Rattle.kt_stream.specs.declared.kind.Shape.{Shape}
 use Rattle.kt_stream.specs.declared.read.HeaderFault.{HeaderFault}
 use Rattle.kt_stream.specs.declared.read.Misfit.{Misfit}
 use Rattle.kt_stream.specs.declared.read.Read.{Read}
 use Rattle.kt_stream.specs.declared.read.Read.TheVariants.{Got, Short, Wrong}
-use Rattle.kt_stream.specs.declared.stop.StreamStop.{StreamStop}
 use Rattle.kt_stream.specs.Header.{IsHead, header_in, header_bytes, header_size}
 use Rattle.kt_stream.specs.Stream.{Form, Walk, Whole, Partial, Refused, End, Stream, AreBytes, IsLawful, at_border, with_entries, with_head, step, walk, records_in, headed, reads_on, too_long, stream_of, stream_limit, fault_at, fault_of}
 use Rattle.kt_stream.specs.Grammar.{records_bytes, Spells, placed_from, entries_of, spelled, IsSpelled}
@@ -133,13 +131,16 @@ reads_written form shape bytes lawful are within whole =
     let known = headed_written form shape (header_in shape.kind bytes) bytes whole in
     let h = known.0 in
     let read = header_got shape.kind bytes h known.1 in
-    let rest = walk_written form shape h.samples (suc (length (drop size bytes))) (drop size bytes) (0 + size) lawful (few_samples shape.kind h read.good) (bytes_behind size bytes are) (omega arith) known.2 in
-    (h, rest.entries, record {
-      in_range = read.good;
-      each = rest.each;
-      written = read.written are ∙ ap (λ (xs : List ℕ). header_bytes shape.kind h ++ xs) rest.written;
-      within = within;
-    })
+    let rest = walk_written form shape h.samples (suc (length (drop size bytes))) (drop size bytes) (0 + size) lawful (few_samples shape.kind h read.good) (bytes_behind size bytes are) (omega arith) known.2 in (
+      h,
+      rest.entries,
+      record {
+        in_range = read.good;
+        each = rest.each;
+        written = read.written are ∙ ap (λ (xs : List ℕ). header_bytes shape.kind h ++ xs) rest.written;
+        within = within;
+      },
+    )
 
 too_long_refused : (end : End) → too_long end ≡ Whole → ⊥
 too_long_refused Whole is = cc

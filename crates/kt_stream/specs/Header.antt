@@ -1,6 +1,6 @@
 -- The header at the front of a stream of each kind.
 -- The rules: docs/STREAMS.md, "Headers".
-use Rattle.std.specs.Prelude.{◌≡◌, ℕ, ◌≤◌, ◌/◌, ◌%◌, ◌+◌, List, [], ◌∷◌, ◌++◌, Option, Some, None, ◌==◌, if◌then◌else◌, slice_index}
+use Rattle.std.specs.Prelude.{◌≡◌, ℕ, ◌≤◌, ◌/◌, ◌%◌, List, [], ◌∷◌, ◌++◌, Option, Some, None, ◌==◌, if◌then◌else◌, slice_index}
 use Rattle.byteorder.specs.Endian.{little_bytes}
 use Rattle.kt_stream.specs.declared.kind.Head.{Head}
 use Rattle.kt_stream.specs.declared.kind.StreamKind.{StreamKind}

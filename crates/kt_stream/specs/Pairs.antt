@@ -1,6 +1,6 @@
 -- The pairs of a record, and records of some fields with pairs behind them.
 -- The rules: docs/STREAMS.md, "Records".
-use Rattle.std.specs.Prelude.{◌≡◌, ◌≢◌, false, ℕ, zero, suc, ◌+◌, ◌*◌, ◌^◌, ◌%◌, ◌≤◌, ◌<◌, ℤ, pos, negsuc, ◌≤ℤ◌, ◌<ℤ◌, List, [], ◌∷◌, ◌++◌, length, drop, Option, Some, None, nat_lt, ◌==◌, if◌then◌else◌, slice_index}
+use Rattle.std.specs.Prelude.{◌≡◌, ◌≢◌, false, ℕ, zero, suc, ◌+◌, ◌^◌, ◌%◌, ◌≤◌, ℤ, pos, negsuc, ◌≤ℤ◌, ◌<ℤ◌, List, [], ◌∷◌, ◌++◌, length, drop, Option, Some, None, nat_lt, ◌==◌, if◌then◌else◌, slice_index}
 use Rattle.std.specs.Int.{w32, cast_signed, cast_unsigned}
 use Rattle.std.specs.List.{AllByRecursion}
 use Rattle.byteorder.specs.Endian.{little_bytes}
@@ -8,10 +8,10 @@ use Rattle.kt_stream.specs.declared.entry.Pair.{Pair}
 use Rattle.kt_stream.specs.declared.pairs.RawPair.{RawPair}
 use Rattle.kt_stream.specs.declared.read.Misfit.{Misfit}
 use Rattle.kt_stream.specs.declared.read.Read.{Read}
-use Rattle.kt_stream.specs.declared.read.Read.TheVariants.{Got, Short, Wrong}
+use Rattle.kt_stream.specs.declared.read.Read.TheVariants.{Got, Short}
 use Rattle.kt_stream.specs.declared.stop.RecordCause.{RecordCause}
 use Rattle.kt_stream.specs.declared.stop.RecordCause.TheVariants.{Id, Empty, Sidx, Loss, End}
-use Rattle.kt_stream.specs.Read.{◌>>=◌, between, Field, fields_in, width_of, fields_then}
+use Rattle.kt_stream.specs.Read.{◌>>=◌, between, Field, fields_in, width_of}
 
 -- what is wrong with the field at a byte
 abbrev pub misfit : ℕ → RecordCause → Misfit

@@ -184,7 +184,9 @@ impl<E: Entry> RecordReader<E> {
         ensures { IfOk result (λ next. Absorbs E E.form (record self.now { pending = [] }) bytes.now (kept self.now next)) }
     {
         E::laws();
-        let moved = read_on(self.alloc, self.shape, self.head, self.start, bytes, self.size)?;
+        let moved = read_on(
+            self.alloc, self.shape, self.head, self.start, bytes, self.size,
+        )?;
         let pending = Vec::from_slice(self.alloc, &bytes[moved.used..])?;
         Ok(Next {
             head: moved.head,

@@ -84,7 +84,13 @@ impl Entry for SummaryRecord {
             Read::Short => Ok(Read::Short),
             Read::Wrong(misfit) => Ok(Read::Wrong(misfit)),
             Read::Got(front) => {
-                match pairs_of(alloc, samples, &bytes[FRONT..], at + FRONT as u64, size / PAIR)? {
+                match pairs_of(
+                    alloc,
+                    samples,
+                    &bytes[FRONT..],
+                    at + FRONT as u64,
+                    size / PAIR,
+                )? {
                     Read::Short => Ok(Read::Short),
                     Read::Wrong(misfit) => Ok(Read::Wrong(misfit)),
                     Read::Got(pairs) => Ok(Read::Got(SummaryRecord {

@@ -62,11 +62,7 @@ fn put_pair_record(out: &mut Bytes, fields: &[u8], pairs: &[Pair]) -> Result<(),
 }
 
 /// Appends the fields of a record and the pairs behind them, or some of them.
-fn put_fields_and_pairs(
-    out: &mut Bytes,
-    fields: &[u8],
-    pairs: &[Pair],
-) -> Result<(), OutOfMemory>
+fn put_fields_and_pairs(out: &mut Bytes, fields: &[u8], pairs: &[Pair]) -> Result<(), OutOfMemory>
     ensures ok { OnOk result (out.new ≡ out.old ++ (fields.now ++ pairs_bytes pairs.now)) }
 
     ensures memory { OnErr result (BeginsWith out.old out.new) }

@@ -1,6 +1,6 @@
-use Rattle.std.proofs.Common.{◌≡◌, ◌+◌, ◌-◌, ◌≤◌, drop, length, refl, sym, ap, ◌∙◌, arith}
+use Rattle.std.proofs.Common.{sym}
 use Rattle.std.proofs.lemmas.List.{take_rest}
-use Rattle.kt_stream.proofs.Gathering.{gathers_none, gathers_one, gathers_less, gathers_short, gathers_wrong}
+use Rattle.kt_stream.proofs.Gathering.{gathers_none, gathers_one, gathers_short, gathers_wrong}
 use Rattle.kt_stream.proofs.gather.gather.Goals as goal
 
 pub records-init : goal.records-init

@@ -1,6 +1,5 @@
-use Rattle.std.proofs.Common.{◌≡◌, sym, ◌∙◌, refl, arith}
-use Rattle.kt_stream.proofs.Gathering.{moved_known, moved_header, header_short, header_wrong}
-use Rattle.kt_stream.proofs.Heading.{header_got, few_samples}
+use Rattle.std.proofs.Common.{sym, arith}
+use Rattle.kt_stream.proofs.Gathering.{moved_header, header_short, header_wrong}
 use Rattle.kt_stream.proofs.gather.read_on.Goals as goal
 
 pub returns-in-Short : goal.returns-in-Short

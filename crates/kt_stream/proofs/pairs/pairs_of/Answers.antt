@@ -1,4 +1,4 @@
-use Rattle.std.proofs.Common.{◌≡◌, ◌+◌, ◌-◌, suc, refl, sym, ap, ◌∙◌, arith}
+use Rattle.std.proofs.Common.{◌≡◌, ◌+◌, ◌-◌, suc, refl, sym, ◌∙◌, arith}
 use Rattle.std.proofs.lemmas.List.{take_rest}
 use Rattle.kt_stream.proofs.PairsLoop.{pairs_begin, pair_step, pair_more, pair_ends, pair_short, pair_wrong, no_step}
 use Rattle.kt_stream.proofs.pairs.pairs_of.Goals as goal

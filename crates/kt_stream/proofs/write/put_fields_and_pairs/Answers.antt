@@ -1,4 +1,4 @@
-use Rattle.std.proofs.Common.{◌≡◌, ◌+◌, suc, get_or, drop, drop-cons, add-one, refl, arith}
+use Rattle.std.proofs.Common.{suc, get_or, drop, drop-cons, add-one, refl}
 use Rattle.std.proofs.Math.ListN.{drop_of_length-le}
 use Rattle.std.specs.Prelude.{pos}
 use Rattle.kt_stream.specs.declared.entry.Pair.{Pair}

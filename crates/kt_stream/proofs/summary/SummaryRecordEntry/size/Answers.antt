@@ -1,4 +1,4 @@
-use Rattle.std.proofs.Common.{◌≡◌, ◌+◌, ◌*◌, length, arith, ap}
+use Rattle.std.proofs.Common.{arith}
 use Rattle.kt_stream.proofs.Summaries.{summary_length}
 use Rattle.kt_stream.proofs.summary.SummaryRecordEntry.size.Goals as goal
 
