@@ -72,7 +72,7 @@ unfolding reads_on
 reads_headless form shape bytes none = headless form shape (header_in shape.kind bytes) bytes none
 
 -- without a header there are no records
-stream_headless : {E : Type 0} (form : Form E) (shape : Shape) (bytes : List ℕ) → (stream_of form shape bytes).head ≡ None → (stream_of form shape bytes).entries ≡ []
+pub stream_headless : {E : Type 0} (form : Form E) (shape : Shape) (bytes : List ℕ) → (stream_of form shape bytes).head ≡ None → (stream_of form shape bytes).entries ≡ []
 stream_headless form shape bytes none = elim (cases_lt stream_limit (length bytes)) [
   | inl beyond ↦
       let same = room_beyond stream_limit (reads_on form shape None 0) bytes beyond in
