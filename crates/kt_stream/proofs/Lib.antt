@@ -4,7 +4,9 @@ pub mod Sidx
 pub mod PairsRead
 pub mod PairsBack
 pub mod PairRecords
+pub mod PairKinds
 pub mod Summaries
+pub mod LossRecords
 pub mod Heading
 pub mod Walking
 pub mod PairsLoop

@@ -4,6 +4,7 @@ pub mod Header
 pub mod Stream
 pub mod Pairs
 pub mod Summary
+pub mod Losses
 pub mod Growth
 pub mod Grammar
 pub mod Reader

@@ -40,7 +40,7 @@ pub struct Head {
 }
 
 /// What a reader is told of its stream before the first byte.
-#[derive(Clone, Copy, Debug, PartialEq, Eq)]
+#[derive(Clone, Copy)]
 pub struct Shape {
     /// The kind that the header has to name.
     pub kind: StreamKind,

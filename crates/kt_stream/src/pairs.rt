@@ -12,7 +12,7 @@ use crate::stop::RecordCause;
 use std::alloc::{AllocError, Global};
 
 /// A pair as it stands in the bytes: its sidx as an unsigned number of 32 bits.
-#[derive(Clone, Copy, Debug, PartialEq, Eq)]
+#[derive(Clone, Copy)]
 pub struct RawPair {
     /// The four bytes of the sidx: 2^32 - 2 stands for -2.
     pub word: u32,

@@ -3,7 +3,7 @@
 use crate::stop::RecordCause;
 
 /// A wrong field of a record: the byte at which it begins, and what is wrong with it.
-#[derive(Clone, Copy, Debug, PartialEq, Eq)]
+#[derive(Clone, Copy)]
 pub struct Misfit {
     /// The first byte of the field, counted from 0 in the whole stream.
     pub at: u64,
@@ -12,7 +12,7 @@ pub struct Misfit {
 }
 
 /// A wrong field of a header.
-#[derive(Clone, Copy, Debug, PartialEq, Eq)]
+#[derive(Clone, Copy)]
 pub enum HeaderFault {
     /// The stream's type is not 101.
     NotProfile,
@@ -34,7 +34,7 @@ pub enum HeaderFault {
 }
 
 /// What reading at a place gives: a value, or too few bytes, or the first wrong field.
-#[derive(Debug, Drop)]
+#[derive(Drop)]
 pub enum Read<T, W> {
     /// The value.
     Got(T),

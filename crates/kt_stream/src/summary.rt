@@ -19,7 +19,7 @@ use std::alloc::{AllocError, Global};
 const FRONT: usize = 16;
 
 /// The fields in front of the pairs of a summary record.
-#[derive(Clone, Copy, Debug, PartialEq, Eq)]
+#[derive(Clone, Copy)]
 pub struct SummaryFront {
     /// The event's id, from 1 to 2,147,483,647.
     pub event: u32,

@@ -6,10 +6,11 @@ ghost use Rattle.byteorder.specs.Endian.{little_bytes};
 ghost use Rattle.kt_stream.specs.declared.read.Read.TheVariants.{Got};
 ghost use Rattle.kt_stream.specs.Header.{header_bytes, header_in, IsHead};
 ghost use Rattle.kt_stream.specs.Pairs.{pairs_bytes, pair_bytes};
+ghost use Rattle.kt_stream.specs.Losses.{loss_bytes, loss_in, IsLoss};
 ghost use Rattle.kt_stream.specs.Summary.{summary_bytes, summary_in, IsSummary};
 ghost use Rattle.kt_stream.specs.Write.{BeginsWith};
 
-use crate::entry::{Pair, SummaryRecord};
+use crate::entry::{LossRecord, Pair, SummaryRecord};
 use crate::kind::{Head, StreamKind};
 use byteorder::{ByteOrder, LittleEndian};
 use kt_money::{Bytes, OutOfMemory};
@@ -44,6 +45,20 @@ pub fn put_summary(out: &mut Bytes, entry: &SummaryRecord) -> Result<(), OutOfMe
     LittleEndian::write_u32(&mut front, entry.event);
     LittleEndian::write_u32(&mut front[4..], entry.summary);
     LittleEndian::write_u64(&mut front[8..], entry.exposure);
+    put_pair_record(out, &front, entry.pairs.as_slice())
+}
+
+/// Appends a record of losses. An error is want of memory, and nothing is appended then. A record in its ranges
+/// is read back, at any place and whatever follows it.
+pub fn put_loss(out: &mut Bytes, entry: &LossRecord) -> Result<(), OutOfMemory>
+    ensures ok { OnOk result (out.new ≡ out.old ++ loss_bytes entry.now) }
+    ensures back { (samples : ℕ) (rest : List ℕ) (at : ℕ) → samples ≤ 1000 → IsLoss samples entry.now → loss_in samples (loss_bytes entry.now ++ rest) at ≡ Got entry.now }
+
+    ensures unchanged { OnErr result (out.new ≡ out.old) }
+{
+    let mut front = [0; 8];
+    LittleEndian::write_u32(&mut front, entry.event);
+    LittleEndian::write_u32(&mut front[4..], entry.id);
     put_pair_record(out, &front, entry.pairs.as_slice())
 }
 
