@@ -9,3 +9,5 @@ pub mod Ending
 pub mod SummaryStreams
 pub mod Rows
 pub mod RunsGiven
+pub mod Joining
+pub mod RunStepping

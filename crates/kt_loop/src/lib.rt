@@ -1,6 +1,7 @@
 //! One loop under all tools that read a stream, and the calculations that it carries out.
 #![tactic(auto)]
 
+mod by_run;
 mod carry;
 pub mod laws;
 mod reader;
@@ -11,6 +12,7 @@ mod stage;
 mod summary;
 mod turn;
 
+pub use by_run::{RunStage, run_by_run};
 pub use reader::StreamReader;
 pub use run::run_stage;
 pub use run_key::{RunKey, RunRecord};
