@@ -11,7 +11,7 @@ use Rattle.kt_loop.specs.Contents.{Contents}
 use Rattle.kt_loop.specs.Outcome.{gives, stream_status, ended_by, outcome}
 use Rattle.kt_loop.proofs.Courses.{record_rows}
 
-module _ {H E S : Type 0} (heading : S → H → List ℕ) (rows : S → H → Placed E → List ℕ) (state : S) where
+module _ {H E S : Type 0} (heading : S → H → List ℕ) (rows : S → H → E → List ℕ) (state : S) where
   nothing_behind : (head : Option H) (text : List ℕ) → text ++ ending (by_record {R = Refusal} heading rows) head state ≡ text
   nothing_behind None text = append-nil text
   nothing_behind (Some head) text = append-nil text

@@ -14,7 +14,7 @@ ghost use Rattle.kt_loop.specs.Counts.{Consults};
 ghost use Rattle.kt_loop.specs.Reading.{AreGood};
 ghost use Rattle.kt_loop.specs.RunSteps.{JudgesBy, ClosesBy, unwritten};
 ghost use Rattle.kt_loop.specs.Running.{EndsRun, around};
-ghost use Rattle.kt_loop.specs.Runs.{joins};
+ghost use Rattle.kt_loop.specs.Runs.{bare, joins};
 ghost use Rattle.kt_loop.specs.Steps.{StepsBy};
 
 use crate::reader::StreamReader;
@@ -77,7 +77,7 @@ pub trait RunStage<H, E, W> {
         requires good { AllByRecursion (is_good head) run.now }
         requires ready { is_ready (Some head) self.old }
 
-        ensures closed { (kept : Kept) → is_at kept self.old world.old → ClosesBy (runs.closes head kept run.now) (is_at kept self.new world.new) out.old out.new result }
+        ensures closed { (kept : Kept) → is_at kept self.old world.old → ClosesBy (runs.closes head kept (bare run.now)) (is_at kept self.new world.new) out.old out.new result }
         ensures ready { OnOk result (is_ready (Some head) self.new) }
         ensures counted { (others : InputsState) → Consults (inputs others world.old) (inputs others world.new) result };
 }
