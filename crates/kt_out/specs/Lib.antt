@@ -1,4 +1,5 @@
 pub mod Counts
+pub mod Adapters
 pub mod Reading
 pub mod Writing
 pub mod NamedFiles

@@ -1,4 +1,4 @@
-//! The records of a stream as values.
+//! The records of a stream as values, and what a kind of record owes to be read.
 //! The rules: docs/STREAMS.md, "Records".
 ghost use Rattle.std.specs.Prelude.{◌≡◌, ◌≤◌, List, [], ◌∷◌, ◌++◌, length, take, OnOk, OnErr};
 
@@ -70,6 +70,17 @@ impl Pairs {
     {
         Pairs { items }
     }
+}
+
+/// The losses of one item, or of one output of a programme, in one event.
+#[derive(Debug, Drop)]
+pub struct LossRecord {
+    /// The event's id, from 1 to 2,147,483,647.
+    pub event: u32,
+    /// The id of the item or of the output, from 1 to 2,147,483,647.
+    pub id: u32,
+    /// The losses, by rising sidx; zero losses are left out.
+    pub pairs: Pairs,
 }
 
 /// The losses of one summary id in one event.

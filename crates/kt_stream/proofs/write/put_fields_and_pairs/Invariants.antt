@@ -1,0 +1,6 @@
+use Rattle.kt_stream.proofs.Writing.{Puts}
+use Rattle.kt_stream.proofs.write.put_fields_and_pairs.Given as goal
+
+-- the fields and so many pairs were written
+abbrev pub invariant-loop-pair : goal.invariant-loop-pair
+invariant-loop-pair l = Puts l.fn.out l.fields l.pairs l.out l.pair-index
