@@ -6,7 +6,6 @@ pub mod Growing
 pub mod Settling
 pub mod Going
 pub mod Ending
-pub mod SummaryStreams
 pub mod Rows
 pub mod RunsGiven
 pub mod Joining

@@ -10,8 +10,9 @@ ghost use Rattle.kt_ends.specs.Outcome.{Outcome};
 ghost use Rattle.kt_ends.specs.Stops.{end_status};
 ghost use Rattle.kt_ends.specs.declared.status.Refusal.{Refusal};
 ghost use Rattle.kt_loop.specs.ByRun.{RunCalculation, OpenRun, by_run, closing, judged};
+ghost use Rattle.kt_loop.specs.Contents.{Contents};
 ghost use Rattle.kt_loop.specs.Counts.{Consults};
-ghost use Rattle.kt_loop.specs.Reading.{AreGood};
+ghost use Rattle.kt_loop.specs.Reading.{IsFresh, ReadsGood};
 ghost use Rattle.kt_loop.specs.RunSteps.{JudgesBy, ClosesBy, unwritten};
 ghost use Rattle.kt_loop.specs.Running.{EndsRun, around};
 ghost use Rattle.kt_loop.specs.Runs.{bare, joins};
@@ -212,11 +213,11 @@ pub fn run_by_run<R: StreamReader, W, C: RunStage<R::Head, R::Entry, W> + Drop, 
 ) -> Result<(), ToolStop>
 where
     R::Entry: RunRecord + Drop,
-    requires fresh { R.represents [] [] reader.old }
-    requires good { (fed : List ℕ) → AreGood C.accepts C.is_good (R.contents fed).head (R.contents fed).entries }
+    requires fresh { IsFresh R.represents reader.old }
+    requires good { ReadsGood R.represents C.accepts C.is_good [] reader.old }
     requires ready { C.is_ready None stage }
 
-    ensures ended { (asks : Bool) (made : FileMap → List ℕ → Outcome) (others : InputsState) (outputs : OutputsState) → EndsRun (by_run R.Entry.key C.runs) R.contents (λ state. C.is_at state.kept stage world.old × ([] ≡ state.run)) asks made (around (C.inputs others world.old) outputs (S.state source.old) (K.state sink.old)) (around (C.inputs others world.new) outputs (S.state source.new) (K.state sink.new)) (end_status result) }
+    ensures ended { (asks : Bool) (made : FileMap → List ℕ → Outcome) (others : InputsState) (outputs : OutputsState) (contents : List ℕ → Contents R.Head R.Entry) → R.represents contents [] [] reader.old → EndsRun (by_run R.Entry.key C.runs) contents (λ state. C.is_at state.kept stage world.old × ([] ≡ state.run)) asks made (around (C.inputs others world.old) outputs (S.state source.old) (K.state sink.old)) (around (C.inputs others world.new) outputs (S.state source.new) (K.state sink.new)) (end_status result) }
 {
     let mut by_run = ByRun {
         stage,

@@ -7,6 +7,7 @@ ghost use Rattle.kt_stream.specs.declared.entry.Placed.{Placed};
 ghost use Rattle.kt_ends.specs.declared.status.Refusal.{Refusal};
 ghost use Rattle.kt_loop.specs.Calculation.{Course, opened, took, took_all};
 ghost use Rattle.kt_loop.specs.Carrying.{carried, header_if};
+ghost use Rattle.kt_loop.specs.Contents.{Contents};
 ghost use Rattle.kt_loop.specs.Counts.{Counts};
 ghost use Rattle.kt_loop.specs.Reading.{AreGood};
 ghost use Rattle.kt_loop.specs.Steps.{Stands, Comes};
@@ -81,7 +82,7 @@ fn take_held<R: StreamReader, W, T: Stage<R::Head, R::Entry, W>, K: Sink>(
     requires ready { T.is_ready (Some head) stage.old }
 
     ensures course { (before : Option (List ℕ)) (course : Course T.State Refusal) → Stands (λ state. T.is_at state stage.old world.old) before (K.state sink.old).taken out.old course → Comes (λ state. T.is_at state stage.new world.new) before (K.state sink.new).taken out.new (took_all T.calculation head course (R.held reader.old)) result }
-    ensures taken { OnOk result ((fed : List ℕ) (taken : List (Placed R.Entry)) → R.represents fed taken reader.old → R.represents fed (taken ++ R.held reader.old) reader.new) }
+    ensures taken { OnOk result ((contents : List ℕ → Contents R.Head R.Entry) (fed : List ℕ) (taken : List (Placed R.Entry)) → R.represents contents fed taken reader.old → R.represents contents fed (taken ++ R.held reader.old) reader.new) }
     ensures header { R.header reader.new ≡ R.header reader.old }
     ensures ready { OnOk result (T.is_ready (Some head) stage.new) }
     ensures counted { (beside : InputsState) → Counts (T.inputs beside world.old) (T.inputs beside world.new) (K.state sink.old).faults (K.state sink.new).faults result }
@@ -108,7 +109,7 @@ pub(crate) fn carry_on<R: StreamReader, W, T: Stage<R::Head, R::Entry, W>, K: Si
     requires ready { T.is_ready (header_if was_open (R.header reader.old)) stage.old }
 
     ensures course { (before : Option (List ℕ)) (course : Course T.State Refusal) → Stands (λ state. T.is_at state stage.old world.old) before (K.state sink.old).taken out.old course → Comes (λ state. T.is_at state stage.new world.new) before (K.state sink.new).taken out.new (carried T.calculation was_open (R.header reader.old) course (R.held reader.old)) result }
-    ensures taken { OnOk result ((fed : List ℕ) (taken : List (Placed R.Entry)) → R.represents fed taken reader.old → R.represents fed (R.contents fed).entries reader.new) }
+    ensures taken { OnOk result ((contents : List ℕ → Contents R.Head R.Entry) (fed : List ℕ) (taken : List (Placed R.Entry)) → R.represents contents fed taken reader.old → R.represents contents fed (contents fed).entries reader.new) }
     ensures header { R.header reader.new ≡ R.header reader.old }
     ensures ready { OnOk result (T.is_ready (R.header reader.new) stage.new) }
     ensures counted { (beside : InputsState) → Counts (T.inputs beside world.old) (T.inputs beside world.new) (K.state sink.old).faults (K.state sink.new).faults result }

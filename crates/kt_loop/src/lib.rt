@@ -9,7 +9,6 @@ mod run;
 mod run_key;
 mod spill;
 mod stage;
-mod summary;
 mod turn;
 
 pub use by_run::{RunStage, run_by_run};

@@ -9,9 +9,10 @@ ghost use Rattle.kt_out.specs.Writing.{SinkState};
 ghost use Rattle.kt_ends.specs.Ending.{AtEnd, Counted};
 ghost use Rattle.kt_ends.specs.Outcome.{Outcome};
 ghost use Rattle.kt_ends.specs.Stops.{end_status, stop_status};
+ghost use Rattle.kt_loop.specs.Contents.{Contents};
 ghost use Rattle.kt_loop.specs.Counts.{CountsRead, StopCounts};
 ghost use Rattle.kt_loop.specs.Outcome.{outcome};
-ghost use Rattle.kt_loop.specs.Reading.{AreGood};
+ghost use Rattle.kt_loop.specs.Reading.{IsFresh, ReadsGood};
 ghost use Rattle.kt_loop.specs.Running.{EndsRun, around};
 ghost use Rattle.kt_loop.specs.Settling.{Settles, StopSettles, IsEnd};
 
@@ -49,12 +50,12 @@ fn read_all<R: StreamReader, W, T: Stage<R::Head, R::Entry, W>, S: Source, K: Si
     sink: &mut K,
     out: &mut Bytes,
 ) -> Result<(), ToolStop>
-    requires fresh { R.represents [] [] reader.old }
-    requires good { (fed : List ℕ) → AreGood T.accepts T.is_good (R.contents fed).head (R.contents fed).entries }
+    requires fresh { IsFresh R.represents reader.old }
+    requires good { ReadsGood R.represents T.accepts T.is_good [] reader.old }
     requires ready { T.is_ready None stage.old }
     requires empty { out.old ≡ [] }
 
-    ensures settled { (start : T.State) → T.is_at start stage.old world.old → IfSome (S.state source.old).left (λ bytes. Settles (outcome T.calculation start (R.contents bytes)) (K.state sink.old).taken (K.state sink.new).taken out.new result) }
+    ensures settled { (contents : List ℕ → Contents R.Head R.Entry) (start : T.State) → R.represents contents [] [] reader.old → T.is_at start stage.old world.old → IfSome (S.state source.old).left (λ bytes. Settles (outcome T.calculation start (contents bytes)) (K.state sink.old).taken (K.state sink.new).taken out.new result) }
     ensures counted { (others : InputsState) → CountsRead (T.inputs others world.old) (T.inputs others world.new) (S.state source.old).faults (S.state source.new).faults (K.state sink.old).faults (K.state sink.new).faults result }
     ensures at_end { AtEnd (S.state source.old).left (S.state source.new).left (end_status result) }
 {
@@ -110,11 +111,11 @@ pub fn run_stage<R: StreamReader, W, T: Stage<R::Head, R::Entry, W>, S: Source, 
     source: &mut S,
     sink: &mut K,
 ) -> Result<(), ToolStop>
-    requires fresh { R.represents [] [] reader.old }
-    requires good { (fed : List ℕ) → AreGood T.accepts T.is_good (R.contents fed).head (R.contents fed).entries }
+    requires fresh { IsFresh R.represents reader.old }
+    requires good { ReadsGood R.represents T.accepts T.is_good [] reader.old }
     requires ready { T.is_ready None stage.old }
 
-    ensures ended { (asks : Bool) (made : FileMap → List ℕ → Outcome) (others : InputsState) (outputs : OutputsState) → EndsRun T.calculation R.contents (λ state. T.is_at state stage.old world.old) asks made (around (T.inputs others world.old) outputs (S.state source.old) (K.state sink.old)) (around (T.inputs others world.new) outputs (S.state source.new) (K.state sink.new)) (end_status result) }
+    ensures ended { (asks : Bool) (made : FileMap → List ℕ → Outcome) (others : InputsState) (outputs : OutputsState) (contents : List ℕ → Contents R.Head R.Entry) → R.represents contents [] [] reader.old → EndsRun T.calculation contents (λ state. T.is_at state stage.old world.old) asks made (around (T.inputs others world.old) outputs (S.state source.old) (K.state sink.old)) (around (T.inputs others world.new) outputs (S.state source.new) (K.state sink.new)) (end_status result) }
 {
     let mut out = Bytes::new(alloc);
     match read_all(alloc, reader, stage, world, source, sink, &mut out) {

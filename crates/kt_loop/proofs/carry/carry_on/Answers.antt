@@ -5,9 +5,9 @@ use Rattle.kt_loop.proofs.Taking.{nothing_taken, come_new, refused_new}
 use Rattle.kt_loop.proofs.carry.carry_on.Goals as goal
 
 pub returns-in_default-clause-taken : goal.returns-in_default-clause-taken
-returns-in_default-clause-taken g c fed taken stood =
-    let read = c.what_is_held_was_read.ensures fed taken c.args.reader.now stood in
-    subst (λ (xs : List (Placed g.row.R-Entry.Denot)). g.R.StreamReader.represents fed xs c.args.reader.now) (nothing_taken _ taken _ ((c.what_is_read_stays.ensures fed []).headless (sym read.head ∙ sym c.head.ensures ∙ c.in_default.is)) read.records) stood
+returns-in_default-clause-taken g c contents fed taken stood =
+    let read = c.what_is_held_was_read.ensures contents fed taken c.args.reader.now stood in
+    subst (λ (xs : List (Placed g.row.R-Entry.Denot)). g.R.StreamReader.represents contents fed xs c.args.reader.now) (nothing_taken _ taken _ ((c.what_is_read_stays.ensures contents fed taken c.args.reader.now stood fed []).headless (sym read.head ∙ sym c.head.ensures ∙ c.in_default.is)) read.records) stood
 
 pub returns-in-Err-clause-course : goal.returns-in-Err-clause-course
 returns-in-Err-clause-course g c before course standing =
