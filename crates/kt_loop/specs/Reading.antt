@@ -51,11 +51,12 @@ abbrev pub AreGood : {H E : Type 0} → (H → Type 0) → (H → Placed E → T
 AreGood accepts is_good None entries = Unit {0}
 AreGood accepts is_good (Some head) entries = accepts head × AllByRecursion (is_good head) entries
 
--- a reader stands for some bytes, of which all records were taken
-pub record Stood {T H E : Type 0} (represents : (List ℕ → Contents H E) → List ℕ → List (Placed E) → T → Type 0) (reader : T) : Type 0 where
+-- a reader stands for some bytes, of which all records were taken, and a stage can take what is read
+pub record Stood {T H E : Type 0} (represents : (List ℕ → Contents H E) → List ℕ → List (Placed E) → T → Type 0) (accepts : H → Type 0) (is_good : H → Placed E → Type 0) (reader : T) : Type 0 where
   pub contents : List ℕ → Contents H E
   pub fed : List ℕ
   pub stands : represents contents fed (contents fed).entries reader
+  pub good : (bytes : List ℕ) → AreGood accepts is_good (contents bytes).head (contents bytes).entries
 
 -- a reader was given no bytes
 pub record IsFresh {T H E : Type 0} (represents : (List ℕ → Contents H E) → List ℕ → List (Placed E) → T → Type 0) (reader : T) : Type 0 where

@@ -61,8 +61,7 @@ pub(crate) fn turn<R: StreamReader, W, T: Stage<R::Head, R::Entry, W>, K: Sink>(
     sink: &mut K,
     out: &mut Bytes,
 ) -> Result<Option<StreamStop>, ToolStop>
-    requires stood { Stood R.represents reader.old }
-    requires good { (fed : List ℕ) → ReadsGood R.represents T.accepts T.is_good fed reader.old }
+    requires stood { Stood R.represents T.accepts T.is_good reader.old }
     requires ready { T.is_ready (R.header reader.old) stage.old }
 
     ensures stands { IfOk result (λ stop. (contents : List ℕ → Contents R.Head R.Entry) (fed : List ℕ) → R.represents contents fed (contents fed).entries reader.old → FeedsBy contents (R.represents contents) stop (fed ++ piece.now) (contents (fed ++ piece.now)).entries reader.new) }
@@ -91,8 +90,7 @@ pub(crate) fn finish<R: StreamReader, W, T: Stage<R::Head, R::Entry, W>, K: Sink
     sink: &K,
     out: &mut Bytes,
 ) -> Result<(), ToolStop>
-    requires stood { Stood R.represents reader.old }
-    requires good { (fed : List ℕ) → ReadsGood R.represents T.accepts T.is_good fed reader.old }
+    requires stood { Stood R.represents T.accepts T.is_good reader.old }
     requires ready { T.is_ready (R.header reader.old) stage.old }
 
     ensures course { (contents : List ℕ → Contents R.Head R.Entry) (before : Option (List ℕ)) (fed : List ℕ) (start : T.State) → R.represents contents fed (contents fed).entries reader.old → Stands (λ state. T.is_at state stage.old world.old) before (K.state sink.now).taken out.old (course_of T.calculation start (contents fed).head (contents fed).entries) → Settles (outcome T.calculation start (contents fed)) before (K.state sink.now).taken out.new result }
