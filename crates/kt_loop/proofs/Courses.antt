@@ -1,9 +1,9 @@
 -- Courses of calculations: more records, a refusal, and the text so far.
-use Rattle.std.proofs.Common.{◌≡◌, ℕ, List, [], ◌∷◌, ◌++◌, Option, Some, None, Result, Ok, Err, refl, sym, ap, ◌∙◌, append_assoc, subst}
+use Rattle.std.proofs.Common.{◌≡◌, ℕ, List, [], ◌∷◌, ◌++◌, Option, Some, None, Result, Ok, Err, refl, sym, ap, ◌∙◌, append_assoc}
 use Rattle.std.proofs.lemmas.List.{append-nil}
 use Rattle.std.specs.List.{flat_map}
 use Rattle.kt_stream.specs.declared.entry.Placed.{Placed}
-use Rattle.kt_loop.specs.Calculation.{Step, Calculation, Course, behind, started, opened_from, opened, took_from, took, took_all, course_of, ending}
+use Rattle.kt_loop.specs.Calculation.{Calculation, Course, took_from, took, took_all, course_of}
 use Rattle.kt_loop.specs.ByRecord.{by_record, table_of}
 
 module _ {H E S R : Type 0} (calculation : Calculation H E S R) (head : H) where

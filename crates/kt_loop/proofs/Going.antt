@@ -1,11 +1,10 @@
 -- The turns of the loop: what was read, and where the calculation came by it.
-use Rattle.std.proofs.Common.{◌≡◌, ℕ, ◌+◌, ◌≤◌, ◌<◌, ◌^◌, List, [], ◌∷◌, ◌++◌, length, take, drop, Option, Some, None, Result, Ok, Err, refl, sym, ap, ◌∙◌, append_assoc, subst, append-nil, arith}
+use Rattle.std.proofs.Common.{◌≡◌, ℕ, ◌+◌, ◌≤◌, ◌<◌, ◌^◌, List, [], ◌++◌, length, take, drop, Option, Some, None, Result, Err, refl, sym, ap, ◌∙◌, append_assoc, subst, append-nil, arith}
 use Rattle.std.specs.Prelude.{IfSome}
 use Rattle.std.proofs.lemmas.List.{take-append-drop, take_at, length-take-le, length-append}
-use Rattle.kt_out.specs.Reading.{SourceState, Gives, GivesKnown, Reads}
+use Rattle.kt_out.specs.Reading.{Gives, GivesKnown}
 use Rattle.kt_stream.specs.declared.entry.Placed.{Placed}
 use Rattle.kt_stream.specs.declared.stop.StreamStop.{StreamStop}
-use Rattle.kt_ends.specs.Outcome.{Outcome}
 use Rattle.kt_ends.specs.declared.status.Refusal.{Refusal}
 use Rattle.kt_ends.specs.declared.status.Refusal.TheVariants.{Stream}
 use Rattle.kt_ends.specs.declared.status.Status.TheVariants.{Refused}
@@ -15,12 +14,12 @@ use Rattle.kt_loop.specs.Calculation.{Calculation, Course, started, course_of}
 use Rattle.kt_loop.specs.Contents.{Contents, Grows, refused}
 use Rattle.kt_loop.specs.Given.{Given, GivenFront}
 use Rattle.kt_loop.specs.Outcome.{outcome}
-use Rattle.kt_loop.specs.Reading.{GoesOn, IsStopped, FeedsBy}
+use Rattle.kt_loop.specs.Reading.{GoesOn}
 use Rattle.kt_loop.specs.Settling.{IsSettled, Settles}
 use Rattle.kt_loop.specs.Steps.{Stands, Refuses, Comes}
 use Rattle.kt_loop.proofs.Giving.{given_none, given_front, front_longer}
 use Rattle.kt_loop.proofs.Growing.{text_grows, refusal_stays}
-use Rattle.kt_loop.proofs.Settling.{settled_by, settled_fault, output_front}
+use Rattle.kt_loop.proofs.Settling.{settled_by, settled_fault}
 
 abbrev some_list : List ℕ → Option (List ℕ)
 some_list xs = Some xs

@@ -1,5 +1,5 @@
 -- Courses over a stream of which more was read.
-use Rattle.std.proofs.Common.{◌≡◌, ℕ, Bool, true, false, List, [], ◌∷◌, ◌++◌, Option, Some, None, Result, Ok, Err, refl, sym, ap, ◌∙◌, append_assoc, subst, append-nil}
+use Rattle.std.proofs.Common.{◌≡◌, ℕ, Bool, true, false, List, [], ◌∷◌, ◌++◌, Option, Some, None, Result, Ok, Err, refl, sym, ap, ◌∙◌, subst}
 use Rattle.std.specs.Prelude.{is_some}
 use Rattle.std.specs.List.{AllByRecursion}
 use Rattle.kt_stream.specs.declared.entry.Placed.{Placed}
@@ -8,7 +8,7 @@ use Rattle.kt_loop.specs.Calculation.{Calculation, Course, started, opened, took
 use Rattle.kt_loop.specs.Carrying.{carried, header_if}
 use Rattle.kt_loop.specs.Contents.{Contents, Grows}
 use Rattle.kt_stream.specs.declared.stop.StreamStop.{StreamStop}
-use Rattle.kt_loop.specs.Reading.{AreGood, IsRead, GoesOn, IsStopped, FeedsBy}
+use Rattle.kt_loop.specs.Reading.{AreGood, IsRead, FeedsBy}
 use Rattle.kt_loop.proofs.Courses.{took_joined, took_longer}
 use Rattle.kt_loop.proofs.Taking.{stays_refused}
 

@@ -1,5 +1,5 @@
 -- A record goes on a run by the last record of it.
-use Rattle.std.proofs.Common.{◌≡◌, ℕ, ◌+◌, ◌-◌, ◌<◌, List, [], ◌∷◌, length, get_or, refl, sym, ap, ◌∙◌, arith, suc}
+use Rattle.std.proofs.Common.{◌≡◌, ℕ, ◌-◌, ◌<◌, List, [], ◌∷◌, length, get_or, sym, ap, ◌∙◌, arith, suc}
 use Rattle.kt_stream.specs.declared.entry.Placed.{Placed}
 use Rattle.kt_loop.specs.declared.run_key.RunKey.{RunKey}
 use Rattle.kt_loop.specs.Runs.{goes_on, joins}

@@ -11,3 +11,4 @@ pub mod RunsGiven
 pub mod Joining
 pub mod RunStepping
 pub mod Splitting
+pub mod RecordReading

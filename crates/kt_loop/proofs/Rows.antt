@@ -1,12 +1,10 @@
 -- The outcome of a calculation by record.
-use Rattle.std.proofs.Common.{◌≡◌, ℕ, List, [], ◌++◌, Option, Some, None, Result, Ok, Err, refl, ap, ◌∙◌, append-nil}
-use Rattle.kt_stream.specs.declared.entry.Placed.{Placed}
+use Rattle.std.proofs.Common.{◌≡◌, ℕ, List, ◌++◌, Option, Some, None, Ok, refl, ap, ◌∙◌, append-nil}
 use Rattle.kt_stream.specs.declared.stop.StreamStop.{StreamStop}
-use Rattle.kt_ends.specs.Outcome.{Outcome}
 use Rattle.kt_ends.specs.declared.status.Refusal.{Refusal}
 use Rattle.kt_ends.specs.declared.status.Status.TheVariants.{Done}
 use Rattle.kt_loop.specs.ByRecord.{by_record, table_of}
-use Rattle.kt_loop.specs.Calculation.{Calculation, Course, ending}
+use Rattle.kt_loop.specs.Calculation.{Course, ending}
 use Rattle.kt_loop.specs.Contents.{Contents}
 use Rattle.kt_loop.specs.Outcome.{gives, stream_status, ended_by, outcome}
 use Rattle.kt_loop.proofs.Courses.{record_rows}

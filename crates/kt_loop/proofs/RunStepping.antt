@@ -1,5 +1,5 @@
 -- Steps of a stage that calculates run by run.
-use Rattle.std.proofs.Common.{◌≡◌, ℕ, Bool, true, false, List, [], ◌∷◌, ◌++◌, Option, Some, None, Result, Ok, Err, refl, sym, ap, ◌∙◌, subst, append-nil}
+use Rattle.std.proofs.Common.{◌≡◌, ℕ, Bool, true, false, List, [], ◌++◌, Result, Ok, Err, sym, ap, subst, append-nil}
 use Rattle.kt_out.specs.InputFiles.{InputsState}
 use Rattle.kt_stream.specs.declared.entry.Placed.{Placed}
 use Rattle.kt_ends.specs.declared.status.Refusal.{Refusal}

@@ -6,11 +6,10 @@ use Rattle.kt_stream.specs.declared.entry.Placed.{Placed}
 use Rattle.kt_stream.specs.declared.stop.StreamStop.{StreamStop}
 use Rattle.kt_ends.specs.Outcome.{Outcome}
 use Rattle.kt_ends.specs.declared.status.Refusal.{Refusal}
-use Rattle.kt_ends.specs.declared.status.Status.TheVariants.{Done, Refused}
+use Rattle.kt_ends.specs.declared.status.Status.TheVariants.{Done}
 use Rattle.kt_loop.specs.declared.run_key.RunKey.{RunKey}
 use Rattle.kt_loop.specs.ByRun.{RunCalculation, OpenRun, opened_run, judged, given, closing, takes_run, by_run, run_before, RunsJudged, judge_next, judge_all, runs_outcome, outcome_by_run}
-use Rattle.kt_loop.specs.Calculation.{Calculation, Course, behind, started, opened, took, took_all, course_of}
-use Rattle.kt_loop.specs.Contents.{Contents}
+use Rattle.kt_loop.specs.Calculation.{Course, behind, took_all}
 use Rattle.kt_loop.specs.Outcome.{gives, ended_by, outcome}
 use Rattle.kt_loop.specs.Runs.{RunsRead, no_runs, with_run, joins, run_more, read_more}
 use Rattle.kt_loop.proofs.Courses.{took_refused}

@@ -1,10 +1,10 @@
 -- The runs of lists of records that stand one after the other.
-use Rattle.std.proofs.Common.{◌≡◌, ℕ, Bool, true, false, nat_eq, nat_lt, ◌&&◌, List, [], ◌∷◌, ◌++◌, refl, sym, ap, ◌∙◌, append_assoc, append-nil, subst}
-use Rattle.std.specs.List.{AllByRecursion, flat_map}
+use Rattle.std.proofs.Common.{◌≡◌, ℕ, Bool, true, false, nat_eq, ◌&&◌, List, [], ◌∷◌, ◌++◌, refl, sym, ap, ◌∙◌, append_assoc, append-nil}
+use Rattle.std.specs.List.{flat_map}
 use Rattle.std.proofs.lemmas.Grind.{flat_map-append}
 use Rattle.kt_stream.specs.declared.entry.Placed.{Placed}
 use Rattle.kt_loop.specs.declared.run_key.RunKey.{RunKey}
-use Rattle.kt_loop.specs.Runs.{RunsRead, no_runs, with_run, bare, goes_on, joins, run_more, read_more, read_all, runs_of, OtherEvents, ShareNoEvent, given_by_runs}
+use Rattle.kt_loop.specs.Runs.{RunsRead, no_runs, with_run, bare, joins, run_more, read_more, read_all, runs_of, OtherEvents, ShareNoEvent, given_by_runs}
 
 module _ {E : Type 0} (key : E → RunKey) where
   -- ---- a record of another event opens a run

@@ -1,12 +1,11 @@
 -- Taking the records that a reader holds, one after the other.
-use Rattle.std.proofs.Common.{◌≡◌, ℕ, Bool, false, List, [], ◌∷◌, ◌++◌, Option, Some, None, Result, Ok, Err, refl, sym, ap, ◌∙◌, append_assoc, subst, append-nil}
+use Rattle.std.proofs.Common.{◌≡◌, ℕ, Bool, false, List, [], ◌∷◌, ◌++◌, Option, Some, Result, Err, refl, sym, ap, ◌∙◌, append_assoc, subst, append-nil}
 use Rattle.std.specs.List.{AllByRecursion}
-use Rattle.kt_out.specs.InputFiles.{InputsState}
 use Rattle.kt_stream.specs.declared.entry.Placed.{Placed}
 use Rattle.kt_ends.specs.declared.status.Refusal.{Refusal}
 use Rattle.kt_ends.specs.declared.tool_stop.ToolStop.{ToolStop}
 use Rattle.kt_ends.specs.declared.tool_stop.ToolStop.TheVariants as stop
-use Rattle.kt_loop.specs.Calculation.{Step, Calculation, Course, opened, took, took_all}
+use Rattle.kt_loop.specs.Calculation.{Calculation, Course, opened, took, took_all}
 use Rattle.kt_loop.specs.Carrying.{carried}
 use Rattle.kt_loop.specs.Contents.{Contents}
 use Rattle.kt_loop.specs.Steps.{Stands, Refuses, Comes}

@@ -1,9 +1,9 @@
 -- Calculations that write a heading, and then for each record what it gives by itself.
 -- The rules: docs/STREAMS.md, "Tools over streams".
-use Rattle.std.specs.Prelude.{List, [], ◌++◌, ℕ, Option, Some, None, Result, Ok}
+use Rattle.std.specs.Prelude.{List, [], ◌++◌, ℕ, Option, Some, None, Ok}
 use Rattle.std.specs.List.{flat_map}
 use Rattle.kt_stream.specs.declared.entry.Placed.{Placed}
-use Rattle.kt_loop.specs.Calculation.{Calculation, Step, Course}
+use Rattle.kt_loop.specs.Calculation.{Calculation}
 
 -- the calculation with this heading and these rows
 abbrev pub by_record : {H E S R : Type 0} → (S → H → List ℕ) → (S → H → E → List ℕ) → Calculation H E S R

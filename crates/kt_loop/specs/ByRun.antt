@@ -10,7 +10,6 @@ use Rattle.kt_ends.specs.declared.status.Refusal.TheVariants.{Stream}
 use Rattle.kt_ends.specs.declared.status.Status.TheVariants.{Done, Refused}
 use Rattle.kt_loop.specs.declared.run_key.RunKey.{RunKey}
 use Rattle.kt_loop.specs.Calculation.{Step, Calculation}
-use Rattle.kt_loop.specs.Contents.{Contents}
 use Rattle.kt_loop.specs.Outcome.{gives}
 use Rattle.kt_loop.specs.Runs.{RunsRead, no_runs, with_run, bare, joins, read_more}
 

@@ -12,3 +12,4 @@ pub mod Running
 pub mod Runs
 pub mod ByRun
 pub mod RunSteps
+pub mod RecordStreams

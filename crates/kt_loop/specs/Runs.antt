@@ -1,6 +1,6 @@
 -- The runs of a stream: longest rows of records of one event with rising ids.
 -- The rules: docs/STREAMS.md, "Runs".
-use Rattle.std.specs.Prelude.{◌≡◌, ℕ, Bool, true, false, nat_eq, nat_lt, ◌&&◌, ◌||◌, List, [], ◌∷◌, ◌++◌, if◌then◌else◌}
+use Rattle.std.specs.Prelude.{◌≡◌, ℕ, Bool, true, false, nat_eq, nat_lt, ◌&&◌, ◌||◌, List, [], ◌∷◌, ◌++◌}
 use Rattle.std.specs.List.{AllByRecursion, flat_map}
 use Rattle.kt_stream.specs.declared.entry.Placed.{Placed}
 use Rattle.kt_stream.specs.declared.entry.SummaryRecord.{SummaryRecord}

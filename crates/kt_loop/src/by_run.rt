@@ -62,7 +62,13 @@ pub trait RunStage<H, E, W> {
         ensures counted { (others : InputsState) → Consults (inputs others world.old) (inputs others world.new) result };
 
     /// Judges a record that stands behind the records of its run.
-    fn judge(&mut self, world: &mut W, head: H, run: &[Placed<E>], placed: &Placed<E>) -> Result<(), ToolStop>
+    fn judge(
+        &mut self,
+        world: &mut W,
+        head: H,
+        run: &[Placed<E>],
+        placed: &Placed<E>,
+    ) -> Result<(), ToolStop>
         requires accepted { accepts head }
         requires good { AllByRecursion (is_good head) run.now }
         requires next { is_good head placed.now }
@@ -73,7 +79,13 @@ pub trait RunStage<H, E, W> {
         ensures counted { (others : InputsState) → Consults (inputs others world.old) (inputs others world.new) result };
 
     /// Appends what the records of a closed run give.
-    fn close(&mut self, world: &mut W, head: H, run: &[Placed<E>], out: &mut Bytes) -> Result<(), ToolStop>
+    fn close(
+        &mut self,
+        world: &mut W,
+        head: H,
+        run: &[Placed<E>],
+        out: &mut Bytes,
+    ) -> Result<(), ToolStop>
         requires accepted { accepts head }
         requires good { AllByRecursion (is_good head) run.now }
         requires ready { is_ready (Some head) self.old }

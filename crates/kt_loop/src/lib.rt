@@ -5,6 +5,7 @@ mod by_run;
 mod carry;
 pub mod laws;
 mod reader;
+mod record_reader;
 mod run;
 mod run_key;
 mod spill;

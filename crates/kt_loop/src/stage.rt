@@ -45,7 +45,14 @@ pub trait Stage<H, E, W> {
         ensures counted { (beside : InputsState) → Consults (inputs beside world.old) (inputs beside world.new) result };
 
     /// Appends what is written at a record, which begins at this byte of the stream.
-    fn take(&mut self, world: &mut W, head: H, at: u64, entry: E, out: &mut Bytes) -> Result<(), ToolStop>
+    fn take(
+        &mut self,
+        world: &mut W,
+        head: H,
+        at: u64,
+        entry: E,
+        out: &mut Bytes,
+    ) -> Result<(), ToolStop>
         requires accepted { accepts head }
         requires good { is_good head (record { at = at; entry = entry }) }
         requires ready { is_ready (Some head) self.old }

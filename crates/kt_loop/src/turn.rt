@@ -21,7 +21,10 @@ use kt_stream::StreamStop;
 use std::alloc::AllocError;
 
 /// Feeds a piece: what refuses the stream, if anything does.
-fn feed_piece<R: StreamReader>(reader: &mut R, piece: &[u8]) -> Result<Option<StreamStop>, AllocError>
+fn feed_piece<R: StreamReader>(
+    reader: &mut R,
+    piece: &[u8],
+) -> Result<Option<StreamStop>, AllocError>
     ensures { IfOk result (λ stop. FeedsPiece R.represents reader.old piece.now reader.new stop) }
 {
     match reader.feed(piece) {

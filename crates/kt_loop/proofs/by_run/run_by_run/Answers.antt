@@ -6,6 +6,6 @@ returns g c = record {
   ended = λ asks made others outputs contents fresh keeps told.
       c.run_stage.ensures.ended asks made others outputs contents fresh keeps
       (λ files bytes finds.
-          let makes = told files bytes finds in
-          record { start = makes.start; stood = (makes.stood.0, c.new.ensures.items ∙ makes.stood.1); is = makes.is });
+      let makes = told files bytes finds in
+      record { start = makes.start; stood = (makes.stood.0, c.new.ensures.items ∙ makes.stood.1); is = makes.is });
 }

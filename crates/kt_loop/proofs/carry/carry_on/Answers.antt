@@ -1,6 +1,6 @@
-use Rattle.std.proofs.Common.{subst, List, [], sym, ◌∙◌, Ok, Err}
+use Rattle.std.proofs.Common.{subst, List, [], sym, ◌∙◌}
 use Rattle.kt_stream.specs.declared.entry.Placed.{Placed}
-use Rattle.kt_loop.proofs.Stepping.{counts_behind, no_inputs}
+use Rattle.kt_loop.proofs.Stepping.{counts_behind}
 use Rattle.kt_loop.proofs.Taking.{nothing_taken, come_new, refused_new}
 use Rattle.kt_loop.proofs.carry.carry_on.Goals as goal
 

@@ -1,6 +1,6 @@
-use Rattle.std.proofs.Common.{◌∙◌, Ok, Err}
+use Rattle.std.proofs.Common.{◌∙◌, Err}
 use Rattle.kt_loop.proofs.Stepping.{counts_behind, no_inputs}
-use Rattle.kt_loop.proofs.Taking.{carried_none, carried_more, carried_until, carried_all, taken_none, taken_more, taken_all, first_good}
+use Rattle.kt_loop.proofs.Taking.{carried_more, carried_until, carried_all, taken_more, first_good}
 use Rattle.kt_loop.proofs.carry.take_held.Goals as goal
 
 pub returns-in-Err-clause-course : goal.returns-in-Err-clause-course

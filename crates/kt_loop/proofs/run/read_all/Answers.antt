@@ -1,4 +1,4 @@
-use Rattle.std.proofs.Common.{◌≡◌, ℕ, List, [], ◌++◌, Option, Some, None, Ok, Err, refl, sym, ap, subst, ◌∙◌, take, length, arith}
+use Rattle.std.proofs.Common.{ℕ, [], ◌++◌, Option, Err, refl, ap, subst, ◌∙◌, take, length, arith}
 use Rattle.kt_out.specs.Reading.{GivesKnown}
 use Rattle.kt_stream.specs.declared.stop.StreamStop.{StreamStop}
 use Rattle.kt_loop.specs.Reading.{FeedsBy}

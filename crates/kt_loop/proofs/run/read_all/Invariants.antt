@@ -1,4 +1,4 @@
-use Rattle.std.proofs.Common.{◌≡◌, ℕ, List, [], Option, length}
+use Rattle.std.proofs.Common.{◌≡◌, [], length}
 use Rattle.kt_out.specs.InputFiles.{InputsState}
 use Rattle.kt_loop.proofs.Going.{Going}
 use Rattle.kt_loop.proofs.run.read_all.Given as goal

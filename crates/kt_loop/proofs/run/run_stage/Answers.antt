@@ -1,4 +1,4 @@
-use Rattle.std.proofs.Common.{Ok, Err, ap}
+use Rattle.std.proofs.Common.{Err, ap}
 use Rattle.kt_out.specs.InputFiles.{InputsState}
 use Rattle.kt_loop.specs.Outcome.{outcome}
 use Rattle.kt_ends.specs.Stops.{end_status, stop_status}

@@ -1,4 +1,4 @@
-use Rattle.std.proofs.Common.{subst, List, [], ℕ}
+use Rattle.std.proofs.Common.{subst, []}
 use Rattle.kt_ends.specs.declared.status.Refusal.{Refusal}
 use Rattle.kt_loop.specs.Calculation.{Course}
 use Rattle.kt_loop.specs.Steps.{Comes}

@@ -1,4 +1,4 @@
-use Rattle.std.proofs.Common.{subst, List, ℕ, Bool, Option, Ok, Err, sym, ap, ◌∙◌}
+use Rattle.std.proofs.Common.{subst, Bool, Option, Err, sym, ap, ◌∙◌}
 use Rattle.std.specs.Prelude.{is_some}
 use Rattle.kt_loop.specs.Carrying.{header_if}
 use Rattle.kt_ends.specs.declared.status.Refusal.{Refusal}

@@ -1,7 +1,6 @@
-use Rattle.std.proofs.Common.{◌≡◌, List, [], sym, ap, ◌∙◌}
+use Rattle.std.proofs.Common.{◌≡◌, List, sym, ap, ◌∙◌}
 use Rattle.kt_stream.specs.declared.entry.Placed.{Placed}
 use Rattle.kt_loop.specs.Runs.{joins}
-use Rattle.kt_loop.specs.ByRun.{OpenRun}
 use Rattle.kt_loop.proofs.RunStepping.{joined_step, opening_step, consults_behind}
 use Rattle.kt_loop.proofs.by_run.ByRunStage.take.Goals as goal
 
