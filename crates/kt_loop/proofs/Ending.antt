@@ -11,7 +11,7 @@ use Rattle.kt_stream.specs.declared.stop.StreamStop.{StreamStop}
 use Rattle.kt_ends.specs.Ending.{Made, PartlyMade, NoCount, Counted, CountedRead, CountedWrite, AtEnd}
 use Rattle.kt_ends.specs.Outcome.{Outcome}
 use Rattle.kt_ends.specs.Stops.{end_status, stop_status}
-use Rattle.kt_ends.specs.World.{World, Finds}
+use Rattle.kt_ends.specs.World.{World, world, Finds}
 use Rattle.kt_ends.specs.declared.status.Refusal.{Refusal}
 use Rattle.kt_ends.specs.declared.status.Refusal.TheVariants as refusal
 use Rattle.kt_ends.specs.declared.status.Status.{Status}
@@ -23,7 +23,7 @@ use Rattle.kt_loop.specs.Contents.{Contents}
 use Rattle.kt_loop.specs.Counts.{CountsRead, CountsWrite}
 use Rattle.kt_loop.specs.Given.{Given, Spills}
 use Rattle.kt_loop.specs.Outcome.{ended_by, outcome}
-use Rattle.kt_loop.specs.Running.{around, stream_uses, EndsRun}
+use Rattle.kt_loop.specs.Running.{stream_uses, EndsRun}
 use Rattle.kt_loop.specs.Settling.{IsSettled, Settles, IsEnd}
 
 abbrev some_list : List ℕ → Option (List ℕ)
@@ -79,10 +79,10 @@ stopped_end T made before now pending stop.NoMemory other settles = record { ver
 
 module _ (inputs inputs_now : InputsState) (outputs : OutputsState) (source source_now : SourceState) (sink sink_mid sink_now : SinkState) where
   abbrev at_first : World
-  at_first = around inputs outputs source sink
+  at_first = world inputs outputs source sink
 
   abbrev at_last : World
-  at_last = around inputs_now outputs source_now sink_now
+  at_last = world inputs_now outputs source_now sink_now
 
   none_counted : inputs_now ≡ inputs → source_now.faults ≡ source.faults → sink_now.faults ≡ sink.faults → NoCount at_first at_last
   none_counted same reads faults = record {
@@ -170,10 +170,10 @@ not_unused : used ≡ false → ⊥
 not_unused is = cc
 
 module _ {H E S : Type 0} (calculation : Calculation H E S Refusal) (contents : List ℕ → Contents H E) (stood : S → Type 0) (asks : Bool) (made : FileMap → List ℕ → Outcome) (inputs inputs_now : InputsState) (outputs : OutputsState) (source source_now : SourceState) (sink sink_now : SinkState) (end : Status) where
-  pub ends_run : ((start : S) → stood start → IfSome source.left (λ bytes. IsEnd (outcome calculation start (contents bytes)) sink.taken sink_now.taken end)) → Counted (around inputs outputs source sink) (around inputs_now outputs source_now sink_now) end
-      → AtEnd source.left source_now.left end → inputs_now.held ≡ inputs.held → EndsRun calculation contents stood asks made (around inputs outputs source sink) (around inputs_now outputs source_now sink_now) end
+  pub ends_run : ((start : S) → stood start → IfSome source.left (λ bytes. IsEnd (outcome calculation start (contents bytes)) sink.taken sink_now.taken end)) → Counted (world inputs outputs source sink) (world inputs_now outputs source_now sink_now) end
+      → AtEnd source.left source_now.left end → inputs_now.held ≡ inputs.held → EndsRun calculation contents stood asks made (world inputs outputs source sink) (world inputs_now outputs source_now sink_now) end
   ends_run ends counted at_end held keeps told =
-      let is_end : (files : FileMap) (bytes : List ℕ) → Finds (stream_uses asks) (around inputs outputs source sink) files bytes → IsEnd (made files bytes) sink.taken sink_now.taken end =
+      let is_end : (files : FileMap) (bytes : List ℕ) → Finds (stream_uses asks) (world inputs outputs source sink) files bytes → IsEnd (made files bytes) sink.taken sink_now.taken end =
       λ files bytes finds.
       let makes = told files bytes finds in
       subst (λ (o : Outcome). IsEnd o sink.taken sink_now.taken end) (sym makes.is)

@@ -7,6 +7,7 @@ ghost use Rattle.kt_out.specs.NamedFiles.{FileMap};
 ghost use Rattle.kt_out.specs.OutputFiles.{OutputsState};
 ghost use Rattle.kt_stream.specs.declared.entry.Placed.{Placed};
 ghost use Rattle.kt_ends.specs.Outcome.{Outcome};
+ghost use Rattle.kt_ends.specs.World.{world};
 ghost use Rattle.kt_ends.specs.Stops.{end_status};
 ghost use Rattle.kt_ends.specs.declared.status.Refusal.{Refusal};
 ghost use Rattle.kt_loop.specs.ByRun.{RunCalculation, OpenRun, by_run, closing, judged};
@@ -14,7 +15,7 @@ ghost use Rattle.kt_loop.specs.Contents.{Contents};
 ghost use Rattle.kt_loop.specs.Counts.{Consults};
 ghost use Rattle.kt_loop.specs.Reading.{IsFresh, ReadsGood};
 ghost use Rattle.kt_loop.specs.RunSteps.{JudgesBy, ClosesBy, unwritten};
-ghost use Rattle.kt_loop.specs.Running.{EndsRun, around};
+ghost use Rattle.kt_loop.specs.Running.{EndsRun};
 ghost use Rattle.kt_loop.specs.Runs.{bare, joins};
 ghost use Rattle.kt_loop.specs.Steps.{StepsBy};
 
@@ -53,18 +54,18 @@ pub trait RunStage<H, E, W> {
     ghost inputs: { InputsState → W → InputsState };
 
     /// Appends what is written at the header.
-    fn open(&mut self, world: &mut W, head: H, out: &mut Bytes) -> Result<(), ToolStop>
+    fn open(&mut self, beside: &mut W, head: H, out: &mut Bytes) -> Result<(), ToolStop>
         requires accepted { accepts head }
         requires ready { is_ready None self.old }
 
-        ensures step { (kept : Kept) → is_at kept self.old world.old → StepsBy (runs.opens head kept) (λ next. is_at next self.new world.new) out.old out.new result }
+        ensures step { (kept : Kept) → is_at kept self.old beside.old → StepsBy (runs.opens head kept) (λ next. is_at next self.new beside.new) out.old out.new result }
         ensures ready { OnOk result (is_ready (Some head) self.new) }
-        ensures counted { (others : InputsState) → Consults (inputs others world.old) (inputs others world.new) result };
+        ensures counted { (others : InputsState) → Consults (inputs others beside.old) (inputs others beside.new) result };
 
     /// Judges a record that stands behind the records of its run.
     fn judge(
         &mut self,
-        world: &mut W,
+        beside: &mut W,
         head: H,
         run: &[Placed<E>],
         placed: &Placed<E>,
@@ -74,14 +75,14 @@ pub trait RunStage<H, E, W> {
         requires next { is_good head placed.now }
         requires ready { is_ready (Some head) self.old }
 
-        ensures judged { (kept : Kept) → is_at kept self.old world.old → JudgesBy (runs.refuses head kept run.now placed.now) (is_at kept self.new world.new) result }
+        ensures judged { (kept : Kept) → is_at kept self.old beside.old → JudgesBy (runs.refuses head kept run.now placed.now) (is_at kept self.new beside.new) result }
         ensures ready { OnOk result (is_ready (Some head) self.new) }
-        ensures counted { (others : InputsState) → Consults (inputs others world.old) (inputs others world.new) result };
+        ensures counted { (others : InputsState) → Consults (inputs others beside.old) (inputs others beside.new) result };
 
     /// Appends what the records of a closed run give.
     fn close(
         &mut self,
-        world: &mut W,
+        beside: &mut W,
         head: H,
         run: &[Placed<E>],
         out: &mut Bytes,
@@ -90,9 +91,9 @@ pub trait RunStage<H, E, W> {
         requires good { AllByRecursion (is_good head) run.now }
         requires ready { is_ready (Some head) self.old }
 
-        ensures closed { (kept : Kept) → is_at kept self.old world.old → ClosesBy (runs.closes head kept (bare run.now)) (is_at kept self.new world.new) out.old out.new result }
+        ensures closed { (kept : Kept) → is_at kept self.old beside.old → ClosesBy (runs.closes head kept (bare run.now)) (is_at kept self.new beside.new) out.old out.new result }
         ensures ready { OnOk result (is_ready (Some head) self.new) }
-        ensures counted { (others : InputsState) → Consults (inputs others world.old) (inputs others world.new) result };
+        ensures counted { (others : InputsState) → Consults (inputs others beside.old) (inputs others beside.new) result };
 }
 
 /// A stage run by run, with the records of the run that is open.
@@ -116,7 +117,7 @@ fn joins_run<E: RunRecord>(run: &[Placed<E>], placed: &Placed<E>) -> bool
 /// Judges a record, and keeps it behind those of its run.
 fn judge_next<H: Copy, E: Drop, W, C: RunStage<H, E, W>>(
     it: &mut ByRun<E, C>,
-    world: &mut W,
+    beside: &mut W,
     head: H,
     placed: Placed<E>,
 ) -> Result<(), ToolStop>
@@ -125,12 +126,12 @@ fn judge_next<H: Copy, E: Drop, W, C: RunStage<H, E, W>>(
     requires next { C.is_good head placed }
     requires ready { C.is_ready (Some head) it.old.stage }
 
-    ensures step { (kept : C.Kept) → C.is_at kept it.old.stage world.old → StepsBy (unwritten (judged kept it.old.run.items placed (C.runs.refuses head kept it.old.run.items placed))) (λ next. C.is_at next.kept it.new.stage world.new × (it.new.run.items ≡ next.run)) [] [] result }
+    ensures step { (kept : C.Kept) → C.is_at kept it.old.stage beside.old → StepsBy (unwritten (judged kept it.old.run.items placed (C.runs.refuses head kept it.old.run.items placed))) (λ next. C.is_at next.kept it.new.stage beside.new × (it.new.run.items ≡ next.run)) [] [] result }
     ensures good { OnOk result (AllByRecursion (C.is_good head) it.new.run.items) }
     ensures ready { OnOk result (C.is_ready (Some head) it.new.stage) }
-    ensures counted { (others : InputsState) → Consults (C.inputs others world.old) (C.inputs others world.new) result }
+    ensures counted { (others : InputsState) → Consults (C.inputs others beside.old) (C.inputs others beside.new) result }
 {
-    if let Err(why) = it.stage.judge(world, head, it.run.as_slice(), &placed) {
+    if let Err(why) = it.stage.judge(beside, head, it.run.as_slice(), &placed) {
         return Err(why);
     }
     if it.run.push(placed).is_err() {
@@ -142,7 +143,7 @@ fn judge_next<H: Copy, E: Drop, W, C: RunStage<H, E, W>>(
 /// Closes the open run, if there is one.
 fn close_open<H: Copy, E: Drop, W, C: RunStage<H, E, W>>(
     it: &mut ByRun<E, C>,
-    world: &mut W,
+    beside: &mut W,
     head: H,
     out: &mut Bytes,
 ) -> Result<(), ToolStop>
@@ -150,15 +151,15 @@ fn close_open<H: Copy, E: Drop, W, C: RunStage<H, E, W>>(
     requires good { AllByRecursion (C.is_good head) it.old.run.items }
     requires ready { C.is_ready (Some head) it.old.stage }
 
-    ensures closed { (kept : C.Kept) → C.is_at kept it.old.stage world.old → ClosesBy (closing C.runs head kept it.old.run.items) (C.is_at kept it.new.stage world.new) out.old out.new result }
+    ensures closed { (kept : C.Kept) → C.is_at kept it.old.stage beside.old → ClosesBy (closing C.runs head kept it.old.run.items) (C.is_at kept it.new.stage beside.new) out.old out.new result }
     ensures emptied { OnOk result (it.new.run.items ≡ []) }
     ensures ready { OnOk result (C.is_ready (Some head) it.new.stage) }
-    ensures counted { (others : InputsState) → Consults (C.inputs others world.old) (C.inputs others world.new) result }
+    ensures counted { (others : InputsState) → Consults (C.inputs others beside.old) (C.inputs others beside.new) result }
 {
     if it.run.is_empty() {
         return Ok(());
     }
-    if let Err(why) = it.stage.close(world, head, it.run.as_slice(), out) {
+    if let Err(why) = it.stage.close(beside, head, it.run.as_slice(), out) {
         return Err(why);
     }
     it.run.truncate(0);
@@ -175,7 +176,7 @@ impl<H: Copy, E: RunRecord + Drop, W, C: RunStage<H, E, W>> Stage<H, E, W> for B
 
     ghost calculation = { by_run E.key C.runs };
 
-    ghost is_at = { λ state it world. C.is_at state.kept it.stage world × (it.run.items ≡ state.run) };
+    ghost is_at = { λ state it beside. C.is_at state.kept it.stage beside × (it.run.items ≡ state.run) };
 
     ghost is_ready = { λ header it. C.is_ready header it.stage × IsReady C.is_good header it.run.items };
 
@@ -185,13 +186,13 @@ impl<H: Copy, E: RunRecord + Drop, W, C: RunStage<H, E, W>> Stage<H, E, W> for B
 
     ghost inputs = { C.inputs };
 
-    fn open(&mut self, world: &mut W, head: H, out: &mut Bytes) -> Result<(), ToolStop> {
-        self.stage.open(world, head, out)
+    fn open(&mut self, beside: &mut W, head: H, out: &mut Bytes) -> Result<(), ToolStop> {
+        self.stage.open(beside, head, out)
     }
 
     fn take(
         &mut self,
-        world: &mut W,
+        beside: &mut W,
         head: H,
         at: u64,
         entry: E,
@@ -199,16 +200,16 @@ impl<H: Copy, E: RunRecord + Drop, W, C: RunStage<H, E, W>> Stage<H, E, W> for B
     ) -> Result<(), ToolStop> {
         let placed = Placed { at, entry };
         if joins_run(self.run.as_slice(), &placed) {
-            return judge_next(self, world, head, placed);
+            return judge_next(self, beside, head, placed);
         }
-        if let Err(why) = close_open(self, world, head, out) {
+        if let Err(why) = close_open(self, beside, head, out) {
             return Err(why);
         }
-        judge_next(self, world, head, placed)
+        judge_next(self, beside, head, placed)
     }
 
-    fn end(&mut self, world: &mut W, head: H, out: &mut Bytes) -> Result<(), ToolStop> {
-        close_open(self, world, head, out)
+    fn end(&mut self, beside: &mut W, head: H, out: &mut Bytes) -> Result<(), ToolStop> {
+        close_open(self, beside, head, out)
     }
 }
 
@@ -219,7 +220,7 @@ pub fn run_by_run<R: StreamReader, W, C: RunStage<R::Head, R::Entry, W> + Drop, 
     alloc: Global,
     reader: &mut R,
     stage: C,
-    world: &mut W,
+    beside: &mut W,
     source: &mut S,
     sink: &mut K,
 ) -> Result<(), ToolStop>
@@ -229,11 +230,11 @@ where
     requires good { ReadsGood R.represents C.accepts C.is_good [] reader.old }
     requires ready { C.is_ready None stage }
 
-    ensures ended { (asks : Bool) (made : FileMap → List ℕ → Outcome) (others : InputsState) (outputs : OutputsState) (contents : List ℕ → Contents R.Head R.Entry) → R.represents contents [] [] reader.old → EndsRun (by_run R.Entry.key C.runs) contents (λ state. C.is_at state.kept stage world.old × ([] ≡ state.run)) asks made (around (C.inputs others world.old) outputs (S.state source.old) (K.state sink.old)) (around (C.inputs others world.new) outputs (S.state source.new) (K.state sink.new)) (end_status result) }
+    ensures ended { (asks : Bool) (made : FileMap → List ℕ → Outcome) (others : InputsState) (outputs : OutputsState) (contents : List ℕ → Contents R.Head R.Entry) → R.represents contents [] [] reader.old → EndsRun (by_run R.Entry.key C.runs) contents (λ state. C.is_at state.kept stage beside.old × ([] ≡ state.run)) asks made (world (C.inputs others beside.old) outputs (S.state source.old) (K.state sink.old)) (world (C.inputs others beside.new) outputs (S.state source.new) (K.state sink.new)) (end_status result) }
 {
     let mut by_run = ByRun {
         stage,
         run: Vec::new(alloc),
     };
-    run_stage(alloc, reader, &mut by_run, world, source, sink)
+    run_stage(alloc, reader, &mut by_run, beside, source, sink)
 }

@@ -11,12 +11,12 @@ returns-in_default-clause-taken g c contents fed taken stood =
 
 pub returns-in-Err-clause-course : goal.returns-in-Err-clause-course
 returns-in-Err-clause-course g c before course standing =
-    refused_new g.T.Stage.calculation c.in-Some.head c.args.was_open _ course _ c.in-Some.ensures c.if-was_open.false (Unit {0}) (λ state. g.T.Stage.is_at state c.open_stage.new.stage c.open_stage.new.world) before _ c.open_stage.new.out c.in-Err.stop
+    refused_new g.T.Stage.calculation c.in-Some.head c.args.was_open _ course _ c.in-Some.ensures c.if-was_open.false (Unit {0}) (λ state. g.T.Stage.is_at state c.open_stage.new.stage c.open_stage.new.beside) before _ c.open_stage.new.out c.in-Err.stop
     (c.in-Err.ensures.course before course standing)
 
 pub returns-clause-course : goal.returns-clause-course
 returns-clause-course g c before course standing =
-    come_new g.T.Stage.calculation c.in-Some.head c.args.was_open _ course _ c.in-Some.ensures c.if-was_open.false (Unit {0}) (λ state. g.T.Stage.is_at state c.take_held-2.new.stage c.take_held-2.new.world) before _ c.take_held-2.new.out c.take_held-2.result
+    come_new g.T.Stage.calculation c.in-Some.head c.args.was_open _ course _ c.in-Some.ensures c.if-was_open.false (Unit {0}) (λ state. g.T.Stage.is_at state c.take_held-2.new.stage c.take_held-2.new.beside) before _ c.take_held-2.new.out c.take_held-2.result
     (c.take_held-2.ensures.course before _ (c.in_default-open_stage.ensures.course before course standing))
 
 pub returns-clause-counted : goal.returns-clause-counted

@@ -8,16 +8,16 @@ use Rattle.kt_loop.proofs.run.read_all.Goals as goal
 
 pub returns-in-Err-clause-settled : goal.returns-in-Err-clause-settled
 returns-in-Err-clause-settled g c contents start fresh at =
-    stopped g.T.Stage.calculation contents (c.what_is_read_stays.ensures contents [] [] c.args.reader.now fresh) start _ _ (Unit {0}) (Unit {0}) (λ state. g.T.Stage.is_at state c.begin.new.stage c.begin.new.world) _ c.begin.new.out [] c.in-Err.why
-    (fed_of _ _ [] (read_none (g.S.Source.state c.args.source.now).left)) (c.in-Err.ensures.course contents _ start fresh (standing_first (λ state. g.T.Stage.is_at state c.args.stage.now c.args.world.now) start _ c.args.out.now c.requires.empty at))
+    stopped g.T.Stage.calculation contents (c.what_is_read_stays.ensures contents [] [] c.args.reader.now fresh) start _ _ (Unit {0}) (Unit {0}) (λ state. g.T.Stage.is_at state c.begin.new.stage c.begin.new.beside) _ c.begin.new.out [] c.in-Err.why
+    (fed_of _ _ [] (read_none (g.S.Source.state c.args.source.now).left)) (c.in-Err.ensures.course contents _ start fresh (standing_first (λ state. g.T.Stage.is_at state c.args.stage.now c.args.beside.now) start _ c.args.out.now c.requires.empty at))
 
 pub returns-in-Err-clause-counted : goal.returns-in-Err-clause-counted
 returns-in-Err-clause-counted g c others = counts_read (Unit {0}) _ _ _ _ _ _ (Err c.in-Err.why) (c.in-Err.ensures.counted others) refl
 
 pub turns-init : goal.turns-init
 turns-init g c = record {
-  going = going_first g.T.Stage.calculation g.R.StreamReader.represents (λ contents. g.R.StreamReader.represents contents [] [] c.args.reader.now) (λ state. g.T.Stage.is_at state c.args.stage.now c.args.world.now) (λ state. g.T.Stage.is_at state c.begin.new.stage c.begin.new.world) _ (g.S.Source.state c.args.source.now).left _ _ c.begin.new.reader c.begin.new.out c.in_default-begin.ensures.stands
-      (λ contents start fresh at. c.in_default-begin.ensures.course contents _ start fresh (standing_first (λ state. g.T.Stage.is_at state c.args.stage.now c.args.world.now) start _ c.args.out.now c.requires.empty at));
+  going = going_first g.T.Stage.calculation g.R.StreamReader.represents (λ contents. g.R.StreamReader.represents contents [] [] c.args.reader.now) (λ state. g.T.Stage.is_at state c.args.stage.now c.args.beside.now) (λ state. g.T.Stage.is_at state c.begin.new.stage c.begin.new.beside) _ (g.S.Source.state c.args.source.now).left _ _ c.begin.new.reader c.begin.new.out c.in_default-begin.ensures.stands
+      (λ contents start fresh at. c.in_default-begin.ensures.course contents _ start fresh (standing_first (λ state. g.T.Stage.is_at state c.args.stage.now c.args.beside.now) start _ c.args.out.now c.requires.empty at));
   ready = c.in_default-begin.ensures.ready;
   inputs = λ others. (c.in_default-begin.ensures.counted others).of_inputs;
   reads = refl;
@@ -28,7 +28,7 @@ turns-init g c = record {
 pub returns-in-Err-read-clause-settled : goal.returns-in-Err-read-clause-settled
 returns-in-Err-read-clause-settled g c contents start fresh at =
     let going = c.turns.invariant.going in
-    faulted g.T.Stage.calculation contents (c.what_is_read_stays.ensures contents [] [] c.args.reader.now fresh) start _ _ (λ state. g.T.Stage.is_at state c.turns.stage c.turns.world) _ c.turns.out going.fed (fed_of _ _ going.fed going.read) (going.course contents start fresh at)
+    faulted g.T.Stage.calculation contents (c.what_is_read_stays.ensures contents [] [] c.args.reader.now fresh) start _ _ (λ state. g.T.Stage.is_at state c.turns.stage c.turns.beside) _ c.turns.out going.fed (fed_of _ _ going.fed going.read) (going.course contents start fresh at)
 
 pub returns-then-read-eq0-clause-settled : goal.returns-then-read-eq0-clause-settled
 returns-then-read-eq0-clause-settled g c contents start fresh at =
@@ -46,7 +46,7 @@ returns-in-Err-turn-clause-settled g c contents start fresh at =
     let going = c.turns.invariant.going in
     let same = filled_block c.turns.block.items c.read.new.buf c.turns.block.len c.turns.block.ok.0 (c.read.auto.buf ∙ ap length c.as_mut_slice.ensures.value) in
     let read = read_more _ _ _ going.fed _ c.read.new.buf (take c.in-Ok-read.read c.deref.result.now) c.in-Ok-read.read going.read c.in-Ok-read.ensures.moved.moved (ap (take c.in-Ok-read.read) (c.deref.ensures.value ∙ same)) in
-    stopped g.T.Stage.calculation contents (c.what_is_read_stays.ensures contents [] [] c.args.reader.now fresh) start _ _ (Option StreamStop) (Unit {0}) (λ state. g.T.Stage.is_at state c.turn.new.stage c.turn.new.world) _ c.turn.new.out _ c.in-Err-turn.why (fed_of _ _ _ read)
+    stopped g.T.Stage.calculation contents (c.what_is_read_stays.ensures contents [] [] c.args.reader.now fresh) start _ _ (Option StreamStop) (Unit {0}) (λ state. g.T.Stage.is_at state c.turn.new.stage c.turn.new.beside) _ c.turn.new.out _ c.in-Err-turn.why (fed_of _ _ _ read)
     (c.in-Err-turn.ensures.course contents _ going.fed start (going.represented contents fresh) (going.course contents start fresh at))
 
 pub returns-in-Err-turn-clause-counted : goal.returns-in-Err-turn-clause-counted
@@ -61,7 +61,7 @@ returns-in-Some-clause-settled g c contents start fresh at =
     let same = filled_block c.turns.block.items c.read.new.buf c.turns.block.len c.turns.block.ok.0 (c.read.auto.buf ∙ ap length c.as_mut_slice.ensures.value) in
     let read = read_more _ _ _ going.fed _ c.read.new.buf (take c.in-Ok-read.read c.deref.result.now) c.in-Ok-read.read going.read c.in-Ok-read.ensures.moved.moved (ap (take c.in-Ok-read.read) (c.deref.ensures.value ∙ same)) in
     let stops = subst (λ (stop : Option StreamStop). FeedsBy contents (g.R.StreamReader.represents contents) stop (going.fed ++ take c.in-Ok-read.read c.deref.result.now) (contents (going.fed ++ take c.in-Ok-read.read c.deref.result.now)).entries c.turn.new.reader) c.in-Some.is (c.in-Ok-turn.ensures.stands contents going.fed (going.represented contents fresh)) in
-    stream_refused g.T.Stage.calculation contents (c.what_is_read_stays.ensures contents [] [] c.args.reader.now fresh) start _ _ (λ state. g.T.Stage.is_at state c.turn.new.stage c.turn.new.world) _ c.turn.new.out _ c.in-Some.stop (fed_of _ _ _ read) stops.refused
+    stream_refused g.T.Stage.calculation contents (c.what_is_read_stays.ensures contents [] [] c.args.reader.now fresh) start _ _ (λ state. g.T.Stage.is_at state c.turn.new.stage c.turn.new.beside) _ c.turn.new.out _ c.in-Some.stop (fed_of _ _ _ read) stops.refused
     (c.in-Ok-turn.ensures.course contents _ going.fed start (going.represented contents fresh) (going.course contents start fresh at))
 
 pub returns-in-Some-clause-counted : goal.returns-in-Some-clause-counted
@@ -73,7 +73,7 @@ turns-preserved g c =
     let going = c.turns.invariant.going in
     let same = filled_block c.turns.block.items c.read.new.buf c.turns.block.len c.turns.block.ok.0 (c.read.auto.buf ∙ ap length c.as_mut_slice.ensures.value) in
     record {
-      going = going_more g.T.Stage.calculation g.R.StreamReader.represents (λ contents. g.R.StreamReader.represents contents [] [] c.args.reader.now) (λ state. g.T.Stage.is_at state c.args.stage.now c.args.world.now) (λ state. g.T.Stage.is_at state c.turns.stage c.turns.world) _ _ _ _ c.turns.reader c.turns.out (λ state. g.T.Stage.is_at state c.turn.new.stage c.turn.new.world) _ _ c.turn.new.reader c.turn.new.out _ _ c.read.new.buf
+      going = going_more g.T.Stage.calculation g.R.StreamReader.represents (λ contents. g.R.StreamReader.represents contents [] [] c.args.reader.now) (λ state. g.T.Stage.is_at state c.args.stage.now c.args.beside.now) (λ state. g.T.Stage.is_at state c.turns.stage c.turns.beside) _ _ _ _ c.turns.reader c.turns.out (λ state. g.T.Stage.is_at state c.turn.new.stage c.turn.new.beside) _ _ c.turn.new.reader c.turn.new.out _ _ c.read.new.buf
           (take c.in-Ok-read.read c.deref.result.now) c.in-Ok-read.read going c.in-Ok-read.ensures.moved.moved (ap (take c.in-Ok-read.read) (c.deref.ensures.value ∙ same)) (omega (arith, c.if-read-eq0.false)) (omega (arith, c.in-Ok-read.ensures.within, c.read.auto.buf))
           (λ contents fresh. subst (λ (stop : Option StreamStop). FeedsBy contents (g.R.StreamReader.represents contents) stop (going.fed ++ take c.in-Ok-read.read c.deref.result.now) (contents (going.fed ++ take c.in-Ok-read.read c.deref.result.now)).entries c.turn.new.reader) c.in_default-stop.is (c.in-Ok-turn.ensures.stands contents going.fed (going.represented contents fresh))) c.requires.fresh.contents c.requires.fresh.stands
           (λ contents start fresh at. c.in-Ok-turn.ensures.course contents _ going.fed start (going.represented contents fresh) (going.course contents start fresh at));

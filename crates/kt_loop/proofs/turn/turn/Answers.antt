@@ -40,8 +40,8 @@ returns-in-Err-carry_on-clause-course g c contents before fed start stood standi
     let read = c.what_is_held_was_read.ensures contents fed _ c.args.reader.now stood in
     let read_now = c.what_is_held_was_read.ensures contents _ _ c.feed_piece.new.reader stands in
     let same = turned g.T.Stage.calculation start _ _ _ _ _ _ c.is_some-was_open.result read read_now (c.what_is_read_stays.ensures contents fed _ c.args.reader.now stood fed c.args.piece.now) (c.is_some-was_open.ensures ∙ ap (λ (header : Option g.row.R-Head.Denot). is_some header) c.head.ensures) in
-    stopped_as (Unit {0}) (Option StreamStop) (λ state. g.T.Stage.is_at state c.carry_on.new.stage c.carry_on.new.world) before _ c.carry_on.new.out _ c.in-Err-carry_on.why
-    (subst (λ (course : Course g.T.Stage.State Refusal). Comes {T = Unit {0}} (λ state. g.T.Stage.is_at state c.carry_on.new.stage c.carry_on.new.world) before (g.K.Sink.state c.carry_on.new.sink).taken c.carry_on.new.out course (Err c.in-Err-carry_on.why)) same
+    stopped_as (Unit {0}) (Option StreamStop) (λ state. g.T.Stage.is_at state c.carry_on.new.stage c.carry_on.new.beside) before _ c.carry_on.new.out _ c.in-Err-carry_on.why
+    (subst (λ (course : Course g.T.Stage.State Refusal). Comes {T = Unit {0}} (λ state. g.T.Stage.is_at state c.carry_on.new.stage c.carry_on.new.beside) before (g.K.Sink.state c.carry_on.new.sink).taken c.carry_on.new.out course (Err c.in-Err-carry_on.why)) same
     (c.in-Err-carry_on.ensures.course before _ standing))
 
 pub returns-in-Err-carry_on-clause-counted : goal.returns-in-Err-carry_on-clause-counted
@@ -58,7 +58,7 @@ returns-clause-course g c contents before fed start stood standing =
     let read = c.what_is_held_was_read.ensures contents fed _ c.args.reader.now stood in
     let read_now = c.what_is_held_was_read.ensures contents _ _ c.feed_piece.new.reader stands in
     let same = turned g.T.Stage.calculation start _ _ _ _ _ _ c.is_some-was_open.result read read_now (c.what_is_read_stays.ensures contents fed _ c.args.reader.now stood fed c.args.piece.now) (c.is_some-was_open.ensures ∙ ap (λ (header : Option g.row.R-Head.Denot). is_some header) c.head.ensures) in
-    subst (λ (course : Course g.T.Stage.State Refusal). Stands (λ state. g.T.Stage.is_at state c.carry_on.new.stage c.carry_on.new.world) before (g.K.Sink.state c.carry_on.new.sink).taken c.carry_on.new.out course) same
+    subst (λ (course : Course g.T.Stage.State Refusal). Stands (λ state. g.T.Stage.is_at state c.carry_on.new.stage c.carry_on.new.beside) before (g.K.Sink.state c.carry_on.new.sink).taken c.carry_on.new.out course) same
     (c.in_default.ensures.course before _ standing)
 
 pub returns-clause-counted : goal.returns-clause-counted
