@@ -12,3 +12,4 @@ pub mod Joining
 pub mod RunStepping
 pub mod Splitting
 pub mod RecordReading
+pub mod RecordsGood

@@ -10,6 +10,14 @@ ghost use Rattle.kt_loop.specs.Contents.{Contents};
 ghost use Rattle.kt_loop.specs.Outcome.{gives, stream_status, outcome};
 ghost use Rattle.kt_loop.specs.Runs.{ShareNoEvent, given_by_runs};
 ghost use Rattle.kt_loop.specs.ByRecord.{by_record, table_of};
+ghost use Rattle.kt_stream.specs.declared.kind.Head.{Head};
+ghost use Rattle.kt_stream.specs.Header.{IsHead};
+ghost use Rattle.kt_stream.specs.Reader.{Reading, IsPlaced};
+ghost use Rattle.kt_loop.specs.Reading.{AreGood};
+ghost use Rattle.kt_loop.specs.RecordStreams.{StandsFor};
+
+use kt_stream::Entry;
+use kt_stream::laws::what_is_read_fits;
 
 /// A calculation by record refuses nothing: its outcome is the heading and then the rows of each record, with the
 /// stream's own fault.
@@ -26,3 +34,10 @@ pub fn runs_give_their_text<H, E, P>()
 pub fn joined_records_give_one_after_the_other<E>()
     ensures { (key : E → RunKey) (closes : List E → List ℕ) (first : List (Placed E)) (second : List (Placed E)) → ShareNoEvent key first second → given_by_runs key closes (first ++ second) ≡ given_by_runs key closes first ++ given_by_runs key closes second }
 {}
+
+/// Whatever a reader of records reads is in its ranges: what a stage needs to take it.
+pub fn what_is_read_can_be_taken<E: Entry>()
+    ensures { (contents : List ℕ → Contents Head E) (fed : List ℕ) (taken : List (Placed E)) (reading : Reading E) → StandsFor E E.form contents fed taken reading → (bytes : List ℕ) → AreGood (IsHead reading.shape.kind) (IsPlaced E E.form E.IsGood reading.shape) (contents bytes).head (contents bytes).entries }
+{
+    what_is_read_fits::<E>();
+}
