@@ -1,7 +1,6 @@
 -- The event loss table of a summary stream.
 -- The rules: docs/COMMANDS.md, "eltcalc".
 use Rattle.std.specs.Prelude.{ℕ, Bool, true, false, List, []}
-use Rattle.kt_stream.specs.declared.entry.Placed.{Placed}
 use Rattle.kt_stream.specs.declared.entry.SummaryRecord.{SummaryRecord}
 use Rattle.kt_stream.specs.declared.summary.Head.{Head}
 use Rattle.kt_stream.specs.Stream.{stream_of, fault_of}
@@ -18,8 +17,8 @@ elt_heading_part true head = elt_heading_text
 elt_heading_part false head = []
 
 -- the rows of a record
-abbrev pub elt_record_rows : Bool → Head → Placed SummaryRecord → List ℕ
-elt_record_rows heading head placed = event_loss_rows head.samples placed.entry
+abbrev pub elt_record_rows : Bool → Head → SummaryRecord → List ℕ
+elt_record_rows heading head entry = event_loss_rows head.samples entry
 
 -- the calculation: the names of the columns, and then the rows of each record
 abbrev pub elt_calculation : Calculation Head SummaryRecord Bool Refusal

@@ -1,5 +1,5 @@
 -- How a run of a stage ends, once all that was pending is written.
-use Rattle.std.proofs.Common.{◌≡◌, ◌⊎◌, ℕ, Bool, true, false, List, [], ◌∷◌, ◌++◌, Option, Some, None, Result, Ok, Err, refl, sym, ap, ◌∙◌, append_assoc, subst, append-nil, inl, inr}
+use Rattle.std.proofs.Common.{◌≡◌, ◌⊎◌, ℕ, Bool, true, false, List, [], ◌++◌, Option, Some, None, Result, Ok, Err, refl, sym, ap, ◌∙◌, subst, append-nil, inl, inr}
 use Rattle.std.specs.Prelude.{IfSome, IsSomeAnd, OnOk}
 use Rattle.kt_out.specs.Counts.{Rose}
 use Rattle.kt_out.specs.InputFiles.{InputsState, CountsFault}
@@ -7,24 +7,23 @@ use Rattle.kt_out.specs.NamedFiles.{File, FileMap}
 use Rattle.kt_out.specs.OutputFiles.{OutputsState}
 use Rattle.kt_out.specs.Reading.{SourceState}
 use Rattle.kt_out.specs.Writing.{SinkState}
-use Rattle.kt_stream.specs.declared.entry.Placed.{Placed}
 use Rattle.kt_stream.specs.declared.stop.StreamStop.{StreamStop}
-use Rattle.kt_ends.specs.Ending.{Verdict, Gained, GainedFront, Made, AllMade, PartlyMade, NoFault, NoCount, KeepsReads, KeepsWrites, Counted, CountedRead, CountedWrite, AtEnd, Ended}
+use Rattle.kt_ends.specs.Ending.{Made, PartlyMade, NoCount, Counted, CountedRead, CountedWrite, AtEnd}
 use Rattle.kt_ends.specs.Outcome.{Outcome}
 use Rattle.kt_ends.specs.Stops.{end_status, stop_status}
-use Rattle.kt_ends.specs.World.{World, Uses, Finds, Keeps, KeepsOthers}
+use Rattle.kt_ends.specs.World.{World, world, Finds}
 use Rattle.kt_ends.specs.declared.status.Refusal.{Refusal}
 use Rattle.kt_ends.specs.declared.status.Refusal.TheVariants as refusal
 use Rattle.kt_ends.specs.declared.status.Status.{Status}
 use Rattle.kt_ends.specs.declared.status.Status.TheVariants as status
 use Rattle.kt_ends.specs.declared.tool_stop.ToolStop.{ToolStop}
 use Rattle.kt_ends.specs.declared.tool_stop.ToolStop.TheVariants as stop
-use Rattle.kt_loop.specs.Calculation.{Calculation, Course, course_of, ending}
+use Rattle.kt_loop.specs.Calculation.{Calculation}
 use Rattle.kt_loop.specs.Contents.{Contents}
 use Rattle.kt_loop.specs.Counts.{CountsRead, CountsWrite}
-use Rattle.kt_loop.specs.Given.{Given, GivenFront, Spills}
-use Rattle.kt_loop.specs.Outcome.{gives, ended_by, outcome}
-use Rattle.kt_loop.specs.Running.{around, stream_uses, Makes, EndsRun}
+use Rattle.kt_loop.specs.Given.{Given, Spills}
+use Rattle.kt_loop.specs.Outcome.{ended_by, outcome}
+use Rattle.kt_loop.specs.Running.{stream_uses, EndsRun}
 use Rattle.kt_loop.specs.Settling.{IsSettled, Settles, IsEnd}
 
 abbrev some_list : List ℕ → Option (List ℕ)
@@ -80,10 +79,10 @@ stopped_end T made before now pending stop.NoMemory other settles = record { ver
 
 module _ (inputs inputs_now : InputsState) (outputs : OutputsState) (source source_now : SourceState) (sink sink_mid sink_now : SinkState) where
   abbrev at_first : World
-  at_first = around inputs outputs source sink
+  at_first = world inputs outputs source sink
 
   abbrev at_last : World
-  at_last = around inputs_now outputs source_now sink_now
+  at_last = world inputs_now outputs source_now sink_now
 
   none_counted : inputs_now ≡ inputs → source_now.faults ≡ source.faults → sink_now.faults ≡ sink.faults → NoCount at_first at_last
   none_counted same reads faults = record {
@@ -171,14 +170,14 @@ not_unused : used ≡ false → ⊥
 not_unused is = cc
 
 module _ {H E S : Type 0} (calculation : Calculation H E S Refusal) (contents : List ℕ → Contents H E) (stood : S → Type 0) (asks : Bool) (made : FileMap → List ℕ → Outcome) (inputs inputs_now : InputsState) (outputs : OutputsState) (source source_now : SourceState) (sink sink_now : SinkState) (end : Status) where
-  pub ends_run : ((start : S) → stood start → IfSome source.left (λ bytes. IsEnd (outcome calculation start (contents bytes)) sink.taken sink_now.taken end)) → Counted (around inputs outputs source sink) (around inputs_now outputs source_now sink_now) end
-      → AtEnd source.left source_now.left end → inputs_now.held ≡ inputs.held → EndsRun calculation contents stood asks made (around inputs outputs source sink) (around inputs_now outputs source_now sink_now) end
+  pub ends_run : ((start : S) → stood start → IfSome source.left (λ bytes. IsEnd (outcome calculation start (contents bytes)) sink.taken sink_now.taken end)) → Counted (world inputs outputs source sink) (world inputs_now outputs source_now sink_now) end
+      → AtEnd source.left source_now.left end → inputs_now.held ≡ inputs.held → EndsRun calculation contents stood asks made (world inputs outputs source sink) (world inputs_now outputs source_now sink_now) end
   ends_run ends counted at_end held keeps told =
-      let is_end : (files : FileMap) (bytes : List ℕ) → Finds (stream_uses asks) (around inputs outputs source sink) files bytes → IsEnd (made files bytes) sink.taken sink_now.taken end =
-          λ files bytes finds.
-          let makes = told files bytes finds in
-          subst (λ (o : Outcome). IsEnd o sink.taken sink_now.taken end) (sym makes.is)
-          (at_some source.left (λ (xs : List ℕ). IsEnd (outcome calculation makes.start (contents xs)) sink.taken sink_now.taken end) bytes (finds.source_told refl) (ends makes.start makes.stood)) in
+      let is_end : (files : FileMap) (bytes : List ℕ) → Finds (stream_uses asks) (world inputs outputs source sink) files bytes → IsEnd (made files bytes) sink.taken sink_now.taken end =
+      λ files bytes finds.
+      let makes = told files bytes finds in
+      subst (λ (o : Outcome). IsEnd o sink.taken sink_now.taken end) (sym makes.is)
+      (at_some source.left (λ (xs : List ℕ). IsEnd (outcome calculation makes.start (contents xs)) sink.taken sink_now.taken end) bytes (finds.source_told refl) (ends makes.start makes.stood)) in
       record {
         verdict = λ files bytes finds. (is_end files bytes finds).verdict;
         output = λ files bytes finds. (is_end files bytes finds).output;

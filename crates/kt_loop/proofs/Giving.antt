@@ -1,13 +1,11 @@
 -- Texts that are given to a sink in parts, while the rest is pending.
-use Rattle.std.proofs.Common.{◌≡◌, ℕ, List, [], ◌∷◌, ◌++◌, take, drop, Option, Some, None, Result, Ok, Err, refl, sym, ap, ◌∙◌, append_assoc, subst}
-use Rattle.std.specs.Prelude.{IfSome}
+use Rattle.std.proofs.Common.{◌≡◌, ℕ, List, [], ◌++◌, take, drop, Option, Some, None, Err, refl, sym, ap, ◌∙◌, append_assoc, subst}
 use Rattle.std.proofs.lemmas.List.{append-nil, take-append-drop}
 use Rattle.kt_out.specs.Writing.{SinkState, Gains, GainsFront, WritesAll}
 use Rattle.kt_out.specs.declared.fault.Fault.{Fault}
 use Rattle.kt_out.specs.declared.fault.Fault.TheVariants.{Failed, OutOfMemory}
 use Rattle.kt_ends.specs.Ending.{GainedFront}
-use Rattle.kt_ends.specs.Stops.{fault_stop, stop_status}
-use Rattle.kt_ends.specs.declared.tool_stop.ToolStop.{ToolStop}
+use Rattle.kt_ends.specs.Stops.{fault_stop}
 use Rattle.kt_loop.specs.Counts.{CountsWrite}
 use Rattle.kt_loop.specs.Given.{IsGiven, Given, GivenFront}
 

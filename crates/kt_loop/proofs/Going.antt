@@ -1,11 +1,10 @@
 -- The turns of the loop: what was read, and where the calculation came by it.
-use Rattle.std.proofs.Common.{◌≡◌, ℕ, ◌+◌, ◌≤◌, ◌<◌, ◌^◌, List, [], ◌∷◌, ◌++◌, length, take, drop, Option, Some, None, Result, Ok, Err, refl, sym, ap, ◌∙◌, append_assoc, subst, append-nil, arith}
+use Rattle.std.proofs.Common.{◌≡◌, ℕ, ◌+◌, ◌≤◌, ◌<◌, ◌^◌, List, [], ◌++◌, length, take, drop, Option, Some, None, Result, Err, refl, sym, ap, ◌∙◌, append_assoc, subst, append-nil, arith}
 use Rattle.std.specs.Prelude.{IfSome}
 use Rattle.std.proofs.lemmas.List.{take-append-drop, take_at, length-take-le, length-append}
-use Rattle.kt_out.specs.Reading.{SourceState, Gives, GivesKnown, Reads}
+use Rattle.kt_out.specs.Reading.{Gives, GivesKnown}
 use Rattle.kt_stream.specs.declared.entry.Placed.{Placed}
 use Rattle.kt_stream.specs.declared.stop.StreamStop.{StreamStop}
-use Rattle.kt_ends.specs.Outcome.{Outcome}
 use Rattle.kt_ends.specs.declared.status.Refusal.{Refusal}
 use Rattle.kt_ends.specs.declared.status.Refusal.TheVariants.{Stream}
 use Rattle.kt_ends.specs.declared.status.Status.TheVariants.{Refused}
@@ -15,12 +14,12 @@ use Rattle.kt_loop.specs.Calculation.{Calculation, Course, started, course_of}
 use Rattle.kt_loop.specs.Contents.{Contents, Grows, refused}
 use Rattle.kt_loop.specs.Given.{Given, GivenFront}
 use Rattle.kt_loop.specs.Outcome.{outcome}
-use Rattle.kt_loop.specs.Reading.{GoesOn, IsStopped, FeedsBy}
+use Rattle.kt_loop.specs.Reading.{GoesOn}
 use Rattle.kt_loop.specs.Settling.{IsSettled, Settles}
 use Rattle.kt_loop.specs.Steps.{Stands, Refuses, Comes}
 use Rattle.kt_loop.proofs.Giving.{given_none, given_front, front_longer}
 use Rattle.kt_loop.proofs.Growing.{text_grows, refusal_stays}
-use Rattle.kt_loop.proofs.Settling.{settled_by, settled_fault, output_front}
+use Rattle.kt_loop.proofs.Settling.{settled_by, settled_fault}
 
 abbrev some_list : List ℕ → Option (List ℕ)
 some_list xs = Some xs
@@ -73,35 +72,37 @@ nothing_left (Some bytes) next fed all = all.1
 pub filled_block : (items buf : List ℕ) (len : ℕ) → len ≡ length items → length buf ≡ length items → take len (buf ++ drop (length buf) items) ≡ buf
 filled_block items buf len whole same = take_at buf (drop (length buf) items) len (same ∙ sym whole)
 
+-- What was read of the stream after so many turns, and where the calculation came by it, whatever the reader stands for.
+pub record Going {T H E S : Type 0} (calculation : Calculation H E S Refusal) (represents : (List ℕ → Contents H E) → List ℕ → List (Placed E) → T → Type 0) (fresh : (List ℕ → Contents H E) → Type 0) (stood stands : S → Type 0) (left left_now taken taken_now : Option (List ℕ)) (reader : T) (out : List ℕ) (turns : ℕ) : Type 0 where
+  pub fed : List ℕ
+  pub represented : (contents : List ℕ → Contents H E) → fresh contents → represents contents fed (contents fed).entries reader
+  pub read : HasRead left left_now fed
+  pub turned : turns ≤ length fed
+  pub within : length fed ≤ 2 ^ 40
+  pub course : (contents : List ℕ → Contents H E) (start : S) → fresh contents → stood start → Stands stands taken taken_now out (course_of calculation start (contents fed).head (contents fed).entries)
+
+module _ {T H E S : Type 0} (calculation : Calculation H E S Refusal) (represents : (List ℕ → Contents H E) → List ℕ → List (Placed E) → T → Type 0) (fresh : (List ℕ → Contents H E) → Type 0) (stood stands : S → Type 0) (left left_now taken taken_now : Option (List ℕ)) (reader : T) (out : List ℕ) where
+  pub going_first : ((contents : List ℕ → Contents H E) → fresh contents → represents contents [] (contents []).entries reader)
+      → ((contents : List ℕ → Contents H E) (start : S) → fresh contents → stood start → Stands stands taken taken_now out (course_of calculation start (contents []).head (contents []).entries)) → Going calculation represents fresh stood stands left left taken taken_now reader out 0
+  going_first represented course = record { fed = []; represented = represented; read = read_none left; turned = omega arith; within = omega arith; course = course }
+
+  pub going_more : (stands_next : S → Type 0) (left_next taken_next : Option (List ℕ)) (next : T) (out_next : List ℕ) (turns : ℕ) (room filled piece : List ℕ) (n : ℕ)
+      → (going : Going calculation represents fresh stood stands left left_now taken taken_now reader out turns) → GivesKnown left_now left_next room filled n → piece ≡ take n filled → 0 < n → n ≤ length filled
+      → ((contents : List ℕ → Contents H E) → fresh contents → GoesOn (represents contents) (going.fed ++ piece) (contents (going.fed ++ piece)).entries next) → (first : List ℕ → Contents H E) → fresh first
+      → ((contents : List ℕ → Contents H E) (start : S) → fresh contents → stood start → Stands stands_next taken taken_next out_next (course_of calculation start (contents (going.fed ++ piece)).head (contents (going.fed ++ piece)).entries))
+      → Going calculation represents fresh stood stands_next left left_next taken taken_next next out_next (turns + 1)
+  going_more stands_next left_next taken_next next out_next turns room filled piece n going gives is some fits on first is_fresh course = record {
+    fed = going.fed ++ piece;
+    represented = λ contents is_so. (on contents is_so).stands;
+    read = read_more left left_now left_next going.fed room filled piece n going.read gives is;
+    turned = omega (arith, going.turned, length-append going.fed piece, ap length is, length-take-le n filled fits);
+    within = (on first is_fresh).within;
+    course = course;
+  }
+
 module _ {H E S : Type 0} (calculation : Calculation H E S Refusal) (contents : List ℕ → Contents H E) where
   abbrev course_at : S → List ℕ → Course S Refusal
   course_at start fed = course_of calculation start (contents fed).head (contents fed).entries
-
-  -- What was read of the stream after so many turns, and where the calculation came by it.
-  pub record Going {T : Type 0} (represents : List ℕ → List (Placed E) → T → Type 0) (stood stands : S → Type 0) (left left_now taken taken_now : Option (List ℕ)) (reader : T) (out : List ℕ) (turns : ℕ) : Type 0 where
-    pub fed : List ℕ
-    pub represented : represents fed (contents fed).entries reader
-    pub read : HasRead left left_now fed
-    pub turned : turns ≤ length fed
-    pub within : length fed ≤ 2 ^ 40
-    pub course : (start : S) → stood start → Stands stands taken taken_now out (course_of calculation start (contents fed).head (contents fed).entries)
-
-  pub going_first : {T : Type 0} (represents : List ℕ → List (Placed E) → T → Type 0) (stood stands : S → Type 0) (left taken taken_now : Option (List ℕ)) (reader : T) (out : List ℕ) → represents [] (contents []).entries reader
-      → ((start : S) → stood start → Stands stands taken taken_now out (course_of calculation start (contents []).head (contents []).entries)) → Going represents stood stands left left taken taken_now reader out 0
-  going_first represents stood stands left taken taken_now reader out stands_now course = record { fed = []; represented = stands_now; read = read_none left; turned = omega arith; within = omega arith; course = course }
-
-  pub going_more : {T : Type 0} (represents : List ℕ → List (Placed E) → T → Type 0) (stood stands stands_next : S → Type 0) (left left_now left_next taken taken_now taken_next : Option (List ℕ)) (reader next : T) (out out_next : List ℕ) (turns : ℕ) (room filled piece : List ℕ) (n : ℕ)
-      → (going : Going represents stood stands left left_now taken taken_now reader out turns) → GivesKnown left_now left_next room filled n → piece ≡ take n filled → 0 < n → n ≤ length filled → GoesOn represents (going.fed ++ piece) (contents (going.fed ++ piece)).entries next
-      → ((start : S) → stood start → Stands stands_next taken taken_next out_next (course_of calculation start (contents (going.fed ++ piece)).head (contents (going.fed ++ piece)).entries))
-      → Going represents stood stands_next left left_next taken taken_next next out_next (turns + 1)
-  going_more represents stood stands stands_next left left_now left_next taken taken_now taken_next reader next out out_next turns room filled piece n going gives is some fits on course = record {
-    fed = going.fed ++ piece;
-    represented = on.stands;
-    read = read_more left left_now left_next going.fed room filled piece n going.read gives is;
-    turned = omega (arith, going.turned, length-append going.fed piece, ap length is, length-take-le n filled fits);
-    within = on.within;
-    course = course;
-  }
 
   -- ---- how it ends
 

@@ -1,5 +1,5 @@
 -- Courses over a stream of which more was read.
-use Rattle.std.proofs.Common.{◌≡◌, ℕ, Bool, true, false, List, [], ◌∷◌, ◌++◌, Option, Some, None, Result, Ok, Err, refl, sym, ap, ◌∙◌, append_assoc, subst, append-nil}
+use Rattle.std.proofs.Common.{◌≡◌, ℕ, Bool, true, false, List, [], ◌∷◌, ◌++◌, Option, Some, None, Result, Ok, Err, refl, sym, ap, ◌∙◌, subst}
 use Rattle.std.specs.Prelude.{is_some}
 use Rattle.std.specs.List.{AllByRecursion}
 use Rattle.kt_stream.specs.declared.entry.Placed.{Placed}
@@ -8,7 +8,7 @@ use Rattle.kt_loop.specs.Calculation.{Calculation, Course, started, opened, took
 use Rattle.kt_loop.specs.Carrying.{carried, header_if}
 use Rattle.kt_loop.specs.Contents.{Contents, Grows}
 use Rattle.kt_stream.specs.declared.stop.StreamStop.{StreamStop}
-use Rattle.kt_loop.specs.Reading.{AreGood, IsRead, GoesOn, IsStopped, FeedsBy}
+use Rattle.kt_loop.specs.Reading.{AreGood, IsRead, FeedsBy}
 use Rattle.kt_loop.proofs.Courses.{took_joined, took_longer}
 use Rattle.kt_loop.proofs.Taking.{stays_refused}
 
@@ -121,3 +121,7 @@ fed_all contents represents (Some stop) fed taken taken_now new now feeds stands
 -- a header that was read before is read still
 pub header_stays : {H E : Type 0} (before now : Contents H E) (header header_now : Option H) (taken taken_now held held_now : List (Placed E)) → IsRead before taken header held → IsRead now taken_now header_now held_now → Grows before now → (known : H) → header ≡ Some known → header_now ≡ Some known
 header_stays before now header header_now taken taken_now held held_now read read_now grows known is = read_now.head ∙ grows.head known (sym read.head ∙ is)
+
+-- a header that was read can be taken
+pub head_good : {H E : Type 0} (accepts : H → Type 0) (is_good : H → Placed E → Type 0) (header : Option H) (entries : List (Placed E)) (head : H) → AreGood accepts is_good header entries → header ≡ Some head → accepts head
+head_good accepts is_good header entries head good is = let told : AreGood accepts is_good (Some head) entries = subst (λ (h : Option _). AreGood accepts is_good h entries) is good in told.0

@@ -6,6 +6,10 @@ pub mod Growing
 pub mod Settling
 pub mod Going
 pub mod Ending
-pub mod SummaryStreams
 pub mod Rows
 pub mod RunsGiven
+pub mod Joining
+pub mod RunStepping
+pub mod Splitting
+pub mod RecordReading
+pub mod RecordsGood

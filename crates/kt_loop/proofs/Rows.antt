@@ -1,17 +1,15 @@
 -- The outcome of a calculation by record.
-use Rattle.std.proofs.Common.{◌≡◌, ℕ, List, [], ◌++◌, Option, Some, None, Result, Ok, Err, refl, ap, ◌∙◌, append-nil}
-use Rattle.kt_stream.specs.declared.entry.Placed.{Placed}
+use Rattle.std.proofs.Common.{◌≡◌, ℕ, List, ◌++◌, Option, Some, None, Ok, refl, ap, ◌∙◌, append-nil}
 use Rattle.kt_stream.specs.declared.stop.StreamStop.{StreamStop}
-use Rattle.kt_ends.specs.Outcome.{Outcome}
 use Rattle.kt_ends.specs.declared.status.Refusal.{Refusal}
 use Rattle.kt_ends.specs.declared.status.Status.TheVariants.{Done}
 use Rattle.kt_loop.specs.ByRecord.{by_record, table_of}
-use Rattle.kt_loop.specs.Calculation.{Calculation, Course, ending}
+use Rattle.kt_loop.specs.Calculation.{Course, ending}
 use Rattle.kt_loop.specs.Contents.{Contents}
 use Rattle.kt_loop.specs.Outcome.{gives, stream_status, ended_by, outcome}
 use Rattle.kt_loop.proofs.Courses.{record_rows}
 
-module _ {H E S : Type 0} (heading : S → H → List ℕ) (rows : S → H → Placed E → List ℕ) (state : S) where
+module _ {H E S : Type 0} (heading : S → H → List ℕ) (rows : S → H → E → List ℕ) (state : S) where
   nothing_behind : (head : Option H) (text : List ℕ) → text ++ ending (by_record {R = Refusal} heading rows) head state ≡ text
   nothing_behind None text = append-nil text
   nothing_behind (Some head) text = append-nil text

@@ -6,23 +6,22 @@ use Rattle.kt_stream.specs.declared.entry.Placed.{Placed}
 use Rattle.kt_stream.specs.declared.stop.StreamStop.{StreamStop}
 use Rattle.kt_ends.specs.Outcome.{Outcome}
 use Rattle.kt_ends.specs.declared.status.Refusal.{Refusal}
-use Rattle.kt_ends.specs.declared.status.Status.TheVariants.{Done, Refused}
+use Rattle.kt_ends.specs.declared.status.Status.TheVariants.{Done}
 use Rattle.kt_loop.specs.declared.run_key.RunKey.{RunKey}
-use Rattle.kt_loop.specs.ByRun.{RunCalculation, OpenRun, opened_run, judged, closing, takes_run, by_run, run_before, RunsJudged, judge_next, judge_all, runs_outcome, outcome_by_run}
-use Rattle.kt_loop.specs.Calculation.{Calculation, Course, behind, started, opened, took, took_all, course_of}
-use Rattle.kt_loop.specs.Contents.{Contents}
+use Rattle.kt_loop.specs.ByRun.{RunCalculation, OpenRun, opened_run, judged, given, closing, takes_run, by_run, run_before, RunsJudged, judge_next, judge_all, runs_outcome, outcome_by_run}
+use Rattle.kt_loop.specs.Calculation.{Course, behind, took_all}
 use Rattle.kt_loop.specs.Outcome.{gives, ended_by, outcome}
 use Rattle.kt_loop.specs.Runs.{RunsRead, no_runs, with_run, joins, run_more, read_more}
 use Rattle.kt_loop.proofs.Courses.{took_refused}
 
 module _ {H E P : Type 0} (key : E → RunKey) (runs : RunCalculation H E P Refusal) (head : H) (kept : P) where
   -- what closed runs give, with one more of them
-  run_given : (closed : List (List (Placed E))) (run : List (Placed E)) → flat_map (runs.closes head kept) closed ++ closing runs head kept run ≡ flat_map (runs.closes head kept) (with_run closed run)
-  run_given closed [] = append-nil (flat_map (runs.closes head kept) closed)
-  run_given closed (first ∷ later) = ap (λ (xs : List ℕ). flat_map (runs.closes head kept) closed ++ xs) (sym (append-nil (runs.closes head kept (first ∷ later)))) ∙ sym (flat_map-append (runs.closes head kept) closed ((first ∷ later) ∷ []))
+  run_given : (closed : List (List (Placed E))) (run : List (Placed E)) → flat_map (given runs head kept) closed ++ closing runs head kept run ≡ flat_map (given runs head kept) (with_run closed run)
+  run_given closed [] = append-nil (flat_map (given runs head kept) closed)
+  run_given closed (first ∷ later) = ap (λ (xs : List ℕ). flat_map (given runs head kept) closed ++ xs) (sym (append-nil (given runs head kept (first ∷ later)))) ∙ sym (flat_map-append (given runs head kept) closed ((first ∷ later) ∷ []))
 
   abbrev so_far : List ℕ → RunsRead E → List ℕ
-  so_far opening read = opening ++ flat_map (runs.closes head kept) read.closed
+  so_far opening read = opening ++ flat_map (given runs head kept) read.closed
 
   -- how far the calculation came with these runs, or by which refusal
   abbrev reached_by : RunsRead E → Option Refusal → Result (OpenRun P E) Refusal
@@ -49,7 +48,7 @@ module _ {H E P : Type 0} (key : E → RunKey) (runs : RunCalculation H E P Refu
       → behind (so_far opening read) (takes_run runs head (record { kept = kept; run = read.last }) next joined) ≡ course_by opening (run_more joined read next) (runs.refuses head kept (run_before joined read.last) next)
   taken_run opening read next true = course_is _ _ _ _ (append-nil (so_far opening read)) (reached_next true read next (runs.refuses head kept read.last next))
   taken_run opening read next false =
-      course_is _ _ _ _ (append_assoc opening (flat_map (runs.closes head kept) read.closed) (closing runs head kept read.last) ∙ ap (λ (xs : List ℕ). opening ++ xs) (run_given read.closed read.last)) (reached_next false read next (runs.refuses head kept [] next))
+      course_is _ _ _ _ (append_assoc opening (flat_map (given runs head kept) read.closed) (closing runs head kept read.last) ∙ ap (λ (xs : List ℕ). opening ++ xs) (run_given read.closed read.last)) (reached_next false read next (runs.refuses head kept [] next))
 
   -- the course over records that may be refused
   abbrev judged_course : List ℕ → RunsJudged E Refusal → Course (OpenRun P E) Refusal
@@ -67,10 +66,10 @@ module _ {H E P : Type 0} (key : E → RunKey) (runs : RunCalculation H E P Refu
       ap (λ (course : Course (OpenRun P E) Refusal). took_all (by_run key runs) head course later) (taken_run opening read next (joins key read.last next))
       ∙ after_one opening (read_more key read next) (runs.refuses head kept (run_before (joins key read.last next) read.last) next) later (taken_runs opening (read_more key read next) later)
 
-  ended_runs : (opening : List ℕ) (fault : Option StreamStop) (read : RunsRead E) (refusal : Option Refusal) → ended_by (by_run key runs) (Some head) fault (so_far opening read) (reached_by read refusal) ≡ runs_outcome opening (runs.closes head kept) fault read refusal
+  ended_runs : (opening : List ℕ) (fault : Option StreamStop) (read : RunsRead E) (refusal : Option Refusal) → ended_by (by_run key runs) (Some head) fault (so_far opening read) (reached_by read refusal) ≡ runs_outcome opening (given runs head kept) fault read refusal
   ended_runs opening fault read (Some why) = refl
   ended_runs opening (Some stop) read None = refl
-  ended_runs opening None read None = ap (gives Done) (append_assoc opening (flat_map (runs.closes head kept) read.closed) (closing runs head kept read.last) ∙ ap (λ (xs : List ℕ). opening ++ xs) (run_given read.closed read.last))
+  ended_runs opening None read None = ap (gives Done) (append_assoc opening (flat_map (given runs head kept) read.closed) (closing runs head kept read.last) ∙ ap (λ (xs : List ℕ). opening ++ xs) (run_given read.closed read.last))
 
 module _ {H E P : Type 0} (key : E → RunKey) (runs : RunCalculation H E P Refusal) (head : H) (entries : List (Placed E)) (fault : Option StreamStop) where
   abbrev ended_course : Course (OpenRun P E) Refusal → Outcome

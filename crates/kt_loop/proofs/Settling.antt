@@ -1,6 +1,5 @@
 -- How the loop ends: by a stop, by a fault of the stream, or at its end.
-use Rattle.std.proofs.Common.{◌≡◌, ℕ, List, [], ◌∷◌, ◌++◌, Option, Some, None, Result, Ok, Err, refl, sym, ap, ◌∙◌, append_assoc, subst, append-nil}
-use Rattle.kt_stream.specs.declared.entry.Placed.{Placed}
+use Rattle.std.proofs.Common.{◌≡◌, ℕ, List, [], ◌++◌, Option, Some, None, Result, Ok, Err, refl, sym, ap, ◌∙◌, subst, append-nil}
 use Rattle.kt_stream.specs.declared.stop.StreamStop.{StreamStop}
 use Rattle.kt_ends.specs.Outcome.{Outcome}
 use Rattle.kt_ends.specs.declared.status.Refusal.{Refusal}
@@ -10,14 +9,12 @@ use Rattle.kt_ends.specs.declared.status.Status.TheVariants.{Done, Refused}
 use Rattle.kt_ends.specs.declared.tool_stop.ToolStop.{ToolStop}
 use Rattle.kt_ends.specs.declared.tool_stop.ToolStop.TheVariants as stop
 use Rattle.kt_loop.specs.Calculation.{Calculation, Course, course_of, ending}
-use Rattle.kt_loop.specs.Contents.{Contents, Grows, refused}
+use Rattle.kt_loop.specs.Contents.{Contents}
 use Rattle.kt_loop.specs.Given.{Given, GivenFront}
 use Rattle.kt_loop.specs.Outcome.{gives, ended_by, outcome}
-use Rattle.kt_loop.specs.Reading.{IsRead}
 use Rattle.kt_loop.specs.Settling.{IsSettled, Settles}
-use Rattle.kt_loop.specs.Steps.{EndsWith, Stands, Refuses, Comes}
+use Rattle.kt_loop.specs.Steps.{EndsWith, Stands, Comes}
 use Rattle.kt_loop.proofs.Giving.{given_more, given_front, front_longer}
-use Rattle.kt_loop.proofs.Growing.{text_grows, refusal_stays}
 
 -- a stop is the same whatever else could have been answered
 pub stopped_as : {S : Type 0} (T U : Type 0) (stands : S → Type 0) (before now : Option (List ℕ)) (pending : List ℕ) (course : Course S Refusal) (why : ToolStop) → Comes {T = T} stands before now pending course (Err why) → Comes {T = U} stands before now pending course (Err why)

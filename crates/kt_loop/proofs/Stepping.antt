@@ -1,16 +1,15 @@
 -- Steps of a stage, and where the calculation comes by them.
-use Rattle.std.proofs.Common.{◌≡◌, ℕ, List, [], ◌∷◌, ◌++◌, Option, Some, None, Result, Ok, Err, refl, sym, ap, ◌∙◌, append_assoc, subst, inl}
-use Rattle.std.specs.Prelude.{IfSome}
-use Rattle.kt_out.specs.InputFiles.{InputsState, CountsFault}
+use Rattle.std.proofs.Common.{◌≡◌, ℕ, List, ◌++◌, Option, None, Result, Ok, Err, refl, sym, subst, inl}
+use Rattle.kt_out.specs.InputFiles.{InputsState}
 use Rattle.kt_stream.specs.declared.entry.Placed.{Placed}
 use Rattle.kt_ends.specs.declared.status.Refusal.{Refusal}
 use Rattle.kt_ends.specs.declared.status.Refusal.TheVariants as refusal
 use Rattle.kt_ends.specs.declared.tool_stop.ToolStop.{ToolStop}
 use Rattle.kt_ends.specs.declared.tool_stop.ToolStop.TheVariants as stop
-use Rattle.kt_loop.specs.Calculation.{Step, Calculation, Course, behind, started, opened_from, opened, took_from, took, took_all}
+use Rattle.kt_loop.specs.Calculation.{Step, Calculation, Course, behind, opened_from, opened, took_from, took}
 use Rattle.kt_loop.specs.Counts.{Consults, CountsWrite, InputsCounted, SinkCounted, Counts, CountsRead}
 use Rattle.kt_loop.specs.Given.{Given, GivenFront, Spills}
-use Rattle.kt_loop.specs.Steps.{StepsBy, EndsWith, Stands, Refuses, Comes}
+use Rattle.kt_loop.specs.Steps.{StepsBy, Stands, Comes}
 use Rattle.kt_loop.proofs.Giving.{given_more, given_front, front_longer}
 
 module _ {S : Type 0} (T : Type 0) (stands : S → Type 0) (before now : Option (List ℕ)) where

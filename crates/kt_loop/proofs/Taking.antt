@@ -1,13 +1,13 @@
 -- Taking the records that a reader holds, one after the other.
-use Rattle.std.proofs.Common.{◌≡◌, ℕ, Bool, false, List, [], ◌∷◌, ◌++◌, Option, Some, None, Result, Ok, Err, refl, sym, ap, ◌∙◌, append_assoc, subst, append-nil}
+use Rattle.std.proofs.Common.{◌≡◌, ℕ, Bool, false, List, [], ◌∷◌, ◌++◌, Option, Some, Result, Err, refl, sym, ap, ◌∙◌, append_assoc, subst, append-nil}
 use Rattle.std.specs.List.{AllByRecursion}
-use Rattle.kt_out.specs.InputFiles.{InputsState}
 use Rattle.kt_stream.specs.declared.entry.Placed.{Placed}
 use Rattle.kt_ends.specs.declared.status.Refusal.{Refusal}
 use Rattle.kt_ends.specs.declared.tool_stop.ToolStop.{ToolStop}
 use Rattle.kt_ends.specs.declared.tool_stop.ToolStop.TheVariants as stop
-use Rattle.kt_loop.specs.Calculation.{Step, Calculation, Course, opened, took, took_all}
+use Rattle.kt_loop.specs.Calculation.{Calculation, Course, opened, took, took_all}
 use Rattle.kt_loop.specs.Carrying.{carried}
+use Rattle.kt_loop.specs.Contents.{Contents}
 use Rattle.kt_loop.specs.Steps.{Stands, Refuses, Comes}
 use Rattle.kt_loop.proofs.Courses.{took_refused, took_longer}
 use Rattle.kt_loop.proofs.Giving.{front_longer}
@@ -54,26 +54,26 @@ module _ {H E S : Type 0} (calculation : Calculation H E S Refusal) (head : H) w
       subst (λ (course : Course S Refusal). Stands stands before now pending course) (sym (going.same ∙ ap (took_all calculation head going.course) none)) going.standing
 
 -- what was taken of the records that were held
-pub record HasTaken {T E : Type 0} (represents : List ℕ → List (Placed E) → T → Type 0) (old now : T) (held held_now : List (Placed E)) : Type 0 where
+pub record HasTaken {T H E : Type 0} (represents : (List ℕ → Contents H E) → List ℕ → List (Placed E) → T → Type 0) (old now : T) (held held_now : List (Placed E)) : Type 0 where
   pub front : List (Placed E)
   pub split : held ≡ front ++ held_now
-  pub stands : (fed : List ℕ) (taken : List (Placed E)) → represents fed taken old → represents fed (taken ++ front) now
+  pub stands : (contents : List ℕ → Contents H E) (fed : List ℕ) (taken : List (Placed E)) → represents contents fed taken old → represents contents fed (taken ++ front) now
 
-module _ {T E : Type 0} (represents : List ℕ → List (Placed E) → T → Type 0) where
+module _ {T H E : Type 0} (represents : (List ℕ → Contents H E) → List ℕ → List (Placed E) → T → Type 0) where
   pub taken_none : (old : T) (held : List (Placed E)) → HasTaken represents old old held held
-  taken_none old held = record { front = []; split = refl; stands = λ fed taken stood. subst (λ (xs : List (Placed E)). represents fed xs old) (sym (append-nil taken)) stood }
+  taken_none old held = record { front = []; split = refl; stands = λ contents fed taken stood. subst (λ (xs : List (Placed E)). represents contents fed xs old) (sym (append-nil taken)) stood }
 
-  pub taken_more : (old now next : T) (held held_now later : List (Placed E)) (placed : Placed E) → HasTaken represents old now held held_now → held_now ≡ placed ∷ later → ((fed : List ℕ) (taken : List (Placed E)) → represents fed taken now → represents fed (taken ++ placed ∷ []) next) → HasTaken represents old next held later
+  pub taken_more : (old now next : T) (held held_now later : List (Placed E)) (placed : Placed E) → HasTaken represents old now held held_now → held_now ≡ placed ∷ later → ((contents : List ℕ → Contents H E) (fed : List ℕ) (taken : List (Placed E)) → represents contents fed taken now → represents contents fed (taken ++ placed ∷ []) next) → HasTaken represents old next held later
   taken_more old now next held held_now later placed has first takes = record {
     front = has.front ++ placed ∷ [];
     split = has.split ∙ ap (λ (xs : List (Placed E)). has.front ++ xs) first ∙ sym (append_assoc has.front (placed ∷ []) later);
-    stands = λ fed taken stood. subst (λ (xs : List (Placed E)). represents fed xs next) (append_assoc taken has.front (placed ∷ [])) (takes fed (taken ++ has.front) (has.stands fed taken stood));
+    stands = λ contents fed taken stood. subst (λ (xs : List (Placed E)). represents contents fed xs next) (append_assoc taken has.front (placed ∷ [])) (takes contents fed (taken ++ has.front) (has.stands contents fed taken stood));
   }
 
-  pub taken_all : (old now next : T) (held held_now : List (Placed E)) → HasTaken represents old now held held_now → held_now ≡ [] → next ≡ now → (fed : List ℕ) (taken : List (Placed E)) → represents fed taken old → represents fed (taken ++ held) next
-  taken_all old now next held held_now has none same fed taken stood =
+  pub taken_all : (old now next : T) (held held_now : List (Placed E)) → HasTaken represents old now held held_now → held_now ≡ [] → next ≡ now → (contents : List ℕ → Contents H E) (fed : List ℕ) (taken : List (Placed E)) → represents contents fed taken old → represents contents fed (taken ++ held) next
+  taken_all old now next held held_now has none same contents fed taken stood =
       let whole : held ≡ has.front = has.split ∙ ap (λ (xs : List (Placed E)). has.front ++ xs) none ∙ append-nil has.front in
-      subst (λ (reader : T). represents fed (taken ++ held) reader) (sym same) (subst (λ (xs : List (Placed E)). represents fed (taken ++ xs) now) (sym whole) (has.stands fed taken stood))
+      subst (λ (reader : T). represents contents fed (taken ++ held) reader) (sym same) (subst (λ (xs : List (Placed E)). represents contents fed (taken ++ xs) now) (sym whole) (has.stands contents fed taken stood))
 
 pub first_good : {E : Type 0} (is_good : Placed E → Type 0) (held later : List (Placed E)) (placed : Placed E) → AllByRecursion is_good held → held ≡ placed ∷ later → is_good placed × AllByRecursion is_good later
 first_good is_good held later placed good first = subst (AllByRecursion is_good) first good

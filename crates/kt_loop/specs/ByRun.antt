@@ -10,15 +10,14 @@ use Rattle.kt_ends.specs.declared.status.Refusal.TheVariants.{Stream}
 use Rattle.kt_ends.specs.declared.status.Status.TheVariants.{Done, Refused}
 use Rattle.kt_loop.specs.declared.run_key.RunKey.{RunKey}
 use Rattle.kt_loop.specs.Calculation.{Step, Calculation}
-use Rattle.kt_loop.specs.Contents.{Contents}
 use Rattle.kt_loop.specs.Outcome.{gives}
-use Rattle.kt_loop.specs.Runs.{RunsRead, no_runs, with_run, joins, read_more}
+use Rattle.kt_loop.specs.Runs.{RunsRead, no_runs, with_run, bare, joins, read_more}
 
 -- what is written at the header, which refusal a record behind those of its run has, and what a closed run gives
 pub record RunCalculation (H E P R : Type 0) : Type 0 where
   pub opens : H → P → Step P R
   pub refuses : H → P → List (Placed E) → Placed E → Option R
-  pub closes : H → P → List (Placed E) → List ℕ
+  pub closes : H → P → List E → List ℕ
 
 -- what the stage was made with, and the records of the run that is open
 pub record OpenRun (P E : Type 0) : Type 0 where
@@ -35,10 +34,14 @@ abbrev pub judged : {E P R : Type 0} → P → List (Placed E) → Placed E → 
 judged kept run placed None = Ok (record { kept = kept; run = run ++ placed ∷ [] })
 judged kept run placed (Some refusal) = Err refusal
 
+-- what the records of a closed run give
+abbrev pub given : {H E P R : Type 0} → RunCalculation H E P R → H → P → List (Placed E) → List ℕ
+given runs head kept run = runs.closes head kept (bare run)
+
 -- what a run gives that is closed: nothing where there is none
 abbrev pub closing : {H E P R : Type 0} → RunCalculation H E P R → H → P → List (Placed E) → List ℕ
 closing runs head kept [] = []
-closing runs head kept (first ∷ later) = runs.closes head kept (first ∷ later)
+closing runs head kept (first ∷ later) = given runs head kept (first ∷ later)
 
 -- a record goes on the open run, or closes it and opens the next, also where it is then refused
 abbrev pub takes_run : {H E P R : Type 0} → RunCalculation H E P R → H → OpenRun P E → Placed E → Bool → Step (OpenRun P E) R
@@ -84,4 +87,4 @@ abbrev pub outcome_by_run : {H E P : Type 0} → (E → RunKey) → RunCalculati
 outcome_by_run key runs head opening (Err refusal) entries fault = gives (Refused refusal) opening
 outcome_by_run key runs head opening (Ok kept) entries fault =
     let read = judge_all key (runs.refuses head kept) no_runs entries in
-    runs_outcome opening (runs.closes head kept) fault read.runs read.refusal
+    runs_outcome opening (given runs head kept) fault read.runs read.refusal

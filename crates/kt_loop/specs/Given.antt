@@ -1,6 +1,6 @@
 -- What of a text a sink has taken, while the rest waits to be written.
 -- The rules: docs/STREAMS.md, "Tools over streams".
-use Rattle.std.specs.Prelude.{◌≡◌, List, ◌++◌, ℕ, Option, Some, None, IfSome, Result, Ok, Err}
+use Rattle.std.specs.Prelude.{◌≡◌, List, ◌++◌, ℕ, Option, Some, IfSome, Result, Ok, Err}
 use Rattle.kt_ends.specs.Ending.{GainedFront}
 
 -- the sink has taken a front of the text behind what it had, and the rest is pending

@@ -9,6 +9,7 @@ pub mod Carrying
 pub mod Outcome
 pub mod Settling
 pub mod Running
-pub mod SummaryStream
 pub mod Runs
 pub mod ByRun
+pub mod RunSteps
+pub mod RecordStreams

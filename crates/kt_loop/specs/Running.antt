@@ -1,11 +1,7 @@
 -- How a tool ends that carries out a calculation over a stream.
 -- The rules: docs/STREAMS.md, "Tools over streams".
 use Rattle.std.specs.Prelude.{◌≡◌, Bool, true, false, List, ℕ}
-use Rattle.kt_out.specs.InputFiles.{InputsState}
 use Rattle.kt_out.specs.NamedFiles.{FileMap}
-use Rattle.kt_out.specs.OutputFiles.{OutputsState}
-use Rattle.kt_out.specs.Reading.{SourceState}
-use Rattle.kt_out.specs.Writing.{SinkState}
 use Rattle.kt_ends.specs.Ending.{Ended}
 use Rattle.kt_ends.specs.Outcome.{Outcome}
 use Rattle.kt_ends.specs.World.{World, Uses, Finds, Keeps}
@@ -14,10 +10,6 @@ use Rattle.kt_ends.specs.declared.status.Status.{Status}
 use Rattle.kt_loop.specs.Calculation.{Calculation}
 use Rattle.kt_loop.specs.Contents.{Contents}
 use Rattle.kt_loop.specs.Outcome.{outcome}
-
--- the objects around a call
-abbrev pub around : InputsState → OutputsState → SourceState → SinkState → World
-around inputs outputs source sink = record { inputs = inputs; outputs = outputs; source = source; sink = sink }
 
 -- a tool over a stream uses the source and the sink, no output file, and the input files where it asks them
 abbrev pub stream_uses : Bool → Uses

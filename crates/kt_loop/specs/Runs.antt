@@ -1,8 +1,15 @@
 -- The runs of a stream: longest rows of records of one event with rising ids.
 -- The rules: docs/STREAMS.md, "Runs".
-use Rattle.std.specs.Prelude.{ℕ, Bool, true, false, nat_eq, nat_lt, ◌&&◌, ◌||◌, List, [], ◌∷◌, ◌++◌, if◌then◌else◌}
+use Rattle.std.specs.Prelude.{◌≡◌, ℕ, Bool, true, false, nat_eq, nat_lt, ◌&&◌, ◌||◌, List, [], ◌∷◌, ◌++◌}
+use Rattle.std.specs.List.{AllByRecursion, flat_map}
 use Rattle.kt_stream.specs.declared.entry.Placed.{Placed}
+use Rattle.kt_stream.specs.declared.entry.SummaryRecord.{SummaryRecord}
 use Rattle.kt_loop.specs.declared.run_key.RunKey.{RunKey}
+
+-- records without their places in the stream
+abbrev pub bare : {E : Type 0} → List (Placed E) → List E
+bare [] = []
+bare (placed ∷ later) = placed.entry ∷ bare later
 
 -- a record goes on the run of the record before it: the same event, and a greater id
 abbrev pub goes_on : RunKey → RunKey → Bool
@@ -44,3 +51,20 @@ read_all key runs (next ∷ later) = read_all key (read_more key runs next) late
 -- the runs of a list of records
 abbrev pub runs_of : {E : Type 0} → (E → RunKey) → List (Placed E) → List (List (Placed E))
 runs_of key entries = with_run (read_all key no_runs entries).closed (read_all key no_runs entries).last
+
+-- a summary record stands in a run by its event and its summary id
+abbrev pub summary_key : SummaryRecord → RunKey
+summary_key entry = record { event = entry.event; id = entry.summary; second = 0 }
+
+-- ---- lists of records one after the other
+
+-- no record of the one list has an event of the other
+abbrev pub OtherEvents : {E : Type 0} → (E → RunKey) → List (Placed E) → Placed E → Type 0
+OtherEvents key entries next = AllByRecursion (λ (placed : Placed _). nat_eq (key placed.entry).event (key next.entry).event ≡ false) entries
+
+abbrev pub ShareNoEvent : {E : Type 0} → (E → RunKey) → List (Placed E) → List (Placed E) → Type 0
+ShareNoEvent key first second = AllByRecursion (OtherEvents key first) second
+
+-- what records give, run after run
+abbrev pub given_by_runs : {E : Type 0} → (E → RunKey) → (List E → List ℕ) → List (Placed E) → List ℕ
+given_by_runs key closes entries = flat_map (λ run. closes (bare run)) (runs_of key entries)

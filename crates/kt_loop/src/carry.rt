@@ -7,6 +7,7 @@ ghost use Rattle.kt_stream.specs.declared.entry.Placed.{Placed};
 ghost use Rattle.kt_ends.specs.declared.status.Refusal.{Refusal};
 ghost use Rattle.kt_loop.specs.Calculation.{Course, opened, took, took_all};
 ghost use Rattle.kt_loop.specs.Carrying.{carried, header_if};
+ghost use Rattle.kt_loop.specs.Contents.{Contents};
 ghost use Rattle.kt_loop.specs.Counts.{Counts};
 ghost use Rattle.kt_loop.specs.Reading.{AreGood};
 ghost use Rattle.kt_loop.specs.Steps.{Stands, Comes};
@@ -25,7 +26,7 @@ const SPILL: usize = 65_536;
 /// Opens a stage.
 fn open_stage<H, E, W, T: Stage<H, E, W>, K: Sink>(
     stage: &mut T,
-    world: &mut W,
+    beside: &mut W,
     head: H,
     sink: &K,
     out: &mut Bytes,
@@ -33,17 +34,17 @@ fn open_stage<H, E, W, T: Stage<H, E, W>, K: Sink>(
     requires accepted { T.accepts head }
     requires ready { T.is_ready None stage.old }
 
-    ensures course { (before : Option (List ℕ)) (course : Course T.State Refusal) → Stands (λ state. T.is_at state stage.old world.old) before (K.state sink.now).taken out.old course → Comes (λ state. T.is_at state stage.new world.new) before (K.state sink.now).taken out.new (opened T.calculation head course) result }
+    ensures course { (before : Option (List ℕ)) (course : Course T.State Refusal) → Stands (λ state. T.is_at state stage.old beside.old) before (K.state sink.now).taken out.old course → Comes (λ state. T.is_at state stage.new beside.new) before (K.state sink.now).taken out.new (opened T.calculation head course) result }
     ensures ready { OnOk result (T.is_ready (Some head) stage.new) }
-    ensures counted { (beside : InputsState) → Counts (T.inputs beside world.old) (T.inputs beside world.new) (K.state sink.now).faults (K.state sink.now).faults result }
+    ensures counted { (others : InputsState) → Counts (T.inputs others beside.old) (T.inputs others beside.new) (K.state sink.now).faults (K.state sink.now).faults result }
 {
-    stage.open(world, head, out)
+    stage.open(beside, head, out)
 }
 
 /// Takes one record, and writes what is pending where that is much.
 fn take_one<H, E, W, T: Stage<H, E, W>, K: Sink>(
     stage: &mut T,
-    world: &mut W,
+    beside: &mut W,
     head: H,
     placed: Placed<E>,
     sink: &mut K,
@@ -53,12 +54,12 @@ fn take_one<H, E, W, T: Stage<H, E, W>, K: Sink>(
     requires good { T.is_good head placed }
     requires ready { T.is_ready (Some head) stage.old }
 
-    ensures course { (before : Option (List ℕ)) (course : Course T.State Refusal) → Stands (λ state. T.is_at state stage.old world.old) before (K.state sink.old).taken out.old course → Comes (λ state. T.is_at state stage.new world.new) before (K.state sink.new).taken out.new (took T.calculation head course placed) result }
+    ensures course { (before : Option (List ℕ)) (course : Course T.State Refusal) → Stands (λ state. T.is_at state stage.old beside.old) before (K.state sink.old).taken out.old course → Comes (λ state. T.is_at state stage.new beside.new) before (K.state sink.new).taken out.new (took T.calculation head course placed) result }
     ensures ready { OnOk result (T.is_ready (Some head) stage.new) }
-    ensures counted { (beside : InputsState) → Counts (T.inputs beside world.old) (T.inputs beside world.new) (K.state sink.old).faults (K.state sink.new).faults result }
+    ensures counted { (others : InputsState) → Counts (T.inputs others beside.old) (T.inputs others beside.new) (K.state sink.old).faults (K.state sink.new).faults result }
 {
     let Placed { at, entry } = placed;
-    if let Err(stop) = stage.take(world, head, at, entry, out) {
+    if let Err(stop) = stage.take(beside, head, at, entry, out) {
         return Err(stop);
     }
     if out.len() < SPILL {
@@ -71,7 +72,7 @@ fn take_one<H, E, W, T: Stage<H, E, W>, K: Sink>(
 fn take_held<R: StreamReader, W, T: Stage<R::Head, R::Entry, W>, K: Sink>(
     reader: &mut R,
     stage: &mut T,
-    world: &mut W,
+    beside: &mut W,
     head: R::Head,
     sink: &mut K,
     out: &mut Bytes,
@@ -80,14 +81,14 @@ fn take_held<R: StreamReader, W, T: Stage<R::Head, R::Entry, W>, K: Sink>(
     requires good { AllByRecursion (T.is_good head) (R.held reader.old) }
     requires ready { T.is_ready (Some head) stage.old }
 
-    ensures course { (before : Option (List ℕ)) (course : Course T.State Refusal) → Stands (λ state. T.is_at state stage.old world.old) before (K.state sink.old).taken out.old course → Comes (λ state. T.is_at state stage.new world.new) before (K.state sink.new).taken out.new (took_all T.calculation head course (R.held reader.old)) result }
-    ensures taken { OnOk result ((fed : List ℕ) (taken : List (Placed R.Entry)) → R.represents fed taken reader.old → R.represents fed (taken ++ R.held reader.old) reader.new) }
+    ensures course { (before : Option (List ℕ)) (course : Course T.State Refusal) → Stands (λ state. T.is_at state stage.old beside.old) before (K.state sink.old).taken out.old course → Comes (λ state. T.is_at state stage.new beside.new) before (K.state sink.new).taken out.new (took_all T.calculation head course (R.held reader.old)) result }
+    ensures taken { OnOk result ((contents : List ℕ → Contents R.Head R.Entry) (fed : List ℕ) (taken : List (Placed R.Entry)) → R.represents contents fed taken reader.old → R.represents contents fed (taken ++ R.held reader.old) reader.new) }
     ensures header { R.header reader.new ≡ R.header reader.old }
     ensures ready { OnOk result (T.is_ready (Some head) stage.new) }
-    ensures counted { (beside : InputsState) → Counts (T.inputs beside world.old) (T.inputs beside world.new) (K.state sink.old).faults (K.state sink.new).faults result }
+    ensures counted { (others : InputsState) → Counts (T.inputs others beside.old) (T.inputs others beside.new) (K.state sink.old).faults (K.state sink.new).faults result }
 {
     'records: while let Some(placed) = reader.take() {
-        if let Err(stop) = take_one(stage, world, head, placed, sink, out) {
+        if let Err(stop) = take_one(stage, beside, head, placed, sink, out) {
             return Err(stop);
         }
     }
@@ -100,18 +101,18 @@ pub(crate) fn carry_on<R: StreamReader, W, T: Stage<R::Head, R::Entry, W>, K: Si
     was_open: bool,
     reader: &mut R,
     stage: &mut T,
-    world: &mut W,
+    beside: &mut W,
     sink: &mut K,
     out: &mut Bytes,
 ) -> Result<(), ToolStop>
     requires good { AreGood T.accepts T.is_good (R.header reader.old) (R.held reader.old) }
     requires ready { T.is_ready (header_if was_open (R.header reader.old)) stage.old }
 
-    ensures course { (before : Option (List ℕ)) (course : Course T.State Refusal) → Stands (λ state. T.is_at state stage.old world.old) before (K.state sink.old).taken out.old course → Comes (λ state. T.is_at state stage.new world.new) before (K.state sink.new).taken out.new (carried T.calculation was_open (R.header reader.old) course (R.held reader.old)) result }
-    ensures taken { OnOk result ((fed : List ℕ) (taken : List (Placed R.Entry)) → R.represents fed taken reader.old → R.represents fed (R.contents fed).entries reader.new) }
+    ensures course { (before : Option (List ℕ)) (course : Course T.State Refusal) → Stands (λ state. T.is_at state stage.old beside.old) before (K.state sink.old).taken out.old course → Comes (λ state. T.is_at state stage.new beside.new) before (K.state sink.new).taken out.new (carried T.calculation was_open (R.header reader.old) course (R.held reader.old)) result }
+    ensures taken { OnOk result ((contents : List ℕ → Contents R.Head R.Entry) (fed : List ℕ) (taken : List (Placed R.Entry)) → R.represents contents fed taken reader.old → R.represents contents fed (contents fed).entries reader.new) }
     ensures header { R.header reader.new ≡ R.header reader.old }
     ensures ready { OnOk result (T.is_ready (R.header reader.new) stage.new) }
-    ensures counted { (beside : InputsState) → Counts (T.inputs beside world.old) (T.inputs beside world.new) (K.state sink.old).faults (K.state sink.new).faults result }
+    ensures counted { (others : InputsState) → Counts (T.inputs others beside.old) (T.inputs others beside.new) (K.state sink.old).faults (K.state sink.new).faults result }
 {
     R::what_is_read_stays();
     R::what_is_held_was_read();
@@ -119,10 +120,10 @@ pub(crate) fn carry_on<R: StreamReader, W, T: Stage<R::Head, R::Entry, W>, K: Si
         return Ok(());
     };
     if was_open {
-        return take_held(reader, stage, world, head, sink, out);
+        return take_held(reader, stage, beside, head, sink, out);
     }
-    if let Err(stop) = open_stage(stage, world, head, sink, out) {
+    if let Err(stop) = open_stage(stage, beside, head, sink, out) {
         return Err(stop);
     }
-    take_held(reader, stage, world, head, sink, out)
+    take_held(reader, stage, beside, head, sink, out)
 }

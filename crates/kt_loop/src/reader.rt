@@ -15,11 +15,9 @@ pub trait StreamReader {
     /// A record of a stream.
     type Entry;
 
-    /// What a stream of these bytes holds.
-    ghost contents: { List ℕ → Contents Self.Head Self.Entry };
-
-    /// The reader was given these bytes, in whatever pieces, and these records were taken from it.
-    ghost represents: { List ℕ → List (Placed Self.Entry) → Self → Type 0 };
+    /// The reader reads streams that hold this, by their bytes. It was given these bytes, in whatever pieces, and
+    /// these records were taken from it.
+    ghost represents: { (List ℕ → Contents Self.Head Self.Entry) → List ℕ → List (Placed Self.Entry) → Self → Type 0 };
 
     /// The header, once it is whole and good.
     ghost header: { Self → Option Self.Head };
@@ -34,18 +32,18 @@ pub trait StreamReader {
     /// Takes the next piece of the stream. What is wrong is refused, and so is each later piece; the whole records
     /// before can still be taken.
     fn feed(&mut self, piece: &[u8]) -> Result<(), StreamStop>
-        ensures { Feeds contents represents self.old piece.now self.new result };
+        ensures { Feeds represents self.old piece.now self.new result };
 
     /// Says that the stream ends here: Ok exactly where the bytes are a whole stream.
     fn finish(&mut self) -> Result<(), StreamStop>
-        ensures exact { Finishes contents represents self.old result }
+        ensures exact { Finishes represents self.old result }
 
         ensures unchanged { self.new ≡ self.old };
 
     /// The next whole record, if one is held.
     fn take(&mut self) -> Option<Placed<Self::Entry>>
         ensures found { IfSome result (λ first. held self.old ≡ first ∷ held self.new) }
-        ensures stands { IfSome result (λ first. (fed : List ℕ) (taken : List (Placed Self.Entry)) → represents fed taken self.old → represents fed (taken ++ first ∷ []) self.new) }
+        ensures stands { IfSome result (λ first. (contents : List ℕ → Contents Self.Head Self.Entry) (fed : List ℕ) (taken : List (Placed Self.Entry)) → represents contents fed taken self.old → represents contents fed (taken ++ first ∷ []) self.new) }
 
         ensures absent { IfNone result (held self.old ≡ []) }
         ensures unchanged { IfNone result (self.new ≡ self.old) }
@@ -54,9 +52,9 @@ pub trait StreamReader {
 
     /// What was read stays with more bytes behind: a theorem, as a function with an empty body.
     fn what_is_read_stays()
-        ensures { (fed more : List ℕ) → Grows (contents fed) (contents (fed ++ more)) };
+        ensures { (contents : List ℕ → Contents Self.Head Self.Entry) (fed : List ℕ) (taken : List (Placed Self.Entry)) (reader : Self) → represents contents fed taken reader → (bytes : List ℕ) (more : List ℕ) → Grows (contents bytes) (contents (bytes ++ more)) };
 
     /// What was taken and what is held is what was read: a theorem, as a function with an empty body.
     fn what_is_held_was_read()
-        ensures { (fed : List ℕ) (taken : List (Placed Self.Entry)) (reader : Self) → represents fed taken reader → IsRead (contents fed) taken (header reader) (held reader) };
+        ensures { (contents : List ℕ → Contents Self.Head Self.Entry) (fed : List ℕ) (taken : List (Placed Self.Entry)) (reader : Self) → represents contents fed taken reader → IsRead (contents fed) taken (header reader) (held reader) };
 }

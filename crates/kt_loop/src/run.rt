@@ -8,11 +8,13 @@ ghost use Rattle.kt_out.specs.Reading.{SourceState};
 ghost use Rattle.kt_out.specs.Writing.{SinkState};
 ghost use Rattle.kt_ends.specs.Ending.{AtEnd, Counted};
 ghost use Rattle.kt_ends.specs.Outcome.{Outcome};
+ghost use Rattle.kt_ends.specs.World.{world};
 ghost use Rattle.kt_ends.specs.Stops.{end_status, stop_status};
+ghost use Rattle.kt_loop.specs.Contents.{Contents};
 ghost use Rattle.kt_loop.specs.Counts.{CountsRead, StopCounts};
 ghost use Rattle.kt_loop.specs.Outcome.{outcome};
-ghost use Rattle.kt_loop.specs.Reading.{AreGood};
-ghost use Rattle.kt_loop.specs.Running.{EndsRun, around};
+ghost use Rattle.kt_loop.specs.Reading.{IsFresh, ReadsGood};
+ghost use Rattle.kt_loop.specs.Running.{EndsRun};
 ghost use Rattle.kt_loop.specs.Settling.{Settles, StopSettles, IsEnd};
 
 use crate::reader::StreamReader;
@@ -44,18 +46,18 @@ fn read_all<R: StreamReader, W, T: Stage<R::Head, R::Entry, W>, S: Source, K: Si
     alloc: Global,
     reader: &mut R,
     stage: &mut T,
-    world: &mut W,
+    beside: &mut W,
     source: &mut S,
     sink: &mut K,
     out: &mut Bytes,
 ) -> Result<(), ToolStop>
-    requires fresh { R.represents [] [] reader.old }
-    requires good { (fed : List ℕ) → AreGood T.accepts T.is_good (R.contents fed).head (R.contents fed).entries }
+    requires fresh { IsFresh R.represents reader.old }
+    requires good { ReadsGood R.represents T.accepts T.is_good [] reader.old }
     requires ready { T.is_ready None stage.old }
     requires empty { out.old ≡ [] }
 
-    ensures settled { (start : T.State) → T.is_at start stage.old world.old → IfSome (S.state source.old).left (λ bytes. Settles (outcome T.calculation start (R.contents bytes)) (K.state sink.old).taken (K.state sink.new).taken out.new result) }
-    ensures counted { (others : InputsState) → CountsRead (T.inputs others world.old) (T.inputs others world.new) (S.state source.old).faults (S.state source.new).faults (K.state sink.old).faults (K.state sink.new).faults result }
+    ensures settled { (contents : List ℕ → Contents R.Head R.Entry) (start : T.State) → R.represents contents [] [] reader.old → T.is_at start stage.old beside.old → IfSome (S.state source.old).left (λ bytes. Settles (outcome T.calculation start (contents bytes)) (K.state sink.old).taken (K.state sink.new).taken out.new result) }
+    ensures counted { (others : InputsState) → CountsRead (T.inputs others beside.old) (T.inputs others beside.new) (S.state source.old).faults (S.state source.new).faults (K.state sink.old).faults (K.state sink.new).faults result }
     ensures at_end { AtEnd (S.state source.old).left (S.state source.new).left (end_status result) }
 {
     R::what_is_read_stays();
@@ -63,7 +65,7 @@ fn read_all<R: StreamReader, W, T: Stage<R::Head, R::Entry, W>, S: Source, K: Si
     let Ok(mut block) = zeros(alloc, BLOCK) else {
         return Err(ToolStop::NoMemory);
     };
-    if let Err(why) = begin(reader, stage, world, sink, out) {
+    if let Err(why) = begin(reader, stage, beside, sink, out) {
         return Err(why);
     }
     'turns: for _ in 0..TURNS {
@@ -72,9 +74,9 @@ fn read_all<R: StreamReader, W, T: Stage<R::Head, R::Entry, W>, S: Source, K: Si
             Err(_) => return Err(ToolStop::ReadFault),
         };
         if read == 0 {
-            return finish(reader, stage, world, sink, out);
+            return finish(reader, stage, beside, sink, out);
         }
-        let stop = match turn(reader, &block[..read], stage, world, sink, out) {
+        let stop = match turn(reader, &block[..read], stage, beside, sink, out) {
             Ok(stop) => stop,
             Err(why) => return Err(why),
         };
@@ -88,7 +90,7 @@ fn read_all<R: StreamReader, W, T: Stage<R::Head, R::Entry, W>, S: Source, K: Si
 /// Writes what is pending behind a refusal: how the run ends that stopped so.
 fn settle<K: Sink>(stop: ToolStop, sink: &mut K, out: &mut Bytes) -> ToolStop
     ensures end { (made : Outcome) (before : Option (List ℕ)) → StopSettles made before (K.state sink.old).taken out.old stop → IsEnd made before (K.state sink.new).taken (stop_status result) }
-    ensures counted { (inputs : InputsState) (inputs_now : InputsState) (outputs : OutputsState) (source : SourceState) (source_now : SourceState) (first : SinkState) → StopCounts inputs inputs_now source.faults source_now.faults first.faults (K.state sink.old).faults stop → Counted (around inputs outputs source first) (around inputs_now outputs source_now (K.state sink.new)) (stop_status result) }
+    ensures counted { (inputs : InputsState) (inputs_now : InputsState) (outputs : OutputsState) (source : SourceState) (source_now : SourceState) (first : SinkState) → StopCounts inputs inputs_now source.faults source_now.faults first.faults (K.state sink.old).faults stop → Counted (world inputs outputs source first) (world inputs_now outputs source_now (K.state sink.new)) (stop_status result) }
 {
     match stop {
         ToolStop::Refused(refusal) => match spill(sink, out) {
@@ -106,18 +108,18 @@ pub fn run_stage<R: StreamReader, W, T: Stage<R::Head, R::Entry, W>, S: Source, 
     alloc: Global,
     reader: &mut R,
     stage: &mut T,
-    world: &mut W,
+    beside: &mut W,
     source: &mut S,
     sink: &mut K,
 ) -> Result<(), ToolStop>
-    requires fresh { R.represents [] [] reader.old }
-    requires good { (fed : List ℕ) → AreGood T.accepts T.is_good (R.contents fed).head (R.contents fed).entries }
+    requires fresh { IsFresh R.represents reader.old }
+    requires good { ReadsGood R.represents T.accepts T.is_good [] reader.old }
     requires ready { T.is_ready None stage.old }
 
-    ensures ended { (asks : Bool) (made : FileMap → List ℕ → Outcome) (others : InputsState) (outputs : OutputsState) → EndsRun T.calculation R.contents (λ state. T.is_at state stage.old world.old) asks made (around (T.inputs others world.old) outputs (S.state source.old) (K.state sink.old)) (around (T.inputs others world.new) outputs (S.state source.new) (K.state sink.new)) (end_status result) }
+    ensures ended { (asks : Bool) (made : FileMap → List ℕ → Outcome) (others : InputsState) (outputs : OutputsState) (contents : List ℕ → Contents R.Head R.Entry) → R.represents contents [] [] reader.old → EndsRun T.calculation contents (λ state. T.is_at state stage.old beside.old) asks made (world (T.inputs others beside.old) outputs (S.state source.old) (K.state sink.old)) (world (T.inputs others beside.new) outputs (S.state source.new) (K.state sink.new)) (end_status result) }
 {
     let mut out = Bytes::new(alloc);
-    match read_all(alloc, reader, stage, world, source, sink, &mut out) {
+    match read_all(alloc, reader, stage, beside, source, sink, &mut out) {
         Ok(()) => spill(sink, &mut out),
         Err(stop) => Err(settle(stop, sink, &mut out)),
     }

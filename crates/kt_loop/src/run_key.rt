@@ -29,7 +29,7 @@ pub trait RunRecord {
 }
 
 impl RunRecord for SummaryRecord {
-    ghost use Rattle.kt_loop.specs.SummaryStream.{summary_key};
+    ghost use Rattle.kt_loop.specs.Runs.{summary_key};
 
     ghost key = { summary_key };
 

@@ -36,29 +36,36 @@ pub trait Stage<H, E, W> {
     ghost inputs: { InputsState → W → InputsState };
 
     /// Appends what is written at the header.
-    fn open(&mut self, world: &mut W, head: H, out: &mut Bytes) -> Result<(), ToolStop>
+    fn open(&mut self, beside: &mut W, head: H, out: &mut Bytes) -> Result<(), ToolStop>
         requires accepted { accepts head }
         requires ready { is_ready None self.old }
 
-        ensures step { (state : State) → is_at state self.old world.old → StepsBy (calculation.opens head state) (λ next. is_at next self.new world.new) out.old out.new result }
+        ensures step { (state : State) → is_at state self.old beside.old → StepsBy (calculation.opens head state) (λ next. is_at next self.new beside.new) out.old out.new result }
         ensures ready { OnOk result (is_ready (Some head) self.new) }
-        ensures counted { (beside : InputsState) → Consults (inputs beside world.old) (inputs beside world.new) result };
+        ensures counted { (others : InputsState) → Consults (inputs others beside.old) (inputs others beside.new) result };
 
     /// Appends what is written at a record, which begins at this byte of the stream.
-    fn take(&mut self, world: &mut W, head: H, at: u64, entry: E, out: &mut Bytes) -> Result<(), ToolStop>
+    fn take(
+        &mut self,
+        beside: &mut W,
+        head: H,
+        at: u64,
+        entry: E,
+        out: &mut Bytes,
+    ) -> Result<(), ToolStop>
         requires accepted { accepts head }
         requires good { is_good head (record { at = at; entry = entry }) }
         requires ready { is_ready (Some head) self.old }
 
-        ensures step { (state : State) → is_at state self.old world.old → StepsBy (calculation.takes head state (record { at = at; entry = entry })) (λ next. is_at next self.new world.new) out.old out.new result }
+        ensures step { (state : State) → is_at state self.old beside.old → StepsBy (calculation.takes head state (record { at = at; entry = entry })) (λ next. is_at next self.new beside.new) out.old out.new result }
         ensures ready { OnOk result (is_ready (Some head) self.new) }
-        ensures counted { (beside : InputsState) → Consults (inputs beside world.old) (inputs beside world.new) result };
+        ensures counted { (others : InputsState) → Consults (inputs others beside.old) (inputs others beside.new) result };
 
     /// Appends what is written at the end of the stream.
-    fn end(&mut self, world: &mut W, head: H, out: &mut Bytes) -> Result<(), ToolStop>
+    fn end(&mut self, beside: &mut W, head: H, out: &mut Bytes) -> Result<(), ToolStop>
         requires accepted { accepts head }
         requires ready { is_ready (Some head) self.old }
 
-        ensures end { (state : State) → is_at state self.old world.old → EndsWith (calculation.ends head state) out.old out.new result }
-        ensures counted { (beside : InputsState) → Consults (inputs beside world.old) (inputs beside world.new) result };
+        ensures end { (state : State) → is_at state self.old beside.old → EndsWith (calculation.ends head state) out.old out.new result }
+        ensures counted { (others : InputsState) → Consults (inputs others beside.old) (inputs others beside.new) result };
 }

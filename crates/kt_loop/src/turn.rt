@@ -4,9 +4,10 @@ ghost use Rattle.std.specs.Prelude.{◌≡◌, ℕ, List, [], ◌++◌, Option, 
 ghost use Rattle.kt_out.specs.InputFiles.{InputsState};
 ghost use Rattle.kt_ends.specs.declared.status.Refusal.{Refusal};
 ghost use Rattle.kt_loop.specs.Calculation.{course_of, started};
+ghost use Rattle.kt_loop.specs.Contents.{Contents};
 ghost use Rattle.kt_loop.specs.Counts.{Counts};
 ghost use Rattle.kt_loop.specs.Outcome.{outcome};
-ghost use Rattle.kt_loop.specs.Reading.{AreGood, FeedsPiece, FeedsBy, Stood};
+ghost use Rattle.kt_loop.specs.Reading.{FeedsPiece, FeedsBy, IsFresh, ReadsGood, Stood};
 ghost use Rattle.kt_loop.specs.Settling.{Settles};
 ghost use Rattle.kt_loop.specs.Steps.{Stands, Comes};
 
@@ -20,8 +21,11 @@ use kt_stream::StreamStop;
 use std::alloc::AllocError;
 
 /// Feeds a piece: what refuses the stream, if anything does.
-fn feed_piece<R: StreamReader>(reader: &mut R, piece: &[u8]) -> Result<Option<StreamStop>, AllocError>
-    ensures { IfOk result (λ stop. FeedsPiece R.contents R.represents reader.old piece.now reader.new stop) }
+fn feed_piece<R: StreamReader>(
+    reader: &mut R,
+    piece: &[u8],
+) -> Result<Option<StreamStop>, AllocError>
+    ensures { IfOk result (λ stop. FeedsPiece R.represents reader.old piece.now reader.new stop) }
 {
     match reader.feed(piece) {
         Ok(()) => Ok(None),
@@ -34,21 +38,21 @@ fn feed_piece<R: StreamReader>(reader: &mut R, piece: &[u8]) -> Result<Option<St
 pub(crate) fn begin<R: StreamReader, W, T: Stage<R::Head, R::Entry, W>, K: Sink>(
     reader: &mut R,
     stage: &mut T,
-    world: &mut W,
+    beside: &mut W,
     sink: &mut K,
     out: &mut Bytes,
 ) -> Result<(), ToolStop>
-    requires fresh { R.represents [] [] reader.old }
-    requires good { AreGood T.accepts T.is_good (R.contents []).head (R.contents []).entries }
+    requires fresh { IsFresh R.represents reader.old }
+    requires good { ReadsGood R.represents T.accepts T.is_good [] reader.old }
     requires ready { T.is_ready None stage.old }
 
-    ensures stands { IfOk result (λ done. R.represents [] (R.contents []).entries reader.new) }
-    ensures course { (before : Option (List ℕ)) (start : T.State) → Stands {R = Refusal} (λ state. T.is_at state stage.old world.old) before (K.state sink.old).taken out.old (started start) → Comes (λ state. T.is_at state stage.new world.new) before (K.state sink.new).taken out.new (course_of T.calculation start (R.contents []).head (R.contents []).entries) result }
+    ensures stands { IfOk result (λ done. (contents : List ℕ → Contents R.Head R.Entry) → R.represents contents [] [] reader.old → R.represents contents [] (contents []).entries reader.new) }
+    ensures course { (contents : List ℕ → Contents R.Head R.Entry) (before : Option (List ℕ)) (start : T.State) → R.represents contents [] [] reader.old → Stands {R = Refusal} (λ state. T.is_at state stage.old beside.old) before (K.state sink.old).taken out.old (started start) → Comes (λ state. T.is_at state stage.new beside.new) before (K.state sink.new).taken out.new (course_of T.calculation start (contents []).head (contents []).entries) result }
     ensures ready { IfOk result (λ done. T.is_ready (R.header reader.new) stage.new) }
-    ensures counted { (beside : InputsState) → Counts (T.inputs beside world.old) (T.inputs beside world.new) (K.state sink.old).faults (K.state sink.new).faults result }
+    ensures counted { (others : InputsState) → Counts (T.inputs others beside.old) (T.inputs others beside.new) (K.state sink.old).faults (K.state sink.new).faults result }
 {
     R::what_is_held_was_read();
-    carry_on(false, reader, stage, world, sink, out)
+    carry_on(false, reader, stage, beside, sink, out)
 }
 
 /// Feeds a piece of the stream, and carries on with all that is whole by it: what refuses the stream, if anything does.
@@ -56,18 +60,17 @@ pub(crate) fn turn<R: StreamReader, W, T: Stage<R::Head, R::Entry, W>, K: Sink>(
     reader: &mut R,
     piece: &[u8],
     stage: &mut T,
-    world: &mut W,
+    beside: &mut W,
     sink: &mut K,
     out: &mut Bytes,
 ) -> Result<Option<StreamStop>, ToolStop>
-    requires stood { Stood R.contents R.represents reader.old }
-    requires good { (fed : List ℕ) → AreGood T.accepts T.is_good (R.contents fed).head (R.contents fed).entries }
+    requires stood { Stood R.represents T.accepts T.is_good reader.old }
     requires ready { T.is_ready (R.header reader.old) stage.old }
 
-    ensures stands { IfOk result (λ stop. (fed : List ℕ) → R.represents fed (R.contents fed).entries reader.old → FeedsBy R.contents R.represents stop (fed ++ piece.now) (R.contents (fed ++ piece.now)).entries reader.new) }
-    ensures course { (before : Option (List ℕ)) (fed : List ℕ) (start : T.State) → R.represents fed (R.contents fed).entries reader.old → Stands (λ state. T.is_at state stage.old world.old) before (K.state sink.old).taken out.old (course_of T.calculation start (R.contents fed).head (R.contents fed).entries) → Comes (λ state. T.is_at state stage.new world.new) before (K.state sink.new).taken out.new (course_of T.calculation start (R.contents (fed ++ piece.now)).head (R.contents (fed ++ piece.now)).entries) result }
+    ensures stands { IfOk result (λ stop. (contents : List ℕ → Contents R.Head R.Entry) (fed : List ℕ) → R.represents contents fed (contents fed).entries reader.old → FeedsBy contents (R.represents contents) stop (fed ++ piece.now) (contents (fed ++ piece.now)).entries reader.new) }
+    ensures course { (contents : List ℕ → Contents R.Head R.Entry) (before : Option (List ℕ)) (fed : List ℕ) (start : T.State) → R.represents contents fed (contents fed).entries reader.old → Stands (λ state. T.is_at state stage.old beside.old) before (K.state sink.old).taken out.old (course_of T.calculation start (contents fed).head (contents fed).entries) → Comes (λ state. T.is_at state stage.new beside.new) before (K.state sink.new).taken out.new (course_of T.calculation start (contents (fed ++ piece.now)).head (contents (fed ++ piece.now)).entries) result }
     ensures ready { IfOk result (λ stop. T.is_ready (R.header reader.new) stage.new) }
-    ensures counted { (beside : InputsState) → Counts (T.inputs beside world.old) (T.inputs beside world.new) (K.state sink.old).faults (K.state sink.new).faults result }
+    ensures counted { (others : InputsState) → Counts (T.inputs others beside.old) (T.inputs others beside.new) (K.state sink.old).faults (K.state sink.new).faults result }
 {
     R::what_is_read_stays();
     R::what_is_held_was_read();
@@ -76,7 +79,7 @@ pub(crate) fn turn<R: StreamReader, W, T: Stage<R::Head, R::Entry, W>, K: Sink>(
         Ok(stop) => stop,
         Err(_) => return Err(ToolStop::NoMemory),
     };
-    if let Err(why) = carry_on(was_open, reader, stage, world, sink, out) {
+    if let Err(why) = carry_on(was_open, reader, stage, beside, sink, out) {
         return Err(why);
     }
     Ok(stop)
@@ -86,16 +89,15 @@ pub(crate) fn turn<R: StreamReader, W, T: Stage<R::Head, R::Entry, W>, K: Sink>(
 pub(crate) fn finish<R: StreamReader, W, T: Stage<R::Head, R::Entry, W>, K: Sink>(
     reader: &mut R,
     stage: &mut T,
-    world: &mut W,
+    beside: &mut W,
     sink: &K,
     out: &mut Bytes,
 ) -> Result<(), ToolStop>
-    requires stood { Stood R.contents R.represents reader.old }
-    requires good { (fed : List ℕ) → AreGood T.accepts T.is_good (R.contents fed).head (R.contents fed).entries }
+    requires stood { Stood R.represents T.accepts T.is_good reader.old }
     requires ready { T.is_ready (R.header reader.old) stage.old }
 
-    ensures course { (before : Option (List ℕ)) (fed : List ℕ) (start : T.State) → R.represents fed (R.contents fed).entries reader.old → Stands (λ state. T.is_at state stage.old world.old) before (K.state sink.now).taken out.old (course_of T.calculation start (R.contents fed).head (R.contents fed).entries) → Settles (outcome T.calculation start (R.contents fed)) before (K.state sink.now).taken out.new result }
-    ensures counted { (beside : InputsState) → Counts (T.inputs beside world.old) (T.inputs beside world.new) (K.state sink.now).faults (K.state sink.now).faults result }
+    ensures course { (contents : List ℕ → Contents R.Head R.Entry) (before : Option (List ℕ)) (fed : List ℕ) (start : T.State) → R.represents contents fed (contents fed).entries reader.old → Stands (λ state. T.is_at state stage.old beside.old) before (K.state sink.now).taken out.old (course_of T.calculation start (contents fed).head (contents fed).entries) → Settles (outcome T.calculation start (contents fed)) before (K.state sink.now).taken out.new result }
+    ensures counted { (others : InputsState) → Counts (T.inputs others beside.old) (T.inputs others beside.new) (K.state sink.now).faults (K.state sink.now).faults result }
 {
     R::what_is_held_was_read();
     if let Err(stop) = reader.finish() {
@@ -104,5 +106,5 @@ pub(crate) fn finish<R: StreamReader, W, T: Stage<R::Head, R::Entry, W>, K: Sink
     let Some(head) = reader.head() else {
         return Ok(());
     };
-    stage.end(world, head, out)
+    stage.end(beside, head, out)
 }

@@ -1,12 +1,12 @@
-use Rattle.std.proofs.Common.{◌∙◌, Ok, Err}
+use Rattle.std.proofs.Common.{◌∙◌, Err}
 use Rattle.kt_loop.proofs.Stepping.{counts_behind, no_inputs}
-use Rattle.kt_loop.proofs.Taking.{carried_none, carried_more, carried_until, carried_all, taken_none, taken_more, taken_all, first_good}
+use Rattle.kt_loop.proofs.Taking.{carried_more, carried_until, carried_all, taken_more, first_good}
 use Rattle.kt_loop.proofs.carry.take_held.Goals as goal
 
 pub returns-in-Err-clause-course : goal.returns-in-Err-clause-course
 returns-in-Err-clause-course g c before course standing =
     let going = c.records.invariant.course before course standing in
-    carried_until g.T.Stage.calculation c.args.head _ (λ state. g.T.Stage.is_at state c.take_one.new.stage c.take_one.new.world) before _ _ _ c.take_one.new.out _ _ _ c.in-Some.placed going c.in-Some.ensures.found (Unit {0}) c.in-Err.stop
+    carried_until g.T.Stage.calculation c.args.head _ (λ state. g.T.Stage.is_at state c.take_one.new.stage c.take_one.new.beside) before _ _ _ c.take_one.new.out _ _ _ c.in-Some.placed going c.in-Some.ensures.found (Unit {0}) c.in-Err.stop
     (c.in-Err.ensures.course before going.course going.standing)
 
 pub returns-in-Err-clause-counted : goal.returns-in-Err-clause-counted
@@ -20,7 +20,7 @@ records-preserved g c = record {
   taken = taken_more g.R.StreamReader.represents _ _ _ _ _ _ c.in-Some.placed c.records.invariant.taken c.in-Some.ensures.found c.in-Some.ensures.stands;
   course = λ before course standing.
       let going = c.records.invariant.course before course standing in
-      carried_more g.T.Stage.calculation c.args.head _ (λ state. g.T.Stage.is_at state c.take_one.new.stage c.take_one.new.world) before _ _ _ c.take_one.new.out _ _ _ c.in-Some.placed going c.in-Some.ensures.found
+      carried_more g.T.Stage.calculation c.args.head _ (λ state. g.T.Stage.is_at state c.take_one.new.stage c.take_one.new.beside) before _ _ _ c.take_one.new.out _ _ _ c.in-Some.placed going c.in-Some.ensures.found
       (c.in_default-take_one.ensures.course before going.course going.standing);
   inputs = λ beside. (c.in_default-take_one.ensures.counted beside).of_inputs ∙ c.records.invariant.inputs beside;
   faults = (c.in_default-take_one.ensures.counted no_inputs).of_sink ∙ c.records.invariant.faults;
@@ -28,4 +28,4 @@ records-preserved g c = record {
 
 pub returns-clause-course : goal.returns-clause-course
 returns-clause-course g c before course standing =
-    carried_all g.T.Stage.calculation c.args.head (λ state. g.T.Stage.is_at state c.records.stage c.records.world) before _ c.records.out _ _ (c.records.invariant.course before course standing) c.in_default.ensures.absent
+    carried_all g.T.Stage.calculation c.args.head (λ state. g.T.Stage.is_at state c.records.stage c.records.beside) before _ c.records.out _ _ (c.records.invariant.course before course standing) c.in_default.ensures.absent

@@ -14,9 +14,9 @@ invariant-records g l = record {
   ready : g.T.Stage.is_ready (Some l.head) l.stage;
   header : g.R.StreamReader.header l.reader ≡ g.R.StreamReader.header l.fn.reader;
   taken : HasTaken g.R.StreamReader.represents l.fn.reader l.reader (g.R.StreamReader.held l.fn.reader) (g.R.StreamReader.held l.reader);
-  course : (before : Option (List ℕ)) (course : Course g.T.Stage.State Refusal) → Stands (λ state. g.T.Stage.is_at state l.fn.stage l.fn.world) before (g.K.Sink.state l.fn.sink).taken l.fn.out course
-      → IsCarried g.T.Stage.calculation l.head (λ state. g.T.Stage.is_at state l.stage l.world) before (g.K.Sink.state l.sink).taken l.out (took_all g.T.Stage.calculation l.head course (g.R.StreamReader.held l.fn.reader)) (g.R.StreamReader.held l.reader);
-  inputs : (beside : InputsState) → g.T.Stage.inputs beside l.world ≡ g.T.Stage.inputs beside l.fn.world;
+  course : (before : Option (List ℕ)) (course : Course g.T.Stage.State Refusal) → Stands (λ state. g.T.Stage.is_at state l.fn.stage l.fn.beside) before (g.K.Sink.state l.fn.sink).taken l.fn.out course
+      → IsCarried g.T.Stage.calculation l.head (λ state. g.T.Stage.is_at state l.stage l.beside) before (g.K.Sink.state l.sink).taken l.out (took_all g.T.Stage.calculation l.head course (g.R.StreamReader.held l.fn.reader)) (g.R.StreamReader.held l.reader);
+  inputs : (beside : InputsState) → g.T.Stage.inputs beside l.beside ≡ g.T.Stage.inputs beside l.fn.beside;
   faults : (g.K.Sink.state l.sink).faults ≡ (g.K.Sink.state l.fn.sink).faults;
 }
 

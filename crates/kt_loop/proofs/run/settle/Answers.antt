@@ -1,4 +1,4 @@
-use Rattle.std.proofs.Common.{Ok, Err, refl, subst}
+use Rattle.std.proofs.Common.{subst}
 use Rattle.kt_loop.specs.Counts.{StopCounts}
 use Rattle.kt_loop.specs.Settling.{StopSettles}
 use Rattle.kt_loop.proofs.Ending.{unwritten_end, refused_end, stopped_end, counted_writing, counted_refused, counted_stopped, refused_none}
