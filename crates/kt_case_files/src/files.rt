@@ -107,13 +107,16 @@ impl Files {
         self.get(SOURCE).unwrap_or(&[])
     }
 
-    /// Takes a line. Answers whether it is about files.
+    /// Takes a line. Answers whether it is about files; a question, with ` => ` before its answer, is not.
     pub fn take(&mut self, line: &str) -> Result<bool, BadLine> {
         if let Some(row) = line.strip_prefix("  ") {
             self.take_row(row)?;
             return Ok(true);
         }
         self.close()?;
+        if line.split_once(" => ").is_some() {
+            return Ok(false);
+        }
         let words: Vec<&str> = line.split_whitespace().collect(self.alloc)?;
         self.change(&words)
     }

@@ -2,7 +2,7 @@
 
 use crate::answers::load_text;
 use crate::inputs::SaidSize;
-use kt_case_files::Files;
+use kt_case_files::{BadLine, Files, number};
 use kt_checks::Need;
 use kt_load::{LoadStop, file_name, load, load_order};
 use kt_out::MemInputs;
@@ -15,17 +15,17 @@ use std::alloc::{AllocError, Global};
 pub(crate) struct Case {
     alloc: Global,
     /// How the names of the files begin that are loaded; all of them are where there is none.
-    pub(crate) loaded: Vec<String>,
+    loaded: Vec<String>,
     /// A file that says another size than it has.
-    pub(crate) said: Option<(String, u64)>,
+    said: Option<(String, u64)>,
     /// What the load is needed for.
-    pub(crate) samples: u32,
-    pub(crate) rule: u32,
-    pub(crate) net: bool,
+    samples: u32,
+    rule: u32,
+    net: bool,
     /// The most bytes that a call moves.
-    pub(crate) piece: u64,
+    piece: u64,
     /// The call that fails, counted from 1; 0 for none.
-    pub(crate) failing: u64,
+    failing: u64,
 }
 
 impl Case {
@@ -41,6 +41,46 @@ impl Case {
             piece: 1 << 20,
             failing: 0,
         }
+    }
+
+    /// Takes a line that changes the case.
+    pub(crate) fn change(&mut self, line: &str) -> Result<(), BadLine> {
+        let words: Vec<&str> = line.split_whitespace().collect(self.alloc)?;
+        match *words.as_slice() {
+            ["gross"] => self.net = false,
+            ["of", ref fronts @ ..] => self.choose(fronts)?,
+            ["says", name, size] => self.say(name, number(size)?)?,
+            [setting, value] => self.set(setting, number(value)?)?,
+            _ => return Err(BadLine::NoSuchLine),
+        }
+        Ok(())
+    }
+
+    /// Sets a number.
+    fn set(&mut self, setting: &str, value: u32) -> Result<(), BadLine> {
+        match setting {
+            "samples" => self.samples = value,
+            "rule" => self.rule = value,
+            "piece" => self.piece = value as u64,
+            "fails" => self.failing = value as u64,
+            _ => return Err(BadLine::NoSuchLine),
+        }
+        Ok(())
+    }
+
+    /// Chooses the files that are loaded.
+    fn choose(&mut self, fronts: &[&str]) -> Result<(), AllocError> {
+        for front in fronts {
+            let front = String::from_str(self.alloc, front)?;
+            self.loaded.push(front)?;
+        }
+        Ok(())
+    }
+
+    /// A file says this size.
+    fn say(&mut self, name: &str, size: u32) -> Result<(), AllocError> {
+        self.said = Some((String::from_str(self.alloc, name)?, size as u64));
+        Ok(())
     }
 
     /// Whether a file is loaded.

@@ -74,36 +74,13 @@ impl Script {
         Ok(())
     }
 
-    /// Takes a line that changes the case.
+    /// Takes a line that begins a case or changes it.
     fn change(&mut self, line: &str) -> Result<(), BadLine> {
-        let words: Vec<&str> = line.split_whitespace().collect(self.alloc)?;
-        match *words.as_slice() {
-            ["case", ..] => self.begin(line)?,
-            ["samples", samples] => self.case.samples = number(samples)?,
-            ["rule", rule] => self.case.rule = number(rule)?,
-            ["gross"] => self.case.net = false,
-            ["piece", piece] => self.case.piece = number(piece)? as u64,
-            ["fails", call] => self.case.failing = number(call)? as u64,
-            ["of", ref fronts @ ..] => self.choose(fronts)?,
-            ["says", name, size] => self.say(name, number(size)? as u64)?,
-            _ => return Err(BadLine::NoSuchLine),
+        if line.starts_with("case ") {
+            self.begin(line)?;
+            return Ok(());
         }
-        Ok(())
-    }
-
-    /// Chooses the files that are loaded.
-    fn choose(&mut self, fronts: &[&str]) -> Result<(), AllocError> {
-        for front in fronts {
-            let front = String::from_str(self.alloc, front)?;
-            self.case.loaded.push(front)?;
-        }
-        Ok(())
-    }
-
-    /// A file says this size.
-    fn say(&mut self, name: &str, size: u64) -> Result<(), AllocError> {
-        self.case.said = Some((String::from_str(self.alloc, name)?, size));
-        Ok(())
+        self.case.change(line)
     }
 
     /// The answer of a question: a load, or a lookup in what was loaded last.
@@ -111,7 +88,7 @@ impl Script {
         match *words {
             ["load"] => Ok(self.load()?),
             ["load", "failing", "1", "to", calls] => self.load_with_each_failing(calls),
-            _ => self.look_up(words),
+            _ => Ok(self.look_up(words)?),
         }
     }
 
@@ -130,13 +107,10 @@ impl Script {
     }
 
     /// The answer of a lookup.
-    fn look_up(&self, words: &[&str]) -> Result<String, BadLine> {
-        let Some(portfolio) = &self.portfolio else {
-            return Err(BadLine::TooEarly);
-        };
-        match lookup_text(self.alloc, portfolio, words)? {
-            Some(answer) => Ok(answer),
-            None => Err(BadLine::NoSuchLine),
+    fn look_up(&self, words: &[&str]) -> Result<String, AllocError> {
+        match &self.portfolio {
+            Some(portfolio) => lookup_text(self.alloc, portfolio, words),
+            None => Ok(String::new(self.alloc)),
         }
     }
 }
