@@ -115,50 +115,53 @@ fn perspective_of(word: &str) -> Option<Perspective> {
     }
 }
 
-/// The answer of a lookup of a perspective; `None` where there is no such lookup.
+/// The answer of a lookup of a perspective; no text where there is no such lookup.
 fn summary_text(
     alloc: Global,
     portfolio: &Portfolio,
     perspective: Perspective,
     lookup: &str,
     numbers: &[u32],
-) -> Result<Option<String>, AllocError> {
-    let text = match (lookup, numbers) {
-        ("set", [set]) => format!(in alloc; "{}", portfolio.has_set(perspective, *set))?,
-        ("summary", [set, id]) => {
-            option_text(alloc, portfolio.summary_of(perspective, *set, *id))?
-        }
+) -> Result<String, AllocError> {
+    match (lookup, numbers) {
+        ("set", [set]) => format!(in alloc; "{}", portfolio.has_set(perspective, *set)),
+        ("summary", [set, id]) => option_text(alloc, portfolio.summary_of(perspective, *set, *id)),
         ("exposure", [set, summary]) => {
-            format!(in alloc; "{}", portfolio.exposure(perspective, *set, *summary))?
+            format!(in alloc; "{}", portfolio.exposure(perspective, *set, *summary))
         }
-        _ => return Ok(None),
-    };
-    Ok(Some(text))
+        _ => Ok(String::new(alloc)),
+    }
 }
 
-/// The answer of a lookup by numbers; `None` where there is no such lookup.
+/// The answer of a lookup without numbers; no text where there is no such lookup.
+fn list_text(alloc: Global, portfolio: &Portfolio, lookup: &str) -> Result<String, AllocError> {
+    match lookup {
+        "events" => numbers_text(alloc, portfolio.events()),
+        "items" => items_text(alloc, portfolio.items()),
+        "periods" => format!(in alloc; "{}", portfolio.periods()),
+        "return_periods" => numbers_text(alloc, portfolio.return_periods()),
+        _ => Ok(String::new(alloc)),
+    }
+}
+
+/// The answer of a lookup by numbers; no text where there is no such lookup.
 fn number_text(
     alloc: Global,
     portfolio: &Portfolio,
     lookup: &str,
     numbers: &[u32],
-) -> Result<Option<String>, AllocError> {
-    let text = match (lookup, numbers) {
-        ("events", []) => numbers_text(alloc, portfolio.events())?,
-        ("items", []) => items_text(alloc, portfolio.items())?,
-        ("periods", []) => format!(in alloc; "{}", portfolio.periods())?,
-        ("return_periods", []) => numbers_text(alloc, portfolio.return_periods())?,
-        ("tiv", [coverage]) => format!(in alloc; "{}", portfolio.tiv(*coverage))?,
-        ("place", [event]) => place_text(alloc, portfolio, *event)?,
-        ("occurrences", [event]) => occurrences_text(alloc, portfolio.occurrences(*event))?,
-        ("samples", [samples]) => samples_text(alloc, &portfolio.samples_fit(*samples))?,
-        ("part", [p, n]) => part_text(alloc, portfolio.events(), *p, *n)?,
+) -> Result<String, AllocError> {
+    match (lookup, numbers) {
+        ("tiv", [coverage]) => format!(in alloc; "{}", portfolio.tiv(*coverage)),
+        ("place", [event]) => place_text(alloc, portfolio, *event),
+        ("occurrences", [event]) => occurrences_text(alloc, portfolio.occurrences(*event)),
+        ("samples", [samples]) => samples_text(alloc, &portfolio.samples_fit(*samples)),
+        ("part", [p, n]) => part_text(alloc, portfolio.events(), *p, *n),
         ("random", [event, group, sample]) => {
-            random_text(alloc, portfolio, *event, *group, *sample)?
+            random_text(alloc, portfolio, *event, *group, *sample)
         }
-        _ => return Ok(None),
-    };
-    Ok(Some(text))
+        _ => Ok(String::new(alloc)),
+    }
 }
 
 /// The numbers of words, as far as they are numbers.
@@ -172,20 +175,21 @@ fn numbers_of(alloc: Global, words: &[&str]) -> Result<Vec<u32>, AllocError> {
     Ok(numbers)
 }
 
-/// The answer of a lookup: a name and numbers, or a perspective before them. `None` where there is no such lookup.
+/// The answer of a lookup: a name and numbers, or a perspective before them. No text where there is no such lookup.
 pub(crate) fn lookup_text(
     alloc: Global,
     portfolio: &Portfolio,
     words: &[&str],
-) -> Result<Option<String>, AllocError> {
+) -> Result<String, AllocError> {
     let [first, others @ ..] = words else {
-        return Ok(None);
+        return Ok(String::new(alloc));
     };
     let numbers = numbers_of(alloc, others)?;
     match (perspective_of(first), others) {
         (Some(perspective), [lookup, ..]) => {
             summary_text(alloc, portfolio, perspective, lookup, &numbers)
         }
+        (_, []) => list_text(alloc, portfolio, first),
         _ => number_text(alloc, portfolio, first, &numbers),
     }
 }

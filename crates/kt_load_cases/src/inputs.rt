@@ -28,11 +28,7 @@ impl SaidSize {
 }
 
 impl Inputs for SaidSize {
-    ghost held = { λ _. None };
-
-    ghost fault_count = { λ s. s.failed };
-
-    ghost miss_count = { λ s. s.missed };
+    ghost state = { λ s. record { held = None; faults = s.failed; misses = s.missed } };
 
     fn faults(&self) -> u64 {
         self.failed
