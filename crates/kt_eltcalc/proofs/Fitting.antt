@@ -1,5 +1,5 @@
 -- A record that was read fits its rows.
-use Rattle.std.proofs.Common.{◌≡◌, ℕ, ◌≤◌, ◌^◌, ℤ, pos, ◌<ℤ◌, ◌≤ℤ◌, List, [], ◌∷◌, arith}
+use Rattle.std.proofs.Common.{ℕ, ◌≤◌, ◌^◌, ℤ, pos, ◌<ℤ◌, ◌≤ℤ◌, List, [], ◌∷◌, arith}
 use Rattle.std.specs.Prelude.{AllPairs}
 use Rattle.std.specs.List.{AllByRecursion}
 use Rattle.std.proofs.lemmas.List.Elements.{All-from_recursion}
@@ -7,7 +7,8 @@ use Rattle.std.proofs.lemmas.Int.{ints}
 use Rattle.std.proofs.lemmas.List.Kept.{AllPairs-cons}
 use Rattle.kt_stream.specs.declared.entry.Pair.{Pair}
 use Rattle.kt_stream.specs.declared.entry.SummaryRecord.{SummaryRecord}
-use Rattle.kt_stream.specs.Grammar.{IsPair, BeginsAbove, RisingSidx, IsSummary}
+use Rattle.kt_stream.specs.Pairs.{IsPair, BeginsAbove, RisingSidx}
+use Rattle.kt_stream.specs.Summary.{IsSummary}
 use Rattle.kt_elt.specs.Losses.{FitsSamples}
 
 int_trans : (a b c : ℤ) → a <ℤ b → b <ℤ c → a <ℤ c
@@ -43,7 +44,7 @@ pub fits_samples : (samples : ℕ) (entry : SummaryRecord) → 1 ≤ samples →
 fits_samples samples entry some few summary = record {
   some = some;
   few = few;
-  rising = rising_pairs entry.pairs summary.rising;
-  within = All-from_recursion (λ (pair : Pair). pair.sidx ≤ℤ pos samples) entry.pairs (within_samples samples entry.pairs summary.pairs);
-  losses = All-from_recursion (λ (pair : Pair). pair.loss ≤ 10 ^ 16) entry.pairs (within_losses samples entry.pairs summary.pairs);
+  rising = rising_pairs entry.pairs summary.pairs.rising;
+  within = All-from_recursion (λ (pair : Pair). pair.sidx ≤ℤ pos samples) entry.pairs (within_samples samples entry.pairs summary.pairs.each);
+  losses = All-from_recursion (λ (pair : Pair). pair.loss ≤ 10 ^ 16) entry.pairs (within_losses samples entry.pairs summary.pairs.each);
 }

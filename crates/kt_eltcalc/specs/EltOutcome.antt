@@ -2,8 +2,9 @@
 -- The rules: docs/COMMANDS.md, "eltcalc".
 use Rattle.std.specs.Prelude.{ℕ, Bool, true, false, List, []}
 use Rattle.kt_stream.specs.declared.entry.SummaryRecord.{SummaryRecord}
-use Rattle.kt_stream.specs.declared.summary.Head.{Head}
-use Rattle.kt_stream.specs.Stream.{stream_of, fault_of}
+use Rattle.kt_stream.specs.declared.kind.Head.{Head}
+use Rattle.kt_stream.specs.Stream.{fault_of}
+use Rattle.kt_stream.specs.Summary.{summary_form, summary_shape, summary_stream}
 use Rattle.kt_elt.specs.EventLoss.{elt_heading_text, event_loss_rows}
 use Rattle.kt_ends.specs.Outcome.{Outcome}
 use Rattle.kt_ends.specs.declared.status.Refusal.{Refusal}
@@ -26,4 +27,4 @@ elt_calculation = by_record elt_heading_part elt_record_rows
 
 -- the event loss table of a summary stream, up to the first refused record
 abbrev pub elt_outcome : Bool → List ℕ → Outcome
-elt_outcome heading source = gives (stream_status (fault_of source)) (table_of elt_heading_part elt_record_rows heading (stream_of source).head (stream_of source).entries)
+elt_outcome heading source = gives (stream_status (fault_of summary_form summary_shape source)) (table_of elt_heading_part elt_record_rows heading (summary_stream source).head (summary_stream source).entries)

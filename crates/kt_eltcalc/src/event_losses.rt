@@ -4,18 +4,17 @@ ghost use Rattle.kt_out.specs.InputFiles.{InputsState};
 ghost use Rattle.kt_out.specs.OutputFiles.{OutputsState};
 ghost use Rattle.kt_ends.specs.Ending.{Ended};
 ghost use Rattle.kt_ends.specs.Stops.{end_status};
-ghost use Rattle.kt_ends.specs.World.{Finds};
+ghost use Rattle.kt_ends.specs.World.{world, Finds};
 ghost use Rattle.kt_eltcalc.specs.EltOutcome.{elt_outcome};
-ghost use Rattle.kt_loop.specs.Running.{around, stream_uses};
+ghost use Rattle.kt_loop.specs.Running.{stream_uses};
 ghost use Rattle.std.specs.Prelude.{false};
 
 use kt_elt::{elt_heading, elt_text};
 use kt_ends::ToolStop;
-use kt_loop::laws::records_give_their_rows;
+use kt_loop::laws::{records_give_their_rows, what_is_read_can_be_taken};
 use kt_loop::{Stage, run_stage};
 use kt_money::Bytes;
 use kt_out::{Sink, Source};
-use kt_stream::laws::what_is_read_fits;
 use kt_stream::{Head, SummaryReader, SummaryRecord};
 use std::alloc::Global;
 
@@ -27,7 +26,11 @@ struct EventLosses {
 
 impl Stage<Head, SummaryRecord, ()> for EventLosses {
     ghost use Rattle.std.specs.Prelude.{◌≡◌, Bool};
-    ghost use Rattle.kt_stream.specs.Grammar.{IsHead, IsSummary};
+    ghost use Rattle.kt_stream.specs.declared.kind.StreamKind.TheVariants.{Summary};
+    ghost use Rattle.kt_stream.specs.Header.{IsHead};
+    ghost use Rattle.kt_stream.specs.Reader.{IsPlaced};
+    ghost use Rattle.kt_stream.specs.Summary.{IsSummary, summary_form, summary_shape};
+    ghost use Rattle.kt_stream.specs.declared.entry.SummaryRecord.{SummaryRecord};
     ghost use Rattle.kt_eltcalc.specs.EltOutcome.{elt_calculation};
 
     ghost State = { Bool };
@@ -38,13 +41,13 @@ impl Stage<Head, SummaryRecord, ()> for EventLosses {
 
     ghost is_ready = { λ _ _. Unit {0} };
 
-    ghost accepts = { IsHead };
+    ghost accepts = { IsHead Summary };
 
-    ghost is_good = { λ head placed. IsSummary head.samples placed.entry };
+    ghost is_good = { IsPlaced SummaryRecord summary_form (λ shape samples entry. IsSummary samples entry) summary_shape };
 
-    ghost inputs = { λ beside _. beside };
+    ghost inputs = { λ others _. others };
 
-    fn open(&mut self, _world: &mut (), _head: Head, out: &mut Bytes) -> Result<(), ToolStop> {
+    fn open(&mut self, _beside: &mut (), _head: Head, out: &mut Bytes) -> Result<(), ToolStop> {
         if self.heading {
             out.append(elt_heading())?;
         }
@@ -53,7 +56,7 @@ impl Stage<Head, SummaryRecord, ()> for EventLosses {
 
     fn take(
         &mut self,
-        _world: &mut (),
+        _beside: &mut (),
         head: Head,
         _at: u64,
         entry: SummaryRecord,
@@ -63,7 +66,7 @@ impl Stage<Head, SummaryRecord, ()> for EventLosses {
         Ok(())
     }
 
-    fn end(&mut self, _world: &mut (), _head: Head, _out: &mut Bytes) -> Result<(), ToolStop> {
+    fn end(&mut self, _beside: &mut (), _head: Head, _out: &mut Bytes) -> Result<(), ToolStop> {
         Ok(())
     }
 }
@@ -75,9 +78,9 @@ pub fn eltcalc<S: Source, K: Sink>(
     source: &mut S,
     sink: &mut K,
 ) -> Result<(), ToolStop>
-    ensures { (inputs : InputsState) (outputs : OutputsState) → Ended (Finds (stream_uses false) (around inputs outputs (S.state source.old) (K.state sink.old))) (stream_uses false) (λ files bytes. elt_outcome heading bytes) (around inputs outputs (S.state source.old) (K.state sink.old)) (around inputs outputs (S.state source.new) (K.state sink.new)) (end_status result) }
+    ensures { (inputs : InputsState) (outputs : OutputsState) → Ended (Finds (stream_uses false) (world inputs outputs (S.state source.old) (K.state sink.old))) (stream_uses false) (λ files bytes. elt_outcome heading bytes) (world inputs outputs (S.state source.old) (K.state sink.old)) (world inputs outputs (S.state source.new) (K.state sink.new)) (end_status result) }
 {
-    what_is_read_fits();
+    what_is_read_can_be_taken::<SummaryRecord>();
     records_give_their_rows::<Head, SummaryRecord, bool>();
     let mut reader = SummaryReader::new(alloc);
     let mut stage = EventLosses { heading };
