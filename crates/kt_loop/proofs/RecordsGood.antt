@@ -9,7 +9,7 @@ use Rattle.kt_stream.specs.Reader.{Reading, IsPlaced}
 use Rattle.kt_stream.specs.Stream.{Form, stream_of}
 use Rattle.kt_loop.specs.Contents.{Contents}
 use Rattle.kt_loop.specs.Reading.{AreGood}
-use Rattle.kt_loop.specs.RecordStreams.{contents_of, StandsFor}
+use Rattle.kt_loop.specs.RecordStreams.{StandsFor}
 
 are_good : {H E : Type 0} (accepts : H → Type 0) (is_good : H → Placed E → Type 0) (header : Option H) (entries : List (Placed E)) → ((head : H) → header ≡ Some head → accepts head × AllByRecursion (is_good head) entries) → AreGood accepts is_good header entries
 are_good accepts is_good None entries fits = tt

@@ -28,6 +28,7 @@ impl Stage<Head, SummaryRecord, ()> for EventLosses {
     ghost use Rattle.kt_stream.specs.Header.{IsHead};
     ghost use Rattle.kt_stream.specs.Reader.{IsPlaced};
     ghost use Rattle.kt_stream.specs.Summary.{IsSummary, summary_form, summary_shape};
+    ghost use Rattle.kt_stream.specs.declared.entry.SummaryRecord.{SummaryRecord};
     ghost use Rattle.kt_stream.specs.declared.kind.StreamKind.TheVariants.{Summary};
     ghost use Rattle.kt_tools.specs.EltOutcome.{elt_calculation};
 
@@ -41,7 +42,7 @@ impl Stage<Head, SummaryRecord, ()> for EventLosses {
 
     ghost accepts = { IsHead Summary };
 
-    ghost is_good = { IsPlaced _ summary_form (λ shape samples entry. IsSummary samples entry) summary_shape };
+    ghost is_good = { IsPlaced SummaryRecord summary_form (λ shape samples entry. IsSummary samples entry) summary_shape };
 
     ghost inputs = { λ others _. others };
 
