@@ -11,6 +11,7 @@ pub mod Heading
 pub mod Walking
 pub mod PairsLoop
 pub mod Gathering
+pub mod Room
 pub mod Representing
 pub mod Fitting
 pub mod Growing
