@@ -2,9 +2,10 @@
 -- The rules: docs/REFUSALS.md, "Texts".
 use Rattle.std.specs.Prelude.{ℕ, List, [], ◌++◌, codes}
 use Rattle.kt_money.specs.NumberText.{count_text}
-use Rattle.kt_stream.specs.declared.stop.RecordCause.TheVariants.{Record}
+use Rattle.kt_stream.specs.declared.stop.RecordCause.{RecordCause}
+use Rattle.kt_stream.specs.declared.stop.RecordCause.TheVariants as record_cause
 use Rattle.kt_stream.specs.declared.stop.StreamStop.{StreamStop}
-use Rattle.kt_stream.specs.declared.stop.StreamStop.TheVariants.{NotProfile, BadRecord, Cut, TooLong, OutOfMemory}
+use Rattle.kt_stream.specs.declared.stop.StreamStop.TheVariants.{NotProfile, WrongStream, BadSamples, BadSet, BadRecord, Cut, TooLong, OutOfMemory}
 use Rattle.kt_words.specs.declared.stop.WordCause.{WordCause}
 use Rattle.kt_words.specs.declared.stop.WordCause.TheVariants.{Missing, UnknownTool, UnknownOption, Repeated, NeedsValue, BadValue, Unexpected, NotTogether, BadPart}
 use Rattle.kt_cells.specs.declared.stop.Cause.{Cause}
@@ -31,10 +32,25 @@ cause_text BadPart = codes "bad part"
 abbrev pub place_text : ℕ → List ℕ → List ℕ
 place_text byte text = codes "byte " ++ (count_text byte ++ (codes ": " ++ text))
 
+-- what is wrong with a field of a record
+abbrev pub record_text : RecordCause → List ℕ
+record_text record_cause.Id = codes "id"
+record_text record_cause.Exposure = codes "exposure"
+record_text record_cause.Empty = codes "empty"
+record_text record_cause.Sidx = codes "sidx"
+record_text record_cause.Loss = codes "loss"
+record_text record_cause.End = codes "end"
+record_text record_cause.Bins = codes "bins"
+record_text record_cause.Prob = codes "prob"
+record_text record_cause.Mean = codes "mean"
+
 -- why a stream is refused
 abbrev pub stream_text : StreamStop → List ℕ
 stream_text NotProfile = codes "not of this profile"
-stream_text (BadRecord byte Record) = place_text byte (codes "record")
+stream_text (WrongStream found) = codes "wrong stream " ++ count_text found
+stream_text (BadSamples found) = codes "bad samples " ++ count_text found
+stream_text (BadSet found) = codes "bad set " ++ count_text found
+stream_text (BadRecord byte why) = place_text byte (record_text why)
 stream_text (Cut byte) = place_text byte (codes "cut")
 stream_text TooLong = codes "too long"
 stream_text OutOfMemory = []

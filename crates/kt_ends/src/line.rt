@@ -2,7 +2,7 @@
 //! The rules: docs/REFUSALS.md, "Texts".
 ghost use Rattle.std.specs.Prelude.{◌≡◌, ◌++◌, OnOk, IfOk, codes};
 ghost use Rattle.kt_money.specs.NumberText.{count_text};
-ghost use Rattle.kt_ends.specs.Line.{cause_text, field_text, file_text, refusal_text, stream_text, status_text, status_line};
+ghost use Rattle.kt_ends.specs.Line.{cause_text, field_text, file_text, record_text, refusal_text, stream_text, status_text, status_line};
 ghost use Rattle.kt_ends.specs.Line.{IsRefused};
 
 use crate::status::{Refusal, Status};
@@ -40,16 +40,41 @@ fn push_place(out: &mut Bytes, byte: u64, text: &[u8]) -> Result<(), OutOfMemory
     out.append(text)
 }
 
+/// The text of what is wrong with a field of a record.
+fn record_words(cause: RecordCause) -> &'static [u8]
+    ensures { result.now ≡ record_text cause }
+{
+    match cause {
+        RecordCause::Id => b"id",
+        RecordCause::Exposure => b"exposure",
+        RecordCause::Empty => b"empty",
+        RecordCause::Sidx => b"sidx",
+        RecordCause::Loss => b"loss",
+        RecordCause::End => b"end",
+        RecordCause::Bins => b"bins",
+        RecordCause::Prob => b"prob",
+        RecordCause::Mean => b"mean",
+    }
+}
+
+/// Appends `TEXT N`, where a blank ends the text.
+fn push_number(out: &mut Bytes, text: &[u8], number: u32) -> Result<(), OutOfMemory>
+    ensures { OnOk result (out.new ≡ out.old ++ (text.now ++ count_text number)) }
+{
+    out.append(text)?;
+    push_count(out, number as u64)
+}
+
 /// Appends the text of a refused stream.
 fn push_stream_text(out: &mut Bytes, stop: StreamStop) -> Result<(), OutOfMemory>
     ensures { OnOk result (out.new ≡ out.old ++ stream_text stop) }
 {
     match stop {
         StreamStop::NotProfile => out.append(b"not of this profile"),
-        StreamStop::BadRecord {
-            byte,
-            cause: RecordCause::Record,
-        } => push_place(out, byte, b"record"),
+        StreamStop::WrongStream { found } => push_number(out, b"wrong stream ", found as u32),
+        StreamStop::BadSamples { found } => push_number(out, b"bad samples ", found),
+        StreamStop::BadSet { found } => push_number(out, b"bad set ", found),
+        StreamStop::BadRecord { byte, cause } => push_place(out, byte, record_words(cause)),
         StreamStop::Cut { byte } => push_place(out, byte, b"cut"),
         StreamStop::TooLong => out.append(b"too long"),
         StreamStop::OutOfMemory => Ok(()),

@@ -1,42 +1,33 @@
 -- Which answers are different, and what equal answers hold.
-use Rattle.std.proofs.Common.{◌≡◌, Option, Some, None}
-use Rattle.kt_stream.specs.declared.read.Misfit.{Misfit}
+use Rattle.std.proofs.Common.{◌≡◌, Option, Some, None, refl}
 use Rattle.kt_stream.specs.declared.read.Read.{Read}
 use Rattle.kt_stream.specs.declared.read.Read.TheVariants.{Got, Short, Wrong}
-use Rattle.kt_stream.specs.declared.stop.StreamStop.{StreamStop}
-use Rattle.kt_stream.specs.Stream.{Whole, Partial, Refused}
+use Rattle.kt_stream.specs.Read.{◌>>=◌, accepted}
+use Rattle.kt_stream.specs.Stream.{Kept}
 
 -- the answers of a reading, at a type that is known
-abbrev pub got : {A : Type 0} → A → Read A
+abbrev pub got : {A W : Type 0} → A → Read A W
 got x = Got x
 
 -- too few bytes
-abbrev pub short : {A : Type 0} → Read A
+abbrev pub short : {A W : Type 0} → Read A W
 short = Short
 
 -- a wrong field
-abbrev pub wrong : {A : Type 0} → Misfit → Read A
+abbrev pub wrong : {A W : Type 0} → W → Read A W
 wrong m = Wrong m
 
 -- equal answers hold equal values
-pub got_is : {A : Type 0} (x y : A) → got x ≡ got y → x ≡ y
+pub got_is : {A W : Type 0} (x y : A) → got {W = W} x ≡ got y → x ≡ y
 got_is x y e = cc
 
--- a value is no want of bytes
-pub got_not_short : {A : Type 0} (x : A) → got x ≡ short → ⊥
-got_not_short x e = cc
-
 -- want of bytes is no value
-pub short_not_got : {A : Type 0} (x : A) → short ≡ got x → ⊥
+pub short_not_got : {A W : Type 0} (x : A) → short {W = W} ≡ got x → ⊥
 short_not_got x e = cc
 
--- a value is no wrong field
-pub got_not_wrong : {A : Type 0} (x : A) (m : Misfit) → got x ≡ wrong m → ⊥
-got_not_wrong x m e = cc
-
--- a wrong field is no want of bytes
-pub wrong_not_short : {A : Type 0} (m : Misfit) → wrong {A = A} m ≡ short → ⊥
-wrong_not_short m e = cc
+-- a wrong field is no value
+pub wrong_not_got : {A W : Type 0} (m : W) (x : A) → wrong m ≡ got x → ⊥
+wrong_not_got m x e = cc
 
 -- the same of an option
 abbrev pub none : {A : Type 0} → Option A
@@ -58,10 +49,35 @@ none_is_some x e = cc
 pub some_is_none : {A : Type 0} (x : A) → some x ≡ none → ⊥
 some_is_none x e = cc
 
--- an end that is not whole
-pub partial_whole : Partial ≡ Whole → ⊥
-partial_whole e = cc
+-- ---- steps
 
--- a refusal is not whole either
-pub refused_whole : (stop : StreamStop) → Refused stop ≡ Whole → ⊥
-refused_whole stop e = cc
+-- the value of a step that was read
+pub bind_got : {A B W : Type 0} (r : Read A W) (f : A → Read B W) (y : B) → (r >>= f) ≡ Got y → (x : A) × (r ≡ Got x) × (f x ≡ Got y)
+bind_got (Got x) f y e = (x, refl, e)
+bind_got Short f y e = absurd (short_not_got y e)
+bind_got (Wrong m) f y e = absurd (wrong_not_got m y e)
+
+-- a value that was accepted has nothing wrong with it
+pub accepted_is : {A W : Type 0} (x y : A) (o : Option W) → accepted x o ≡ Got y → (x ≡ y) × (o ≡ None)
+accepted_is {W = W} x y None e = (got_is {W = W} x y e, refl)
+accepted_is x y (Some m) e = absurd (wrong_not_got m y e)
+
+-- a reading is kept by itself
+pub kept_same : {A W : Type 0} (r : Read A W) → Kept r r
+kept_same (Got x) = refl
+kept_same Short = tt
+kept_same (Wrong m) = refl
+
+-- two steps are kept where each is
+pub kept_then : {A B W : Type 0} (r now : Read A W) (f g : A → Read B W) → Kept r now → ((x : A) → r ≡ Got x → Kept (f x) (g x)) → Kept (r >>= f) (now >>= g)
+kept_then (Got x) now f g kept next = rw kept (next x refl)
+kept_then Short now f g kept next = tt
+kept_then (Wrong m) now f g kept next = rw kept refl
+
+-- a value that was kept
+pub kept_got : {A W : Type 0} (r now : Read A W) (x : A) → r ≡ Got x → Kept r now → now ≡ Got x
+kept_got r now x e kept = rw e at kept
+
+-- a wrong field that was kept
+pub kept_wrong : {A W : Type 0} (r now : Read A W) (m : W) → r ≡ Wrong m → Kept r now → now ≡ Wrong m
+kept_wrong r now m e kept = rw e at kept

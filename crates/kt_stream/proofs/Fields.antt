@@ -1,154 +1,184 @@
--- What is known of the fields that were read, and where they are too short.
-use Rattle.std.proofs.Common.{◌≡◌, ℕ, ◌+◌, ◌≤◌, ◌<◌, leb, List, length, drop, Option, Some, None, refl, sym, ap, subst, ◌∙◌, arith, inl, inr, ◌⊎◌, ◌&&◌}
-use Rattle.std.proofs.lemmas.Bool.{leb-true, le-leb, ne_eqb, cases_Bool, cases_lt, and_parts}
-use Rattle.std.proofs.lemmas.List.{length-drop}
-use Rattle.kt_stream.specs.declared.read.FieldCause.{FieldCause}
-use Rattle.kt_stream.specs.declared.read.FieldCause.TheVariants.{Sidx}
-use Rattle.kt_stream.specs.declared.read.Read.{Read}
-use Rattle.kt_stream.specs.declared.read.Read.TheVariants.{Got, Short}
-use Rattle.kt_stream.specs.declared.summary.RawPair.{RawPair}
-use Rattle.kt_stream.specs.declared.summary.SummaryFront.{SummaryFront}
-use Rattle.kt_stream.specs.Read.{◌>>=◌, number_of, number, accepted, field}
-use Rattle.kt_stream.specs.Summary.{between, id_cause, exposure_cause, order_of, sidx_cause, loss_cause, front_in, pair_in}
-use Rattle.kt_stream.proofs.Cases.{got_is, got_not_short, wrong_not_short, some_is_none}
-use Rattle.kt_stream.proofs.Steady.{bind_got, number_long}
+-- Fields that stand one after the other: whatever follows them, as they are written, and as they are read back.
+use Rattle.std.proofs.Common.{◌≡◌, ℕ, ◌+◌, ◌≤◌, ◌<◌, ◌^◌, true, leb, List, [], ◌∷◌, ◌++◌, length, take, drop, None, refl, sym, ap, ◌∙◌, append_assoc, arith, inl, inr, ◌⊎◌, ◌&&◌}
+use Rattle.std.proofs.lemmas.Bool.{leb-true, le-leb, cases_Bool, cases_lt, and_parts}
+use Rattle.std.proofs.lemmas.List.{length-append, drop-append-le, length-drop, append-nil, drop_at, drop-drop, length-take-le, take-append-drop, get_or-drop, get_or-take, get_or_past}
+use Rattle.std.proofs.lemmas.Nat.{le_bytes_4, le_bytes_8}
+use Rattle.std.specs.Int.{w32, w64, from_le_bytes}
+use Rattle.byteorder.specs.Endian.{little_bytes}
+use Rattle.byteorder.specs.Numbers.{little_from-append, little_from-take, little_number-reads_back, length-bytes_low_first}
+use Rattle.kt_stream.specs.declared.read.Read.TheVariants.{Got}
+use Rattle.kt_stream.specs.Read.{number_of, number, accepted, between, Field, field, fields_in, width_of, fields_then, AreJudged, AreSmall}
+use Rattle.kt_stream.specs.Stream.{Kept, AreBytes}
+use Rattle.kt_stream.proofs.Cases.{got_is, short_not_got, some_is_none, bind_got, accepted_is, kept_same, kept_then}
 
--- a value without a cause lies between the bounds
-pub between_bounds : (low high : ℕ) (cause : FieldCause) (x : ℕ) → between low high cause x ≡ None → (low ≤ x) × (x ≤ high)
-between_bounds low high cause x e = elim (cases_Bool (leb low x && leb x high)) [
+-- ---- bounds
+
+-- a value with which nothing is wrong lies between the bounds
+pub between_bounds : {W : Type 0} (low high : ℕ) (wrong : W) (x : ℕ) → between low high wrong x ≡ None → (low ≤ x) × (x ≤ high)
+between_bounds low high wrong x e = elim (cases_Bool (leb low x && leb x high)) [
   | inl fits ↦ let both = and_parts _ _ fits in (leb-true _ _ both.0, leb-true _ _ both.1)
-  | inr past ↦ absurd (some_is_none cause (rw past at e))
+  | inr past ↦ absurd (some_is_none wrong (rw past at e))
 ]
+
+-- nothing is wrong with a value between the bounds
+pub between_none : {W : Type 0} (low high : ℕ) (wrong : W) (x : ℕ) → low ≤ x → x ≤ high → between low high wrong x ≡ None
+between_none low high wrong x least most = rw (le-leb low x least, le-leb x high most) refl
+
+-- ---- numbers
+
+-- a number that was read had its bytes, and is theirs
+number_got : {W : Type 0} (n : ℕ) (bytes : List ℕ) (x : ℕ) → number {W = W} n bytes ≡ Got x → (n ≤ length bytes) × (x ≡ number_of n bytes)
+number_got {W} n bytes x e = elim (cases_Bool (leb n (length bytes))) [
+  | inl fits ↦ (leb-true _ _ fits, sym (got_is {W = W} (number_of n bytes) x (rw fits at e)))
+  | inr past ↦ absurd (short_not_got {W = W} x (rw past at e))
+]
+
+-- a number is kept
+number_kept : (W : Type 0) (n : ℕ) (bytes more : List ℕ) → Kept (number {W = W} n bytes) (number n (bytes ++ more))
+unfolding number_of
+number_kept W n bytes more = elim (cases_Bool (leb n (length bytes))) [
+  | inl fits ↦
+      let le = leb-true n (length bytes) fits in
+      let also : leb n (length (bytes ++ more)) ≡ true = le-leb _ _ (omega (arith, length-append bytes more)) in
+      rw (fits, also, little_from-append n bytes more le) refl
+  | inr past ↦ rw past tt
+]
+
+-- what is left of bytes is bytes
+pub bytes_behind : (n : ℕ) (bytes : List ℕ) → AreBytes bytes → AreBytes (drop n bytes)
+bytes_behind n bytes are = λ place. rw (get_or-drop n bytes place 0) (are (n + place))
+
+bytes_before : (n : ℕ) (bytes : List ℕ) → n ≤ length bytes → AreBytes bytes → AreBytes (take n bytes)
+bytes_before n bytes long are = λ place. elim (cases_lt place n) [
+  | inl within ↦ rw (get_or-take n bytes place 0 within) (are place)
+  | inr past ↦ rw (get_or_past (take n bytes) place 0 (omega (arith, length-take-le n bytes long))) (omega arith)
+]
+
+four_number : (bytes : List ℕ) → number_of 4 bytes ≡ from_le_bytes w32 bytes
+unfolding number_of
+four_number bytes = omega arith
+
+eight_number : (bytes : List ℕ) → number_of 8 bytes ≡ from_le_bytes w64 bytes
+unfolding number_of
+eight_number bytes = omega arith
+
+number_before : (n : ℕ) (bytes : List ℕ) → number_of n (take n bytes) ≡ number_of n bytes
+unfolding number_of
+number_before n bytes = little_from-take 0 n n bytes (omega arith)
+
+-- the widths of fields, of which the bytes are known by their number
+abbrev pub IsWide : ℕ → Type 0
+IsWide n = (n ≡ 4) ⊎ (n ≡ 8)
+
+-- the first bytes are those of their number
+first_bytes : (n : ℕ) (bytes : List ℕ) → IsWide n → AreBytes bytes → n ≤ length bytes → little_bytes n (number_of n bytes) ≡ take n bytes
+first_bytes n bytes (inl four) are long =
+    let long-4 : 4 ≤ length bytes = rw four at long in
+    rw four (le_bytes_4 (take 4 bytes) (number_of 4 bytes) (length-take-le 4 bytes long-4) (bytes_before 4 bytes long-4 are) (sym (number_before 4 bytes) ∙ four_number (take 4 bytes)))
+first_bytes n bytes (inr eight) are long =
+    let long-8 : 8 ≤ length bytes = rw eight at long in
+    rw eight (le_bytes_8 (take 8 bytes) (number_of 8 bytes) (length-take-le 8 bytes long-8) (bytes_before 8 bytes long-8 are) (sym (number_before 8 bytes) ∙ eight_number (take 8 bytes)))
+
+number_written : (n : ℕ) (bytes : List ℕ) → IsWide n → AreBytes bytes → n ≤ length bytes → bytes ≡ little_bytes n (number_of n bytes) ++ drop n bytes
+number_written n bytes wide are long = sym (ap (λ (xs : List ℕ). xs ++ drop n bytes) (first_bytes n bytes wide are long) ∙ take-append-drop n bytes)
+
+-- behind a number stands what was written behind it
+pub behind_number : (n x : ℕ) (rest : List ℕ) → drop n (little_bytes n x ++ rest) ≡ rest
+behind_number n x rest = drop_at (little_bytes n x) rest n (length-bytes_low_first 0 n x)
+
+number_back : {W : Type 0} (n x : ℕ) (rest : List ℕ) → x < 256 ^ n → number {W = W} n (little_bytes n x ++ rest) ≡ Got x
+unfolding number_of
+number_back n x rest small =
+    let long : n ≤ length (little_bytes n x ++ rest) = omega (arith, length-append (little_bytes n x) rest, length-bytes_low_first 0 n x) in
+    rw (le-leb n (length (little_bytes n x ++ rest)) long, little_number-reads_back n x rest small) refl
+
+-- ---- fields
 
 -- what is known of a field that was read
-pub record FieldRead (n : ℕ) (judge : ℕ → Option FieldCause) (bytes : List ℕ) (x : ℕ) : Type 0 where
-  pub long : n ≤ length bytes
-  pub value : x ≡ number_of n bytes
-  pub good : judge x ≡ None
+pub record FieldRead (W : Type 0) (f : Field W) (before bytes : List ℕ) (at x : ℕ) : Type 0 where
+  pub long : f.width ≤ length bytes
+  pub value : x ≡ number_of f.width bytes
+  pub good : f.judge before at x ≡ None
 
-number_is : (n : ℕ) (bytes : List ℕ) (x : ℕ) → number n bytes ≡ Got x → x ≡ number_of n bytes
-number_is n bytes x e =
-    let le = number_long n bytes x e in
-    let now : Got (number_of n bytes) ≡ Got x = rw (le-leb n (length bytes) le) at e in
-    cc
-
--- a value that was accepted has no cause against it
-pub accepted_is : (at x y : ℕ) (o : Option FieldCause) → accepted at x o ≡ Got y → (x ≡ y) × (o ≡ None)
-accepted_is at x y None e = (cc, refl)
-accepted_is at x y (Some cause) e = absurd cc
-
--- what is known of a field that was read
-pub field_got : (n : ℕ) (judge : ℕ → Option FieldCause) (bytes : List ℕ) (at x : ℕ) → field n judge bytes at ≡ Got x → FieldRead n judge bytes x
-field_got n judge bytes at x e =
-    let first = bind_got (number n bytes) (λ y. accepted at y (judge y)) x e in
-    let same = accepted_is at first.0 x (judge first.0) first.2 in
+field_got : {W : Type 0} (f : Field W) (before bytes : List ℕ) (at x : ℕ) → field f before bytes at ≡ Got x → FieldRead W f before bytes at x
+field_got f before bytes at x e =
+    let first = bind_got (number f.width bytes) (λ y. accepted y (f.judge before at y)) x e in
+    let same = accepted_is first.0 x (f.judge before at first.0) first.2 in
+    let known = number_got f.width bytes first.0 first.1 in
     record {
-      long = number_long n bytes first.0 first.1;
-      value = sym same.0 ∙ number_is n bytes first.0 first.1;
-      good = ap judge (sym same.0) ∙ same.1;
+      long = known.0;
+      value = sym same.0 ∙ known.1;
+      good = ap (f.judge before at) (sym same.0) ∙ same.1;
     }
 
-abbrev raw : ℕ → ℕ → Read RawPair
-raw word loss = Got (record { word = word; loss = loss })
+field_kept : {W : Type 0} (f : Field W) (before bytes more : List ℕ) (at : ℕ) → Kept (field f before bytes at) (field f before (bytes ++ more) at)
+field_kept {W} f before bytes more at =
+    kept_then (number f.width bytes) (number f.width (bytes ++ more)) _ _ (number_kept W f.width bytes more) (λ x e. kept_same (accepted x (f.judge before at x)))
 
-pair_word : (word loss : ℕ) (p : RawPair) → raw word loss ≡ Got p → word ≡ p.word
-pair_word word loss p e = ap (λ (q : RawPair). q.word) (got_is _ _ e)
+-- fields keep what they are, whatever bytes follow
+pub fields_kept : {W : Type 0} (fields : List (Field W)) (before bytes more : List ℕ) (at : ℕ) → Kept (fields_in fields before bytes at) (fields_in fields before (bytes ++ more) at)
+fields_kept [] before bytes more at = refl
+fields_kept (f ∷ fields) before bytes more at =
+    kept_then (field f before bytes at) (field f before (bytes ++ more) at) _ _ (field_kept f before bytes more at) (λ x e.
+    rw (drop-append-le f.width bytes more (field_got f before bytes at x e).long) (fields_kept fields (before ++ x ∷ []) (drop f.width bytes) more (at + f.width)))
 
-pair_loss : (word loss : ℕ) (p : RawPair) → raw word loss ≡ Got p → loss ≡ p.loss
-pair_loss word loss p e = ap (λ (q : RawPair). q.loss) (got_is _ _ e)
+-- each of the fields has four bytes or eight
+abbrev pub AreWide : {W : Type 0} → List (Field W) → Type 0
+AreWide [] = Unit {0}
+AreWide (f ∷ fields) = IsWide f.width × AreWide fields
 
--- what is known of a pair that was read
-pub record PairRead (samples least : ℕ) (bytes : List ℕ) (p : RawPair) : Type 0 where
-  pub long : 12 ≤ length bytes
-  pub word : FieldRead 4 (sidx_cause samples least) bytes p.word
-  pub loss : FieldRead 8 (loss_cause p.word) (drop 4 bytes) p.loss
+-- what is known of fields that were read
+pub record FieldsRead (W : Type 0) (fields : List (Field W)) (before bytes : List ℕ) (at : ℕ) (out : List ℕ) : Type 0 where
+  pub values : List ℕ
+  pub out_is : out ≡ before ++ values
+  pub judged : AreJudged fields before at values
+  pub long : width_of fields ≤ length bytes
+  pub written : AreBytes bytes → AreWide fields → bytes ≡ fields_then fields values (drop (width_of fields) bytes)
 
--- what is known of a pair that was read
-pub pair_got : (samples least : ℕ) (bytes : List ℕ) (at : ℕ) (p : RawPair) → pair_in samples least bytes at ≡ Got p → PairRead samples least bytes p
-unfolding pair_in
-pair_got samples least bytes at p e =
-    let a = bind_got (field 4 (sidx_cause samples least) bytes at) (λ word. field 8 (loss_cause word) (drop 4 bytes) (at + 4) >>= λ loss. Got (record { word = word; loss = loss })) p e in
-    let b = bind_got (field 8 (loss_cause a.0) (drop 4 bytes) (at + 4)) (λ loss. Got (record { word = a.0; loss = loss })) p a.2 in
-    let first = field_got 4 (sidx_cause samples least) bytes at a.0 a.1 in
-    let second = field_got 8 (loss_cause a.0) (drop 4 bytes) (at + 4) b.0 b.1 in
-    let word-is : a.0 ≡ p.word = pair_word a.0 b.0 p b.2 in
-    let loss-is : b.0 ≡ p.loss = pair_loss a.0 b.0 p b.2 in
+-- what is known of fields that were read
+pub fields_got : {W : Type 0} (fields : List (Field W)) (before bytes : List ℕ) (at : ℕ) (out : List ℕ) → fields_in fields before bytes at ≡ Got out → FieldsRead W fields before bytes at out
+fields_got {W} [] before bytes at out e = record {
+  values = [];
+  out_is = sym (append-nil before ∙ got_is {W = W} before out e);
+  judged = tt;
+  long = omega arith;
+  written = λ are wide. refl;
+}
+fields_got (f ∷ fields) before bytes at out e =
+    let first = bind_got (field f before bytes at) (λ x. fields_in fields (before ++ x ∷ []) (drop f.width bytes) (at + f.width)) out e in
+    let known = field_got f before bytes at first.0 first.1 in
+    let next = fields_got fields (before ++ first.0 ∷ []) (drop f.width bytes) (at + f.width) out first.2 in
     record {
-      long = omega (arith, second.long, length-drop 4 bytes, first.long);
-      word = subst (λ (w : ℕ). FieldRead 4 (sidx_cause samples least) bytes w) {x = a.0} word-is first;
-      loss = subst (λ (l : ℕ). FieldRead 8 (loss_cause p.word) (drop 4 bytes) l) {x = b.0} loss-is (subst (λ (w : ℕ). FieldRead 8 (loss_cause w) (drop 4 bytes) b.0) {x = a.0} word-is second);
+      values = first.0 ∷ next.values;
+      out_is = next.out_is ∙ append_assoc before (first.0 ∷ []) next.values;
+      judged = (known.good, next.judged);
+      long = omega (arith, next.long, length-drop f.width bytes, known.long);
+      written = λ are wide.
+          number_written f.width bytes wide.0 are known.long
+          ∙ ap (λ (x : ℕ). little_bytes f.width x ++ drop f.width bytes) (sym known.value)
+          ∙ ap (λ (xs : List ℕ). little_bytes f.width first.0 ++ xs) (next.written (bytes_behind f.width bytes are) wide.1 ∙ ap (fields_then fields next.values) (drop-drop (width_of fields) f.width bytes));
     }
 
--- a field group of a record that comes wrong, or whole
-in_front : (least samples word : ℕ) → sidx_cause samples least word ≡ None → (word ≡ 0 → ⊥) → (least ≤ order_of word) × (order_of word ≤ samples + 2)
-in_front least samples word e other = between_bounds _ _ Sidx _ (rw (ne_eqb word 0 other) at e)
+-- fields are read back as they were written
+pub fields_back : {W : Type 0} (fields : List (Field W)) (before values rest : List ℕ) (at : ℕ) → AreJudged fields before at values → AreSmall fields values → fields_in fields before (fields_then fields values rest) at ≡ Got (before ++ values)
+fields_back [] before [] rest at judged small = rw (append-nil before) refl
+fields_back [] before (x ∷ values) rest at judged small = absurd judged
+fields_back (f ∷ fields) before [] rest at judged small = absurd judged
+fields_back (f ∷ fields) before (x ∷ values) rest at judged small =
+    let onward = fields_back fields (before ++ x ∷ []) values rest (at + f.width) judged.1 small.1 in
+    rw (number_back f.width x (fields_then fields values rest) small.0, judged.0, behind_number f.width x (fields_then fields values rest), onward, append_assoc before (x ∷ []) values) refl
 
--- a word that is no end has its place between the least that may come and the last sample
-pub order_fits : (samples least : ℕ) (bytes : List ℕ) (p : RawPair) → PairRead samples least bytes p → (p.word ≡ 0 → ⊥) → (least ≤ order_of p.word) × (order_of p.word ≤ samples + 2)
-order_fits samples least bytes p pair other = in_front least samples p.word pair.word.good other
+-- behind the fields stands what was written behind them
+pub behind_fields : {W : Type 0} (fields : List (Field W)) (before values rest : List ℕ) (at : ℕ) → AreJudged fields before at values → drop (width_of fields) (fields_then fields values rest) ≡ rest
+behind_fields [] before values rest at judged = refl
+behind_fields (f ∷ fields) before [] rest at judged = absurd judged
+behind_fields (f ∷ fields) before (x ∷ values) rest at judged =
+    sym (drop-drop (width_of fields) f.width (little_bytes f.width x ++ fields_then fields values rest))
+    ∙ ap (drop (width_of fields)) (behind_number f.width x (fields_then fields values rest)) ∙ behind_fields fields (before ++ x ∷ []) values rest (at + f.width) judged.1
 
--- what is known of a front that was read
-pub record FrontRead (bytes : List ℕ) (f : SummaryFront) : Type 0 where
-  pub long : 16 ≤ length bytes
-  pub event : FieldRead 4 id_cause bytes f.event
-  pub summary : FieldRead 4 id_cause (drop 4 bytes) f.summary
-  pub exposure : FieldRead 8 exposure_cause (drop 8 bytes) f.exposure
-
--- what is known of a front that was read
-pub front_got : (bytes : List ℕ) (at : ℕ) (f : SummaryFront) → front_in bytes at ≡ Got f → FrontRead bytes f
-unfolding front_in
-front_got bytes at f e =
-    let a = bind_got (field 4 id_cause bytes at) (λ event. field 4 id_cause (drop 4 bytes) (at + 4) >>= λ summary. field 8 exposure_cause (drop 8 bytes) (at + 8) >>= λ exposure. Got (record { event = event; summary = summary; exposure = exposure })) f e in
-    let b = bind_got (field 4 id_cause (drop 4 bytes) (at + 4)) (λ summary. field 8 exposure_cause (drop 8 bytes) (at + 8) >>= λ exposure. Got (record { event = a.0; summary = summary; exposure = exposure })) f a.2 in
-    let d = bind_got (field 8 exposure_cause (drop 8 bytes) (at + 8)) (λ exposure. Got (record { event = a.0; summary = b.0; exposure = exposure })) f b.2 in
-    let first = field_got 4 id_cause bytes at a.0 a.1 in
-    let second = field_got 4 id_cause (drop 4 bytes) (at + 4) b.0 b.1 in
-    let third = field_got 8 exposure_cause (drop 8 bytes) (at + 8) d.0 d.1 in
-    let whole : SummaryFront = record { event = a.0; summary = b.0; exposure = d.0 } in
-    let known : FrontRead bytes whole = record {
-      long = omega (arith, third.long, length-drop 8 bytes, second.long, length-drop 4 bytes, first.long);
-      event = first;
-      summary = second;
-      exposure = third;
-    } in
-    subst (λ (x : SummaryFront). FrontRead bytes x) {x = whole} (got_is whole f d.2) known
-
--- ---- too few bytes
-
--- a value is never short, so what is behind it is
-pub accepted_whole : {A B : Type 0} (at : ℕ) (x : A) (o : Option FieldCause) (f : A → Read B) → (accepted at x o >>= f) ≡ Short → f x ≡ Short
-accepted_whole at x None f e = e
-accepted_whole at x (Some cause) f e = absurd (wrong_not_short _ e)
-
--- where reading is short at a field or behind it, the field is short or what is behind it is
-pub field_less : {B : Type 0} (n : ℕ) (judge : ℕ → Option FieldCause) (bytes : List ℕ) (at : ℕ) (f : ℕ → Read B) → (field n judge bytes at >>= f) ≡ Short
-    → (length bytes < n) ⊎ (f (number_of n bytes) ≡ Short)
-field_less n judge bytes at f e = elim (cases_lt (length bytes) n) [
-  | inl less ↦ inl less
-  | inr long ↦ inr (accepted_whole at (number_of n bytes) (judge (number_of n bytes)) f (rw (le-leb n (length bytes) long) at e))
-]
-
--- a pair is short only where there are fewer than 12 bytes
-pub pair_less : (samples least : ℕ) (bytes : List ℕ) (at : ℕ) → pair_in samples least bytes at ≡ Short → length bytes < 12
-unfolding pair_in
-pair_less samples least bytes at e = elim (field_less 4 (sidx_cause samples least) bytes at _ e) [
-  | inl less ↦ omega arith
-  | inr rest ↦ elim (field_less 8 (loss_cause (number_of 4 bytes)) (drop 4 bytes) (at + 4) _ rest) [
-    | inl less ↦ omega (arith, length-drop 4 bytes)
-    | inr whole ↦ absurd (got_not_short _ whole)
-  ]
-]
-
--- a front is short only where there are fewer than 16 bytes
-pub front_less : (bytes : List ℕ) (at : ℕ) → front_in bytes at ≡ Short → length bytes < 16
-unfolding front_in
-front_less bytes at e = elim (field_less 4 id_cause bytes at _ e) [
-  | inl less ↦ omega arith
-  | inr rest ↦ elim (field_less 4 id_cause (drop 4 bytes) (at + 4) _ rest) [
-    | inl less ↦ omega (arith, length-drop 4 bytes)
-    | inr last ↦ elim (field_less 8 exposure_cause (drop 8 bytes) (at + 8) _ last) [
-      | inl less ↦ omega (arith, length-drop 8 bytes)
-      | inr whole ↦ absurd (got_not_short _ whole)
-    ]
-  ]
-]
+-- the bytes that were written
+pub fields_length : {W : Type 0} (fields : List (Field W)) (before values rest : List ℕ) (at : ℕ) → AreJudged fields before at values → length (fields_then fields values rest) ≡ width_of fields + length rest
+fields_length [] before values rest at judged = omega arith
+fields_length (f ∷ fields) before [] rest at judged = absurd judged
+fields_length (f ∷ fields) before (x ∷ values) rest at judged =
+    omega (arith, length-append (little_bytes f.width x) (fields_then fields values rest), length-bytes_low_first 0 f.width x, fields_length fields (before ++ x ∷ []) values rest (at + f.width) judged.1)

@@ -1,85 +1,153 @@
--- The header of a stream, whatever bytes follow.
-use Rattle.std.proofs.Common.{◌≡◌, ℕ, ◌≤◌, ◌<◌, cond, eqb, List, ◌++◌, length, drop, Some, refl, ap, subst, ◌∙◌, arith, inl, inr, ◌⊎◌}
-use Rattle.std.specs.Prelude.{slice_index}
-use Rattle.std.proofs.lemmas.Bool.{le-leb, cases_lt}
-use Rattle.std.proofs.lemmas.List.{length-drop, drop-append-le, get_or_append_left}
-use Rattle.byteorder.specs.Endian.{big_number}
-use Rattle.byteorder.specs.Numbers.{big_from-append}
-use Rattle.kt_stream.specs.declared.read.FieldCause.TheVariants.{Profile, Kind, Samples, Set}
-use Rattle.kt_stream.specs.declared.read.Read.{Read}
+-- The header of a stream, whatever bytes follow, as it is read, and as it is read back.
+use Rattle.std.proofs.Common.{◌≡◌, ℕ, ◌+◌, ◌*◌, ◌/◌, ◌%◌, ◌≤◌, eqb, List, [], ◌∷◌, ◌++◌, length, drop, None, refl, sym, ap, subst, ◌∙◌, append_assoc, arith, inl, inr}
+use Rattle.std.proofs.lemmas.Bool.{cases_Bool, eqb-true}
+use Rattle.byteorder.specs.Endian.{little_bytes}
+use Rattle.kt_stream.specs.declared.kind.Head.{Head}
+use Rattle.kt_stream.specs.declared.kind.StreamKind.{StreamKind}
+use Rattle.kt_stream.specs.declared.kind.StreamKind.TheVariants.{Cdf, Gul, Loss, Summary}
+use Rattle.kt_stream.specs.declared.read.HeaderFault.{HeaderFault}
+use Rattle.kt_stream.specs.declared.read.HeaderFault.TheVariants.{NotProfile, WrongStream, BadSamples, BadSet}
 use Rattle.kt_stream.specs.declared.read.Read.TheVariants.{Got, Short}
-use Rattle.kt_stream.specs.declared.summary.Head.{Head}
-use Rattle.kt_stream.specs.Read.{◌>>=◌, number_of, number, accepted, field}
-use Rattle.kt_stream.specs.Summary.{between, mark_cause, mark, summary_header}
-use Rattle.kt_stream.proofs.Steady.{Kept, kept_same, kept_then, bind_got, number_long, number_kept, later_kept}
-use Rattle.kt_stream.proofs.Cases.{got_is, got_not_short, none}
-use Rattle.kt_stream.proofs.Fields.{field_got, between_bounds, field_less, accepted_whole}
+use Rattle.kt_stream.specs.Read.{fields_in, fields_then, AreJudged, AreSmall}
+use Rattle.kt_stream.specs.Header.{id_of, mark_judge, header_fields, header_size, head_of, header_in, IsHead, header_bytes}
+use Rattle.kt_stream.specs.Stream.{Kept, AreBytes}
+use Rattle.kt_stream.proofs.Cases.{got_is, some_is_none, bind_got, kept_then}
+use Rattle.kt_stream.proofs.Fields.{between_bounds, between_none, AreWide, fields_kept, fields_got, fields_back}
 
-mark_same : (kind : ℕ) (bytes more : List ℕ) → 4 ≤ length bytes → mark_cause kind (bytes ++ more) ≡ mark_cause kind bytes
-mark_same kind bytes more long =
-    let three : 3 ≤ length (drop 1 bytes) = omega (arith, length-drop 1 bytes) in
-    let front : slice_index (bytes ++ more) 0 ≡ slice_index bytes 0 = get_or_append_left bytes more 0 0 (omega arith) in
-    let kind-of : big_number 3 (drop 1 (bytes ++ more)) ≡ big_number 3 (drop 1 bytes) = rw (drop-append-le 1 bytes more (omega arith)) (big_from-append 3 (drop 1 bytes) more three) in
-    ap (λ (n : ℕ). cond (eqb n 101) (cond (eqb (slice_index (bytes ++ more) 0) kind) none (Some Kind)) (Some Profile)) kind-of
-    ∙ ap (λ (n : ℕ). cond (eqb (big_number 3 (drop 1 bytes)) 101) (cond (eqb n kind) none (Some Kind)) (Some Profile)) front
+-- a header keeps what it is, whatever bytes follow
+pub header_kept : (kind : StreamKind) (bytes more : List ℕ) → Kept (header_in kind bytes) (header_in kind (bytes ++ more))
+header_kept kind bytes more = kept_then (fields_in (header_fields kind) [] bytes 0) (fields_in (header_fields kind) [] (bytes ++ more) 0) _ _ (fields_kept (header_fields kind) [] bytes more 0) (λ values e. refl)
 
-mark_kept : (kind : ℕ) (bytes more : List ℕ) → Kept (mark kind bytes) (mark kind (bytes ++ more))
-mark_kept kind bytes more = kept_then (number 4 bytes) (number 4 (bytes ++ more)) _ _ (number_kept 4 bytes more) (λ x e. rw (mark_same kind bytes more (number_long 4 bytes x e)) (kept_same (accepted 0 x (mark_cause kind bytes))))
+-- where there are no bytes there is no header
+pub header_nothing : (kind : StreamKind) → header_in kind [] ≡ Short
+header_nothing Cdf = refl
+header_nothing Gul = refl
+header_nothing Loss = refl
+header_nothing Summary = refl
 
-mark_long : (kind : ℕ) (bytes : List ℕ) (x : ℕ) → mark kind bytes ≡ Got x → 4 ≤ length bytes
-mark_long kind bytes x e =
-    let first = bind_got (number 4 bytes) (λ y. accepted 0 y (mark_cause kind bytes)) x e in
-    number_long 4 bytes first.0 first.1
+-- the kind and the type as a number
+abbrev mark_of : StreamKind → ℕ
+mark_of kind = id_of kind + 256 * 6619136
 
--- a header that was read is read so with more bytes behind
-pub header_kept : (bytes more : List ℕ) → Kept (summary_header bytes) (summary_header (bytes ++ more))
-unfolding summary_header
-header_kept bytes more =
-    kept_then (mark 3 bytes) (mark 3 (bytes ++ more)) _ _ (mark_kept 3 bytes more) (λ m e.
-    let four = mark_long 3 bytes m e in
-    kept_then (field 4 (between 1 1000 Samples) (drop 4 bytes) 4) (field 4 (between 1 1000 Samples) (drop 4 (bytes ++ more)) 4) _ _ (later_kept 4 4 (between 1 1000 Samples) bytes more 4 four) (λ samples e2.
-    let eight : 8 ≤ length bytes = omega (arith, (field_got 4 (between 1 1000 Samples) (drop 4 bytes) 4 samples e2).long, length-drop 4 bytes, four) in
-    kept_then (field 4 (between 1 9 Set) (drop 8 bytes) 8) (field 4 (between 1 9 Set) (drop 8 (bytes ++ more)) 8) _ _ (later_kept 8 4 (between 1 9 Set) bytes more 8 eight) (λ set e3. refl)))
-
--- what is known of a header that was read
-pub record HeaderRead (bytes : List ℕ) (h : Head) : Type 0 where
-  pub long : 12 ≤ length bytes
-  pub samples : (1 ≤ h.samples) × (h.samples ≤ 1000)
-  pub set : (1 ≤ h.set) × (h.set ≤ 9)
-
--- what is known of a header that was read
-pub header_got : (bytes : List ℕ) (h : Head) → summary_header bytes ≡ Got h → HeaderRead bytes h
-unfolding summary_header
-header_got bytes h e =
-    let a = bind_got (mark 3 bytes) (λ m. field 4 (between 1 1000 Samples) (drop 4 bytes) 4 >>= λ samples. field 4 (between 1 9 Set) (drop 8 bytes) 8 >>= λ set. Got (record { samples = samples; set = set })) h e in
-    let b = bind_got (field 4 (between 1 1000 Samples) (drop 4 bytes) 4) (λ samples. field 4 (between 1 9 Set) (drop 8 bytes) 8 >>= λ set. Got (record { samples = samples; set = set })) h a.2 in
-    let d = bind_got (field 4 (between 1 9 Set) (drop 8 bytes) 8) (λ set. Got (record { samples = b.0; set = set })) h b.2 in
-    let samples = field_got 4 (between 1 1000 Samples) (drop 4 bytes) 4 b.0 b.1 in
-    let set = field_got 4 (between 1 9 Set) (drop 8 bytes) 8 d.0 d.1 in
-    let whole : Head = record { samples = b.0; set = d.0 } in
-    let known : HeaderRead bytes whole = record {
-      long = omega (arith, set.long, length-drop 8 bytes, samples.long, length-drop 4 bytes, mark_long 3 bytes a.0 a.1);
-      samples = between_bounds 1 1000 Samples b.0 samples.good;
-      set = between_bounds 1 9 Set d.0 set.good;
-    } in
-    subst (λ (x : Head). HeaderRead bytes x) {x = whole} (got_is whole h d.2) known
-
-mark_less : {B : Type 0} (kind : ℕ) (bytes : List ℕ) (f : ℕ → Read B) → (mark kind bytes >>= f) ≡ Short → (length bytes < 4) ⊎ (f (number_of 4 bytes) ≡ Short)
-mark_less kind bytes f e = elim (cases_lt (length bytes) 4) [
-  | inl less ↦ inl less
-  | inr long ↦ inr (accepted_whole 0 (number_of 4 bytes) (mark_cause kind bytes) f (rw (le-leb 4 (length bytes) long) at e))
-]
-
--- a header is short only where there are fewer than 12 bytes
-pub header_less : (bytes : List ℕ) → summary_header bytes ≡ Short → length bytes < 12
-unfolding summary_header
-header_less bytes e = elim (mark_less 3 bytes _ e) [
-  | inl less ↦ omega arith
-  | inr rest ↦ elim (field_less 4 (between 1 1000 Samples) (drop 4 bytes) 4 _ rest) [
-    | inl less ↦ omega (arith, length-drop 4 bytes)
-    | inr last ↦ elim (field_less 4 (between 1 9 Set) (drop 8 bytes) 8 _ last) [
-      | inl less ↦ omega (arith, length-drop 8 bytes)
-      | inr whole ↦ absurd (got_not_short _ whole)
-    ]
+mark_is : (kind : StreamKind) (word : ℕ) → mark_judge kind word ≡ None → word ≡ mark_of kind
+mark_is kind word e = elim (cases_Bool (eqb (word / 256) 6619136)) [
+  | inl profile ↦ elim (cases_Bool (eqb (word % 256) (id_of kind))) [
+    | inl same ↦ omega (arith, eqb-true _ _ profile, eqb-true _ _ same)
+    | inr other ↦ absurd (some_is_none (WrongStream (word % 256)) (rw (profile, other) at e))
   ]
+  | inr other ↦ absurd (some_is_none NotProfile (rw other at e))
 ]
+
+-- the values of the fields of a header
+abbrev values_of : StreamKind → Head → List ℕ
+values_of Cdf head = mark_of Cdf ∷ []
+values_of Gul head = mark_of Gul ∷ head.samples ∷ []
+values_of Loss head = mark_of Loss ∷ head.samples ∷ []
+values_of Summary head = mark_of Summary ∷ head.samples ∷ head.set ∷ []
+
+-- the values of a header that was read
+record ValuesRead (kind : StreamKind) (values : List ℕ) : Type 0 where
+  pub good : IsHead kind (head_of values)
+  pub are : values ≡ values_of kind (head_of values)
+
+mark_alone : (kind : StreamKind) (word : ℕ) (rest : List ℕ) → mark_judge kind word ≡ None → word ∷ rest ≡ mark_of kind ∷ rest
+mark_alone kind word rest e = ap (λ (w : ℕ). w ∷ rest) (mark_is kind word e)
+
+values_read : (kind : StreamKind) (values : List ℕ) → AreJudged (header_fields kind) [] 0 values → ValuesRead kind values
+values_read Cdf [] judged = absurd judged
+values_read Cdf (mark ∷ []) judged = record { good = (refl, refl); are = mark_alone Cdf mark [] judged.0 }
+values_read Cdf (mark ∷ other ∷ values) judged = absurd judged.1
+values_read Gul [] judged = absurd judged
+values_read Gul (mark ∷ []) judged = absurd judged.1
+values_read Gul (mark ∷ samples ∷ []) judged =
+    let bounds = between_bounds 1 1000 (BadSamples samples) samples judged.1.0 in
+    record { good = (bounds.0, bounds.1, refl); are = mark_alone Gul mark (samples ∷ []) judged.0 }
+values_read Gul (mark ∷ samples ∷ other ∷ values) judged = absurd judged.1.1
+values_read Loss [] judged = absurd judged
+values_read Loss (mark ∷ []) judged = absurd judged.1
+values_read Loss (mark ∷ samples ∷ []) judged =
+    let bounds = between_bounds 1 1000 (BadSamples samples) samples judged.1.0 in
+    record { good = (bounds.0, bounds.1, refl); are = mark_alone Loss mark (samples ∷ []) judged.0 }
+values_read Loss (mark ∷ samples ∷ other ∷ values) judged = absurd judged.1.1
+values_read Summary [] judged = absurd judged
+values_read Summary (mark ∷ []) judged = absurd judged.1
+values_read Summary (mark ∷ samples ∷ []) judged = absurd judged.1.1
+values_read Summary (mark ∷ samples ∷ set ∷ []) judged =
+    let bounds = between_bounds 1 1000 (BadSamples samples) samples judged.1.0 in
+    let sets = between_bounds 1 9 (BadSet set) set judged.1.1.0 in
+    record { good = (bounds.0, bounds.1, sets.0, sets.1); are = mark_alone Summary mark (samples ∷ set ∷ []) judged.0 }
+values_read Summary (mark ∷ samples ∷ set ∷ other ∷ values) judged = absurd judged.1.1.1
+
+all_wide : (kind : StreamKind) → AreWide (header_fields kind)
+all_wide Cdf = (inl refl, tt)
+all_wide Gul = (inl refl, (inl refl, tt))
+all_wide Loss = (inl refl, (inl refl, tt))
+all_wide Summary = (inl refl, (inl refl, (inl refl, tt)))
+
+-- a header is written as its fields are
+values_bytes : (kind : StreamKind) (head : Head) (rest : List ℕ) → fields_then (header_fields kind) (values_of kind head) rest ≡ header_bytes kind head ++ rest
+values_bytes Cdf head rest = refl
+values_bytes Gul head rest = refl
+values_bytes Loss head rest = refl
+values_bytes Summary head rest =
+    ap (λ (xs : List ℕ). little_bytes 4 (mark_of Summary) ++ xs) (sym (append_assoc (little_bytes 4 head.samples) (little_bytes 4 head.set) rest))
+
+-- what is known of a header that was read
+pub record HeaderRead (kind : StreamKind) (bytes : List ℕ) (head : Head) : Type 0 where
+  pub long : header_size kind ≤ length bytes
+  pub good : IsHead kind head
+  pub written : AreBytes bytes → bytes ≡ header_bytes kind head ++ drop (header_size kind) bytes
+
+-- what is known of a header that was read
+pub header_got : (kind : StreamKind) (bytes : List ℕ) (head : Head) → header_in kind bytes ≡ Got head → HeaderRead kind bytes head
+header_got kind bytes head e =
+    let first = bind_got (fields_in (header_fields kind) [] bytes 0) (λ values. Got (head_of values)) head e in
+    let known = fields_got (header_fields kind) [] bytes 0 first.0 first.1 in
+    let is : head_of known.values ≡ head = ap head_of (sym known.out_is) ∙ got_is {W = HeaderFault} (head_of first.0) head first.2 in
+    let read = values_read kind known.values known.judged in
+    record {
+      long = known.long;
+      good = subst (IsHead kind) {x = head_of known.values} is read.good;
+      written = λ are.
+          known.written are (all_wide kind)
+          ∙ ap (λ (values : List ℕ). fields_then (header_fields kind) values (drop (header_size kind) bytes)) (read.are ∙ ap (values_of kind) is)
+          ∙ values_bytes kind head (drop (header_size kind) bytes);
+    }
+
+-- a stream has at most 1,000 samples
+pub few_samples : (kind : StreamKind) (head : Head) → IsHead kind head → head.samples ≤ 1000
+few_samples Cdf head is = omega (arith, is.0)
+few_samples Gul head is = is.1
+few_samples Loss head is = is.1
+few_samples Summary head is = is.1
+
+values_judged : (kind : StreamKind) (head : Head) → IsHead kind head → AreJudged (header_fields kind) [] 0 (values_of kind head)
+values_judged Cdf head is = (refl, tt)
+values_judged Gul head is = (refl, (between_none 1 1000 (BadSamples head.samples) head.samples is.0 is.1, tt))
+values_judged Loss head is = (refl, (between_none 1 1000 (BadSamples head.samples) head.samples is.0 is.1, tt))
+values_judged Summary head is =
+    (refl, (between_none 1 1000 (BadSamples head.samples) head.samples is.0 is.1, (between_none 1 9 (BadSet head.set) head.set is.2 is.3, tt)))
+
+values_small : (kind : StreamKind) (head : Head) → IsHead kind head → AreSmall (header_fields kind) (values_of kind head)
+values_small Cdf head is = (omega arith, tt)
+values_small Gul head is = (omega arith, (omega (arith, is.1), tt))
+values_small Loss head is = (omega arith, (omega (arith, is.1), tt))
+values_small Summary head is = (omega arith, (omega (arith, is.1), (omega (arith, is.3), tt)))
+
+head_back : (kind : StreamKind) (head : Head) → IsHead kind head → head_of (values_of kind head) ≡ head
+head_back Cdf head is = ap (λ (n : ℕ). record { samples = n; set = 0 }) (sym is.0) ∙ ap (λ (n : ℕ). record { samples = head.samples; set = n }) (sym is.1)
+head_back Gul head is = ap (λ (set : ℕ). record { samples = head.samples; set = set }) (sym is.2)
+head_back Loss head is = ap (λ (set : ℕ). record { samples = head.samples; set = set }) (sym is.2)
+head_back Summary head is = refl
+
+-- a header is read back
+pub header_back : (kind : StreamKind) (head : Head) (rest : List ℕ) → IsHead kind head → header_in kind (header_bytes kind head ++ rest) ≡ Got head
+header_back kind head rest is =
+    rw (← values_bytes kind head rest, fields_back (header_fields kind) [] (values_of kind head) rest 0 (values_judged kind head is) (values_small kind head is), head_back kind head is) refl
+
+-- the bytes of a header
+pub header_length : (kind : StreamKind) (head : Head) → length (header_bytes kind head) ≡ header_size kind
+header_length Cdf head = refl
+header_length Gul head = refl
+header_length Loss head = refl
+header_length Summary head = refl

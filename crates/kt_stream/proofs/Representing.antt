@@ -1,213 +1,304 @@
 -- A reader stands for the bytes that it was given, piece by piece.
-use Rattle.std.proofs.Common.{◌≡◌, ℕ, ◌+◌, ◌-◌, ◌≤◌, ◌<◌, List, [], ◌∷◌, ◌++◌, length, take, drop, Option, Some, None, Result, Ok, Err, refl, sym, ap, subst, ◌∙◌, append_assoc, arith, inl, inr}
-use Rattle.std.specs.Prelude.{MatchResult, OnOk}
+use Rattle.std.proofs.Common.{◌≡◌, ℕ, ◌+◌, ◌-◌, ◌≤◌, ◌<◌, List, [], ◌∷◌, ◌++◌, length, take, drop, Option, Some, None, Result, Ok, Err, refl, sym, ap, ◌∙◌, append_assoc, arith, inl, inr}
+use Rattle.std.specs.Prelude.{MatchResult}
 use Rattle.std.proofs.lemmas.Bool.{le-leb, lt-leb, cases_lt}
-use Rattle.std.proofs.lemmas.List.{length-append, length-take-le, append-nil, take-append-drop, take-append-le}
+use Rattle.std.proofs.lemmas.List.{length-append, length-take-le, length-drop, append-nil, take-append-drop}
+use Rattle.std.proofs.Math.Seq.{take-append-add, take-append_seam}
 use Rattle.kt_stream.specs.declared.entry.Placed.{Placed}
-use Rattle.kt_stream.specs.declared.entry.SummaryRecord.{SummaryRecord}
+use Rattle.kt_stream.specs.declared.kind.Head.{Head}
+use Rattle.kt_stream.specs.declared.kind.Shape.{Shape}
 use Rattle.kt_stream.specs.declared.stop.StreamStop.{StreamStop}
-use Rattle.kt_stream.specs.declared.stop.StreamStop.TheVariants.{NotProfile, BadRecord, TooLong, Cut, OutOfMemory}
-use Rattle.kt_stream.specs.declared.summary.Head.{Head}
+use Rattle.kt_stream.specs.declared.stop.StreamStop.TheVariants.{NotProfile, WrongStream, BadSamples, BadSet, BadRecord, TooLong, Cut, OutOfMemory}
 use Rattle.kt_stream.specs.Stop.{IsRefusal}
-use Rattle.kt_stream.specs.Summary.{summary_header}
-use Rattle.kt_stream.specs.Stream.{End, Refused, Stream, unlimited, stream_of, stream_limit, overlong, too_long, refusal}
-use Rattle.kt_stream.specs.Reader.{Reading, after, refused, reads_on, GoesOn, IsStopped, Continues, Represents, rest_end, AbsorbsOn, AbsorbsToStop, AbsorbsBy, Extends, Feeds, stop_or_too_long}
-use Rattle.kt_stream.proofs.Advancing.{take-append-add}
-use Rattle.kt_stream.proofs.Absorbing.{behind}
+use Rattle.kt_stream.specs.Stream.{Form, End, Partial, Refused, Stream, after, reads_on, overlong, too_long, within_room, stream_of, stream_limit, refusal}
+use Rattle.kt_stream.specs.Reader.{Reading, refused, goes_on, stream_by, stream_from, rest_end, end_by, stop_or_too_long, IsAt, Represents, Stands, IsFurther, Absorbs, Extends, Feeds}
+use Rattle.kt_stream.specs.Gather.{MovesBy}
+use Rattle.kt_stream.proofs.Heading.{header_nothing}
 
--- ---- it stands for the longer bytes
+-- ---- room
 
--- a stream within the limit
-pub within_limit : (bytes : List ℕ) → length bytes ≤ stream_limit → stream_of bytes ≡ unlimited bytes
-unfolding stream_of
-within_limit bytes within = rw (le-leb (length bytes) stream_limit within) refl
+-- bytes for which there is room
+pub room_within : {E : Type 0} (room : ℕ) (read : List ℕ → Stream E) (bytes : List ℕ) → length bytes ≤ room → within_room room read bytes ≡ read bytes
+unfolding within_room
+room_within room read bytes within = rw (le-leb (length bytes) room within) refl
 
--- a stream beyond the limit
-pub beyond_limit : (bytes : List ℕ) → stream_limit < length bytes → stream_of bytes ≡ overlong (unlimited (take stream_limit bytes))
-unfolding stream_of
-beyond_limit bytes beyond = rw (lt-leb (length bytes) stream_limit beyond) refl
-
-rests_unrefused : (head : Option Head) (pending : List ℕ) → refusal (rest_end head pending) ≡ None
-rests_unrefused None pending = refl
-rests_unrefused (Some h) [] = refl
-rests_unrefused (Some h) (b ∷ pending) = refl
-
--- what reading the whole gives, whatever bytes follow
-whole_onward : (bytes piece more : List ℕ) (taken : List (Placed SummaryRecord)) (old : Reading) (s : Stream) → GoesOn bytes (taken ++ old.held) old → after old.held (reads_on old.head old.start (old.pending ++ (piece ++ more))) ≡ s
-    → unlimited ((bytes ++ piece) ++ more) ≡ after taken s
-whole_onward bytes piece more taken old s goes is =
-    ap unlimited (append_assoc bytes piece more) ∙ goes.onward (piece ++ more) ∙ sym (behind taken old.held _) ∙ ap (after taken) is
-
--- the same at the end of the piece
-whole_now : (bytes piece : List ℕ) (taken : List (Placed SummaryRecord)) (old new : Reading) → GoesOn bytes (taken ++ old.held) old → AbsorbsOn old piece new
-    → unlimited (bytes ++ piece) ≡ record { head = new.head; entries = taken ++ new.held; end = rest_end new.head new.pending }
-whole_now bytes piece taken old new goes absorbs =
-    ap unlimited (sym (append-nil (bytes ++ piece))) ∙ whole_onward bytes piece [] taken old _ goes (absorbs.onward [])
-    ∙ ap (λ (xs : List ℕ). after taken (after new.held (reads_on new.head new.start xs))) (append-nil new.pending)
-    ∙ ap (λ (s : Stream). after taken (after new.held s)) absorbs.rests
-    ∙ ap (λ (es : List (Placed SummaryRecord)). record { head = new.head; entries = taken ++ es; end = rest_end new.head new.pending }) (append-nil new.held)
-
-goes_continues : (stop : Option StreamStop) (bytes : List ℕ) (known : List (Placed SummaryRecord)) (reading : Reading) → stop ≡ None → GoesOn bytes known reading → Continues stop bytes known reading
-goes_continues stop bytes known reading is goes = rw is goes
-
-stopped_continues : (stop : Option StreamStop) (by : StreamStop) (bytes : List ℕ) (known : List (Placed SummaryRecord)) (reading : Reading) → stop ≡ Some by → IsStopped bytes known reading by → Continues stop bytes known reading
-stopped_continues stop by bytes known reading is stopped = rw is stopped
-
--- a reader that goes on, and one that was stopped
-pub goes_from : (stop : Option StreamStop) (bytes : List ℕ) (known : List (Placed SummaryRecord)) (reading : Reading) → stop ≡ None → Continues stop bytes known reading → GoesOn bytes known reading
-goes_from stop bytes known reading is continues = rw is at continues
-
--- what is known of a reader that was stopped
-pub stopped_from : (stop : Option StreamStop) (by : StreamStop) (bytes : List ℕ) (known : List (Placed SummaryRecord)) (reading : Reading) → stop ≡ Some by → Continues stop bytes known reading → IsStopped bytes known reading by
-stopped_from stop by bytes known reading is continues = rw is at continues
-
--- a reader that was given nothing
-pub fresh : Represents [] [] (record { head = None; held = []; stop = None; start = 0; pending = [] })
-unfolding stream_of unlimited summary_header
-fresh = record {
-  head = refl;
-  records = refl;
-  stop = refl;
-  continues = record { placed = refl; within = omega arith; onward = λ more. refl };
-}
-
--- a piece after which the reader goes on
-pub extends_on : (bytes piece : List ℕ) (taken : List (Placed SummaryRecord)) (old new : Reading) → length bytes + length piece ≤ stream_limit → GoesOn bytes (taken ++ old.held) old → new.stop ≡ None → AbsorbsOn old piece new
-    → Represents (bytes ++ piece) taken new
-extends_on bytes piece taken old new within goes stop absorbs =
-    let total : length (bytes ++ piece) ≤ stream_limit = omega (arith, length-append bytes piece) in
-    let now = within_limit (bytes ++ piece) total ∙ whole_now bytes piece taken old new goes absorbs in
-    let on : GoesOn (bytes ++ piece) (taken ++ new.held) new = record {
-      placed = omega (arith, absorbs.placed, goes.placed, length-append bytes piece);
-      within = total;
-      onward = λ more. whole_onward bytes piece more taken old _ goes (absorbs.onward more) ∙ behind taken new.held _;
-    } in
-    record {
-      head = ap (λ (s : Stream). s.head) (sym now);
-      records = ap (λ (s : Stream). s.entries) (sym now);
-      stop = stop ∙ sym (ap (λ (s : Stream). refusal s.end) now ∙ rests_unrefused new.head new.pending);
-      continues = goes_continues new.stop (bytes ++ piece) (taken ++ new.held) new stop on;
-    }
-
--- a reader that was stopped stands for all longer bytes
-stopped_as : (bytes : List ℕ) (taken : List (Placed SummaryRecord)) (reading : Reading) (stop : StreamStop) → reading.stop ≡ Some stop → IsStopped bytes (taken ++ reading.held) reading stop → Represents bytes taken reading
-stopped_as bytes taken reading stop is stopped =
-    let now : stream_of bytes ≡ refused reading.head (taken ++ reading.held) stop = ap stream_of (sym (append-nil bytes)) ∙ stopped.onward [] in
-    record {
-      head = ap (λ (s : Stream). s.head) (sym now);
-      records = ap (λ (s : Stream). s.entries) (sym now);
-      stop = is ∙ sym (ap (λ (s : Stream). refusal s.end) now);
-      continues = stopped_continues reading.stop stop bytes (taken ++ reading.held) reading is stopped;
-    }
-
--- a reader that was stopped stands for longer bytes too
-pub stopped_on : (bytes piece : List ℕ) (taken : List (Placed SummaryRecord)) (reading : Reading) (stop : StreamStop) → reading.stop ≡ Some stop → IsStopped bytes (taken ++ reading.held) reading stop → Represents (bytes ++ piece) taken reading
-stopped_on bytes piece taken reading stop is stopped = stopped_as (bytes ++ piece) taken reading stop is (record {
-  onward = λ more. ap stream_of (append_assoc bytes piece more) ∙ stopped.onward (piece ++ more);
-})
+-- bytes for which there is none
+pub room_beyond : {E : Type 0} (room : ℕ) (read : List ℕ → Stream E) (bytes : List ℕ) → room < length bytes → within_room room read bytes ≡ overlong (read (take room bytes))
+unfolding within_room
+room_beyond room read bytes beyond = rw (lt-leb (length bytes) room beyond) refl
 
 -- the front of two lists behind the first
 pub take_over : (n : ℕ) (xs ys : List ℕ) → length xs ≤ n → take n (xs ++ ys) ≡ xs ++ take (n - length xs) ys
 take_over n xs ys long = let split : n ≡ length xs + (n - length xs) = omega arith in ap (λ (k : ℕ). take k (xs ++ ys)) split ∙ take-append-add xs ys (n - length xs)
 
--- what is refused within the limit is refused so, however much follows
-refused_within : (bytes more : List ℕ) (head : Option Head) (known : List (Placed SummaryRecord)) (stop : StreamStop) → length bytes ≤ stream_limit
-    → ((rest : List ℕ) → unlimited (bytes ++ rest) ≡ refused head known stop) → stream_of (bytes ++ more) ≡ refused head known stop
-refused_within bytes more head known stop within onward = elim (cases_lt stream_limit (length (bytes ++ more))) [
-  | inl beyond ↦ beyond_limit (bytes ++ more) beyond ∙ ap overlong (ap unlimited (take_over stream_limit bytes more within) ∙ onward (take (stream_limit - length bytes) more))
-  | inr short ↦ within_limit (bytes ++ more) short ∙ onward more
+-- what was read of bytes for which there is room is in front of the rest
+room_moves : {E : Type 0} (room left : ℕ) (read next : List ℕ → Stream E) (bytes rest : List ℕ) (records : List (Placed E)) (more : List ℕ) → length bytes ≤ room → room + length rest ≡ left + length bytes
+    → ((more : List ℕ) → read (bytes ++ more) ≡ after records (next (rest ++ more))) → within_room room read (bytes ++ more) ≡ after records (within_room left next (rest ++ more))
+room_moves room left read next bytes rest records more within same moves = elim (cases_lt room (length (bytes ++ more))) [
+  | inl beyond ↦
+      let also : left < length (rest ++ more) = omega (arith, length-append bytes more, length-append rest more) in
+      let parts : room - length bytes ≡ left - length rest = omega arith in
+      room_beyond room read (bytes ++ more) beyond
+      ∙ ap (λ (xs : List ℕ). overlong (read xs)) (take_over room bytes more within)
+      ∙ ap overlong (moves (take (room - length bytes) more))
+      ∙ rw (parts, room_beyond left next (rest ++ more) also, take_over left rest more (omega arith)) refl
+  | inr fits ↦
+      let also : length (rest ++ more) ≤ left = omega (arith, length-append bytes more, length-append rest more) in
+      room_within room read (bytes ++ more) fits ∙ moves more ∙ rw (room_within left next (rest ++ more) also) refl
 ]
 
--- a piece that stops the reader
-pub extends_to_stop : (bytes piece : List ℕ) (taken : List (Placed SummaryRecord)) (old new : Reading) (stop : StreamStop) → length bytes + length piece ≤ stream_limit → GoesOn bytes (taken ++ old.held) old → new.stop ≡ Some stop → AbsorbsToStop old piece new stop
-    → IsStopped (bytes ++ piece) (taken ++ new.held) new stop
-extends_to_stop bytes piece taken old new stop within goes is absorbs = record {
-  onward = λ more. refused_within (bytes ++ piece) more new.head (taken ++ new.held) stop (omega (arith, length-append bytes piece)) (λ rest. whole_onward bytes piece rest taken old _ goes (absorbs.onward rest));
+-- what is refused is refused so, however much follows
+room_refuses : {E : Type 0} (room : ℕ) (read : List ℕ → Stream E) (bytes more : List ℕ) (head : Option Head) (records : List (Placed E)) (stop : StreamStop) → length bytes ≤ room
+    → ((more : List ℕ) → read (bytes ++ more) ≡ refused head records stop) → within_room room read (bytes ++ more) ≡ refused head records stop
+room_refuses room read bytes more head records stop within refuses = elim (cases_lt room (length (bytes ++ more))) [
+  | inl beyond ↦ room_beyond room read (bytes ++ more) beyond ∙ ap (λ (xs : List ℕ). overlong (read xs)) (take_over room bytes more within) ∙ ap overlong (refuses (take (room - length bytes) more))
+  | inr fits ↦ room_within room read (bytes ++ more) fits ∙ refuses more
+]
+
+-- ---- a piece
+
+-- a reader that goes on, with nothing pending
+abbrev pub running : {E : Type 0} → Shape → Option Head → List (Placed E) → ℕ → List ℕ → Reading E
+running shape head held start pending = record { shape = shape; head = head; held = held; stop = None; start = start; pending = pending }
+
+-- records in front of others in front of a stream
+after_after : {E : Type 0} (front back : List (Placed E)) (s : Stream E) → after front (after back s) ≡ after (front ++ back) s
+after_after {E} front back s = ap (λ (es : List (Placed E)). record { head = s.head; entries = es; end = s.end }) (sym (append_assoc front back s.entries))
+
+-- all bytes from where a reader stands were read
+pub moves_absorbs : {E : Type 0} (form : Form E) (shape : Shape) (head : Option Head) (held : List (Placed E)) (start : ℕ) (bytes : List ℕ) (now : Option Head) (records : List (Placed E)) (stop : Option StreamStop) (used : ℕ) → start + length bytes ≤ stream_limit
+    → used ≤ length bytes → MovesBy E stop form shape (λ more. reads_on form shape head start (bytes ++ more)) start bytes now records used
+    → Absorbs E form (running shape head held start []) bytes (record { shape = shape; head = now; held = held ++ records; stop = stop; start = start + used; pending = drop used bytes })
+moves_absorbs form shape head held start bytes now records None used within some moves =
+    let long : length (drop used bytes) ≡ length bytes - used = length-drop used bytes in
+    let room : stream_limit - start + length (drop used bytes) ≡ stream_limit - (start + used) + length bytes = omega arith in
+    record {
+      shape = refl;
+      onward = λ more.
+          ap (after held) (room_moves (stream_limit - start) (stream_limit - (start + used)) (reads_on form shape head start) (reads_on form shape now (start + used)) bytes (drop used bytes) records more (omega arith) room moves.onward)
+          ∙ after_after held records _;
+      rests = rw (
+        append-nil (drop used bytes),
+        room_within (stream_limit - (start + used)) (reads_on form shape now (start + used)) (drop used bytes) (omega arith),
+        moves.rests,
+        append-nil (held ++ records),
+      ) refl;
+      place = (omega arith, omega arith);
+    }
+moves_absorbs form shape head held start bytes now records (Some stop) used within some moves = record {
+  shape = refl;
+  onward = λ more. ap (after held) (room_refuses (stream_limit - start) (reads_on form shape head start) bytes more now records stop (omega arith) moves.onward);
+  rests = refl;
+  place = moves.kind;
 }
 
-first_limit : (bytes piece more : List ℕ) → length bytes ≤ stream_limit → stream_limit < length bytes + length piece → take stream_limit ((bytes ++ piece) ++ more) ≡ bytes ++ take (stream_limit - length bytes) piece
-first_limit bytes piece more within beyond =
-    let long : stream_limit ≤ length (bytes ++ piece) = omega (arith, length-append bytes piece) in
-    take-append-le stream_limit (bytes ++ piece) more long ∙ take_over stream_limit bytes piece within
+further_as : (stop : Option StreamStop) (place before other : ℕ) → before ≡ other → IsFurther stop place before → IsFurther stop place other
+further_as stop place before other is further = rw (← is) further
+
+-- a reader with nothing pending
+abbrev pub emptied : {E : Type 0} → Reading E → Reading E
+emptied r = record { shape = r.shape; head = r.head; held = r.held; stop = r.stop; start = r.start; pending = [] }
+
+joined : {E : Type 0} (stop : Option StreamStop) (form : Form E) (old : Reading E) (piece bytes more : List ℕ) → bytes ≡ old.pending ++ piece → stream_by stop form old (piece ++ more) ≡ stream_by stop form (emptied old) (bytes ++ more)
+joined None form old piece bytes more is =
+    ap (λ (xs : List ℕ). after old.held (goes_on form old.shape old.head old.start xs)) (sym (append_assoc old.pending piece more) ∙ ap (λ (xs : List ℕ). xs ++ more) (sym is))
+joined (Some stop) form old piece bytes more is = refl
+
+-- what was pending with a piece behind it
+pub joined_absorbs : {E : Type 0} (form : Form E) (old : Reading E) (piece bytes : List ℕ) (new : Reading E) → bytes ≡ old.pending ++ piece → Absorbs E form (emptied old) bytes new → Absorbs E form old piece new
+joined_absorbs form old piece bytes new is absorbs = record {
+  shape = absorbs.shape;
+  onward = λ more. joined old.stop form old piece bytes more is ∙ absorbs.onward more;
+  rests = absorbs.rests;
+  place = further_as new.stop (new.start + length new.pending) (old.start + 0 + length bytes) (old.start + length old.pending + length piece) (omega (arith, length-append old.pending piece, ap length is)) absorbs.place;
+}
 
 rests_too_long : (head : Option Head) (pending : List ℕ) → too_long (rest_end head pending) ≡ Refused TooLong
 rests_too_long None pending = refl
 rests_too_long (Some h) [] = refl
 rests_too_long (Some h) (b ∷ pending) = refl
 
--- bytes that fill the limit without a refusal, and at least one more
-pub extends_too_long : (bytes piece : List ℕ) (taken : List (Placed SummaryRecord)) (old new stopped : Reading) → length bytes ≤ stream_limit → stream_limit < length bytes + length piece → GoesOn bytes (taken ++ old.held) old
-    → AbsorbsOn old (take (stream_limit - length bytes) piece) new → stopped.head ≡ new.head → stopped.held ≡ new.held → IsStopped (bytes ++ piece) (taken ++ stopped.held) stopped TooLong
-extends_too_long bytes piece taken old new stopped within beyond goes absorbs head held = record {
-  onward = λ more.
-      let longer : stream_limit < length ((bytes ++ piece) ++ more) = omega (arith, length-append (bytes ++ piece) more, length-append bytes piece) in
-      let front : take stream_limit ((bytes ++ piece) ++ more) ≡ bytes ++ take (stream_limit - length bytes) piece = first_limit bytes piece more within beyond in
-      beyond_limit ((bytes ++ piece) ++ more) longer
-      ∙ ap overlong (ap unlimited front ∙ whole_now bytes (take (stream_limit - length bytes) piece) taken old new goes absorbs)
-      ∙ rw (head, held) (ap (λ (e : End). record { head = new.head; entries = taken ++ new.held; end = e }) (rests_too_long new.head new.pending));
+-- the reader is at the limit, and more comes
+past_limit : {E : Type 0} (form : Form E) (shape : Shape) (head : Option Head) (held : List (Placed E)) (start : ℕ) (pending more : List ℕ) → start + length pending ≡ stream_limit → 1 ≤ length more
+    → stream_from form (running shape head held start pending) [] ≡ record { head = head; entries = held; end = rest_end head pending }
+    → stream_from form (running shape head held start pending) more ≡ refused head held TooLong
+past_limit form shape head held start pending more full some rests =
+    let room = stream_limit - start in
+    let read = reads_on form shape head start in
+    let beyond : room < length (pending ++ more) = omega (arith, length-append pending more) in
+    let exact : room ≡ length pending = omega arith in
+    let front : take room (pending ++ more) ≡ pending = ap (λ (n : ℕ). take n (pending ++ more)) exact ∙ take-append_seam pending more in
+    let here : after held (read pending) ≡ record { head = head; entries = held; end = rest_end head pending } =
+    ap (after held) (sym (room_within room read pending (omega arith))) ∙ ap (λ (xs : List ℕ). after held (within_room room read xs)) (sym (append-nil pending)) ∙ rests in
+    ap (after held) (room_beyond room read (pending ++ more) beyond ∙ ap (λ (xs : List ℕ). overlong (read xs)) front) ∙ ap overlong here
+    ∙ ap (λ (e : End). record { head = head; entries = held; end = e }) (rests_too_long head pending)
+
+-- what is known of a reader that is at a place
+at_place : (stop : Option StreamStop) (place before : ℕ) → stop ≡ None → IsFurther stop place before → (place ≡ before) × (place ≤ stream_limit)
+at_place stop place before is further = rw is at further
+
+refuses_at : (stop : Option StreamStop) (by : StreamStop) (place before : ℕ) → stop ≡ Some by → IsFurther stop place before → IsRefusal by
+refuses_at stop by place before is further = rw is at further
+
+stopped_kept : {E : Type 0} (form : Form E) (r : Reading E) (stop : StreamStop) (more other : List ℕ) → r.stop ≡ Some stop → stream_from form r more ≡ stream_from form r other
+stopped_kept form r stop more other is = rw is refl
+
+-- a piece that passes the limit, of which the part within it was read
+pub past_absorbs : {E : Type 0} (stop : Option StreamStop) (form : Form E) (old mid : Reading E) (piece : List ℕ) (room : ℕ) → old.start + length old.pending + room ≡ stream_limit → room < length piece → mid.stop ≡ stop
+    → Absorbs E form old (take room piece) mid → Absorbs E form old piece (record { shape = mid.shape; head = mid.head; held = mid.held; stop = Some (stop_or_too_long stop); start = mid.start; pending = mid.pending })
+past_absorbs stop form old mid piece room full past is absorbs = record {
+  shape = absorbs.shape;
+  onward = λ more. ap (stream_from form old) (cut more) ∙ absorbs.onward (drop room piece ++ more) ∙ beyond stop (drop room piece ++ more) is (omega (arith, length-append (drop room piece) more, length-drop room piece));
+  rests = refl;
+  place = refuses stop is;
+}
+  where
+    cut : (more : List ℕ) → piece ++ more ≡ take room piece ++ (drop room piece ++ more)
+    cut more = ap (λ (xs : List ℕ). xs ++ more) (sym (take-append-drop room piece)) ∙ append_assoc (take room piece) (drop room piece) more
+
+    taken : length (take room piece) ≡ room
+    taken = length-take-le room piece (omega arith)
+
+    beyond : (by : Option StreamStop) (more : List ℕ) → mid.stop ≡ by → 1 ≤ length more → stream_from form mid more ≡ refused mid.head mid.held (stop_or_too_long by)
+    beyond None more none some =
+        let place = at_place mid.stop (mid.start + length mid.pending) (old.start + length old.pending + length (take room piece)) none absorbs.place in
+        rw none (past_limit form mid.shape mid.head mid.held mid.start mid.pending more (omega (arith, place.0, taken, full)) some (rw none at absorbs.rests))
+    beyond (Some by) more stopped some = rw stopped refl
+
+    refuses : (by : Option StreamStop) → mid.stop ≡ by → IsRefusal (stop_or_too_long by)
+    refuses None none = tt
+    refuses (Some by) stopped = refuses_at mid.stop by (mid.start + length mid.pending) (old.start + length old.pending + length (take room piece)) stopped absorbs.place
+
+-- ---- it stands for the longer bytes
+
+refusal_by : (stop : Option StreamStop) (head : Option Head) (pending : List ℕ) → stop ≡ refusal (end_by stop head pending)
+refusal_by None None pending = refl
+refusal_by None (Some h) [] = refl
+refusal_by None (Some h) (b ∷ pending) = refl
+refusal_by (Some stop) head pending = refl
+
+-- a reader that goes on as the bytes do, and holds no whole record in what is pending, stands for them
+represents_by : {E : Type 0} (form : Form E) (bytes : List ℕ) (taken : List (Placed E)) (r : Reading E) → ((more : List ℕ) → stream_of form r.shape (bytes ++ more) ≡ after taken (stream_from form r more))
+    → stream_from form r [] ≡ record { head = r.head; entries = r.held; end = end_by r.stop r.head r.pending } → IsAt r.stop (r.start + length r.pending) (length bytes) → Represents E form bytes taken r
+represents_by {E} form bytes taken r onward rests place =
+    let now : stream_of form r.shape bytes ≡ record { head = r.head; entries = taken ++ r.held; end = end_by r.stop r.head r.pending } =
+    ap (stream_of form r.shape) (sym (append-nil bytes)) ∙ onward [] ∙ ap (after taken) rests in
+    record {
+      head = sym (ap (λ (s : Stream E). s.head) now);
+      records = sym (ap (λ (s : Stream E). s.entries) now);
+      ends = ap (λ (s : Stream E). s.end) now;
+      stop = refusal_by r.stop r.head r.pending ∙ sym (ap (λ (s : Stream E). refusal s.end) now);
+      onward = onward;
+      place = place;
+    }
+
+nothing : {E : Type 0} (form : Form E) (shape : Shape) → stream_from form (running shape None [] 0 []) [] ≡ record { head = None; entries = []; end = Partial }
+unfolding within_room reads_on
+nothing form shape = rw (header_nothing shape.kind) refl
+
+-- a reader that was given nothing
+pub fresh : {E : Type 0} (form : Form E) (shape : Shape) (held : List (Placed E)) (pending : List ℕ) → held ≡ [] → pending ≡ [] → Represents E form [] [] (running shape None held 0 pending)
+fresh form shape held pending none empty =
+    rw (none, empty) (represents_by form [] [] (running shape None [] 0 []) (λ more. refl) (nothing form shape) (refl, omega arith))
+
+place_at : (stop : Option StreamStop) (place bytes before : ℕ) → before ≡ bytes → IsFurther stop place before → IsAt stop place bytes
+place_at None place bytes before is further = (omega (arith, further.0, is), omega (arith, further.0, further.1, is))
+place_at (Some stop) place bytes before is further = further
+
+before_at : (stop : Option StreamStop) (place bytes : ℕ) → stop ≡ None → IsAt stop place bytes → (place ≡ bytes) × (bytes ≤ stream_limit)
+before_at stop place bytes is at-place = rw is at at-place
+
+-- what is known of a reader that was stopped
+pub stopped_at : (stop : Option StreamStop) (by : StreamStop) (place bytes : ℕ) → stop ≡ Some by → IsAt stop place bytes → IsRefusal by
+stopped_at stop by place bytes is at-place = rw is at at-place
+
+-- the reader stands for the bytes with the piece behind them
+pub absorbs_extends : {E : Type 0} (form : Form E) (old : Reading E) (piece : List ℕ) (new : Reading E) → old.stop ≡ None → Absorbs E form old piece new → Extends E form old piece new
+absorbs_extends form old piece new none absorbs = λ bytes taken rep.
+    represents_by form (bytes ++ piece) taken new
+    (λ more. ap (λ (shape : Shape). stream_of form shape ((bytes ++ piece) ++ more)) absorbs.shape ∙ ap (stream_of form old.shape) (append_assoc bytes piece more) ∙ rep.onward (piece ++ more) ∙ ap (after taken) (absorbs.onward more))
+    absorbs.rests
+    (place_at new.stop (new.start + length new.pending) (length (bytes ++ piece)) (old.start + length old.pending + length piece)
+    (omega (arith, length-append bytes piece, (before_at old.stop (old.start + length old.pending) (length bytes) none rep.place).0)) absorbs.place)
+
+stopped_rests : {E : Type 0} (form : Form E) (r : Reading E) (stop : StreamStop) → r.stop ≡ Some stop → stream_from form r [] ≡ record { head = r.head; entries = r.held; end = end_by r.stop r.head r.pending }
+stopped_rests form r stop is = rw is refl
+
+refused_at : (stop : Option StreamStop) (by : StreamStop) (place bytes other : ℕ) → stop ≡ Some by → IsAt stop place bytes → IsAt stop place other
+refused_at stop by place bytes other is at-place = let kind : IsRefusal by = rw is at at-place in rw is kind
+
+-- a reader that was stopped stands for all longer bytes
+pub stopped_extends : {E : Type 0} (form : Form E) (r : Reading E) (piece : List ℕ) (stop : StreamStop) → r.stop ≡ Some stop → Extends E form r piece r
+stopped_extends form r piece stop is = λ bytes taken rep.
+    represents_by form (bytes ++ piece) taken r
+    (λ more. ap (stream_of form r.shape) (append_assoc bytes piece more) ∙ rep.onward (piece ++ more) ∙ ap (after taken) (stopped_kept form r stop (piece ++ more) more is))
+    (stopped_rests form r stop is) (refused_at r.stop stop (r.start + length r.pending) (length bytes) (length (bytes ++ piece)) is rep.place)
+
+-- the reader stands for some bytes again
+pub stands_again : {E : Type 0} (form : Form E) (old : Reading E) (piece : List ℕ) (new : Reading E) → old.stop ≡ None → Stands E form old → Absorbs E form old piece new → Stands E form new
+stands_again form old piece new none stands absorbs = record {
+  bytes = stands.bytes ++ piece;
+  taken = stands.taken;
+  represents = absorbs_extends form old piece new none absorbs stands.bytes stands.taken stands.represents;
 }
 
--- ---- a call of feed
-
--- a piece within the limit
-pub extends_within : (old new : Reading) (piece : List ℕ) (stop : Option StreamStop) → old.start + length old.pending + length piece ≤ stream_limit → old.stop ≡ None → new.stop ≡ stop → AbsorbsBy stop old piece new → Extends old piece new
-extends_within old new piece None within running is absorbs = λ bytes taken rep.
-    let goes = goes_from old.stop bytes (taken ++ old.held) old running rep.continues in
-    extends_on bytes piece taken old new (omega (arith, goes.placed)) goes is absorbs
-extends_within old new piece (Some stop) within running is absorbs = λ bytes taken rep.
-    let goes = goes_from old.stop bytes (taken ++ old.held) old running rep.continues in
-    stopped_as (bytes ++ piece) taken new stop is (extends_to_stop bytes piece taken old new stop (omega (arith, goes.placed)) goes is absorbs)
-
--- a piece that passes the limit, of which the first part was refused
-pub extends_refused : (old new : Reading) (piece : List ℕ) (room : ℕ) (stop : StreamStop) → old.start + length old.pending + room ≡ stream_limit → room ≤ length piece → old.stop ≡ None → new.stop ≡ Some stop
-    → AbsorbsToStop old (take room piece) new stop → Extends old piece new
-extends_refused old new piece room stop fills long running is absorbs = λ bytes taken rep.
-    let goes = goes_from old.stop bytes (taken ++ old.held) old running rep.continues in
-    let own = length-take-le room piece long in
-    let front = extends_to_stop bytes (take room piece) taken old new stop (omega (arith, goes.placed, own)) goes is absorbs in
-    subst (λ (z : List ℕ). Represents z taken new) (append_assoc bytes (take room piece) (drop room piece) ∙ ap (λ (xs : List ℕ). bytes ++ xs) (take-append-drop room piece)) (stopped_on (bytes ++ take room piece) (drop room piece) taken new stop is front)
-
--- a piece that passes the limit, of which the first part was not refused
-pub extends_beyond : (old new stopped : Reading) (piece : List ℕ) (room : ℕ) → old.start + length old.pending + room ≡ stream_limit → room < length piece → old.stop ≡ None
-    → AbsorbsOn old (take room piece) new → stopped.head ≡ new.head → stopped.held ≡ new.held → stopped.stop ≡ Some TooLong → Extends old piece stopped
-extends_beyond old new stopped piece room fills long running absorbs head held is = λ bytes taken rep.
-    let goes = goes_from old.stop bytes (taken ++ old.held) old running rep.continues in
-    let room-is : room ≡ stream_limit - length bytes = omega (arith, goes.placed) in
-    stopped_as (bytes ++ piece) taken stopped TooLong is
-    (extends_too_long bytes piece taken old new stopped goes.within (omega (arith, goes.placed)) goes (subst (λ (k : ℕ). AbsorbsOn old (take k piece) new) room-is absorbs) head held)
-
--- a piece that passes the limit
-pub extends_past : (old new : Reading) (piece : List ℕ) (room : ℕ) (stop : Option StreamStop) → old.start + length old.pending + room ≡ stream_limit → room < length piece → old.stop ≡ None → new.stop ≡ stop
-    → AbsorbsBy stop old (take room piece) new → Extends old piece (record { head = new.head; held = new.held; stop = Some (stop_or_too_long stop); start = new.start; pending = new.pending })
-extends_past old new piece room None fills long running is absorbs = extends_beyond old new _ piece room fills long running absorbs refl refl refl
-extends_past old new piece room (Some stop) fills long running is absorbs =
-    let same : record { head = new.head; held = new.held; stop = Some stop; start = new.start; pending = new.pending } ≡ new = ap (λ (s : Option StreamStop). record { head = new.head; held = new.held; stop = s; start = new.start; pending = new.pending }) (sym is) in
-    rw same (extends_refused old new piece room stop fills (omega arith) running is absorbs)
-
--- what follows from an Ok
-pub ok_then : {A E P Q : Type 0} (answer : Result A E) → (P → Q) → OnOk answer P → OnOk answer Q
-ok_then (Ok done) f p = f p
-ok_then (Err e) f p = p
-
--- a reader that was stopped before
-pub extends_stopped : (reading : Reading) (piece : List ℕ) (stop : StreamStop) → reading.stop ≡ Some stop → Extends reading piece reading
-extends_stopped reading piece stop is = λ bytes taken rep. stopped_on bytes piece taken reading stop is (stopped_from reading.stop stop bytes (taken ++ reading.held) reading is rep.continues)
-
--- ---- the answer of feed
+-- ---- the answers of feed and finish
 
 -- the answer is the refusal, where one came
-pub feeds_by : (old : Reading) (piece : List ℕ) (stop : StreamStop) (new : Reading) → IsRefusal stop → new.stop ≡ Some stop → Extends old piece new → Feeds old piece (Err stop) new
-feeds_by old piece NotProfile new kind is extends = (is, extends)
-feeds_by old piece (BadRecord byte cause) new kind is extends = (is, extends)
-feeds_by old piece (Cut byte) new kind is extends = (is, extends)
-feeds_by old piece TooLong new kind is extends = (is, extends)
-feeds_by old piece OutOfMemory new kind is extends = absurd kind
+feeds_by : {E : Type 0} (form : Form E) (old : Reading E) (piece : List ℕ) (stop : StreamStop) (new : Reading E) → IsRefusal stop → new.stop ≡ Some stop → new.shape ≡ old.shape → Extends E form old piece new → Feeds E form old piece (Err stop) new
+feeds_by form old piece NotProfile new kind is shape extends = (is, shape, extends)
+feeds_by form old piece (WrongStream found) new kind is shape extends = (is, shape, extends)
+feeds_by form old piece (BadSamples found) new kind is shape extends = (is, shape, extends)
+feeds_by form old piece (BadSet found) new kind is shape extends = (is, shape, extends)
+feeds_by form old piece (BadRecord byte cause) new kind is shape extends = (is, shape, extends)
+feeds_by form old piece (Cut byte) new kind is shape extends = (is, shape, extends)
+feeds_by form old piece TooLong new kind is shape extends = (is, shape, extends)
+feeds_by form old piece OutOfMemory new kind is shape extends = absurd kind
 
 -- the answer of a reader that was stopped before
-pub feeds_stopped : (reading : Reading) (piece : List ℕ) (stop : StreamStop) → IsRefusal stop → reading.stop ≡ Some stop → Feeds reading piece (Err stop) reading
-feeds_stopped reading piece stop kind is = feeds_by reading piece stop reading kind is (extends_stopped reading piece stop is)
+pub feeds_stopped : {E : Type 0} (form : Form E) (r : Reading E) (piece : List ℕ) (stop : StreamStop) → Stands E form r → r.stop ≡ Some stop → Feeds E form r piece (Err stop) r
+feeds_stopped form r piece stop stands is =
+    feeds_by form r piece stop r (stopped_at r.stop stop (r.start + length r.pending) (length stands.bytes) is stands.represents.place) is refl (stopped_extends form r piece stop is)
 
 -- the answer is the verdict
-pub feeds_verdict : (old : Reading) (piece : List ℕ) (answer : Result (Unit {0}) StreamStop) (new : Reading) → MatchResult answer (λ _. new.stop ≡ None) (λ stop. (new.stop ≡ Some stop) × IsRefusal stop) → Extends old piece new → Feeds old piece answer new
-feeds_verdict old piece (Ok done) new is extends = (is, extends)
-feeds_verdict old piece (Err stop) new is extends = feeds_by old piece stop new is.1 is.0 extends
+pub feeds_verdict : {E : Type 0} (form : Form E) (old : Reading E) (piece : List ℕ) (answer : Result (Unit {0}) StreamStop) (new : Reading E) → MatchResult answer (λ _. new.stop ≡ None) (λ stop. (new.stop ≡ Some stop) × IsRefusal stop) → old.stop ≡ None
+    → Absorbs E form old piece new → Feeds E form old piece answer new
+feeds_verdict form old piece (Ok done) new is none absorbs = (is, absorbs.shape, absorbs_extends form old piece new none absorbs)
+feeds_verdict form old piece (Err stop) new is none absorbs = feeds_by form old piece stop new is.1 is.0 absorbs.shape (absorbs_extends form old piece new none absorbs)
+
+-- ---- a record is taken
+
+-- the reader without the first record that it held
+abbrev without : {E : Type 0} → Reading E → List (Placed E) → Reading E
+without r rest = record { shape = r.shape; head = r.head; held = rest; stop = r.stop; start = r.start; pending = r.pending }
+
+one_over : {E : Type 0} (front rest later : List (Placed E)) (placed : Placed E) → front ++ ((placed ∷ rest) ++ later) ≡ (front ++ placed ∷ []) ++ (rest ++ later)
+one_over front rest later placed = sym (append_assoc front (placed ∷ []) (rest ++ later))
+
+one_behind : {E : Type 0} (stop : Option StreamStop) (form : Form E) (r : Reading E) (placed : Placed E) (rest front : List (Placed E)) (more : List ℕ) → r.held ≡ placed ∷ rest
+    → after front (stream_by stop form r more) ≡ after (front ++ placed ∷ []) (stream_by stop form (without r rest) more)
+one_behind {E} None form r placed rest front more is =
+    let s = goes_on form r.shape r.head r.start (r.pending ++ more) in
+    ap (λ (es : List (Placed E)). record { head = s.head; entries = es; end = s.end }) (ap (λ (held : List (Placed E)). front ++ (held ++ s.entries)) is ∙ one_over front rest s.entries placed)
+one_behind {E} (Some stop) form r placed rest front more is =
+    ap (λ (es : List (Placed E)). record { head = r.head; entries = es; end = Refused stop }) (ap (λ (held : List (Placed E)). front ++ held) is ∙ sym (append_assoc front (placed ∷ []) rest))
+
+-- the reader stands for the same bytes, with the record among those that were taken
+pub takes_one : {E : Type 0} (form : Form E) (r : Reading E) (placed : Placed E) (rest : List (Placed E)) (bytes : List ℕ) (taken : List (Placed E)) → r.held ≡ placed ∷ rest → Represents E form bytes taken r
+    → Represents E form bytes (taken ++ placed ∷ []) (without r rest)
+takes_one {E} form r placed rest bytes taken is rep = record {
+  head = rep.head;
+  records = append_assoc taken (placed ∷ []) rest ∙ ap (λ (held : List (Placed E)). taken ++ held) (sym is) ∙ rep.records;
+  ends = rep.ends;
+  stop = rep.stop;
+  onward = λ more. rep.onward more ∙ one_behind r.stop form r placed rest taken more is;
+  place = rep.place;
+}
+
+-- so it stands for some bytes again
+pub taken_stands : {E : Type 0} (form : Form E) (r : Reading E) (placed : Placed E) (rest : List (Placed E)) → r.held ≡ placed ∷ rest → Stands E form r → Stands E form (without r rest)
+taken_stands form r placed rest is stands = record {
+  bytes = stands.bytes;
+  taken = stands.taken ++ placed ∷ [];
+  represents = takes_one form r placed rest stands.bytes stands.taken is stands.represents;
+}

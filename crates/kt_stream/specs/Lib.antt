@@ -1,10 +1,13 @@
 pub mod Read
 pub mod Stop
-pub mod Summary
+pub mod Header
 pub mod Stream
+pub mod Pairs
+pub mod Summary
+pub mod Losses
 pub mod Growth
 pub mod Grammar
-pub mod Scan
 pub mod Reader
 pub mod Gather
-pub mod Advance
+pub mod Write
+pub mod Bins

@@ -1,80 +1,116 @@
-//! Gathers the whole records of some bytes, and keeps what is left.
+//! Gathers the whole records of some bytes.
 //! The rules: docs/STREAMS.md, "Readers".
-ghost use Rattle.std.specs.Prelude.{◌≡◌, ◌+◌, ◌<◌, ◌≤◌, ◌^◌, length, IfOk};
+ghost use Rattle.std.specs.Prelude.{◌≡◌, ◌+◌, ◌<◌, ◌≤◌, ◌^◌, Some, length, IfOk, IfSome, ◌++◌, drop};
 ghost use Rattle.kt_stream.specs.Gather.{Moves};
+ghost use Rattle.kt_stream.specs.Stream.{reads_on};
 
-use crate::decode::record_of;
-use crate::entry::{Placed, SummaryRecord};
-use crate::scan::{Found, Stage, scan_record};
-use crate::stop::{StreamStop, of_record};
-use crate::summary::Head;
+use crate::entry::Placed;
+use crate::header::{header_length, header_of};
+use crate::kind::{Head, Shape};
+use crate::read::Read;
+use crate::stop::{StreamStop, of_header, of_record};
+use crate::unit::Entry;
 use std::alloc::{AllocError, Global};
 use std::collections::VecDeque;
 
-/// Where reading has come to: records that are whole, and the bytes that are not.
+/// Where reading has come to.
 #[derive(Drop)]
-pub struct Moved {
+pub struct Moved<E: Entry> {
     /// The header, once it is whole and good.
     pub head: Option<Head>,
     /// The whole records.
-    pub records: VecDeque<Placed<SummaryRecord>>,
+    pub records: VecDeque<Placed<E>>,
     /// What refuses the stream behind them.
     pub stop: Option<StreamStop>,
-    /// The byte of the stream at which the header or the record that is not whole begins.
-    pub start: u64,
-    /// Its bytes so far.
-    pub pending: Vec<u8>,
-    /// How many of these were judged.
-    pub judged: usize,
-    /// The field group that comes next.
-    pub stage: Stage,
+    /// How many bytes were whole.
+    pub used: usize,
+    /// The bytes of the last record, a hint for the next.
+    pub size: usize,
 }
 
-/// Goes on behind a header or a record: appends the whole records to those before.
-pub fn gather(
+/// Gathers the records behind the first bytes.
+fn gather<E: Entry>(
     alloc: Global,
+    shape: Shape,
     head: Head,
+    start: u64,
     bytes: &[u8],
-    at: u64,
-    before: VecDeque<Placed<SummaryRecord>>,
-) -> Result<Moved, AllocError>
+    from: usize,
+    hint: usize,
+) -> Result<Moved<E>, AllocError>
     requires samples { head.samples ≤ 1000 }
-    requires at { at + length bytes.now < 2 ^ 63 }
-    ensures { IfOk result (λ moved. Moves head bytes.now at before.items moved) }
+    requires from { from ≤ length bytes.now }
+    requires at { start + length bytes.now < 2 ^ 62 }
+    ensures { IfOk result (λ moved. Moves E E.form shape (λ more. reads_on E.form shape (Some head) (start + from) (drop from bytes.now ++ more)) start bytes.now moved) }
 {
-    let mut records = before;
-    let mut used = 0;
+    E::laws();
+    let mut records = VecDeque::new(alloc);
+    let mut used = from;
+    let mut size = hint;
     'records: loop {
-        let start = at + used as u64;
-        let scan = scan_record(head.samples, Stage::AtFront, &bytes[used..], start);
-        match scan.found {
-            Found::Ended => {
-                let entry = record_of(alloc, &bytes[used..used + scan.used])?;
-                records.push_back(Placed { at: start, entry })?;
-                used += scan.used;
+        let at = start + used as u64;
+        match E::read_from(alloc, shape, head.samples, &bytes[used..], at, size)? {
+            Read::Got(entry) => {
+                size = entry.size();
+                records.push_back(Placed { at, entry })?;
+                used += size;
             }
-            Found::Inside(stage) => {
+            Read::Short => {
                 return Ok(Moved {
                     head: Some(head),
                     records,
                     stop: None,
-                    start,
-                    pending: Vec::from_slice(alloc, &bytes[used..])?,
-                    judged: scan.used,
-                    stage,
+                    used,
+                    size,
                 });
             }
-            Found::Wrong(misfit) => {
+            Read::Wrong(misfit) => {
                 return Ok(Moved {
                     head: Some(head),
                     records,
-                    stop: Some(of_record(start, misfit)),
-                    start,
-                    pending: Vec::new(alloc),
-                    judged: 0,
-                    stage: Stage::AtFront,
+                    stop: Some(of_record(misfit)),
+                    used,
+                    size,
                 });
             }
         }
+    }
+}
+
+/// Reads the bytes from a byte of the stream on: the header where there is none yet, and the records.
+pub fn read_on<E: Entry>(
+    alloc: Global,
+    shape: Shape,
+    head: Option<Head>,
+    start: u64,
+    bytes: &[u8],
+    hint: usize,
+) -> Result<Moved<E>, AllocError>
+    requires samples { IfSome head (λ head. head.samples ≤ 1000) }
+    requires at { start + length bytes.now < 2 ^ 62 }
+    ensures { IfOk result (λ moved. Moves E E.form shape (λ more. reads_on E.form shape head start (bytes.now ++ more)) start bytes.now moved) }
+{
+    match head {
+        Some(head) => Ok(gather(alloc, shape, head, start, bytes, 0, hint)?),
+        None => match header_of(shape.kind, bytes) {
+            Read::Got(head) => {
+                let from = header_length(shape.kind);
+                Ok(gather(alloc, shape, head, start, bytes, from, hint)?)
+            }
+            Read::Short => Ok(Moved {
+                head: None,
+                records: VecDeque::new(alloc),
+                stop: None,
+                used: 0,
+                size: hint,
+            }),
+            Read::Wrong(fault) => Ok(Moved {
+                head: None,
+                records: VecDeque::new(alloc),
+                stop: Some(of_header(fault)),
+                used: 0,
+                size: hint,
+            }),
+        },
     }
 }

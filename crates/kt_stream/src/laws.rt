@@ -1,34 +1,67 @@
-//! What reading a summary stream and its grammar have to do with each other: theorems, as functions with an empty body.
+//! What reading a stream and its grammar have to do with each other: theorems, as functions with an empty body.
 //! The rules: docs/STREAMS.md, "Headers", "Records" and "Readers".
-ghost use Rattle.std.specs.Prelude.{◌≡◌, Some, None, List, ◌++◌, ℕ};
-ghost use Rattle.kt_stream.specs.declared.entry.SummaryRecord.{SummaryRecord};
-ghost use Rattle.kt_stream.specs.declared.summary.Head.{Head};
-ghost use Rattle.kt_stream.specs.Grammar.{IsHead, AreSummaries, AreBytes, Spells, IsSpelled, spelled};
+ghost use Rattle.std.specs.Prelude.{◌≡◌, Some, None, List, [], ◌++◌, ℕ};
+ghost use Rattle.std.specs.List.{AllByRecursion};
+ghost use Rattle.kt_stream.specs.declared.kind.Head.{Head};
+ghost use Rattle.kt_stream.specs.declared.kind.Shape.{Shape};
+ghost use Rattle.kt_stream.specs.Header.{IsHead};
+ghost use Rattle.kt_stream.specs.Grammar.{Spells, IsSpelled, spelled, entries_of};
 ghost use Rattle.kt_stream.specs.Growth.{GrowsTo};
-ghost use Rattle.kt_stream.specs.Stream.{stream_of, fault_of};
+ghost use Rattle.kt_stream.specs.Reader.{Reading, Extends, IsPlaced};
+ghost use Rattle.kt_stream.specs.declared.stop.StreamStop.{StreamStop};
+ghost use Rattle.kt_stream.specs.Stream.{stream_of, fault_of, AreBytes};
 
-/// The header and the records that are read of any bytes are in their ranges, also where the bytes
-/// are cut off or refused behind them.
-pub fn what_is_read_fits()
-    ensures { (bytes : List ℕ) (head : Head) → (stream_of bytes).head ≡ Some head → IsHead head × AreSummaries head.samples (stream_of bytes).entries }
-{}
+use crate::unit::Entry;
+
+/// The header and the records that are read of any bytes are in their ranges and within 2^40 bytes, also where
+/// the bytes are cut off or refused behind them.
+pub fn what_is_read_fits<E: Entry>()
+    ensures { (shape : Shape) (bytes : List ℕ) (head : Head) → (stream_of E.form shape bytes).head ≡ Some head → IsHead shape.kind head × AllByRecursion (IsPlaced E E.form E.IsGood shape head) (stream_of E.form shape bytes).entries }
+{
+    E::laws();
+}
 
 /// What was read stays with more bytes behind: the header, the records, and a refusal.
-pub fn what_is_read_stays()
-    ensures { (bytes more : List ℕ) → GrowsTo (stream_of bytes) (stream_of (bytes ++ more)) }
-{}
+pub fn what_is_read_stays<E: Entry>()
+    ensures { (shape : Shape) (bytes more : List ℕ) → GrowsTo E (stream_of E.form shape bytes) (stream_of E.form shape (bytes ++ more)) }
+{
+    E::laws();
+}
 
-/// What is written as a summary stream is read back.
-pub fn what_is_spelled_is_read()
-    ensures { (bytes : List ℕ) (head : Head) (entries : List SummaryRecord) → Spells bytes head entries → stream_of bytes ≡ spelled head entries }
-{}
+/// What is written as a stream is read back.
+pub fn what_is_spelled_is_read<E: Entry>()
+    ensures { (shape : Shape) (bytes : List ℕ) (head : Head) (entries : List E) → Spells E E.form E.IsGood shape bytes head entries → stream_of E.form shape bytes ≡ spelled E.form shape head entries }
+{
+    E::laws();
+}
 
 /// Bytes are at most one stream: what is written differently is different.
-pub fn bytes_spell_one_stream()
-    ensures { (bytes : List ℕ) (head other_head : Head) (entries other_entries : List SummaryRecord) → Spells bytes head entries → Spells bytes other_head other_entries → (head ≡ other_head) × (entries ≡ other_entries) }
-{}
+pub fn bytes_spell_one_stream<E: Entry>()
+    ensures { (shape : Shape) (bytes : List ℕ) (head other_head : Head) (entries other_entries : List E) → Spells E E.form E.IsGood shape bytes head entries → Spells E E.form E.IsGood shape bytes other_head other_entries → (head ≡ other_head) × (entries ≡ other_entries) }
+{
+    E::laws();
+}
 
 /// Bytes (each below 256) without a fault are a header with records behind it, and these are what is read of them.
-pub fn what_is_read_is_spelled()
-    ensures { (bytes : List ℕ) → AreBytes bytes → fault_of bytes ≡ None → IsSpelled bytes }
+pub fn what_is_read_is_spelled<E: Entry>()
+    ensures { (shape : Shape) (bytes : List ℕ) → AreBytes bytes → fault_of E.form shape bytes ≡ None → IsSpelled E E.form E.IsGood shape bytes }
+{
+    E::laws();
+}
+
+/// A stream of records behind others has the records of both, places aside.
+pub fn records_follow_records<E: Entry>()
+    ensures { (shape : Shape) (bytes first_bytes last_bytes : List ℕ) (head : Head) (first last : List E) → Spells E E.form E.IsGood shape bytes head (first ++ last) → Spells E E.form E.IsGood shape first_bytes head first → Spells E E.form E.IsGood shape last_bytes head last → entries_of (stream_of E.form shape bytes).entries ≡ entries_of (stream_of E.form shape first_bytes).entries ++ entries_of (stream_of E.form shape last_bytes).entries }
+{
+    E::laws();
+}
+
+/// Without a header there are no records.
+pub fn no_header_means_no_records<E: Entry>()
+    ensures { (shape : Shape) (bytes : List ℕ) → (stream_of E.form shape bytes).head ≡ None → (stream_of E.form shape bytes).entries ≡ [] }
+{}
+
+/// A reader that was stopped stands for all longer bytes too.
+pub fn a_refusal_stands_for_longer_bytes<E: Entry>()
+    ensures { (reading : Reading E) (more : List ℕ) (stop : StreamStop) → reading.stop ≡ Some stop → Extends E E.form reading more reading }
 {}

@@ -1,20 +1,30 @@
-//! The streams between the tools: their records, and readers that take them in pieces of any size.
+//! The streams between the tools: their records, how they are written, and readers that take them in pieces of any size.
 #![tactic(auto)]
 
-mod advance;
-mod decode;
+mod bins;
+mod cdf;
 mod entry;
 mod gather;
+mod header;
+mod kind;
 pub mod laws;
+mod loss;
 mod number;
+mod pairs;
 mod read;
 mod reader;
-mod scan;
 mod shared;
 mod stop;
 mod summary;
+mod unit;
+mod write;
 
-pub use entry::{Pair, Pairs, Placed, SummaryRecord};
-pub use reader::SummaryReader;
+pub use cdf::CdfReader;
+pub use entry::{Bin, Bins, Cdf, LossRecord, Pair, Pairs, Placed, SummaryRecord};
+pub use kind::{Head, Shape, StreamKind};
+pub use loss::LossReader;
+pub use reader::RecordReader;
 pub use stop::{RecordCause, StreamStop};
-pub use summary::Head;
+pub use summary::SummaryReader;
+pub use unit::Entry;
+pub use write::{put_cdf, put_head, put_loss, put_summary};

@@ -1,47 +1,45 @@
 //! What reading at a place in a stream gives, and what can be wrong with a field.
 //! The rules: docs/STREAMS.md, "Records".
+use crate::stop::RecordCause;
 
-/// What is wrong with a field.
-#[derive(Clone, Copy, Debug, PartialEq, Eq)]
-pub enum FieldCause {
-    /// The stream's type is not 101.
-    Profile,
-    /// The stream is of another kind.
-    Kind,
-    /// The number of samples is not 1 to 1,000.
-    Samples,
-    /// The summary set is not 1 to 9.
-    Set,
-    /// An id is not 1 to 2,147,483,647.
-    Id,
-    /// An exposure is above 10^14 cents.
-    Exposure,
-    /// The first sidx of a record is 0.
-    Empty,
-    /// A sidx is none that the record may have here.
-    Sidx,
-    /// A loss is 0, or above 10^16 cents.
-    Loss,
-    /// The loss beside sidx 0 is not 0.
-    End,
-}
-
-/// A wrong field: the byte at which it begins, and what is wrong with it.
-#[derive(Clone, Copy, Debug, PartialEq, Eq)]
+/// A wrong field of a record: the byte at which it begins, and what is wrong with it.
+#[derive(Clone, Copy)]
 pub struct Misfit {
     /// The first byte of the field, counted from 0 in the whole stream.
     pub at: u64,
     /// What is wrong with it.
-    pub cause: FieldCause,
+    pub cause: RecordCause,
+}
+
+/// A wrong field of a header.
+#[derive(Clone, Copy)]
+pub enum HeaderFault {
+    /// The stream's type is not 101.
+    NotProfile,
+    /// The stream is of another kind.
+    WrongStream {
+        /// Its first byte.
+        found: u8,
+    },
+    /// The number of samples is not 1 to 1,000.
+    BadSamples {
+        /// The number that was found.
+        found: u32,
+    },
+    /// The summary set is not 1 to 9.
+    BadSet {
+        /// The number that was found.
+        found: u32,
+    },
 }
 
 /// What reading at a place gives: a value, or too few bytes, or the first wrong field.
-#[derive(Clone, Copy, Debug, PartialEq, Eq)]
-pub enum Read<T> {
+#[derive(Drop)]
+pub enum Read<T, W> {
     /// The value.
     Got(T),
     /// The bytes end before the value does, and nothing before that is wrong.
     Short,
     /// The first wrong field.
-    Wrong(Misfit),
+    Wrong(W),
 }

@@ -4,24 +4,55 @@ ghost use Rattle.std.specs.Prelude.{◌≡◌};
 ghost use Rattle.kt_stream.specs.declared.stop.StreamStop.TheVariants.{OutOfMemory};
 ghost use Rattle.kt_stream.specs.Stop.{header_stop, record_stop};
 
-use crate::read::Misfit;
+use crate::read::{HeaderFault, Misfit};
 use std::alloc::AllocError;
 
-/// What is wrong with a record.
+/// What is wrong with a field of a record.
 #[derive(Clone, Copy, Debug, PartialEq, Eq)]
 pub enum RecordCause {
-    /// A field of the record is wrong.
-    Record,
+    /// An id is not 1 to 2,147,483,647.
+    Id,
+    /// An exposure is above 10^14 cents.
+    Exposure,
+    /// The first sidx of a record is 0.
+    Empty,
+    /// A sidx is none that the record may have here.
+    Sidx,
+    /// A loss is 0, or above 10^16 cents.
+    Loss,
+    /// The loss beside sidx 0 is not 0.
+    End,
+    /// A number of bins is 0, above 1,000, or above that of the damage bins.
+    Bins,
+    /// A probability is below the one before, or too high, or the last is not above the one before.
+    Prob,
+    /// A mean is above 1,000,000.
+    Mean,
 }
 
 /// Why a stream is refused.
 #[derive(Clone, Copy, Debug, PartialEq, Eq)]
 pub enum StreamStop {
-    /// The header is not that of such a stream.
+    /// The type in bytes 1 to 3 is not 101.
     NotProfile,
-    /// A record is wrong.
+    /// The stream is of another kind.
+    WrongStream {
+        /// Its first byte.
+        found: u8,
+    },
+    /// The number of samples in the header is not 1 to 1,000.
+    BadSamples {
+        /// The number that was found.
+        found: u32,
+    },
+    /// The summary set in the header is not 1 to 9.
+    BadSet {
+        /// The number that was found.
+        found: u32,
+    },
+    /// A field of a record is wrong.
     BadRecord {
-        /// The first byte of the record, counted from 0 in the whole stream.
+        /// The first byte of the field, counted from 0 in the whole stream.
         byte: u64,
         /// What is wrong with it.
         cause: RecordCause,
@@ -46,20 +77,23 @@ impl From<AllocError> for StreamStop {
 }
 
 /// How a wrong field of the header is refused.
-pub(crate) fn of_header(misfit: Misfit) -> StreamStop
-    ensures { result ≡ header_stop misfit }
+pub(crate) fn of_header(fault: HeaderFault) -> StreamStop
+    ensures { result ≡ header_stop fault }
 {
-    let _ = misfit;
-    StreamStop::NotProfile
+    match fault {
+        HeaderFault::NotProfile => StreamStop::NotProfile,
+        HeaderFault::WrongStream { found } => StreamStop::WrongStream { found },
+        HeaderFault::BadSamples { found } => StreamStop::BadSamples { found },
+        HeaderFault::BadSet { found } => StreamStop::BadSet { found },
+    }
 }
 
-/// How a wrong field of the record that begins at a byte is refused.
-pub(crate) fn of_record(start: u64, misfit: Misfit) -> StreamStop
-    ensures { result ≡ record_stop start misfit }
+/// How a wrong field of a record is refused.
+pub(crate) fn of_record(misfit: Misfit) -> StreamStop
+    ensures { result ≡ record_stop misfit }
 {
-    let _ = misfit;
     StreamStop::BadRecord {
-        byte: start,
-        cause: RecordCause::Record,
+        byte: misfit.at,
+        cause: misfit.cause,
     }
 }

@@ -1,78 +1,94 @@
--- What is read of the whole source, and how a conversion ends.
-use Rattle.std.proofs.Common.{◌≡◌, ℕ, ◌+◌, ◌≤◌, ◌<◌, true, List, [], ◌++◌, length, take, drop, Option, Some, None, Result, Ok, Err, refl, sym, ap, ◌∙◌, append_assoc, arith}
-use Rattle.std.specs.Prelude.{OnOk}
-use Rattle.std.proofs.lemmas.List.{length-append, length-take-le, take-append-drop}
-use Rattle.std.proofs.lemmas.Bool.{le-leb}
-use Rattle.kt_out.specs.Counts.{Rose}
-use Rattle.kt_out.specs.Reading.{Reads}
-use Rattle.kt_out.specs.Writing.{WritesAll}
+-- How a tool ends that makes a text of the whole source.
+use Rattle.std.proofs.Common.{◌≡◌, ℕ, ◌≤◌, ◌<◌, true, List, [], length, Option, Some, None, Result, Ok, Err, refl, sym, ap, subst, ◌∙◌, inl, inr}
+use Rattle.std.specs.Prelude.{IfSome}
+use Rattle.std.proofs.lemmas.Bool.{le-leb, lt-leb}
+use Rattle.kt_out.specs.InputFiles.{InputsState}
+use Rattle.kt_out.specs.NamedFiles.{FileMap}
+use Rattle.kt_out.specs.OutputFiles.{OutputsState}
+use Rattle.kt_out.specs.Reading.{SourceState}
+use Rattle.kt_out.specs.Writing.{SinkState, WritesAll}
 use Rattle.kt_out.specs.declared.fault.Fault.{Fault}
-use Rattle.kt_out.specs.declared.fault.Fault.TheVariants.{Failed}
-use Rattle.kt_tools.specs.declared.status.Status.TheVariants.{Done}
-use Rattle.kt_tools.specs.Outcome.{Outcome, within_limit}
-use Rattle.kt_tools.specs.Stops.{stop_status, fault_stop}
-use Rattle.kt_tools.specs.Tool.{StreamToolEnds}
-use Rattle.kt_tools.proofs.Ending.{FrontGained, ends_cut}
-use Rattle.kt_tools.proofs.EltLoop.{HasRead, read_none, read_more, write_is_fault, write_not_read, write_failed}
-use Rattle.kt_tools.specs.Converting.{source_limit, ReadsWhole}
+use Rattle.kt_cells.specs.Stops.{Tells}
+use Rattle.kt_cells.specs.declared.stop.TableStop.{TableStop}
+use Rattle.kt_cells.specs.declared.stop.TableStop.TheVariants as table
+use Rattle.kt_ends.specs.Ending.{Ended, IsMissing}
+use Rattle.kt_ends.specs.Endings.{UnderWay, nothing, writes_text, written_status, ends_for_memory, ends_refused, ends_unread_source, ends_written, may_change}
+use Rattle.kt_ends.specs.Outcome.{Outcome}
+use Rattle.kt_ends.specs.Stops.{stop_status}
+use Rattle.kt_ends.specs.World.{Uses, World, world}
+use Rattle.kt_ends.specs.declared.status.Refusal.{Refusal}
+use Rattle.kt_ends.specs.declared.status.Refusal.TheVariants as refusal
+use Rattle.kt_ends.specs.declared.status.Status.TheVariants as status
+use Rattle.kt_ends.specs.declared.tool_stop.ToolStop.{ToolStop}
+use Rattle.kt_ends.specs.declared.tool_stop.ToolStop.TheVariants as tool
+use Rattle.kt_tools.specs.Converting.{source_limit, source_name, ReadsWhole, StopsText, IsTableStop, converted}
+use Rattle.kt_tools.specs.Outcome.{within_limit}
 
--- these bytes were read in so many turns
-pub record Reading (left left_now : Option (List ℕ)) (reads reads_now : ℕ) (bytes : List ℕ) (turns : ℕ) : Type 0 where
-  pub read : HasRead left left_now bytes
-  pub few : length bytes ≤ source_limit
-  pub turned : turns ≤ length bytes
-  pub counted : reads ≤ reads_now
+-- a fact of what is told holds of what it is
+pub told_of : {A : Type 0} (P : A → Type 0) (told : Option A) (one : A) → told ≡ Some one → IfSome told P → P one
+told_of P told one is holds = subst (λ t. IfSome t P) is holds
 
-pub reading_none : (left : Option (List ℕ)) (reads : ℕ) → Reading left left reads reads [] 0
-reading_none left reads = record { read = read_none left; few = omega arith; turned = omega arith; counted = omega arith }
+-- ---- a text that is not made
 
-pub reading_more : (E : Type 0) (left left_now left_next : Option (List ℕ)) (reads reads_now reads_next : ℕ) (bytes more room filled : List ℕ) (turns n : ℕ) → Reading left left_now reads reads_now bytes turns
-    → Reads {E = E} left_now left_next room filled (Ok n) → 0 < n → n ≤ length filled → reads_now ≤ reads_next → more ≡ bytes ++ take n filled → length more ≤ source_limit → Reading left left_next reads reads_next more (turns + 1)
-reading_more E left left_now left_next reads reads_now reads_next bytes more room filled turns n reading read some within up is few = record {
-  read = rw is (read_more E left left_now left_next bytes room filled n reading.read read);
-  few = few;
-  turned = omega (arith, reading.turned, ap length is, length-append bytes (take n filled), length-take-le n filled within);
-  counted = omega (arith, reading.counted);
-}
+-- the stop of a table's conversion
+stops_as : (outcome : Outcome) (why : Refusal) (end : ToolStop) → end ≡ tool.Refused why → outcome ≡ nothing (status.Refused why) → (IsMissing (status.Refused why) → ⊥) → StopsText outcome end
+stops_as outcome why end is refused other = subst (StopsText outcome) (sym is) (refused, other)
 
--- ---- how a conversion ends
+-- a table that is refused, and how it ends the tool
+pub stops_form : (form : Result (List ℕ) TableStop) (why : TableStop) (end : ToolStop) → Tells form why → IsTableStop why end → StopsText (converted form) end
+stops_form form why end tells (inr is) = subst (StopsText (converted form)) (sym is) tt
+stops_form form table.OutOfMemory end tells (inl is) = subst (StopsText (converted form)) (sym is) tt
+stops_form form table.NotProfile end tells (inl is) = stops_as (converted form) _ end is (ap converted tells) (λ missing. missing)
+stops_form form (table.WrongTable found) end tells (inl is) = stops_as (converted form) _ end is (ap converted tells) (λ missing. missing)
+stops_form form (table.WrongVersion found) end tells (inl is) = stops_as (converted form) _ end is (ap converted tells) (λ missing. missing)
+stops_form form (table.CutRecord row) end tells (inl is) = stops_as (converted form) _ end is (ap converted tells) (λ missing. missing)
+stops_form form (table.Bad row column cause) end tells (inl is) = stops_as (converted form) _ end is (ap converted tells) (λ missing. missing)
+
+-- ---- the source as a whole
 
 -- a source within the limit gives what is made of it
-made_within : (made : List ℕ → Outcome) (source : List ℕ) → length source ≤ source_limit → within_limit made source ≡ made source
-made_within made source few = rw (le-leb (length source) source_limit few) refl
+within : (made : List ℕ → Outcome) (source : List ℕ) → length source ≤ source_limit → within_limit made source ≡ made source
+within made source few = rw (le-leb (length source) source_limit few) refl
 
-abbrev output_in : Outcome → List ℕ
-output_in outcome = outcome.output
+-- a larger one is too large
+beyond : (made : List ℕ → Outcome) (source : List ℕ) → source_limit < length source → within_limit made source ≡ nothing (status.Refused (refusal.TooLarge source_name))
+beyond made source many = rw (lt-leb (length source) source_limit many) refl
 
--- what was read is the source
-pub within_outcome : (made : List ℕ → Outcome) (source bytes : List ℕ) (outcome : Outcome) → length bytes ≤ source_limit → source ≡ bytes → made bytes ≡ outcome → within_limit made source ≡ outcome
-within_outcome made source bytes outcome few same is = ap (within_limit made) same ∙ made_within made bytes few ∙ is
+-- What a tool uses that makes a text of the source, and what it finds: the source tells its bytes.
+pub record MakesOfSource (found : FileMap → List ℕ → Type 0) (uses : Uses) (before : World) : Type 0 where
+  pub source : uses.source ≡ true
+  pub sink : uses.sink ≡ true
+  pub told : (files : FileMap) (bytes : List ℕ) → found files bytes → before.source.left ≡ Some bytes
 
-made_front : (T : Type 0) (made : List ℕ → Outcome) (left left_now taken taken_now : Option (List ℕ)) (reads reads_now : ℕ) (bytes text : List ℕ) (fault : Fault) → ReadsWhole left left_now reads reads_now (Ok bytes) → made bytes ≡ record { status = Done; output = text } → WritesAll {T = T} taken taken_now text (Err fault)
-    → FrontGained (within_limit made) left taken taken_now
-made_front T made None left_now taken taken_now reads reads_now bytes text fault whole is writes = tt
-made_front T made (Some source) left_now None taken_now reads reads_now bytes text fault whole is writes = tt
-made_front T made (Some source) left_now (Some before) taken_now reads reads_now bytes text fault whole is writes = record {
-  front = take writes.0 text;
-  rest = drop writes.0 text;
-  whole = ap output_in (within_outcome made source bytes (record { status = Done; output = text }) whole.0 whole.1.0 is) ∙ sym (take-append-drop writes.0 text);
-  gained = writes.2;
-}
+module _ (found : FileMap → List ℕ → Type 0) (uses : Uses) (made : List ℕ → Outcome) (inputs : InputsState) (outputs : OutputsState) (before now : SourceState) (sink : SinkState) (makes : MakesOfSource found uses (world inputs outputs before sink)) where
+  -- reading on is under way
+  way : now.faults ≡ before.faults → UnderWay uses (world inputs outputs before sink) (world inputs outputs now sink)
+  way same = record { inputs = refl; outputs = refl; sink = refl; reads = same; source = may_change uses.source makes.source }
 
--- the write failed
-pub ends_unwritten_made : (T : Type 0) (made : List ℕ → Outcome) (left left_now taken taken_now : Option (List ℕ)) (reads reads_now writes writes_now : ℕ) (bytes text : List ℕ) (fault : Fault) → ReadsWhole left left_now reads reads_now (Ok bytes) → reads ≤ reads_now → made bytes ≡ record { status = Done; output = text }
-    → WritesAll {T = T} taken taken_now text (Err fault) → (fault ≡ Failed → Rose writes writes_now) → writes ≤ writes_now → StreamToolEnds (within_limit made) left left_now taken taken_now reads reads_now writes writes_now (stop_status (fault_stop fault))
-ends_unwritten_made T made left left_now taken taken_now reads reads_now writes writes_now bytes text fault whole up is written rose writes_up =
-    ends_cut (within_limit made) left left_now taken taken_now reads reads_now writes writes_now (stop_status (fault_stop fault)) (write_is_fault true fault) (made_front T made left left_now taken taken_now reads reads_now bytes text fault whole is written)
-    (λ e. absurd (write_not_read true fault e)) (λ e. rose (write_failed true fault e)) up writes_up
+  -- the source was not read
+  pub ends_unread : (stop : ToolStop) → ReadsWhole before now (Err stop) → Ended found uses (λ files bytes. within_limit made bytes) (world inputs outputs before sink) (world inputs outputs now sink) (stop_status stop)
+  ends_unread (tool.Refused why) read = subst (λ (r : Refusal). Ended found uses (λ files bytes. within_limit made bytes) (world inputs outputs before sink) (world inputs outputs now sink) (status.Refused r)) (sym read.1) (ends_refused found uses _ _ _ (refusal.TooLarge source_name) (λ missing. missing) (way read.0) (λ files bytes finds. beyond made bytes (told_of (λ source. source_limit < length source) before.left bytes (makes.told files bytes finds) read.2)))
+  ends_unread tool.ReadFault read = ends_unread_source found uses _ _ _ makes.source read refl refl refl
+  ends_unread tool.WriteFault read = absurd read
+  ends_unread tool.NoMemory read = ends_for_memory found uses _ _ _ (way read)
 
--- ---- texts of a row
+  -- what is made of all that was read
+  made_is : (bytes : List ℕ) (outcome : Outcome) → ReadsWhole before now (Ok bytes) → made bytes ≡ outcome → (files : FileMap) (source : List ℕ) → found files source → within_limit made source ≡ outcome
+  made_is bytes outcome read is files source finds =
+      let same : source ≡ bytes = (told_of (λ s. (s ≡ bytes) × (now.left ≡ Some [])) before.left source (makes.told files source finds) read.2).0 in
+      ap (within_limit made) same ∙ within made bytes read.1 ∙ is
 
--- a text that goes on behind a file's name
-pub file_text_more : (out name front back : List ℕ) → (out ++ (name ++ front)) ++ back ≡ out ++ (name ++ (front ++ back))
-file_text_more out name front back = append_assoc out (name ++ front) back ∙ ap (λ (xs : List ℕ). out ++ xs) (append_assoc name front back)
+  -- no text was made of it
+  pub ends_unmade : (bytes : List ℕ) (stop : ToolStop) → ReadsWhole before now (Ok bytes) → StopsText (made bytes) stop → Ended found uses (λ files source. within_limit made source) (world inputs outputs before sink) (world inputs outputs now sink) (stop_status stop)
+  ends_unmade bytes (tool.Refused why) read stops = ends_refused found uses _ _ _ why stops.1 (way read.0) (made_is bytes (nothing (status.Refused why)) read stops.0)
+  ends_unmade bytes tool.ReadFault read stops = absurd stops
+  ends_unmade bytes tool.WriteFault read stops = absurd stops
+  ends_unmade bytes tool.NoMemory read stops = ends_for_memory found uses _ _ _ (way read.0)
 
--- a text that was appended behind a file's name, where it was
-pub row_appended : {T E : Type 0} (r : Result T E) (out row new name front back : List ℕ) → row ≡ out ++ (name ++ front) → OnOk r (new ≡ row ++ back) → OnOk r (new ≡ out ++ (name ++ (front ++ back)))
-row_appended (Ok done) out row new name front back before appended = appended ∙ rw before (file_text_more out name front back)
-row_appended (Err why) out row new name front back before appended = tt
+  -- the text was written, or its writing has ended the run
+  pub ends_made : {T : Type 0} (after : SinkState) (bytes text : List ℕ) (answer : Result T Fault) → ReadsWhole before now (Ok bytes) → made bytes ≡ writes_text text → WritesAll sink after text answer → Ended found uses (λ files source. within_limit made source) (world inputs outputs before sink) (world inputs outputs now after) (written_status answer)
+  ends_made after bytes text answer read is wrote = ends_written found uses _ _ _ text answer (record { inputs = refl; outputs = refl; reads = read.0; source = may_change uses.source makes.source; at_end = λ used. at_end before.left read.2; sink = makes.sink }) wrote (made_is bytes (writes_text text) read is)
+    where
+      at_end : (left : Option (List ℕ)) → IfSome left (λ source. (source ≡ bytes) × (now.left ≡ Some [])) → IfSome left (λ source. now.left ≡ Some [])
+      at_end None read = tt
+      at_end (Some source) read = read.1

@@ -6,9 +6,9 @@ use Rattle.kt_eve.specs.declared.event_part.BadPart.{BadPart}
 use Rattle.kt_rec.specs.Rows.{Rows}
 use Rattle.kt_tables.specs.Lookups.{event_ids}
 use Rattle.kt_tools.specs.Outcome.{event_bytes}
-use Rattle.kt_tools.specs.Run.{command_uses}
-use Rattle.kt_tools.specs.Tool.{Uses}
-use Rattle.kt_tools.specs.declared.command.Command.TheVariants.{Eve}
+use Rattle.kt_ends.specs.World.{Uses}
+use Rattle.kt_tools.specs.Uses.{command_uses}
+use Rattle.kt_words.specs.declared.command.Command.TheVariants.{Eve}
 
 -- the objects of `eve`
 abbrev pub eve_uses : ℕ → ℕ → Uses

@@ -1,12 +1,7 @@
-pub mod Reporting
+pub mod Fitting
+pub mod Reading
+pub mod Converting
+pub mod EveLemmas
+pub mod FootprintLemmas
+pub mod Loaded
 pub mod Running
-pub mod EltRows
-pub mod EltPart
-pub mod EltLoop
-mod Naming
-mod Taking
-mod Ending
-mod Converting
-mod LoadedLemmas
-mod FootprintLemmas
-mod EveLemmas

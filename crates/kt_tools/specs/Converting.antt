@@ -1,19 +1,21 @@
 -- What a conversion of a table from the source gives.
 -- The rules: docs/COMMANDS.md, "tobin and tocsv".
-use Rattle.std.specs.Prelude.{◌≡◌, ◌⊎◌, ◌≤◌, ◌<◌, ◌^◌, ℕ, true, List, [], length, codes, Option, Some, Result, Ok, Err, IfSome}
+use Rattle.std.specs.Prelude.{◌≡◌, ◌⊎◌, ◌≤◌, ◌<◌, ◌^◌, ℕ, List, [], length, codes, Some, Result, Ok, Err, IfSome}
 use Rattle.kt_out.specs.Counts.{Rose}
-use Rattle.kt_rec.specs.declared.table.Table.TheVariants as table
+use Rattle.kt_out.specs.Reading.{SourceState}
 use Rattle.kt_cells.specs.declared.stop.TableStop.{TableStop}
 use Rattle.kt_cells.specs.declared.stop.TableStop.TheVariants as stop
 use Rattle.kt_schema.specs.Conversions.{csv_bin, bin_csv}
-use Rattle.kt_eve.specs.Parts.{has_part}
-use Rattle.kt_tools.specs.declared.command.Command.{Command}
-use Rattle.kt_tools.specs.declared.command.Command.TheVariants.{Eltcalc, Convert, FootprintText, Eve}
-use Rattle.kt_tools.specs.declared.command.Conversion.{Conversion}
-use Rattle.kt_tools.specs.declared.command.Conversion.TheVariants.{ToFile, ToText}
-use Rattle.kt_tools.specs.declared.status.Refusal.TheVariants as refusal
-use Rattle.kt_tools.specs.declared.tool.ToolStop.{ToolStop}
-use Rattle.kt_tools.specs.declared.tool.ToolStop.TheVariants.{Refused, ReadFault, WriteFault, NoMemory}
+use Rattle.kt_words.specs.declared.command.Conversion.{Conversion}
+use Rattle.kt_words.specs.declared.command.Conversion.TheVariants.{ToFile, ToText}
+use Rattle.kt_ends.specs.declared.status.Refusal.TheVariants as refusal
+use Rattle.kt_ends.specs.Ending.{IsMissing}
+use Rattle.kt_ends.specs.Endings.{nothing, writes_text}
+use Rattle.kt_ends.specs.Outcome.{Outcome}
+use Rattle.kt_ends.specs.Stops.{stop_status}
+use Rattle.kt_ends.specs.declared.status.Status.TheVariants as status
+use Rattle.kt_ends.specs.declared.tool_stop.ToolStop.{ToolStop}
+use Rattle.kt_ends.specs.declared.tool_stop.ToolStop.TheVariants.{Refused, ReadFault, WriteFault, NoMemory}
 
 -- a source has at most so many bytes
 abbrev pub source_limit : ℕ
@@ -37,25 +39,13 @@ abbrev pub other_form : Conversion → List ℕ → Result (List ℕ) TableStop
 other_form (ToFile t periods) bytes = csv_bin t periods bytes
 other_form (ToText t) bytes = bin_csv t bytes
 
--- no text is made of the footprint without its index
-abbrev pub IsConversion : Conversion → Type 0
-IsConversion (ToFile t periods) = Unit {0}
-IsConversion (ToText t) = t ≡ table.Footprint → ⊥
-
--- what every command keeps: a conversion that there is, and a part that there is
-abbrev pub IsCommand : Command → Type 0
-IsCommand (Eltcalc heading) = Unit {0}
-IsCommand (Convert conversion) = IsConversion conversion
-IsCommand FootprintText = Unit {0}
-IsCommand (Eve part parts) = has_part part parts ≡ true
-
--- the whole source was read, or it is too large, or a read failed
-abbrev pub ReadsWhole : Option (List ℕ) → Option (List ℕ) → ℕ → ℕ → Result (List ℕ) ToolStop → Type 0
-ReadsWhole left left_now reads reads_now (Ok bytes) = (length bytes ≤ source_limit) × IfSome left (λ source. (source ≡ bytes) × (left_now ≡ Some []))
-ReadsWhole left left_now reads reads_now (Err (Refused why)) = (why ≡ refusal.TooLarge source_name) × IfSome left (λ source. source_limit < length source)
-ReadsWhole left left_now reads reads_now (Err ReadFault) = Rose reads reads_now
-ReadsWhole left left_now reads reads_now (Err WriteFault) = ⊥
-ReadsWhole left left_now reads reads_now (Err NoMemory) = Unit {0}
+-- the whole source was read, or it is too large, or a read failed: a fault was counted exactly there
+abbrev pub ReadsWhole : SourceState → SourceState → Result (List ℕ) ToolStop → Type 0
+ReadsWhole before after (Ok bytes) = (after.faults ≡ before.faults) × (length bytes ≤ source_limit) × IfSome before.left (λ source. (source ≡ bytes) × (after.left ≡ Some []))
+ReadsWhole before after (Err (Refused why)) = (after.faults ≡ before.faults) × (why ≡ refusal.TooLarge source_name) × IfSome before.left (λ source. source_limit < length source)
+ReadsWhole before after (Err ReadFault) = Rose before.faults after.faults
+ReadsWhole before after (Err WriteFault) = ⊥
+ReadsWhole before after (Err NoMemory) = after.faults ≡ before.faults
 
 -- the stop for a source that is too large, or want of memory for its name
 abbrev pub IsTooLarge : ToolStop → Type 0
@@ -63,6 +53,22 @@ IsTooLarge (Refused why) = why ≡ refusal.TooLarge source_name
 IsTooLarge ReadFault = ⊥
 IsTooLarge WriteFault = ⊥
 IsTooLarge NoMemory = Unit {0}
+
+-- the text was made that is the whole output
+abbrev pub MakesText : Outcome → List ℕ → Type 0
+MakesText outcome text = outcome ≡ writes_text text
+
+-- there is no text: it is refused, and not for a missing file, or memory is wanting
+abbrev pub StopsText : Outcome → ToolStop → Type 0
+StopsText outcome (Refused why) = (outcome ≡ nothing (status.Refused why)) × (IsMissing (status.Refused why) → ⊥)
+StopsText outcome NoMemory = Unit {0}
+StopsText outcome ReadFault = ⊥
+StopsText outcome WriteFault = ⊥
+
+-- the other form of a table, or its refusal
+abbrev pub converted : Result (List ℕ) TableStop → Outcome
+converted (Ok bytes) = writes_text bytes
+converted (Err stop) = nothing (stop_status (table_stop source_name stop))
 
 -- the stop of a table of the source, or want of memory for its name
 abbrev pub IsTableStop : TableStop → ToolStop → Type 0

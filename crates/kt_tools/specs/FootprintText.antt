@@ -1,18 +1,16 @@
 -- What making the text of a footprint by its index gives.
 -- The rules: docs/COMMANDS.md, "tobin and tocsv".
-use Rattle.std.specs.Prelude.{◌≡◌, ◌⊎◌, ℕ, List, [], length}
+use Rattle.std.specs.Prelude.{◌≡◌, ◌⊎◌, ℕ, List, length}
 use Rattle.kt_keys.specs.FirstRow.{first_where}
 use Rattle.kt_checks.specs.TableChecks.{is_misplaced}
 use Rattle.kt_load.specs.FileNames.{file_name_of, table_at}
 use Rattle.kt_rec.specs.declared.hazard.FootprintIdx.{FootprintIdx}
 use Rattle.kt_rec.specs.declared.table.Table.TheVariants as table
-use Rattle.kt_tools.specs.Outcome.{Outcome, text_unless}
-use Rattle.kt_tools.specs.Tool.{IsMissing}
-use Rattle.kt_tools.specs.declared.status.Refusal.TheVariants.{Check}
-use Rattle.kt_tools.specs.declared.status.Status.TheVariants.{Done}
-use Rattle.kt_tools.specs.declared.status.Status.TheVariants as status
-use Rattle.kt_tools.specs.declared.tool.ToolStop.{ToolStop}
-use Rattle.kt_tools.specs.declared.tool.ToolStop.TheVariants.{Refused, ReadFault, WriteFault, NoMemory}
+use Rattle.kt_ends.specs.Outcome.{Outcome}
+use Rattle.kt_tools.specs.Outcome.{text_unless}
+use Rattle.kt_ends.specs.declared.status.Refusal.TheVariants.{Check}
+use Rattle.kt_ends.specs.declared.tool_stop.ToolStop.{ToolStop}
+use Rattle.kt_ends.specs.declared.tool_stop.ToolStop.TheVariants.{Refused, NoMemory}
 
 -- the stop for a row of the index that lies outside the footprint, or want of memory for its name
 abbrev pub IsPlaceStop : ℕ → ToolStop → Type 0
@@ -21,14 +19,3 @@ IsPlaceStop row end = (end ≡ Refused (Check 9 (file_name_of (table_at 0 table.
 -- what is made of a footprint within the limit
 abbrev pub text_of : List FootprintIdx → List ℕ → Outcome
 text_of index bytes = text_unless index bytes (first_where (is_misplaced (length bytes)) index)
-
--- the text was made
-abbrev pub MakesText : List FootprintIdx → List ℕ → List ℕ → Type 0
-MakesText index bytes text = text_of index bytes ≡ record { status = Done; output = text }
-
--- the text was refused, for no missing file, or memory is wanting
-abbrev pub StopsText : List FootprintIdx → List ℕ → ToolStop → Type 0
-StopsText index bytes (Refused why) = (text_of index bytes ≡ record { status = status.Refused why; output = [] }) × (IsMissing (status.Refused why) → ⊥)
-StopsText index bytes NoMemory = Unit {0}
-StopsText index bytes ReadFault = ⊥
-StopsText index bytes WriteFault = ⊥

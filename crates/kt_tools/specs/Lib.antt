@@ -1,13 +1,6 @@
-pub mod Words
-pub mod Command
-pub mod Status
-pub mod Line
-pub mod Loading
+pub mod EltOutcome
 pub mod Outcome
-pub mod Tool
-pub mod Run
-pub mod EltReading
-pub mod Given
+pub mod Uses
+pub mod Loading
 pub mod Converting
-pub mod Stops
 pub mod FootprintText

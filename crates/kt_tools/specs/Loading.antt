@@ -8,9 +8,9 @@ use Rattle.kt_load.specs.declared.stop.LoadStop.TheVariants as load
 use Rattle.kt_rec.specs.TableSet.{no_tables, with_table}
 use Rattle.kt_rec.specs.declared.table.Table.{Table}
 use Rattle.kt_tools.specs.Converting.{table_stop}
-use Rattle.kt_tools.specs.declared.status.Refusal.TheVariants as refusal
-use Rattle.kt_tools.specs.declared.tool.ToolStop.{ToolStop}
-use Rattle.kt_tools.specs.declared.tool.ToolStop.TheVariants.{Refused, ReadFault, NoMemory}
+use Rattle.kt_ends.specs.declared.status.Refusal.TheVariants as refusal
+use Rattle.kt_ends.specs.declared.tool_stop.ToolStop.{ToolStop}
+use Rattle.kt_ends.specs.declared.tool_stop.ToolStop.TheVariants.{Refused, ReadFault, NoMemory}
 
 -- a tool that needs one table of the base
 abbrev pub need_of : Table → Need

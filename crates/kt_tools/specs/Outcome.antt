@@ -16,60 +16,23 @@ use Rattle.kt_load.specs.declared.stop.LoadStop.{LoadStop}
 use Rattle.kt_schema.specs.Footprint.{footprint_csv}
 use Rattle.kt_tables.specs.Lookups.{event_ids}
 use Rattle.kt_tools.specs.Loading.{need_of, load_stop}
-use Rattle.kt_stream.specs.declared.entry.Placed.{Placed}
-use Rattle.kt_stream.specs.declared.entry.SummaryRecord.{SummaryRecord}
-use Rattle.kt_stream.specs.declared.stop.StreamStop.{StreamStop}
-use Rattle.kt_stream.specs.declared.summary.Head.{Head}
-use Rattle.kt_stream.specs.Stream.{stream_of, fault_of}
-use Rattle.kt_cells.specs.declared.stop.TableStop.{TableStop}
-use Rattle.kt_elt.specs.EventLoss.{elt_heading_text, event_loss_rows}
-use Rattle.kt_tools.specs.declared.command.Command.{Command}
-use Rattle.kt_tools.specs.declared.command.Command.TheVariants.{Eltcalc, Convert, FootprintText, Eve}
-use Rattle.kt_tools.specs.declared.command.Conversion.{Conversion}
-use Rattle.kt_tools.specs.declared.command.WordStop.{WordStop}
-use Rattle.kt_tools.specs.declared.status.Refusal.TheVariants.{Stream, TooLarge, Check}
-use Rattle.kt_tools.specs.declared.status.Status.{Status}
-use Rattle.kt_tools.specs.declared.status.Status.TheVariants.{Done, Words, Refused}
-use Rattle.kt_tools.specs.Command.{command_of}
-use Rattle.kt_tools.specs.Converting.{source_limit, source_name, table_stop, other_form}
-use Rattle.kt_tools.specs.Stops.{stop_status}
-
--- what a run gives, where no object fails and memory is there
-pub record Outcome : Type 0 where
-  pub status : Status
-  pub output : List ℕ
-
--- the status of a tool that reads a stream with this first fault, if any
-abbrev pub stream_status : Option StreamStop → Status
-stream_status None = Done
-stream_status (Some stop) = Refused (Stream stop)
-
--- the rows of summary records, as many samples each
-abbrev pub elt_rows : ℕ → List (Placed SummaryRecord) → List ℕ
-elt_rows samples entries = flat_map (λ placed. event_loss_rows samples placed.entry) entries
-
--- the names of the columns, where they are wanted
-abbrev pub elt_heading_part : Bool → List ℕ
-elt_heading_part true = elt_heading_text
-elt_heading_part false = []
-
--- the event loss table of a header and its records: nothing without a header
-abbrev pub elt_table : Bool → Option Head → List (Placed SummaryRecord) → List ℕ
-elt_table heading None entries = []
-elt_table heading (Some head) entries = elt_heading_part heading ++ elt_rows head.samples entries
-
--- the event loss table of a summary stream, up to the first refused record
-abbrev pub elt_outcome : Bool → List ℕ → Outcome
-elt_outcome heading source = record { status = stream_status (fault_of source); output = elt_table heading (stream_of source).head (stream_of source).entries }
-
--- the other form of a table, or its refusal
-abbrev pub converted : Result (List ℕ) TableStop → Outcome
-converted (Ok bytes) = record { status = Done; output = bytes }
-converted (Err stop) = record { status = stop_status (table_stop source_name stop); output = [] }
+use Rattle.kt_tools.specs.EltOutcome.{elt_outcome}
+use Rattle.kt_words.specs.declared.command.Command.{Command}
+use Rattle.kt_words.specs.declared.command.Command.TheVariants.{Eltcalc, Convert, FootprintText, Eve}
+use Rattle.kt_words.specs.declared.command.Conversion.{Conversion}
+use Rattle.kt_words.specs.declared.stop.WordStop.{WordStop}
+use Rattle.kt_ends.specs.declared.status.Refusal.TheVariants.{Stream, TooLarge, Check}
+use Rattle.kt_ends.specs.declared.status.Status.{Status}
+use Rattle.kt_ends.specs.declared.status.Status.TheVariants.{Done, Words, Refused}
+use Rattle.kt_words.specs.Command.{command_of}
+use Rattle.kt_tools.specs.Converting.{source_limit, source_name, other_form, converted}
+use Rattle.kt_ends.specs.Endings.{nothing, writes_text}
+use Rattle.kt_ends.specs.Outcome.{Outcome}
+use Rattle.kt_ends.specs.Stops.{stop_status}
 
 -- what is made of the source: one that is too large is refused, whatever else is wrong with it
 abbrev pub within_limit : (List ℕ → Outcome) → List ℕ → Outcome
-within_limit made source = if nat_le (length source) source_limit then made source else record { status = Refused (TooLarge source_name); output = [] }
+within_limit made source = if nat_le (length source) source_limit then made source else nothing (Refused (TooLarge source_name))
 
 -- the conversion of the source
 abbrev pub convert_outcome : Conversion → List ℕ → Outcome
@@ -78,7 +41,7 @@ convert_outcome conversion source = within_limit (λ bytes. converted (other_for
 -- the text of a footprint by its index, unless a row of the index lies outside it
 abbrev pub text_unless : List FootprintIdx → List ℕ → Option ℕ → Outcome
 text_unless index bytes None = converted (footprint_csv bytes index)
-text_unless index bytes (Some row) = record { status = Refused (Check 9 (file_name_of (table_at 0 table.FootprintIdx)) row); output = [] }
+text_unless index bytes (Some row) = nothing (Refused (Check 9 (file_name_of (table_at 0 table.FootprintIdx)) row))
 
 -- the text of the source, a footprint, by its index: the index is judged by the size of the source first
 abbrev pub footprint_text : List FootprintIdx → List ℕ → Outcome
@@ -87,7 +50,7 @@ footprint_text index source = within_limit (λ bytes. text_unless index bytes (f
 -- what is done with the rows of loaded tables, or why there are none
 abbrev pub with_tables : Result Rows LoadStop → (Rows → Outcome) → Outcome
 with_tables (Ok rows) made = made rows
-with_tables (Err why) made = record { status = stop_status (load_stop why); output = [] }
+with_tables (Err why) made = nothing (stop_status (load_stop why))
 
 -- the ids of events as a stream: four bytes each, the lowest first
 abbrev pub event_bytes : List ℕ → List ℕ
@@ -95,7 +58,7 @@ event_bytes ids = flat_map (little_bytes 4) ids
 
 -- the events of a part of the event list
 abbrev pub eve_outcome : ℕ → ℕ → FileMap → Outcome
-eve_outcome part parts files = with_tables (loaded files (need_of table.Events)) (λ rows. record { status = Done; output = event_bytes (part_of (event_ids rows) part parts) })
+eve_outcome part parts files = with_tables (loaded files (need_of table.Events)) (λ rows. writes_text (event_bytes (part_of (event_ids rows) part parts)))
 
 -- the text of the source, a footprint, by its index among the tables
 abbrev pub footprint_outcome : FileMap → List ℕ → Outcome
@@ -110,7 +73,7 @@ tool_outcome (Eve part parts) files source = eve_outcome part parts files
 
 abbrev pub words_outcome : Result Command WordStop → FileMap → List ℕ → Outcome
 words_outcome (Ok command) files source = tool_outcome command files source
-words_outcome (Err stop) files source = record { status = Words stop; output = [] }
+words_outcome (Err stop) files source = nothing (Words stop)
 
 -- the outcome of a run with these words, named files and source
 abbrev pub outcome : List (List ℕ) → FileMap → List ℕ → Outcome

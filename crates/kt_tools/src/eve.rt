@@ -1,15 +1,17 @@
 //! The tool that gives the events of a part of the event list.
 //! The rules: docs/COMMANDS.md, "eve".
-ghost use Rattle.std.specs.Prelude.{◌≡◌, ℕ, true, IfOk, List, Option};
+ghost use Rattle.std.specs.Prelude.{◌≡◌, true, IfOk};
+ghost use Rattle.kt_ends.specs.Stops.{end_status};
+ghost use Rattle.kt_ends.specs.World.{world};
 ghost use Rattle.kt_eve.specs.Parts.{has_part};
+ghost use Rattle.kt_out.specs.OutputFiles.{OutputsState};
+ghost use Rattle.kt_out.specs.Reading.{SourceState};
 ghost use Rattle.kt_tools.specs.Outcome.{event_bytes as bytes_of_events, eve_outcome};
-ghost use Rattle.kt_tools.specs.Stops.{end_status};
-ghost use Rattle.kt_tools.specs.Tool.{ToolEnds, outside};
-ghost use Rattle.kt_tools.specs.Run.{command_uses};
-ghost use Rattle.kt_tools.specs.declared.command.Command.TheVariants as Command;
+ghost use Rattle.kt_tools.specs.Uses.{ToolEnds, command_uses};
+ghost use Rattle.kt_words.specs.declared.command.Command.TheVariants as Command;
 
 use crate::tables::{load_stop, need_of};
-use crate::tool::{ToolStop, write_stop};
+use kt_ends::{ToolStop, write_stop};
 use kt_eve::part as events_of_part;
 use kt_load::load;
 use kt_money::Bytes;
@@ -37,8 +39,8 @@ pub fn eve<I: Inputs, K: Sink>(
     sink: &mut K,
 ) -> Result<(), ToolStop>
     requires { has_part part parts ≡ true }
-    // The source is none of its objects: whatever it has left and counted stays so.
-    ensures { (left : Option (List ℕ)) (reads : ℕ) → ToolEnds (command_uses (Command.Eve part parts)) (λ files _. eve_outcome part parts files) (outside (I.held inputs.old) (I.fault_count inputs.old) (I.miss_count inputs.old) left reads (K.taken sink.old) (K.fault_count sink.old)) (outside (I.held inputs.new) (I.fault_count inputs.new) (I.miss_count inputs.new) left reads (K.taken sink.new) (K.fault_count sink.new)) (end_status result) }
+    // The source and the output files are none of its objects: whatever they hold and have counted stays so.
+    ensures { (outputs : OutputsState) (source : SourceState) → ToolEnds (command_uses (Command.Eve part parts)) (λ files _. eve_outcome part parts files) (world (I.state inputs.old) outputs source (K.state sink.old)) (world (I.state inputs.new) outputs source (K.state sink.new)) (end_status result) }
 {
     let portfolio = match load(alloc, inputs, need_of(Table::Events)) {
         Ok(portfolio) => portfolio,

@@ -1,19 +1,22 @@
 //! The tool that gives the source, a footprint, as text by its index.
 //! The rules: docs/COMMANDS.md, "tobin and tocsv".
-ghost use Rattle.std.specs.Prelude.{IfOk, IfErr};
-ghost use Rattle.kt_tools.specs.FootprintText.{IsPlaceStop, MakesText, StopsText};
+ghost use Rattle.std.specs.Prelude.{◌≡◌, Some, IfOk, IfErr};
+ghost use Rattle.kt_ends.specs.Ending.{Ended};
+ghost use Rattle.kt_ends.specs.Stops.{end_status};
+ghost use Rattle.kt_ends.specs.World.{world};
+ghost use Rattle.kt_out.specs.InputFiles.{InputsState};
+ghost use Rattle.kt_out.specs.OutputFiles.{OutputsState};
+ghost use Rattle.kt_tools.specs.Converting.{MakesText, StopsText};
+ghost use Rattle.kt_tools.specs.FootprintText.{IsPlaceStop, text_of};
 ghost use Rattle.kt_tools.specs.Outcome.{footprint_text, footprint_outcome};
-ghost use Rattle.kt_tools.specs.Stops.{end_status};
-ghost use Rattle.kt_tools.specs.Tool.{StreamToolEnds, ToolEnds, outside};
-ghost use Rattle.kt_tools.specs.Run.{command_uses};
-ghost use Rattle.kt_tools.specs.declared.command.Command.TheVariants as Command;
+ghost use Rattle.kt_tools.specs.Uses.{ToolEnds, command_uses};
+ghost use Rattle.kt_words.specs.declared.command.Command.TheVariants as Command;
 
 use crate::convert::source_stop;
-use crate::status::Refusal;
 use crate::tables::{load_stop, need_of};
-use crate::tool::{ToolStop, write_stop};
 use crate::whole_source::read_whole;
 use kt_checks::first_misplaced;
+use kt_ends::{Refusal, ToolStop, write_stop};
 use kt_load::{file_name, load};
 use kt_money::Bytes;
 use kt_out::{Inputs, Sink, Source, write_all};
@@ -44,9 +47,9 @@ fn place_stop(alloc: Global, row: u64) -> ToolStop
 
 /// The text of a footprint by its index.
 fn make_text(alloc: Global, index: &[FootprintIdx], bytes: &[u8]) -> Result<Bytes, ToolStop>
-    ensures value { IfOk result (MakesText index.now bytes.now) }
+    ensures value { IfOk result (MakesText (text_of index.now bytes.now)) }
 
-    ensures refused { IfErr result (StopsText index.now bytes.now) }
+    ensures refused { IfErr result (StopsText (text_of index.now bytes.now)) }
 {
     match first_misplaced(bytes.len() as u64, index) {
         Some(row) => return Err(place_stop(alloc, row)),
@@ -65,7 +68,7 @@ fn write_text<S: Source, K: Sink>(
     source: &mut S,
     sink: &mut K,
 ) -> Result<(), ToolStop>
-    ensures { StreamToolEnds (footprint_text index.now) (S.left source.old) (S.left source.new) (K.taken sink.old) (K.taken sink.new) (S.fault_count source.old) (S.fault_count source.new) (K.fault_count sink.old) (K.fault_count sink.new) (end_status result) }
+    ensures { (inputs : InputsState) (outputs : OutputsState) → Ended (λ _ bytes. (S.state source.old).left ≡ Some bytes) (command_uses Command.FootprintText) (λ _ bytes. footprint_text index.now bytes) (world inputs outputs (S.state source.old) (K.state sink.old)) (world inputs outputs (S.state source.new) (K.state sink.new)) (end_status result) }
 {
     let bytes = match read_whole(alloc, source) {
         Ok(bytes) => bytes,
@@ -88,7 +91,8 @@ pub fn footprint_to_text<I: Inputs, S: Source, K: Sink>(
     source: &mut S,
     sink: &mut K,
 ) -> Result<(), ToolStop>
-    ensures { ToolEnds (command_uses Command.FootprintText) footprint_outcome (outside (I.held inputs.old) (I.fault_count inputs.old) (I.miss_count inputs.old) (S.left source.old) (S.fault_count source.old) (K.taken sink.old) (K.fault_count sink.old)) (outside (I.held inputs.new) (I.fault_count inputs.new) (I.miss_count inputs.new) (S.left source.new) (S.fault_count source.new) (K.taken sink.new) (K.fault_count sink.new)) (end_status result) }
+    // The output files are none of its objects.
+    ensures { (outputs : OutputsState) → ToolEnds (command_uses Command.FootprintText) footprint_outcome (world (I.state inputs.old) outputs (S.state source.old) (K.state sink.old)) (world (I.state inputs.new) outputs (S.state source.new) (K.state sink.new)) (end_status result) }
 {
     let portfolio = match load(alloc, inputs, need_of(Table::FootprintIdx)) {
         Ok(portfolio) => portfolio,

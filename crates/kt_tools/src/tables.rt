@@ -4,9 +4,8 @@ ghost use Rattle.std.specs.Prelude.{◌≡◌};
 ghost use Rattle.kt_tools.specs.Loading.{load_stop as stop_of, need_of as needs};
 
 use crate::convert::table_stop;
-use crate::status::Refusal;
-use crate::tool::ToolStop;
 use kt_checks::Need;
+use kt_ends::{Refusal, ToolStop};
 use kt_load::LoadStop;
 use kt_rec::{Table, TableId, TableSet};
 

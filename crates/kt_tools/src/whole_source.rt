@@ -1,11 +1,10 @@
 //! Reads the whole source.
 //! The rules: docs/COMMANDS.md, "tobin and tocsv".
-ghost use Rattle.std.specs.Prelude.{◌≡◌, ◌≤◌, length, IfOk, MatchResult, Ok, Err};
+ghost use Rattle.std.specs.Prelude.{◌≡◌, length, IfOk, MatchResult, Ok, Err};
 ghost use Rattle.kt_tools.specs.Converting.{ReadsWhole, IsTooLarge, source_name};
 
 use crate::block::{BLOCK, zeros};
-use crate::status::Refusal;
-use crate::tool::ToolStop;
+use kt_ends::{Refusal, ToolStop};
 use kt_out::Source;
 use kt_rec::Name;
 use std::alloc::{AllocError, Global};
@@ -35,10 +34,10 @@ fn too_large(alloc: Global) -> ToolStop
     }
 }
 
-/// All bytes of the source. Refused where they are more than 2^30.
+/// All bytes of the source. Refused where they are more than 2^30, as `source: too large`; a failed read is a fault that
+/// the source counted.
 pub fn read_whole<S: Source>(alloc: Global, source: &mut S) -> Result<Vec<u8>, ToolStop>
-    ensures value { MatchResult result (λ bytes. ReadsWhole (S.left source.old) (S.left source.new) (S.fault_count source.old) (S.fault_count source.new) (Ok bytes.items)) (λ stop. ReadsWhole (S.left source.old) (S.left source.new) (S.fault_count source.old) (S.fault_count source.new) (Err stop)) }
-    ensures counted { S.fault_count source.old ≤ S.fault_count source.new }
+    ensures value { MatchResult result (λ bytes. ReadsWhole (S.state source.old) (S.state source.new) (Ok bytes.items)) (λ stop. ReadsWhole (S.state source.old) (S.state source.new) (Err stop)) }
 {
     let mut block = zeros(alloc, BLOCK)?;
     let mut bytes = Vec::new(alloc);

@@ -1,38 +1,24 @@
-use Rattle.std.proofs.Common.{◌∙◌, ap, arith, length}
-use Rattle.std.proofs.lemmas.Result.{err_from_is_err_and}
-use Rattle.kt_tools.specs.Stops.{end_status, stop_status}
-use Rattle.kt_tools.proofs.EltLoop.{going_none, going_more, filled_block, part_of_block, failed_write, turned, ends_unread, ends_unmade, ends_unwritten, ends_refused}
+use Rattle.std.proofs.Common.{false, [], refl, sym, ap, subst}
+use Rattle.kt_stream.specs.declared.entry.SummaryRecord.{SummaryRecord}
+use Rattle.kt_stream.specs.declared.kind.Shape.{Shape}
+use Rattle.kt_stream.specs.Header.{IsHead}
+use Rattle.kt_stream.specs.Reader.{IsPlaced}
+use Rattle.kt_stream.specs.Summary.{IsSummary, summary_form, summary_shape}
+use Rattle.kt_loop.specs.Reading.{AreGood}
+use Rattle.kt_tools.specs.EltOutcome.{elt_heading_part, elt_record_rows, elt_outcome}
+use Rattle.kt_loop.specs.RecordStreams.{contents_of}
 use Rattle.kt_tools.proofs.eltcalc.eltcalc.Goals as goal
 
-pub turns-init : goal.turns-init
-turns-init g c = (going_none c.args.heading _ _ _ _ _ c.new-reader.ensures.value, c.in_ok-block.ensures)
+pub run_stage-requires-clause-fresh : goal.run_stage-requires-clause-fresh
+run_stage-requires-clause-fresh g c = record { contents = contents_of summary_form c.new-reader.result.shape; stands = record { is = refl; represents = c.new-reader.ensures.value } }
 
-pub returns-in-Err : goal.returns-in-Err
-returns-in-Err g c = ends_unread c.args.heading c.what_is_read_stays.ensures _ _ _ _ _ _ _ _ _ _ _ _ c.turns.invariant.0 c.in-Err.ensures.cause c.in-Err.ensures.counted
+pub run_stage-requires-clause-good : goal.run_stage-requires-clause-good
+run_stage-requires-clause-good g c contents taken stands bytes =
+    subst (λ (shape : Shape). AreGood (IsHead shape.kind) (IsPlaced SummaryRecord summary_form (λ told samples entry. IsSummary samples entry) shape) (contents bytes).head (contents bytes).entries) c.new-reader.ensures.shape
+    (c.what_is_read_can_be_taken.ensures contents [] taken c.new-reader.result stands bytes)
 
-pub returns-in_err-stop : goal.returns-in_err-stop
-returns-in_err-stop g c =
-    let p = err_from_is_err_and c.from_residual-in_err-stop.result c.from_residual-in_err-stop.ensures.1 in
-    ends_unmade c.args.heading c.what_is_read_stays.ensures _ _ _ _ _ _ _ _ _ _ _ _ _ _ _ _ _ c.turns.invariant.0 c.in-Ok.ensures.moved c.in-Ok.ensures.counted (ap end_status p.1 ∙ ap stop_status p.2)
-
-pub returns-in-Err-write_all : goal.returns-in-Err-write_all
-returns-in-Err-write_all g c =
-    let part = part_of_block c.args.heading _ _ _ _ c.in-Ok.read _ _ _ _ c.turns.block.ok.0 (c.read.auto.buf ∙ ap length c.as_mut_slice.ensures.value) c.deref.ensures.value c.in_ok-stop.ensures.value in
-    let turn = turned c.args.heading _ _ _ _ _ _ _ _ _ _ _ _ _ _ _ _ _ _ _ c.turns.invariant.0 c.in-Ok.ensures.moved c.in-Ok.ensures.counted part in
-    ends_unwritten c.args.heading c.what_is_read_stays.ensures _ _ _ _ _ _ _ _ _ _ _ _ _ _ _ turn (rw c.as_slice.ensures.value at c.in-Err-write_all.ensures.moved) (λ is. c.in-Err-write_all.ensures.cause (ap (failed_write c.args.heading) is)) c.in-Err-write_all.ensures.counted (ap stop_status c.write_stop.ensures)
-
-pub returns-in-Some : goal.returns-in-Some
-returns-in-Some g c =
-    let part = part_of_block c.args.heading _ _ _ _ c.in-Ok.read _ _ _ _ c.turns.block.ok.0 (c.read.auto.buf ∙ ap length c.as_mut_slice.ensures.value) c.deref.ensures.value c.in_ok-stop.ensures.value in
-    let turn = turned c.args.heading _ _ _ _ _ _ _ _ _ _ _ _ _ _ _ _ _ _ _ c.turns.invariant.0 c.in-Ok.ensures.moved c.in-Ok.ensures.counted part in
-    let z = c.in_default.ensures.moved in
-    ends_refused c.args.heading c.what_is_read_stays.ensures _ c.in_default.field-0 _ _ _ _ _ _ _ _ _ _ _ _ _ turn (rw c.as_slice.ensures.value at c.in_default.ensures.moved) c.in_default.ensures.counted c.in-Some.is
-
-pub turns-preserved : goal.turns-preserved
-turns-preserved g c =
-    let same = filled_block c.args.heading c.turns.block.items c.read.new.buf c.turns.block.len c.turns.block.ok.0 (c.read.auto.buf ∙ ap length c.as_mut_slice.ensures.value) in
-    let part = part_of_block c.args.heading _ _ _ _ c.in-Ok.read _ _ _ _ c.turns.block.ok.0 (c.read.auto.buf ∙ ap length c.as_mut_slice.ensures.value) c.deref.ensures.value c.in_ok-stop.ensures.value in (
-      going_more c.args.heading _ _ _ _ _ _ _ _ _ _ _ _ _ _ _ _ _ _ _ _ _ c.in_default.field-0 _ c.turns.invariant.0 c.in-Ok.ensures.moved (omega (arith, c.if-read-eq0.false)) (omega (arith, c.in-Ok.ensures.within, c.read.auto.buf)) c.in-Ok.ensures.counted part
-          (rw c.as_slice.ensures.value at c.in_default.ensures.moved) c.in_default.ensures.counted c.in_default-stop.is,
-      ap length same ∙ c.read.auto.buf ∙ ap length c.as_mut_slice.ensures.value ∙ c.turns.invariant.1,
-    )
+pub returns : goal.returns
+returns g c inputs outputs =
+    c.run_stage.ensures.ended false (λ files bytes. elt_outcome c.args.heading bytes) inputs outputs (contents_of summary_form summary_shape)
+    (record { is = ap (contents_of summary_form) (sym c.new-reader.ensures.shape); represents = c.new-reader.ensures.value }) (λ unused. refl)
+    (λ files bytes finds. record { start = c.args.heading; stood = refl; is = sym (c.records_give_their_rows.ensures elt_heading_part elt_record_rows c.args.heading (contents_of summary_form summary_shape bytes)) })

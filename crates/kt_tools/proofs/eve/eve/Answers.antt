@@ -1,35 +1,39 @@
-use Rattle.std.proofs.Common.{◌≡◌, Ok, ap, refl, subst, true}
+use Rattle.std.proofs.Common.{◌≡◌, ℕ, List, Ok, Err, ap, refl, subst, ◌∙◌}
 use Rattle.std.specs.Prelude.{IfSome}
+use Rattle.kt_ends.specs.Endings.{ends_for_memory, ends_written, writes_text}
+use Rattle.kt_ends.specs.Outcome.{Outcome}
+use Rattle.kt_out.specs.Writing.{WritesAll}
+use Rattle.std.proofs.lemmas.Bool.{false≢true}
 use Rattle.kt_load.specs.Ends.{TellsLoad}
 use Rattle.kt_load.specs.Loaded.{loaded}
+use Rattle.kt_rec.specs.Rows.{Rows}
 use Rattle.kt_rec.specs.declared.table.Table.TheVariants as table
 use Rattle.kt_tools.specs.Loading.{need_of}
-use Rattle.kt_tools.specs.Stops.{stop_status, fault_stop}
-use Rattle.kt_tools.proofs.EltLoop.{failed_write, write_not_read, write_failed}
 use Rattle.kt_tools.proofs.EveLemmas.{eve_uses, part_bytes, bytes_are}
-use Rattle.kt_tools.proofs.LoadedLemmas.{is_done, ends_unloaded, ends_alone, gained_all, gained_front, gained_none, fault_verdict_done, fault_is_no_miss}
+use Rattle.kt_tools.proofs.Loaded.{ends_unloaded, is_loaded}
 use Rattle.kt_tools.proofs.eve.eve.Goals as goal
 
+-- what is made of the rows: the ids of a part
+abbrev part_text : ℕ → ℕ → Rows → List ℕ → Outcome
+part_text part parts rows source = writes_text (part_bytes part parts rows)
+
 pub returns-in-Err : goal.returns-in-Err
-returns-in-Err g c left reads =
-    let told = subst (λ n. IfSome (g.I.Inputs.held c.args.inputs.now) (λ files. TellsLoad (loaded files n) c.in-Err.stop)) c.need_of.ensures c.in-Err.ensures.exact in
-    rw c.load_stop.ensures (ends_unloaded (eve_uses c.args.part c.args.parts) (need_of table.Events) (λ rows _. is_done (part_bytes c.args.part c.args.parts rows)) _ _ _ _ _ _ left reads _ _ c.in-Err.stop refl told c.in-Err.ensures.cause c.in-Err.ensures.inputs)
+returns-in-Err g c outputs source =
+    let told = subst (λ n. IfSome (g.I.Inputs.state c.args.inputs.now).held (λ files. TellsLoad (loaded files n) c.in-Err.stop)) c.need_of.ensures c.in-Err.ensures.exact in
+    rw c.load_stop.ensures (ends_unloaded (eve_uses c.args.part c.args.parts) (need_of table.Events) (part_text c.args.part c.args.parts) _ _ outputs source _ refl c.in-Err.stop told c.in-Err.ensures.inputs)
 
 pub returns-in-Err-event_bytes : goal.returns-in-Err-event_bytes
-returns-in-Err-event_bytes g c left reads =
-    let are = subst (λ n. IfSome (g.I.Inputs.held c.args.inputs.now) (λ files. loaded files n ≡ Ok c.in-Ok.portfolio.rows)) c.need_of.ensures c.in-Ok.ensures.exact in
-    ends_alone (eve_uses c.args.part c.args.parts) (need_of table.Events) (part_bytes c.args.part c.args.parts) _ _ _ _ _ _ left reads _ _ _ _ c.in-Ok.portfolio.rows _ refl refl are c.in-Ok.ensures.inputs tt (gained_none _ (part_bytes c.args.part c.args.parts c.in-Ok.portfolio.rows)) (λ is. cc) (λ missing. missing) (λ is. cc)
+returns-in-Err-event_bytes g c outputs source = ends_for_memory _ (eve_uses c.args.part c.args.parts) _ _ _ (record { inputs = c.in-Ok.ensures.inputs; outputs = refl; sink = refl; reads = refl; source = λ unused. refl })
 
 pub returns-in-Ok-write_all : goal.returns-in-Ok-write_all
-returns-in-Ok-write_all g c left reads =
-    let are = subst (λ n. IfSome (g.I.Inputs.held c.args.inputs.now) (λ files. loaded files n ≡ Ok c.in-Ok.portfolio.rows)) c.need_of.ensures c.in-Ok.ensures.exact in
+returns-in-Ok-write_all g c outputs source =
+    let are = subst (λ n. IfSome (g.I.Inputs.state c.args.inputs.now).held (λ files. loaded files n ≡ Ok c.in-Ok.portfolio.rows)) c.need_of.ensures c.in-Ok.ensures.exact in
     let bytes = bytes_are c.in-Ok.portfolio.rows c.events.result.now c.in-Ok-events_of_part.events.now c.in-Ok-event_bytes.bytes c.args.part c.args.parts c.requires c.events.ensures.value c.in-Ok-events_of_part.ensures.exact c.in-Ok-event_bytes.ensures in
-    ends_alone (eve_uses c.args.part c.args.parts) (need_of table.Events) (part_bytes c.args.part c.args.parts) _ _ _ _ _ _ left reads _ _ _ _ c.in-Ok.portfolio.rows _ refl refl are c.in-Ok.ensures.inputs refl (gained_all _ _ c.in-Ok-event_bytes.bytes (part_bytes c.args.part c.args.parts c.in-Ok.portfolio.rows) _ bytes (rw c.as_slice.ensures.value at c.in-Ok-write_all.ensures.moved)) (λ is. cc) (λ missing. missing) (λ is. cc)
+    ends_written _ (eve_uses c.args.part c.args.parts) _ _ _ c.in-Ok-event_bytes.bytes (Ok c.in-Ok-write_all.field-0) (record { inputs = c.in-Ok.ensures.inputs; outputs = refl; reads = refl; source = λ unused. refl; at_end = λ used. absurd (false≢true used); sink = refl }) (rw c.as_slice.ensures.value at c.in-Ok-write_all.ensures.moved) (λ files source_bytes finds. is_loaded (eve_uses c.args.part c.args.parts) (need_of table.Events) (part_text c.args.part c.args.parts) _ (g.I.Inputs.state c.load.new.inputs) outputs source _ refl c.in-Ok.portfolio.rows are files source_bytes finds ∙ ap writes_text bytes)
 
 pub returns : goal.returns
-returns g c left reads =
-    let are = subst (λ n. IfSome (g.I.Inputs.held c.args.inputs.now) (λ files. loaded files n ≡ Ok c.in-Ok.portfolio.rows)) c.need_of.ensures c.in-Ok.ensures.exact in
+returns g c outputs source =
+    let are = subst (λ n. IfSome (g.I.Inputs.state c.args.inputs.now).held (λ files. loaded files n ≡ Ok c.in-Ok.portfolio.rows)) c.need_of.ensures c.in-Ok.ensures.exact in
     let bytes = bytes_are c.in-Ok.portfolio.rows c.events.result.now c.in-Ok-events_of_part.events.now c.in-Ok-event_bytes.bytes c.args.part c.args.parts c.requires c.events.ensures.value c.in-Ok-events_of_part.ensures.exact c.in-Ok-event_bytes.ensures in
-    let fault = c.in-Err-write_all.fault in
     rw c.write_stop.ensures
-    (ends_alone (eve_uses c.args.part c.args.parts) (need_of table.Events) (part_bytes c.args.part c.args.parts) _ _ _ _ _ _ left reads _ _ _ _ c.in-Ok.portfolio.rows (stop_status (fault_stop fault)) refl refl are c.in-Ok.ensures.inputs (fault_verdict_done fault) (gained_front _ _ _ c.in-Ok-event_bytes.bytes (part_bytes c.args.part c.args.parts c.in-Ok.portfolio.rows) fault bytes (rw c.as_slice.ensures.value at c.in-Err-write_all.ensures.moved)) (λ is. write_not_read true fault is) (λ missing. fault_is_no_miss fault missing) (λ is. c.in-Err-write_all.ensures.cause (ap (failed_write true) (write_failed true fault is))))
+    (ends_written {T = Unit {0}} _ (eve_uses c.args.part c.args.parts) _ _ _ c.in-Ok-event_bytes.bytes (Err c.in-Err-write_all.fault) (record { inputs = c.in-Ok.ensures.inputs; outputs = refl; reads = refl; source = λ unused. refl; at_end = λ used. absurd (false≢true used); sink = refl }) (subst (λ (text : List ℕ). WritesAll {T = Unit {0}} (g.K.Sink.state c.args.sink.now) (g.K.Sink.state c.write_all.new.sink) text (Err c.in-Err-write_all.fault)) c.as_slice.ensures.value c.in-Err-write_all.ensures.moved) (λ files source_bytes finds. is_loaded (eve_uses c.args.part c.args.parts) (need_of table.Events) (part_text c.args.part c.args.parts) _ (g.I.Inputs.state c.load.new.inputs) outputs source _ refl c.in-Ok.portfolio.rows are files source_bytes finds ∙ ap writes_text bytes))

@@ -1,19 +1,17 @@
-use Rattle.std.proofs.Common.{◌∙◌, ap, sym, refl}
-use Rattle.kt_tools.specs.declared.command.Command.TheVariants.{Convert, FootprintText, Eve}
-use Rattle.kt_tools.specs.Outcome.{convert_outcome}
-use Rattle.kt_tools.specs.Run.{command_uses}
-use Rattle.kt_tools.specs.Stops.{end_status}
-use Rattle.kt_tools.proofs.Running.{found, ends_by_tool, by_stream}
+use Rattle.std.proofs.Common.{◌∙◌, ap, sym}
+use Rattle.kt_ends.specs.Stops.{end_status}
+use Rattle.kt_words.specs.declared.command.Command.TheVariants.{Eltcalc, Convert, FootprintText, Eve}
+use Rattle.kt_tools.proofs.Running.{by_command, command_is}
 use Rattle.kt_tools.proofs.top_call.carry_out.Goals as goal
 
-pub returns-in-Ok-Convert : goal.returns-in-Ok-Convert
-returns-in-Ok-Convert g c =
-    let command = Convert c.in-Ok-Convert.conversion in
-    ends_by_tool _ command _ _ c.convert.result _ (sym c.read_command.ensures ∙ c.in-Ok-Convert.is ∙ ap found c.in-Ok-Convert.field-0-is) c.status_of-in-Ok-Convert.ensures
-    (by_stream (command_uses command) (convert_outcome c.in-Ok-Convert.conversion) _ _ _ _ _ _ _ _ _ _ _ (end_status c.convert.result) refl c.convert.ensures)
+pub returns-in-Ok-Eltcalc-clause-ends : goal.returns-in-Ok-Eltcalc-clause-ends
+returns-in-Ok-Eltcalc-clause-ends g c outputs = by_command c.args.words.now (Eltcalc c.in-Ok-Eltcalc.heading) _ _ (end_status c.eltcalc.result) _ (sym c.read_command.ensures.value ∙ c.in-Ok-Eltcalc.is ∙ ap command_is c.in-Ok-Eltcalc.field-0-is) c.status_of.ensures (c.eltcalc.ensures (g.I.Inputs.state c.args.inputs.now) outputs)
 
-pub returns-in-Ok-FootprintText : goal.returns-in-Ok-FootprintText
-returns-in-Ok-FootprintText g c = ends_by_tool _ FootprintText _ _ c.footprint_to_text.result _ (sym c.read_command.ensures ∙ c.in-Ok-FootprintText.is ∙ ap found c.in-Ok-FootprintText.field-0-is) c.status_of-in-Ok-FootprintText.ensures c.footprint_to_text.ensures
+pub returns-in-Ok-Convert-clause-ends : goal.returns-in-Ok-Convert-clause-ends
+returns-in-Ok-Convert-clause-ends g c outputs = by_command c.args.words.now (Convert c.in-Ok-Convert.conversion) _ _ (end_status c.convert.result) _ (sym c.read_command.ensures.value ∙ c.in-Ok-Convert.is ∙ ap command_is c.in-Ok-Convert.field-0-is) c.status_of-in-Ok-Convert.ensures (c.convert.ensures (g.I.Inputs.state c.args.inputs.now) outputs)
 
-pub returns-in-Ok-Eve : goal.returns-in-Ok-Eve
-returns-in-Ok-Eve g c = ends_by_tool _ (Eve c.in-Ok-Eve.part c.in-Ok-Eve.parts) _ _ c.eve.result _ (sym c.read_command.ensures ∙ c.in-Ok-Eve.is ∙ ap found c.in-Ok-Eve.field-0-is) c.status_of-in-Ok-Eve.ensures (c.eve.ensures (g.S.Source.left c.args.source.now) (g.S.Source.fault_count c.args.source.now))
+pub returns-in-Ok-FootprintText-clause-ends : goal.returns-in-Ok-FootprintText-clause-ends
+returns-in-Ok-FootprintText-clause-ends g c outputs = by_command c.args.words.now FootprintText _ _ (end_status c.footprint_to_text.result) _ (sym c.read_command.ensures.value ∙ c.in-Ok-FootprintText.is ∙ ap command_is c.in-Ok-FootprintText.field-0-is) c.status_of-in-Ok-FootprintText.ensures (c.footprint_to_text.ensures outputs)
+
+pub returns-in-Ok-Eve-clause-ends : goal.returns-in-Ok-Eve-clause-ends
+returns-in-Ok-Eve-clause-ends g c outputs = by_command c.args.words.now (Eve c.in-Ok-Eve.part c.in-Ok-Eve.parts) _ _ (end_status c.eve.result) _ (sym c.read_command.ensures.value ∙ c.in-Ok-Eve.is ∙ ap command_is c.in-Ok-Eve.field-0-is) c.status_of-in-Ok-Eve.ensures (c.eve.ensures outputs (g.S.Source.state c.args.source.now))

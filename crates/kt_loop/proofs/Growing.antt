@@ -1,0 +1,127 @@
+-- Courses over a stream of which more was read.
+use Rattle.std.proofs.Common.{◌≡◌, ℕ, Bool, true, false, List, [], ◌∷◌, ◌++◌, Option, Some, None, Result, Ok, Err, refl, sym, ap, ◌∙◌, subst}
+use Rattle.std.specs.Prelude.{is_some}
+use Rattle.std.specs.List.{AllByRecursion}
+use Rattle.kt_stream.specs.declared.entry.Placed.{Placed}
+use Rattle.kt_ends.specs.declared.status.Refusal.{Refusal}
+use Rattle.kt_loop.specs.Calculation.{Calculation, Course, started, opened, took_all, course_of}
+use Rattle.kt_loop.specs.Carrying.{carried, header_if}
+use Rattle.kt_loop.specs.Contents.{Contents, Grows}
+use Rattle.kt_stream.specs.declared.stop.StreamStop.{StreamStop}
+use Rattle.kt_loop.specs.Reading.{AreGood, IsRead, FeedsBy}
+use Rattle.kt_loop.proofs.Courses.{took_joined, took_longer}
+use Rattle.kt_loop.proofs.Taking.{stays_refused}
+
+-- a header and records, and what is read later of the same stream
+pub record IsLater {H E : Type 0} (head head_now : Option H) (entries entries_now later : List (Placed E)) : Type 0 where
+  pub head_stays : (known : H) → head ≡ Some known → head_now ≡ Some known
+  pub headless : head ≡ None → entries ≡ []
+  pub records : entries_now ≡ entries ++ later
+
+module _ {H E S : Type 0} (calculation : Calculation H E S Refusal) (start : S) where
+  -- what is carried on is the course over what is read later
+  pub course_carried : (head head_now : Option H) (entries entries_now later : List (Placed E)) → IsLater head head_now entries entries_now later
+      → carried calculation (is_some head) head_now (course_of calculation start head entries) later ≡ course_of calculation start head_now entries_now
+  course_carried None None entries entries_now later is = refl
+  course_carried None (Some known) entries entries_now later is =
+      ap (took_all calculation known (opened calculation known (started start))) (sym (is.records ∙ ap (λ (xs : List (Placed E)). xs ++ later) (is.headless refl)))
+  course_carried (Some known) head_now entries entries_now later is =
+      ap (λ (head : Option H). carried calculation true head (course_of calculation start (Some known) entries) later) (is.head_stays known refl)
+      ∙ sym (took_joined calculation known (opened calculation known (started start)) entries later)
+      ∙ ap (took_all calculation known (opened calculation known (started start))) (sym is.records)
+      ∙ ap (λ (head : Option H). course_of calculation start head entries_now) (sym (is.head_stays known refl))
+
+  -- its text is longer
+  pub course_longer : (head head_now : Option H) (entries entries_now later : List (Placed E)) → IsLater head head_now entries entries_now later
+      → (more : List ℕ) × ((course_of calculation start head_now entries_now).text ≡ (course_of calculation start head entries).text ++ more)
+  course_longer None head_now entries entries_now later is = ((course_of calculation start head_now entries_now).text, refl)
+  course_longer (Some known) head_now entries entries_now later is =
+      let longer = took_longer calculation known (course_of calculation start (Some known) entries) later in
+      (longer.0, ap (λ (course : Course S Refusal). course.text) (sym (course_carried (Some known) head_now entries entries_now later is) ∙ ap (λ (head : Option H). carried calculation true head (course_of calculation start (Some known) entries) later) (is.head_stays known refl)) ∙ longer.1)
+
+  abbrev going : S → Result S Refusal
+  going state = Ok state
+
+  not_refused : (state : S) (why : Refusal) → going state ≡ Err why → ⊥
+  not_refused state why is = cc
+
+  -- a refusal stays
+  pub course_refused : (head head_now : Option H) (entries entries_now later : List (Placed E)) (why : Refusal) → IsLater head head_now entries entries_now later
+      → (course_of calculation start head entries).reached ≡ Err why → course_of calculation start head_now entries_now ≡ course_of calculation start head entries
+  course_refused None head_now entries entries_now later why is refused = absurd (not_refused start why refused)
+  course_refused (Some known) head_now entries entries_now later why is refused =
+      sym (course_carried (Some known) head_now entries entries_now later is) ∙ ap (λ (head : Option H). carried calculation true head (course_of calculation start (Some known) entries) later) (is.head_stays known refl)
+      ∙ stays_refused calculation known (course_of calculation start (Some known) entries) why later refused
+
+-- ---- readers
+
+-- the header with which a stage was opened is that which was read before
+pub header_was : {H : Type 0} (head head_now : Option H) → ((known : H) → head ≡ Some known → head_now ≡ Some known) → header_if (is_some head) head_now ≡ head
+header_was None head_now stays = refl
+header_was (Some known) head_now stays = stays known refl
+
+later_good : {E : Type 0} (is_good : Placed E → Type 0) (taken held : List (Placed E)) → AllByRecursion is_good (taken ++ held) → AllByRecursion is_good held
+later_good is_good [] held good = good
+later_good is_good (placed ∷ taken) held good = later_good is_good taken held good.1
+
+-- what is held is good where all that was read is
+pub held_good : {H E : Type 0} (accepts : H → Type 0) (is_good : H → Placed E → Type 0) (header : Option H) (taken held : List (Placed E)) → AreGood accepts is_good header (taken ++ held) → AreGood accepts is_good header held
+held_good accepts is_good None taken held good = tt
+held_good accepts is_good (Some head) taken held good = (good.0, later_good (is_good head) taken held good.1)
+
+pub read_good : {H E : Type 0} (accepts : H → Type 0) (is_good : H → Placed E → Type 0) (contents : Contents H E) (taken held : List (Placed E)) (header : Option H) → IsRead contents taken header held → AreGood accepts is_good contents.head contents.entries → AreGood accepts is_good header held
+read_good accepts is_good contents taken held header read good =
+    held_good accepts is_good header taken held (subst (λ (head : Option _). AreGood accepts is_good head (taken ++ held)) (sym read.head) (subst (λ (entries : List (Placed _)). AreGood accepts is_good contents.head entries) read.records good))
+
+-- ---- what a turn brings
+
+module _ {H E S : Type 0} (calculation : Calculation H E S Refusal) (start : S) where
+  -- carrying on after a piece is the course over what was read by then
+  pub turned : (before now : Contents H E) (header header_now : Option H) (held held_now : List (Placed E)) (was : Bool) → IsRead before before.entries header held → IsRead now before.entries header_now held_now → Grows before now → was ≡ is_some header
+      → carried calculation was header_now (course_of calculation start before.head before.entries) held_now ≡ course_of calculation start now.head now.entries
+  turned before now header header_now held held_now was read read_now grows is =
+      ap (λ (w : Bool). carried calculation w header_now (course_of calculation start before.head before.entries) held_now) (is ∙ ap (λ (head : Option H). is_some head) read.head)
+      ∙ ap (λ (head : Option H). carried calculation (is_some before.head) head (course_of calculation start before.head before.entries) held_now) read_now.head
+      ∙ course_carried calculation start before.head now.head before.entries now.entries held_now (record { head_stays = grows.head; headless = grows.headless; records = read_now.records })
+
+  abbrev no_header : Option H
+  no_header = None
+
+  no_head : (known : H) → no_header ≡ Some known → ⊥
+  no_head known is = cc
+
+  -- and so it is where the header is there before the first byte
+  pub begun : (now : Contents H E) (header_now : Option H) (held_now : List (Placed E)) → IsRead now [] header_now held_now → carried calculation false header_now (started start) held_now ≡ course_of calculation start now.head now.entries
+  begun now header_now held_now read_now =
+      ap (λ (head : Option H). carried calculation false head (started start) held_now) read_now.head
+      ∙ course_carried calculation start None now.head [] now.entries held_now (record { head_stays = λ known is. absurd (no_head known is); headless = λ none. refl; records = read_now.records })
+
+  -- the text grows with what is read
+  pub text_grows : (before now : Contents H E) → Grows before now
+      → (more : List ℕ) × ((course_of calculation start now.head now.entries).text ≡ (course_of calculation start before.head before.entries).text ++ more)
+  text_grows before now grows =
+      course_longer calculation start before.head now.head before.entries now.entries grows.entries.0 (record { head_stays = grows.head; headless = grows.headless; records = grows.entries.1 })
+
+  -- a refusal stays whatever is read behind it
+  pub refusal_stays : (before now : Contents H E) (why : Refusal) → Grows before now → (course_of calculation start before.head before.entries).reached ≡ Err why
+      → course_of calculation start now.head now.entries ≡ course_of calculation start before.head before.entries
+  refusal_stays before now why grows refused =
+      course_refused calculation start before.head now.head before.entries now.entries grows.entries.0 why (record { head_stays = grows.head; headless = grows.headless; records = grows.entries.1 }) refused
+
+-- the reader stands for what it was fed, whether the stream is refused or not
+pub fed_stands : {T H E : Type 0} (contents : List ℕ → Contents H E) (represents : List ℕ → List (Placed E) → T → Type 0) (stop : Option StreamStop) (fed : List ℕ) (taken : List (Placed E)) (new : T) → FeedsBy contents represents stop fed taken new → represents fed taken new
+fed_stands contents represents None fed taken new feeds = feeds.stands
+fed_stands contents represents (Some stop) fed taken new feeds = feeds.stands
+
+-- what a reader stands for after a piece, once all records of it were taken
+pub fed_all : {T H E : Type 0} (contents : List ℕ → Contents H E) (represents : List ℕ → List (Placed E) → T → Type 0) (stop : Option StreamStop) (fed : List ℕ) (taken taken_now : List (Placed E)) (new now : T) → FeedsBy contents represents stop fed taken new → represents fed taken_now now → FeedsBy contents represents stop fed taken_now now
+fed_all contents represents None fed taken taken_now new now feeds stands = record { stands = stands; within = feeds.within }
+fed_all contents represents (Some stop) fed taken taken_now new now feeds stands = record { stands = stands; refused = feeds.refused }
+
+-- a header that was read before is read still
+pub header_stays : {H E : Type 0} (before now : Contents H E) (header header_now : Option H) (taken taken_now held held_now : List (Placed E)) → IsRead before taken header held → IsRead now taken_now header_now held_now → Grows before now → (known : H) → header ≡ Some known → header_now ≡ Some known
+header_stays before now header header_now taken taken_now held held_now read read_now grows known is = read_now.head ∙ grows.head known (sym read.head ∙ is)
+
+-- a header that was read can be taken
+pub head_good : {H E : Type 0} (accepts : H → Type 0) (is_good : H → Placed E → Type 0) (header : Option H) (entries : List (Placed E)) (head : H) → AreGood accepts is_good header entries → header ≡ Some head → accepts head
+head_good accepts is_good header entries head good is = let told : AreGood accepts is_good (Some head) entries = subst (λ (h : Option _). AreGood accepts is_good h entries) is good in told.0

@@ -1,0 +1,15 @@
+pub mod Courses
+pub mod Giving
+pub mod Stepping
+pub mod Taking
+pub mod Growing
+pub mod Settling
+pub mod Going
+pub mod Ending
+pub mod Rows
+pub mod RunsGiven
+pub mod Joining
+pub mod RunStepping
+pub mod Splitting
+pub mod RecordReading
+pub mod RecordsGood

@@ -1,0 +1,111 @@
+-- Steps of a stage, and where the calculation comes by them.
+use Rattle.std.proofs.Common.{◌≡◌, ℕ, List, ◌++◌, Option, None, Result, Ok, Err, refl, sym, subst, inl}
+use Rattle.kt_out.specs.InputFiles.{InputsState}
+use Rattle.kt_stream.specs.declared.entry.Placed.{Placed}
+use Rattle.kt_ends.specs.declared.status.Refusal.{Refusal}
+use Rattle.kt_ends.specs.declared.status.Refusal.TheVariants as refusal
+use Rattle.kt_ends.specs.declared.tool_stop.ToolStop.{ToolStop}
+use Rattle.kt_ends.specs.declared.tool_stop.ToolStop.TheVariants as stop
+use Rattle.kt_loop.specs.Calculation.{Step, Calculation, Course, behind, opened_from, opened, took_from, took}
+use Rattle.kt_loop.specs.Counts.{Consults, CountsWrite, InputsCounted, SinkCounted, Counts, CountsRead}
+use Rattle.kt_loop.specs.Given.{Given, GivenFront, Spills}
+use Rattle.kt_loop.specs.Steps.{StepsBy, Stands, Comes}
+use Rattle.kt_loop.proofs.Giving.{given_more, given_front, front_longer}
+
+module _ {S : Type 0} (T : Type 0) (stands : S → Type 0) (before now : Option (List ℕ)) where
+  front_behind : (pending text more : List ℕ) → Given before now pending text → GivenFront before now (text ++ more)
+  front_behind pending text more given = front_longer before now text (text ++ more) more (given_front before now pending text given) refl
+
+  -- by a step
+  pub came : (pending pending_now text : List ℕ) (step : Step S Refusal) (result : Result T ToolStop) → Given before now pending text → StepsBy step stands pending pending_now result → Comes stands before now pending_now (behind text step) result
+  came pending pending_now text step (Ok done) given by = record { at = by.next; reached = by.reached; state = by.state; given = given_more before now pending pending_now text step.text given by.wrote }
+  came pending pending_now text step (Err (stop.Refused why)) given by = record { reached = by.reached; given = given_more before now pending pending_now text step.text given by.wrote }
+  came pending pending_now text step (Err stop.ReadFault) given by = front_behind pending text step.text given
+  came pending pending_now text step (Err stop.WriteFault) given by = front_behind pending text step.text given
+  came pending pending_now text step (Err stop.NoMemory) given by = front_behind pending text step.text given
+
+  module _ {H E : Type 0} (calculation : Calculation H E S Refusal) (head : H) (stood : S → Type 0) (pending pending_now : List ℕ) (course : Course S Refusal) (result : Result T ToolStop) (standing : Stands stood before now pending course) where
+    -- by that at the header
+    pub came_open : ((state : S) → stood state → StepsBy (calculation.opens head state) stands pending pending_now result) → Comes stands before now pending_now (opened calculation head course) result
+    came_open by =
+        subst (λ (reached : Result S Refusal). Comes stands before now pending_now (opened_from calculation head course.text reached) result) (sym standing.reached)
+        (came pending pending_now course.text (calculation.opens head standing.at) result standing.given (by standing.at standing.state))
+
+    -- by that at a record
+    pub came_on : (placed : Placed E) → ((state : S) → stood state → StepsBy (calculation.takes head state placed) stands pending pending_now result) → Comes stands before now pending_now (took calculation head course placed) result
+    came_on placed by =
+        subst (λ (reached : Result S Refusal). Comes stands before now pending_now (took_from calculation head placed course.text reached) result) (sym standing.reached)
+        (came pending pending_now course.text (calculation.takes head standing.at placed) result standing.given (by standing.at standing.state))
+
+-- what is pending is written
+pub spilled : {S : Type 0} (T : Type 0) (stands : S → Type 0) (before now next : Option (List ℕ)) (pending pending_now : List ℕ) (faults faults_now : ℕ) (course : Course S Refusal) (result : Result T ToolStop)
+    → Stands stands before now pending course → ((before : Option (List ℕ)) (text : List ℕ) → Given before now pending text → Spills before next pending_now text result) → CountsWrite faults faults_now result → Comes stands before next pending_now course result
+spilled T stands before now next pending pending_now faults faults_now course (Ok done) standing wrote counted = record { at = standing.at; reached = standing.reached; state = standing.state; given = wrote before course.text standing.given }
+spilled T stands before now next pending pending_now faults faults_now course (Err (stop.Refused why)) standing wrote counted = absurd counted
+spilled T stands before now next pending pending_now faults faults_now course (Err stop.ReadFault) standing wrote counted = wrote before course.text standing.given
+spilled T stands before now next pending pending_now faults faults_now course (Err stop.WriteFault) standing wrote counted = wrote before course.text standing.given
+spilled T stands before now next pending pending_now faults faults_now course (Err stop.NoMemory) standing wrote counted = wrote before course.text standing.given
+
+-- ---- counts
+
+inputs_consulted : (T : Type 0) (before after : InputsState) (result : Result T ToolStop) → Consults before after result → InputsCounted before after result
+inputs_consulted T before after (Ok done) by = by
+inputs_consulted T before after (Err (stop.Refused (refusal.Missing name))) by = absurd by
+inputs_consulted T before after (Err (stop.Refused why)) by = by
+inputs_consulted T before after (Err stop.ReadFault) by = by
+inputs_consulted T before after (Err stop.WriteFault) by = absurd by
+inputs_consulted T before after (Err stop.NoMemory) by = by
+
+sink_rests : (T : Type 0) (before after : InputsState) (faults : ℕ) (result : Result T ToolStop) → Consults before after result → SinkCounted faults faults result
+sink_rests T before after faults (Ok done) by = refl
+sink_rests T before after faults (Err (stop.Refused why)) by = refl
+sink_rests T before after faults (Err stop.ReadFault) by = refl
+sink_rests T before after faults (Err stop.WriteFault) by = absurd by
+sink_rests T before after faults (Err stop.NoMemory) by = refl
+
+-- a call of a stage counts nothing of the sink
+pub counts_call : (T : Type 0) (before after : InputsState) (faults : ℕ) (result : Result T ToolStop) → Consults before after result → Counts before after faults faults result
+counts_call T before after faults result by = record { of_inputs = inputs_consulted T before after result by; of_sink = sink_rests T before after faults result by }
+
+-- writing counts nothing of the input files
+pub counts_write : (T : Type 0) (before after : InputsState) (faults faults_now : ℕ) (result : Result T ToolStop) → after ≡ before → CountsWrite faults faults_now result → Counts before after faults faults_now result
+counts_write T before after faults faults_now (Ok done) same by = record { of_inputs = same; of_sink = by }
+counts_write T before after faults faults_now (Err (stop.Refused why)) same by = absurd by
+counts_write T before after faults faults_now (Err stop.ReadFault) same by = absurd by
+counts_write T before after faults faults_now (Err stop.WriteFault) same by = record { of_inputs = same; of_sink = by }
+counts_write T before after faults faults_now (Err stop.NoMemory) same by = record { of_inputs = same; of_sink = by }
+
+-- calls behind others that counted nothing
+pub counts_behind : (T : Type 0) (before between after : InputsState) (faults faults_between faults_now : ℕ) (result : Result T ToolStop) → (between ≡ before) → (faults_between ≡ faults) → Counts between after faults_between faults_now result → Counts before after faults faults_now result
+counts_behind T before between after faults faults_between faults_now result same same_faults counts =
+    subst (λ (inputs : InputsState). Counts inputs after faults faults_now result) same (subst (λ (n : ℕ). Counts between after n faults_now result) same_faults counts)
+
+-- some input files
+abbrev pub no_inputs : InputsState
+no_inputs = record { held = None; faults = 0; misses = 0 }
+
+-- what a stop counted is the same whatever else could have been answered
+inputs_as : (T U : Type 0) (before after : InputsState) (why : ToolStop) → InputsCounted {T = T} before after (Err why) → InputsCounted {T = U} before after (Err why)
+inputs_as T U before after (stop.Refused (refusal.Missing name)) by = absurd by
+inputs_as T U before after (stop.Refused why) by = by
+inputs_as T U before after stop.ReadFault by = by
+inputs_as T U before after stop.WriteFault by = by
+inputs_as T U before after stop.NoMemory by = by
+
+sink_as : (T U : Type 0) (before after : ℕ) (why : ToolStop) → SinkCounted {T = T} before after (Err why) → SinkCounted {T = U} before after (Err why)
+sink_as T U before after (stop.Refused why) by = by
+sink_as T U before after stop.ReadFault by = by
+sink_as T U before after stop.WriteFault by = by
+sink_as T U before after stop.NoMemory by = by
+
+pub counts_as : (T U : Type 0) (before after : InputsState) (faults faults_now : ℕ) (why : ToolStop) → Counts {T = T} before after faults faults_now (Err why) → Counts {T = U} before after faults faults_now (Err why)
+counts_as T U before after faults faults_now why by = record { of_inputs = inputs_as T U before after why by.of_inputs; of_sink = sink_as T U faults faults_now why by.of_sink }
+
+-- what calls counted that read nothing of the source
+pub counts_read : (T : Type 0) (before after : InputsState) (reads reads_now faults faults_now : ℕ) (result : Result T ToolStop) → Counts before after faults faults_now result → reads_now ≡ reads → CountsRead before after reads reads_now faults faults_now result
+counts_read T before after reads reads_now faults faults_now (Ok done) by same = (by.of_inputs, same, by.of_sink)
+counts_read T before after reads reads_now faults faults_now (Err (stop.Refused (refusal.Missing name))) by same = absurd by.of_inputs
+counts_read T before after reads reads_now faults faults_now (Err (stop.Refused why)) by same = (by.of_inputs, same, by.of_sink)
+counts_read T before after reads reads_now faults faults_now (Err stop.ReadFault) by same = (inl (by.of_inputs, same), by.of_sink)
+counts_read T before after reads reads_now faults faults_now (Err stop.WriteFault) by same = (by.of_inputs, same, by.of_sink)
+counts_read T before after reads reads_now faults faults_now (Err stop.NoMemory) by same = (by.of_inputs, same, by.of_sink)

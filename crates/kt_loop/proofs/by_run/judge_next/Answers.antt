@@ -1,0 +1,14 @@
+use Rattle.std.proofs.Common.{◌≡◌, List, [], ◌∷◌, ◌++◌, refl, sym, ap, ◌∙◌, rules}
+use Rattle.kt_stream.specs.declared.entry.Placed.{Placed}
+use Rattle.kt_loop.specs.ByRun.{judged}
+use Rattle.kt_loop.proofs.by_run.judge_next.Goals as goal
+
+pub returns-clause-step : goal.returns-clause-step
+returns-clause-step g c kept at =
+    let next : c.push.new.self.items ≡ c.args.it.now.run.items ++ c.args.placed ∷ [] = search rules in
+    record {
+      next = record { kept = kept; run = c.args.it.now.run.items ++ c.args.placed ∷ [] };
+      reached = ap (judged kept c.args.it.now.run.items c.args.placed) (ap (λ (run : List (Placed g.row.E.Denot)). g.C.RunStage.runs.refuses c.args.head kept run c.args.placed) (sym c.as_slice.ensures.value) ∙ (c.in_default.ensures.judged kept at).0);
+      state = ((c.in_default.ensures.judged kept at).1, next);
+      wrote = refl;
+    }

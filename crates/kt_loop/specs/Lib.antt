@@ -1,0 +1,15 @@
+pub mod Calculation
+pub mod Contents
+pub mod ByRecord
+pub mod Given
+pub mod Counts
+pub mod Steps
+pub mod Reading
+pub mod Carrying
+pub mod Outcome
+pub mod Settling
+pub mod Running
+pub mod Runs
+pub mod ByRun
+pub mod RunSteps
+pub mod RecordStreams

@@ -1,0 +1,240 @@
+//! Stages that calculate run by run.
+//! The rules: docs/STREAMS.md, "Runs".
+ghost use Rattle.std.specs.Prelude.{◌≡◌, ◌+◌, ℕ, List, [], ◌∷◌, ◌++◌, Bool, Option, None, Some, OnOk};
+ghost use Rattle.std.specs.List.{AllByRecursion};
+ghost use Rattle.kt_out.specs.InputFiles.{InputsState};
+ghost use Rattle.kt_out.specs.NamedFiles.{FileMap};
+ghost use Rattle.kt_out.specs.OutputFiles.{OutputsState};
+ghost use Rattle.kt_stream.specs.declared.entry.Placed.{Placed};
+ghost use Rattle.kt_ends.specs.Outcome.{Outcome};
+ghost use Rattle.kt_ends.specs.World.{world};
+ghost use Rattle.kt_ends.specs.Stops.{end_status};
+ghost use Rattle.kt_ends.specs.declared.status.Refusal.{Refusal};
+ghost use Rattle.kt_loop.specs.ByRun.{RunCalculation, OpenRun, by_run, closing, judged};
+ghost use Rattle.kt_loop.specs.Contents.{Contents};
+ghost use Rattle.kt_loop.specs.Counts.{Consults};
+ghost use Rattle.kt_loop.specs.Reading.{IsFresh, ReadsGood};
+ghost use Rattle.kt_loop.specs.RunSteps.{JudgesBy, ClosesBy, unwritten};
+ghost use Rattle.kt_loop.specs.Running.{EndsRun};
+ghost use Rattle.kt_loop.specs.Runs.{bare, joins};
+ghost use Rattle.kt_loop.specs.Steps.{StepsBy};
+
+use crate::reader::StreamReader;
+use crate::run::run_stage;
+use crate::run_key::{RunRecord, goes_on_run};
+use crate::stage::Stage;
+use kt_ends::ToolStop;
+use kt_money::Bytes;
+use kt_out::{Sink, Source};
+use kt_stream::Placed;
+use std::alloc::Global;
+
+/// A stage that gives, for a record behind those of its run, a refusal, and for the records of a closed run, the
+/// bytes. `W` is what it asks beside the stream: the input files, or `()`.
+pub trait RunStage<H, E, W> {
+    /// What the stage was made with.
+    ghost Kept: { Type 0 };
+
+    /// What it calculates.
+    ghost runs: { RunCalculation H E Kept Refusal };
+
+    /// It was made with this. Where files are asked that are not known it may stand for nothing.
+    ghost is_at: { Kept → Self → W → Type 0 };
+
+    /// It is ready for a header, or for the records behind this one.
+    ghost is_ready: { Option H → Self → Type 0 };
+
+    /// A header that it can take.
+    ghost accepts: { H → Type 0 };
+
+    /// A record that it can take behind a header.
+    ghost is_good: { H → Placed E → Type 0 };
+
+    /// The input files beside a call: those that it asks, or others, which it leaves as they are.
+    ghost inputs: { InputsState → W → InputsState };
+
+    /// Appends what is written at the header.
+    fn open(&mut self, beside: &mut W, head: H, out: &mut Bytes) -> Result<(), ToolStop>
+        requires accepted { accepts head }
+        requires ready { is_ready None self.old }
+
+        ensures step { (kept : Kept) → is_at kept self.old beside.old → StepsBy (runs.opens head kept) (λ next. is_at next self.new beside.new) out.old out.new result }
+        ensures ready { OnOk result (is_ready (Some head) self.new) }
+        ensures counted { (others : InputsState) → Consults (inputs others beside.old) (inputs others beside.new) result };
+
+    /// Judges a record that stands behind the records of its run.
+    fn judge(
+        &mut self,
+        beside: &mut W,
+        head: H,
+        run: &[Placed<E>],
+        placed: &Placed<E>,
+    ) -> Result<(), ToolStop>
+        requires accepted { accepts head }
+        requires good { AllByRecursion (is_good head) run.now }
+        requires next { is_good head placed.now }
+        requires ready { is_ready (Some head) self.old }
+
+        ensures judged { (kept : Kept) → is_at kept self.old beside.old → JudgesBy (runs.refuses head kept run.now placed.now) (is_at kept self.new beside.new) result }
+        ensures ready { OnOk result (is_ready (Some head) self.new) }
+        ensures counted { (others : InputsState) → Consults (inputs others beside.old) (inputs others beside.new) result };
+
+    /// Appends what the records of a closed run give.
+    fn close(
+        &mut self,
+        beside: &mut W,
+        head: H,
+        run: &[Placed<E>],
+        out: &mut Bytes,
+    ) -> Result<(), ToolStop>
+        requires accepted { accepts head }
+        requires good { AllByRecursion (is_good head) run.now }
+        requires ready { is_ready (Some head) self.old }
+
+        ensures closed { (kept : Kept) → is_at kept self.old beside.old → ClosesBy (runs.closes head kept (bare run.now)) (is_at kept self.new beside.new) out.old out.new result }
+        ensures ready { OnOk result (is_ready (Some head) self.new) }
+        ensures counted { (others : InputsState) → Consults (inputs others beside.old) (inputs others beside.new) result };
+}
+
+/// A stage run by run, with the records of the run that is open.
+#[derive(Drop)]
+struct ByRun<E, C> {
+    stage: C,
+    run: Vec<Placed<E>>,
+}
+
+/// Whether a record goes on a run.
+fn joins_run<E: RunRecord>(run: &[Placed<E>], placed: &Placed<E>) -> bool
+    ensures { result ≡ joins E.key run.now placed.now }
+{
+    if run.is_empty() {
+        return false;
+    }
+    let last = &run[run.len() - 1];
+    goes_on_run(last.entry.run_key(), placed.entry.run_key())
+}
+
+/// Judges a record, and keeps it behind those of its run.
+fn judge_next<H: Copy, E: Drop, W, C: RunStage<H, E, W>>(
+    it: &mut ByRun<E, C>,
+    beside: &mut W,
+    head: H,
+    placed: Placed<E>,
+) -> Result<(), ToolStop>
+    requires accepted { C.accepts head }
+    requires good { AllByRecursion (C.is_good head) it.old.run.items }
+    requires next { C.is_good head placed }
+    requires ready { C.is_ready (Some head) it.old.stage }
+
+    ensures step { (kept : C.Kept) → C.is_at kept it.old.stage beside.old → StepsBy (unwritten (judged kept it.old.run.items placed (C.runs.refuses head kept it.old.run.items placed))) (λ next. C.is_at next.kept it.new.stage beside.new × (it.new.run.items ≡ next.run)) [] [] result }
+    ensures good { OnOk result (AllByRecursion (C.is_good head) it.new.run.items) }
+    ensures ready { OnOk result (C.is_ready (Some head) it.new.stage) }
+    ensures counted { (others : InputsState) → Consults (C.inputs others beside.old) (C.inputs others beside.new) result }
+{
+    if let Err(why) = it.stage.judge(beside, head, it.run.as_slice(), &placed) {
+        return Err(why);
+    }
+    if it.run.push(placed).is_err() {
+        return Err(ToolStop::NoMemory);
+    }
+    Ok(())
+}
+
+/// Closes the open run, if there is one.
+fn close_open<H: Copy, E: Drop, W, C: RunStage<H, E, W>>(
+    it: &mut ByRun<E, C>,
+    beside: &mut W,
+    head: H,
+    out: &mut Bytes,
+) -> Result<(), ToolStop>
+    requires accepted { C.accepts head }
+    requires good { AllByRecursion (C.is_good head) it.old.run.items }
+    requires ready { C.is_ready (Some head) it.old.stage }
+
+    ensures closed { (kept : C.Kept) → C.is_at kept it.old.stage beside.old → ClosesBy (closing C.runs head kept it.old.run.items) (C.is_at kept it.new.stage beside.new) out.old out.new result }
+    ensures emptied { OnOk result (it.new.run.items ≡ []) }
+    ensures ready { OnOk result (C.is_ready (Some head) it.new.stage) }
+    ensures counted { (others : InputsState) → Consults (C.inputs others beside.old) (C.inputs others beside.new) result }
+{
+    if it.run.is_empty() {
+        return Ok(());
+    }
+    if let Err(why) = it.stage.close(beside, head, it.run.as_slice(), out) {
+        return Err(why);
+    }
+    it.run.truncate(0);
+    Ok(())
+}
+
+impl<H: Copy, E: RunRecord + Drop, W, C: RunStage<H, E, W>> Stage<H, E, W> for ByRun<E, C> {
+    ghost use Rattle.std.specs.Prelude.{◌≡◌, []};
+    ghost use Rattle.std.specs.List.{AllByRecursion};
+    ghost use Rattle.kt_loop.specs.ByRun.{OpenRun, by_run};
+    ghost use Rattle.kt_loop.specs.RunSteps.{IsReady};
+
+    ghost State = { OpenRun C.Kept E };
+
+    ghost calculation = { by_run E.key C.runs };
+
+    ghost is_at = { λ state it beside. C.is_at state.kept it.stage beside × (it.run.items ≡ state.run) };
+
+    ghost is_ready = { λ header it. C.is_ready header it.stage × IsReady C.is_good header it.run.items };
+
+    ghost accepts = { C.accepts };
+
+    ghost is_good = { C.is_good };
+
+    ghost inputs = { C.inputs };
+
+    fn open(&mut self, beside: &mut W, head: H, out: &mut Bytes) -> Result<(), ToolStop> {
+        self.stage.open(beside, head, out)
+    }
+
+    fn take(
+        &mut self,
+        beside: &mut W,
+        head: H,
+        at: u64,
+        entry: E,
+        out: &mut Bytes,
+    ) -> Result<(), ToolStop> {
+        let placed = Placed { at, entry };
+        if joins_run(self.run.as_slice(), &placed) {
+            return judge_next(self, beside, head, placed);
+        }
+        if let Err(why) = close_open(self, beside, head, out) {
+            return Err(why);
+        }
+        judge_next(self, beside, head, placed)
+    }
+
+    fn end(&mut self, beside: &mut W, head: H, out: &mut Bytes) -> Result<(), ToolStop> {
+        close_open(self, beside, head, out)
+    }
+}
+
+/// Reads a stream to its end and carries out a calculation run by run over it: writes what stands at the header, and
+/// then what each closed run gives. A record that opens a run closes the one before it, also where it is then refused;
+/// the end of the stream closes the last run only where the stream ends without a fault.
+pub fn run_by_run<R: StreamReader, W, C: RunStage<R::Head, R::Entry, W> + Drop, S: Source, K: Sink>(
+    alloc: Global,
+    reader: &mut R,
+    stage: C,
+    beside: &mut W,
+    source: &mut S,
+    sink: &mut K,
+) -> Result<(), ToolStop>
+where
+    R::Entry: RunRecord + Drop,
+    requires fresh { IsFresh R.represents reader.old }
+    requires good { ReadsGood R.represents C.accepts C.is_good [] reader.old }
+    requires ready { C.is_ready None stage }
+
+    ensures ended { (asks : Bool) (made : FileMap → List ℕ → Outcome) (others : InputsState) (outputs : OutputsState) (contents : List ℕ → Contents R.Head R.Entry) → R.represents contents [] [] reader.old → EndsRun (by_run R.Entry.key C.runs) contents (λ state. C.is_at state.kept stage beside.old × ([] ≡ state.run)) asks made (world (C.inputs others beside.old) outputs (S.state source.old) (K.state sink.old)) (world (C.inputs others beside.new) outputs (S.state source.new) (K.state sink.new)) (end_status result) }
+{
+    let mut by_run = ByRun {
+        stage,
+        run: Vec::new(alloc),
+    };
+    run_stage(alloc, reader, &mut by_run, beside, source, sink)
+}

@@ -1,0 +1,43 @@
+//! What calculations over streams write: theorems, as functions with an empty body.
+//! The rules: docs/STREAMS.md, "Tools over streams".
+ghost use Rattle.std.specs.Prelude.{◌≡◌, ℕ, List, [], ◌++◌, Option, Some};
+ghost use Rattle.kt_stream.specs.declared.entry.Placed.{Placed};
+ghost use Rattle.kt_stream.specs.declared.stop.StreamStop.{StreamStop};
+ghost use Rattle.kt_ends.specs.declared.status.Refusal.{Refusal};
+ghost use Rattle.kt_loop.specs.declared.run_key.RunKey.{RunKey};
+ghost use Rattle.kt_loop.specs.ByRun.{RunCalculation, by_run, outcome_by_run};
+ghost use Rattle.kt_loop.specs.Contents.{Contents};
+ghost use Rattle.kt_loop.specs.Outcome.{gives, stream_status, outcome};
+ghost use Rattle.kt_loop.specs.Runs.{ShareNoEvent, given_by_runs};
+ghost use Rattle.kt_loop.specs.ByRecord.{by_record, table_of};
+ghost use Rattle.kt_stream.specs.declared.kind.Head.{Head};
+ghost use Rattle.kt_stream.specs.Header.{IsHead};
+ghost use Rattle.kt_stream.specs.Reader.{Reading, IsPlaced};
+ghost use Rattle.kt_loop.specs.Reading.{AreGood};
+ghost use Rattle.kt_loop.specs.RecordStreams.{StandsFor};
+
+use kt_stream::Entry;
+use kt_stream::laws::what_is_read_fits;
+
+/// A calculation by record refuses nothing: its outcome is the heading and then the rows of each record, with the
+/// stream's own fault.
+pub fn records_give_their_rows<H, E, S>()
+    ensures { (heading : S → H → List ℕ) (rows : S → H → E → List ℕ) (state : S) (contents : Contents H E) → outcome (by_record heading rows) state contents ≡ gives (stream_status contents.fault) (table_of heading rows state contents.head contents.entries) }
+{}
+
+/// A calculation run by run writes what stands at the header and then, run after run, what each closed run gives.
+pub fn runs_give_their_text<H, E, P>()
+    ensures { (key : E → RunKey) (runs : RunCalculation H E P Refusal) (kept : P) (head : H) (entries : List (Placed E)) (fault : Option StreamStop) → outcome (by_run key runs) (record { kept = kept; run = [] }) (record { head = Some head; entries = entries; fault = fault }) ≡ outcome_by_run key runs head (runs.opens head kept).text (runs.opens head kept).next entries fault }
+{}
+
+/// What lists of records that share no event give run by run is what the one gives and then what the other gives.
+pub fn joined_records_give_one_after_the_other<E>()
+    ensures { (key : E → RunKey) (closes : List E → List ℕ) (first : List (Placed E)) (second : List (Placed E)) → ShareNoEvent key first second → given_by_runs key closes (first ++ second) ≡ given_by_runs key closes first ++ given_by_runs key closes second }
+{}
+
+/// Whatever a reader of records reads is in its ranges: what a stage needs to take it.
+pub fn what_is_read_can_be_taken<E: Entry>()
+    ensures { (contents : List ℕ → Contents Head E) (fed : List ℕ) (taken : List (Placed E)) (reading : Reading E) → StandsFor E E.form contents fed taken reading → (bytes : List ℕ) → AreGood (IsHead reading.shape.kind) (IsPlaced E E.form E.IsGood reading.shape) (contents bytes).head (contents bytes).entries }
+{
+    what_is_read_fits::<E>();
+}

@@ -1,0 +1,19 @@
+//! One loop under all tools that read a stream, and the calculations that it carries out.
+#![tactic(auto)]
+
+mod by_run;
+mod carry;
+pub mod laws;
+mod reader;
+mod record_reader;
+mod run;
+mod run_key;
+mod spill;
+mod stage;
+mod turn;
+
+pub use by_run::{RunStage, run_by_run};
+pub use reader::StreamReader;
+pub use run::run_stage;
+pub use run_key::{RunKey, RunRecord};
+pub use stage::Stage;

@@ -1,0 +1,42 @@
+//! The reader of records of any kind, as the loop uses it.
+//! The rules: docs/STREAMS.md, "Readers".
+use crate::reader::StreamReader;
+use kt_stream::{Entry, Head, Placed, RecordReader, StreamStop, laws};
+
+impl<E: Entry> StreamReader for RecordReader<E> {
+    ghost use Rattle.kt_loop.specs.RecordStreams.{StandsFor, reading_header, reading_held};
+
+    type Head = Head;
+
+    type Entry = E;
+
+    ghost represents = { λ contents fed taken reading. StandsFor E E.form contents fed taken reading };
+
+    ghost header = { reading_header };
+
+    ghost held = { reading_held };
+
+    fn head(&self) -> Option<Head> {
+        RecordReader::head(self)
+    }
+
+    fn feed(&mut self, piece: &[u8]) -> Result<(), StreamStop> {
+        laws::what_is_read_stays::<E>();
+        RecordReader::feed(self, piece)
+    }
+
+    fn finish(&mut self) -> Result<(), StreamStop> {
+        RecordReader::finish(self)
+    }
+
+    fn take(&mut self) -> Option<Placed<E>> {
+        RecordReader::take(self)
+    }
+
+    fn what_is_read_stays() {
+        laws::what_is_read_stays::<E>();
+        laws::no_header_means_no_records::<E>();
+    }
+
+    fn what_is_held_was_read() {}
+}

@@ -1,0 +1,126 @@
+//! The loop: reads a stream block by block, and carries out a calculation over it.
+//! The rules: docs/STREAMS.md, "Tools over streams".
+ghost use Rattle.std.specs.Prelude.{◌≡◌, ℕ, Bool, List, [], ◌++◌, length, None, Option, IfOk, IfSome};
+ghost use Rattle.kt_out.specs.InputFiles.{InputsState};
+ghost use Rattle.kt_out.specs.NamedFiles.{FileMap};
+ghost use Rattle.kt_out.specs.OutputFiles.{OutputsState};
+ghost use Rattle.kt_out.specs.Reading.{SourceState};
+ghost use Rattle.kt_out.specs.Writing.{SinkState};
+ghost use Rattle.kt_ends.specs.Ending.{AtEnd, Counted};
+ghost use Rattle.kt_ends.specs.Outcome.{Outcome};
+ghost use Rattle.kt_ends.specs.World.{world};
+ghost use Rattle.kt_ends.specs.Stops.{end_status, stop_status};
+ghost use Rattle.kt_loop.specs.Contents.{Contents};
+ghost use Rattle.kt_loop.specs.Counts.{CountsRead, StopCounts};
+ghost use Rattle.kt_loop.specs.Outcome.{outcome};
+ghost use Rattle.kt_loop.specs.Reading.{IsFresh, ReadsGood};
+ghost use Rattle.kt_loop.specs.Running.{EndsRun};
+ghost use Rattle.kt_loop.specs.Settling.{Settles, StopSettles, IsEnd};
+
+use crate::reader::StreamReader;
+use crate::spill::spill;
+use crate::stage::Stage;
+use crate::turn::{begin, finish, turn};
+use kt_ends::{Refusal, ToolStop};
+use kt_money::Bytes;
+use kt_out::{Sink, Source};
+use std::alloc::{AllocError, Global};
+
+/// The bytes that one read asks for.
+const BLOCK: usize = 65_536;
+
+/// More turns than a stream has bytes: each turn but the last reads one at the least.
+const TURNS: u64 = 1_099_511_627_778;
+
+/// A block of zeros.
+fn zeros(alloc: Global, size: usize) -> Result<Vec<u8>, AllocError>
+    ensures { IfOk result (λ block. length block.items ≡ size) }
+{
+    let mut block = Vec::new(alloc);
+    block.resize(size, 0)?;
+    Ok(block)
+}
+
+/// Reads the stream to its end, to a refusal or to a fault.
+fn read_all<R: StreamReader, W, T: Stage<R::Head, R::Entry, W>, S: Source, K: Sink>(
+    alloc: Global,
+    reader: &mut R,
+    stage: &mut T,
+    beside: &mut W,
+    source: &mut S,
+    sink: &mut K,
+    out: &mut Bytes,
+) -> Result<(), ToolStop>
+    requires fresh { IsFresh R.represents reader.old }
+    requires good { ReadsGood R.represents T.accepts T.is_good [] reader.old }
+    requires ready { T.is_ready None stage.old }
+    requires empty { out.old ≡ [] }
+
+    ensures settled { (contents : List ℕ → Contents R.Head R.Entry) (start : T.State) → R.represents contents [] [] reader.old → T.is_at start stage.old beside.old → IfSome (S.state source.old).left (λ bytes. Settles (outcome T.calculation start (contents bytes)) (K.state sink.old).taken (K.state sink.new).taken out.new result) }
+    ensures counted { (others : InputsState) → CountsRead (T.inputs others beside.old) (T.inputs others beside.new) (S.state source.old).faults (S.state source.new).faults (K.state sink.old).faults (K.state sink.new).faults result }
+    ensures at_end { AtEnd (S.state source.old).left (S.state source.new).left (end_status result) }
+{
+    R::what_is_read_stays();
+    R::what_is_held_was_read();
+    let Ok(mut block) = zeros(alloc, BLOCK) else {
+        return Err(ToolStop::NoMemory);
+    };
+    if let Err(why) = begin(reader, stage, beside, sink, out) {
+        return Err(why);
+    }
+    'turns: for _ in 0..TURNS {
+        let read = match source.read(block.as_mut_slice()) {
+            Ok(read) => read,
+            Err(_) => return Err(ToolStop::ReadFault),
+        };
+        if read == 0 {
+            return finish(reader, stage, beside, sink, out);
+        }
+        let stop = match turn(reader, &block[..read], stage, beside, sink, out) {
+            Ok(stop) => stop,
+            Err(why) => return Err(why),
+        };
+        if let Some(stop) = stop {
+            return Err(ToolStop::Refused(Refusal::Stream(stop)));
+        }
+    }
+    unreachable!()
+}
+
+/// Writes what is pending behind a refusal: how the run ends that stopped so.
+fn settle<K: Sink>(stop: ToolStop, sink: &mut K, out: &mut Bytes) -> ToolStop
+    ensures end { (made : Outcome) (before : Option (List ℕ)) → StopSettles made before (K.state sink.old).taken out.old stop → IsEnd made before (K.state sink.new).taken (stop_status result) }
+    ensures counted { (inputs : InputsState) (inputs_now : InputsState) (outputs : OutputsState) (source : SourceState) (source_now : SourceState) (first : SinkState) → StopCounts inputs inputs_now source.faults source_now.faults first.faults (K.state sink.old).faults stop → Counted (world inputs outputs source first) (world inputs_now outputs source_now (K.state sink.new)) (stop_status result) }
+{
+    match stop {
+        ToolStop::Refused(refusal) => match spill(sink, out) {
+            Ok(()) => ToolStop::Refused(refusal),
+            Err(why) => why,
+        },
+        other => other,
+    }
+}
+
+/// Reads a stream to its end and carries out the calculation of a stage over it: writes what the stage writes at the
+/// header, at each record and at the end, in blocks. A refusal of the stage or of the stream ends it, with all text
+/// before it written.
+pub fn run_stage<R: StreamReader, W, T: Stage<R::Head, R::Entry, W>, S: Source, K: Sink>(
+    alloc: Global,
+    reader: &mut R,
+    stage: &mut T,
+    beside: &mut W,
+    source: &mut S,
+    sink: &mut K,
+) -> Result<(), ToolStop>
+    requires fresh { IsFresh R.represents reader.old }
+    requires good { ReadsGood R.represents T.accepts T.is_good [] reader.old }
+    requires ready { T.is_ready None stage.old }
+
+    ensures ended { (asks : Bool) (made : FileMap → List ℕ → Outcome) (others : InputsState) (outputs : OutputsState) (contents : List ℕ → Contents R.Head R.Entry) → R.represents contents [] [] reader.old → EndsRun T.calculation contents (λ state. T.is_at state stage.old beside.old) asks made (world (T.inputs others beside.old) outputs (S.state source.old) (K.state sink.old)) (world (T.inputs others beside.new) outputs (S.state source.new) (K.state sink.new)) (end_status result) }
+{
+    let mut out = Bytes::new(alloc);
+    match read_all(alloc, reader, stage, beside, source, sink, &mut out) {
+        Ok(()) => spill(sink, &mut out),
+        Err(stop) => Err(settle(stop, sink, &mut out)),
+    }
+}

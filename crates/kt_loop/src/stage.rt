@@ -1,0 +1,71 @@
+//! A stage: what a tool over a stream does at the header, at each record and at the end.
+//! The rules: docs/STREAMS.md, "Tools over streams".
+ghost use Rattle.std.specs.Prelude.{◌≡◌, ℕ, List, Option, None, Some, OnOk};
+ghost use Rattle.kt_out.specs.InputFiles.{InputsState};
+ghost use Rattle.kt_stream.specs.declared.entry.Placed.{Placed};
+ghost use Rattle.kt_ends.specs.declared.status.Refusal.{Refusal};
+ghost use Rattle.kt_loop.specs.Calculation.{Calculation};
+ghost use Rattle.kt_loop.specs.Counts.{Consults};
+ghost use Rattle.kt_loop.specs.Steps.{StepsBy, EndsWith};
+
+use kt_ends::ToolStop;
+use kt_money::Bytes;
+
+/// A stage over streams with this header and these records. `W` is what it asks beside the stream: the input files,
+/// or `()` where it asks nothing.
+pub trait Stage<H, E, W> {
+    /// What the stage remembers between two steps, and what it was made with.
+    ghost State: { Type 0 };
+
+    /// What it calculates.
+    ghost calculation: { Calculation H E State Refusal };
+
+    /// It stands at this state. Where files are asked that are not known it may stand at none.
+    ghost is_at: { State → Self → W → Type 0 };
+
+    /// It is ready for a header, or for the records behind this one.
+    ghost is_ready: { Option H → Self → Type 0 };
+
+    /// A header that it can take.
+    ghost accepts: { H → Type 0 };
+
+    /// A record that it can take behind a header.
+    ghost is_good: { H → Placed E → Type 0 };
+
+    /// The input files beside a call: those that it asks, or others, which it leaves as they are.
+    ghost inputs: { InputsState → W → InputsState };
+
+    /// Appends what is written at the header.
+    fn open(&mut self, beside: &mut W, head: H, out: &mut Bytes) -> Result<(), ToolStop>
+        requires accepted { accepts head }
+        requires ready { is_ready None self.old }
+
+        ensures step { (state : State) → is_at state self.old beside.old → StepsBy (calculation.opens head state) (λ next. is_at next self.new beside.new) out.old out.new result }
+        ensures ready { OnOk result (is_ready (Some head) self.new) }
+        ensures counted { (others : InputsState) → Consults (inputs others beside.old) (inputs others beside.new) result };
+
+    /// Appends what is written at a record, which begins at this byte of the stream.
+    fn take(
+        &mut self,
+        beside: &mut W,
+        head: H,
+        at: u64,
+        entry: E,
+        out: &mut Bytes,
+    ) -> Result<(), ToolStop>
+        requires accepted { accepts head }
+        requires good { is_good head (record { at = at; entry = entry }) }
+        requires ready { is_ready (Some head) self.old }
+
+        ensures step { (state : State) → is_at state self.old beside.old → StepsBy (calculation.takes head state (record { at = at; entry = entry })) (λ next. is_at next self.new beside.new) out.old out.new result }
+        ensures ready { OnOk result (is_ready (Some head) self.new) }
+        ensures counted { (others : InputsState) → Consults (inputs others beside.old) (inputs others beside.new) result };
+
+    /// Appends what is written at the end of the stream.
+    fn end(&mut self, beside: &mut W, head: H, out: &mut Bytes) -> Result<(), ToolStop>
+        requires accepted { accepts head }
+        requires ready { is_ready (Some head) self.old }
+
+        ensures end { (state : State) → is_at state self.old beside.old → EndsWith (calculation.ends head state) out.old out.new result }
+        ensures counted { (others : InputsState) → Consults (inputs others beside.old) (inputs others beside.new) result };
+}

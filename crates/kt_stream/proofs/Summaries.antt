@@ -1,0 +1,87 @@
+-- How summary records are read and written.
+use Rattle.std.proofs.Common.{◌≡◌, ℕ, ◌+◌, ◌≤◌, List, [], ◌∷◌, ◌++◌, length, refl, arith, inl, inr}
+use Rattle.std.proofs.lemmas.List.{length-append}
+use Rattle.byteorder.specs.Endian.{little_bytes}
+use Rattle.kt_stream.specs.declared.entry.Pair.{Pair}
+use Rattle.kt_stream.specs.declared.entry.SummaryRecord.{SummaryRecord}
+use Rattle.kt_stream.specs.declared.kind.Shape.{Shape}
+use Rattle.kt_stream.specs.declared.read.Read.TheVariants.{Got}
+use Rattle.kt_stream.specs.declared.stop.RecordCause.TheVariants.{Id, Exposure}
+use Rattle.kt_stream.specs.Read.{AreJudged}
+use Rattle.kt_stream.specs.Pairs.{misfit, ArePairs, pairs_bytes}
+use Rattle.kt_stream.specs.Summary.{summary_fields, summary_record, summary_in, summary_bytes, summary_form, IsSummary}
+use Rattle.kt_stream.specs.Stream.{IsLawful}
+use Rattle.kt_stream.proofs.Fields.{between_bounds, between_none}
+use Rattle.kt_stream.proofs.PairsRead.{pairs_size, pairs_length}
+use Rattle.kt_stream.proofs.PairKinds.{PairKind, kind_back, kind_lawful}
+
+-- the values in front of the pairs
+abbrev values_of : SummaryRecord → List ℕ
+values_of entry = entry.event ∷ entry.summary ∷ entry.exposure ∷ []
+
+parts : (at : ℕ) (values : List ℕ) (pairs : List Pair) → AreJudged summary_fields [] at values → (values_of (summary_record values pairs) ≡ values) × (pairs ≡ pairs)
+parts at [] pairs judged = absurd judged
+parts at (event ∷ []) pairs judged = absurd judged.1
+parts at (event ∷ summary ∷ []) pairs judged = absurd judged.1.1
+parts at (event ∷ summary ∷ exposure ∷ []) pairs judged = (refl, refl)
+parts at (event ∷ summary ∷ exposure ∷ other ∷ values) pairs judged = absurd judged.1.1.1
+
+good : (samples at : ℕ) (values : List ℕ) (pairs : List Pair) → AreJudged summary_fields [] at values → ArePairs samples pairs → IsSummary samples (summary_record values pairs)
+good samples at [] pairs judged are = absurd judged
+good samples at (event ∷ []) pairs judged are = absurd judged.1
+good samples at (event ∷ summary ∷ []) pairs judged are = absurd judged.1.1
+good samples at (event ∷ summary ∷ exposure ∷ []) pairs judged are = record {
+  event = between_bounds 1 2147483647 (misfit at Id) event judged.0;
+  summary = between_bounds 1 2147483647 (misfit (at + 4) Id) summary judged.1.0;
+  exposure = (between_bounds 0 100000000000000 (misfit (at + 4 + 4) Exposure) exposure judged.1.1.0).1;
+  pairs = are;
+}
+good samples at (event ∷ summary ∷ exposure ∷ other ∷ values) pairs judged are = absurd judged.1.1.1
+
+judged : (samples at : ℕ) (entry : SummaryRecord) → IsSummary samples entry → AreJudged summary_fields [] at (values_of entry)
+judged samples at entry is = (
+  between_none 1 2147483647 (misfit at Id) entry.event is.event.0 is.event.1,
+  (
+    between_none 1 2147483647 (misfit (at + 4) Id) entry.summary is.summary.0 is.summary.1,
+    (between_none 0 100000000000000 (misfit (at + 4 + 4) Exposure) entry.exposure (omega arith) is.exposure, tt),
+  ),
+)
+
+summary_kind : PairKind SummaryRecord summary_fields summary_record summary_bytes IsSummary
+unfolding summary_bytes
+summary_kind = record {
+  values_of = values_of;
+  pairs_of = λ entry. entry.pairs;
+  made = λ entry. refl;
+  parts = parts;
+  good = good;
+  judged = judged;
+  small = λ samples entry is. (omega (arith, is.event.1), (omega (arith, is.summary.1), (omega (arith, is.exposure), tt)));
+  are_pairs = λ samples entry is. is.pairs;
+  written = λ entry. refl;
+  wide = (inl refl, (inl refl, (inr refl, tt)));
+  nothing = λ samples at. refl;
+}
+
+-- the bytes of a record
+pub summary_length : (entry : SummaryRecord) → length (summary_bytes entry) ≡ 16 + pairs_size entry.pairs
+unfolding summary_bytes
+summary_length entry =
+    let pairs = pairs_bytes entry.pairs in
+    omega (
+      arith,
+      length-append (little_bytes 4 entry.event) (little_bytes 4 entry.summary ++ (little_bytes 8 entry.exposure ++ pairs)),
+      length-append (little_bytes 4 entry.summary) (little_bytes 8 entry.exposure ++ pairs),
+      length-append (little_bytes 8 entry.exposure) pairs,
+      pairs_length entry.pairs,
+    )
+
+-- a summary record is read back
+pub summary_back : (samples : ℕ) (entry : SummaryRecord) (rest : List ℕ) (at : ℕ) → samples ≤ 1000 → IsSummary samples entry → summary_in samples (summary_bytes entry ++ rest) at ≡ Got entry
+unfolding summary_in
+summary_back samples entry rest at few is = kind_back summary_fields summary_record summary_bytes summary_kind samples entry rest at few is
+
+-- how summary records are read and written
+pub summary_lawful : IsLawful SummaryRecord summary_form (λ (shape : Shape) samples entry. IsSummary samples entry)
+unfolding summary_in
+summary_lawful = kind_lawful summary_fields summary_record summary_bytes summary_kind

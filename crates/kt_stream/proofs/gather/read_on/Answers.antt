@@ -1,0 +1,16 @@
+use Rattle.std.proofs.Common.{sym, arith}
+use Rattle.kt_stream.proofs.Gathering.{moved_header, header_short, header_wrong}
+use Rattle.kt_stream.proofs.gather.read_on.Goals as goal
+
+pub returns-in-Short : goal.returns-in-Short
+returns-in-Short g c = record { within = omega arith; by = rw c.in-None.is (header_short g.E.Entry.form c.args.shape c.args.start c.args.bytes.now c.new.result.items c.new.ensures.items (sym c.in-Short.ensures)) }
+
+pub returns-in-Wrong : goal.returns-in-Wrong
+returns-in-Wrong g c = record {
+  within = omega arith;
+  by = rw (c.of_header.ensures, c.in-None.is) (header_wrong g.E.Entry.form c.args.shape c.args.start c.args.bytes.now c.new-in-Wrong.result.items c.in-Wrong.fault c.new-in-Wrong.ensures.items (sym c.in-Wrong.ensures));
+}
+
+pub returns-in_ok-gather-in-Got : goal.returns-in_ok-gather-in-Got
+returns-in_ok-gather-in-Got g c =
+    rw c.in-None.is (moved_header g.E.Entry.form c.args.shape c.in-Got.head c.args.start c.args.bytes.now c.in_ok-gather-in-Got.field-0 (sym c.in-Got.ensures) (rw c.header_length-from.ensures at c.in_ok-gather-in-Got.ensures))
