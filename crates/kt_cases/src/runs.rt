@@ -1,7 +1,7 @@
 //! Runs of the tools over objects in memory.
 //! The language of the cases: README.md, "Runs".
 
-use anyhow::Context;
+use kt_case_files::{BadLine, push_word};
 use kt_out::{MemInputs, Open, SureOutputs, SureSink, SureSource};
 use kt_tools::{Words, run};
 use std::alloc::{AllocError, AllocGlobal, Global};
@@ -15,34 +15,8 @@ pub(crate) struct Seen {
     line: Vec<u8>,
 }
 
-/// The byte that two hexadecimal digits give.
-fn hex_byte(digits: &[u8]) -> Option<u8> {
-    let text = str::from_utf8(digits).ok()?;
-    u8::from_str_radix(text, 16).ok()
-}
-
-/// Appends a byte by its two digits, and the bytes behind them.
-fn push_escaped(bytes: &mut Vec<u8>, text: &[u8]) -> anyhow::Result<()> {
-    let byte = text.get(..2).and_then(hex_byte);
-    bytes.push(byte.context("a byte has two digits")?)?;
-    bytes.extend_from_slice(text.get(2..).unwrap_or(&[]))?;
-    Ok(())
-}
-
-/// Appends the bytes of a word, in which `%HH` is a byte by its two digits.
-pub(crate) fn push_word(bytes: &mut Vec<u8>, word: &str) -> anyhow::Result<()> {
-    for (n, part) in word.split('%').enumerate() {
-        if n == 0 {
-            bytes.extend_from_slice(part.as_bytes())?;
-        } else {
-            push_escaped(bytes, part.as_bytes())?;
-        }
-    }
-    Ok(())
-}
-
 /// The words of a call.
-fn words_of(alloc: Global, words: &[&str]) -> anyhow::Result<Words> {
+fn words_of(alloc: Global, words: &[&str]) -> Result<Words, BadLine> {
     let mut given = Words::new(alloc);
     for word in words {
         let mut bytes = Vec::new(alloc);
@@ -58,7 +32,7 @@ pub(crate) fn see<R: Threads + Sync + AllocGlobal>(
     words: &[&str],
     mut inputs: MemInputs,
     source: &[u8],
-) -> anyhow::Result<Seen> {
+) -> Result<Seen, BadLine> {
     let alloc = rt.alloc();
     let words = words_of(alloc, words)?;
     let mut source = SureSource::new(source.to_vec(alloc)?);

@@ -1,42 +1,26 @@
-//! A script of cases, taken line by line.
+//! A script of runs, taken line by line.
 //! The language of the cases: README.md.
 
-use crate::answers::load_text;
-use crate::case::{Case, NamedFile, file_of, find};
-use crate::lookups::lookup_text;
-use crate::rows::{push_bytes, push_rows};
 use crate::runs::{Seen, see};
-use anyhow::{Context, bail};
-use kt_tables::Portfolio;
+use kt_case_files::{BadLine, Files, number};
+use kt_out::MemInputs;
 use std::alloc::{AllocError, AllocGlobal, Global};
 use std::thread::Threads;
 
-/// The name under which a case gives the bytes of the source.
-const SOURCE: &str = "source";
-
-/// Rows of a file that are being given.
-#[derive(Drop)]
-struct OpenFile {
-    name: String,
-    text: String,
-}
+/// The names of the files of a run.
+const NAMES: [&str; 2] = ["input/events.bin", "static/footprint.idx"];
 
 /// The state between two lines.
 #[derive(Drop)]
 pub(crate) struct Script {
     alloc: Global,
-    /// The files of all cases, which stand before the first case.
-    base: Vec<NamedFile>,
-    /// The name of the case; empty before the first one.
+    files: Files,
+    /// The line that began the case; empty before the first one.
     name: String,
-    case: Case,
-    open: Option<OpenFile>,
-    periods: u32,
-    /// What was loaded last.
-    portfolio: Option<Portfolio>,
-    /// The bytes of the source, and those that it had first.
-    source: Vec<u8>,
-    first_source: Vec<u8>,
+    /// The call of the files that fails, counted from 1; 0 for none.
+    failing: u64,
+    /// The bytes of the source where they are what a run wrote.
+    turned: Option<Vec<u8>>,
     /// What the last run left.
     seen: Option<Seen>,
     compared: u64,
@@ -47,14 +31,10 @@ impl Script {
     pub(crate) fn new(alloc: Global) -> Self {
         Script {
             alloc,
-            base: Vec::new(alloc),
+            files: Files::new(alloc),
             name: String::new(alloc),
-            case: Case::new(alloc),
-            open: None,
-            periods: 0,
-            portfolio: None,
-            source: Vec::new(alloc),
-            first_source: Vec::new(alloc),
+            failing: 0,
+            turned: None,
             seen: None,
             compared: 0,
         }
@@ -70,170 +50,28 @@ impl Script {
         &mut self,
         rt: &R,
         line: &str,
-    ) -> anyhow::Result<Option<String>> {
-        if let Some(row) = line.strip_prefix("  ") {
-            self.take_row(row)?;
+    ) -> Result<Option<String>, BadLine> {
+        if self.files.take(line)? || line.is_empty() || line.starts_with('#') {
             return Ok(None);
         }
-        self.close_file()?;
-        if line.is_empty() || line.starts_with('#') {
-            return Ok(None);
-        }
-        if let Some((question, expected)) = line.split_once(" => ") {
-            let words: Vec<&str> = question.split_whitespace().collect(self.alloc)?;
-            let answer = self.answer(rt, &words)?;
-            return self.compare(question, answer, expected);
-        }
-        let words: Vec<&str> = line.split_whitespace().collect(self.alloc)?;
-        self.change(line, &words)?;
-        Ok(None)
-    }
-
-    /// Takes a row of the file that is being given.
-    fn take_row(&mut self, row: &str) -> anyhow::Result<()> {
-        match &mut self.open {
-            Some(open) => push_rows(self.alloc, &mut open.text, row),
-            None => bail!("a row belongs to a file: {row}"),
-        }
-    }
-
-    /// The text of a word.
-    fn text(&self, word: &str) -> Result<String, AllocError> {
-        String::from_str(self.alloc, word)
-    }
-
-    /// Keeps the bytes of the source.
-    fn keep_source(&mut self, bytes: Vec<u8>) -> Result<(), AllocError> {
-        self.first_source = bytes.as_slice().to_vec(self.alloc)?;
-        self.source = bytes;
-        Ok(())
-    }
-
-    /// Keeps the bytes of a file, or of the source.
-    fn keep_bytes(&mut self, name: String, bytes: Vec<u8>) -> Result<(), AllocError> {
-        if name.as_str() == SOURCE {
-            self.keep_source(bytes)
-        } else {
-            self.keep(name, Some(bytes))
-        }
-    }
-
-    /// Keeps a file of the base, or of the case.
-    fn keep(&mut self, name: String, bytes: Option<Vec<u8>>) -> Result<(), AllocError> {
-        let file = NamedFile { name, bytes };
-        if self.name.is_empty() {
-            self.base.push(file)?;
-        } else {
-            self.case.files.push(file)?;
-        }
-        Ok(())
-    }
-
-    /// Ends the rows of a file.
-    fn close_file(&mut self) -> anyhow::Result<()> {
-        if let Some(OpenFile { name, text }) = self.open.take() {
-            let bytes = if name.as_str() == SOURCE {
-                text.as_bytes().to_vec(self.alloc)?
-            } else {
-                file_of(self.alloc, name.as_str(), self.periods, text.as_str())?
-            };
-            self.keep_bytes(name, bytes)?;
-        }
-        Ok(())
-    }
-
-    /// Begins a case.
-    fn begin(&mut self, line: &str) -> Result<(), AllocError> {
-        self.name = self.text(line)?;
-        self.case = Case::new(self.alloc);
-        self.portfolio = None;
-        self.seen = None;
-        self.keep_source(Vec::new(self.alloc))
-    }
-
-    /// The output of the last run is the source of the next one.
-    fn turn(&mut self) -> anyhow::Result<()> {
-        let seen = self.seen.as_ref().context("nothing was run")?;
-        self.source = seen.output.as_slice().to_vec(self.alloc)?;
-        Ok(())
-    }
-
-    /// Takes a line that changes the case.
-    fn change(&mut self, line: &str, words: &[&str]) -> anyhow::Result<()> {
-        match *words {
-            ["case", ..] => self.begin(line)?,
-            ["periods", periods] => self.periods = periods.parse()?,
-            ["samples", samples] => self.case.samples = samples.parse()?,
-            ["rule", rule] => self.case.rule = rule.parse()?,
-            ["gross"] => self.case.net = false,
-            ["piece", piece] => self.case.piece = piece.parse()?,
-            ["fails", call] => self.case.failing = call.parse()?,
-            ["of", ..] => self.choose(words)?,
-            ["turn"] => self.turn()?,
-            [change, name, ..] => self.change_file(change, name, words)?,
-            _ => bail!("no such line: {line}"),
-        }
-        Ok(())
-    }
-
-    /// Chooses the files that are loaded.
-    fn choose(&mut self, words: &[&str]) -> Result<(), AllocError> {
-        for name in words.iter().skip(1) {
-            let name = self.text(name)?;
-            self.case.loaded.push(name)?;
-        }
-        Ok(())
-    }
-
-    /// Changes a file.
-    fn change_file(&mut self, change: &str, name: &str, words: &[&str]) -> anyhow::Result<()> {
-        let file = self.text(name)?;
-        match (change, words.get(2..).unwrap_or(&[])) {
-            ("file", []) => {
-                let heading = if name == SOURCE { "" } else { "heading\n" };
-                let text = self.text(heading)?;
-                self.open = Some(OpenFile { name: file, text });
+        match line.split_once(" => ") {
+            Some((question, expected)) => self.ask(rt, question, expected),
+            None => {
+                self.change(line)?;
+                Ok(None)
             }
-            ("gone", []) => self.keep(file, None)?,
-            ("bytes", words) => {
-                let mut bytes = Vec::new(self.alloc);
-                push_bytes(&mut bytes, words)?;
-                self.keep_bytes(file, bytes)?;
-            }
-            ("resize", [size]) => {
-                let bytes = self.resized(name, size.parse()?)?;
-                self.keep(file, Some(bytes))?;
-            }
-            ("says", [size]) => self.case.said = Some((file, size.parse()?)),
-            _ => bail!("no such change: {change} {name}"),
-        }
-        Ok(())
-    }
-
-    /// The bytes of a file of the base, cut or continued by zeros to a size.
-    fn resized(&self, name: &str, size: usize) -> anyhow::Result<Vec<u8>> {
-        match find(&self.base, name.as_bytes()) {
-            Some(
-                NamedFile {
-                    bytes: Some(bytes),
-                    ..
-                },
-            ) => {
-                let mut bytes = bytes.to_vec(self.alloc)?;
-                bytes.resize(size, 0)?;
-                Ok(bytes)
-            }
-            _ => bail!("the base has no file {name}"),
         }
     }
 
     /// Compares the answer of a question with the expected one.
-    fn compare(
+    fn ask<R: Threads + Sync + AllocGlobal>(
         &mut self,
+        rt: &R,
         question: &str,
-        answer: String,
         expected: &str,
-    ) -> anyhow::Result<Option<String>> {
+    ) -> Result<Option<String>, BadLine> {
+        let words: Vec<&str> = question.split_whitespace().collect(self.alloc)?;
+        let answer = self.answer(rt, &words)?;
         self.compared = self.compared.saturating_add(1);
         if answer.as_str() == expected {
             return Ok(None);
@@ -242,38 +80,69 @@ impl Script {
         Ok(Some(format!(in self.alloc; "{name}: {question} => {answer}, not {expected}")?))
     }
 
-    /// The answer of a question: a load, a run, or what stands after one.
+    /// Begins a case.
+    fn begin(&mut self, line: &str) -> Result<(), AllocError> {
+        self.name = String::from_str(self.alloc, line)?;
+        self.files.begin();
+        self.failing = 0;
+        self.turned = None;
+        self.seen = None;
+        Ok(())
+    }
+
+    /// The output of the last run is the source of the next one.
+    fn turn(&mut self) -> Result<(), BadLine> {
+        match &self.seen {
+            Some(seen) => {
+                self.turned = Some(seen.output.as_slice().to_vec(self.alloc)?);
+                Ok(())
+            }
+            None => Err(BadLine::TooEarly),
+        }
+    }
+
+    /// Takes a line that changes the case.
+    fn change(&mut self, line: &str) -> Result<(), BadLine> {
+        let words: Vec<&str> = line.split_whitespace().collect(self.alloc)?;
+        match *words.as_slice() {
+            ["case", ..] => self.begin(line)?,
+            ["fails", call] => self.failing = number(call)? as u64,
+            ["turn"] => self.turn()?,
+            _ => return Err(BadLine::NoSuchLine),
+        }
+        Ok(())
+    }
+
+    /// The answer of a question: a run, or what stands after one.
     fn answer<R: Threads + Sync + AllocGlobal>(
         &mut self,
         rt: &R,
         words: &[&str],
-    ) -> anyhow::Result<String> {
+    ) -> Result<String, BadLine> {
         match *words {
-            ["load"] => self.load(),
-            ["load", "failing", "1", "to", calls] => {
-                Ok(
-                    self.case
-                        .load_with_each_failing(&self.base, calls.parse()?)?,
-                )
-            }
             ["run", ref words @ ..] => self.run(rt, words),
-            ["text"] | ["bytes"] | ["is", "the", "source"] => self.output(words),
-            _ => self.look_up(words),
+            _ => self.look(words),
         }
     }
 
-    /// The answer of a load.
-    fn load(&mut self) -> anyhow::Result<String> {
-        let end = self.case.load(&self.base)?;
-        let answer = load_text(self.alloc, &end)?;
-        self.portfolio = end.ok();
-        Ok(answer)
+    /// The files of the case.
+    fn inputs(&self) -> Result<MemInputs, AllocError> {
+        let fails = vec![in self.alloc; self.failing]?;
+        let mut inputs = MemInputs::new(self.alloc, fails, 1 << 20);
+        for name in NAMES {
+            if let Some(bytes) = self.files.get(name.as_bytes()) {
+                inputs.add(name.as_bytes(), bytes)?;
+            }
+        }
+        Ok(inputs)
     }
 
-    /// Runs the words over the files of the case and the bytes of the source.
-    fn see<R: Threads + Sync + AllocGlobal>(&self, rt: &R, words: &[&str]) -> anyhow::Result<Seen> {
-        let inputs = self.case.inputs(&self.base, self.case.failing)?;
-        see(rt, words, inputs, &self.source)
+    /// The bytes of the source.
+    fn source(&self) -> &[u8] {
+        match &self.turned {
+            Some(bytes) => bytes.as_slice(),
+            None => self.files.source(),
+        }
     }
 
     /// The answer of a run.
@@ -281,28 +150,28 @@ impl Script {
         &mut self,
         rt: &R,
         words: &[&str],
-    ) -> anyhow::Result<String> {
-        let seen = self.see(rt, words)?;
+    ) -> Result<String, BadLine> {
+        let inputs = self.inputs()?;
+        let seen = see(rt, words, inputs, self.source())?;
         let answer = seen.status_text(self.alloc)?;
         self.seen = Some(seen);
         Ok(answer)
     }
 
     /// What the last run wrote.
-    fn output(&self, words: &[&str]) -> anyhow::Result<String> {
-        let seen = self.seen.as_ref().context("nothing was run")?;
+    fn look(&self, words: &[&str]) -> Result<String, BadLine> {
+        let Some(seen) = &self.seen else {
+            return Err(BadLine::TooEarly);
+        };
         let answer = match *words {
             ["text"] => seen.output_text(self.alloc)?,
             ["bytes"] => seen.output_bytes(self.alloc)?,
-            _ => format!(in self.alloc; "{}", seen.output == self.first_source)?,
+            ["is", "the", "source"] => {
+                let is_same = seen.output.as_slice() == self.files.source();
+                format!(in self.alloc; "{is_same}")?
+            }
+            _ => return Err(BadLine::NoSuchLine),
         };
         Ok(answer)
-    }
-
-    /// The answer of a lookup.
-    fn look_up(&self, words: &[&str]) -> anyhow::Result<String> {
-        let portfolio = self.portfolio.as_ref().context("nothing is loaded")?;
-        let answer = lookup_text(self.alloc, portfolio, words)?;
-        answer.context("no such lookup")
     }
 }

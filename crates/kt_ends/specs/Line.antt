@@ -40,6 +40,9 @@ record_text record_cause.Empty = codes "empty"
 record_text record_cause.Sidx = codes "sidx"
 record_text record_cause.Loss = codes "loss"
 record_text record_cause.End = codes "end"
+record_text record_cause.Bins = codes "bins"
+record_text record_cause.Prob = codes "prob"
+record_text record_cause.Mean = codes "mean"
 
 -- why a stream is refused
 abbrev pub stream_text : StreamStop → List ℕ

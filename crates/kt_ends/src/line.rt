@@ -51,6 +51,9 @@ fn record_words(cause: RecordCause) -> &'static [u8]
         RecordCause::Sidx => b"sidx",
         RecordCause::Loss => b"loss",
         RecordCause::End => b"end",
+        RecordCause::Bins => b"bins",
+        RecordCause::Prob => b"prob",
+        RecordCause::Mean => b"mean",
     }
 }
 

@@ -6,3 +6,4 @@ mod HeaderLemmas
 mod TableLemmas
 mod TablesLemmas
 mod NeedLemmas
+mod EventRowLemmas

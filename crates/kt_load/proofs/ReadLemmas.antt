@@ -2,7 +2,7 @@
 use Rattle.std.proofs.Common.{◌≡◌, ◌≤◌, ◌<◌, ◌+◌, ◌-◌, ℕ, List, ◌++◌, length, take, drop, sym, ◌∙◌, ap, arith, refl}
 use Rattle.std.specs.Prelude.{Option, Some, None, Ok, IfSome}
 use Rattle.std.proofs.Math.Seq.{take-add, take-take, take-append-add}
-use Rattle.std.proofs.lemmas.List.{take_at, length-take-le, length-drop}
+use Rattle.std.proofs.lemmas.List.{take_at, length-take-le, length-drop, drop-drop}
 use Rattle.std.proofs.lemmas.Slice.{take-put_mid}
 use borrow.Rule.Slice.PartMut.{put_mid, same_len_mid}
 use Rattle.kt_out.specs.NamedFiles.{FileMap}
@@ -23,19 +23,28 @@ reads_on bytes room part buffer at size n within few so_far gives =
     ∙ ap (λ l. take at bytes ++ l) given
     ∙ sym (take-add at n bytes)
 
--- where files are known, the front of the room is that of the file once more was read
-read_front_of : (held : Option FileMap) (name room part buffer : List ℕ) (at size n : ℕ) → at ≤ length room → n ≤ length buffer → IfSome held (λ files. IfSome (files name) (λ bytes. take at room ≡ take at bytes)) → ReadsAt {E = Fault} held name at part buffer (Ok n) → IfSome held (λ files. IfSome (files name) (λ bytes. take (at + n) (put_mid at size room buffer) ≡ take (at + n) bytes))
-read_front_of None name room part buffer at size n within few so_far gives = tt
-read_front_of (Some files) name room part buffer at size n within few so_far gives = of_file (files name) so_far gives
+-- what is given from a place behind another is given from there of the bytes behind that
+gives_behind : (bytes part buffer : List ℕ) (from at n : ℕ) → GivesFrom bytes (from + at) part buffer n → GivesFrom (drop from bytes) at part buffer n
+gives_behind bytes part buffer from at n gives = record {
+  some = gives.some;
+  fits = gives.fits;
+  was_there = omega (arith, gives.was_there, length-drop from bytes);
+  filled_by = gives.filled_by ∙ ap (λ (behind : List ℕ). take n behind ++ drop n part) (sym (drop-drop at from bytes));
+}
+
+-- where files are known, the front of the room is that of the file from the place on once more was read
+read_part_of : (held : Option FileMap) (name room part buffer : List ℕ) (from at size n : ℕ) → at ≤ length room → n ≤ length buffer → IfSome held (λ files. IfSome (files name) (λ bytes. take at room ≡ take at (drop from bytes))) → ReadsAt {E = Fault} held name (from + at) part buffer (Ok n) → IfSome held (λ files. IfSome (files name) (λ bytes. take (at + n) (put_mid at size room buffer) ≡ take (at + n) (drop from bytes)))
+read_part_of None name room part buffer from at size n within few so_far gives = tt
+read_part_of (Some files) name room part buffer from at size n within few so_far gives = of_file (files name) so_far gives
   where
-    of_file : (file : Option (List ℕ)) → IfSome file (λ bytes. take at room ≡ take at bytes) → ReadsFrom {E = Fault} file at part buffer (Ok n) → IfSome file (λ bytes. take (at + n) (put_mid at size room buffer) ≡ take (at + n) bytes)
+    of_file : (file : Option (List ℕ)) → IfSome file (λ bytes. take at room ≡ take at (drop from bytes)) → ReadsFrom {E = Fault} file (from + at) part buffer (Ok n) → IfSome file (λ bytes. take (at + n) (put_mid at size room buffer) ≡ take (at + n) (drop from bytes))
     of_file None same read = tt
-    of_file (Some bytes) same read = reads_on bytes room part buffer at size n within few same read
+    of_file (Some bytes) same read = reads_on (drop from bytes) room part buffer at size n within few same (gives_behind bytes part buffer from at n read)
 
 -- what was read is there once more was read behind it
-pub reads_more : (held : Option FileMap) (name room buffer : List ℕ) (wanted at n : ℕ) → at < length room → HasRead held name wanted at room → n ≤ length room - at → length buffer ≡ length room - at → (part : List ℕ) → ReadsAt {E = Fault} held name at part buffer (Ok n) → HasRead held name wanted (at + n) (put_mid at (length room - at) room buffer)
-reads_more held name room buffer wanted at n below before few same part gives = record {
+pub reads_more : (held : Option FileMap) (name : List ℕ) (from : ℕ) (room buffer : List ℕ) (wanted at n : ℕ) → at < length room → HasRead held name from wanted at room → n ≤ length room - at → length buffer ≡ length room - at → (part : List ℕ) → ReadsAt {E = Fault} held name (from + at) part buffer (Ok n) → HasRead held name from wanted (at + n) (put_mid at (length room - at) room buffer)
+reads_more held name from room buffer wanted at n below before few same part gives = record {
   within = omega (arith, before.whole, before.within);
   whole = same_len_mid at (length room - at) room buffer (omega (arith, length-take-le (length room - at) (drop at room) (omega (arith, length-drop at room)))) ∙ before.whole;
-  known = read_front_of held name room part buffer at (length room - at) n (omega arith) (omega arith) before.known gives;
+  known = read_part_of held name room part buffer from at (length room - at) n (omega arith) (omega arith) before.known gives;
 }

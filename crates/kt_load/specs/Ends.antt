@@ -1,6 +1,6 @@
 -- How reading the files of tables ends, and what it leaves of the inputs.
 -- The rules: docs/REFUSALS.md, "Order".
-use Rattle.std.specs.Prelude.{◌≡◌, ◌⊎◌, ◌≤◌, ℕ, List, length, min, take, Option, None, Some, Result, Ok, Err, IfSome, IsSomeAnd, ⊤}
+use Rattle.std.specs.Prelude.{◌≡◌, ◌⊎◌, ◌+◌, ◌≤◌, ℕ, List, length, min, take, drop, Option, None, Some, Result, Ok, Err, IfSome, IsSomeAnd, ⊤}
 use Rattle.kt_out.specs.InputFiles.{InputsState, CountsFault, CountsMiss}
 use Rattle.kt_out.specs.NamedFiles.{FileMap}
 use Rattle.kt_rec.specs.declared.table.Table.{Table as TheTable}
@@ -19,16 +19,26 @@ abbrev pub HasFront : Option FileMap → List ℕ → ℕ → Type 0
 HasFront None name wanted = ⊤
 HasFront (Some files) name wanted = IsSomeAnd (files name) (λ bytes. wanted ≤ length bytes)
 
+-- the file of this name has so many bytes from a place on, where files are known
+abbrev pub HasPart : Option FileMap → List ℕ → ℕ → ℕ → Type 0
+HasPart None name from wanted = ⊤
+HasPart (Some files) name from wanted = IsSomeAnd (files name) (λ bytes. from + wanted ≤ length bytes)
+
+-- so many bytes from a place on of the file of this name, where files are known
+pub record IsPart (held : Option FileMap) (name : List ℕ) (from wanted : ℕ) (part : List ℕ) : Type 0 where
+  pub whole : length part ≡ wanted
+  pub known : IfSome held (λ files. IfSome (files name) (λ bytes. part ≡ take wanted (drop from bytes)))
+
 -- so many bytes, the first of the file of this name, where files are known
 pub record IsFront (held : Option FileMap) (name : List ℕ) (wanted : ℕ) (front : List ℕ) : Type 0 where
   pub whole : length front ≡ wanted
   pub known : IfSome held (λ files. IfSome (files name) (λ bytes. front ≡ take wanted bytes))
 
--- the first bytes of the room are the first of the file of this name, where files are known
-pub record HasRead (held : Option FileMap) (name : List ℕ) (wanted at : ℕ) (room : List ℕ) : Type 0 where
+-- the first bytes of the room are the first from a place on of the file of this name, where files are known
+pub record HasRead (held : Option FileMap) (name : List ℕ) (from wanted at : ℕ) (room : List ℕ) : Type 0 where
   pub within : at ≤ wanted
   pub whole : length room ≡ wanted
-  pub known : IfSome held (λ files. IfSome (files name) (λ bytes. take at room ≡ take at bytes))
+  pub known : IfSome held (λ files. IfSome (files name) (λ bytes. take at room ≡ take at (drop from bytes)))
 
 -- how many bytes of a table's file of so many are read: all, but of the footprint the header alone
 abbrev pub bytes_wanted : TheTable → ℕ → ℕ

@@ -4,3 +4,4 @@ pub mod Reading
 pub mod Loaded
 pub mod Ends
 pub mod Steps
+pub mod EventRows

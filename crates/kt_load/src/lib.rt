@@ -1,6 +1,7 @@
 //! Loading the tables of a run from its files.
 #![tactic(auto)]
 
+mod event_rows;
 mod file;
 mod loading;
 mod naming;
@@ -8,6 +9,7 @@ mod shared;
 mod stop;
 mod table;
 
+pub use event_rows::foot_rows;
 pub use loading::{load, load_order};
 pub use naming::file_name;
 pub use stop::LoadStop;

@@ -3,11 +3,13 @@
 
 mod bytes;
 mod decimals;
+pub mod laws;
 mod moments;
 mod number_text;
 mod quotient;
 mod row;
 mod shared;
+mod sharing;
 mod square_root;
 
 pub use bytes::{Bytes, OutOfMemory};
@@ -16,4 +18,5 @@ pub use moments::{MeanSd, mean_sd};
 pub use number_text::{push_count, push_money, push_ppm};
 pub use quotient::{div_half_up, ppm_of};
 pub use row::{ROW_BYTES, Row};
+pub use sharing::ShareOut;
 pub use square_root::isqrt;

@@ -17,7 +17,8 @@ use Rattle.kt_stream.specs.Stream.{Form, Walk, Stream, step, walk, headed, reads
 use Rattle.kt_stream.specs.Reader.{Reading, IsPlaced, Stands}
 use Rattle.kt_stream.proofs.Cases.{none_is_some, some_is, some_is_none}
 use Rattle.kt_stream.proofs.Heading.{HeaderRead, header_got, few_samples}
-use Rattle.kt_stream.proofs.Representing.{room_within, room_beyond, taken_stands}
+use Rattle.kt_stream.proofs.Representing.{taken_stands}
+use Rattle.kt_stream.proofs.Room.{room_within, room_beyond}
 
 step_fits : {E : Type 0} (P : Placed E → Type 0) (r : Read E Misfit) (bytes : List ℕ) (at : ℕ) (next : E → Walk E) → ((e : E) → r ≡ Got e → P (record { at = at; entry = e }) × AllByRecursion P (next e).entries)
     → AllByRecursion P (step r bytes at next).entries

@@ -15,7 +15,7 @@ use Rattle.kt_stream.specs.Stream.{Form, Walk, End, Whole, Partial, Refused, Str
 use Rattle.kt_stream.specs.Growth.{GrowsTo}
 use Rattle.kt_stream.proofs.Cases.{none_is_some}
 use Rattle.kt_stream.proofs.Heading.{header_kept, header_got}
-use Rattle.kt_stream.proofs.Representing.{room_within, room_beyond, take_over}
+use Rattle.kt_stream.proofs.Room.{room_within, room_beyond, take_over}
 
 -- records stay, and what refuses them
 record WalkGrows (E : Type 0) (before now : Walk E) : Type 0 where

@@ -11,8 +11,11 @@ pub mod Heading
 pub mod Walking
 pub mod PairsLoop
 pub mod Gathering
+pub mod Room
 pub mod Representing
 pub mod Fitting
 pub mod Growing
 pub mod Spelling
 pub mod Writing
+pub mod BinsRead
+pub mod Distributions

@@ -16,7 +16,7 @@ use Rattle.kt_stream.proofs.Cases.{some_is}
 use Rattle.kt_stream.proofs.Fields.{bytes_behind}
 use Rattle.kt_stream.proofs.Heading.{header_got, header_back, header_length, few_samples}
 use Rattle.kt_stream.proofs.Walking.{records_step, records_short, fewer}
-use Rattle.kt_stream.proofs.Representing.{room_within, room_beyond}
+use Rattle.kt_stream.proofs.Room.{room_within, room_beyond}
 
 -- ---- from values to bytes
 

@@ -1,3 +1,4 @@
+pub mod Fitting
 pub mod Reading
 pub mod Converting
 pub mod EveLemmas

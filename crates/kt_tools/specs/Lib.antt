@@ -1,3 +1,4 @@
+pub mod EltOutcome
 pub mod Outcome
 pub mod Uses
 pub mod Loading

@@ -16,12 +16,7 @@ use Rattle.kt_load.specs.declared.stop.LoadStop.{LoadStop}
 use Rattle.kt_schema.specs.Footprint.{footprint_csv}
 use Rattle.kt_tables.specs.Lookups.{event_ids}
 use Rattle.kt_tools.specs.Loading.{need_of, load_stop}
-use Rattle.kt_stream.specs.declared.entry.Placed.{Placed}
-use Rattle.kt_stream.specs.declared.entry.SummaryRecord.{SummaryRecord}
-use Rattle.kt_stream.specs.declared.stop.StreamStop.{StreamStop}
-use Rattle.kt_stream.specs.declared.summary.Head.{Head}
-use Rattle.kt_stream.specs.Stream.{stream_of, fault_of}
-use Rattle.kt_elt.specs.EventLoss.{elt_heading_text, event_loss_rows}
+use Rattle.kt_tools.specs.EltOutcome.{elt_outcome}
 use Rattle.kt_words.specs.declared.command.Command.{Command}
 use Rattle.kt_words.specs.declared.command.Command.TheVariants.{Eltcalc, Convert, FootprintText, Eve}
 use Rattle.kt_words.specs.declared.command.Conversion.{Conversion}
@@ -34,29 +29,6 @@ use Rattle.kt_tools.specs.Converting.{source_limit, source_name, other_form, con
 use Rattle.kt_ends.specs.Endings.{nothing, writes_text}
 use Rattle.kt_ends.specs.Outcome.{Outcome}
 use Rattle.kt_ends.specs.Stops.{stop_status}
-
--- the status of a tool that reads a stream with this first fault, if any
-abbrev pub stream_status : Option StreamStop → Status
-stream_status None = Done
-stream_status (Some stop) = Refused (Stream stop)
-
--- the rows of summary records, as many samples each
-abbrev pub elt_rows : ℕ → List (Placed SummaryRecord) → List ℕ
-elt_rows samples entries = flat_map (λ placed. event_loss_rows samples placed.entry) entries
-
--- the names of the columns, where they are wanted
-abbrev pub elt_heading_part : Bool → List ℕ
-elt_heading_part true = elt_heading_text
-elt_heading_part false = []
-
--- the event loss table of a header and its records: nothing without a header
-abbrev pub elt_table : Bool → Option Head → List (Placed SummaryRecord) → List ℕ
-elt_table heading None entries = []
-elt_table heading (Some head) entries = elt_heading_part heading ++ elt_rows head.samples entries
-
--- the event loss table of a summary stream, up to the first refused record
-abbrev pub elt_outcome : Bool → List ℕ → Outcome
-elt_outcome heading source = record { status = stream_status (fault_of source); output = elt_table heading (stream_of source).head (stream_of source).entries; files = [] }
 
 -- what is made of the source: one that is too large is refused, whatever else is wrong with it
 abbrev pub within_limit : (List ℕ → Outcome) → List ℕ → Outcome
