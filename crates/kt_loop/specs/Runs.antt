@@ -3,6 +3,7 @@
 use Rattle.std.specs.Prelude.{◌≡◌, ℕ, Bool, true, false, nat_eq, nat_lt, ◌&&◌, ◌||◌, List, [], ◌∷◌, ◌++◌}
 use Rattle.std.specs.List.{AllByRecursion, flat_map}
 use Rattle.kt_stream.specs.declared.entry.Placed.{Placed}
+use Rattle.kt_stream.specs.declared.entry.LossRecord.{LossRecord}
 use Rattle.kt_stream.specs.declared.entry.SummaryRecord.{SummaryRecord}
 use Rattle.kt_loop.specs.declared.run_key.RunKey.{RunKey}
 
@@ -51,6 +52,10 @@ read_all key runs (next ∷ later) = read_all key (read_more key runs next) late
 -- the runs of a list of records
 abbrev pub runs_of : {E : Type 0} → (E → RunKey) → List (Placed E) → List (List (Placed E))
 runs_of key entries = with_run (read_all key no_runs entries).closed (read_all key no_runs entries).last
+
+-- a loss record stands in a run by its event and its id
+abbrev pub loss_key : LossRecord → RunKey
+loss_key entry = record { event = entry.event; id = entry.id; second = 0 }
 
 -- a summary record stands in a run by its event and its summary id
 abbrev pub summary_key : SummaryRecord → RunKey

@@ -3,7 +3,7 @@
 ghost use Rattle.std.specs.Prelude.{◌≡◌};
 ghost use Rattle.kt_loop.specs.Runs.{goes_on};
 
-use kt_stream::SummaryRecord;
+use kt_stream::{LossRecord, SummaryRecord};
 
 /// The event of a record and its id: one number, or two, of which the first counts most.
 #[derive(Clone, Copy, Debug, PartialEq, Eq)]
@@ -26,6 +26,20 @@ pub trait RunRecord {
     /// Its event and its id.
     fn run_key(&self) -> RunKey
         ensures { result ≡ key self.now };
+}
+
+impl RunRecord for LossRecord {
+    ghost use Rattle.kt_loop.specs.Runs.{loss_key};
+
+    ghost key = { loss_key };
+
+    fn run_key(&self) -> RunKey {
+        RunKey {
+            event: self.event,
+            id: self.id,
+            second: 0,
+        }
+    }
 }
 
 impl RunRecord for SummaryRecord {
