@@ -1,6 +1,7 @@
 //! One loop under all tools that read a stream, and the calculations that it carries out.
 #![tactic(auto)]
 
+mod block;
 mod by_run;
 mod carry;
 pub mod laws;
@@ -12,6 +13,7 @@ mod spill;
 mod stage;
 mod turn;
 
+pub use block::{BLOCK, zeros};
 pub use by_run::{RunStage, run_by_run};
 pub use reader::StreamReader;
 pub use run::run_stage;

@@ -17,6 +17,7 @@ ghost use Rattle.kt_loop.specs.Reading.{IsFresh, ReadsGood};
 ghost use Rattle.kt_loop.specs.Running.{EndsRun};
 ghost use Rattle.kt_loop.specs.Settling.{Settles, StopSettles, IsEnd};
 
+use crate::block::{BLOCK, zeros};
 use crate::reader::StreamReader;
 use crate::spill::spill;
 use crate::stage::Stage;
@@ -26,20 +27,8 @@ use kt_money::Bytes;
 use kt_out::{Sink, Source};
 use std::alloc::{AllocError, Global};
 
-/// The bytes that one read asks for.
-const BLOCK: usize = 65_536;
-
 /// More turns than a stream has bytes: each turn but the last reads one at the least.
 const TURNS: u64 = 1_099_511_627_778;
-
-/// A block of zeros.
-fn zeros(alloc: Global, size: usize) -> Result<Vec<u8>, AllocError>
-    ensures { IfOk result (λ block. length block.items ≡ size) }
-{
-    let mut block = Vec::new(alloc);
-    block.resize(size, 0)?;
-    Ok(block)
-}
 
 /// Reads the stream to its end, to a refusal or to a fault.
 fn read_all<R: StreamReader, W, T: Stage<R::Head, R::Entry, W>, S: Source, K: Sink>(

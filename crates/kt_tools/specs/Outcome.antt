@@ -1,6 +1,6 @@
 -- What a run of a command gives: its status, and the bytes that it writes to the sink.
 -- The rules: docs/COMMANDS.md.
-use Rattle.std.specs.Prelude.{ℕ, Bool, true, false, List, [], ◌++◌, length, nat_le, Option, Some, None, Result, Ok, Err, if◌then◌else◌}
+use Rattle.std.specs.Prelude.{ℕ, List, length, nat_le, Option, Some, None, Result, Ok, Err, if◌then◌else◌}
 use Rattle.std.specs.List.{flat_map}
 use Rattle.byteorder.specs.Endian.{little_bytes}
 use Rattle.kt_out.specs.NamedFiles.{FileMap}
@@ -21,9 +21,8 @@ use Rattle.kt_words.specs.declared.command.Command.{Command}
 use Rattle.kt_words.specs.declared.command.Command.TheVariants.{Eltcalc, Convert, FootprintText, Eve}
 use Rattle.kt_words.specs.declared.command.Conversion.{Conversion}
 use Rattle.kt_words.specs.declared.stop.WordStop.{WordStop}
-use Rattle.kt_ends.specs.declared.status.Refusal.TheVariants.{Stream, TooLarge, Check}
-use Rattle.kt_ends.specs.declared.status.Status.{Status}
-use Rattle.kt_ends.specs.declared.status.Status.TheVariants.{Done, Words, Refused}
+use Rattle.kt_ends.specs.declared.status.Refusal.TheVariants.{TooLarge, Check}
+use Rattle.kt_ends.specs.declared.status.Status.TheVariants.{Words, Refused}
 use Rattle.kt_words.specs.Command.{command_of}
 use Rattle.kt_tools.specs.Converting.{source_limit, source_name, other_form, converted}
 use Rattle.kt_ends.specs.Endings.{nothing, writes_text}

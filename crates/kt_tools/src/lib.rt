@@ -1,7 +1,6 @@
 //! The tools, and the one call that runs them.
 #![tactic(auto)]
 
-mod block;
 mod convert;
 mod eltcalc;
 mod eve;

@@ -3,8 +3,8 @@
 ghost use Rattle.std.specs.Prelude.{◌≡◌, length, IfOk, MatchResult, Ok, Err};
 ghost use Rattle.kt_tools.specs.Converting.{ReadsWhole, IsTooLarge, source_name};
 
-use crate::block::{BLOCK, zeros};
 use kt_ends::{Refusal, ToolStop};
+use kt_loop::{BLOCK, zeros};
 use kt_out::Source;
 use kt_rec::Name;
 use std::alloc::{AllocError, Global};
