@@ -13,3 +13,4 @@ pub mod RunStepping
 pub mod Splitting
 pub mod RecordReading
 pub mod RecordsGood
+pub mod RunLists

@@ -53,6 +53,17 @@ read_all key runs (next ∷ later) = read_all key (read_more key runs next) late
 abbrev pub runs_of : {E : Type 0} → (E → RunKey) → List (Placed E) → List (List (Placed E))
 runs_of key entries = with_run (read_all key no_runs entries).closed (read_all key no_runs entries).last
 
+-- each record of a run goes on the run of the record before it
+abbrev pub IsRun : {E : Type 0} → (E → RunKey) → List (Placed E) → Type 0
+IsRun key [] = Unit {0}
+IsRun key (last ∷ []) = Unit {0}
+IsRun key (first ∷ (second ∷ later)) = (goes_on (key first.entry) (key second.entry) ≡ true) × IsRun key (second ∷ later)
+
+-- these runs are the records, each in one of them and in their order
+pub record AreRuns {E : Type 0} (key : E → RunKey) (runs : List (List (Placed E))) (entries : List (Placed E)) : Type 0 where
+  pub whole : flat_map (λ run. run) runs ≡ entries
+  pub each : AllByRecursion (IsRun key) runs
+
 -- a loss record stands in a run by its event and its id
 abbrev pub loss_key : LossRecord → RunKey
 loss_key entry = record { event = entry.event; id = entry.id; second = 0 }

@@ -8,7 +8,7 @@ ghost use Rattle.kt_loop.specs.declared.run_key.RunKey.{RunKey};
 ghost use Rattle.kt_loop.specs.ByRun.{RunCalculation, by_run, outcome_by_run};
 ghost use Rattle.kt_loop.specs.Contents.{Contents};
 ghost use Rattle.kt_loop.specs.Outcome.{gives, stream_status, outcome};
-ghost use Rattle.kt_loop.specs.Runs.{ShareNoEvent, given_by_runs};
+ghost use Rattle.kt_loop.specs.Runs.{AreRuns, ShareNoEvent, given_by_runs, runs_of};
 ghost use Rattle.kt_loop.specs.ByRecord.{by_record, table_of};
 ghost use Rattle.kt_stream.specs.declared.kind.Head.{Head};
 ghost use Rattle.kt_stream.specs.Header.{IsHead};
@@ -41,3 +41,9 @@ pub fn what_is_read_can_be_taken<E: Entry>()
 {
     what_is_read_fits::<E>();
 }
+
+/// The runs of a list of records, one after the other, are these records, and in each run each record goes on the one
+/// before it.
+pub fn runs_are_the_records<E>()
+    ensures { (key : E → RunKey) (entries : List (Placed E)) → AreRuns key (runs_of key entries) entries }
+{}

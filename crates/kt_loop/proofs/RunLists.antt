@@ -1,0 +1,55 @@
+-- The runs of a list of records are these records.
+use Rattle.std.proofs.Common.{◌≡◌, Bool, true, false, List, [], ◌∷◌, ◌++◌, refl, sym, ap, ◌∙◌, append_assoc, append-nil}
+use Rattle.std.specs.List.{AllByRecursion, flat_map}
+use Rattle.std.proofs.lemmas.Grind.{flat_map-append}
+use Rattle.kt_stream.specs.declared.entry.Placed.{Placed}
+use Rattle.kt_loop.specs.declared.run_key.RunKey.{RunKey}
+use Rattle.kt_loop.specs.Runs.{RunsRead, no_runs, with_run, joins, run_more, read_more, read_all, runs_of, IsRun, AreRuns}
+
+module _ {E : Type 0} (key : E → RunKey) where
+  abbrev flat : List (List (Placed E)) → List (Placed E)
+  flat runs = flat_map (λ (run : List (Placed E)). run) runs
+
+  abbrev records : RunsRead E → List (Placed E)
+  records runs = flat (with_run runs.closed runs.last)
+
+  flat_with : (closed : List (List (Placed E))) (last : List (Placed E)) → flat (with_run closed last) ≡ flat closed ++ last
+  flat_with closed [] = sym (append-nil (flat closed))
+  flat_with closed (first ∷ later) = flat_map-append (λ (run : List (Placed E)). run) closed ((first ∷ later) ∷ []) ∙ ap (λ (xs : List (Placed E)). flat closed ++ xs) (append-nil (first ∷ later))
+
+  records_more : (joined : Bool) (runs : RunsRead E) (next : Placed E) → records (run_more joined runs next) ≡ records runs ++ next ∷ []
+  records_more true runs next =
+      flat_with runs.closed (runs.last ++ next ∷ []) ∙ sym (append_assoc (flat runs.closed) runs.last (next ∷ [])) ∙ ap (λ (xs : List (Placed E)). xs ++ next ∷ []) (sym (flat_with runs.closed runs.last))
+  records_more false runs next = flat_with (with_run runs.closed runs.last) (next ∷ [])
+
+  records_all : (runs : RunsRead E) (entries : List (Placed E)) → records (read_all key runs entries) ≡ records runs ++ entries
+  records_all runs [] = sym (append-nil (records runs))
+  records_all runs (next ∷ later) =
+      records_all (read_more key runs next) later ∙ ap (λ (xs : List (Placed E)). xs ++ later) (records_more (joins key runs.last next) runs next) ∙ append_assoc (records runs) (next ∷ []) later
+
+  run_longer : (run : List (Placed E)) (next : Placed E) → IsRun key run → joins key run next ≡ true → IsRun key (run ++ next ∷ [])
+  run_longer [] next is joined = tt
+  run_longer (last ∷ []) next is joined = (joined, tt)
+  run_longer (first ∷ (second ∷ later)) next is joined = (is.0, run_longer (second ∷ later) next is.1 joined)
+
+  each_with : (closed : List (List (Placed E))) (last : List (Placed E)) → AllByRecursion (IsRun key) closed → IsRun key last → AllByRecursion (IsRun key) (with_run closed last)
+  each_with closed [] all is = all
+  each_with [] (first ∷ later) all is = (is, tt)
+  each_with (run ∷ closed) (first ∷ later) all is = (all.0, each_with closed (first ∷ later) all.1 is)
+
+  pub record AllRuns (runs : RunsRead E) : Type 0 where
+    pub closed : AllByRecursion (IsRun key) runs.closed
+    pub last : IsRun key runs.last
+
+  all_more : (joined : Bool) (runs : RunsRead E) (next : Placed E) → joins key runs.last next ≡ joined → AllRuns runs → AllRuns (run_more joined runs next)
+  all_more true runs next is all = record { closed = all.closed; last = run_longer runs.last next all.last is }
+  all_more false runs next is all = record { closed = each_with runs.closed runs.last all.closed all.last; last = tt }
+
+  all_runs_so : (runs : RunsRead E) (entries : List (Placed E)) → AllRuns runs → AllRuns (read_all key runs entries)
+  all_runs_so runs [] all = all
+  all_runs_so runs (next ∷ later) all = all_runs_so (read_more key runs next) later (all_more (joins key runs.last next) runs next refl all)
+
+  pub are_runs : (entries : List (Placed E)) → AreRuns key (runs_of key entries) entries
+  are_runs entries =
+      let all = all_runs_so no_runs entries (record { closed = tt; last = tt }) in
+      record { whole = records_all no_runs entries; each = each_with (read_all key no_runs entries).closed (read_all key no_runs entries).last all.closed all.last }
