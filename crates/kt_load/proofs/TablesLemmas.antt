@@ -1,5 +1,5 @@
 -- Reading table after table.
-use Rattle.std.proofs.Common.{◌≡◌, ◌≤◌, ℕ, List, [], ◌∷◌, Option, Some, None, Ok, Result, refl, ap, sym, subst, ◌∙◌, true, false, arith}
+use Rattle.std.proofs.Common.{◌≡◌, List, [], ◌∷◌, Option, Some, None, Ok, Result, refl, ap, sym, subst, ◌∙◌, true, false}
 use Rattle.std.specs.Prelude.{IfSome, cond}
 use Rattle.std.specs.List.{filter}
 use Rattle.kt_out.specs.NamedFiles.{FileMap}

@@ -1,6 +1,6 @@
 -- The footprint rows of one event, as they stand in the footprint's file.
 -- The rules: docs/TABLES.md, "Footprint rows of an event".
-use Rattle.std.specs.Prelude.{◌≡◌, ℕ, zero, suc, ◌+◌, ◌/◌, List, [], ◌∷◌, length, drop, Option, Some, None, IsSomeAnd, ⊤}
+use Rattle.std.specs.Prelude.{◌≡◌, ℕ, zero, suc, ◌/◌, List, [], ◌∷◌, length, drop, Option, Some, None, IsSomeAnd, ⊤}
 use Rattle.byteorder.specs.Endian.{little_number}
 use Rattle.kt_out.specs.NamedFiles.{FileMap}
 use Rattle.kt_rec.specs.Rows.{Rows}

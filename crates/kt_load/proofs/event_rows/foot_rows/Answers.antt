@@ -1,7 +1,7 @@
 use Rattle.std.proofs.Common.{◌≡◌, ◌/◌, ℕ, List, length, ap, arith, subst, sym, ◌∙◌}
-use Rattle.kt_load.specs.Ends.{HasPart, IsPart}
+use Rattle.kt_load.specs.Ends.{HasPart}
 use Rattle.kt_load.specs.EventRows.{foot_rows_in}
-use Rattle.kt_load.proofs.EventRowLemmas.{has_part, lies_within, no_rows, reads_rows}
+use Rattle.kt_load.proofs.EventRowLemmas.{has_part, lies_within, reads_rows}
 use Rattle.kt_load.proofs.event_rows.foot_rows.Goals as goal
 
 pub read_part-requires-clause-limit : goal.read_part-requires-clause-limit
