@@ -90,6 +90,10 @@ ends_for_memory found uses made before now way = record {
 counted_other : (why : Refusal) → (IsMissing (status.Refused why) → ⊥) → (before now : World) → NoCount before now → Counted before now (status.Refused why)
 counted_other (refusal.Missing name) other before now none = absurd (other tt)
 counted_other (refusal.Stream stop) other before now none = none
+counted_other (refusal.UnknownId byte) other before now none = none
+counted_other (refusal.LossSum byte) other before now none = none
+counted_other (refusal.File file stop) other before now none = none
+counted_other (refusal.HeaderDiffers file) other before now none = none
 counted_other (refusal.TooLarge name) other before now none = none
 counted_other (refusal.NotProfile name) other before now none = none
 counted_other (refusal.WrongTable name found) other before now none = none

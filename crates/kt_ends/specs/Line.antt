@@ -73,6 +73,10 @@ file_text name text = name ++ (codes ": " ++ text)
 -- why a run is refused
 abbrev pub refusal_text : Refusal → List ℕ
 refusal_text (refusal.Stream stop) = stream_text stop
+refusal_text (refusal.UnknownId byte) = place_text byte (codes "unknown id")
+refusal_text (refusal.LossSum byte) = place_text byte (codes "loss sum")
+refusal_text (refusal.File file stop) = codes "file " ++ (count_text file ++ (codes ": " ++ stream_text stop))
+refusal_text (refusal.HeaderDiffers file) = codes "file " ++ (count_text file ++ (codes ": " ++ codes "header differs"))
 refusal_text (refusal.Missing name) = file_text name (codes "missing")
 refusal_text (refusal.TooLarge name) = file_text name (codes "too large")
 refusal_text (refusal.NotProfile name) = file_text name (codes "not of this profile")

@@ -43,6 +43,10 @@ whole_files wanted (Some files) (Some after) made = record { made = wanted; fron
 lost_refusal : (found : FileMap → List ℕ → Type 0) (made : FileMap → List ℕ → Outcome) (before after : World) (why : Refusal) → ((files : FileMap) (source : List ℕ) → found files source → (made files source).status ≡ status.Refused why) → Counted before after (status.Refused why) → NoCount before after ⊎ LosesMissing found made before after
 lost_refusal found made before after (refusal.Missing name) is counted = inr (record { missed = counted; own = λ files source finds. subst IsMissing (sym (is files source finds)) tt })
 lost_refusal found made before after (refusal.Stream stop) is counted = inl counted
+lost_refusal found made before after (refusal.UnknownId byte) is counted = inl counted
+lost_refusal found made before after (refusal.LossSum byte) is counted = inl counted
+lost_refusal found made before after (refusal.File file stop) is counted = inl counted
+lost_refusal found made before after (refusal.HeaderDiffers file) is counted = inl counted
 lost_refusal found made before after (refusal.TooLarge name) is counted = inl counted
 lost_refusal found made before after (refusal.NotProfile name) is counted = inl counted
 lost_refusal found made before after (refusal.WrongTable name number) is counted = inl counted

@@ -4,6 +4,7 @@ ghost use Rattle.std.specs.Prelude.{◌≡◌, ◌++◌, OnOk, IfOk, codes};
 ghost use Rattle.kt_money.specs.NumberText.{count_text};
 ghost use Rattle.kt_ends.specs.Line.{cause_text, field_text, file_text, record_text, refusal_text, stream_text, status_text, status_line};
 ghost use Rattle.kt_ends.specs.Line.{IsRefused};
+ghost use Rattle.kt_ends.specs.declared.status.Refusal.TheVariants as refusal;
 
 use crate::status::{Refusal, Status};
 use kt_cells::Cause;
@@ -81,6 +82,15 @@ fn push_stream_text(out: &mut Bytes, stop: StreamStop) -> Result<(), OutOfMemory
     }
 }
 
+/// Appends `file N: `.
+fn push_file_number(out: &mut Bytes, file: u32) -> Result<(), OutOfMemory>
+    ensures { OnOk result (out.new ≡ out.old ++ (codes "file " ++ (count_text file ++ codes ": "))) }
+{
+    out.append(b"file ")?;
+    push_count(out, file as u64)?;
+    out.append(b": ")
+}
+
 /// The text of what is wrong with a row or a field.
 fn field_words(cause: Cause) -> &'static [u8]
     ensures { result.now ≡ field_text cause }
@@ -132,12 +142,51 @@ fn push_field(out: &mut Bytes, column: u32, cause: Cause) -> Result<(), OutOfMem
     out.append(field_words(cause))
 }
 
-/// Appends `: check N`.
-fn push_check(out: &mut Bytes, number: u32) -> Result<(), OutOfMemory>
-    ensures { OnOk result (out.new ≡ out.old ++ (codes ": check " ++ count_text number)) }
+/// Appends `NAME: row R: cut record`.
+fn push_cut_record(out: &mut Bytes, name: &Name, row: u64) -> Result<(), OutOfMemory>
+    ensures { OnOk result (out.new ≡ out.old ++ refusal_text (refusal.CutRecord name.now row)) }
 {
+    push_row(out, name, row)?;
+    out.append(b": cut record")
+}
+
+/// Appends `NAME: row R column C: CAUSE`.
+fn push_bad_field(
+    out: &mut Bytes,
+    name: &Name,
+    row: u64,
+    column: u32,
+    cause: Cause,
+) -> Result<(), OutOfMemory>
+    ensures { OnOk result (out.new ≡ out.old ++ refusal_text (refusal.Bad name.now row column cause)) }
+{
+    push_row(out, name, row)?;
+    push_field(out, column, cause)
+}
+
+/// Appends `NAME: row R: check N`.
+fn push_check(out: &mut Bytes, name: &Name, row: u64, number: u32) -> Result<(), OutOfMemory>
+    ensures { OnOk result (out.new ≡ out.old ++ refusal_text (refusal.Check number name.now row)) }
+{
+    push_row(out, name, row)?;
     out.append(b": check ")?;
     push_count(out, number as u64)
+}
+
+/// Appends `file N: ` and why its stream is refused.
+fn push_file_stream(out: &mut Bytes, file: u32, stop: StreamStop) -> Result<(), OutOfMemory>
+    ensures { OnOk result (out.new ≡ out.old ++ refusal_text (refusal.File file stop)) }
+{
+    push_file_number(out, file)?;
+    push_stream_text(out, stop)
+}
+
+/// Appends `file N: header differs`.
+fn push_other_header(out: &mut Bytes, file: u32) -> Result<(), OutOfMemory>
+    ensures { OnOk result (out.new ≡ out.old ++ refusal_text (refusal.HeaderDiffers file)) }
+{
+    push_file_number(out, file)?;
+    out.append(b"header differs")
 }
 
 /// Appends why a run is refused.
@@ -146,28 +195,23 @@ fn push_refusal(out: &mut Bytes, refusal: &Refusal) -> Result<(), OutOfMemory>
 {
     match refusal {
         Refusal::Stream(stop) => push_stream_text(out, *stop),
+        Refusal::UnknownId { byte } => push_place(out, *byte, b"unknown id"),
+        Refusal::LossSum { byte } => push_place(out, *byte, b"loss sum"),
+        Refusal::File { file, stop } => push_file_stream(out, *file, *stop),
+        Refusal::HeaderDiffers { file } => push_other_header(out, *file),
         Refusal::Missing { name } => push_file(out, name, b"missing"),
         Refusal::TooLarge { name } => push_file(out, name, b"too large"),
         Refusal::NotProfile { name } => push_file(out, name, b"not of this profile"),
         Refusal::WrongTable { name, found } => push_found(out, name, b"wrong table ", *found),
         Refusal::WrongVersion { name, found } => push_found(out, name, b"wrong version ", *found),
-        Refusal::CutRecord { name, row } => {
-            push_row(out, name, *row)?;
-            out.append(b": cut record")
-        }
+        Refusal::CutRecord { name, row } => push_cut_record(out, name, *row),
         Refusal::Bad {
             name,
             row,
             column,
             cause,
-        } => {
-            push_row(out, name, *row)?;
-            push_field(out, *column, *cause)
-        }
-        Refusal::Check { number, name, row } => {
-            push_row(out, name, *row)?;
-            push_check(out, *number)
-        }
+        } => push_bad_field(out, name, *row, *column, *cause),
+        Refusal::Check { number, name, row } => push_check(out, name, *row, *number),
     }
 }
 

@@ -14,6 +14,28 @@ use kt_words::WordStop;
 pub enum Refusal {
     /// The stream is refused.
     Stream(StreamStop),
+    /// A record names an id that no item, or no output, has.
+    UnknownId {
+        /// The byte of the stream at which the id stands, counted from 0.
+        byte: u64,
+    },
+    /// A record takes the losses of one sidx in its run past 10^16 cents.
+    LossSum {
+        /// The first byte of the record, counted from 0 in the whole stream.
+        byte: u64,
+    },
+    /// The stream in one of several files is refused.
+    File {
+        /// The number of the file, counted from 1.
+        file: u32,
+        /// What refuses its stream; bytes are counted in this file.
+        stop: StreamStop,
+    },
+    /// The header of a file is another than that of the first one.
+    HeaderDiffers {
+        /// The number of the file, counted from 1.
+        file: u32,
+    },
     /// There is no file of this name. Comes only where the inputs counted a miss.
     Missing {
         /// The table's file.
