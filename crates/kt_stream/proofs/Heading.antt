@@ -4,7 +4,7 @@ use Rattle.std.proofs.lemmas.Bool.{cases_Bool, eqb-true}
 use Rattle.byteorder.specs.Endian.{little_bytes}
 use Rattle.kt_stream.specs.declared.kind.Head.{Head}
 use Rattle.kt_stream.specs.declared.kind.StreamKind.{StreamKind}
-use Rattle.kt_stream.specs.declared.kind.StreamKind.TheVariants.{Cdf, Gul, Loss, Summary}
+use Rattle.kt_stream.specs.declared.kind.StreamKind.TheVariants.{Cdf, Gul, Loss, Summary, Events}
 use Rattle.kt_stream.specs.declared.read.HeaderFault.{HeaderFault}
 use Rattle.kt_stream.specs.declared.read.HeaderFault.TheVariants.{NotProfile, WrongStream, BadSamples, BadSet}
 use Rattle.kt_stream.specs.declared.read.Read.TheVariants.{Got, Short}
@@ -17,13 +17,6 @@ use Rattle.kt_stream.proofs.Fields.{between_bounds, between_none, AreWide, field
 -- a header keeps what it is, whatever bytes follow
 pub header_kept : (kind : StreamKind) (bytes more : List ℕ) → Kept (header_in kind bytes) (header_in kind (bytes ++ more))
 header_kept kind bytes more = kept_then (fields_in (header_fields kind) [] bytes 0) (fields_in (header_fields kind) [] (bytes ++ more) 0) _ _ (fields_kept (header_fields kind) [] bytes more 0) (λ values e. refl)
-
--- where there are no bytes there is no header
-pub header_nothing : (kind : StreamKind) → header_in kind [] ≡ Short
-header_nothing Cdf = refl
-header_nothing Gul = refl
-header_nothing Loss = refl
-header_nothing Summary = refl
 
 -- the kind and the type as a number
 abbrev mark_of : StreamKind → ℕ
@@ -44,6 +37,7 @@ values_of Cdf head = mark_of Cdf ∷ []
 values_of Gul head = mark_of Gul ∷ head.samples ∷ []
 values_of Loss head = mark_of Loss ∷ head.samples ∷ []
 values_of Summary head = mark_of Summary ∷ head.samples ∷ head.set ∷ []
+values_of Events head = []
 
 -- the values of a header that was read
 record ValuesRead (kind : StreamKind) (values : List ℕ) : Type 0 where
@@ -69,6 +63,8 @@ values_read Loss (mark ∷ samples ∷ []) judged =
     let bounds = between_bounds 1 1000 (BadSamples samples) samples judged.1.0 in
     record { good = (bounds.0, bounds.1, refl); are = mark_alone Loss mark (samples ∷ []) judged.0 }
 values_read Loss (mark ∷ samples ∷ other ∷ values) judged = absurd judged.1.1
+values_read Events [] judged = record { good = (refl, refl); are = refl }
+values_read Events (other ∷ values) judged = absurd judged
 values_read Summary [] judged = absurd judged
 values_read Summary (mark ∷ []) judged = absurd judged.1
 values_read Summary (mark ∷ samples ∷ []) judged = absurd judged.1.1
@@ -83,12 +79,14 @@ all_wide Cdf = (inl refl, tt)
 all_wide Gul = (inl refl, (inl refl, tt))
 all_wide Loss = (inl refl, (inl refl, tt))
 all_wide Summary = (inl refl, (inl refl, (inl refl, tt)))
+all_wide Events = tt
 
 -- a header is written as its fields are
 values_bytes : (kind : StreamKind) (head : Head) (rest : List ℕ) → fields_then (header_fields kind) (values_of kind head) rest ≡ header_bytes kind head ++ rest
 values_bytes Cdf head rest = refl
 values_bytes Gul head rest = refl
 values_bytes Loss head rest = refl
+values_bytes Events head rest = refl
 values_bytes Summary head rest =
     ap (λ (xs : List ℕ). little_bytes 4 (mark_of Summary) ++ xs) (sym (append_assoc (little_bytes 4 head.samples) (little_bytes 4 head.set) rest))
 
@@ -120,11 +118,13 @@ few_samples Cdf head is = omega (arith, is.0)
 few_samples Gul head is = is.1
 few_samples Loss head is = is.1
 few_samples Summary head is = is.1
+few_samples Events head is = omega (arith, is.0)
 
 values_judged : (kind : StreamKind) (head : Head) → IsHead kind head → AreJudged (header_fields kind) [] 0 (values_of kind head)
 values_judged Cdf head is = (refl, tt)
 values_judged Gul head is = (refl, (between_none 1 1000 (BadSamples head.samples) head.samples is.0 is.1, tt))
 values_judged Loss head is = (refl, (between_none 1 1000 (BadSamples head.samples) head.samples is.0 is.1, tt))
+values_judged Events head is = tt
 values_judged Summary head is =
     (refl, (between_none 1 1000 (BadSamples head.samples) head.samples is.0 is.1, (between_none 1 9 (BadSet head.set) head.set is.2 is.3, tt)))
 
@@ -132,6 +132,7 @@ values_small : (kind : StreamKind) (head : Head) → IsHead kind head → AreSma
 values_small Cdf head is = (omega arith, tt)
 values_small Gul head is = (omega arith, (omega (arith, is.1), tt))
 values_small Loss head is = (omega arith, (omega (arith, is.1), tt))
+values_small Events head is = tt
 values_small Summary head is = (omega arith, (omega (arith, is.1), (omega (arith, is.3), tt)))
 
 head_back : (kind : StreamKind) (head : Head) → IsHead kind head → head_of (values_of kind head) ≡ head
@@ -139,6 +140,7 @@ head_back Cdf head is = ap (λ (n : ℕ). record { samples = n; set = 0 }) (sym 
 head_back Gul head is = ap (λ (set : ℕ). record { samples = head.samples; set = set }) (sym is.2)
 head_back Loss head is = ap (λ (set : ℕ). record { samples = head.samples; set = set }) (sym is.2)
 head_back Summary head is = refl
+head_back Events head is = ap (λ (n : ℕ). record { samples = n; set = 0 }) (sym is.0) ∙ ap (λ (n : ℕ). record { samples = head.samples; set = n }) (sym is.1)
 
 -- a header is read back
 pub header_back : (kind : StreamKind) (head : Head) (rest : List ℕ) → IsHead kind head → header_in kind (header_bytes kind head ++ rest) ≡ Got head
@@ -151,3 +153,4 @@ header_length Cdf head = refl
 header_length Gul head = refl
 header_length Loss head = refl
 header_length Summary head = refl
+header_length Events head = refl

@@ -19,3 +19,4 @@ pub mod Spelling
 pub mod Writing
 pub mod BinsRead
 pub mod Distributions
+pub mod EventIds

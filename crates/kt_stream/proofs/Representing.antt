@@ -9,10 +9,13 @@ use Rattle.kt_stream.specs.declared.kind.Shape.{Shape}
 use Rattle.kt_stream.specs.declared.stop.StreamStop.{StreamStop}
 use Rattle.kt_stream.specs.declared.stop.StreamStop.TheVariants.{NotProfile, WrongStream, BadSamples, BadSet, BadRecord, TooLong, Cut, OutOfMemory}
 use Rattle.kt_stream.specs.Stop.{IsRefusal}
-use Rattle.kt_stream.specs.Stream.{Form, End, Partial, Refused, Stream, after, reads_on, overlong, too_long, within_room, stream_of, stream_limit, refusal}
+use Rattle.kt_stream.specs.declared.kind.StreamKind.{StreamKind}
+use Rattle.kt_stream.specs.declared.kind.StreamKind.TheVariants.{Cdf, Gul, Loss, Summary, Events}
+use Rattle.kt_stream.specs.declared.read.Read.TheVariants.{Short}
+use Rattle.kt_stream.specs.Header.{first_head}
+use Rattle.kt_stream.specs.Stream.{Form, End, Whole, Partial, Refused, Stream, Walk, walk, records_in, after, reads_on, overlong, too_long, within_room, stream_of, stream_limit, refusal}
 use Rattle.kt_stream.specs.Reader.{Reading, refused, goes_on, stream_by, stream_from, rest_end, end_by, stop_or_too_long, IsAt, Represents, Stands, IsFurther, Absorbs, Extends, Feeds}
 use Rattle.kt_stream.specs.Gather.{MovesBy}
-use Rattle.kt_stream.proofs.Heading.{header_nothing}
 use Rattle.kt_stream.proofs.Room.{room_within, room_beyond, room_moves, room_refuses}
 
 -- ---- a piece
@@ -152,14 +155,36 @@ represents_by {E} form bytes taken r onward rests place =
       place = place;
     }
 
-nothing : {E : Type 0} (form : Form E) (shape : Shape) → stream_from form (running shape None [] 0 []) [] ≡ record { head = None; entries = []; end = Partial }
+-- a reader that was given nothing has what its kind has before the first byte
+abbrev first_reading : {E : Type 0} → StreamKind → ℕ → Reading E
+first_reading kind bins = running (record { kind = kind; bins = bins }) (first_head kind) [] 0 []
+
+-- it goes on as the stream does
+first_onward : {E : Type 0} (form : Form E) (kind : StreamKind) (bins : ℕ) (more : List ℕ) → stream_of form (record { kind = kind; bins = bins }) more ≡ after [] (stream_from form (first_reading kind bins) more)
 unfolding within_room reads_on
-nothing form shape = rw (header_nothing shape.kind) refl
+first_onward form Cdf bins more = refl
+first_onward form Gul bins more = refl
+first_onward form Loss bins more = refl
+first_onward form Summary bins more = refl
+first_onward form Events bins more = refl
+
+-- no record stands in no bytes
+no_record : {E : Type 0} (form : Form E) (shape : Shape) → form.unit shape 0 [] 0 ≡ Short → records_in form shape 0 [] 0 ≡ record { entries = []; end = Whole }
+unfolding walk
+no_record form shape short = rw short refl
+
+first_rests : {E : Type 0} (form : Form E) (kind : StreamKind) (bins : ℕ) → ((shape : Shape) (samples at : ℕ) → form.unit shape samples [] at ≡ Short) → stream_from form (first_reading kind bins) [] ≡ record { head = first_head kind; entries = []; end = end_by None (first_head kind) [] }
+unfolding within_room reads_on
+first_rests form Cdf bins nothing = refl
+first_rests form Gul bins nothing = refl
+first_rests form Loss bins nothing = refl
+first_rests form Summary bins nothing = refl
+first_rests {E} form Events bins nothing = ap (λ (w : Walk E). record { head = first_head Events; entries = w.entries; end = w.end }) (no_record form (record { kind = Events; bins = bins }) (nothing (record { kind = Events; bins = bins }) 0 0))
 
 -- a reader that was given nothing
-pub fresh : {E : Type 0} (form : Form E) (shape : Shape) (held : List (Placed E)) (pending : List ℕ) → held ≡ [] → pending ≡ [] → Represents E form [] [] (running shape None held 0 pending)
-fresh form shape held pending none empty =
-    rw (none, empty) (represents_by form [] [] (running shape None [] 0 []) (λ more. refl) (nothing form shape) (refl, omega arith))
+pub fresh : {E : Type 0} (form : Form E) (shape : Shape) (held : List (Placed E)) (pending : List ℕ) → ((shape : Shape) (samples at : ℕ) → form.unit shape samples [] at ≡ Short) → held ≡ [] → pending ≡ [] → Represents E form [] [] (running shape (first_head shape.kind) held 0 pending)
+fresh form shape held pending nothing none empty =
+    rw (none, empty) (represents_by form [] [] (first_reading shape.kind shape.bins) (first_onward form shape.kind shape.bins) (first_rests form shape.kind shape.bins nothing) (refl, omega arith))
 
 place_at : (stop : Option StreamStop) (place bytes before : ℕ) → before ≡ bytes → IsFurther stop place before → IsAt stop place bytes
 place_at None place bytes before is further = (omega (arith, further.0, is), omega (arith, further.0, further.1, is))

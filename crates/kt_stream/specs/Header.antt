@@ -4,19 +4,20 @@ use Rattle.std.specs.Prelude.{◌≡◌, ℕ, ◌≤◌, ◌/◌, ◌%◌, List,
 use Rattle.byteorder.specs.Endian.{little_bytes}
 use Rattle.kt_stream.specs.declared.kind.Head.{Head}
 use Rattle.kt_stream.specs.declared.kind.StreamKind.{StreamKind}
-use Rattle.kt_stream.specs.declared.kind.StreamKind.TheVariants.{Cdf, Gul, Loss, Summary}
+use Rattle.kt_stream.specs.declared.kind.StreamKind.TheVariants.{Cdf, Gul, Loss, Summary, Events}
 use Rattle.kt_stream.specs.declared.read.HeaderFault.{HeaderFault}
 use Rattle.kt_stream.specs.declared.read.HeaderFault.TheVariants.{NotProfile, WrongStream, BadSamples, BadSet}
 use Rattle.kt_stream.specs.declared.read.Read.{Read}
 use Rattle.kt_stream.specs.declared.read.Read.TheVariants.{Got}
 use Rattle.kt_stream.specs.Read.{◌>>=◌, between, Field, fields_in, width_of}
 
--- the first byte of a stream of this kind
+-- the first byte of a stream of this kind; one that no stream has, where the kind has no header
 abbrev pub id_of : StreamKind → ℕ
 id_of Cdf = 0
 id_of Gul = 1
 id_of Loss = 2
 id_of Summary = 3
+id_of Events = 255
 
 -- what is wrong with the first four bytes as a number: its upper three bytes are the type 101, highest first, and the lowest is the kind
 abbrev pub mark_judge : StreamKind → ℕ → Option HeaderFault
@@ -40,6 +41,7 @@ header_fields Cdf = mark_field Cdf ∷ []
 header_fields Gul = mark_field Gul ∷ samples_field ∷ []
 header_fields Loss = mark_field Loss ∷ samples_field ∷ []
 header_fields Summary = mark_field Summary ∷ samples_field ∷ set_field ∷ []
+header_fields Events = []
 
 -- the bytes of the header of a kind
 abbrev pub header_size : StreamKind → ℕ
@@ -59,6 +61,7 @@ IsHead Cdf head = (head.samples ≡ 0) × (head.set ≡ 0)
 IsHead Gul head = (1 ≤ head.samples) × (head.samples ≤ 1000) × (head.set ≡ 0)
 IsHead Loss head = (1 ≤ head.samples) × (head.samples ≤ 1000) × (head.set ≡ 0)
 IsHead Summary head = (1 ≤ head.samples) × (head.samples ≤ 1000) × (1 ≤ head.set) × (head.set ≤ 9)
+IsHead Events head = (head.samples ≡ 0) × (head.set ≡ 0)
 
 -- the fields of a header behind the kind and the type
 abbrev pub head_bytes : StreamKind → Head → List ℕ
@@ -66,7 +69,21 @@ head_bytes Cdf head = []
 head_bytes Gul head = little_bytes 4 head.samples
 head_bytes Loss head = little_bytes 4 head.samples
 head_bytes Summary head = little_bytes 4 head.samples ++ little_bytes 4 head.set
+head_bytes Events head = []
 
--- a header is the stream's kind, the type 101 with its highest byte first, and its fields
+-- a stream's kind, and the type 101 with its highest byte first
+abbrev pub mark_bytes : StreamKind → List ℕ
+mark_bytes Events = []
+mark_bytes kind = id_of kind ∷ 0 ∷ 0 ∷ 101 ∷ []
+
+-- a header is the stream's kind, its type, and its fields
 abbrev pub header_bytes : StreamKind → Head → List ℕ
-header_bytes kind head = (id_of kind ∷ 0 ∷ 0 ∷ 101 ∷ []) ++ head_bytes kind head
+header_bytes kind head = mark_bytes kind ++ head_bytes kind head
+
+-- the header that a reader has before the first byte: only where the kind has none to be read
+abbrev pub first_head : StreamKind → Option Head
+first_head Cdf = None
+first_head Gul = None
+first_head Loss = None
+first_head Summary = None
+first_head Events = Some (record { samples = 0; set = 0 })

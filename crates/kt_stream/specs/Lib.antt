@@ -11,3 +11,4 @@ pub mod Reader
 pub mod Gather
 pub mod Write
 pub mod Bins
+pub mod EventIds

@@ -1,7 +1,7 @@
 //! The header at the front of a stream.
 //! The rules: docs/STREAMS.md, "Headers".
 ghost use Rattle.std.specs.Prelude.{◌≡◌, ◌≤◌, length};
-ghost use Rattle.kt_stream.specs.Header.{mark_judge, header_in, header_size};
+ghost use Rattle.kt_stream.specs.Header.{first_head, mark_judge, header_in, header_size};
 
 use crate::kind::{Head, StreamKind};
 use crate::number::{outside, u32_of};
@@ -21,6 +21,7 @@ pub fn header_length(kind: StreamKind) -> usize
         StreamKind::Cdf => 4,
         StreamKind::Gul | StreamKind::Loss => 8,
         StreamKind::Summary => 12,
+        StreamKind::Events => 0,
     }
 }
 
@@ -39,10 +40,23 @@ fn mark_fault(kind: StreamKind, word: u32) -> Option<HeaderFault>
     }
 }
 
+/// The header that a reader has before the first byte: only where the kind has none to be read.
+pub fn header_before(kind: StreamKind) -> Option<Head>
+    ensures { result ≡ first_head kind }
+{
+    match kind {
+        StreamKind::Events => Some(Head { samples: 0, set: 0 }),
+        _ => None,
+    }
+}
+
 /// The header of a stream of this kind at the front of the bytes.
 pub fn header_of(kind: StreamKind, bytes: &[u8]) -> Read<Head, HeaderFault>
     ensures { result ≡ header_in kind bytes.now }
 {
+    if let StreamKind::Events = kind {
+        return Read::Got(Head { samples: 0, set: 0 });
+    }
     if bytes.len() < 4 {
         return Read::Short;
     }

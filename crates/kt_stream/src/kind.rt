@@ -14,10 +14,12 @@ pub enum StreamKind {
     Loss,
     /// Losses of summary ids.
     Summary,
+    /// The ids of events alone, behind no header.
+    Events,
 }
 
 impl StreamKind {
-    /// The first byte of a stream of this kind.
+    /// The first byte of a stream of this kind; one that no stream has, where the kind has no header.
     pub(crate) fn id(self) -> u8
         ensures value { result ≡ id_of self }
     {
@@ -26,6 +28,7 @@ impl StreamKind {
             StreamKind::Gul => 1,
             StreamKind::Loss => 2,
             StreamKind::Summary => 3,
+            StreamKind::Events => 255,
         }
     }
 }

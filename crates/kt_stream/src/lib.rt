@@ -4,6 +4,7 @@
 mod bins;
 mod cdf;
 mod entry;
+mod event_id;
 mod gather;
 mod header;
 mod kind;
@@ -21,6 +22,7 @@ mod write;
 
 pub use cdf::CdfReader;
 pub use entry::{Bin, Bins, Cdf, LossRecord, Pair, Pairs, Placed, SummaryRecord};
+pub use event_id::{EventId, EventReader};
 pub use kind::{Head, Shape, StreamKind};
 pub use loss::LossReader;
 pub use reader::RecordReader;

@@ -7,6 +7,7 @@ ghost use Rattle.kt_stream.specs.Reader.{rest_end, stop_or_too_long};
 
 use crate::entry::Placed;
 use crate::gather::read_on;
+use crate::header::header_before;
 use crate::kind::{Head, Shape};
 use crate::stop::StreamStop;
 use crate::unit::Entry;
@@ -92,10 +93,11 @@ impl<E: Entry> RecordReader<E> {
         ensures value { Represents E E.form [] [] result }
         ensures shape { result.shape ≡ shape }
     {
+        E::laws();
         RecordReader {
             alloc,
             shape,
-            head: None,
+            head: header_before(shape.kind),
             held: VecDeque::new(alloc),
             stop: None,
             start: 0,

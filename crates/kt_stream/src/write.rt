@@ -31,6 +31,7 @@ pub fn put_head(out: &mut Bytes, kind: StreamKind, head: Head) -> Result<(), Out
         StreamKind::Cdf => out.append(&bytes[..4]),
         StreamKind::Gul | StreamKind::Loss => out.append(&bytes[..8]),
         StreamKind::Summary => out.append(&bytes),
+        StreamKind::Events => Ok(()),
     }
 }
 
