@@ -14,33 +14,32 @@ pub struct Pair {
     pub loss: u64,
 }
 
-/// A list of pairs.
+/// A list. Contracts see its items.
 #[derive(Debug, Drop)]
-pub struct Pairs {
-    items: Vec<Pair>,
+pub struct Items<T> {
+    items: Vec<T>,
 }
 
-impl Model for Pairs {
+impl<T> Model for Items<T> {
     ghost use Rattle.std.specs.Prelude.{List};
-    ghost use Rattle.kt_stream.specs.declared.entry.Pair.{Pair};
 
-    ghost Value = { List Pair };
+    ghost Value = { List T };
 
-    ghost view = { λ p. p.items.items };
+    ghost view = { λ list. list.items.items };
 }
 
-impl Pairs {
+impl<T: Drop> Items<T> {
     /// The empty list. Asks for no memory.
-    pub fn new(alloc: Global) -> Pairs
+    pub fn new(alloc: Global) -> Items<T>
         ensures value { result ≡ [] }
     {
-        Pairs {
+        Items {
             items: Vec::new(alloc),
         }
     }
 
-    /// Appends a pair. Refused only for want of memory, and the list is then as it was.
-    pub fn push(&mut self, item: Pair) -> Result<(), AllocError>
+    /// Appends an item. Refused only for want of memory, and the list is then as it was.
+    pub fn push(&mut self, item: T) -> Result<(), AllocError>
         ensures ok { OnOk result (self.new ≡ self.old ++ item ∷ []) }
 
         ensures memory { OnErr result (self.new ≡ self.old) }
@@ -49,7 +48,7 @@ impl Pairs {
         Ok(())
     }
 
-    /// Keeps the first `len` pairs.
+    /// Keeps the first `len` items.
     pub fn truncate(&mut self, len: usize)
         requires { len ≤ length self.old }
         ensures value { self.new ≡ take len self.old }
@@ -57,20 +56,23 @@ impl Pairs {
         self.items.truncate(len);
     }
 
-    /// The pairs in order.
-    pub fn as_slice(&self) -> &[Pair]
+    /// The items in order.
+    pub fn as_slice(&self) -> &[T]
         ensures value { result.now ≡ self.now }
     {
         self.items.as_slice()
     }
 
     /// The list that a vector holds. Takes no memory.
-    pub(crate) fn from_vec(items: Vec<Pair>) -> Pairs
+    pub fn from_vec(items: Vec<T>) -> Items<T>
         ensures value { result ≡ items.items }
     {
-        Pairs { items }
+        Items { items }
     }
 }
+
+/// The pairs of a record, in order.
+pub type Pairs = Items<Pair>;
 
 /// A bin of a damage distribution.
 #[derive(Clone, Copy, Debug, PartialEq, Eq)]
@@ -81,63 +83,8 @@ pub struct Bin {
     pub mean: u32,
 }
 
-/// A list of bins.
-#[derive(Debug, Drop)]
-pub struct Bins {
-    items: Vec<Bin>,
-}
-
-impl Model for Bins {
-    ghost use Rattle.std.specs.Prelude.{List};
-    ghost use Rattle.kt_stream.specs.declared.entry.Bin.{Bin};
-
-    ghost Value = { List Bin };
-
-    ghost view = { λ b. b.items.items };
-}
-
-impl Bins {
-    /// The empty list. Asks for no memory.
-    pub fn new(alloc: Global) -> Bins
-        ensures value { result ≡ [] }
-    {
-        Bins {
-            items: Vec::new(alloc),
-        }
-    }
-
-    /// Appends a bin. Refused only for want of memory, and the list is then as it was.
-    pub fn push(&mut self, item: Bin) -> Result<(), AllocError>
-        ensures ok { OnOk result (self.new ≡ self.old ++ item ∷ []) }
-
-        ensures memory { OnErr result (self.new ≡ self.old) }
-    {
-        self.items.push(item)?;
-        Ok(())
-    }
-
-    /// Keeps the first `len` bins.
-    pub fn truncate(&mut self, len: usize)
-        requires { len ≤ length self.old }
-        ensures value { self.new ≡ take len self.old }
-    {
-        self.items.truncate(len);
-    }
-
-    /// The bins in order.
-    pub fn as_slice(&self) -> &[Bin]
-        ensures value { result.now ≡ self.now }
-    {
-        self.items.as_slice()
-    }
-
-    /// The list that a vector holds. Takes no memory.
-    pub(crate) fn from_vec(items: Vec<Bin>) -> Bins
-        ensures value { result ≡ items.items }
-    {
-        Bins { items }
-    }
-}
+/// The bins of a distribution, in order.
+pub type Bins = Items<Bin>;
 
 /// The damage distribution of one area peril and vulnerability in one event.
 #[derive(Debug, Drop)]
