@@ -32,10 +32,10 @@ fn open_stage<H, E, W, T: Stage<H, E, W>, K: Sink>(
     out: &mut Bytes,
 ) -> Result<(), ToolStop>
     requires accepted { T.accepts head }
-    requires ready { T.is_ready None stage.old }
+    requires ready { T.is_ready None stage.old beside.old }
 
     ensures course { (before : Option (List ℕ)) (course : Course T.State Refusal) → Stands (λ state. T.is_at state stage.old beside.old) before (K.state sink.now).taken out.old course → Comes (λ state. T.is_at state stage.new beside.new) before (K.state sink.now).taken out.new (opened T.calculation head course) result }
-    ensures ready { OnOk result (T.is_ready (Some head) stage.new) }
+    ensures ready { OnOk result (T.is_ready (Some head) stage.new beside.new) }
     ensures counted { (others : InputsState) → Counts (T.inputs others beside.old) (T.inputs others beside.new) (K.state sink.now).faults (K.state sink.now).faults result }
 {
     stage.open(beside, head, out)
@@ -52,10 +52,10 @@ fn take_one<H, E, W, T: Stage<H, E, W>, K: Sink>(
 ) -> Result<(), ToolStop>
     requires accepted { T.accepts head }
     requires good { T.is_good head placed }
-    requires ready { T.is_ready (Some head) stage.old }
+    requires ready { T.is_ready (Some head) stage.old beside.old }
 
     ensures course { (before : Option (List ℕ)) (course : Course T.State Refusal) → Stands (λ state. T.is_at state stage.old beside.old) before (K.state sink.old).taken out.old course → Comes (λ state. T.is_at state stage.new beside.new) before (K.state sink.new).taken out.new (took T.calculation head course placed) result }
-    ensures ready { OnOk result (T.is_ready (Some head) stage.new) }
+    ensures ready { OnOk result (T.is_ready (Some head) stage.new beside.new) }
     ensures counted { (others : InputsState) → Counts (T.inputs others beside.old) (T.inputs others beside.new) (K.state sink.old).faults (K.state sink.new).faults result }
 {
     let Placed { at, entry } = placed;
@@ -79,12 +79,12 @@ fn take_held<R: StreamReader, W, T: Stage<R::Head, R::Entry, W>, K: Sink>(
 ) -> Result<(), ToolStop>
     requires accepted { T.accepts head }
     requires good { AllByRecursion (T.is_good head) (R.held reader.old) }
-    requires ready { T.is_ready (Some head) stage.old }
+    requires ready { T.is_ready (Some head) stage.old beside.old }
 
     ensures course { (before : Option (List ℕ)) (course : Course T.State Refusal) → Stands (λ state. T.is_at state stage.old beside.old) before (K.state sink.old).taken out.old course → Comes (λ state. T.is_at state stage.new beside.new) before (K.state sink.new).taken out.new (took_all T.calculation head course (R.held reader.old)) result }
     ensures taken { OnOk result ((contents : List ℕ → Contents R.Head R.Entry) (fed : List ℕ) (taken : List (Placed R.Entry)) → R.represents contents fed taken reader.old → R.represents contents fed (taken ++ R.held reader.old) reader.new) }
     ensures header { R.header reader.new ≡ R.header reader.old }
-    ensures ready { OnOk result (T.is_ready (Some head) stage.new) }
+    ensures ready { OnOk result (T.is_ready (Some head) stage.new beside.new) }
     ensures counted { (others : InputsState) → Counts (T.inputs others beside.old) (T.inputs others beside.new) (K.state sink.old).faults (K.state sink.new).faults result }
 {
     'records: while let Some(placed) = reader.take() {
@@ -106,12 +106,12 @@ pub(crate) fn carry_on<R: StreamReader, W, T: Stage<R::Head, R::Entry, W>, K: Si
     out: &mut Bytes,
 ) -> Result<(), ToolStop>
     requires good { AreGood T.accepts T.is_good (R.header reader.old) (R.held reader.old) }
-    requires ready { T.is_ready (header_if was_open (R.header reader.old)) stage.old }
+    requires ready { T.is_ready (header_if was_open (R.header reader.old)) stage.old beside.old }
 
     ensures course { (before : Option (List ℕ)) (course : Course T.State Refusal) → Stands (λ state. T.is_at state stage.old beside.old) before (K.state sink.old).taken out.old course → Comes (λ state. T.is_at state stage.new beside.new) before (K.state sink.new).taken out.new (carried T.calculation was_open (R.header reader.old) course (R.held reader.old)) result }
     ensures taken { OnOk result ((contents : List ℕ → Contents R.Head R.Entry) (fed : List ℕ) (taken : List (Placed R.Entry)) → R.represents contents fed taken reader.old → R.represents contents fed (contents fed).entries reader.new) }
     ensures header { R.header reader.new ≡ R.header reader.old }
-    ensures ready { OnOk result (T.is_ready (R.header reader.new) stage.new) }
+    ensures ready { OnOk result (T.is_ready (R.header reader.new) stage.new beside.new) }
     ensures counted { (others : InputsState) → Counts (T.inputs others beside.old) (T.inputs others beside.new) (K.state sink.old).faults (K.state sink.new).faults result }
 {
     R::what_is_read_stays();

@@ -23,8 +23,8 @@ pub trait Stage<H, E, W> {
     /// It stands at this state. Where files are asked that are not known it may stand at none.
     ghost is_at: { State → Self → W → Type 0 };
 
-    /// It is ready for a header, or for the records behind this one.
-    ghost is_ready: { Option H → Self → Type 0 };
+    /// It is ready for a header, or for the records behind this one, with what it asks beside.
+    ghost is_ready: { Option H → Self → W → Type 0 };
 
     /// A header that it can take.
     ghost accepts: { H → Type 0 };
@@ -38,10 +38,10 @@ pub trait Stage<H, E, W> {
     /// Appends what is written at the header.
     fn open(&mut self, beside: &mut W, head: H, out: &mut Bytes) -> Result<(), ToolStop>
         requires accepted { accepts head }
-        requires ready { is_ready None self.old }
+        requires ready { is_ready None self.old beside.old }
 
         ensures step { (state : State) → is_at state self.old beside.old → StepsBy (calculation.opens head state) (λ next. is_at next self.new beside.new) out.old out.new result }
-        ensures ready { OnOk result (is_ready (Some head) self.new) }
+        ensures ready { OnOk result (is_ready (Some head) self.new beside.new) }
         ensures counted { (others : InputsState) → Consults (inputs others beside.old) (inputs others beside.new) result };
 
     /// Appends what is written at a record, which begins at this byte of the stream.
@@ -55,16 +55,16 @@ pub trait Stage<H, E, W> {
     ) -> Result<(), ToolStop>
         requires accepted { accepts head }
         requires good { is_good head (record { at = at; entry = entry }) }
-        requires ready { is_ready (Some head) self.old }
+        requires ready { is_ready (Some head) self.old beside.old }
 
         ensures step { (state : State) → is_at state self.old beside.old → StepsBy (calculation.takes head state (record { at = at; entry = entry })) (λ next. is_at next self.new beside.new) out.old out.new result }
-        ensures ready { OnOk result (is_ready (Some head) self.new) }
+        ensures ready { OnOk result (is_ready (Some head) self.new beside.new) }
         ensures counted { (others : InputsState) → Consults (inputs others beside.old) (inputs others beside.new) result };
 
     /// Appends what is written at the end of the stream.
     fn end(&mut self, beside: &mut W, head: H, out: &mut Bytes) -> Result<(), ToolStop>
         requires accepted { accepts head }
-        requires ready { is_ready (Some head) self.old }
+        requires ready { is_ready (Some head) self.old beside.old }
 
         ensures end { (state : State) → is_at state self.old beside.old → EndsWith (calculation.ends head state) out.old out.new result }
         ensures counted { (others : InputsState) → Consults (inputs others beside.old) (inputs others beside.new) result };

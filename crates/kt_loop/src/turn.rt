@@ -44,11 +44,11 @@ pub(crate) fn begin<R: StreamReader, W, T: Stage<R::Head, R::Entry, W>, K: Sink>
 ) -> Result<(), ToolStop>
     requires fresh { IsFresh R.represents reader.old }
     requires good { ReadsGood R.represents T.accepts T.is_good [] reader.old }
-    requires ready { T.is_ready None stage.old }
+    requires ready { T.is_ready None stage.old beside.old }
 
     ensures stands { IfOk result (λ done. (contents : List ℕ → Contents R.Head R.Entry) → R.represents contents [] [] reader.old → R.represents contents [] (contents []).entries reader.new) }
     ensures course { (contents : List ℕ → Contents R.Head R.Entry) (before : Option (List ℕ)) (start : T.State) → R.represents contents [] [] reader.old → Stands {R = Refusal} (λ state. T.is_at state stage.old beside.old) before (K.state sink.old).taken out.old (started start) → Comes (λ state. T.is_at state stage.new beside.new) before (K.state sink.new).taken out.new (course_of T.calculation start (contents []).head (contents []).entries) result }
-    ensures ready { IfOk result (λ done. T.is_ready (R.header reader.new) stage.new) }
+    ensures ready { IfOk result (λ done. T.is_ready (R.header reader.new) stage.new beside.new) }
     ensures counted { (others : InputsState) → Counts (T.inputs others beside.old) (T.inputs others beside.new) (K.state sink.old).faults (K.state sink.new).faults result }
 {
     R::what_is_held_was_read();
@@ -65,11 +65,11 @@ pub(crate) fn turn<R: StreamReader, W, T: Stage<R::Head, R::Entry, W>, K: Sink>(
     out: &mut Bytes,
 ) -> Result<Option<StreamStop>, ToolStop>
     requires stood { Stood R.represents T.accepts T.is_good reader.old }
-    requires ready { T.is_ready (R.header reader.old) stage.old }
+    requires ready { T.is_ready (R.header reader.old) stage.old beside.old }
 
     ensures stands { IfOk result (λ stop. (contents : List ℕ → Contents R.Head R.Entry) (fed : List ℕ) → R.represents contents fed (contents fed).entries reader.old → FeedsBy contents (R.represents contents) stop (fed ++ piece.now) (contents (fed ++ piece.now)).entries reader.new) }
     ensures course { (contents : List ℕ → Contents R.Head R.Entry) (before : Option (List ℕ)) (fed : List ℕ) (start : T.State) → R.represents contents fed (contents fed).entries reader.old → Stands (λ state. T.is_at state stage.old beside.old) before (K.state sink.old).taken out.old (course_of T.calculation start (contents fed).head (contents fed).entries) → Comes (λ state. T.is_at state stage.new beside.new) before (K.state sink.new).taken out.new (course_of T.calculation start (contents (fed ++ piece.now)).head (contents (fed ++ piece.now)).entries) result }
-    ensures ready { IfOk result (λ stop. T.is_ready (R.header reader.new) stage.new) }
+    ensures ready { IfOk result (λ stop. T.is_ready (R.header reader.new) stage.new beside.new) }
     ensures counted { (others : InputsState) → Counts (T.inputs others beside.old) (T.inputs others beside.new) (K.state sink.old).faults (K.state sink.new).faults result }
 {
     R::what_is_read_stays();
@@ -94,7 +94,7 @@ pub(crate) fn finish<R: StreamReader, W, T: Stage<R::Head, R::Entry, W>, K: Sink
     out: &mut Bytes,
 ) -> Result<(), ToolStop>
     requires stood { Stood R.represents T.accepts T.is_good reader.old }
-    requires ready { T.is_ready (R.header reader.old) stage.old }
+    requires ready { T.is_ready (R.header reader.old) stage.old beside.old }
 
     ensures course { (contents : List ℕ → Contents R.Head R.Entry) (before : Option (List ℕ)) (fed : List ℕ) (start : T.State) → R.represents contents fed (contents fed).entries reader.old → Stands (λ state. T.is_at state stage.old beside.old) before (K.state sink.now).taken out.old (course_of T.calculation start (contents fed).head (contents fed).entries) → Settles (outcome T.calculation start (contents fed)) before (K.state sink.now).taken out.new result }
     ensures counted { (others : InputsState) → Counts (T.inputs others beside.old) (T.inputs others beside.new) (K.state sink.now).faults (K.state sink.now).faults result }

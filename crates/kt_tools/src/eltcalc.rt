@@ -38,7 +38,7 @@ impl Stage<Head, SummaryRecord, ()> for EventLosses {
 
     ghost is_at = { λ heading stage _. stage.heading ≡ heading };
 
-    ghost is_ready = { λ _ _. Unit {0} };
+    ghost is_ready = { λ _ _ _. Unit {0} };
 
     ghost accepts = { IsHead Summary };
 

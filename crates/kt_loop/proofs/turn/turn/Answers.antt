@@ -31,7 +31,7 @@ carry_on-requires-clause-ready g c =
     let read = c.what_is_held_was_read.ensures contents fed _ c.args.reader.now c.requires.stood.stands in
     let read_now = c.what_is_held_was_read.ensures contents _ _ c.feed_piece.new.reader stands in
     let stays = header_stays _ _ _ _ _ _ _ _ read read_now (c.what_is_read_stays.ensures contents fed _ c.args.reader.now c.requires.stood.stands fed c.args.piece.now) in
-    subst (λ (header : Option g.row.R-Head.Denot). g.T.Stage.is_ready header c.args.stage.now)
+    subst (λ (header : Option g.row.R-Head.Denot). g.T.Stage.is_ready header c.args.stage.now c.args.beside.now)
     (sym (ap (λ (was : Bool). header_if was (g.R.StreamReader.header c.feed_piece.new.reader)) (c.is_some-was_open.ensures ∙ ap (λ (header : Option g.row.R-Head.Denot). is_some header) c.head.ensures) ∙ header_was _ _ stays)) c.requires.ready
 
 pub returns-in-Err-carry_on-clause-course : goal.returns-in-Err-carry_on-clause-course
