@@ -44,13 +44,6 @@ gathers_one form shape h start bytes from records now used size e lawful gathers
           ∙ rw (drop-append-le (length (form.bytes e)) (drop used bytes) more sized.1, drop-drop (length (form.bytes e)) used bytes, place) refl);
     }
 
--- what a record that was read leaves
-pub gathers_less : {E : Type 0} {Good : Shape → ℕ → E → Type 0} (form : Form E) (shape : Shape) (h : Head) (start : ℕ) (bytes : List ℕ) (used : ℕ) (e : E) → IsLawful E form Good
-    → used ≤ length bytes → form.unit shape h.samples (drop used bytes) (start + used) ≡ Got e → (1 ≤ length (form.bytes e)) × (used + length (form.bytes e) ≤ length bytes)
-gathers_less form shape h start bytes used e lawful within is =
-    let sized = lawful.sized shape h.samples (drop used bytes) (start + used) e is in
-    (sized.0, omega (arith, sized.1, length-drop used bytes))
-
 -- what is read with more bytes behind them
 abbrev pub behind_header : {E : Type 0} → Form E → Shape → Head → ℕ → List ℕ → ℕ → List ℕ → Stream E
 behind_header form shape h start bytes from more = reads_on form shape (Some h) (start + from) (drop from bytes ++ more)
@@ -85,14 +78,6 @@ moves_as : {E : Type 0} (stop : Option StreamStop) (form : Form E) (shape : Shap
     → ((more : List ℕ) → other more ≡ whole more) → MovesBy E stop form shape whole start bytes head records used → MovesBy E stop form shape other start bytes head records used
 moves_as None form shape whole other start bytes head records used same moves = record { onward = λ more. same more ∙ moves.onward more; rests = moves.rests }
 moves_as (Some stop) form shape whole other start bytes head records used same moves = record { kind = moves.kind; onward = λ more. same more ∙ moves.onward more }
-
--- behind a header that was known
-pub moved_known : {E : Type 0} (form : Form E) (shape : Shape) (h : Head) (start : ℕ) (bytes : List ℕ) (moved : Moved E) → Moves E form shape (behind_header form shape h start bytes 0) start bytes moved
-    → Moves E form shape (from_start form shape (Some h) start bytes) start bytes moved
-moved_known form shape h start bytes moved moves = record {
-  within = moves.within;
-  by = moves_as moved.stop form shape (behind_header form shape h start bytes 0) (from_start form shape (Some h) start bytes) start bytes moved.head moved.records.items moved.used (λ more. rw (add-zero start) refl) moves.by;
-}
 
 -- from a header on
 pub moved_header : {E : Type 0} (form : Form E) (shape : Shape) (h : Head) (start : ℕ) (bytes : List ℕ) (moved : Moved E) → header_in shape.kind bytes ≡ Got h

@@ -16,3 +16,5 @@ pub mod Fitting
 pub mod Growing
 pub mod Spelling
 pub mod Writing
+pub mod BinsRead
+pub mod Distributions

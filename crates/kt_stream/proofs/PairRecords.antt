@@ -31,7 +31,7 @@ pub record PairRecordRead (E : Type 0) (fields : List (Field Misfit)) (make : Li
   pub written : samples ≤ 1000 → AreBytes bytes → AreWide fields → bytes ≡ fields_then fields values (pairs_bytes pairs) ++ drop (width_of fields + pairs_size pairs) bytes
 
 -- bytes behind others behind fields
-fields_before : {W : Type 0} (fields : List (Field W)) (values first rest : List ℕ) → fields_then fields values (first ++ rest) ≡ fields_then fields values first ++ rest
+pub fields_before : {W : Type 0} (fields : List (Field W)) (values first rest : List ℕ) → fields_then fields values (first ++ rest) ≡ fields_then fields values first ++ rest
 fields_before [] values first rest = refl
 fields_before (f ∷ fields) [] first rest = refl
 fields_before (f ∷ fields) (x ∷ values) first rest =

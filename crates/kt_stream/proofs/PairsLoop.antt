@@ -16,8 +16,9 @@ pub record PairsGo (samples : ℕ) (bytes : List ℕ) (at : ℕ) (pairs : List P
   pub low : least ≤ samples + 3
   pub onward : pairs_in (samples + 4) samples 0 bytes at ≡ in_front pairs (pairs_in left samples least (drop used bytes) (at + used))
 
-front_none : (r : Read (List Pair) Misfit) → in_front [] r ≡ r
-front_none (Got pairs) = refl
+-- nothing in front of values
+pub front_none : {A : Type 0} (r : Read (List A) Misfit) → in_front [] r ≡ r
+front_none (Got values) = refl
 front_none Short = refl
 front_none (Wrong m) = refl
 
@@ -29,10 +30,11 @@ pairs_begin samples bytes at pairs left none all = record {
   onward = rw (none, add-zero at, all) (sym (front_none (pairs_in (samples + 4) samples 0 bytes at)));
 }
 
-front_more : (pairs : List Pair) (p : Pair) (r : Read (List Pair) Misfit) → in_front pairs (in_front (p ∷ []) r) ≡ in_front (pairs ++ p ∷ []) r
-front_more pairs p (Got more) = ap (λ (ps : List Pair). Got ps) (sym (append_assoc pairs (p ∷ []) more))
-front_more pairs p Short = refl
-front_more pairs p (Wrong m) = refl
+-- one value more in front of others
+pub front_more : {A : Type 0} (front : List A) (x : A) (r : Read (List A) Misfit) → in_front front (in_front (x ∷ []) r) ≡ in_front (front ++ x ∷ []) r
+front_more {A} front x (Got more) = ap (λ (xs : List A). Got xs) (sym (append_assoc front (x ∷ []) more))
+front_more front x Short = refl
+front_more front x (Wrong m) = refl
 
 -- a pair was read: its bytes, and what its sidx is
 pub pair_step : (samples : ℕ) (bytes : List ℕ) (at : ℕ) (pairs : List Pair) (least used left : ℕ) (p : RawPair) → PairsGo samples bytes at pairs least used left → pair_in samples least (drop used bytes) (at + used) ≡ Got p

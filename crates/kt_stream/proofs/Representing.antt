@@ -10,8 +10,8 @@ use Rattle.kt_stream.specs.declared.kind.Shape.{Shape}
 use Rattle.kt_stream.specs.declared.stop.StreamStop.{StreamStop}
 use Rattle.kt_stream.specs.declared.stop.StreamStop.TheVariants.{NotProfile, WrongStream, BadSamples, BadSet, BadRecord, TooLong, Cut, OutOfMemory}
 use Rattle.kt_stream.specs.Stop.{IsRefusal}
-use Rattle.kt_stream.specs.Stream.{Form, End, Partial, Refused, Stream, after, reads_on, overlong, too_long, within_room, stream_of, stream_limit, refusal, fault_at}
-use Rattle.kt_stream.specs.Reader.{Reading, refused, goes_on, stream_by, stream_from, rest_end, end_by, stop_or_too_long, IsAt, Represents, Stands, IsFurther, Absorbs, Extends, Feeds, Ends}
+use Rattle.kt_stream.specs.Stream.{Form, End, Partial, Refused, Stream, after, reads_on, overlong, too_long, within_room, stream_of, stream_limit, refusal}
+use Rattle.kt_stream.specs.Reader.{Reading, refused, goes_on, stream_by, stream_from, rest_end, end_by, stop_or_too_long, IsAt, Represents, Stands, IsFurther, Absorbs, Extends, Feeds}
 use Rattle.kt_stream.specs.Gather.{MovesBy}
 use Rattle.kt_stream.proofs.Heading.{header_nothing}
 
@@ -95,14 +95,22 @@ moves_absorbs form shape head held start bytes now records (Some stop) used with
 further_as : (stop : Option StreamStop) (place before other : ℕ) → before ≡ other → IsFurther stop place before → IsFurther stop place other
 further_as stop place before other is further = rw (← is) further
 
+-- a reader with nothing pending
+abbrev pub emptied : {E : Type 0} → Reading E → Reading E
+emptied r = record { shape = r.shape; head = r.head; held = r.held; stop = r.stop; start = r.start; pending = [] }
+
+joined : {E : Type 0} (stop : Option StreamStop) (form : Form E) (old : Reading E) (piece bytes more : List ℕ) → bytes ≡ old.pending ++ piece → stream_by stop form old (piece ++ more) ≡ stream_by stop form (emptied old) (bytes ++ more)
+joined None form old piece bytes more is =
+    ap (λ (xs : List ℕ). after old.held (goes_on form old.shape old.head old.start xs)) (sym (append_assoc old.pending piece more) ∙ ap (λ (xs : List ℕ). xs ++ more) (sym is))
+joined (Some stop) form old piece bytes more is = refl
+
 -- what was pending with a piece behind it
-pub joined_absorbs : {E : Type 0} (form : Form E) (shape : Shape) (head : Option Head) (held : List (Placed E)) (start : ℕ) (pending piece bytes : List ℕ) (new : Reading E) → bytes ≡ pending ++ piece
-    → Absorbs E form (running shape head held start []) bytes new → Absorbs E form (running shape head held start pending) piece new
-joined_absorbs form shape head held start pending piece bytes new is absorbs = record {
+pub joined_absorbs : {E : Type 0} (form : Form E) (old : Reading E) (piece bytes : List ℕ) (new : Reading E) → bytes ≡ old.pending ++ piece → Absorbs E form (emptied old) bytes new → Absorbs E form old piece new
+joined_absorbs form old piece bytes new is absorbs = record {
   shape = absorbs.shape;
-  onward = λ more. ap (λ (xs : List ℕ). after held (goes_on form shape head start xs)) (sym (append_assoc pending piece more) ∙ ap (λ (xs : List ℕ). xs ++ more) (sym is)) ∙ absorbs.onward more;
+  onward = λ more. joined old.stop form old piece bytes more is ∙ absorbs.onward more;
   rests = absorbs.rests;
-  place = further_as new.stop (new.start + length new.pending) (start + 0 + length bytes) (start + length pending + length piece) (omega (arith, length-append pending piece, ap length is)) absorbs.place;
+  place = further_as new.stop (new.start + length new.pending) (old.start + 0 + length bytes) (old.start + length old.pending + length piece) (omega (arith, length-append old.pending piece, ap length is)) absorbs.place;
 }
 
 rests_too_long : (head : Option Head) (pending : List ℕ) → too_long (rest_end head pending) ≡ Refused TooLong
@@ -257,19 +265,6 @@ pub feeds_verdict : {E : Type 0} (form : Form E) (old : Reading E) (piece : List
     → Absorbs E form old piece new → Feeds E form old piece answer new
 feeds_verdict form old piece (Ok done) new is none absorbs = (is, absorbs.shape, absorbs_extends form old piece new none absorbs)
 feeds_verdict form old piece (Err stop) new is none absorbs = feeds_by form old piece stop new is.1 is.0 absorbs.shape (absorbs_extends form old piece new none absorbs)
-
--- where nothing refused the stream, its fault is how what is pending ends
-pub cut_ends : {E : Type 0} (form : Form E) (r : Reading E) (byte : ℕ) (fault : Option StreamStop) → r.stop ≡ None → byte ≡ r.start + length r.pending → fault ≡ fault_at byte (rest_end r.head r.pending) → Ends E form r fault
-cut_ends form r byte fault none at-byte fault-is = λ bytes taken rep.
-    let ends : (stream_of form r.shape bytes).end ≡ rest_end r.head r.pending = rw none at rep.ends in
-    let long : byte ≡ length bytes = at-byte ∙ (before_at r.stop (r.start + length r.pending) (length bytes) none rep.place).0 in
-    rw ends (ap (λ (n : ℕ). fault_at n (rest_end r.head r.pending)) (sym long) ∙ sym fault-is)
-
--- what refused the stream is its first fault
-pub stopped_ends : {E : Type 0} (form : Form E) (r : Reading E) (stop : StreamStop) → r.stop ≡ Some stop → Ends E form r (Some stop)
-stopped_ends form r stop is = λ bytes taken rep.
-    let ends : (stream_of form r.shape bytes).end ≡ Refused stop = rw is at rep.ends in
-    rw ends refl
 
 -- ---- a record is taken
 

@@ -10,3 +10,4 @@ pub mod Grammar
 pub mod Reader
 pub mod Gather
 pub mod Write
+pub mod Bins

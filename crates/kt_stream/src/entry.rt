@@ -72,6 +72,86 @@ impl Pairs {
     }
 }
 
+/// A bin of a damage distribution.
+#[derive(Clone, Copy, Debug, PartialEq, Eq)]
+pub struct Bin {
+    /// The cumulative probability up to this bin's upper end, at most 1,002,001,000,000.
+    pub prob_to: u64,
+    /// The mean damage of the bin in millionths, at most 1,000,000.
+    pub mean: u32,
+}
+
+/// A list of bins.
+#[derive(Debug, Drop)]
+pub struct Bins {
+    items: Vec<Bin>,
+}
+
+impl Model for Bins {
+    ghost use Rattle.std.specs.Prelude.{List};
+    ghost use Rattle.kt_stream.specs.declared.entry.Bin.{Bin};
+
+    ghost Value = { List Bin };
+
+    ghost view = { λ b. b.items.items };
+}
+
+impl Bins {
+    /// The empty list. Asks for no memory.
+    pub fn new(alloc: Global) -> Bins
+        ensures value { result ≡ [] }
+    {
+        Bins {
+            items: Vec::new(alloc),
+        }
+    }
+
+    /// Appends a bin. Refused only for want of memory, and the list is then as it was.
+    pub fn push(&mut self, item: Bin) -> Result<(), AllocError>
+        ensures ok { OnOk result (self.new ≡ self.old ++ item ∷ []) }
+
+        ensures memory { OnErr result (self.new ≡ self.old) }
+    {
+        self.items.push(item)?;
+        Ok(())
+    }
+
+    /// Keeps the first `len` bins.
+    pub fn truncate(&mut self, len: usize)
+        requires { len ≤ length self.old }
+        ensures value { self.new ≡ take len self.old }
+    {
+        self.items.truncate(len);
+    }
+
+    /// The bins in order.
+    pub fn as_slice(&self) -> &[Bin]
+        ensures value { result.now ≡ self.now }
+    {
+        self.items.as_slice()
+    }
+
+    /// The list that a vector holds. Takes no memory.
+    pub(crate) fn from_vec(items: Vec<Bin>) -> Bins
+        ensures value { result ≡ items.items }
+    {
+        Bins { items }
+    }
+}
+
+/// The damage distribution of one area peril and vulnerability in one event.
+#[derive(Debug, Drop)]
+pub struct Cdf {
+    /// The event's id, from 1 to 2,147,483,647.
+    pub event: u32,
+    /// The area peril's id, from 1 to 2,147,483,647.
+    pub areaperil: u32,
+    /// The vulnerability's id, from 1 to 2,147,483,647.
+    pub vulnerability: u32,
+    /// The bins, by rising probability.
+    pub bins: Bins,
+}
+
 /// The losses of one item, or of one output of a programme, in one event.
 #[derive(Debug, Drop)]
 pub struct LossRecord {

@@ -1,6 +1,8 @@
 //! The streams between the tools: their records, how they are written, and readers that take them in pieces of any size.
 #![tactic(auto)]
 
+mod bins;
+mod cdf;
 mod entry;
 mod gather;
 mod header;
@@ -17,11 +19,12 @@ mod summary;
 mod unit;
 mod write;
 
-pub use entry::{LossRecord, Pair, Pairs, Placed, SummaryRecord};
+pub use cdf::CdfReader;
+pub use entry::{Bin, Bins, Cdf, LossRecord, Pair, Pairs, Placed, SummaryRecord};
 pub use kind::{Head, Shape, StreamKind};
 pub use loss::LossReader;
 pub use reader::RecordReader;
 pub use stop::{RecordCause, StreamStop};
 pub use summary::SummaryReader;
 pub use unit::Entry;
-pub use write::{put_head, put_loss, put_summary};
+pub use write::{put_cdf, put_head, put_loss, put_summary};

@@ -1,6 +1,7 @@
 //! The types of this crate may be sent to threads and shared by them.
 //! The rules: docs/STREAMS.md, "Readers".
-use crate::entry::{LossRecord, Pair, Pairs, Placed, SummaryRecord};
+use crate::cdf::CdfReader;
+use crate::entry::{Bin, Bins, Cdf, LossRecord, Pair, Pairs, Placed, SummaryRecord};
 use crate::kind::{Head, StreamKind};
 use crate::loss::LossReader;
 use crate::stop::{RecordCause, StreamStop};
@@ -22,6 +23,14 @@ pub(crate) fn values_are_shared(
     is_shared(pairs);
     is_shared(entry);
     is_shared(loss);
+}
+
+/// Each type once: the values of a stream of distributions, and its reader.
+pub(crate) fn distributions_are_shared(bin: &Bin, bins: &Bins, cdf: &Cdf, reader: &CdfReader) {
+    is_shared(bin);
+    is_shared(bins);
+    is_shared(cdf);
+    is_shared(reader);
 }
 
 /// Each type once: a reader and what it answers.

@@ -22,6 +22,12 @@ pub enum RecordCause {
     Loss,
     /// The loss beside sidx 0 is not 0.
     End,
+    /// A number of bins is 0, above 1,000, or above that of the damage bins.
+    Bins,
+    /// A probability is below the one before, or too high, or the last is not above the one before.
+    Prob,
+    /// A mean is above 1,000,000.
+    Mean,
 }
 
 /// Why a stream is refused.

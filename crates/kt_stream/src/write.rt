@@ -6,11 +6,12 @@ ghost use Rattle.byteorder.specs.Endian.{little_bytes};
 ghost use Rattle.kt_stream.specs.declared.read.Read.TheVariants.{Got};
 ghost use Rattle.kt_stream.specs.Header.{header_bytes, header_in, IsHead};
 ghost use Rattle.kt_stream.specs.Pairs.{pairs_bytes, pair_bytes};
+ghost use Rattle.kt_stream.specs.Bins.{bins_bytes, cdf_bytes, cdf_in, IsCdf};
 ghost use Rattle.kt_stream.specs.Losses.{loss_bytes, loss_in, IsLoss};
 ghost use Rattle.kt_stream.specs.Summary.{summary_bytes, summary_in, IsSummary};
 ghost use Rattle.kt_stream.specs.Write.{BeginsWith};
 
-use crate::entry::{LossRecord, Pair, SummaryRecord};
+use crate::entry::{Bin, Cdf, LossRecord, Pair, SummaryRecord};
 use crate::kind::{Head, StreamKind};
 use byteorder::{ByteOrder, LittleEndian};
 use kt_money::{Bytes, OutOfMemory};
@@ -60,6 +61,62 @@ pub fn put_loss(out: &mut Bytes, entry: &LossRecord) -> Result<(), OutOfMemory>
     LittleEndian::write_u32(&mut front, entry.event);
     LittleEndian::write_u32(&mut front[4..], entry.id);
     put_pair_record(out, &front, entry.pairs.as_slice())
+}
+
+/// Appends a damage distribution. An error is want of memory, and nothing is appended then. A distribution in its
+/// ranges is read back, at any place and whatever follows it.
+pub fn put_cdf(out: &mut Bytes, cdf: &Cdf) -> Result<(), OutOfMemory>
+    ensures ok { OnOk result (out.new ≡ out.old ++ cdf_bytes cdf.now) }
+    ensures back { (most : ℕ) (rest : List ℕ) (at : ℕ) → IsCdf most cdf.now → cdf_in most (cdf_bytes cdf.now ++ rest) at ≡ Got cdf.now }
+
+    ensures unchanged { OnErr result (out.new ≡ out.old) }
+{
+    let bins = cdf.bins.as_slice();
+    let mut front = [0; 20];
+    LittleEndian::write_u32(&mut front, cdf.event);
+    LittleEndian::write_u32(&mut front[4..], cdf.areaperil);
+    LittleEndian::write_u32(&mut front[8..], cdf.vulnerability);
+    LittleEndian::write_u64(&mut front[12..], bins.len() as u64);
+    put_bin_record(out, &front[..16], bins)
+}
+
+/// Appends the fields of a distribution and the bins behind them, whole or not at all.
+fn put_bin_record(out: &mut Bytes, fields: &[u8], bins: &[Bin]) -> Result<(), OutOfMemory>
+    ensures ok { OnOk result (out.new ≡ out.old ++ (fields.now ++ bins_bytes bins.now)) }
+
+    ensures unchanged { OnErr result (out.new ≡ out.old) }
+{
+    let before = out.len();
+    if let Err(refusal) = put_fields_and_bins(out, fields, bins) {
+        out.truncate(before);
+        return Err(refusal);
+    }
+    Ok(())
+}
+
+/// Appends the fields of a distribution and the bins behind them, or some of them.
+fn put_fields_and_bins(out: &mut Bytes, fields: &[u8], bins: &[Bin]) -> Result<(), OutOfMemory>
+    ensures ok { OnOk result (out.new ≡ out.old ++ (fields.now ++ bins_bytes bins.now)) }
+
+    ensures memory { OnErr result (BeginsWith out.old out.new) }
+{
+    out.append(fields)?;
+    for bin in bins {
+        put_bin(out, bin.prob_to, bin.mean)?;
+    }
+    Ok(())
+}
+
+/// Appends a bin.
+fn put_bin(out: &mut Bytes, prob_to: u64, mean: u32) -> Result<(), OutOfMemory>
+    ensures ok { OnOk result (out.new ≡ out.old ++ (little_bytes 8 prob_to ++ little_bytes 4 mean)) }
+
+    ensures unchanged { OnErr result (out.new ≡ out.old) }
+{
+    let mut bytes = [0; 12];
+    LittleEndian::write_u64(&mut bytes, prob_to);
+    LittleEndian::write_u32(&mut bytes[8..], mean);
+    out.append(&bytes)
 }
 
 /// Appends the fields of a record and the pairs behind them, whole or not at all.
