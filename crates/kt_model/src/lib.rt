@@ -7,6 +7,6 @@ mod foot_rows;
 mod records;
 mod shared;
 
-pub use distributions::distributions;
+//pub use distributions::distributions;
 pub use foot_rows::{ModelStop, RowCause};
 pub use records::Records;
