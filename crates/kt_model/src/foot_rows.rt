@@ -95,11 +95,11 @@ impl Seen {
             return Ok(Some(RowCause::Twice));
         }
         let before = self.totals.get(&row.areaperil).copied().unwrap_or(0);
-        if u64::from(row.prob) > 1_001_000 - before {
+        let total = before.saturating_add(u64::from(row.prob));
+        if total > 1_001_000 {
             return Ok(Some(RowCause::Sum));
         }
-        self.totals
-            .insert(row.areaperil, before + u64::from(row.prob))?;
+        self.totals.insert(row.areaperil, total)?;
         Ok(None)
     }
 }
