@@ -1,2 +1,4 @@
 pub mod SeenLemmas
 pub mod JudgeLemmas
+pub mod ChanceLemmas
+pub mod AddLemmas

@@ -1,6 +1,7 @@
 //! The damage distributions of an event: from its footprint to a distribution for each areaperil and vulnerability.
 #![tactic(auto)]
 
+mod bins;
 mod chances;
 mod distributions;
 mod foot_rows;
