@@ -2,3 +2,4 @@ pub mod SeenLemmas
 pub mod JudgeLemmas
 pub mod ChanceLemmas
 pub mod AddLemmas
+pub mod BinLemmas

@@ -36,8 +36,8 @@ pub(crate) fn bins_of(
     let count = count_of(chances);
     let mut bins = Bins::new(alloc);
     let mut before = 0;
-    for (place, chance) in chances[..count].iter().enumerate() {
-        before += *chance;
+    for place in 0..count {
+        before += chances[place];
         bins.push(Bin {
             prob_to: before,
             mean: dictionary[place].interpolation,
