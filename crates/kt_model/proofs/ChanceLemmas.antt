@@ -5,12 +5,13 @@ use Rattle.std.specs.Prelude.{◌&&◌}
 use Rattle.std.specs.List.{filter, sum_by}
 use Rattle.std.proofs.lemmas.List.Sums.{sum_by-cons}
 use Rattle.kt_rec.specs.Rows.{Rows}
+use Rattle.kt_rec.specs.declared.hazard.DamageBin.{DamageBin}
 use Rattle.kt_rec.specs.declared.hazard.FootRow.{FootRow}
 use Rattle.kt_rec.specs.declared.hazard.Vulnerability.{Vulnerability}
 use Rattle.kt_tables.specs.Lookups.{damages_at}
 use Rattle.kt_model.specs.Distribution.{meets, chance_of}
 use Rattle.kt_model.specs.FootRows.{areaperil_total}
-use Rattle.kt_model.specs.Scratch.{chance_at, chance_in}
+use Rattle.kt_model.specs.Scratch.{AreChances, chance_at, chance_in}
 
 -- a sum over what a filter keeps
 pub sum_by-filter : {X : Type 0} (test : X → Bool) (f : X → ℕ) (rows : List X) → sum_by f (filter test rows) ≡ sum_by (λ row. cond (test row) (f row) 0) rows
@@ -50,3 +51,17 @@ chance_is rows foot areaperil vulnerability bin =
 -- the probabilities of an areaperil are those of its rows
 pub total_of_rows : (foot : List FootRow) (areaperil : ℕ) → sum_by (λ row. row.prob) (filter (λ row. nat_eq row.areaperil areaperil) foot) ≡ areaperil_total foot areaperil
 total_of_rows foot areaperil = sum_by-filter (λ row. nat_eq row.areaperil areaperil) (λ row. row.prob) foot
+
+-- where an areaperil has no row, no bin has a chance
+pub chance_none : (rows : Rows) (foot : List FootRow) (areaperil vulnerability bin : ℕ) → filter (λ row. nat_eq row.areaperil areaperil) foot ≡ [] → chance_of foot rows.vulnerability areaperil vulnerability bin ≡ 0
+chance_none rows foot areaperil vulnerability bin none = sym (chance_is rows foot areaperil vulnerability bin) ∙ ap (λ (list : List FootRow). chance_in rows list vulnerability bin) none
+
+-- chances that were added over the rows of an areaperil are those of the bins of the dictionary
+pub chances_known : (rows : Rows) (foot found : List FootRow) (areaperil vulnerability : ℕ) (chances : List ℕ) (dictionary : List DamageBin) → found ≡ filter (λ row. nat_eq row.areaperil areaperil) foot → dictionary ≡ rows.damage_bin_dict → ((k : ℕ) (d : DamageBin) → k < length rows.damage_bin_dict → (get_or rows.damage_bin_dict k d).bin_index ≡ k + 1) → ((bin : ℕ) → bin < length rows.damage_bin_dict → get_or chances bin 0 ≡ chance_in rows found vulnerability (bin + 1)) → AreChances (chance_of foot rows.vulnerability areaperil vulnerability) chances dictionary
+chances_known rows foot found areaperil vulnerability chances dictionary is same order each =
+    let chance = chance_of foot rows.vulnerability areaperil vulnerability in
+    subst (λ (list : List DamageBin). AreChances chance chances list) (sym same) (λ k d below.
+    ap chance (order k d below)
+    ∙ (sym (chance_is rows foot areaperil vulnerability (k + 1))
+    ∙ (ap (λ (list : List FootRow). chance_in rows list vulnerability (k + 1)) (sym is)
+    ∙ sym (each k below))))

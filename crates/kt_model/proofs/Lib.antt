@@ -3,3 +3,4 @@ pub mod JudgeLemmas
 pub mod ChanceLemmas
 pub mod AddLemmas
 pub mod BinLemmas
+pub mod RecordLemmas

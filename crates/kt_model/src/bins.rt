@@ -1,8 +1,9 @@
 //! The bins of one distribution.
 //! The rules: docs/CALCULATION.md, "Damage distribution".
-ghost use Rattle.std.specs.Prelude.{◌≡◌, ℕ, ◌-◌, ◌<◌, ◌≤◌, length, slice_index, slice_index_or, IfOk};
+ghost use Rattle.std.specs.Prelude.{◌≡◌, ℕ, ◌-◌, ◌<◌, ◌≤◌, length, slice_index, slice_index_or, All, IfOk};
 ghost use Rattle.std.specs.List.{sum};
 ghost use Rattle.kt_rec.specs.declared.hazard.DamageBin.{DamageBin};
+ghost use Rattle.kt_stream.specs.Bins.{AreBins};
 ghost use Rattle.kt_model.specs.Distribution.{bins_behind};
 ghost use Rattle.kt_model.specs.Scratch.{AreChances};
 
@@ -31,7 +32,9 @@ pub(crate) fn bins_of(
 ) -> Result<Bins, AllocError>
     requires same { length chances.now ≡ length dictionary.now }
     requires fits { sum chances.now ≤ 1002001000000 }
+    requires means { All (λ row. row.interpolation ≤ 1000000) dictionary.now }
     ensures value { (chance : ℕ → ℕ) → AreChances chance chances.now dictionary.now → IfOk result (λ bins. bins ≡ bins_behind chance 0 dictionary.now) }
+    ensures fits { (chance : ℕ → ℕ) → AreChances chance chances.now dictionary.now → IfOk result (λ bins. AreBins 0 bins × (length bins ≤ length dictionary.now)) }
 {
     let count = count_of(chances);
     let mut bins = Bins::new(alloc);

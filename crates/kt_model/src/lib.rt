@@ -3,11 +3,11 @@
 
 mod bins;
 mod chances;
-mod distributions;
+mod event;
 mod foot_rows;
 mod records;
 mod shared;
 
-//pub use distributions::distributions;
+pub use event::distributions;
 pub use foot_rows::{ModelStop, RowCause};
 pub use records::Records;

@@ -1,10 +1,12 @@
-use Rattle.std.proofs.Common.{rules, ◌≡◌, ◌∙◌, ◌+◌, ◌-◌, ◌++◌, ◌<◌, ℕ, List, ap, arith, sym, subst, get_or, drop}
+use Rattle.std.proofs.Common.{rules, ◌≡◌, ◌∙◌, ◌+◌, ◌-◌, ◌++◌, ◌<◌, ◌≤◌, ℕ, List, ap, arith, sym, subst, get_or, drop, length}
 use Rattle.std.specs.List.{sum}
 use Rattle.std.proofs.lemmas.List.Sums.{sum_by_more}
 use Rattle.kt_rec.specs.declared.hazard.DamageBin.{DamageBin}
 use Rattle.kt_stream.specs.declared.entry.Bin.{Bin}
+use Rattle.kt_stream.specs.Bins.{AreBins}
 use Rattle.kt_model.specs.Distribution.{bins_behind}
-use Rattle.kt_model.proofs.BinLemmas.{bins_more, bins_done}
+use Rattle.kt_model.specs.Scratch.{AreChances}
+use Rattle.kt_model.proofs.BinLemmas.{bins_more, bins_done, bins_fit, bins_few, sum_is}
 use Rattle.kt_model.proofs.bins.bins_of.Goals as goal
 
 pub loop-place-preserved : goal.loop-place-preserved
@@ -24,8 +26,14 @@ loop-place-preserved c =
     }
 
 pub returns : goal.returns
-returns c = record {
-  value = λ chance are.
-      let none : DamageBin = record { bin_index = 0; bin_from = 0; bin_to = 0; interpolation = 0; interval_type = 0 } in
-      bins_done chance c.args.chances.now c.args.dictionary.now are c.requires.same none c.loop-place.bins (bins_behind chance 0 c.args.dictionary.now) c.loop-place.place c.loop-place.before (λ k after. c.count_of-count.ensures.none_behind k (omega arith)) (c.loop-place.invariant.bins chance are);
-}
+returns c =
+    let none : DamageBin = record { bin_index = 0; bin_from = 0; bin_to = 0; interpolation = 0; interval_type = 0 } in
+    let chances = c.args.chances.now in
+    let dictionary = c.args.dictionary.now in
+    let is = λ (chance : ℕ → ℕ) (are : AreChances chance chances dictionary). bins_done chance chances dictionary are c.requires.same none c.loop-place.bins (bins_behind chance 0 dictionary) c.loop-place.place c.loop-place.before (λ k after. c.count_of-count.ensures.none_behind k (omega arith)) (c.loop-place.invariant.bins chance are) in
+    record {
+      value = is;
+      fits = λ chance are.
+          subst (λ (bins : List Bin). AreBins 0 bins × (length bins ≤ length dictionary)) (sym (is chance are))
+          (bins_fit chance 0 dictionary (let e = sum_is chance chances dictionary are c.requires.same none in omega (arith, c.requires.fits)) c.requires.means, bins_few chance 0 dictionary);
+    }

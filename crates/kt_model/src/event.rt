@@ -4,6 +4,8 @@ ghost use Rattle.std.specs.Prelude.{◌≡◌, ◌⊎◌, ◌≤◌, ℕ, true, 
 ghost use Rattle.std.specs.List.{sum};
 ghost use Rattle.kt_rec.specs.declared.table.Table.TheVariants as table;
 ghost use Rattle.kt_keys.specs.Refusals.{is_loaded};
+ghost use Rattle.kt_stream.specs.Bins.{AreBins, IsCdf};
+ghost use Rattle.kt_stream.specs.Pairs.{IsId};
 ghost use Rattle.kt_tables.specs.DamageLaws.{KeepsDamage};
 ghost use Rattle.kt_tables.specs.Portfolio.{IsPortfolio};
 ghost use Rattle.kt_model.specs.declared.foot_rows.ModelStop.TheVariants.{OutOfMemory};
@@ -34,6 +36,7 @@ fn pair_bins(
     requires none { sum chances.old ≡ 0 }
     requires within { areaperil_total foot.now areaperil ≤ 1001000 }
     ensures value { IfOk result (λ bins. bins ≡ distribution_of portfolio.now.rows foot.now areaperil vulnerability) }
+    ensures fits { IfOk result (λ bins. AreBins 0 bins × (length bins ≤ length portfolio.now.rows.damage_bin_dict)) }
     ensures none { OnOk result (sum chances.new ≡ 0) }
 {
     let rows = foot.of(u64::from(areaperil));
@@ -53,22 +56,18 @@ fn records_of(
     event: u32,
     foot: &ByKey<FootRow>,
 ) -> Result<Records<Cdf>, AllocError>
+    requires valid { IsPortfolio portfolio.now }
     requires kept { KeepsDamage portfolio.now.rows }
     requires within { (areaperil : ℕ) → areaperil_total foot.now areaperil ≤ 1001000 }
     ensures value { IfOk result (λ records. records ≡ distributions_of portfolio.now.rows event foot.now) }
+    ensures fits { IsId event → IfOk result (All (IsCdf (length portfolio.now.rows.damage_bin_dict))) }
 {
-    let mut chances = no_chances(alloc, portfolio.damage_bins().len())?;
+    let mut memory = no_chances(alloc, portfolio.damage_bins().len())?;
+    let chances = memory.as_mut_slice();
     let mut records = Records::new(alloc);
     for pair in portfolio.pairs() {
         let (areaperil, vulnerability) = *pair;
-        let bins = pair_bins(
-            alloc,
-            portfolio,
-            foot,
-            &mut chances,
-            areaperil,
-            vulnerability,
-        )?;
+        let bins = pair_bins(alloc, portfolio, foot, chances, areaperil, vulnerability)?;
         if !bins.as_slice().is_empty() {
             records.push(Cdf {
                 event,
@@ -79,4 +78,28 @@ fn records_of(
         }
     }
     Ok(records)
+}
+
+/// The distributions of an event, whose footprint has these rows: one for each pair of areaperil and vulnerability that some
+/// item has and that has one, by rising areaperil and then vulnerability. The damage bins must be loaded; where items or
+/// vulnerabilities are not, there is no distribution.
+pub fn distributions(
+    alloc: Global,
+    portfolio: &Portfolio,
+    event: u32,
+    rows: &[FootRow],
+) -> Result<Records<Cdf>, ModelStop>
+    requires loaded { is_loaded portfolio.now.need 0 table.DamageBinDict ≡ true }
+    ensures value { IfOk result (λ records. records ≡ distributions_of portfolio.now.rows event rows.now) }
+    ensures fits { IsId event → IfOk result (All (IsCdf (length portfolio.now.rows.damage_bin_dict))) }
+    ensures ok { OnOk result (first_refused_row rows.now ≡ None) }
+
+    // The first refused row, or want of memory.
+    ensures refused { IfErr result (λ stop. (first_refused_row rows.now ≡ Some stop) ⊎ (stop ≡ OutOfMemory)) }
+{
+    check_rows(alloc, rows)?;
+    portfolio.is_valid();
+    portfolio.keeps_damage();
+    let foot = ByKey::new(alloc, rows)?;
+    Ok(records_of(alloc, portfolio, event, &foot)?)
 }
