@@ -4,3 +4,4 @@ pub mod ChanceLemmas
 pub mod AddLemmas
 pub mod BinLemmas
 pub mod RecordLemmas
+mod Worked

@@ -87,10 +87,7 @@ fn pairs(alloc: Global, items: &[Item]) -> Result<Vec<(u32, u32)>, AllocError>
 }
 
 /// The rows of vulnerability by vulnerability and intensity; nothing where the table is in that order.
-fn damages(
-    alloc: Global,
-    tables: &Tables,
-) -> Result<Option<ByKey<Vulnerability>>, AllocError>
+fn damages(alloc: Global, tables: &Tables) -> Result<Option<ByKey<Vulnerability>>, AllocError>
     ensures value { IfOk result (AreDamages (rows_of tables.now)) }
 {
     if is_by_key(&tables.vulnerability) {
