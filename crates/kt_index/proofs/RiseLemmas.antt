@@ -1,5 +1,5 @@
 -- Rows that rise as far as a loop has come.
-use Rattle.std.proofs.Common.{◌≡◌, ℕ, ◌+◌, ◌<◌, ◌≤◌, List, length, get_or, sym, subst, ap, ◌∙◌, arith, inl, inr}
+use Rattle.std.proofs.Common.{◌≡◌, ℕ, ◌+◌, ◌<◌, ◌≤◌, List, length, get_or, sym, subst, ap, arith, inl, inr}
 use Rattle.std.proofs.lemmas.List.{get_or_read}
 use Rattle.std.proofs.lemmas.Bool.{cases_lt}
 use Rattle.std.specs.List.Sorted.{IsNonDecreasingBy}
@@ -17,12 +17,12 @@ module _ {X : Type 0} (key : X → ℕ) (rows : List X) where
   -- one more row that is not below the last
   pub rises_more : (i last : ℕ) (row : X) → i < length rows → row ≡ get_or rows i row → last ≤ key row → RisesTo key rows i last → RisesTo key rows (i + 1) (key row)
   rises_more i last row within read above so_far = record {
-      rising = λ j k d h b. elim (cases_lt k i) [
-        | inl less ↦ so_far.rising j k d h less
-        | inr more ↦ at_last j k d h (omega arith)
-      ];
-      below = λ k d b. top k d b;
-    }
+    rising = λ j k d h b. elim (cases_lt k i) [
+      | inl less ↦ so_far.rising j k d h less
+      | inr more ↦ at_last j k d h (omega arith)
+    ];
+    below = λ k d b. top k d b;
+  }
     where
       top : (k : ℕ) (d : X) → k < i + 1 → key (get_or rows k d) ≤ key row
       top k d b = elim (cases_lt k i) [

@@ -1,5 +1,5 @@
 -- The bins of a distribution, as far as a loop has come, and that they are such as a stream may have.
-use Rattle.std.proofs.Common.{◌≡◌, ℕ, ◌+◌, ◌-◌, ◌*◌, ◌<◌, ◌≤◌, Bool, true, false, cond, List, [], ◌∷◌, ◌++◌, length, get_or, drop, take, map, refl, ap, sym, subst, ◌∙◌, nat_eq, arith, append-nil, append_assoc, zero, suc}
+use Rattle.std.proofs.Common.{◌≡◌, ℕ, ◌+◌, ◌-◌, ◌<◌, ◌≤◌, Bool, true, false, cond, List, [], ◌∷◌, ◌++◌, length, get_or, drop, map, refl, ap, sym, subst, ◌∙◌, nat_eq, arith, append-nil, append_assoc}
 use Rattle.std.specs.Prelude.{All}
 use Rattle.std.specs.List.{sum, sum_by}
 use Rattle.std.proofs.lemmas.Bool.{eqb-true}

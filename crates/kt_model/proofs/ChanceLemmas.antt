@@ -1,5 +1,5 @@
 -- The chances of bins: sums over the rows of one areaperil, and over all rows.
-use Rattle.std.proofs.Common.{◌≡◌, ℕ, ◌+◌, ◌*◌, ◌<◌, ◌≤◌, Bool, true, false, cond, List, [], ◌∷◌, length, get_or, take, refl, ap, sym, subst, ◌∙◌, nat_eq, arith, zero-add}
+use Rattle.std.proofs.Common.{◌≡◌, ℕ, ◌+◌, ◌*◌, ◌<◌, Bool, true, false, cond, List, [], ◌∷◌, length, get_or, refl, ap, sym, subst, ◌∙◌, nat_eq, zero-add}
 use Rattle.std.proofs.Math.Path.{fun_ext}
 use Rattle.std.specs.Prelude.{◌&&◌}
 use Rattle.std.specs.List.{filter, sum_by}
@@ -9,7 +9,7 @@ use Rattle.kt_rec.specs.declared.hazard.DamageBin.{DamageBin}
 use Rattle.kt_rec.specs.declared.hazard.FootRow.{FootRow}
 use Rattle.kt_rec.specs.declared.hazard.Vulnerability.{Vulnerability}
 use Rattle.kt_tables.specs.Lookups.{damages_at}
-use Rattle.kt_model.specs.Distribution.{meets, chance_of}
+use Rattle.kt_model.specs.Distribution.{chance_of}
 use Rattle.kt_model.specs.FootRows.{areaperil_total}
 use Rattle.kt_model.specs.Scratch.{AreChances, chance_at, chance_in}
 

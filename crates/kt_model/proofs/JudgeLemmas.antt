@@ -1,10 +1,9 @@
 -- The first refused row, as far as a loop has come.
-use Rattle.std.proofs.Common.{◌≡◌, ℕ, ◌+◌, ◌<◌, ◌≤◌, List, [], ◌∷◌, ◌++◌, length, get_or, take, drop, refl, ap, sym, ◌∙◌, Option, None, Some, arith}
+use Rattle.std.proofs.Common.{◌≡◌, ℕ, ◌+◌, ◌<◌, List, [], ◌∷◌, ◌++◌, length, get_or, take, drop, ap, sym, ◌∙◌, None, Some, arith}
 use Rattle.std.specs.Prelude.{option_map}
 use Rattle.std.specs.Option.{option_or}
 use Rattle.std.proofs.lemmas.List.{drop_more, take_more, length-take-le}
 use Rattle.kt_rec.specs.declared.hazard.FootRow.{FootRow}
-use Rattle.kt_model.specs.declared.foot_rows.ModelStop.{ModelStop}
 use Rattle.kt_model.specs.declared.foot_rows.ModelStop.TheVariants as stop
 use Rattle.kt_model.specs.declared.foot_rows.RowCause.{RowCause}
 use Rattle.kt_model.specs.FootRows.{row_cause, refused_after, first_refused_row}

@@ -1,13 +1,13 @@
 -- The records of an event, as far as a loop has come, and whatever the order of its rows.
-use Rattle.std.proofs.Common.{◌≡◌, ℕ, ◌+◌, ◌*◌, ◌<◌, ◌≤◌, Bool, true, false, cond, List, [], ◌∷◌, ◌++◌, length, get_or, take, refl, ap, sym, subst, ◌∙◌, nat_eq, Option, None, Some, append-nil, arith}
+use Rattle.std.proofs.Common.{◌≡◌, ℕ, ◌+◌, ◌*◌, ◌<◌, ◌≤◌, true, false, cond, List, [], ◌∷◌, ◌++◌, length, get_or, take, refl, ap, sym, ◌∙◌, nat_eq, Option, None, Some, append-nil, arith}
 use Rattle.std.proofs.Math.Path.{fun_ext}
 use Rattle.std.specs.List.{cons_option, filter_map, fold, sum_by}
 use Rattle.std.specs.List.Sorted.{IsPermutation}
 use Rattle.std.proofs.lemmas.Bool.{eqb-true, eqb-false}
-use Rattle.std.proofs.lemmas.List.{take_more, length_push}
-use Rattle.std.proofs.lemmas.List.Elements.{filter_map-append, All-nil, All-push, All-take, All-more, All-head, All-tail}
+use Rattle.std.proofs.lemmas.List.{take_more}
+use Rattle.std.proofs.lemmas.List.Elements.{filter_map-append, All-nil, All-head, All-tail}
 use Rattle.std.proofs.lemmas.Map.Views.{All-insert_key}
-use Rattle.std.specs.Prelude.{All, min}
+use Rattle.std.specs.Prelude.{All}
 use Rattle.std.specs.BTreeSet.{insert_key}
 use Rattle.kt_rec.specs.declared.exposure.Item.{Item}
 use Rattle.kt_rec.specs.Ranges.{IsItem}

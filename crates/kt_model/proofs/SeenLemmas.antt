@@ -1,7 +1,7 @@
 -- What the check of footprint rows keeps, behind one more row.
 use Rattle.std.proofs.Common.{◌≡◌, ℕ, ◌+◌, ◌<◌, ◌≤◌, Bool, true, false, not, cond, List, [], ◌∷◌, ◌++◌, refl, ap, sym, subst, ◌∙◌, nat_eq, nat_lt, Option, None, Some, unwrap_or, arith, add-zero}
-use Rattle.std.specs.Prelude.{◌&&◌, ◌||◌}
-use Rattle.std.specs.List.{list_any, sum_by}
+use Rattle.std.specs.Prelude.{◌||◌}
+use Rattle.std.specs.List.{list_any}
 use Rattle.std.specs.Option.{option_or}
 use Rattle.std.specs.HashMap.{get}
 use Rattle.std.specs.HashSet.{contains}
@@ -9,7 +9,6 @@ use Rattle.std.proofs.lemmas.Bool.{eqb-true, le-ltb, lt-ltb, ltb-false}
 use Rattle.std.proofs.lemmas.List.Sums.{sum_by_push}
 use Rattle.std.proofs.lemmas.List.Folds.{list_any-append}
 use Rattle.std.proofs.lemmas.Bool.Decides.{nat_tests}
-use Rattle.std.proofs.lemmas.Grind.{common_steps}
 use Rattle.kt_keys.specs.Keys.{same_pair}
 use Rattle.kt_rec.specs.declared.hazard.FootRow.{FootRow}
 use Rattle.kt_model.specs.declared.foot_rows.RowCause.{RowCause}
@@ -76,10 +75,10 @@ module _ (rows : List FootRow) (row : FootRow) where
     -- the row is seen
     pub seen_more : ((key : ℕ × ℕ) → contains same_pair next.pairs key ≡ cond (same_pair (row.areaperil, row.intensity) key) true (contains same_pair old.pairs key)) → ((areaperil : ℕ) → get nat_eq next.totals areaperil ≡ cond (nat_eq row.areaperil areaperil) (Some total) (get nat_eq old.totals areaperil)) → IsSeen (rows ++ row ∷ []) next
     seen_more pairs totals = record {
-        pairs = λ key. pairs key ∙ (ap (λ b. cond (same_pair (row.areaperil, row.intensity) key) true b) (is.pairs key) ∙ (join (is_at key.0 key.1 row) (list_any (is_at key.0 key.1) rows) ∙ sym (list_any-append (is_at key.0 key.1) rows (row ∷ []))));
-        totals = λ areaperil. ap (λ found. unwrap_or found 0) (totals areaperil) ∙ (total_by (nat_eq row.areaperil areaperil) areaperil refl ∙ sym (sum_by_push (λ x. cond (nat_eq x.areaperil areaperil) x.prob 0) rows row));
-        within = λ areaperil. subst (λ n. n ≤ 1001000) (sym (sum_by_push (λ x. cond (nat_eq x.areaperil areaperil) x.prob 0) rows row)) (within_by (nat_eq row.areaperil areaperil) areaperil refl);
-      }
+      pairs = λ key. pairs key ∙ (ap (λ b. cond (same_pair (row.areaperil, row.intensity) key) true b) (is.pairs key) ∙ (join (is_at key.0 key.1 row) (list_any (is_at key.0 key.1) rows) ∙ sym (list_any-append (is_at key.0 key.1) rows (row ∷ []))));
+      totals = λ areaperil. ap (λ found. unwrap_or found 0) (totals areaperil) ∙ (total_by (nat_eq row.areaperil areaperil) areaperil refl ∙ sym (sum_by_push (λ x. cond (nat_eq x.areaperil areaperil) x.prob 0) rows row));
+      within = λ areaperil. subst (λ n. n ≤ 1001000) (sym (sum_by_push (λ x. cond (nat_eq x.areaperil areaperil) x.prob 0) rows row)) (within_by (nat_eq row.areaperil areaperil) areaperil refl);
+    }
       where
         join : (b rest : Bool) → cond b true rest ≡ (rest || (b || false))
         join true true = refl

@@ -1,5 +1,5 @@
 -- A worked example: an event with two intensities at one areaperil, and a vulnerability with one damage bin at each.
-use Rattle.std.proofs.Common.{◌≡◌, List, [], ◌∷◌, ◌++◌, refl, Option, None, Some}
+use Rattle.std.proofs.Common.{◌≡◌, List, [], ◌∷◌, ◌++◌, refl, None, Some}
 use Rattle.kt_rec.specs.Rows.{Rows, no_rows}
 use Rattle.kt_rec.specs.declared.hazard.FootRow.{FootRow}
 use Rattle.kt_model.specs.declared.foot_rows.ModelStop.TheVariants as stop

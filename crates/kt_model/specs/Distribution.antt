@@ -1,6 +1,6 @@
 -- The damage distribution of an areaperil and a vulnerability in an event.
 -- The rules: docs/CALCULATION.md, "Damage distribution".
-use Rattle.std.specs.Prelude.{ℕ, ◌+◌, ◌*◌, ◌&&◌, Bool, cond, nat_eq, List, [], ◌∷◌, length, Option, None, Some}
+use Rattle.std.specs.Prelude.{ℕ, ◌+◌, ◌*◌, ◌&&◌, Bool, cond, nat_eq, List, [], ◌∷◌, Option, None, Some}
 use Rattle.std.specs.List.{filter_map, sum_by}
 use Rattle.kt_rec.specs.Rows.{Rows}
 use Rattle.kt_rec.specs.declared.hazard.DamageBin.{DamageBin}

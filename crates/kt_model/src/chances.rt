@@ -54,6 +54,10 @@ pub(crate) fn add_rows(
     ensures total { sum chances.new ≤ 1002001000000 }
 {
     for row in rows {
-        add_damages(chances, portfolio.damages(vulnerability, row.intensity), row.prob);
+        add_damages(
+            chances,
+            portfolio.damages(vulnerability, row.intensity),
+            row.prob,
+        );
     }
 }

@@ -49,9 +49,7 @@ impl Portfolio {
     pub fn items_of(&self, areaperil: u32, vulnerability: u32) -> &[Item]
         ensures value { result.now ≡ items_with self.now.rows areaperil vulnerability }
     {
-        self.lookups
-            .by_pair
-            .of(pair_key(areaperil, vulnerability))
+        self.lookups.by_pair.of(pair_key(areaperil, vulnerability))
     }
 
     /// The pairs of areaperil and vulnerability that some item has, each once, by rising areaperil and then vulnerability.

@@ -1,4 +1,4 @@
-use Rattle.std.proofs.Common.{◌≡◌, ℕ, ◌++◌, List, drop, take}
+use Rattle.std.proofs.Common.{◌≡◌, ℕ, ◌++◌, drop, take}
 use Rattle.std.specs.List.{sum}
 use Rattle.kt_model.specs.Distribution.{bins_behind}
 use Rattle.kt_model.specs.Scratch.{AreChances}

@@ -1,5 +1,5 @@
 use Rattle.std.proofs.Common.{ap, ◌∙◌, ◌*◌, arith}
-use Rattle.std.proofs.Common.{ℕ, ◌≡◌, ◌≤◌, get_or, length}
+use Rattle.std.proofs.Common.{◌≡◌, ◌≤◌, get_or, length}
 use Rattle.kt_rec.specs.declared.hazard.Vulnerability.{Vulnerability}
 use Rattle.kt_model.proofs.AddLemmas.{each_more, total_more_row}
 use Rattle.kt_model.proofs.chances.add_damages.Goals as goal

@@ -1,4 +1,4 @@
-use Rattle.std.proofs.Common.{ℕ, List, ◌≡◌, ◌≤◌, ◌∙◌, ap, subst, sym, get_or, length, nat_eq, arith}
+use Rattle.std.proofs.Common.{List, ◌≡◌, ◌≤◌, subst, sym, get_or, length, nat_eq, arith}
 use Rattle.std.specs.Prelude.{◌&&◌, All}
 use Rattle.std.specs.List.{sum, sum_by}
 use Rattle.std.proofs.lemmas.List.Elements.{All-filter}
@@ -6,7 +6,7 @@ use Rattle.std.proofs.lemmas.List.Sums.{sum_by_more_le}
 use Rattle.kt_rec.specs.declared.hazard.FootRow.{FootRow}
 use Rattle.kt_rec.specs.declared.hazard.Vulnerability.{Vulnerability}
 use Rattle.kt_tables.specs.Lookups.{damages_at}
-use Rattle.kt_model.proofs.AddLemmas.{fits_by, fits_more}
+use Rattle.kt_model.proofs.AddLemmas.{fits_by}
 use Rattle.kt_model.proofs.chances.add_rows.Goals as goal
 
 pub add_damages-requires-clause-bins : goal.add_damages-requires-clause-bins

@@ -1,8 +1,7 @@
-use Rattle.std.proofs.Common.{◌≡◌, ◌∙◌, ℕ, List, ap, subst, sym, length, get_or, nat_eq, true, false}
+use Rattle.std.proofs.Common.{◌∙◌, ℕ, List, ap, subst, sym, length, get_or, nat_eq}
 use Rattle.std.specs.Prelude.{All}
 use Rattle.std.proofs.lemmas.List.Elements.{All-push}
 use Rattle.kt_stream.specs.declared.entry.Bin.{Bin}
-use Rattle.kt_stream.specs.declared.entry.Cdf.{Cdf}
 use Rattle.kt_stream.specs.Bins.{IsCdf}
 use Rattle.kt_model.proofs.RecordLemmas.{ArePairIds, pairs_are_ids, record_fits, records_more, records_kept}
 use Rattle.kt_model.proofs.event.records_of.Goals as goal

@@ -1,4 +1,4 @@
-use Rattle.std.proofs.Common.{◌≡◌, ℕ, take, length}
+use Rattle.std.proofs.Common.{◌≡◌, take, length}
 use Rattle.std.specs.List.{filter_map, sum}
 use Rattle.std.specs.Prelude.{All}
 use Rattle.kt_stream.specs.Bins.{IsCdf}

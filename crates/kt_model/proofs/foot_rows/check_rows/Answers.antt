@@ -1,4 +1,4 @@
-use Rattle.std.proofs.Common.{◌∙◌, ◌+◌, inl, subst, sym, get_or, take}
+use Rattle.std.proofs.Common.{◌∙◌, inl, subst, sym, get_or, take}
 use Rattle.std.proofs.lemmas.List.{get_or_default}
 use Rattle.kt_rec.specs.declared.hazard.FootRow.{FootRow}
 use Rattle.kt_model.specs.Seen.{IsSeen}

@@ -1,4 +1,4 @@
-use Rattle.std.proofs.Common.{◌≡◌, ◌+◌, ◌≤◌, ◌∙◌, ap, arith, sym, unwrap_or}
+use Rattle.std.proofs.Common.{◌≡◌, ◌+◌, ◌∙◌, ap, arith, sym, unwrap_or}
 use Rattle.kt_model.specs.FootRows.{areaperil_total}
 use Rattle.kt_model.proofs.SeenLemmas.{cause_twice, cause_sum, cause_none, seen_more, fine_prob}
 use Rattle.kt_model.proofs.foot_rows.Seen.see.Goals as goal
