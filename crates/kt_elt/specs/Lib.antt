@@ -2,3 +2,4 @@ pub mod Sidx
 pub mod Losses
 pub mod RowType
 pub mod EventLoss
+pub mod PeriodLoss

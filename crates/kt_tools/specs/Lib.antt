@@ -1,4 +1,5 @@
 pub mod EltOutcome
+pub mod PltOutcome
 pub mod Outcome
 pub mod Uses
 pub mod Loading

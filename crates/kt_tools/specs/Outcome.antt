@@ -1,6 +1,6 @@
 -- What a run of a command gives: its status, and the bytes that it writes to the sink.
 -- The rules: docs/COMMANDS.md.
-use Rattle.std.specs.Prelude.{ℕ, List, length, nat_le, Option, Some, None, Result, Ok, Err, if◌then◌else◌}
+use Rattle.std.specs.Prelude.{ℕ, Bool, List, length, nat_le, Option, Some, None, Result, Ok, Err, if◌then◌else◌}
 use Rattle.std.specs.List.{flat_map}
 use Rattle.byteorder.specs.Endian.{little_bytes}
 use Rattle.kt_out.specs.NamedFiles.{FileMap}
@@ -17,8 +17,9 @@ use Rattle.kt_schema.specs.Footprint.{footprint_csv}
 use Rattle.kt_tables.specs.Lookups.{event_ids}
 use Rattle.kt_tools.specs.Loading.{need_of, load_stop}
 use Rattle.kt_tools.specs.EltOutcome.{elt_outcome}
+use Rattle.kt_tools.specs.PltOutcome.{plt_rows_outcome}
 use Rattle.kt_words.specs.declared.command.Command.{Command}
-use Rattle.kt_words.specs.declared.command.Command.TheVariants.{Eltcalc, Convert, FootprintText, Eve}
+use Rattle.kt_words.specs.declared.command.Command.TheVariants.{Eltcalc, Pltcalc, Convert, FootprintText, Eve}
 use Rattle.kt_words.specs.declared.command.Conversion.{Conversion}
 use Rattle.kt_words.specs.declared.stop.WordStop.{WordStop}
 use Rattle.kt_ends.specs.declared.status.Refusal.TheVariants.{TooLarge, Check}
@@ -63,9 +64,14 @@ eve_outcome part parts files = with_tables (loaded files (need_of table.Events))
 abbrev pub footprint_outcome : FileMap → List ℕ → Outcome
 footprint_outcome files source = with_tables (loaded files (need_of table.FootprintIdx)) (λ rows. footprint_text rows.footprint_idx source)
 
+-- the period loss table of a summary stream, by the occurrences among the tables
+abbrev pub plt_outcome : Bool → FileMap → List ℕ → Outcome
+plt_outcome heading files source = with_tables (loaded files (need_of table.Occurrence)) (λ rows. plt_rows_outcome heading rows source)
+
 -- the outcome of each tool, over the named files and the source
 abbrev pub tool_outcome : Command → FileMap → List ℕ → Outcome
 tool_outcome (Eltcalc heading) files source = elt_outcome heading source
+tool_outcome (Pltcalc heading) files source = plt_outcome heading files source
 tool_outcome (Convert conversion) files source = convert_outcome conversion source
 tool_outcome FootprintText files source = footprint_outcome files source
 tool_outcome (Eve part parts) files source = eve_outcome part parts files

@@ -5,6 +5,7 @@ mod convert;
 mod eltcalc;
 mod eve;
 mod footprint;
+mod pltcalc;
 mod tables;
 mod top_call;
 mod whole_source;

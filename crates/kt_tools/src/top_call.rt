@@ -14,6 +14,7 @@ use crate::convert::convert;
 use crate::eltcalc::eltcalc;
 use crate::eve::eve;
 use crate::footprint::footprint_to_text;
+use crate::pltcalc::pltcalc;
 use kt_ends::{Status, report, status_of};
 use kt_out::{Gate, Inputs, Outputs, Sink, Source};
 use kt_words::{Command, Words, read_command};
@@ -35,6 +36,9 @@ fn carry_out<I: Inputs, S: Source, K: Sink>(
     match read_command(words) {
         Err(stop) => Status::Words(stop),
         Ok(Command::Eltcalc { heading }) => status_of(eltcalc(alloc, heading, source, sink)),
+        Ok(Command::Pltcalc { heading }) => {
+            status_of(pltcalc(alloc, heading, inputs, source, sink))
+        }
         Ok(Command::Convert(conversion)) => status_of(convert(alloc, conversion, source, sink)),
         Ok(Command::FootprintText) => status_of(footprint_to_text(alloc, inputs, source, sink)),
         Ok(Command::Eve { part, parts }) => status_of(eve(alloc, part, parts, inputs, sink)),

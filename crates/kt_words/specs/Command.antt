@@ -30,6 +30,7 @@ IsConversion (ToText t) = t ≡ table.Footprint → ⊥
 -- what every command keeps: a conversion that there is, and a part that there is
 abbrev pub IsCommand : Command → Type 0
 IsCommand (command.Eltcalc heading) = Unit {0}
+IsCommand (command.Pltcalc heading) = Unit {0}
 IsCommand (command.Convert conversion) = IsConversion conversion
 IsCommand command.FootprintText = Unit {0}
 IsCommand (command.Eve part parts) = has_part part parts ≡ true
@@ -70,9 +71,10 @@ part_command part parts word = if has_part part parts then Ok (command.Eve part 
 abbrev pub eve_command : Given → Result Command WordStop
 eve_command given = part_command (number_or_0 given.first) (number_or_0 given.second) (word_or_0 given.first)
 
--- the command of a tool by what its words said: of `eltcalc` whether -s was left out, of `tobin` the value of -P
+-- the command of a tool by what its words said: of `eltcalc` and `pltcalc` whether -s was left out, of `tobin` the value of -P
 abbrev pub command_from : Tool → Given → Result Command WordStop
 command_from tool.Eltcalc given = Ok (command.Eltcalc (not (is_given given 115)))
+command_from tool.Pltcalc given = Ok (command.Pltcalc (not (is_given given 115)))
 command_from tool.Tobin given = Ok (command.Convert (ToFile (table_or_first given.first) (number_or_0 (given_at given 80))))
 command_from tool.Tocsv given = Ok (to_text (table_or_first given.first))
 command_from tool.Eve given = eve_command given

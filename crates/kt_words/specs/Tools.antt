@@ -28,6 +28,7 @@ tool_name Gen = codes "gen"
 abbrev pub is_built : Tool → Bool
 is_built Eve = true
 is_built Eltcalc = true
+is_built Pltcalc = true
 is_built Tobin = true
 is_built Tocsv = true
 is_built tool = false

@@ -39,6 +39,11 @@ pub enum Command {
         /// Whether the table begins with the names of its columns.
         heading: bool,
     },
+    /// The period loss table of a summary stream.
+    Pltcalc {
+        /// Whether the table begins with the names of its columns.
+        heading: bool,
+    },
     /// A table in its other form.
     Convert(Conversion),
     /// The text of the footprint, from its file and its index.
@@ -130,6 +135,9 @@ fn tool_command(tool: Tool, given: &Given) -> Result<Command, WordStop>
 {
     match tool {
         Tool::Eltcalc => Ok(Command::Eltcalc {
+            heading: !given.has(b's'),
+        }),
+        Tool::Pltcalc => Ok(Command::Pltcalc {
             heading: !given.has(b's'),
         }),
         Tool::Tobin => Ok(Command::Convert(Conversion::ToFile {

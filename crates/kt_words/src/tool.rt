@@ -87,7 +87,7 @@ impl Tool {
         ensures { result ≡ built_one self }
     {
         match self {
-            Tool::Eve | Tool::Eltcalc | Tool::Tobin | Tool::Tocsv => true,
+            Tool::Eve | Tool::Eltcalc | Tool::Pltcalc | Tool::Tobin | Tool::Tocsv => true,
             _ => false,
         }
     }
