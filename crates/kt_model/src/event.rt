@@ -15,10 +15,9 @@ ghost use Rattle.kt_model.specs.FootRows.{areaperil_total, first_refused_row};
 use crate::bins::bins_of;
 use crate::chances::{add_rows, clear, no_chances};
 use crate::foot_rows::{ModelStop, check_rows};
-use crate::records::Records;
 use kt_index::ByKey;
 use kt_rec::FootRow;
-use kt_stream::{Bins, Cdf};
+use kt_stream::{Bins, Cdf, Items};
 use kt_tables::Portfolio;
 use std::alloc::{AllocError, Global};
 
@@ -55,7 +54,7 @@ fn records_of(
     portfolio: &Portfolio,
     event: u32,
     foot: &ByKey<FootRow>,
-) -> Result<Records<Cdf>, AllocError>
+) -> Result<Items<Cdf>, AllocError>
     requires valid { IsPortfolio portfolio.now }
     requires kept { KeepsDamage portfolio.now.rows }
     requires within { (areaperil : ℕ) → areaperil_total foot.now areaperil ≤ 1001000 }
@@ -64,7 +63,7 @@ fn records_of(
 {
     let mut memory = no_chances(alloc, portfolio.damage_bins().len())?;
     let chances = memory.as_mut_slice();
-    let mut records = Records::new(alloc);
+    let mut records = Items::new(alloc);
     for pair in portfolio.pairs() {
         let (areaperil, vulnerability) = *pair;
         let bins = pair_bins(alloc, portfolio, foot, chances, areaperil, vulnerability)?;
@@ -88,7 +87,7 @@ pub fn distributions(
     portfolio: &Portfolio,
     event: u32,
     rows: &[FootRow],
-) -> Result<Records<Cdf>, ModelStop>
+) -> Result<Items<Cdf>, ModelStop>
     requires loaded { is_loaded portfolio.now.need 0 table.DamageBinDict ≡ true }
     ensures value { IfOk result (λ records. records ≡ distributions_of portfolio.now.rows event rows.now) }
     ensures fits { IsId event → IfOk result (All (IsCdf (length portfolio.now.rows.damage_bin_dict))) }

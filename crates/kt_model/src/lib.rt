@@ -5,9 +5,7 @@ mod bins;
 mod chances;
 mod event;
 mod foot_rows;
-mod records;
 mod shared;
 
 pub use event::distributions;
 pub use foot_rows::{ModelStop, RowCause};
-pub use records::Records;

@@ -45,7 +45,7 @@ impl<'a> Stage<Head, SummaryRecord, ()> for PeriodLosses<'a> {
 
     ghost is_at = { λ made stage _. (stage.heading ≡ made.0) × (stage.portfolio.now.rows ≡ made.1.rows) };
 
-    ghost is_ready = { λ _ _. Unit {0} };
+    ghost is_ready = { λ _ _ _. Unit {0} };
 
     ghost accepts = { IsHead Summary };
 
