@@ -8,7 +8,11 @@ use std::alloc::{AllocError, AllocGlobal, Global};
 use std::thread::Threads;
 
 /// The names of the files of a run.
-const NAMES: [&str; 2] = ["input/events.bin", "static/footprint.idx"];
+const NAMES: [&str; 3] = [
+    "input/events.bin",
+    "input/occurrence.bin",
+    "static/footprint.idx",
+];
 
 /// The state between two lines.
 #[derive(Drop)]
