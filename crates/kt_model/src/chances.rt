@@ -65,11 +65,9 @@ pub(crate) fn add_rows(
     ensures each { (bin : ℕ) → bin < length chances.old → slice_index chances.new bin ≡ chance_in portfolio.now.rows rows.now vulnerability (bin + 1) }
     ensures total { sum chances.new ≤ 1002001000000 }
 {
+    let damages = portfolio.damages_of(vulnerability);
     for row in rows {
-        add_damages(
-            chances,
-            portfolio.damages(vulnerability, row.intensity),
-            row.prob,
-        );
+        let here = damages_in(damages, vulnerability, row.intensity);
+        add_damages(chances, here, row.prob);
     }
 }
