@@ -1,4 +1,4 @@
-use Rattle.std.proofs.Common.{List, ◌≡◌, ◌≤◌, subst, sym, get_or, length, nat_eq, arith, ◌∙◌, ℕ, ◌<◌, ◌+◌, ◌*◌, ap, take}
+use Rattle.std.proofs.Common.{List, ◌≡◌, ◌≤◌, subst, sym, get_or, length, nat_eq, arith, ◌∙◌, ◌<◌, ◌+◌, ◌*◌, ap, take}
 use Rattle.std.specs.Prelude.{◌&&◌, All}
 use Rattle.std.specs.List.{sum, sum_by}
 use Rattle.std.proofs.lemmas.List.Elements.{All-filter}
