@@ -1,5 +1,5 @@
 //! Rows in the order of a key, and the rows of one key.
-ghost use Rattle.std.specs.Prelude.{◌≡◌, true, ◌≤◌, ◌-◌, ℕ, nat_eq, length, take, drop, IfOk};
+ghost use Rattle.std.specs.Prelude.{◌≡◌, true, ◌≤◌, ◌-◌, ℕ, ◌&&◌, nat_eq, nat_le, length, take, drop, IfOk};
 ghost use Rattle.std.specs.List.{filter};
 ghost use Rattle.std.specs.List.Sorted.{IsPermutation, IsNonDecreasingBy};
 ghost use Rattle.kt_index.specs.KeyEnds.{KeyEnds};
@@ -80,7 +80,17 @@ pub fn rows_of<T: Keyed>(rows: &[T], key: u64) -> &[T]
     requires { IsNonDecreasingBy T.key_of rows.now }
     ensures value { result.now ≡ filter (λ row. nat_eq (T.key_of row) key) rows.now }
 {
-    let (start, end) = ends(rows, key);
+    rows_between(rows, key, key)
+}
+
+/// The rows whose keys are from one up to another, among rows by rising key.
+pub fn rows_between<T: Keyed>(rows: &[T], low: u64, top: u64) -> &[T]
+    requires rising { IsNonDecreasingBy T.key_of rows.now }
+    requires order { low ≤ top }
+    ensures value { result.now ≡ filter (λ row. nat_le low (T.key_of row) && nat_le (T.key_of row) top) rows.now }
+    ensures rising { IsNonDecreasingBy T.key_of result.now }
+{
+    let (start, end) = ends(rows, low, top);
     between(rows, start, end)
 }
 
@@ -91,13 +101,13 @@ fn copy_of<T: Copy + Drop>(alloc: Global, rows: &[T]) -> Result<Vec<T>, AllocErr
     rows.iter().copied().collect(alloc)
 }
 
-/// The places at which the rows of a key begin and end.
-fn ends<T: Keyed>(rows: &[T], key: u64) -> (usize, usize)
+/// The places at which the rows of a range of keys begin and end.
+fn ends<T: Keyed>(rows: &[T], low: u64, top: u64) -> (usize, usize)
     requires { IsNonDecreasingBy T.key_of rows.now }
-    ensures value { KeyEnds T.key_of rows.now key result.0 result.1 }
+    ensures value { KeyEnds T.key_of rows.now low top result.0 result.1 }
 {
-    let start = rows.partition_point(|row| row.key() < key);
-    let end = rows.partition_point(|row| row.key() <= key);
+    let start = rows.partition_point(|row| row.key() < low);
+    let end = rows.partition_point(|row| row.key() <= top);
     (start, end)
 }
 

@@ -1,11 +1,14 @@
 //! The chances of the damage bins of one areaperil and vulnerability.
 //! The rules: docs/CALCULATION.md, "Damage distribution".
-ghost use Rattle.std.specs.Prelude.{◌≡◌, ℕ, ◌+◌, ◌-◌, ◌*◌, ◌<◌, ◌≤◌, cond, nat_eq, length, slice_index, All, IfOk};
-ghost use Rattle.std.specs.List.{sum, sum_by};
+ghost use Rattle.std.specs.Prelude.{◌≡◌, ℕ, ◌+◌, ◌-◌, ◌*◌, ◌<◌, ◌≤◌, cond, nat_eq, length, slice_index, All, IfOk, ◌^◌};
+ghost use Rattle.std.specs.List.{filter, sum, sum_by};
+ghost use Rattle.std.specs.List.Sorted.{IsNonDecreasingBy};
+ghost use Rattle.kt_tables.specs.Kept.{damage_key};
 ghost use Rattle.kt_tables.specs.DamageLaws.{KeepsDamage};
 ghost use Rattle.kt_tables.specs.Lookups.{damages_at};
 ghost use Rattle.kt_model.specs.Scratch.{chance_at, chance_in};
 
+use kt_index::{pair_key, rows_of};
 use kt_rec::{FootRow, Vulnerability};
 use kt_tables::Portfolio;
 use std::alloc::{AllocError, Global};
@@ -39,6 +42,15 @@ fn add_damages(chances: &mut [u64], damages: &[Vulnerability], prob: u32)
     }
 }
 
+/// The damage at an intensity, of all damage of a vulnerability.
+fn damages_in(damages: &[Vulnerability], vulnerability: u32, intensity: u32) -> &[Vulnerability]
+    requires rising { IsNonDecreasingBy damage_key damages.now }
+    ensures value { result.now ≡ filter (λ row. nat_eq (damage_key row) (vulnerability * 2 ^ 32 + intensity)) damages.now }
+    ensures short { intensity < 2 ^ 32 }
+{
+    rows_of(damages, pair_key(vulnerability, intensity))
+}
+
 /// Adds the damage of a vulnerability in the rows of one areaperil to chances that are all 0.
 pub(crate) fn add_rows(
     chances: &mut [u64],
@@ -53,11 +65,9 @@ pub(crate) fn add_rows(
     ensures each { (bin : ℕ) → bin < length chances.old → slice_index chances.new bin ≡ chance_in portfolio.now.rows rows.now vulnerability (bin + 1) }
     ensures total { sum chances.new ≤ 1002001000000 }
 {
+    let damages = portfolio.damages_of(vulnerability);
     for row in rows {
-        add_damages(
-            chances,
-            portfolio.damages(vulnerability, row.intensity),
-            row.prob,
-        );
+        let here = damages_in(damages, vulnerability, row.intensity);
+        add_damages(chances, here, row.prob);
     }
 }

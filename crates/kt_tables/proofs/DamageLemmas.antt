@@ -1,7 +1,8 @@
 -- The rows of a vulnerability at an intensity are those of the key that joins both.
-use Rattle.std.proofs.Common.{◌≡◌, ℕ, ◌+◌, ◌*◌, ◌^◌, ◌<◌, cond, List, [], ◌∷◌, refl, ap, ◌∙◌, nat_eq, arith}
+use Rattle.std.proofs.Common.{◌≡◌, ℕ, ◌+◌, ◌*◌, ◌^◌, ◌<◌, cond, List, [], ◌∷◌, refl, ap, ◌∙◌, nat_eq, nat_le, arith, ◌≤◌, Bool, true, false}
 use Rattle.std.specs.Prelude.{◌&&◌, All}
 use Rattle.std.specs.List.{filter}
+use Rattle.std.proofs.lemmas.Bool.{eqb-true}
 use Rattle.std.proofs.lemmas.Bool.Decides.{nat_tests}
 use Rattle.std.proofs.lemmas.List.Elements.{All-head, All-tail}
 use Rattle.kt_rec.specs.declared.hazard.Vulnerability.{Vulnerability}
@@ -32,3 +33,27 @@ items_by_key areaperil vulnerability short (row ∷ rows) ranges =
     let rest = items_by_key areaperil vulnerability short rows (All-tail IsItem row rows ranges) in
     ap (λ b. cond b (row ∷ filter (λ x. nat_eq (item_key x) (areaperil * 2 ^ 32 + vulnerability)) rows) (filter (λ x. nat_eq (item_key x) (areaperil * 2 ^ 32 + vulnerability)) rows)) (key_eq row.areaperil_id row.vulnerability_id areaperil vulnerability (omega arith) short)
     ∙ ap (λ later. cond (nat_eq row.areaperil_id areaperil && nat_eq row.vulnerability_id vulnerability) (row ∷ later) later) rest
+
+-- a filter by what a wider one keeps
+filter_in : {X : Type 0} (test wide : X → Bool) → ((row : X) → test row ≡ true → wide row ≡ true) → (rows : List X) → filter test (filter wide rows) ≡ filter test rows
+filter_in test wide implies [] = refl
+filter_in {X} test wide implies (row ∷ rows) = by (wide row) refl (filter_in test wide implies rows)
+  where
+    no : (a : Bool) → test row ≡ a → wide row ≡ false → filter test rows ≡ cond a (row ∷ filter test rows) (filter test rows)
+    no true h e = let t = implies row h in cc
+    no false h e = refl
+
+    by : (b : Bool) → wide row ≡ b → filter test (filter wide rows) ≡ filter test rows → filter test (cond b (row ∷ filter wide rows) (filter wide rows)) ≡ cond (test row) (row ∷ filter test rows) (filter test rows)
+    by true e rest = ap (λ later. cond (test row) (row ∷ later) later) rest
+    by false e rest = rest ∙ no (test row) refl e
+
+-- a number of a range is in it
+range_in : (low top n : ℕ) → low ≤ n → n ≤ top → (nat_le low n && nat_le n top) ≡ true
+range_in low top n h k = grind (arith, nat_tests)
+
+-- the rows of a key among those of a range that has it
+pub narrowed : (low top key : ℕ) → low ≤ key → key ≤ top → (rows : List Vulnerability) → filter (λ row. nat_eq (damage_key row) key) (filter (λ row. nat_le low (damage_key row) && nat_le (damage_key row) top) rows) ≡ filter (λ row. nat_eq (damage_key row) key) rows
+narrowed low top key above below rows =
+    filter_in (λ row. nat_eq (damage_key row) key) (λ row. nat_le low (damage_key row) && nat_le (damage_key row) top)
+    (λ row is. let same = eqb-true (damage_key row) key is in range_in low top (damage_key row) (omega arith) (omega arith))
+    rows

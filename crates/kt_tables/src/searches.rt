@@ -1,19 +1,20 @@
 //! The lookups in a portfolio. None takes memory.
 //! The rules: docs/TABLES.md, "Tables".
-ghost use Rattle.std.specs.Prelude.{◌≡◌, ◌≤◌, ◌<◌, ◌^◌, true, map, unwrap_or};
+ghost use Rattle.std.specs.Prelude.{◌≡◌, ◌≤◌, ◌<◌, ◌+◌, ◌*◌, ◌^◌, ℕ, nat_eq, true, map, unwrap_or};
+ghost use Rattle.std.specs.List.{filter};
 ghost use Rattle.std.specs.HashMap.{get};
-ghost use Rattle.std.specs.List.Sorted.{IsPermutation, IsStrictlyIncreasing};
+ghost use Rattle.std.specs.List.Sorted.{IsPermutation, IsNonDecreasingBy, IsStrictlyIncreasing};
 ghost use Rattle.kt_rec.specs.declared.table.Table.TheVariants as table;
 ghost use Rattle.kt_keys.specs.Keys.{same_pair};
 ghost use Rattle.kt_keys.specs.Refusals.{is_loaded};
 ghost use Rattle.kt_checks.specs.TableChecks.{tiv_of};
-ghost use Rattle.kt_tables.specs.Kept.{AreSummaries, AreExposures};
+ghost use Rattle.kt_tables.specs.Kept.{AreSummaries, AreExposures, damage_key};
 ghost use Rattle.kt_tables.specs.Lookups.{damages_at, item_pairs, items_with, return_periods_of, random_place, random_of, occurrences_of, place_in, summary_rows, has_summary_set, summary_in, exposure_of};
 
 use crate::place::Place;
 use crate::portfolio::Portfolio;
 use crate::summaries::Summaries;
-use kt_index::{pair_key, rows_of};
+use kt_index::{pair_key, rows_between, rows_of};
 use kt_rec::{DamageBin, Item, Occurrence, Perspective, Vulnerability};
 use std::collections::HashMap;
 
@@ -66,15 +67,27 @@ impl Portfolio {
         &self.tables.damage_bin_dict
     }
 
+    /// The damage of a vulnerability: its rows by rising intensity, those of one intensity in table order.
+    pub fn damages_of(&self, vulnerability: u32) -> &[Vulnerability]
+        ensures rising { IsNonDecreasingBy damage_key result.now }
+        ensures value { (intensity : ℕ) → intensity < 2 ^ 32 → filter (λ row. nat_eq (damage_key row) (vulnerability * 2 ^ 32 + intensity)) result.now ≡ damages_at self.now.rows vulnerability intensity }
+    {
+        let low = pair_key(vulnerability, 0);
+        let top = pair_key(vulnerability, u32::MAX);
+        match &self.lookups.damages {
+            Some(sorted) => rows_between(sorted.as_slice(), low, top),
+            None => rows_between(&self.tables.vulnerability, low, top),
+        }
+    }
+
     /// The damage of a vulnerability at an intensity: its rows in table order, none where it has none.
     pub fn damages(&self, vulnerability: u32, intensity: u32) -> &[Vulnerability]
         ensures value { result.now ≡ damages_at self.now.rows vulnerability intensity }
     {
-        let key = pair_key(vulnerability, intensity);
-        match &self.lookups.damages {
-            Some(sorted) => sorted.of(key),
-            None => rows_of(&self.tables.vulnerability, key),
-        }
+        rows_of(
+            self.damages_of(vulnerability),
+            pair_key(vulnerability, intensity),
+        )
     }
 
     /// The insured value of a coverage in cents, 0 where it is unknown.

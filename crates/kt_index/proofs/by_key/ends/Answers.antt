@@ -10,7 +10,7 @@ returns g c =
       value = record {
         start_within = search rules;
         last_within = search rules;
-        below = IsPartitionPoint-from_clause (λ row. ltb (key row) c.args.key) _ _ c.partition_point-start.ensures.partitioned (IsPartitionedBy-ltb key rows c.args.key c.requires) (λ a r q k. search rules);
-        upto = IsPartitionPoint-from_clause (λ row. leb (key row) c.args.key) _ _ c.partition_point-end.ensures.partitioned (IsPartitionedBy-leb key rows c.args.key c.requires) (λ a r q k. search rules);
+        below = IsPartitionPoint-from_clause (λ row. ltb (key row) c.args.low) _ _ c.partition_point-start.ensures.partitioned (IsPartitionedBy-ltb key rows c.args.low c.requires) (λ a r q k. search rules);
+        upto = IsPartitionPoint-from_clause (λ row. leb (key row) c.args.top) _ _ c.partition_point-end.ensures.partitioned (IsPartitionedBy-leb key rows c.args.top c.requires) (λ a r q k. search rules);
       };
     }
