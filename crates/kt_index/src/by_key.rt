@@ -1,5 +1,5 @@
 //! Rows in the order of a key, and the rows of one key.
-ghost use Rattle.std.specs.Prelude.{◌≡◌, ◌≤◌, ◌-◌, ℕ, nat_eq, length, take, drop, IfOk};
+ghost use Rattle.std.specs.Prelude.{◌≡◌, true, ◌≤◌, ◌-◌, ℕ, nat_eq, length, take, drop, IfOk};
 ghost use Rattle.std.specs.List.{filter};
 ghost use Rattle.std.specs.List.Sorted.{IsPermutation, IsNonDecreasingBy};
 ghost use Rattle.kt_index.specs.KeyEnds.{KeyEnds};
@@ -56,10 +56,32 @@ impl<T: Keyed> ByKey<T> {
     pub fn of(&self, key: u64) -> &[T]
         ensures value { result.now ≡ filter (λ row. nat_eq (T.key_of row) key) self.now }
     {
-        let rows = self.rows.as_slice();
-        let (start, end) = ends(rows, key);
-        between(rows, start, end)
+        rows_of(&self.rows, key)
     }
+}
+
+/// Whether rows stand by rising key already.
+pub fn is_by_key<T: Keyed>(rows: &[T]) -> bool
+    ensures rising { result ≡ true → IsNonDecreasingBy T.key_of rows.now }
+{
+    let mut last = 0;
+    for row in rows {
+        let key = row.key();
+        if key < last {
+            return false;
+        }
+        last = key;
+    }
+    true
+}
+
+/// The rows of a key among rows by rising key, none where it has none.
+pub fn rows_of<T: Keyed>(rows: &[T], key: u64) -> &[T]
+    requires { IsNonDecreasingBy T.key_of rows.now }
+    ensures value { result.now ≡ filter (λ row. nat_eq (T.key_of row) key) rows.now }
+{
+    let (start, end) = ends(rows, key);
+    between(rows, start, end)
 }
 
 /// A copy of rows.

@@ -8,6 +8,7 @@ ghost use Rattle.kt_keys.specs.Keys.{same_pair};
 ghost use Rattle.kt_index.specs.Exposure.{summary_covers, value_in, IsTotalOf, AddsUp};
 
 use crate::by_key::{ByKey, Keyed};
+use crate::keys::pair_key;
 use std::alloc::{AllocError, Global};
 use std::collections::{HashMap, HashSet};
 
@@ -31,20 +32,13 @@ pub struct UnitCoverage {
     pub coverage: u32,
 }
 
-/// The key of a summary of a set.
-fn summary_key(set: u32, summary: u32) -> u64
-    ensures value { result ≡ set * 2 ^ 32 + summary }
-{
-    u64::from(set) * 4_294_967_296 + u64::from(summary)
-}
-
 impl Keyed for SummaryUnit {
     ghost use Rattle.std.specs.Prelude.{◌*◌, ◌+◌, ◌^◌};
 
     ghost key_of = { λ row. row.set * 2 ^ 32 + row.summary };
 
     fn key(&self) -> u64 {
-        summary_key(self.set, self.summary)
+        pair_key(self.set, self.summary)
     }
 }
 

@@ -5,5 +5,6 @@ mod by_key;
 mod exposure;
 mod keys;
 
-pub use by_key::{ByKey, Keyed};
+pub use by_key::{ByKey, Keyed, is_by_key, rows_of};
 pub use exposure::{SummaryUnit, UnitCoverage, exposures};
+pub use keys::{PlacedItem, pair_key};

@@ -1,3 +1,4 @@
 pub mod AnswerLemmas
 pub mod ItemLemmas
 pub mod ExposureLemmas
+pub mod DamageLemmas

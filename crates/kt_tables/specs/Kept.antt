@@ -1,7 +1,7 @@
 -- What a portfolio keeps beside its rows, for the lookups.
-use Rattle.std.specs.Prelude.{◌≡◌, ℕ, nat_eq, List, map, unwrap_or}
+use Rattle.std.specs.Prelude.{◌≡◌, ℕ, ◌*◌, ◌+◌, ◌^◌, nat_eq, List, map, Option, None, Some, unwrap_or}
 use Rattle.std.specs.List.{IsDistinct, filter, list_any}
-use Rattle.std.specs.List.Sorted.{IsPermutation}
+use Rattle.std.specs.List.Sorted.{IsPermutation, IsNonDecreasingBy}
 use Rattle.std.specs.Map.{lookup}
 use Rattle.std.specs.HashMap.{HashMap, get}
 use Rattle.std.specs.HashSet.{contains}
@@ -11,10 +11,11 @@ use Rattle.kt_checks.specs.TableChecks.{tiv_of}
 use Rattle.kt_index.specs.Exposure.{AddsUp}
 use Rattle.kt_checks.specs.SummaryChecks.{CountsSummaries}
 use Rattle.kt_tables.specs.Portfolio.{IsPortfolio}
-use Rattle.kt_tables.specs.Lookups.{event_ids, return_periods_of, item_summary_rows, output_summary_rows, place_in, exposure_of}
+use Rattle.kt_tables.specs.Lookups.{event_ids, item_pairs, return_periods_of, item_summary_rows, output_summary_rows, place_in, exposure_of}
 use Rattle.kt_tables.specs.declared.place.Place.{Place}
 use Rattle.kt_rec.specs.declared.perspective.Perspective.{Perspective}
 use Rattle.kt_rec.specs.declared.perspective.Perspective.TheVariants.{Gul, Il}
+use Rattle.kt_rec.specs.declared.hazard.Vulnerability.{Vulnerability}
 use Rattle.kt_rec.specs.declared.periods.Occurrence.{Occurrence}
 use Rattle.kt_tables.specs.declared.lookups.Lookups.{Lookups}
 use Rattle.kt_tables.specs.declared.summaries.SummaryRow.{SummaryRow}
@@ -38,6 +39,15 @@ AreOccurrences rows occurrences = (event : ℕ) → filter (λ row. nat_eq row.e
 abbrev pub ArePlaces : {S : Type 0} → Rows → HashMap ℕ Place S → Type 0
 ArePlaces rows places = (event : ℕ) → get nat_eq places event ≡ place_in rows event
 
+-- the key of a row of vulnerability: its vulnerability, and then its intensity
+abbrev pub damage_key : Vulnerability → ℕ
+damage_key row = row.vulnerability_id * 2 ^ 32 + row.intensity_bin_id
+
+-- the damage of each vulnerability and intensity is found: in the table itself where its rows rise, else in rows that do
+abbrev pub AreDamages : Rows → Option (List Vulnerability) → Type 0
+AreDamages rows None = IsNonDecreasingBy damage_key rows.vulnerability
+AreDamages rows (Some sorted) = (key : ℕ) → filter (λ row. nat_eq (damage_key row) key) sorted ≡ filter (λ row. nat_eq (damage_key row) key) rows.vulnerability
+
 -- what the sums of exposures stand on: distinct coverages, distinct outputs, and values that do not add to 2^64
 pub record AreAddable (rows : Rows) : Type 0 where
   pub coverages : IsDistinct nat_eq (map (λ row. row.coverage_id) rows.coverages)
@@ -53,6 +63,8 @@ pub record AreLookups (rows : Rows) (rule : ℕ) (lookups : Lookups) : Type 0 wh
   pub event_ids : lookups.event_ids.items ≡ event_ids rows
   pub return_periods : lookups.return_periods.items ≡ return_periods_of rows
   pub items : IsPermutation rows.items lookups.items
+  pub pairs : lookups.pairs.items ≡ item_pairs rows.items
+  pub damages : AreDamages rows lookups.damages
   pub tivs : AreTivs rows lookups.tivs
   pub occurrences : AreOccurrences rows lookups.occurrences
   pub places : ArePlaces rows lookups.places

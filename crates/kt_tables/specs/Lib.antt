@@ -2,3 +2,4 @@ pub mod Lookups
 pub mod Portfolio
 pub mod Kept
 pub mod PortfolioLaws
+pub mod DamageLaws

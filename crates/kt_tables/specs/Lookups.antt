@@ -1,10 +1,14 @@
 -- What a lookup in the tables gives: the plain search in their rows.
 -- The rules: docs/TABLES.md, docs/CALCULATION.md.
-use Rattle.std.specs.Prelude.{ℕ, ◌+◌, ◌-◌, ◌*◌, ◌%◌, ◌&&◌, nat_eq, Bool, false, cond, List, length, map, slice_index_or, Option, None, Some}
-use Rattle.std.specs.List.{filter, list_any, sum_by}
+use Rattle.std.specs.Prelude.{ℕ, ◌+◌, ◌-◌, ◌*◌, ◌%◌, ◌&&◌, nat_eq, Bool, false, cond, List, [], length, map, slice_index_or, Option, None, Some}
+use Rattle.std.specs.List.{filter, fold, list_any, sum_by}
+use Rattle.std.specs.Ordering.{nat_cmp, ordering_then}
+use Rattle.std.specs.declared.cmp.Ordering.{Ordering}
+use Rattle.std.specs.BTreeSet.{insert_key}
 use Rattle.std.specs.Map.{lookup}
 use Rattle.kt_rec.specs.Rows.{Rows}
 use Rattle.kt_rec.specs.declared.exposure.Item.{Item}
+use Rattle.kt_rec.specs.declared.hazard.Vulnerability.{Vulnerability}
 use Rattle.kt_rec.specs.declared.periods.Occurrence.{Occurrence}
 use Rattle.kt_rec.specs.declared.perspective.Perspective.{Perspective}
 use Rattle.kt_rec.specs.declared.perspective.Perspective.TheVariants.{Gul, Il, Ri}
@@ -17,6 +21,26 @@ use Rattle.kt_tables.specs.declared.place.Place.{Place}
 -- the events in table order
 abbrev pub event_ids : Rows → List ℕ
 event_ids rows = map (λ row. row.event_id) rows.events
+
+-- an item's areaperil and vulnerability
+abbrev pub pair_of : Item → ℕ × ℕ
+pair_of row = (row.areaperil_id, row.vulnerability_id)
+
+-- the order of pairs: by the first part, and then by the second
+abbrev pub pair_order : ℕ × ℕ → ℕ × ℕ → Ordering
+pair_order one other = ordering_then (nat_cmp one.0 other.0) (nat_cmp one.1 other.1)
+
+-- the pairs of areaperil and vulnerability that some item has, each once, by rising areaperil and then vulnerability
+abbrev pub item_pairs : List Item → List (ℕ × ℕ)
+item_pairs items = fold (λ pairs row. insert_key pair_order pairs (pair_of row)) [] items
+
+-- whether an item has an areaperil and a vulnerability
+abbrev pub has_pair : ℕ → ℕ → Item → Bool
+has_pair areaperil vulnerability row = nat_eq row.areaperil_id areaperil && nat_eq row.vulnerability_id vulnerability
+
+-- the damage of a vulnerability at an intensity: its rows in table order
+abbrev pub damages_at : Rows → ℕ → ℕ → List Vulnerability
+damages_at rows vulnerability intensity = filter (λ row. nat_eq row.vulnerability_id vulnerability && nat_eq row.intensity_bin_id intensity) rows.vulnerability
 
 -- the return periods in table order
 abbrev pub return_periods_of : Rows → List ℕ

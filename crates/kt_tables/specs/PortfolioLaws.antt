@@ -25,7 +25,7 @@ unfolding IsDistinct
 distinct_none key rows none = subst (λ list. IsDistinct nat_eq (map key list)) (sym (nil_from_length rows none)) tt
 
 -- a table that is not loaded has no row
-no_rows : (portfolio : PortfolioRows) → IsPortfolio portfolio → (id : TableId) → IsTableId id → is_loaded portfolio.need id.stage id.table ≡ false → row_count portfolio.rows id ≡ 0
+pub no_rows : (portfolio : PortfolioRows) → IsPortfolio portfolio → (id : TableId) → IsTableId id → is_loaded portfolio.need id.stage id.table ≡ false → row_count portfolio.rows id ≡ 0
 unfolding is_loaded
 no_rows portfolio valid id is absent = valid.only_needed id is absent
 
@@ -62,7 +62,7 @@ outputs_distinct portfolio valid = by (is_loaded portfolio.need 0 FmXref) refl
     by false absent = distinct_none (λ row. row.output_id) portfolio.rows.fm_xref (no_rows portfolio valid (at_stage 0 FmXref) (record { stages = omega arith; financial = inl refl }) absent)
 
 -- no row is past a limit
-within_limit : (most rows : ℕ) → row_past most rows ≡ None → rows ≤ most
+pub within_limit : (most rows : ℕ) → row_past most rows ≡ None → rows ≤ most
 within_limit most rows none = by (nat_lt most rows) refl none
   where
     by : (b : Bool) → nat_lt most rows ≡ b → cond b (Some (most + 1)) None ≡ None → rows ≤ most

@@ -2,18 +2,18 @@
 ghost use Rattle.std.specs.Prelude.{◌≡◌, IfOk};
 ghost use Rattle.std.specs.List.Sorted.{IsPermutation};
 ghost use Rattle.kt_rec.specs.Rows.{rows_of};
-ghost use Rattle.kt_tables.specs.Lookups.{item_summary_rows, output_summary_rows};
-ghost use Rattle.kt_tables.specs.Kept.{AreTivs, AreOccurrences, ArePlaces, AreAddable, AreLookups};
+ghost use Rattle.kt_tables.specs.Lookups.{item_pairs, item_summary_rows, output_summary_rows};
+ghost use Rattle.kt_tables.specs.Kept.{AreTivs, AreDamages, AreOccurrences, ArePlaces, AreAddable, AreLookups};
 
 use crate::columns;
 use crate::exposures::{item_exposures, output_exposures};
 use crate::place::Place;
 use crate::summaries::{Summaries, SummaryRow};
-use kt_index::ByKey;
+use kt_index::{ByKey, is_by_key};
 use kt_keys::first_values;
-use kt_rec::{Item, Occurrence, Tables};
+use kt_rec::{Item, Occurrence, Tables, Vulnerability};
 use std::alloc::{AllocError, Global};
-use std::collections::HashMap;
+use std::collections::{BTreeSet, HashMap};
 
 /// What is kept for the lookups.
 #[derive(Drop)]
@@ -24,6 +24,10 @@ pub(crate) struct Lookups {
     pub(crate) return_periods: Vec<u32>,
     /// The items by rising id.
     pub(crate) items: ByKey<Item>,
+    /// The pairs of areaperil and vulnerability that some item has, each once, rising.
+    pub(crate) pairs: Vec<(u32, u32)>,
+    /// The rows of vulnerability by vulnerability and intensity, where the table is in another order.
+    pub(crate) damages: Option<ByKey<Vulnerability>>,
     /// The insured value of each coverage.
     pub(crate) tivs: HashMap<u32, u64>,
     /// The occurrences by event.
@@ -63,6 +67,38 @@ fn items(alloc: Global, tables: &Tables) -> Result<ByKey<Item>, AllocError>
     ByKey::new(alloc, &tables.items)
 }
 
+/// The pairs of areaperil and vulnerability that some item has, in order.
+fn pair_set(alloc: Global, items: &[Item]) -> Result<BTreeSet<(u32, u32)>, AllocError>
+    ensures value { IfOk result (λ pairs. pairs.keys ≡ item_pairs items.now) }
+{
+    let mut pairs: BTreeSet<(u32, u32)> = BTreeSet::new(alloc);
+    for row in items {
+        pairs.insert((row.areaperil_id, row.vulnerability_id))?;
+    }
+    Ok(pairs)
+}
+
+/// The pairs of areaperil and vulnerability that some item has, each once, rising.
+fn pairs(alloc: Global, items: &[Item]) -> Result<Vec<(u32, u32)>, AllocError>
+    ensures value { IfOk result (λ pairs. pairs.items ≡ item_pairs items.now) }
+{
+    let pairs = pair_set(alloc, items)?;
+    pairs.iter().copied().collect(alloc)
+}
+
+/// The rows of vulnerability by vulnerability and intensity; nothing where the table is in that order.
+fn damages(
+    alloc: Global,
+    tables: &Tables,
+) -> Result<Option<ByKey<Vulnerability>>, AllocError>
+    ensures value { IfOk result (AreDamages (rows_of tables.now)) }
+{
+    if is_by_key(&tables.vulnerability) {
+        return Ok(None);
+    }
+    Ok(Some(ByKey::new(alloc, &tables.vulnerability)?))
+}
+
 /// The occurrences by event.
 fn occurrences(alloc: Global, tables: &Tables) -> Result<ByKey<Occurrence>, AllocError>
     ensures value { IfOk result (AreOccurrences (rows_of tables.now)) }
@@ -98,6 +134,8 @@ impl Lookups {
             event_ids: columns::event_ids(alloc, &tables.events)?,
             return_periods: columns::return_periods(alloc, &tables.returnperiods)?,
             items: items(alloc, tables)?,
+            pairs: pairs(alloc, &tables.items)?,
+            damages: damages(alloc, tables)?,
             occurrences: occurrences(alloc, tables)?,
             places: places(alloc, tables)?,
             of_items: Summaries::new(alloc, &item_rows)?,

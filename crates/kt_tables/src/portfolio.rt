@@ -1,11 +1,14 @@
 //! A valid portfolio: tables that no check refuses.
 //! The rules: docs/CHECKS.md.
-ghost use Rattle.std.specs.Prelude.{◌≡◌, ◌⊎◌, None, IfOk, IfErr};
+ghost use Rattle.std.specs.Prelude.{◌≡◌, ◌⊎◌, true, None, IfOk, IfErr};
 ghost use Rattle.kt_rec.specs.Ranges.{AreInRange};
 ghost use Rattle.kt_rec.specs.Rows.{rows_of};
 ghost use Rattle.kt_checks.specs.Checks.{first_refusal, samples_refusal, answer_of};
 ghost use Rattle.kt_tables.specs.Portfolio.{HasOnlyNeeded, IsPortfolio};
 ghost use Rattle.kt_tables.specs.Lookups.{event_ids};
+ghost use Rattle.kt_tables.specs.DamageLaws.{KeepsDamage};
+ghost use Rattle.kt_keys.specs.Refusals.{is_loaded};
+ghost use Rattle.kt_rec.specs.declared.table.Table.TheVariants as table;
 
 use crate::lookups::Lookups;
 use kt_checks::{CheckStop, Need, SummaryCounts, first_check, samples_check, summary_counts};
@@ -91,6 +94,15 @@ impl Portfolio {
     /// Says what every portfolio keeps.
     pub fn is_valid(&self)
         ensures valid { IsPortfolio self.now }
+    {
+        let _ = &self.need;
+    }
+
+    /// Says what every portfolio keeps of damage where the damage bins are loaded: they stand in order and are at most 1,000,
+    /// each damage is of one of them, and the probabilities of a vulnerability at an intensity are bounded.
+    pub fn keeps_damage(&self)
+        requires loaded { is_loaded self.now.need 0 table.DamageBinDict ≡ true }
+        ensures kept { KeepsDamage self.now.rows }
     {
         let _ = &self.need;
     }

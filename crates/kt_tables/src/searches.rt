@@ -8,12 +8,13 @@ ghost use Rattle.kt_keys.specs.Keys.{same_pair};
 ghost use Rattle.kt_keys.specs.Refusals.{is_loaded};
 ghost use Rattle.kt_checks.specs.TableChecks.{tiv_of};
 ghost use Rattle.kt_tables.specs.Kept.{AreSummaries, AreExposures};
-ghost use Rattle.kt_tables.specs.Lookups.{return_periods_of, random_place, random_of, occurrences_of, place_in, summary_rows, has_summary_set, summary_in, exposure_of};
+ghost use Rattle.kt_tables.specs.Lookups.{damages_at, item_pairs, return_periods_of, random_place, random_of, occurrences_of, place_in, summary_rows, has_summary_set, summary_in, exposure_of};
 
 use crate::place::Place;
 use crate::portfolio::Portfolio;
 use crate::summaries::Summaries;
-use kt_rec::{Item, Occurrence, Perspective};
+use kt_index::{pair_key, rows_of};
+use kt_rec::{DamageBin, Item, Occurrence, Perspective, Vulnerability};
 use std::collections::HashMap;
 
 /// The place of the random number of an event, a group and a sample, of so many numbers.
@@ -42,6 +43,31 @@ impl Portfolio {
         ensures rising { IsStrictlyIncreasing (map (λ row. row.item_id) result.now) }
     {
         self.lookups.items.as_slice()
+    }
+
+    /// The pairs of areaperil and vulnerability that some item has, each once, by rising areaperil and then vulnerability.
+    pub fn pairs(&self) -> &[(u32, u32)]
+        ensures value { result.now ≡ item_pairs self.now.rows.items }
+    {
+        &self.lookups.pairs
+    }
+
+    /// The rows of the dictionary of damage bins in table order, which is that of their bins.
+    pub fn damage_bins(&self) -> &[DamageBin]
+        ensures value { result.now ≡ self.now.rows.damage_bin_dict }
+    {
+        &self.tables.damage_bin_dict
+    }
+
+    /// The damage of a vulnerability at an intensity: its rows in table order, none where it has none.
+    pub fn damages(&self, vulnerability: u32, intensity: u32) -> &[Vulnerability]
+        ensures value { result.now ≡ damages_at self.now.rows vulnerability intensity }
+    {
+        let key = pair_key(vulnerability, intensity);
+        match &self.lookups.damages {
+            Some(sorted) => sorted.of(key),
+            None => rows_of(&self.tables.vulnerability, key),
+        }
     }
 
     /// The insured value of a coverage in cents, 0 where it is unknown.

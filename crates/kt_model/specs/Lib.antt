@@ -1,0 +1,3 @@
+pub mod FootRows
+pub mod Distribution
+pub mod Seen

@@ -1,0 +1,2 @@
+//! The damage distributions of an event.
+//! The rules: docs/CALCULATION.md, "Damage distribution".

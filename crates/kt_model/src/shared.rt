@@ -1,0 +1,14 @@
+//! The public types may be sent to threads and shared by them.
+use crate::foot_rows::{ModelStop, RowCause};
+use crate::records::Records;
+use kt_stream::Cdf;
+
+/// Takes what may be sent to threads and shared by them.
+fn is_shared<T: Send + Sync>(_: &T) {}
+
+/// Each public type once.
+pub(crate) fn are_shared(records: &Records<Cdf>, stop: &ModelStop, cause: &RowCause) {
+    is_shared(records);
+    is_shared(stop);
+    is_shared(cause);
+}
