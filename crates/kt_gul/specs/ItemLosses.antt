@@ -1,0 +1,12 @@
+-- What the losses of an item by a distribution stand on.
+use Rattle.std.specs.Prelude.{◌≡◌, ℕ, ◌≤◌, List}
+use Rattle.kt_stream.specs.declared.entry.Bin.{Bin}
+use Rattle.kt_gul.specs.declared.moments.DamageMoments.{DamageMoments}
+use Rattle.kt_gul.specs.ItemMoments.{means_behind, damage_deviation}
+
+-- the mean and the deviation of the damage are those of a distribution, and in their ranges
+pub record AreMoments (bins : List Bin) (moments : DamageMoments) : Type 0 where
+  pub mean_is : moments.mean ≡ means_behind 0 bins
+  pub deviation_is : moments.deviation ≡ damage_deviation bins
+  pub mean_within : moments.mean ≤ 1002001000000000000
+  pub deviation_within : moments.deviation ≤ 1002001000000000000

@@ -1,0 +1,7 @@
+pub mod SampledLoss
+pub mod ItemMoments
+pub mod GroundUp
+pub mod Sampled
+pub mod MomentSums
+pub mod ItemLosses
+pub mod Examples
