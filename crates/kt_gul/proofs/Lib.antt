@@ -1,2 +1,4 @@
 pub mod SampleLemmas
 pub mod MomentLemmas
+pub mod RandomLemmas
+pub mod ItemLemmas

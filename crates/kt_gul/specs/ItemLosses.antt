@@ -1,5 +1,6 @@
 -- What the losses of an item by a distribution stand on.
-use Rattle.std.specs.Prelude.{◌≡◌, ℕ, ◌≤◌, List}
+use Rattle.std.specs.Prelude.{◌≡◌, ℕ, ◌+◌, ◌<◌, ◌≤◌, List, map}
+use Rattle.std.specs.List.{range_with_len}
 use Rattle.kt_stream.specs.declared.entry.Bin.{Bin}
 use Rattle.kt_gul.specs.declared.moments.DamageMoments.{DamageMoments}
 use Rattle.kt_gul.specs.ItemMoments.{means_behind, damage_deviation}
@@ -10,3 +11,9 @@ pub record AreMoments (bins : List Bin) (moments : DamageMoments) : Type 0 where
   pub deviation_is : moments.deviation ≡ damage_deviation bins
   pub mean_within : moments.mean ≤ 1002001000000000000
   pub deviation_within : moments.deviation ≤ 1002001000000000000
+
+-- behind so many samples the losses are those at the places so far, and the next random number has this place
+pub record AreMade (loss place_of : ℕ → ℕ) (numbers made : ℕ) (losses : List ℕ) (place : ℕ) : Type 0 where
+  pub losses_are : losses ≡ map loss (range_with_len 0 (made + 2))
+  pub place_is : place ≡ place_of (made + 1)
+  pub within : place < numbers
