@@ -2,3 +2,4 @@ pub mod SampleLemmas
 pub mod MomentLemmas
 pub mod RandomLemmas
 pub mod ItemLemmas
+pub mod PairLemmas

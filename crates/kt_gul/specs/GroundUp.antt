@@ -58,13 +58,15 @@ total_before loss items item =
 abbrev pub cut_loss : ℕ → ℕ → ℕ → ℕ → ℕ
 cut_loss tiv total before loss = cond (nat_lt tiv total) (share_of tiv total before loss) loss
 
--- the ground-up loss of an item at a place: the deviation is never cut
+-- the loss at a place of an item, with the cut or without it: the deviation, at the first place, is never cut
+abbrev pub final_loss : Bool → ℕ → ℕ → ℕ → ℕ → ℕ → ℕ
+final_loss cut tiv total before loss place = cond (cut && not (nat_eq place 0)) (cut_loss tiv total before loss) loss
+
+-- the ground-up loss of an item at a place
 abbrev pub ground_up_loss : Rows → Bool → ℕ → List Cdf → Item → ℕ → ℕ
 ground_up_loss rows cut event cdfs row place =
     let loss : Item → ℕ = λ other. raw_loss rows event cdfs other place in
-    cond (cut && not (nat_eq place 0))
-    (cut_loss (item_tiv rows row) (coverage_total loss rows.items row.coverage_id) (total_before loss rows.items row) (loss row))
-    (loss row)
+    final_loss cut (item_tiv rows row) (coverage_total loss rows.items row.coverage_id) (total_before loss rows.items row) (loss row) place
 
 -- ---- the records
 

@@ -4,4 +4,6 @@ pub mod GroundUp
 pub mod Sampled
 pub mod MomentSums
 pub mod ItemLosses
+pub mod Coverage
+pub mod Sums
 pub mod Examples

@@ -1,8 +1,12 @@
 //! Ground-up losses: the sampled loss, the mean and the deviation of each item in an event.
 #![tactic(auto)]
 
+mod cut;
 mod item;
 mod moments;
+mod pairs;
 mod quotient;
 mod random;
 mod sampling;
+mod struck;
+mod sums;

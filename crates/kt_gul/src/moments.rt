@@ -70,7 +70,7 @@ impl DamageMoments {
         requires value { tiv ≤ 10 ^ 14 }
         requires deviation { self.now.deviation ≤ 1002001000000000000 }
         ensures value { result ≡ tiv * self.now.deviation / 10 ^ 18 }
-        ensures most { result ≤ 10 ^ 16 }
+        ensures most { result ≤ 100200100000000 }
     {
         (u128::from(tiv) * u128::from(self.deviation) / WHOLE) as u64
     }

@@ -1,0 +1,1 @@
+use Rattle.kt_gul.proofs.pairs.item_pairs.Goals as goal
