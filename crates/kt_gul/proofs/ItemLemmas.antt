@@ -1,6 +1,7 @@
 -- The losses of an item, place by place.
-use Rattle.std.proofs.Common.{◌≡◌, ℕ, zero, suc, ◌+◌, ◌*◌, ◌<◌, List, [], ◌∷◌, ◌++◌, length, map, slice_index_or, refl, sym, ap, subst, arith, ◌∙◌}
+use Rattle.std.proofs.Common.{◌≡◌, ℕ, zero, suc, ◌+◌, ◌*◌, ◌<◌, ◌≤◌, List, [], ◌∷◌, ◌++◌, length, map, slice_index_or, refl, sym, ap, subst, arith, ◌∙◌}
 use Rattle.std.specs.List.{range_with_len}
+use Rattle.std.proofs.lemmas.List.Elements.{All-push}
 use Rattle.std.proofs.lemmas.List.FromFn.{map-range_with_len_more}
 use Rattle.kt_rec.specs.Rows.{Rows}
 use Rattle.kt_rec.specs.declared.exposure.Item.{Item}
@@ -24,8 +25,8 @@ sample_is rows event bins row made tiv dictionary numbers place random value tiv
     ∙ (ap (λ random. sampled_loss (item_tiv rows row) rows.damage_bin_dict bins (random * 1000000)) drawn ∙ sym (loss_by-sample rows event bins row made))))
 
 -- one more sample
-pub made_more : (loss place_of : ℕ → ℕ) (numbers made : ℕ) (losses longer : List ℕ) (place next value : ℕ) → AreMade loss place_of numbers made losses place → longer ≡ losses ++ value ∷ [] → value ≡ loss (made + 2) → next ≡ place_of (made + 2) → next < numbers → AreMade loss place_of numbers (made + 1) longer next
-made_more loss place_of numbers made losses longer place next value here longer_is value_is next_is within = record {
+pub made_more : (loss place_of : ℕ → ℕ) (numbers made : ℕ) (losses longer : List ℕ) (place next value : ℕ) → AreMade loss place_of numbers made losses place → longer ≡ losses ++ value ∷ [] → value ≡ loss (made + 2) → next ≡ place_of (made + 2) → next < numbers → value ≤ 100200100000000 → AreMade loss place_of numbers (made + 1) longer next
+made_more loss place_of numbers made losses longer place next value here longer_is value_is next_is within few = record {
   losses_are =
       let e : made + 1 + 2 ≡ (made + 2) + 1 = omega arith in
       let more = map-range_with_len_more loss 0 (made + 2) (made + 2) (omega arith) in
@@ -33,4 +34,5 @@ made_more loss place_of numbers made losses longer place next value here longer_
       rw e cc;
   place_is = next_is ∙ ap place_of (omega arith);
   within = within;
+  most = rw longer_is (All-push (λ loss. loss ≤ 100200100000000) losses value here.most few);
 }

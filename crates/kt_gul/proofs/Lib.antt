@@ -3,3 +3,4 @@ pub mod MomentLemmas
 pub mod RandomLemmas
 pub mod ItemLemmas
 pub mod PairLemmas
+pub mod CoverageLemmas

@@ -1,6 +1,6 @@
 -- The pairs of losses, place by place.
-use Rattle.std.proofs.Common.{◌≡◌, ℕ, zero, suc, ◌+◌, ◌<◌, List, [], ◌∷◌, ◌++◌, Option, Some, None, refl, sym, ap, arith, ◌∙◌, add-one, append-nil}
-use Rattle.std.specs.List.{filter_map, range_with_len}
+use Rattle.std.proofs.Common.{◌≡◌, ℕ, zero, suc, ◌+◌, ◌<◌, ◌≤◌, List, [], ◌∷◌, ◌++◌, Option, Some, None, refl, sym, ap, arith, ◌∙◌, add-one, append-nil}
+use Rattle.std.specs.List.{filter_map, range_with_len, cons_option}
 use Rattle.std.proofs.lemmas.List.Elements.{filter_map-append}
 use Rattle.kt_stream.specs.declared.entry.Pair.{Pair}
 use Rattle.kt_gul.specs.GroundUp.{pair_at, pairs_of, sidx_at}
@@ -27,11 +27,23 @@ no_pair : (f : ℕ → ℕ) (n : ℕ) → f n ≡ 0 → filter_map (λ place. pa
 no_pair f n none = rw none refl
 
 -- a place with a loss adds its pair
-pub pairs_push : (f : ℕ → ℕ) (n loss : ℕ) (pairs longer : List Pair) → pairs ≡ filter_map (λ place. pair_at place (f place)) (range_with_len 0 n) → loss ≡ f n → 0 < loss → longer ≡ pairs ++ record { sidx = sidx_at n; loss = loss } ∷ [] → longer ≡ filter_map (λ place. pair_at place (f place)) (range_with_len 0 (n + 1))
-pairs_push f n loss pairs longer are is some longer_is =
-    longer_is ∙ (ap (λ pairs. pairs ++ record { sidx = sidx_at n; loss = loss } ∷ []) are ∙ (ap (λ more. filter_map (λ place. pair_at place (f place)) (range_with_len 0 n) ++ more) (sym (pair_of f n loss (sym is) some)) ∙ sym (pairs_upto f n)))
+pub pairs_push : (f : ℕ → ℕ) (n loss : ℕ) (pair : Pair) (pairs longer : List Pair) → pairs ≡ filter_map (λ place. pair_at place (f place)) (range_with_len 0 n) → loss ≡ f n → 0 < loss → pair ≡ record { sidx = sidx_at n; loss = loss } → longer ≡ pairs ++ pair ∷ [] → longer ≡ filter_map (λ place. pair_at place (f place)) (range_with_len 0 (n + 1))
+pairs_push f n loss pair pairs longer are is some pair_is longer_is =
+    longer_is ∙ (ap (λ pairs. pairs ++ pair ∷ []) are ∙ (ap (λ pair. filter_map (λ place. pair_at place (f place)) (range_with_len 0 n) ++ pair ∷ []) pair_is
+    ∙ (ap (λ more. filter_map (λ place. pair_at place (f place)) (range_with_len 0 n) ++ more) (sym (pair_of f n loss (sym is) some)) ∙ sym (pairs_upto f n))))
 
 -- a place without a loss adds none
 pub pairs_skip : (f : ℕ → ℕ) (n : ℕ) (pairs : List Pair) → pairs ≡ filter_map (λ place. pair_at place (f place)) (range_with_len 0 n) → 0 ≡ f n → pairs ≡ filter_map (λ place. pair_at place (f place)) (range_with_len 0 (n + 1))
 pairs_skip f n pairs are none =
     are ∙ (sym (append-nil (filter_map (λ place. pair_at place (f place)) (range_with_len 0 n))) ∙ (ap (λ more. filter_map (λ place. pair_at place (f place)) (range_with_len 0 n) ++ more) (sym (no_pair f n (sym none))) ∙ sym (pairs_upto f n)))
+
+-- equal losses have equal pairs
+pub pairs_agree : (f g : ℕ → ℕ) (samples : ℕ) → ((place : ℕ) → place < samples + 2 → f place ≡ g place) → pairs_of f samples ≡ pairs_of g samples
+pairs_agree f g samples same = from 0 (samples + 2) (λ place low high. same place (omega arith))
+  where
+    from : (a n : ℕ) → ((place : ℕ) → a ≤ place → place < a + n → f place ≡ g place) → filter_map (λ place. pair_at place (f place)) (range_with_len a n) ≡ filter_map (λ place. pair_at place (g place)) (range_with_len a n)
+    from a zero same = refl
+    from a (suc n) same =
+        let first = ap (pair_at a) (same a (omega arith) (omega arith)) in
+        let rest = from (a + 1) n (λ place low high. same place (omega arith) (omega arith)) in
+        ap (λ first. cons_option first (filter_map (λ place. pair_at place (f place)) (range_with_len (a + 1) n))) first ∙ ap (cons_option (pair_at a (g a))) rest

@@ -1,5 +1,5 @@
 -- What the losses of an item by a distribution stand on.
-use Rattle.std.specs.Prelude.{◌≡◌, ℕ, ◌+◌, ◌<◌, ◌≤◌, List, map}
+use Rattle.std.specs.Prelude.{◌≡◌, ℕ, ◌+◌, ◌<◌, ◌≤◌, List, map, All}
 use Rattle.std.specs.List.{range_with_len}
 use Rattle.kt_stream.specs.declared.entry.Bin.{Bin}
 use Rattle.kt_gul.specs.declared.moments.DamageMoments.{DamageMoments}
@@ -17,3 +17,4 @@ pub record AreMade (loss place_of : ℕ → ℕ) (numbers made : ℕ) (losses : 
   pub losses_are : losses ≡ map loss (range_with_len 0 (made + 2))
   pub place_is : place ≡ place_of (made + 1)
   pub within : place < numbers
+  pub most : All (λ loss. loss ≤ 100200100000000) losses

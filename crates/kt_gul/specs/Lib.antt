@@ -6,4 +6,5 @@ pub mod MomentSums
 pub mod ItemLosses
 pub mod Coverage
 pub mod Sums
+pub mod Gathered
 pub mod Examples

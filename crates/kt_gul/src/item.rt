@@ -1,6 +1,6 @@
 //! The losses of one item: its deviation, its mean and its samples, before the cut.
 //! The rules: docs/CALCULATION.md, "Sampled loss", "Mean and deviation of an item".
-ghost use Rattle.std.specs.Prelude.{◌≡◌, ◌+◌, ◌≤◌, ◌^◌, true, length, map, IfOk};
+ghost use Rattle.std.specs.Prelude.{◌≡◌, ◌+◌, ◌≤◌, ◌^◌, true, length, map, IfOk, All};
 ghost use Rattle.std.specs.List.{range_with_len};
 ghost use Rattle.kt_rec.specs.declared.table.Table.TheVariants as table;
 ghost use Rattle.kt_keys.specs.Refusals.{is_loaded};
@@ -44,6 +44,7 @@ pub(crate) fn item_losses(
     requires ranges { CanSample (item_tiv portfolio.now.rows item) portfolio.now.rows.damage_bin_dict bins.now }
     requires moments { AreMoments bins.now moments }
     ensures value { IfOk result (λ losses. losses.items ≡ map (loss_by portfolio.now.rows event bins.now item) (range_with_len 0 (samples + 2))) }
+    ensures most { IfOk result (λ losses. All (λ loss. loss ≤ 100200100000000) losses.items) }
 {
     let tiv = portfolio.tiv(item.coverage_id);
     let dictionary = portfolio.damage_bins();

@@ -1,6 +1,7 @@
 //! Ground-up losses: the sampled loss, the mean and the deviation of each item in an event.
 #![tactic(auto)]
 
+mod coverage;
 mod cut;
 mod item;
 mod moments;

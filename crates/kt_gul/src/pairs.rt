@@ -20,6 +20,18 @@ fn sidx_at(place: usize) -> i32
     }
 }
 
+/// The pair of a loss at a place.
+#[inline]
+fn pair_at(place: usize, loss: u64) -> Pair
+    requires { place ≤ 1001 }
+    ensures value { result ≡ record { sidx = sidx_at place; loss = loss } }
+{
+    Pair {
+        sidx: sidx_at(place),
+        loss,
+    }
+}
+
 /// The pairs of losses, with the cut or without it, where `totals` are those of the coverage and `before` those of its items
 /// with lower ids.
 pub(crate) fn item_pairs(
@@ -43,7 +55,7 @@ pub(crate) fn item_pairs(
     for place in 0..samples as usize + 2 {
         let loss = final_loss(cut, tiv, totals[place], before[place], losses[place], place);
         if loss > 0 {
-            pairs.push(Pair { sidx: sidx_at(place), loss })?;
+            pairs.push(pair_at(place, loss))?;
         }
     }
     Ok(pairs)

@@ -1,4 +1,4 @@
-use Rattle.std.proofs.Common.{◌≡◌, ℕ, ◌+◌, ◌*◌, length, ap, ◌∙◌}
+use Rattle.std.proofs.Common.{◌≡◌, ℕ, ◌+◌, ◌*◌, length, ap, ◌∙◌, arith}
 use Rattle.kt_tables.specs.Lookups.{random_place}
 use Rattle.kt_gul.specs.SampledLoss.{sampled_loss}
 use Rattle.kt_gul.specs.GroundUp.{loss_by}
@@ -17,3 +17,4 @@ loop-sample-preserved c =
     (sample_is rows c.args.event c.args.bins.now c.args.item made _ _ numbers c.loop-sample.place c.random_at.result _ c.tiv-tiv.ensures.value c.damage_bins-dictionary.ensures.value c.numbers_of-numbers.ensures.value here.place_is c.random_at.ensures.value value)
     (c.next_place-place.ensures.value c.args.event c.args.item.group_id made here.place_is)
     c.next_place-place.ensures.within
+    (omega (arith, c.sampled_loss.ensures.most, c.tiv-tiv.ensures.value, c.requires.ranges.value))
