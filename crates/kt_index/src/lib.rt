@@ -7,4 +7,4 @@ mod keys;
 
 pub use by_key::{ByKey, Keyed, is_by_key, rows_of};
 pub use exposure::{SummaryUnit, UnitCoverage, exposures};
-pub use keys::{PlacedItem, pair_key};
+pub use keys::pair_key;

@@ -1,3 +1,4 @@
 pub mod FootRows
 pub mod Distribution
 pub mod Seen
+pub mod Scratch

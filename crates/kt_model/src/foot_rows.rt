@@ -1,7 +1,7 @@
 //! The check of the footprint rows of an event.
 //! The rules: docs/CHECKS.md, "Footprint rows of an event".
-ghost use Rattle.std.specs.Prelude.{◌≡◌, ◌⊎◌, List, [], ◌∷◌, ◌++◌, None, Some, OnOk, IfOk, IfErr};
-ghost use Rattle.kt_model.specs.FootRows.{field_cause, row_cause, first_refused_row};
+ghost use Rattle.std.specs.Prelude.{◌≡◌, ◌≤◌, ◌⊎◌, ℕ, List, [], ◌∷◌, ◌++◌, None, Some, OnOk, IfOk, IfErr};
+ghost use Rattle.kt_model.specs.FootRows.{areaperil_total, field_cause, row_cause, first_refused_row};
 ghost use Rattle.kt_model.specs.Seen.{IsSeen};
 ghost use Rattle.kt_model.specs.declared.foot_rows.ModelStop.TheVariants.{OutOfMemory};
 ghost use Rattle.kt_rec.specs.declared.hazard.FootRow.{FootRow};
@@ -95,11 +95,11 @@ impl Seen {
             return Ok(Some(RowCause::Twice));
         }
         let before = self.totals.get(&row.areaperil).copied().unwrap_or(0);
-        if u64::from(row.prob) > 1_001_000 - before {
+        let total = before.saturating_add(u64::from(row.prob));
+        if total > 1_001_000 {
             return Ok(Some(RowCause::Sum));
         }
-        self.totals
-            .insert(row.areaperil, before + u64::from(row.prob))?;
+        self.totals.insert(row.areaperil, total)?;
         Ok(None)
     }
 }
@@ -107,6 +107,7 @@ impl Seen {
 /// Judges the rows of an event's footprint: the first that is refused, with its cause, or want of memory.
 pub(crate) fn check_rows(alloc: Global, rows: &[FootRow]) -> Result<(), ModelStop>
     ensures ok { OnOk result (first_refused_row rows.now ≡ None) }
+    ensures within { OnOk result ((areaperil : ℕ) → areaperil_total rows.now areaperil ≤ 1001000) }
 
     ensures refused { IfErr result (λ stop. (first_refused_row rows.now ≡ Some stop) ⊎ (stop ≡ OutOfMemory)) }
 {

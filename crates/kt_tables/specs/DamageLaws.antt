@@ -1,18 +1,17 @@
 -- What the damage bins and the vulnerabilities of every portfolio keep, where damage bins are loaded.
 -- The rules: docs/CHECKS.md.
-use Rattle.std.specs.Prelude.{◌≡◌, ℕ, ◌≤◌, ◌<◌, ◌+◌, ◌-◌, ◌&&◌, ◌||◌, ◌∷◌, ◌++◌, Bool, true, false, not, cond, nat_eq, nat_lt, List, [], length, take, map, refl, Option, None, Some, All, slice_index_or, zero, suc}
-use Rattle.std.specs.List.{AllPass, filter, list_any, sum_by}
+use Rattle.std.specs.Prelude.{◌≡◌, ℕ, ◌≤◌, ◌<◌, ◌+◌, ◌&&◌, ◌||◌, ◌∷◌, ◌++◌, Bool, true, false, not, cond, nat_eq, nat_lt, List, [], length, take, map, refl, Option, None, Some, All, slice_index_or, zero, suc}
+use Rattle.std.specs.List.{filter, list_any, sum_by}
 use Rattle.std.proofs.Common.{sym, subst, ap, ◌∙◌, arith, inl, append-nil, append_assoc, zero-add}
-use Rattle.std.proofs.lemmas.Bool.{eqb-true, ltb-false, not-false, or_parts}
+use Rattle.std.proofs.lemmas.Bool.{eqb-true, not-false, or_parts}
 use Rattle.std.proofs.lemmas.Bool.Decides.{nat_tests}
 use Rattle.std.proofs.lemmas.List.{nil_from_length, length-take-le, length-map, get_or-map}
 use Rattle.std.proofs.lemmas.List.Sums.{sum_by-cons}
 use Rattle.kt_rec.specs.Rows.{Rows}
-use Rattle.kt_rec.specs.Ranges.{IsVulnerability, IsDamageBin}
 use Rattle.kt_rec.specs.declared.hazard.DamageBin.{DamageBin}
 use Rattle.kt_rec.specs.declared.hazard.Vulnerability.{Vulnerability as Damage}
 use Rattle.kt_rec.specs.declared.table.Table.TheVariants.{DamageBinDict, Vulnerability}
-use Rattle.kt_keys.specs.FirstRow.{first_refused_after, total_of, unknown_at}
+use Rattle.kt_keys.specs.FirstRow.{first_refused_after, total_of}
 use Rattle.kt_keys.specs.Keys.{same_pair}
 use Rattle.kt_keys.specs.Refusals.{at_stage, is_loaded}
 use Rattle.kt_checks.specs.CheckLaws.{each_none, no_row, each_known, keeps-from_valid}

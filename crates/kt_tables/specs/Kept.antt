@@ -15,6 +15,7 @@ use Rattle.kt_tables.specs.Lookups.{event_ids, item_pairs, return_periods_of, it
 use Rattle.kt_tables.specs.declared.place.Place.{Place}
 use Rattle.kt_rec.specs.declared.perspective.Perspective.{Perspective}
 use Rattle.kt_rec.specs.declared.perspective.Perspective.TheVariants.{Gul, Il}
+use Rattle.kt_rec.specs.declared.exposure.Item.{Item}
 use Rattle.kt_rec.specs.declared.hazard.Vulnerability.{Vulnerability}
 use Rattle.kt_rec.specs.declared.periods.Occurrence.{Occurrence}
 use Rattle.kt_tables.specs.declared.lookups.Lookups.{Lookups}
@@ -39,6 +40,14 @@ AreOccurrences rows occurrences = (event : ℕ) → filter (λ row. nat_eq row.e
 abbrev pub ArePlaces : {S : Type 0} → Rows → HashMap ℕ Place S → Type 0
 ArePlaces rows places = (event : ℕ) → get nat_eq places event ≡ place_in rows event
 
+-- the key of an item: its areaperil, and then its vulnerability
+abbrev pub item_key : Item → ℕ
+item_key row = row.areaperil_id * 2 ^ 32 + row.vulnerability_id
+
+-- the items of each key are those of the table, in table order
+abbrev pub AreByPair : Rows → List Item → Type 0
+AreByPair rows sorted = (key : ℕ) → filter (λ row. nat_eq (item_key row) key) sorted ≡ filter (λ row. nat_eq (item_key row) key) rows.items
+
 -- the key of a row of vulnerability: its vulnerability, and then its intensity
 abbrev pub damage_key : Vulnerability → ℕ
 damage_key row = row.vulnerability_id * 2 ^ 32 + row.intensity_bin_id
@@ -62,7 +71,9 @@ AreExposures perspective rows rule exposures = (key : ℕ × ℕ) → unwrap_or 
 pub record AreLookups (rows : Rows) (rule : ℕ) (lookups : Lookups) : Type 0 where
   pub event_ids : lookups.event_ids.items ≡ event_ids rows
   pub return_periods : lookups.return_periods.items ≡ return_periods_of rows
-  pub items : IsPermutation rows.items lookups.items
+  pub items : IsPermutation rows.items lookups.items.items
+  pub rising : IsNonDecreasingBy (λ row. row.item_id) lookups.items.items
+  pub by_pair : AreByPair rows lookups.by_pair
   pub pairs : lookups.pairs.items ≡ item_pairs rows.items
   pub damages : AreDamages rows lookups.damages
   pub tivs : AreTivs rows lookups.tivs

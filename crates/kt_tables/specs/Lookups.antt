@@ -34,9 +34,9 @@ pair_order one other = ordering_then (nat_cmp one.0 other.0) (nat_cmp one.1 othe
 abbrev pub item_pairs : List Item → List (ℕ × ℕ)
 item_pairs items = fold (λ pairs row. insert_key pair_order pairs (pair_of row)) [] items
 
--- whether an item has an areaperil and a vulnerability
-abbrev pub has_pair : ℕ → ℕ → Item → Bool
-has_pair areaperil vulnerability row = nat_eq row.areaperil_id areaperil && nat_eq row.vulnerability_id vulnerability
+-- the items of an areaperil and a vulnerability, in table order
+abbrev pub items_with : Rows → ℕ → ℕ → List Item
+items_with rows areaperil vulnerability = filter (λ row. nat_eq row.areaperil_id areaperil && nat_eq row.vulnerability_id vulnerability) rows.items
 
 -- the damage of a vulnerability at an intensity: its rows in table order
 abbrev pub damages_at : Rows → ℕ → ℕ → List Vulnerability

@@ -1,9 +1,9 @@
 //! What is kept for the lookups in the tables.
 ghost use Rattle.std.specs.Prelude.{◌≡◌, IfOk};
-ghost use Rattle.std.specs.List.Sorted.{IsPermutation};
+ghost use Rattle.std.specs.List.Sorted.{IsPermutation, IsNonDecreasingBy};
 ghost use Rattle.kt_rec.specs.Rows.{rows_of};
 ghost use Rattle.kt_tables.specs.Lookups.{item_pairs, item_summary_rows, output_summary_rows};
-ghost use Rattle.kt_tables.specs.Kept.{AreTivs, AreDamages, AreOccurrences, ArePlaces, AreAddable, AreLookups};
+ghost use Rattle.kt_tables.specs.Kept.{AreTivs, AreByPair, AreDamages, AreOccurrences, ArePlaces, AreAddable, AreLookups};
 
 use crate::columns;
 use crate::exposures::{item_exposures, output_exposures};
@@ -23,7 +23,9 @@ pub(crate) struct Lookups {
     /// The return periods in table order.
     pub(crate) return_periods: Vec<u32>,
     /// The items by rising id.
-    pub(crate) items: ByKey<Item>,
+    pub(crate) items: Vec<Item>,
+    /// The items by areaperil and vulnerability.
+    pub(crate) by_pair: ByKey<Item>,
     /// The pairs of areaperil and vulnerability that some item has, each once, rising.
     pub(crate) pairs: Vec<(u32, u32)>,
     /// The rows of vulnerability by vulnerability and intensity, where the table is in another order.
@@ -61,8 +63,18 @@ fn places(alloc: Global, tables: &Tables) -> Result<HashMap<u32, Place>, AllocEr
 }
 
 /// The items by rising id.
-fn items(alloc: Global, tables: &Tables) -> Result<ByKey<Item>, AllocError>
-    ensures value { IfOk result (IsPermutation (rows_of tables.now).items) }
+fn items(alloc: Global, items: &[Item]) -> Result<Vec<Item>, AllocError>
+    ensures permutation { IfOk result (λ sorted. IsPermutation items.now sorted.items) }
+    ensures rising { IfOk result (λ sorted. IsNonDecreasingBy (λ row. row.item_id) sorted.items) }
+{
+    let mut sorted: Vec<Item> = items.iter().copied().collect(alloc)?;
+    sorted.sort_by_key(|row| row.item_id)?;
+    Ok(sorted)
+}
+
+/// The items by areaperil and vulnerability.
+fn by_pair(alloc: Global, tables: &Tables) -> Result<ByKey<Item>, AllocError>
+    ensures value { IfOk result (AreByPair (rows_of tables.now)) }
 {
     ByKey::new(alloc, &tables.items)
 }
@@ -87,10 +99,7 @@ fn pairs(alloc: Global, items: &[Item]) -> Result<Vec<(u32, u32)>, AllocError>
 }
 
 /// The rows of vulnerability by vulnerability and intensity; nothing where the table is in that order.
-fn damages(
-    alloc: Global,
-    tables: &Tables,
-) -> Result<Option<ByKey<Vulnerability>>, AllocError>
+fn damages(alloc: Global, tables: &Tables) -> Result<Option<ByKey<Vulnerability>>, AllocError>
     ensures value { IfOk result (AreDamages (rows_of tables.now)) }
 {
     if is_by_key(&tables.vulnerability) {
@@ -133,7 +142,8 @@ impl Lookups {
         Ok(Lookups {
             event_ids: columns::event_ids(alloc, &tables.events)?,
             return_periods: columns::return_periods(alloc, &tables.returnperiods)?,
-            items: items(alloc, tables)?,
+            items: items(alloc, &tables.items)?,
+            by_pair: by_pair(alloc, tables)?,
             pairs: pairs(alloc, &tables.items)?,
             damages: damages(alloc, tables)?,
             occurrences: occurrences(alloc, tables)?,

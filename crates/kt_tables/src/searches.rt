@@ -8,7 +8,7 @@ ghost use Rattle.kt_keys.specs.Keys.{same_pair};
 ghost use Rattle.kt_keys.specs.Refusals.{is_loaded};
 ghost use Rattle.kt_checks.specs.TableChecks.{tiv_of};
 ghost use Rattle.kt_tables.specs.Kept.{AreSummaries, AreExposures};
-ghost use Rattle.kt_tables.specs.Lookups.{damages_at, item_pairs, return_periods_of, random_place, random_of, occurrences_of, place_in, summary_rows, has_summary_set, summary_in, exposure_of};
+ghost use Rattle.kt_tables.specs.Lookups.{damages_at, item_pairs, items_with, return_periods_of, random_place, random_of, occurrences_of, place_in, summary_rows, has_summary_set, summary_in, exposure_of};
 
 use crate::place::Place;
 use crate::portfolio::Portfolio;
@@ -42,7 +42,16 @@ impl Portfolio {
         ensures permutation { IsPermutation self.now.rows.items result.now }
         ensures rising { IsStrictlyIncreasing (map (λ row. row.item_id) result.now) }
     {
-        self.lookups.items.as_slice()
+        &self.lookups.items
+    }
+
+    /// The items of an areaperil and a vulnerability, in table order; none where no item has both.
+    pub fn items_of(&self, areaperil: u32, vulnerability: u32) -> &[Item]
+        ensures value { result.now ≡ items_with self.now.rows areaperil vulnerability }
+    {
+        self.lookups
+            .by_pair
+            .of(pair_key(areaperil, vulnerability))
     }
 
     /// The pairs of areaperil and vulnerability that some item has, each once, by rising areaperil and then vulnerability.

@@ -1,4 +1,4 @@
-use Rattle.std.proofs.Common.{rules, ◌∙◌, ap, nat_eq}
+use Rattle.std.proofs.Common.{◌∙◌, ap, nat_eq}
 use Rattle.std.specs.List.{filter}
 use Rattle.kt_tables.specs.Kept.{damage_key}
 use Rattle.kt_tables.proofs.lookups.damages.Goals as goal

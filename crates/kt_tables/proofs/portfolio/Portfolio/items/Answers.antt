@@ -8,5 +8,5 @@ use Rattle.kt_tables.proofs.portfolio.Portfolio.items.Goals as goal
 pub returns-clause-rising : goal.returns-clause-rising
 returns-clause-rising c =
     let kept = c.self.invariant in
-    subst (λ (rows : List Item). IsStrictlyIncreasing (map (λ row. row.item_id) rows)) (sym c.as_slice.ensures.value)
-    (keys_rise-strictly (λ row. row.item_id) _ _ (items_distinct _ kept.valid) kept.lookups.items c.as_slice.ensures.rising)
+    subst (λ (rows : List Item). IsStrictlyIncreasing (map (λ row. row.item_id) rows)) (sym c.deref.ensures.value)
+    (keys_rise-strictly (λ row. row.item_id) _ _ (items_distinct _ kept.valid) kept.lookups.items kept.lookups.rising)

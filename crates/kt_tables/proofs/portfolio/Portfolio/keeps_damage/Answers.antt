@@ -1,4 +1,4 @@
-use Rattle.std.proofs.Common.{◌≡◌, ◌∙◌, ap, subst, true}
+use Rattle.std.proofs.Common.{◌∙◌, ap, subst}
 use Rattle.kt_rec.specs.declared.table.Table.TheVariants.{DamageBinDict}
 use Rattle.kt_keys.specs.Refusals.{is_loaded}
 use Rattle.kt_tables.specs.DamageLaws.{KeepsDamage, keeps_damage}
