@@ -48,7 +48,7 @@ module _ (rows : Rows) (event : ℕ) (cdfs : List Cdf) (group : List StruckItem)
       let row_are = row_from_map (raw_loss rows event cdfs (get_or group i d).item) width row row_is in
       record {
         losses_are = longer_is ∙ (ap (λ losses. losses ++ row) here.losses_are ∙ (ap (λ row. flat_map loss (take i group) ++ row) (row_is ∙ sym (append-nil (loss (get_or group i d))))
-        ∙ (sym (flat_map-append loss (take i group) (get_or group i d ∷ [])) ∙ ap (flat_map loss) (sym (take_more group i d below)))));
+            ∙ (sym (flat_map-append loss (take i group) (get_or group i d ∷ [])) ∙ ap (flat_map loss) (sym (take_more group i d below)))));
         totals_are = row_sum _ _ _ width totals row sums here.totals_are row_are sums_are (λ place. total_more place i d below);
         within = λ place inside. within place inside row_are;
       }
@@ -90,12 +90,12 @@ module _ (rows : Rows) (event : ℕ) (cdfs : List Cdf) (group : List StruckItem)
   pub item_pairs_are : (cut : Bool) (coverage samples i : ℕ) (d : StruckItem) (tiv : ℕ) (totals before row : List ℕ) → IsGroup rows event cdfs coverage group → i < length group → tiv ≡ tiv_of rows.coverages coverage → IsRow (group_total rows event cdfs group) (samples + 2) totals → IsRow (group_total rows event cdfs (take i group)) (samples + 2) before → IsRow (raw_loss rows event cdfs (get_or group i d).item) (samples + 2) row → pairs_of (λ place. final_loss cut tiv (slice_index totals place) (slice_index before place) (slice_index row place) place) samples ≡ pairs_of (ground_up_loss rows cut event cdfs (get_or group i d).item) samples
   item_pairs_are cut coverage samples i d tiv totals before row is below tiv_is totals_are before_are row_are =
       pairs_agree _ (ground_up_loss rows cut event cdfs (get_or group i d).item) samples (λ place inside.
-        let item = (get_or group i d).item in
-        let of_coverage = is.together i d below in
-        let value : tiv ≡ item_tiv rows item = tiv_is ∙ ap (tiv_of rows.coverages) (sym of_coverage) in
-        let total : slice_index totals place ≡ coverage_total (λ row. raw_loss rows event cdfs row place) rows.items item.coverage_id = totals_are.each place inside ∙ (is.total_is place ∙ ap (coverage_total (λ row. raw_loss rows event cdfs row place) rows.items) (sym of_coverage)) in
-        let earlier = before_are.each place inside ∙ is.before_is place i d below in
-        same cut place _ _ _ _ _ _ _ _ value total earlier (row_are.each place inside))
+      let item = (get_or group i d).item in
+      let of_coverage = is.together i d below in
+      let value : tiv ≡ item_tiv rows item = tiv_is ∙ ap (tiv_of rows.coverages) (sym of_coverage) in
+      let total : slice_index totals place ≡ coverage_total (λ row. raw_loss rows event cdfs row place) rows.items item.coverage_id = totals_are.each place inside ∙ (is.total_is place ∙ ap (coverage_total (λ row. raw_loss rows event cdfs row place) rows.items) (sym of_coverage)) in
+      let earlier = before_are.each place inside ∙ is.before_is place i d below in
+      same cut place _ _ _ _ _ _ _ _ value total earlier (row_are.each place inside))
     where
       same : (cut : Bool) (place a b c e x y z w : ℕ) → a ≡ x → b ≡ y → c ≡ z → e ≡ w → final_loss cut a b c e place ≡ final_loss cut x y z w place
       same cut place a b c e x y z w p q r s = ap (λ a. final_loss cut a b c e place) p ∙ (ap (λ b. final_loss cut x b c e place) q ∙ (ap (λ c. final_loss cut x y c e place) r ∙ ap (λ e. final_loss cut x y z e place) s))

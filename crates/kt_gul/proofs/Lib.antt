@@ -4,3 +4,4 @@ pub mod RandomLemmas
 pub mod ItemLemmas
 pub mod PairLemmas
 pub mod CoverageLemmas
+pub mod StruckLemmas

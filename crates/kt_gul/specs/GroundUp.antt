@@ -10,7 +10,7 @@ use Rattle.kt_stream.specs.declared.entry.Bin.{Bin}
 use Rattle.kt_stream.specs.declared.entry.Cdf.{Cdf}
 use Rattle.kt_stream.specs.declared.entry.LossRecord.{LossRecord}
 use Rattle.kt_stream.specs.declared.entry.Pair.{Pair}
-use Rattle.kt_tables.specs.Lookups.{has_pair, random_of}
+use Rattle.kt_tables.specs.Lookups.{random_of}
 use Rattle.kt_gul.specs.SampledLoss.{sampled_loss}
 use Rattle.kt_gul.specs.ItemMoments.{mean_loss, loss_deviation}
 
@@ -32,6 +32,10 @@ loss_by rows event bins row zero = loss_deviation (item_tiv rows row) bins
 loss_by rows event bins row (suc zero) = mean_loss (item_tiv rows row) bins
 loss_by rows event bins row (suc (suc earlier)) =
     sampled_loss (item_tiv rows row) rows.damage_bin_dict bins (random_of rows event row.group_id (earlier + 1) * 1000000)
+
+-- whether an item has an areaperil and a vulnerability
+abbrev pub has_pair : ℕ → ℕ → Item → Bool
+has_pair areaperil vulnerability row = nat_eq row.areaperil_id areaperil && nat_eq row.vulnerability_id vulnerability
 
 -- the bins of the distribution of an item's areaperil and vulnerability; none where the event has no such distribution
 abbrev pub bins_of : List Cdf → Item → List Bin

@@ -7,4 +7,6 @@ pub mod ItemLosses
 pub mod Coverage
 pub mod Sums
 pub mod Gathered
+pub mod StruckItems
+pub mod Groups
 pub mod Examples

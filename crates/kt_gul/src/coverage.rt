@@ -143,15 +143,7 @@ pub(crate) fn push_coverage(
     ensures ok { OnOk result (records.new.items ≡ records.old.items ++ filter_map (item_record portfolio.now.rows samples cut event cdfs.now) (map (λ struck. struck.item) group.now)) }
 {
     let mut totals = zeros(alloc, samples as usize + 2)?;
-    let losses = group_losses(
-        alloc,
-        portfolio,
-        samples,
-        event,
-        cdfs,
-        group,
-        &mut totals,
-    )?;
+    let losses = group_losses(alloc, portfolio, samples, event, cdfs, group, &mut totals)?;
     let mut before = zeros(alloc, samples as usize + 2)?;
     push_records(
         alloc,

@@ -22,7 +22,14 @@ fn cut_loss(tiv: u64, total: u64, before: u64, loss: u64) -> u64
 
 /// The loss at a place of an item, with the cut or without it.
 #[inline]
-pub(crate) fn final_loss(cut: bool, tiv: u64, total: u64, before: u64, loss: u64, place: usize) -> u64
+pub(crate) fn final_loss(
+    cut: bool,
+    tiv: u64,
+    total: u64,
+    before: u64,
+    loss: u64,
+    place: usize,
+) -> u64
     requires value { tiv ≤ 10 ^ 14 }
     requires within { before + loss ≤ total }
     ensures value { result ≡ final_loss cut tiv total before loss place }

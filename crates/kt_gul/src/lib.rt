@@ -3,6 +3,7 @@
 
 mod coverage;
 mod cut;
+mod event;
 mod item;
 mod moments;
 mod pairs;
@@ -11,3 +12,5 @@ mod random;
 mod sampling;
 mod struck;
 mod sums;
+
+pub use event::ground_up;

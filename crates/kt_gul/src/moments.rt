@@ -13,7 +13,7 @@ const WHOLE: u128 = 1_000_000_000_000_000_000;
 
 /// The mean and the deviation of a damage, in units of 10^-18 of the insured value.
 #[derive(Clone, Copy, Debug)]
-pub(crate) struct DamageMoments {
+pub struct DamageMoments {
     /// The mean.
     pub(crate) mean: u64,
     /// The standard deviation, rounded down.

@@ -25,7 +25,10 @@ fn loss_in_bin(tiv: u64, low: u32, high: u32, before: u64, upto: u64, number: u6
     let width = upto - before;
     let damage = u64::from(low) * width + u64::from(high.saturating_sub(low)) * (number - before);
     let unit = PPM * width;
-    quotient(2 * (u128::from(tiv) * u128::from(damage)) + u128::from(unit), 2 * unit)
+    quotient(
+        2 * (u128::from(tiv) * u128::from(damage)) + u128::from(unit),
+        2 * unit,
+    )
 }
 
 /// The place of the first bin with a probability above 0 that ends at the number or above; the number of bins where there is
@@ -45,7 +48,11 @@ fn end_before(bins: &[Bin], place: usize) -> u64
     requires { place ≤ length bins.now }
     ensures value { (b : Bin) → result ≡ end_before 0 bins.now place b }
 {
-    if place == 0 { 0 } else { bins[place - 1].prob_to }
+    if place == 0 {
+        0
+    } else {
+        bins[place - 1].prob_to
+    }
 }
 
 /// The damage at which the bin before a place ends, 0 where there is none.
@@ -53,7 +60,11 @@ fn damage_before(dictionary: &[DamageBin], place: usize) -> u32
     requires { place ≤ length dictionary.now }
     ensures value { (d : DamageBin) → result ≡ damage_before 0 dictionary.now place d }
 {
-    if place == 0 { 0 } else { dictionary[place - 1].bin_to }
+    if place == 0 {
+        0
+    } else {
+        dictionary[place - 1].bin_to
+    }
 }
 
 /// The loss of an insured value by a distribution at a random number, given in units of 10^-12.
@@ -68,6 +79,10 @@ pub(crate) fn sampled_loss(tiv: u64, dictionary: &[DamageBin], bins: &[Bin], num
         return ppm_of(tiv, damage_before(dictionary, place));
     }
     let before = end_before(bins, place);
-    let DamageBin { bin_from, bin_to, .. } = dictionary[place];
+    let DamageBin {
+        bin_from,
+        bin_to,
+        ..
+    } = dictionary[place];
     loss_in_bin(tiv, bin_from, bin_to, before, bins[place].prob_to, number)
 }

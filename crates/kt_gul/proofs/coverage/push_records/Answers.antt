@@ -16,8 +16,14 @@ item_pairs-requires-clause-within c = λ place inside.
     let here = c.loop-struck.invariant.pushed in
     let row = row_front c.args.portfolio.now.rows c.args.event c.args.cdfs.now c.args.group.now (c.args.samples + 2) c.loop-struck.struck-index none _ _ here c.loop-struck-test.true in
     let front : slice_index c.split_at.result.0.now place ≡ slice_index (take (c.args.samples + 2) c.loop-struck.rest.now) place = ap (λ (row : List ℕ). slice_index row place) c.split_at.ensures.front in
-    omega (arith, front, row.each place inside, here.before_are.each place inside, c.requires.totals.each place inside,
-    total_within c.args.portfolio.now.rows c.args.event c.args.cdfs.now c.args.group.now place c.loop-struck.struck-index none c.loop-struck-test.true)
+    omega (
+      arith,
+      front,
+      row.each place inside,
+      here.before_are.each place inside,
+      c.requires.totals.each place inside,
+      total_within c.args.portfolio.now.rows c.args.event c.args.cdfs.now c.args.group.now place c.loop-struck.struck-index none c.loop-struck-test.true,
+    )
 
 pub add_to-requires-clause-width : goal.add_to-requires-clause-width
 add_to-requires-clause-width c =
@@ -33,8 +39,14 @@ add_to-requires-clause-fits c = λ place below.
     let inside : place < c.args.samples + 2 = omega (arith, here.before_are.width_is) in
     let row = row_front c.args.portfolio.now.rows c.args.event c.args.cdfs.now c.args.group.now (c.args.samples + 2) c.loop-struck.struck-index none _ _ here c.loop-struck-test.true in
     let front : slice_index c.split_at.result.0.now place ≡ slice_index (take (c.args.samples + 2) c.loop-struck.rest.now) place = ap (λ (row : List ℕ). slice_index row place) c.split_at.ensures.front in
-    omega (arith, front, row.each place inside, here.before_are.each place inside, c.requires.most place inside,
-    total_within c.args.portfolio.now.rows c.args.event c.args.cdfs.now c.args.group.now place c.loop-struck.struck-index none c.loop-struck-test.true)
+    omega (
+      arith,
+      front,
+      row.each place inside,
+      here.before_are.each place inside,
+      c.requires.most place inside,
+      total_within c.args.portfolio.now.rows c.args.event c.args.cdfs.now c.args.group.now place c.loop-struck.struck-index none c.loop-struck-test.true,
+    )
 
 pub loop-struck-preserved : goal.loop-struck-preserved
 loop-struck-preserved c =
