@@ -5,3 +5,4 @@ pub mod ItemLemmas
 pub mod PairLemmas
 pub mod CoverageLemmas
 pub mod StruckLemmas
+pub mod GroupLemmas

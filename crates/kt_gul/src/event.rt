@@ -84,9 +84,9 @@ fn records_of(
 /// Puts records in the order of their ids.
 fn sort_by_id(records: &mut Vec<LossRecord>) -> Result<(), AllocError>
     ensures permutation { IfOk result (λ _. IsPermutation records.old.items records.new.items) }
-    ensures rising { IfOk result (λ _. IsNonDecreasingBy (λ record. record.id) records.new.items) }
+    ensures rising { IfOk result (λ _. IsNonDecreasingBy (λ entry. entry.id) records.new.items) }
 {
-    records.sort_by_key(|record| record.id)?;
+    records.sort_by_key(|entry| entry.id)?;
     Ok(())
 }
 

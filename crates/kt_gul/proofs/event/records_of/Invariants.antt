@@ -6,5 +6,5 @@ use Rattle.kt_gul.proofs.event.records_of.Given as goal
 abbrev pub invariant-loop-start : goal.invariant-loop-start
 invariant-loop-start l = AreDone l.portfolio.rows l.samples l.cut l.event l.cdfs l.struck l.start l.records.items
 
-abbrev pub measure-loop-start : goal.measure-loop-start
-measure-loop-start l = length l.struck - l.start
+abbrev pub decreases-loop-start : goal.decreases-loop-start
+decreases-loop-start l = length l.struck - l.start
