@@ -16,15 +16,16 @@ use Rattle.kt_rec.specs.Ranges.{IsItem}
 use Rattle.kt_rec.specs.declared.exposure.Item.{Item}
 use Rattle.kt_stream.specs.declared.entry.Bin.{Bin}
 use Rattle.kt_stream.specs.declared.entry.Cdf.{Cdf}
+use Rattle.kt_stream.specs.declared.entry.LossRecord.{LossRecord}
 use Rattle.kt_gul.specs.declared.struck.StruckItem.{StruckItem}
 use Rattle.kt_rec.specs.declared.hazard.DamageBin.{DamageBin}
 use Rattle.kt_tables.specs.Lookups.{random_of}
 use Rattle.kt_gul.specs.SampledLoss.{sampled_loss}
 use Rattle.kt_gul.specs.ItemMoments.{mean_loss, loss_deviation}
-use Rattle.kt_gul.specs.GroundUp.{item_tiv, has_pair, bins_of, loss_by, raw_loss, coverage_total, total_before}
+use Rattle.kt_gul.specs.GroundUp.{item_tiv, has_pair, bins_of, loss_by, raw_loss, coverage_total, total_before, item_record}
 use Rattle.kt_gul.specs.Coverage.{IsGroup, IsStruck, group_total}
 use Rattle.kt_gul.specs.StruckItems.{AreInOrder, has_cdf, item_of, struck_key}
-use Rattle.kt_gul.specs.Groups.{IsGroupEnd}
+use Rattle.kt_gul.specs.Groups.{IsGroupEnd, AreDone}
 
 -- ---- items that are not struck
 
@@ -310,3 +311,19 @@ module _ (rows : Rows) (event : ℕ) (cdfs : List Cdf) (struck : List StruckItem
       total_is = total_is;
       before_is = before_is;
     }
+
+    -- the records of one more coverage
+    pub done_more : (samples : ℕ) (cut : Bool) (records longer : List LossRecord) → AreDone rows samples cut event cdfs struck start records → longer ≡ records ++ filter_map (item_record rows samples cut event cdfs) (map item_of group) → AreDone rows samples cut event cdfs struck last longer
+    done_more samples cut records longer here longer_is = record {
+      within = end.within;
+      records_are =
+          let made = item_record rows samples cut event cdfs in
+          longer_is ∙ (ap (λ records. records ++ filter_map made (map item_of group)) here.records_are
+          ∙ (sym (filter_map-append made (map item_of (take start struck)) (map item_of group))
+          ∙ ap (filter_map made) (sym (map-append item_of (take start struck) group) ∙ ap (map item_of) (sym (take_parts start (last - start) struck) ∙ ap (λ n. take n struck) (omega (arith, end.after))))));
+      apart = λ k j d before behind below. by k j d before behind below (cases_lt k start);
+    }
+      where
+        by : (k j : ℕ) (d : StruckItem) → k < last → last ≤ j → j < length struck → (k < start) ⊎ (start ≤ k) → (get_or struck k d).item.coverage_id < (get_or struck j d).item.coverage_id
+        by k j d before behind below (inl earlier) = here.apart k j d earlier (omega (arith, end.after)) below
+        by k j d before behind below (inr own) = omega (arith, end.together k d own before, later_coverage j d behind below)
