@@ -1,6 +1,6 @@
 -- The records of an event by rising id: made coverage by coverage and sorted, they are those of the items by rising id.
-use Rattle.std.proofs.Common.{◌≡◌, ◌≢◌, ◌⊎◌, ℕ, zero, suc, ◌+◌, ◌<◌, ◌≤◌, Bool, true, false, cond, nat_eq, nat_lt, List, [], ◌∷◌, ◌++◌, length, map, get_or, Option, Some, None, refl, sym, ap, subst, arith, ◌∙◌, inl, inr}
-use Rattle.std.specs.List.{All, AllByRecursion, IsDistinct, cons_option, filter, filter_map, sum_by}
+use Rattle.std.proofs.Common.{◌≡◌, ◌≢◌, ◌⊎◌, ℕ, zero, suc, ◌+◌, ◌<◌, ◌≤◌, ◌&&◌, not, Bool, true, false, cond, nat_eq, nat_lt, List, [], ◌∷◌, ◌++◌, length, map, get_or, Option, Some, None, refl, sym, ap, subst, arith, ◌∙◌, inl, inr}
+use Rattle.std.specs.List.{All, AllByRecursion, IsDistinct, cons_option, filter, filter_map, range_with_len, sum_by}
 use Rattle.std.specs.List.Sorted.{IsPermutation, IsNonDecreasingBy}
 use Rattle.std.proofs.lemmas.Bool.{eqb-true, eqb-false, ltb-true, ltb-false, cases_lt}
 use Rattle.std.proofs.lemmas.Bool.Decides.{nat_tests}
@@ -8,13 +8,18 @@ use Rattle.std.proofs.lemmas.List.Elements.{All-filter, recursion_from_All, All-
 use Rattle.std.proofs.lemmas.List.Sorted.{All-permutation, sum_by-IsPermutation}
 use Rattle.std.proofs.lemmas.List.Sums.{sum_by-cons}
 use Rattle.std.proofs.lemmas.Map.Keys.{IsDistinct-head, IsDistinct-tail}
+use Rattle.kt_money.specs.Sharing.{share_of}
+use Rattle.kt_money.specs.SharingLaws.{share_of-zero}
 use Rattle.kt_rec.specs.Rows.{Rows}
 use Rattle.kt_rec.specs.declared.exposure.Item.{Item}
 use Rattle.kt_stream.specs.declared.entry.Cdf.{Cdf}
 use Rattle.kt_stream.specs.declared.entry.LossRecord.{LossRecord}
 use Rattle.kt_stream.specs.declared.entry.Pair.{Pair}
-use Rattle.kt_gul.specs.GroundUp.{by_id, insert_by_id, item_record, ground_up_records, record_with}
-use Rattle.kt_gul.specs.StruckItems.{has_cdf}
+use Rattle.kt_gul.specs.GroundUp.{by_id, insert_by_id, final_loss, ground_up_loss, item_record, ground_up_records, pair_at, pairs_of, record_with}
+use Rattle.kt_gul.specs.declared.struck.StruckItem.{StruckItem}
+use Rattle.kt_gul.specs.StruckItems.{AreInOrder, has_cdf, item_of}
+use Rattle.kt_gul.proofs.GroupLemmas.{raw_loss-none, sum_by-filter}
+use Rattle.kt_gul.proofs.PairLemmas.{pairs_agree}
 
 -- ---- records in order
 
@@ -38,17 +43,16 @@ count id entries = sum_by (λ entry. cond (nat_eq entry.id id) 1 0) entries
 count_none : (id : ℕ) (entries : List LossRecord) → AllByRecursion (λ other. id < other.id) entries → count id entries ≡ 0
 count_none id [] above = refl
 count_none id (entry ∷ entries) above =
-    let one : cond (nat_eq entry.id id) 1 0 ≡ 0 = apart entry.id above.0 in
-    omega (arith, sum_by-cons (λ (entry : LossRecord). cond (nat_eq entry.id id) 1 0) entry entries, count_none id entries above.1)
+    omega (arith, apart entry.id above.0, sum_by-cons (λ (entry : LossRecord). cond (nat_eq entry.id id) 1 0) entry entries, count_none id entries above.1)
   where
-    apart : (n : ℕ) → id < n → cond (nat_eq n id) 1 0 ≡ 0
+    apart : (n : ℕ) → id < n → cond {A = ℕ} (nat_eq n id) 1 0 ≡ 0
     apart n less = grind (arith, nat_tests)
 
 -- the first has its own
 count_first : (entry : LossRecord) (entries : List LossRecord) → count entry.id (entry ∷ entries) ≡ 1 + count entry.id entries
 count_first entry entries = sum_by-cons (λ (other : LossRecord). cond (nat_eq other.id entry.id) 1 0) entry entries ∙ ap (λ n. n + count entry.id entries) (own entry.id)
   where
-    own : (n : ℕ) → cond (nat_eq n n) 1 0 ≡ 1
+    own : (n : ℕ) → cond {A = ℕ} (nat_eq n n) 1 0 ≡ 1
     own n = grind (arith, nat_tests)
 
 -- what is above one is above a lower one
@@ -84,6 +88,11 @@ unique made (x ∷ xs) (y ∷ ys) up other known also same =
     fewer id p q r s = omega arith
 
 -- ---- what is made of items
+
+-- items by rising id, element by element
+abbrev ItemsRise : List Item → Type 0
+ItemsRise [] = Unit {0}
+ItemsRise (row ∷ rows) = AllByRecursion (λ other. row.item_id ≤ other.item_id) rows × ItemsRise rows
 
 module _ (made : Item → Option LossRecord) (own_id : (row : Item) (entry : LossRecord) → made row ≡ Some entry → entry.id ≡ row.item_id) where
   -- the record of an id: that of the first item with it
@@ -129,11 +138,6 @@ module _ (made : Item → Option LossRecord) (own_id : (row : Item) (entry : Los
       by None rest = rest ∙ omega arith
       by (Some entry) rest = sum_by-cons (λ (entry : LossRecord). cond (nat_eq entry.id id) 1 0) entry (filter_map made rows) ∙ ap (λ n. cond (nat_eq entry.id id) 1 0 + n) rest
 
-  -- items by rising id, element by element
-  abbrev ItemsRise : List Item → Type 0
-  ItemsRise [] = Unit {0}
-  ItemsRise (row ∷ rows) = AllByRecursion (λ other. row.item_id ≤ other.item_id) rows × ItemsRise rows
-
   -- their records rise too
   made_above : (id : ℕ) (rows : List Item) → AllByRecursion (λ other. id ≤ other.item_id) rows → AllByRecursion (λ entry. id ≤ entry.id) (filter_map made rows)
   made_above id [] above = tt
@@ -178,3 +182,92 @@ insert_sum g row (other ∷ rows) = by (nat_lt row.item_id other.item_id) (inser
 by_id_sum : (g : Item → ℕ) (rows : List Item) → sum_by g (by_id rows) ≡ sum_by g rows
 by_id_sum g [] = refl
 by_id_sum g (row ∷ rows) = insert_sum g row (by_id rows) ∙ (ap (λ n. g row + n) (by_id_sum g rows) ∙ sym (sum_by-cons g row rows))
+
+-- they rise
+above_all : (low high : ℕ) (rows : List Item) → low ≤ high → AllByRecursion (λ other. high ≤ other.item_id) rows → AllByRecursion (λ other. low ≤ other.item_id) rows
+above_all low high [] order above = tt
+above_all low high (row ∷ rows) order above = (omega (arith, above.0), above_all low high rows order above.1)
+
+insert_rise : (row : Item) (rows : List Item) → ItemsRise rows → ItemsRise (insert_by_id row rows)
+insert_rise row [] rise = (tt, tt)
+insert_rise row (other ∷ rows) rise = by (nat_lt row.item_id other.item_id) refl (insert_rise row rows rise.1)
+  where
+    by : (b : Bool) → nat_lt row.item_id other.item_id ≡ b → ItemsRise (insert_by_id row rows) → ItemsRise (cond b (row ∷ other ∷ rows) (other ∷ insert_by_id row rows))
+    by true is rest =
+        let less = ltb-true row.item_id other.item_id is in
+        ((omega arith, above_all row.item_id other.item_id rows (omega arith) rise.0), rise)
+    by false is rest = (insert_each (λ x. other.item_id ≤ x.item_id) row rows (ltb-false row.item_id other.item_id is) rise.0, rest)
+
+by_id_rise : (rows : List Item) → ItemsRise (by_id rows)
+by_id_rise [] = tt
+by_id_rise (row ∷ rows) = insert_rise row (by_id rows) (by_id_rise rows)
+
+-- ---- items without losses
+
+-- no loss stays none
+final_none : (cut : Bool) (tiv total before loss place : ℕ) → loss ≡ 0 → final_loss cut tiv total before loss place ≡ 0
+final_none cut tiv total before loss place none = ap (λ loss. final_loss cut tiv total before loss place) none ∙ by (cut && not (nat_eq place 0)) (nat_lt tiv total)
+  where
+    by : (a b : Bool) → cond a (cond b (share_of tiv total before 0) 0) 0 ≡ 0
+    by false b = refl
+    by true false = refl
+    by true true = share_of-zero tiv total before
+
+-- and has no pairs
+pairs_none : (loss : ℕ → ℕ) (samples : ℕ) → ((place : ℕ) → loss place ≡ 0) → pairs_of loss samples ≡ []
+pairs_none loss samples none = pairs_agree loss (λ place. 0) samples (λ place inside. none place) ∙ empty 0 (samples + 2)
+  where
+    empty : (a n : ℕ) → filter_map (λ place. pair_at place 0) (range_with_len a n) ≡ []
+    empty a zero = refl
+    empty a (suc n) = empty (a + 1) n
+
+-- an item that is not struck has no record
+record_none : (rows : Rows) (samples : ℕ) (cut : Bool) (event : ℕ) (cdfs : List Cdf) (row : Item) → has_cdf cdfs row ≡ false → item_record rows samples cut event cdfs row ≡ None
+record_none rows samples cut event cdfs row none =
+    ap (record_with event row.item_id) (pairs_none (ground_up_loss rows cut event cdfs row) samples (λ place. final_none cut _ _ _ _ place (raw_loss-none rows event cdfs row place none)))
+
+-- a record has the id that it is made with
+record_id : (event id : ℕ) (pairs : List Pair) (entry : LossRecord) → record_with event id pairs ≡ Some entry → entry.id ≡ id
+record_id event id [] entry is = absurd cc
+record_id event id (pair ∷ pairs) entry is = sym (ap (λ (entry : LossRecord). entry.id) (same _ entry is))
+  where
+    same : (x y : LossRecord) → Some x ≡ Some y → x ≡ y
+    same x y is = cc
+
+-- ---- the records of an event
+
+-- the records of struck items, in order, are those of all items by rising id
+pub records_are : (rows : Rows) (samples : ℕ) (cut : Bool) (event : ℕ) (cdfs : List Cdf) (struck : List StruckItem) (records sorted : List LossRecord) → AreInOrder rows cdfs struck → IsDistinct nat_eq (map (λ row. row.item_id) rows.items) → records ≡ filter_map (item_record rows samples cut event cdfs) (map item_of struck) → IsPermutation records sorted → IsNonDecreasingBy (λ entry. entry.id) sorted → sorted ≡ ground_up_records rows samples cut event cdfs
+records_are rows samples cut event cdfs struck records sorted order distinct records_is moved rising =
+    unique find sorted (filter_map made (by_id rows.items)) (rising_from sorted rising) (made_rise made own_id (by_id rows.items) (by_id_rise rows.items)) sorted_known (known made own_id find (by_id rows.items) (by_id_each (λ row. find row.item_id ≡ made row) rows.items each)) counts
+  where
+    made : Item → Option LossRecord
+    made = item_record rows samples cut event cdfs
+
+    own_id : (row : Item) (entry : LossRecord) → item_record rows samples cut event cdfs row ≡ Some entry → entry.id ≡ row.item_id
+    own_id row entry is = record_id event row.item_id (pairs_of (ground_up_loss rows cut event cdfs row) samples) entry is
+
+    find : ℕ → Option LossRecord
+    find = found made own_id rows.items
+
+    each : AllByRecursion (λ row. find row.item_id ≡ made row) rows.items
+    each = found_each made own_id rows.items distinct
+
+    struck_each : AllByRecursion (λ row. find row.item_id ≡ made row) (map item_of struck)
+    struck_each = recursion_from_All (λ row. find row.item_id ≡ made row) (map item_of struck) (All-permutation (λ row. find row.item_id ≡ made row) (filter (has_cdf cdfs) rows.items) (map item_of struck) order.items_are (All-filter (has_cdf cdfs) (λ row. find row.item_id ≡ made row) rows.items (All-from_recursion (λ row. find row.item_id ≡ made row) rows.items each)))
+
+    records_known : AllByRecursion (λ (entry : LossRecord). find entry.id ≡ Some entry) records
+    records_known = subst (λ (records : List LossRecord). AllByRecursion (λ (entry : LossRecord). find entry.id ≡ Some entry) records) (sym records_is) (known made own_id find (map item_of struck) struck_each)
+
+    sorted_known : AllByRecursion (λ (entry : LossRecord). find entry.id ≡ Some entry) sorted
+    sorted_known = recursion_from_All (λ (entry : LossRecord). find entry.id ≡ Some entry) sorted (All-permutation (λ (entry : LossRecord). find entry.id ≡ Some entry) records sorted moved (All-from_recursion (λ (entry : LossRecord). find entry.id ≡ Some entry) records records_known))
+
+    counts : (id : ℕ) → count id sorted ≡ count id (filter_map made (by_id rows.items))
+    counts id =
+        let w : Item → ℕ = λ row. weight made own_id id (made row) in
+        sum_by-IsPermutation (λ (entry : LossRecord). cond (nat_eq entry.id id) 1 0) records sorted moved
+        ∙ (ap (count id) records_is
+        ∙ (count_made made own_id id (map item_of struck)
+        ∙ (sum_by-IsPermutation w (filter (has_cdf cdfs) rows.items) (map item_of struck) order.items_are
+        ∙ (sum_by-filter (has_cdf cdfs) w (λ row none. ap (weight made own_id id) (record_none rows samples cut event cdfs row none)) rows.items
+        ∙ (sym (by_id_sum w rows.items) ∙ sym (count_made made own_id id (by_id rows.items)))))))

@@ -8,3 +8,4 @@ pub mod StruckLemmas
 pub mod GroupLemmas
 pub mod PortfolioLemmas
 pub mod FinalLemmas
+pub mod GoodLemmas

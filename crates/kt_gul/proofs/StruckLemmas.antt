@@ -1,13 +1,13 @@
 -- The items that an event strikes, distribution by distribution.
 use Rattle.std.proofs.Common.{◌≡◌, ◌⊎◌, ℕ, zero, suc, ◌+◌, ◌*◌, ◌^◌, ◌<◌, ◌≤◌, ◌&&◌, ◌||◌, Bool, true, false, cond, nat_eq, List, [], ◌∷◌, ◌++◌, length, take, map, get_or, min, refl, sym, ap, subst, arith, ◌∙◌, append-nil, unwrap_or, inl, inr}
 use Rattle.std.specs.List.{All, filter, list_any}
-use Rattle.std.specs.List.Sorted.{IsPermutation, IsStrictlyIncreasing}
+use Rattle.std.specs.List.Sorted.{IsPermutation, IsNonDecreasingBy, IsStrictlyIncreasing}
 use Rattle.std.specs.Map.{lookup}
 use Rattle.std.proofs.lemmas.Bool.{eqb-true, cases_lt}
 use Rattle.std.proofs.lemmas.Bool.Decides.{nat_tests}
-use Rattle.std.proofs.lemmas.List.{get_or_default, take_more, get_or-map, length-map, map-append}
+use Rattle.std.proofs.lemmas.List.{get_or_default, take_all, take_more, get_or-map, length-map, map-append}
 use Rattle.std.proofs.lemmas.List.Elements.{All-append, All-map, All-weaker, filter_passes}
-use Rattle.std.proofs.lemmas.List.Sorted.{IsPermutation-refl, IsPermutation-cons, IsPermutation-middle, IsPermutation-sym, IsPermutation-trans, IsPermutation-append_left}
+use Rattle.std.proofs.lemmas.List.Sorted.{All-permutation, IsPermutation-map, IsPermutation-refl, IsPermutation-cons, IsPermutation-middle, IsPermutation-sym, IsPermutation-trans, IsPermutation-append_left}
 use Rattle.kt_rec.specs.Rows.{Rows}
 use Rattle.kt_rec.specs.Ranges.{AreInRange, IsCoverage}
 use Rattle.kt_rec.specs.declared.exposure.Coverage.{Coverage}
@@ -22,7 +22,7 @@ use Rattle.kt_gul.specs.GroundUp.{has_pair, bins_of, item_tiv}
 use Rattle.kt_gul.specs.Coverage.{IsStruck}
 use Rattle.kt_gul.specs.ItemLosses.{AreMoments}
 use Rattle.kt_gul.specs.Sampled.{CanSample}
-use Rattle.kt_gul.specs.StruckItems.{AreCdfs, AreStruck, cdf_key, has_cdf, item_of}
+use Rattle.kt_gul.specs.StruckItems.{AreCdfs, AreStruck, AreInOrder, cdf_key, has_cdf, item_of, struck_key}
 
 -- an insured value is at most 10^14
 pub tiv_within : (coverages : List Coverage) (id : ℕ) → All IsCoverage coverages → tiv_of coverages id ≤ 10 ^ 14
@@ -186,3 +186,11 @@ module _ (rows : Rows) (cdfs : List Cdf) (place : ℕ) (cdf : Cdf) (ranges : Are
         each = rw longer_is (All-append (IsStruck rows cdfs) struck (map made (filter has_it rows.items)) here.each
             (All-map (IsStruck rows cdfs) made (filter has_it rows.items) (All-weaker (λ row. has_it row ≡ true) (λ row. IsStruck rows cdfs (made row)) (is_struck moments moments_are) (filter has_it rows.items) (filter_passes has_it rows.items))));
       }
+
+-- the items of all distributions, in order
+pub in_order : (rows : Rows) (cdfs : List Cdf) (struck sorted : List StruckItem) → AreStruck rows cdfs (length cdfs) struck → IsPermutation struck sorted → IsNonDecreasingBy struck_key sorted → AreInOrder rows cdfs sorted
+in_order rows cdfs struck sorted are moved rising = record {
+  items_are = subst (λ cdfs. IsPermutation (filter (has_cdf cdfs) rows.items) (map item_of sorted)) (take_all (length cdfs) cdfs (omega arith)) (IsPermutation-trans _ _ _ are.items_are (IsPermutation-map item_of struck sorted moved));
+  each = All-permutation (IsStruck rows cdfs) struck sorted moved are.each;
+  rising = rising;
+}
