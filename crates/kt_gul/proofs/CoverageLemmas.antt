@@ -1,8 +1,8 @@
 -- The losses of the items of a coverage side by side, and their records.
-use Rattle.std.proofs.Common.{◌≡◌, ℕ, zero, suc, ◌+◌, ◌*◌, ◌^◌, ◌<◌, ◌≤◌, Bool, List, [], ◌∷◌, ◌++◌, length, take, drop, map, get_or, slice_index, refl, sym, ap, subst, arith, ◌∙◌, append-nil, append_assoc}
-use Rattle.std.specs.List.{All, cons_option, filter_map, flat_map, range_with_len, sum_by}
+use Rattle.std.proofs.Common.{◌≡◌, ℕ, zero, suc, ◌+◌, ◌*◌, ◌<◌, ◌≤◌, Bool, List, [], ◌∷◌, ◌++◌, length, take, drop, map, get_or, slice_index, sym, ap, arith, ◌∙◌, append-nil, append_assoc}
+use Rattle.std.specs.List.{All, filter_map, flat_map, range_with_len}
 use Rattle.std.proofs.lemmas.List.{take_more, drop_more, length-take-le, take_at, drop_at, map-append}
-use Rattle.std.proofs.lemmas.List.Concat.{flat_map-append, flat_map-cons}
+use Rattle.std.proofs.lemmas.List.Concat.{flat_map-append}
 use Rattle.std.proofs.lemmas.List.Elements.{filter_map-append}
 use Rattle.std.proofs.lemmas.List.FromFn.{length-map-range_with_len, get_or-map-range_with_len}
 use Rattle.std.proofs.lemmas.List.Sums.{sum_by_more, sum_by_more_le}
@@ -13,7 +13,7 @@ use Rattle.kt_stream.specs.declared.entry.Cdf.{Cdf}
 use Rattle.kt_stream.specs.declared.entry.LossRecord.{LossRecord}
 use Rattle.kt_stream.specs.declared.entry.Pair.{Pair}
 use Rattle.kt_gul.specs.declared.struck.StruckItem.{StruckItem}
-use Rattle.kt_gul.specs.GroundUp.{item_tiv, raw_loss, coverage_total, total_before, final_loss, ground_up_loss, pairs_of, record_with, item_record}
+use Rattle.kt_gul.specs.GroundUp.{item_tiv, raw_loss, coverage_total, final_loss, ground_up_loss, pairs_of, record_with, item_record}
 use Rattle.kt_gul.specs.Coverage.{IsRow, IsGroup, group_total}
 use Rattle.kt_gul.specs.Gathered.{AreAdded, ArePushed}
 use Rattle.kt_gul.proofs.PairLemmas.{pairs_agree}

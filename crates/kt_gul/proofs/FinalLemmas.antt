@@ -1,8 +1,8 @@
 -- The records of an event by rising id: made coverage by coverage and sorted, they are those of the items by rising id.
-use Rattle.std.proofs.Common.{◌≡◌, ◌≢◌, ◌⊎◌, ℕ, zero, suc, ◌+◌, ◌<◌, ◌≤◌, ◌&&◌, not, Bool, true, false, cond, nat_eq, nat_lt, List, [], ◌∷◌, ◌++◌, length, map, get_or, Option, Some, None, refl, sym, ap, subst, arith, ◌∙◌, inl, inr}
-use Rattle.std.specs.List.{All, AllByRecursion, IsDistinct, cons_option, filter, filter_map, range_with_len, sum_by}
+use Rattle.std.proofs.Common.{◌≡◌, ◌⊎◌, ℕ, zero, suc, ◌+◌, ◌<◌, ◌≤◌, ◌&&◌, not, Bool, true, false, cond, nat_eq, nat_lt, List, [], ◌∷◌, map, Option, Some, None, refl, sym, ap, subst, arith, ◌∙◌, inl, inr}
+use Rattle.std.specs.List.{AllByRecursion, IsDistinct, cons_option, filter, filter_map, range_with_len, sum_by}
 use Rattle.std.specs.List.Sorted.{IsPermutation, IsNonDecreasingBy}
-use Rattle.std.proofs.lemmas.Bool.{eqb-true, eqb-false, ltb-true, ltb-false, cases_lt}
+use Rattle.std.proofs.lemmas.Bool.{ltb-true, ltb-false, cases_lt}
 use Rattle.std.proofs.lemmas.Bool.Decides.{nat_tests}
 use Rattle.std.proofs.lemmas.List.Elements.{All-filter, recursion_from_All, All-from_recursion}
 use Rattle.std.proofs.lemmas.List.Sorted.{All-permutation, sum_by-IsPermutation}
@@ -31,9 +31,10 @@ Rising (entry ∷ entries) = AllByRecursion (λ other. entry.id ≤ other.id) en
 -- from the order at any two places
 rising_from : (entries : List LossRecord) → IsNonDecreasingBy (λ entry. entry.id) entries → Rising entries
 rising_from [] rising = tt
-rising_from (entry ∷ entries) rising =
-    (recursion_from_All (λ other. entry.id ≤ other.id) entries (λ k d below. rising 0 (suc k) d (omega arith) (omega arith)),
-    rising_from entries (λ i j d before below. rising (suc i) (suc j) d (omega arith) (omega arith)))
+rising_from (entry ∷ entries) rising = (
+  recursion_from_All (λ other. entry.id ≤ other.id) entries (λ k d below. rising 0 (suc k) d (omega arith) (omega arith)),
+  rising_from entries (λ i j d before below. rising (suc i) (suc j) d (omega arith) (omega arith)),
+)
 
 -- how many have an id
 abbrev count : ℕ → List LossRecord → ℕ

@@ -1,5 +1,5 @@
 -- The records of ground-up losses are records of a stream: their ids, their sidx and their losses are in their ranges.
-use Rattle.std.proofs.Common.{◌≡◌, ◌≢◌, ◌⊎◌, ℕ, zero, suc, ◌+◌, ◌-◌, ◌*◌, ◌/◌, ◌^◌, ◌<◌, ◌≤◌, ◌&&◌, not, Bool, true, false, cond, nat_eq, nat_lt, nat_le, ℤ, pos, negsuc, ◌≤ℤ◌, ◌<ℤ◌, List, [], ◌∷◌, length, map, min, Option, Some, None, refl, sym, ap, subst, arith, ◌∙◌, inl, inr}
+use Rattle.std.proofs.Common.{◌≡◌, ℕ, zero, suc, ◌+◌, ◌-◌, ◌*◌, ◌/◌, ◌^◌, ◌<◌, ◌≤◌, ◌&&◌, not, Bool, true, false, cond, nat_eq, nat_lt, nat_le, pos, ◌<ℤ◌, List, [], ◌∷◌, map, Option, Some, None, refl, sym, subst, arith}
 use Rattle.std.specs.List.{All, AllByRecursion, cons_option, filter, filter_map, range_with_len}
 use Rattle.std.specs.List.Sorted.{IsPermutation}
 use Rattle.std.proofs.lemmas.Bool.{ltb-true, leb-true}
@@ -14,9 +14,8 @@ use Rattle.kt_rec.specs.Ranges.{IsDamageBin, IsItem}
 use Rattle.kt_rec.specs.Rows.{Rows}
 use Rattle.kt_rec.specs.declared.exposure.Item.{Item}
 use Rattle.kt_rec.specs.declared.hazard.DamageBin.{DamageBin}
-use Rattle.kt_stream.specs.Bins.{AreBins, lowest}
 use Rattle.kt_stream.specs.Losses.{IsLoss}
-use Rattle.kt_stream.specs.Pairs.{IsId, IsSidx, IsPair, ArePairs, BeginsAbove, RisingSidx}
+use Rattle.kt_stream.specs.Pairs.{IsId, IsSidx, IsPair, BeginsAbove, RisingSidx}
 use Rattle.kt_stream.specs.declared.entry.Bin.{Bin}
 use Rattle.kt_stream.specs.declared.entry.Cdf.{Cdf}
 use Rattle.kt_stream.specs.declared.entry.LossRecord.{LossRecord}
@@ -24,10 +23,10 @@ use Rattle.kt_stream.specs.declared.entry.Pair.{Pair}
 use Rattle.kt_tables.specs.Lookups.{random_of}
 use Rattle.kt_gul.specs.declared.struck.StruckItem.{StruckItem}
 use Rattle.kt_gul.specs.Coverage.{IsStruck}
-use Rattle.kt_gul.specs.GroundUp.{bins_of, coverage_total, total_before, final_loss, ground_up_loss, item_record, item_tiv, loss_by, pair_at, pairs_of, raw_loss, record_with, sidx_at}
+use Rattle.kt_gul.specs.GroundUp.{bins_of, coverage_total, total_before, final_loss, ground_up_loss, item_record, item_tiv, pair_at, pairs_of, raw_loss, record_with, sidx_at}
 use Rattle.kt_gul.specs.SampledLoss.{falls_into, loss_in_bin, loss_behind}
 use Rattle.kt_gul.specs.StruckItems.{AreInOrder, has_cdf, item_of}
-use Rattle.kt_gul.proofs.SampleLemmas.{damage_within, part_within, ppm_part-le, lowest-le}
+use Rattle.kt_gul.proofs.SampleLemmas.{damage_within, part_within, ppm_part-le}
 
 -- ---- the bounds of losses
 

@@ -1,20 +1,18 @@
 -- The struck items of one coverage among all.
 use Rattle.std.proofs.Common.{◌≡◌, ◌≢◌, ◌⊎◌, ℕ, zero, suc, ◌+◌, ◌-◌, ◌*◌, ◌/◌, ◌^◌, ◌<◌, ◌≤◌, ◌&&◌, Bool, true, false, cond, nat_eq, nat_lt, List, [], ◌∷◌, ◌++◌, length, take, drop, map, get_or, min, refl, sym, ap, subst, arith, ◌∙◌, inl, inr}
 use Rattle.std.specs.List.{All, AllByRecursion, IsDistinct, filter, filter_map, sum_by}
-use Rattle.std.specs.List.Sorted.{IsPermutation, IsNonDecreasingBy}
 use Rattle.std.specs.Cmp.{nat_eq_equiv}
-use Rattle.std.proofs.lemmas.Bool.{eqb-true, eqb-false, cases_lt}
+use Rattle.std.proofs.lemmas.Bool.{eqb-false, cases_lt}
 use Rattle.std.proofs.lemmas.Bool.Decides.{nat_tests}
 use Rattle.std.proofs.lemmas.List.{get_or-map, length-map, length-take-le, length-drop, get_or-take, get_or-drop, get_or_default, drop-drop, map-append}
 use Rattle.std.proofs.lemmas.List.Elements.{All-filter, filter_map-append}
 use Rattle.std.proofs.lemmas.List.Sorted.{All-permutation, IsPermutation-map, length_permutation, sum_by-IsPermutation}
-use Rattle.std.proofs.lemmas.List.Sums.{sum_by-cons, sum_by-append, sum_by-take-drop}
+use Rattle.std.proofs.lemmas.List.Sums.{sum_by-cons, sum_by-take-drop}
 use Rattle.std.proofs.lemmas.Map.Keys.{IsDistinct-head, IsDistinct-tail, IsDistinct-cons, IsDistinct-IsPermutation, apart_from_distinct}
 use Rattle.kt_money.specs.Rounding.{root}
 use Rattle.kt_rec.specs.Rows.{Rows}
 use Rattle.kt_rec.specs.Ranges.{IsItem}
 use Rattle.kt_rec.specs.declared.exposure.Item.{Item}
-use Rattle.kt_stream.specs.declared.entry.Bin.{Bin}
 use Rattle.kt_stream.specs.declared.entry.Cdf.{Cdf}
 use Rattle.kt_stream.specs.declared.entry.LossRecord.{LossRecord}
 use Rattle.kt_gul.specs.declared.struck.StruckItem.{StruckItem}
@@ -24,7 +22,7 @@ use Rattle.kt_gul.specs.SampledLoss.{sampled_loss}
 use Rattle.kt_gul.specs.ItemMoments.{mean_loss, loss_deviation}
 use Rattle.kt_gul.specs.GroundUp.{item_tiv, has_pair, bins_of, loss_by, raw_loss, coverage_total, total_before, item_record}
 use Rattle.kt_gul.specs.Coverage.{IsGroup, IsStruck, group_total}
-use Rattle.kt_gul.specs.StruckItems.{AreInOrder, has_cdf, item_of, struck_key}
+use Rattle.kt_gul.specs.StruckItems.{AreInOrder, has_cdf, item_of}
 use Rattle.kt_gul.specs.Groups.{IsGroupEnd, AreDone}
 
 -- ---- items that are not struck

@@ -1,10 +1,9 @@
 -- The sums of a distribution's mean and deviation, bin by bin.
-use Rattle.std.proofs.Common.{◌≡◌, ℕ, zero, suc, ◌+◌, ◌-◌, ◌*◌, ◌<◌, ◌≤◌, List, [], ◌∷◌, length, refl, arith}
+use Rattle.std.proofs.Common.{◌≡◌, ℕ, ◌+◌, ◌-◌, ◌*◌, ◌≤◌, List, ◌∷◌, length, arith}
 use Rattle.std.proofs.lemmas.Nat.{mul-le}
-use Rattle.std.proofs.Math.Nat.{mul-add, add-mul}
-use Rattle.kt_stream.specs.Bins.{AreBins, lowest}
+use Rattle.std.proofs.Math.Nat.{add-mul}
+use Rattle.kt_stream.specs.Bins.{AreBins}
 use Rattle.kt_stream.specs.declared.entry.Bin.{Bin}
-use Rattle.kt_gul.specs.ItemMoments.{means_behind, squares_behind}
 use Rattle.kt_gul.specs.MomentSums.{AreSums}
 use Rattle.kt_gul.proofs.SampleLemmas.{lowest-le}
 

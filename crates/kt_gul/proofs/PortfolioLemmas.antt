@@ -1,5 +1,5 @@
 -- What a portfolio keeps of its items.
-use Rattle.std.specs.Prelude.{◌≡◌, ℕ, ◌≤◌, Bool, true, false, length, refl}
+use Rattle.std.specs.Prelude.{◌≡◌, ◌≤◌, Bool, true, false, length, refl}
 use Rattle.std.proofs.Common.{arith, inl}
 use Rattle.kt_rec.specs.declared.table.Table.TheVariants.{Items}
 use Rattle.kt_keys.specs.Refusals.{at_stage, is_loaded}

@@ -1,5 +1,5 @@
 -- The next place of a random number.
-use Rattle.std.proofs.Common.{◌≡◌, ℕ, ◌+◌, ◌-◌, ◌%◌, ◌<◌, ◌≤◌, refl, arith, ◌∙◌, sym, ap}
+use Rattle.std.proofs.Common.{◌≡◌, ℕ, ◌+◌, ◌%◌, ◌<◌, ◌∙◌, sym, ap}
 use Rattle.std.proofs.Math.Nat.{mod-eq_of_lt, mod-add-mod, mod_self}
 
 -- one more than a remainder that is not the last

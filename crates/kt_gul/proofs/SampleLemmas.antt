@@ -1,17 +1,17 @@
 -- The first bin into which a number falls, and the bounds of a sampled loss.
-use Rattle.std.proofs.Common.{◌≡◌, ℕ, zero, suc, ◌+◌, ◌-◌, ◌*◌, ◌/◌, ◌^◌, ◌<◌, ◌≤◌, Bool, true, false, cond, nat_lt, nat_le, List, [], ◌∷◌, length, get_or, max, min, sym, refl, subst, arith, ◌∙◌, ap, inl, inr, ◌⊎◌}
+use Rattle.std.proofs.Common.{◌≡◌, ℕ, zero, suc, ◌+◌, ◌-◌, ◌*◌, ◌/◌, ◌<◌, ◌≤◌, true, false, nat_lt, List, [], ◌∷◌, length, get_or, max, refl, arith, ◌∙◌}
 use Rattle.std.specs.List.{All}
 use Rattle.std.specs.List.Sorted.{IsNonDecreasingBy, IsPartitionPoint}
 use Rattle.std.proofs.lemmas.Bool.{ltb-true, ltb-false}
 use Rattle.std.proofs.lemmas.Bool.Decides.{nat_tests}
 use Rattle.std.proofs.lemmas.Nat.{mul-le}
 use Rattle.std.proofs.Math.Nat.{div-lt_iff_lt-mul, add-mul}
-use Rattle.kt_money.specs.Rounding.{half_up, ppm_part}
+use Rattle.kt_money.specs.Rounding.{ppm_part}
 use Rattle.kt_rec.specs.Ranges.{IsDamageBin}
 use Rattle.kt_rec.specs.declared.hazard.DamageBin.{DamageBin}
 use Rattle.kt_stream.specs.Bins.{AreBins, lowest}
 use Rattle.kt_stream.specs.declared.entry.Bin.{Bin}
-use Rattle.kt_gul.specs.SampledLoss.{falls_into, loss_in_bin, loss_behind, sampled_loss}
+use Rattle.kt_gul.specs.SampledLoss.{falls_into, loss_in_bin, loss_behind}
 use Rattle.kt_gul.specs.Sampled.{IsInBin, CanSample, end_before, damage_before}
 
 -- the least probability of a bin is at least that before it

@@ -1,8 +1,7 @@
 -- The items of one coverage that an event strikes, and their losses side by side.
-use Rattle.std.specs.Prelude.{◌≡◌, ℕ, ◌+◌, ◌<◌, ◌≤◌, List, length, take, map, All, slice_index, slice_index_or}
-use Rattle.std.specs.List.{range_with_len, sum_by}
+use Rattle.std.specs.Prelude.{◌≡◌, ℕ, ◌<◌, ◌≤◌, List, length, take, All, slice_index, slice_index_or}
+use Rattle.std.specs.List.{sum_by}
 use Rattle.kt_rec.specs.Rows.{Rows}
-use Rattle.kt_rec.specs.declared.exposure.Item.{Item}
 use Rattle.kt_stream.specs.declared.entry.Cdf.{Cdf}
 use Rattle.kt_gul.specs.declared.struck.StruckItem.{StruckItem}
 use Rattle.kt_gul.specs.GroundUp.{item_tiv, bins_of, raw_loss, coverage_total, total_before}

@@ -1,12 +1,11 @@
 -- The worked examples of docs/CALCULATION.md, by computing.
 use Rattle.std.specs.Prelude.{◌≡◌, ◌*◌, ◌/◌, ◌^◌, List, [], ◌∷◌}
 use Rattle.std.proofs.Common.{refl}
-use Rattle.kt_money.specs.Sharing.{share_out}
 use Rattle.kt_rec.specs.declared.hazard.DamageBin.{DamageBin}
 use Rattle.kt_stream.specs.declared.entry.Bin.{Bin}
 use Rattle.kt_tables.specs.Lookups.{random_place}
 use Rattle.kt_gul.specs.SampledLoss.{sampled_loss}
-use Rattle.kt_gul.specs.ItemMoments.{mean_loss, damage_deviation}
+use Rattle.kt_gul.specs.ItemMoments.{mean_loss}
 
 -- no damage, up to a half, and up to the whole
 dictionary : List DamageBin

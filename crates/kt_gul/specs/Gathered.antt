@@ -1,10 +1,8 @@
 -- How far the losses of a coverage's items have come.
-use Rattle.std.specs.Prelude.{◌≡◌, ℕ, ◌+◌, ◌*◌, ◌<◌, ◌≤◌, ◌++◌, List, length, map, take, drop}
-use Rattle.std.specs.List.{filter_map, flat_map, range_with_len}
+use Rattle.std.specs.Prelude.{◌≡◌, ℕ, ◌*◌, ◌<◌, ◌≤◌, List, length, map, take, drop}
+use Rattle.std.specs.List.{flat_map, range_with_len}
 use Rattle.kt_rec.specs.Rows.{Rows}
-use Rattle.kt_rec.specs.declared.exposure.Item.{Item}
 use Rattle.kt_stream.specs.declared.entry.Cdf.{Cdf}
-use Rattle.kt_stream.specs.declared.entry.LossRecord.{LossRecord}
 use Rattle.kt_gul.specs.declared.struck.StruckItem.{StruckItem}
 use Rattle.kt_gul.specs.GroundUp.{raw_loss}
 use Rattle.kt_gul.specs.Coverage.{IsRow, group_total}

@@ -1,6 +1,6 @@
 -- The ground-up losses of an event: of each item, cut to the insured values of coverages, and as records.
 -- The rules: docs/CALCULATION.md, "Sampled loss", "Mean and deviation of an item", "Coverage cut".
-use Rattle.std.specs.Prelude.{◌≡◌, ℕ, zero, suc, ◌+◌, ◌*◌, ◌&&◌, Bool, not, cond, nat_eq, nat_lt, ℤ, pos, negsuc, List, [], ◌∷◌, map, Option, None, Some}
+use Rattle.std.specs.Prelude.{ℕ, zero, suc, ◌+◌, ◌*◌, ◌&&◌, Bool, not, cond, nat_eq, nat_lt, ℤ, pos, negsuc, List, [], ◌∷◌, Option, None, Some}
 use Rattle.std.specs.List.{filter_map, range_with_len, sum_by}
 use Rattle.kt_money.specs.Sharing.{share_of}
 use Rattle.kt_rec.specs.Rows.{Rows}

@@ -1,6 +1,6 @@
 -- The loss of a sample: where its random number falls among the bins of a distribution.
 -- The rule: docs/CALCULATION.md, "Sampled loss".
-use Rattle.std.specs.Prelude.{ℕ, ◌+◌, ◌-◌, ◌*◌, ◌&&◌, Bool, cond, nat_lt, nat_le, List, [], ◌∷◌}
+use Rattle.std.specs.Prelude.{ℕ, ◌+◌, ◌-◌, ◌*◌, ◌&&◌, Bool, cond, nat_lt, nat_le, List, ◌∷◌}
 use Rattle.kt_money.specs.Rounding.{half_up, ppm_part}
 use Rattle.kt_rec.specs.declared.hazard.DamageBin.{DamageBin}
 use Rattle.kt_stream.specs.declared.entry.Bin.{Bin}

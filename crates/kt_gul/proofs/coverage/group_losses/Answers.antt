@@ -1,4 +1,4 @@
-use Rattle.std.proofs.Common.{ℕ, List, ◌≤◌, ◌+◌, ◌++◌, length, arith, ap, ◌∙◌, sym, subst}
+use Rattle.std.proofs.Common.{ℕ, List, ◌≤◌, ◌+◌, ◌++◌, length, ap, ◌∙◌, sym, subst}
 use Rattle.std.specs.List.{All}
 use Rattle.kt_gul.specs.declared.struck.StruckItem.{StruckItem}
 use Rattle.kt_gul.proofs.CoverageLemmas.{row_from_map, added_more}

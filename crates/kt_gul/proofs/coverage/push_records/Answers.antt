@@ -1,7 +1,7 @@
-use Rattle.std.proofs.Common.{◌≡◌, ℕ, List, ◌<◌, ◌≤◌, ◌+◌, ◌++◌, length, take, slice_index, slice_index_or, arith, ap, ◌∙◌, sym, subst}
+use Rattle.std.proofs.Common.{◌≡◌, ℕ, List, ◌<◌, ◌+◌, length, take, slice_index, slice_index_or, arith, ap, ◌∙◌, sym, subst}
 use Rattle.kt_gul.specs.declared.struck.StruckItem.{StruckItem}
 use Rattle.kt_gul.specs.Coverage.{IsRow}
-use Rattle.kt_gul.specs.GroundUp.{raw_loss, final_loss}
+use Rattle.kt_gul.specs.GroundUp.{raw_loss}
 use Rattle.kt_gul.proofs.CoverageLemmas.{rest_long, row_front, total_within, pushed_more, item_pairs_are, records_more}
 use Rattle.kt_gul.proofs.coverage.push_records.Goals as goal
 

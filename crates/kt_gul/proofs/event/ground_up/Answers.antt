@@ -1,4 +1,4 @@
-use Rattle.std.proofs.Common.{List, ◌≡◌, length, map, sym, subst}
+use Rattle.std.proofs.Common.{List, ◌≡◌, length, sym, subst}
 use Rattle.std.specs.List.Sorted.{IsPermutation, IsNonDecreasingBy}
 use Rattle.kt_tables.specs.PortfolioLaws.{items_distinct}
 use Rattle.kt_rec.specs.Rows.{Rows}

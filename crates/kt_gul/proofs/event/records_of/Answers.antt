@@ -1,4 +1,4 @@
-use Rattle.std.proofs.Common.{List, ◌≡◌, ◌∙◌, ◌++◌, map, ap, sym, subst, slice_index_or}
+use Rattle.std.proofs.Common.{List, ◌∙◌, ◌++◌, map, ap, sym, subst, slice_index_or}
 use Rattle.std.specs.List.{filter_map}
 use Rattle.kt_tables.specs.PortfolioLaws.{items_distinct}
 use Rattle.kt_gul.specs.declared.struck.StruckItem.{StruckItem}

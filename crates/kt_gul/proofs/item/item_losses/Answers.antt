@@ -1,4 +1,4 @@
-use Rattle.std.proofs.Common.{◌≡◌, ℕ, ◌+◌, ◌*◌, length, ap, ◌∙◌, arith}
+use Rattle.std.proofs.Common.{ℕ, ◌*◌, length, ap, ◌∙◌, arith}
 use Rattle.kt_tables.specs.Lookups.{random_place}
 use Rattle.kt_gul.specs.SampledLoss.{sampled_loss}
 use Rattle.kt_gul.specs.GroundUp.{loss_by}

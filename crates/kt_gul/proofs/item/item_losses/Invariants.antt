@@ -1,6 +1,5 @@
 -- The losses so far are those at the places so far, and the place is that of the next sample.
-use Rattle.std.proofs.Common.{◌≡◌, ◌+◌, length, map}
-use Rattle.std.specs.List.{range_with_len}
+use Rattle.std.proofs.Common.{length}
 use Rattle.kt_tables.specs.Lookups.{random_place}
 use Rattle.kt_gul.specs.GroundUp.{loss_by}
 use Rattle.kt_gul.specs.ItemLosses.{AreMade}

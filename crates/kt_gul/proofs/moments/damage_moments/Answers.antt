@@ -1,4 +1,4 @@
-use Rattle.std.proofs.Common.{List, length, drop, get_or, subst, ◌<◌, ◌+◌, arith}
+use Rattle.std.proofs.Common.{List, length, drop, get_or, subst, ◌<◌, ◌+◌}
 use Rattle.std.proofs.lemmas.List.{drop_more}
 use Rattle.kt_stream.specs.declared.entry.Bin.{Bin}
 use Rattle.kt_gul.specs.MomentSums.{AreSums}

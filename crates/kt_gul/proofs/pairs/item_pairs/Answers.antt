@@ -1,4 +1,4 @@
-use Rattle.std.proofs.Common.{slice_index, arith, ◌<◌, ◌∙◌}
+use Rattle.std.proofs.Common.{slice_index, arith, ◌∙◌}
 use Rattle.kt_gul.specs.GroundUp.{final_loss}
 use Rattle.kt_gul.proofs.PairLemmas.{pairs_push, pairs_skip}
 use Rattle.kt_gul.proofs.pairs.item_pairs.Goals as goal

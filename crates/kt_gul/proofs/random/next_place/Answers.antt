@@ -1,4 +1,4 @@
-use Rattle.std.proofs.Common.{◌≡◌, ℕ, ◌+◌, ◌-◌, ◌*◌, ◌%◌, ◌<◌, arith, ap, subst, sym, ◌∙◌}
+use Rattle.std.proofs.Common.{ℕ, ◌+◌, ◌-◌, ◌*◌, ◌%◌, arith, ap, ◌∙◌}
 use Rattle.kt_gul.proofs.RandomLemmas.{next_within, next_around}
 use Rattle.kt_gul.proofs.random.next_place.Goals as goal
 

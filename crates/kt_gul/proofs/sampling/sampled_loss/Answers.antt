@@ -1,8 +1,6 @@
-use Rattle.std.proofs.Common.{◌≡◌, ◌≤◌, ◌<◌, ◌∙◌, length, get_or, max, sym, ap, arith, subst}
+use Rattle.std.proofs.Common.{◌<◌, length, arith}
 use Rattle.kt_rec.specs.declared.hazard.DamageBin.{DamageBin}
 use Rattle.kt_stream.specs.declared.entry.Bin.{Bin}
-use Rattle.kt_gul.specs.SampledLoss.{loss_in_bin}
-use Rattle.kt_gul.specs.Sampled.{IsInBin}
 use Rattle.kt_gul.proofs.SampleLemmas.{loss_behind-at, loss_behind-past, passed-from, found-from, damage_before-le, falls, ppm_part-le}
 use Rattle.kt_gul.proofs.sampling.sampled_loss.Goals as goal
 

@@ -1,7 +1,5 @@
 -- The items so far are appended.
-use Rattle.std.proofs.Common.{◌≡◌, ◌++◌, List, map, take}
-use Rattle.kt_rec.specs.declared.exposure.Item.{Item}
-use Rattle.kt_gul.specs.declared.struck.StruckItem.{StruckItem}
+use Rattle.std.proofs.Common.{◌≡◌, ◌++◌, map, take}
 use Rattle.kt_gul.proofs.struck.push_items.Given as goal
 
 abbrev pub invariant-loop-item : goal.invariant-loop-item

@@ -1,4 +1,4 @@
-use Rattle.std.proofs.Common.{List, sym, subst, ap, ◌≡◌, ◌∙◌, ◌++◌, map}
+use Rattle.std.proofs.Common.{List, sym, subst, ap, ◌∙◌, ◌++◌, map}
 use Rattle.kt_stream.specs.declared.entry.Bin.{Bin}
 use Rattle.kt_rec.specs.declared.exposure.Item.{Item}
 use Rattle.kt_gul.specs.declared.struck.StruckItem.{StruckItem}
