@@ -1,11 +1,13 @@
 -- The worked examples of docs/CALCULATION.md, by computing.
 use Rattle.std.specs.Prelude.{◌≡◌, ◌*◌, ◌/◌, ◌^◌, List, [], ◌∷◌}
-use Rattle.std.proofs.Common.{refl}
+use Rattle.std.proofs.Common.{refl, ap, sym, arith}
+use Rattle.kt_money.specs.RoundingLaws.{root-from_is}
 use Rattle.kt_rec.specs.declared.hazard.DamageBin.{DamageBin}
 use Rattle.kt_stream.specs.declared.entry.Bin.{Bin}
 use Rattle.kt_tables.specs.Lookups.{random_place}
+use Rattle.kt_gul.specs.GroundUp.{cut_loss}
 use Rattle.kt_gul.specs.SampledLoss.{sampled_loss}
-use Rattle.kt_gul.specs.ItemMoments.{mean_loss}
+use Rattle.kt_gul.specs.ItemMoments.{mean_loss, loss_deviation}
 
 -- no damage, up to a half, and up to the whole
 dictionary : List DamageBin
@@ -39,9 +41,10 @@ mean : mean_loss 100000 bins ≡ 22500
 unfolding bins
 mean = refl
 
--- its deviation, whose root is of a number of 36 digits: 283.94 is 1000.00 times this, rounded down
-deviation : 100000 * 283945417 / 10 ^ 9 ≡ 28394
-deviation = refl
+-- its deviation, 283.94: the root is that of a number of 35 digits
+deviation : loss_deviation 100000 bins ≡ 28394
+unfolding bins
+deviation = ap (λ d. 100000 * d / 10 ^ 18) (sym (root-from_is 80625000000000000000000000000000000 283945417290013680 (record { at_most = omega arith; next_above = omega arith })))
 
 -- the first number of ten of event 1 and group 1, and the ninth
 first_place : random_place 10 1 1 1 ≡ 2
@@ -49,3 +52,10 @@ first_place = refl
 
 ninth_place : random_place 10 1 1 9 ≡ 0
 ninth_place = refl
+
+-- two losses of 700.00 and 600.00 of a coverage with 1000.00 become 538.46 and 461.54
+first_of_two : cut_loss 100000 130000 0 70000 ≡ 53846
+first_of_two = refl
+
+second_of_two : cut_loss 100000 130000 70000 60000 ≡ 46154
+second_of_two = refl

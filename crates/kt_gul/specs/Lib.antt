@@ -9,4 +9,5 @@ pub mod Sums
 pub mod Gathered
 pub mod StruckItems
 pub mod Groups
+pub mod CutLaws
 pub mod Examples

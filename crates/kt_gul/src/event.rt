@@ -16,7 +16,7 @@ ghost use Rattle.kt_gul.specs.Groups.{IsGroupEnd};
 use crate::coverage::push_coverage;
 use crate::struck::{StruckItem, struck_items};
 use kt_index::ByKey;
-use kt_stream::{Cdf, LossRecord};
+use kt_stream::{Cdf, LossRecord, Records};
 use kt_tables::Portfolio;
 use std::alloc::{AllocError, Global};
 
@@ -90,9 +90,10 @@ fn sort_by_id(records: &mut Vec<LossRecord>) -> Result<(), AllocError>
     Ok(())
 }
 
-/// The records of the ground-up losses of an event, by rising id of the item: of each item with so many samples, with the
-/// cut of the losses of a coverage to its insured value or without it. The tables of items, coverages, damage bins and random
-/// numbers must be loaded, and the distributions are those of the event. An error is want of memory.
+/// The records of the ground-up losses of an event, by rising id of the item: of each item its deviation, its mean and so
+/// many samples, with the cut of the losses of a coverage to its insured value or without it. The random numbers must be
+/// loaded, and the distributions are those of the event, of which none has more bins than the dictionary of damage bins. An
+/// error is want of memory.
 pub fn ground_up(
     alloc: Global,
     portfolio: &Portfolio,
@@ -100,17 +101,13 @@ pub fn ground_up(
     cut: bool,
     event: u32,
     cdfs: &[Cdf],
-) -> Result<Vec<LossRecord>, AllocError>
-    requires items { is_loaded portfolio.now.need 0 table.Items ≡ true }
-    requires coverages { is_loaded portfolio.now.need 0 table.Coverages ≡ true }
-    requires bins { is_loaded portfolio.now.need 0 table.DamageBinDict ≡ true }
+) -> Result<Records<LossRecord>, AllocError>
     requires random { is_loaded portfolio.now.need 0 table.Random ≡ true }
-    requires least_samples { 1 ≤ samples }
-    requires most_samples { samples ≤ 1000 }
+    requires samples { samples ≤ 1000 }
     requires event { IsId event }
     requires cdfs { AreCdfs (length portfolio.now.rows.damage_bin_dict) cdfs.now }
-    ensures value { IfOk result (λ records. records.items ≡ ground_up_records portfolio.now.rows samples cut event cdfs.now) }
-    ensures good { IfOk result (λ records. All (IsLoss samples) records.items) }
+    ensures value { IfOk result (λ records. records ≡ ground_up_records portfolio.now.rows samples cut event cdfs.now) }
+    ensures good { IfOk result (λ records. All (IsLoss samples) records) }
 {
     portfolio.is_valid();
     let struck = struck_items(alloc, portfolio, cdfs)?;
@@ -125,5 +122,5 @@ pub fn ground_up(
         struck.as_slice(),
     )?;
     sort_by_id(&mut records)?;
-    Ok(records)
+    Ok(Records::from_vec(records))
 }

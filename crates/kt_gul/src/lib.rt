@@ -5,6 +5,7 @@ mod coverage;
 mod cut;
 mod event;
 mod item;
+pub mod laws;
 mod moments;
 mod pairs;
 mod quotient;

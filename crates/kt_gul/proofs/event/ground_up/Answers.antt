@@ -1,4 +1,7 @@
-use Rattle.std.proofs.Common.{List, ◌≡◌, length, sym, subst}
+use Rattle.std.proofs.Common.{◌∙◌, List, ◌≡◌, length, sym, subst}
+use Rattle.std.specs.List.{All}
+use Rattle.kt_stream.specs.Losses.{IsLoss}
+use Rattle.kt_stream.specs.declared.entry.LossRecord.{LossRecord}
 use Rattle.std.specs.List.Sorted.{IsPermutation, IsNonDecreasingBy}
 use Rattle.kt_tables.specs.PortfolioLaws.{items_distinct}
 use Rattle.kt_rec.specs.Rows.{Rows}
@@ -21,11 +24,11 @@ records_of-requires-clause-order c = read_order c.args.portfolio.now.rows c.args
 pub returns-clause-value : goal.returns-clause-value
 returns-clause-value c =
     let order = read_order c.args.portfolio.now.rows c.args.cdfs.now _ _ _ _ c.in_ok-struck.ensures.value c.deref.ensures.value c.in_ok-struck-2.ensures.permutation c.as_slice.ensures.value c.as_slice.ensures.rising in
-    records_are c.args.portfolio.now.rows c.args.samples c.args.cut c.args.event c.args.cdfs.now c.as_slice.result.now c.in_ok-records.records.items _ order
+    c.from_vec.ensures.value ∙ records_are c.args.portfolio.now.rows c.args.samples c.args.cut c.args.event c.args.cdfs.now c.as_slice.result.now c.in_ok-records.records.items _ order
     (items_distinct c.args.portfolio.now c.is_valid.ensures.valid) c.in_ok-records.ensures.value c.in_ok-sort_by_id.ensures.permutation c.in_ok-sort_by_id.ensures.rising
 
 pub returns-clause-good : goal.returns-clause-good
 returns-clause-good c =
     let order = read_order c.args.portfolio.now.rows c.args.cdfs.now _ _ _ _ c.in_ok-struck.ensures.value c.deref.ensures.value c.in_ok-struck-2.ensures.permutation c.as_slice.ensures.value c.as_slice.ensures.rising in
-    records_good c.args.portfolio.now.rows c.args.samples c.args.cut c.args.event c.args.cdfs.now c.as_slice.result.now c.in_ok-records.records.items _ order
-    c.requires.event c.is_valid.ensures.valid.in_range.items c.in_ok-records.ensures.value c.in_ok-sort_by_id.ensures.permutation
+    subst (λ (records : List LossRecord). All (IsLoss c.args.samples) records) (sym c.from_vec.ensures.value) (records_good c.args.portfolio.now.rows c.args.samples c.args.cut c.args.event c.args.cdfs.now c.as_slice.result.now c.in_ok-records.records.items _ order
+    c.requires.event c.is_valid.ensures.valid.in_range.items c.in_ok-records.ensures.value c.in_ok-sort_by_id.ensures.permutation)
