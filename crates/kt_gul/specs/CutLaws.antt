@@ -2,7 +2,7 @@
 -- The rule: docs/CALCULATION.md, "Coverage cut".
 use Rattle.std.specs.Prelude.{◌≡◌, ℕ, zero, suc, ◌+◌, List, [], ◌∷◌, length, take, map, slice_index, refl}
 use Rattle.std.specs.List.{range_with_len, sum}
-use Rattle.std.proofs.Common.{ap, sym, ◌∙◌, arith}
+use Rattle.std.proofs.Common.{ap, ◌∙◌, arith}
 use Rattle.std.proofs.lemmas.List.Sums.{sum_by-cons}
 use Rattle.kt_money.specs.Sharing.{share_of, shares_after, share_out}
 
