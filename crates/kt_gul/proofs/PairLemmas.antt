@@ -1,0 +1,49 @@
+-- The pairs of losses, place by place.
+use Rattle.std.proofs.Common.{◌≡◌, ℕ, zero, suc, ◌+◌, ◌<◌, ◌≤◌, List, [], ◌∷◌, ◌++◌, refl, sym, ap, arith, ◌∙◌, add-one, append-nil}
+use Rattle.std.specs.List.{filter_map, range_with_len, cons_option}
+use Rattle.std.proofs.lemmas.List.Elements.{filter_map-append}
+use Rattle.kt_stream.specs.declared.entry.Pair.{Pair}
+use Rattle.kt_gul.specs.GroundUp.{pair_at, pairs_of, sidx_at}
+
+-- one more number of a range
+pub range_more : (a n : ℕ) → range_with_len a (n + 1) ≡ range_with_len a n ++ (a + n) ∷ []
+range_more a n = ap (range_with_len a) (add-one n) ∙ from a n
+  where
+    from : (a n : ℕ) → range_with_len a (suc n) ≡ range_with_len a n ++ (a + n) ∷ []
+    from a zero = ap (λ x. x ∷ []) (omega arith)
+    from a (suc n) = ap (λ xs. a ∷ xs) (from (a + 1) n ∙ ap (λ x. range_with_len (a + 1) n ++ x ∷ []) (omega arith))
+
+-- the pairs with those of one more place
+pairs_upto : (f : ℕ → ℕ) (n : ℕ) → filter_map (λ place. pair_at place (f place)) (range_with_len 0 (n + 1)) ≡ filter_map (λ place. pair_at place (f place)) (range_with_len 0 n) ++ filter_map (λ place. pair_at place (f place)) (n ∷ [])
+pairs_upto f n = ap (filter_map (λ place. pair_at place (f place))) (range_more 0 n ∙ ap (λ x. range_with_len 0 n ++ x ∷ []) (omega arith)) ∙ filter_map-append (λ place. pair_at place (f place)) (range_with_len 0 n) (n ∷ [])
+
+-- the pair of a loss
+pair_of : (f : ℕ → ℕ) (n : ℕ) (loss : ℕ) → f n ≡ loss → 0 < loss → filter_map (λ place. pair_at place (f place)) (n ∷ []) ≡ record { sidx = sidx_at n; loss = loss } ∷ []
+pair_of f n zero is some = absurd (omega arith)
+pair_of f n (suc less) is some = rw is refl
+
+-- no pair of no loss
+no_pair : (f : ℕ → ℕ) (n : ℕ) → f n ≡ 0 → filter_map (λ place. pair_at place (f place)) (n ∷ []) ≡ []
+no_pair f n none = rw none refl
+
+-- a place with a loss adds its pair
+pub pairs_push : (f : ℕ → ℕ) (n loss : ℕ) (pair : Pair) (pairs longer : List Pair) → pairs ≡ filter_map (λ place. pair_at place (f place)) (range_with_len 0 n) → loss ≡ f n → 0 < loss → pair ≡ record { sidx = sidx_at n; loss = loss } → longer ≡ pairs ++ pair ∷ [] → longer ≡ filter_map (λ place. pair_at place (f place)) (range_with_len 0 (n + 1))
+pairs_push f n loss pair pairs longer are is some pair_is longer_is =
+    longer_is ∙ (ap (λ pairs. pairs ++ pair ∷ []) are ∙ (ap (λ pair. filter_map (λ place. pair_at place (f place)) (range_with_len 0 n) ++ pair ∷ []) pair_is
+    ∙ (ap (λ more. filter_map (λ place. pair_at place (f place)) (range_with_len 0 n) ++ more) (sym (pair_of f n loss (sym is) some)) ∙ sym (pairs_upto f n))))
+
+-- a place without a loss adds none
+pub pairs_skip : (f : ℕ → ℕ) (n : ℕ) (pairs : List Pair) → pairs ≡ filter_map (λ place. pair_at place (f place)) (range_with_len 0 n) → 0 ≡ f n → pairs ≡ filter_map (λ place. pair_at place (f place)) (range_with_len 0 (n + 1))
+pairs_skip f n pairs are none =
+    are ∙ (sym (append-nil (filter_map (λ place. pair_at place (f place)) (range_with_len 0 n))) ∙ (ap (λ more. filter_map (λ place. pair_at place (f place)) (range_with_len 0 n) ++ more) (sym (no_pair f n (sym none))) ∙ sym (pairs_upto f n)))
+
+-- equal losses have equal pairs
+pub pairs_agree : (f g : ℕ → ℕ) (samples : ℕ) → ((place : ℕ) → place < samples + 2 → f place ≡ g place) → pairs_of f samples ≡ pairs_of g samples
+pairs_agree f g samples same = from 0 (samples + 2) (λ place low high. same place (omega arith))
+  where
+    from : (a n : ℕ) → ((place : ℕ) → a ≤ place → place < a + n → f place ≡ g place) → filter_map (λ place. pair_at place (f place)) (range_with_len a n) ≡ filter_map (λ place. pair_at place (g place)) (range_with_len a n)
+    from a zero same = refl
+    from a (suc n) same =
+        let first = ap (pair_at a) (same a (omega arith) (omega arith)) in
+        let rest = from (a + 1) n (λ place low high. same place (omega arith) (omega arith)) in
+        ap (λ first. cons_option first (filter_map (λ place. pair_at place (f place)) (range_with_len (a + 1) n))) first ∙ ap (cons_option (pair_at a (g a))) rest

@@ -1,0 +1,10 @@
+-- The losses so far are those at the places so far, and the place is that of the next sample.
+use Rattle.std.proofs.Common.{length}
+use Rattle.kt_tables.specs.Lookups.{random_place}
+use Rattle.kt_gul.specs.GroundUp.{loss_by}
+use Rattle.kt_gul.specs.ItemLosses.{AreMade}
+use Rattle.kt_gul.proofs.item.item_losses.Given as goal
+
+abbrev pub invariant-loop-sample : goal.invariant-loop-sample
+invariant-loop-sample l =
+    AreMade (loss_by l.portfolio.rows l.event l.bins l.fn.item) (random_place (length l.numbers) l.event l.fn.item.group_id) (length l.numbers) l._sample l.losses.items l.place

@@ -1,0 +1,13 @@
+pub mod SampledLoss
+pub mod ItemMoments
+pub mod GroundUp
+pub mod Sampled
+pub mod MomentSums
+pub mod ItemLosses
+pub mod Coverage
+pub mod Sums
+pub mod Gathered
+pub mod StruckItems
+pub mod Groups
+pub mod CutLaws
+pub mod Examples

@@ -1,0 +1,126 @@
+//! The ground-up losses of an event, as records.
+//! The rules: docs/CALCULATION.md, "Sampled loss", "Mean and deviation of an item", "Coverage cut".
+ghost use Rattle.std.specs.Prelude.{◌≡◌, ◌+◌, ◌-◌, ◌<◌, ◌≤◌, true, length, map, take, drop, All, IfOk, slice_index_or};
+ghost use Rattle.std.specs.List.{filter_map};
+ghost use Rattle.std.specs.List.Sorted.{IsPermutation, IsNonDecreasingBy};
+ghost use Rattle.kt_rec.specs.declared.table.Table.TheVariants as table;
+ghost use Rattle.kt_keys.specs.Refusals.{is_loaded};
+ghost use Rattle.kt_stream.specs.Losses.{IsLoss};
+ghost use Rattle.kt_stream.specs.Pairs.{IsId};
+ghost use Rattle.kt_stream.specs.declared.entry.LossRecord.{LossRecord};
+ghost use Rattle.kt_gul.specs.declared.struck.StruckItem.{StruckItem};
+ghost use Rattle.kt_gul.specs.GroundUp.{item_record, ground_up_records};
+ghost use Rattle.kt_gul.specs.StruckItems.{AreCdfs, AreInOrder, item_of};
+ghost use Rattle.kt_gul.specs.Groups.{IsGroupEnd};
+
+use crate::coverage::push_coverage;
+use crate::struck::{StruckItem, struck_items};
+use kt_index::ByKey;
+use kt_stream::{Cdf, Items, LossRecord};
+use kt_tables::Portfolio;
+use std::alloc::{AllocError, Global};
+
+/// The place behind the items of a coverage, the first of which stands at `start`.
+fn group_end(struck: &[StruckItem], start: usize, coverage: u32) -> usize
+    requires within { start < length struck.now }
+    requires first { (d : StruckItem) → (slice_index_or struck.now start d).item.coverage_id ≡ coverage }
+    ensures value { IsGroupEnd struck.now start coverage result }
+{
+    for end in start + 1..struck.len() {
+        if struck[end].item.coverage_id != coverage {
+            return end;
+        }
+    }
+    struck.len()
+}
+
+/// The struck items from a place up to but not including another.
+fn between(struck: &[StruckItem], start: usize, end: usize) -> &[StruckItem]
+    requires order { start ≤ end }
+    requires within { end ≤ length struck.now }
+    ensures value { result.now ≡ take (end - start) (drop start struck.now) }
+{
+    &struck[start..end]
+}
+
+/// The records of struck items, coverage by coverage.
+fn records_of(
+    alloc: Global,
+    portfolio: &Portfolio,
+    samples: u32,
+    cut: bool,
+    event: u32,
+    cdfs: &[Cdf],
+    struck: &[StruckItem],
+) -> Result<Vec<LossRecord>, AllocError>
+    requires loaded { is_loaded portfolio.now.need 0 table.Random ≡ true }
+    requires samples { samples ≤ 1000 }
+    requires order { AreInOrder portfolio.now.rows cdfs.now struck.now }
+    ensures value { IfOk result (λ records. records.items ≡ filter_map (item_record portfolio.now.rows samples cut event cdfs.now) (map item_of struck.now)) }
+{
+    portfolio.is_valid();
+    let mut records = Vec::new(alloc);
+    let mut start = 0;
+    while start < struck.len() {
+        let coverage = struck[start].item.coverage_id;
+        let end = group_end(struck, start, coverage);
+        let group = between(struck, start, end);
+        push_coverage(
+            alloc,
+            portfolio,
+            samples,
+            cut,
+            event,
+            coverage,
+            cdfs,
+            group,
+            &mut records,
+        )?;
+        start = end;
+    }
+    Ok(records)
+}
+
+/// Puts records in the order of their ids.
+fn sort_by_id(records: &mut Vec<LossRecord>) -> Result<(), AllocError>
+    ensures permutation { IfOk result (λ _. IsPermutation records.old.items records.new.items) }
+    ensures rising { IfOk result (λ _. IsNonDecreasingBy (λ entry. entry.id) records.new.items) }
+{
+    records.sort_by_key(|entry| entry.id)?;
+    Ok(())
+}
+
+/// The records of the ground-up losses of an event, by rising id of the item: of each item its deviation, its mean and so
+/// many samples, with the cut of the losses of a coverage to its insured value or without it. The random numbers must be
+/// loaded, and the distributions are those of the event, of which none has more bins than the dictionary of damage bins. An
+/// error is want of memory.
+pub fn ground_up(
+    alloc: Global,
+    portfolio: &Portfolio,
+    samples: u32,
+    cut: bool,
+    event: u32,
+    cdfs: &[Cdf],
+) -> Result<Items<LossRecord>, AllocError>
+    requires random { is_loaded portfolio.now.need 0 table.Random ≡ true }
+    requires samples { samples ≤ 1000 }
+    requires event { IsId event }
+    requires cdfs { AreCdfs (length portfolio.now.rows.damage_bin_dict) cdfs.now }
+    ensures value { IfOk result (λ records. records ≡ ground_up_records portfolio.now.rows samples cut event cdfs.now) }
+    ensures good { IfOk result (λ records. All (IsLoss samples) records) }
+{
+    portfolio.is_valid();
+    let struck = struck_items(alloc, portfolio, cdfs)?;
+    let struck = ByKey::new(alloc, &struck)?;
+    let mut records = records_of(
+        alloc,
+        portfolio,
+        samples,
+        cut,
+        event,
+        cdfs,
+        struck.as_slice(),
+    )?;
+    sort_by_id(&mut records)?;
+    Ok(Items::from_vec(records))
+}

@@ -1,0 +1,17 @@
+//! Ground-up losses: the sampled loss, the mean and the deviation of each item in an event.
+#![tactic(auto)]
+
+mod coverage;
+mod cut;
+mod event;
+mod item;
+pub mod laws;
+mod moments;
+mod pairs;
+mod quotient;
+mod random;
+mod sampling;
+mod struck;
+mod sums;
+
+pub use event::ground_up;
