@@ -16,7 +16,7 @@ ghost use Rattle.kt_gul.specs.Groups.{IsGroupEnd};
 use crate::coverage::push_coverage;
 use crate::struck::{StruckItem, struck_items};
 use kt_index::ByKey;
-use kt_stream::{Cdf, Items, LossRecord};
+use kt_stream::{Cdf, LossRecord, Records};
 use kt_tables::Portfolio;
 use std::alloc::{AllocError, Global};
 
@@ -101,7 +101,7 @@ pub fn ground_up(
     cut: bool,
     event: u32,
     cdfs: &[Cdf],
-) -> Result<Items<LossRecord>, AllocError>
+) -> Result<Records<LossRecord>, AllocError>
     requires random { is_loaded portfolio.now.need 0 table.Random ≡ true }
     requires samples { samples ≤ 1000 }
     requires event { IsId event }
@@ -122,5 +122,5 @@ pub fn ground_up(
         struck.as_slice(),
     )?;
     sort_by_id(&mut records)?;
-    Ok(Items::from_vec(records))
+    Ok(Records::from_vec(records))
 }

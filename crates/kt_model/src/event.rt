@@ -17,7 +17,7 @@ use crate::chances::{add_rows, clear, no_chances};
 use crate::foot_rows::{ModelStop, check_rows};
 use kt_index::ByKey;
 use kt_rec::FootRow;
-use kt_stream::{Bins, Cdf, Items};
+use kt_stream::{Bins, Cdf, Records};
 use kt_tables::Portfolio;
 use std::alloc::{AllocError, Global};
 
@@ -54,7 +54,7 @@ fn records_of(
     portfolio: &Portfolio,
     event: u32,
     foot: &ByKey<FootRow>,
-) -> Result<Items<Cdf>, AllocError>
+) -> Result<Records<Cdf>, AllocError>
     requires valid { IsPortfolio portfolio.now }
     requires kept { KeepsDamage portfolio.now.rows }
     requires within { (areaperil : ℕ) → areaperil_total foot.now areaperil ≤ 1001000 }
@@ -63,7 +63,7 @@ fn records_of(
 {
     let mut memory = no_chances(alloc, portfolio.damage_bins().len())?;
     let chances = memory.as_mut_slice();
-    let mut records = Items::new(alloc);
+    let mut records = Records::new(alloc);
     for pair in portfolio.pairs() {
         let (areaperil, vulnerability) = *pair;
         let bins = pair_bins(alloc, portfolio, foot, chances, areaperil, vulnerability)?;
@@ -87,7 +87,7 @@ pub fn distributions(
     portfolio: &Portfolio,
     event: u32,
     rows: &[FootRow],
-) -> Result<Items<Cdf>, ModelStop>
+) -> Result<Records<Cdf>, ModelStop>
     requires loaded { is_loaded portfolio.now.need 0 table.DamageBinDict ≡ true }
     ensures value { IfOk result (λ records. records ≡ distributions_of portfolio.now.rows event rows.now) }
     ensures fits { IsId event → IfOk result (All (IsCdf (length portfolio.now.rows.damage_bin_dict))) }

@@ -14,13 +14,13 @@ pub struct Pair {
     pub loss: u64,
 }
 
-/// A list. Contracts see its items.
+/// A list, of records or of what one record has. Contracts see the list.
 #[derive(Debug, Drop)]
-pub struct Items<T> {
+pub struct Records<T> {
     items: Vec<T>,
 }
 
-impl<T> Model for Items<T> {
+impl<T> Model for Records<T> {
     ghost use Rattle.std.specs.Prelude.{List};
 
     ghost Value = { List T };
@@ -28,17 +28,17 @@ impl<T> Model for Items<T> {
     ghost view = { λ list. list.items.items };
 }
 
-impl<T: Drop> Items<T> {
+impl<T: Drop> Records<T> {
     /// The empty list. Asks for no memory.
-    pub fn new(alloc: Global) -> Items<T>
+    pub fn new(alloc: Global) -> Records<T>
         ensures value { result ≡ [] }
     {
-        Items {
+        Records {
             items: Vec::new(alloc),
         }
     }
 
-    /// Appends an item. Refused only for want of memory, and the list is then as it was.
+    /// Appends an element. Refused only for want of memory, and the list is then as it was.
     pub fn push(&mut self, item: T) -> Result<(), AllocError>
         ensures ok { OnOk result (self.new ≡ self.old ++ item ∷ []) }
 
@@ -48,7 +48,7 @@ impl<T: Drop> Items<T> {
         Ok(())
     }
 
-    /// Keeps the first `len` items.
+    /// Keeps the first `len` elements.
     pub fn truncate(&mut self, len: usize)
         requires { len ≤ length self.old }
         ensures value { self.new ≡ take len self.old }
@@ -56,7 +56,7 @@ impl<T: Drop> Items<T> {
         self.items.truncate(len);
     }
 
-    /// The items in order.
+    /// The elements in order.
     pub fn as_slice(&self) -> &[T]
         ensures value { result.now ≡ self.now }
     {
@@ -64,15 +64,15 @@ impl<T: Drop> Items<T> {
     }
 
     /// The list that a vector holds. Takes no memory.
-    pub fn from_vec(items: Vec<T>) -> Items<T>
+    pub fn from_vec(items: Vec<T>) -> Records<T>
         ensures value { result ≡ items.items }
     {
-        Items { items }
+        Records { items }
     }
 }
 
 /// The pairs of a record, in order.
-pub type Pairs = Items<Pair>;
+pub type Pairs = Records<Pair>;
 
 /// A bin of a damage distribution.
 #[derive(Clone, Copy, Debug, PartialEq, Eq)]
@@ -84,7 +84,7 @@ pub struct Bin {
 }
 
 /// The bins of a distribution, in order.
-pub type Bins = Items<Bin>;
+pub type Bins = Records<Bin>;
 
 /// The damage distribution of one area peril and vulnerability in one event.
 #[derive(Debug, Drop)]

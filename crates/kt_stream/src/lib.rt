@@ -21,7 +21,7 @@ mod unit;
 mod write;
 
 pub use cdf::CdfReader;
-pub use entry::{Bin, Bins, Cdf, Items, LossRecord, Pair, Pairs, Placed, SummaryRecord};
+pub use entry::{Bin, Bins, Cdf, LossRecord, Pair, Pairs, Placed, Records, SummaryRecord};
 pub use event_id::{EventId, EventReader};
 pub use kind::{Head, Shape, StreamKind};
 pub use loss::LossReader;
