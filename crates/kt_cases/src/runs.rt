@@ -26,6 +26,31 @@ fn words_of(alloc: Global, words: &[&str]) -> Result<Words, BadLine> {
     Ok(given)
 }
 
+/// The exit status of a run. Its clauses end here, so that callers are checked without them.
+fn status_code<R: Threads + Sync + AllocGlobal>(
+    rt: &R,
+    words: &Words,
+    inputs: &mut MemInputs,
+    source: &mut SureSource,
+    sink: &mut SureSink,
+    err: &mut SureSink,
+) -> u8 {
+    let alloc = rt.alloc();
+    let mut outputs = SureOutputs::new(alloc);
+    run(
+        rt,
+        alloc,
+        &Open,
+        words,
+        inputs,
+        &mut outputs,
+        source,
+        sink,
+        err,
+    )
+    .code()
+}
+
 /// Runs the words over files and the bytes of the source.
 pub(crate) fn see<R: Threads + Sync + AllocGlobal>(
     rt: &R,
@@ -38,19 +63,9 @@ pub(crate) fn see<R: Threads + Sync + AllocGlobal>(
     let mut source = SureSource::new(source.to_vec(alloc)?);
     let mut sink = SureSink::new(alloc);
     let mut err = SureSink::new(alloc);
-    let status = run(
-        rt,
-        alloc,
-        &Open,
-        &words,
-        &mut inputs,
-        &mut SureOutputs::new(alloc),
-        &mut source,
-        &mut sink,
-        &mut err,
-    );
+    let status = status_code(rt, &words, &mut inputs, &mut source, &mut sink, &mut err);
     Ok(Seen {
-        status: status.code(),
+        status,
         output: sink.taken().to_vec(alloc)?,
         line: err.taken().to_vec(alloc)?,
     })

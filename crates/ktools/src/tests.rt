@@ -35,6 +35,31 @@ pub(crate) struct Seen {
     pub(crate) line: Vec<u8>,
 }
 
+/// The exit status of a run without files. Its clauses end here, so that callers are checked without them.
+fn status_code<R: Threads + Sync + AllocGlobal>(
+    rt: &R,
+    words: &Words,
+    source: &mut MemSource,
+    sink: &mut MemSink,
+    err: &mut MemSink,
+) -> u8 {
+    let alloc = rt.alloc();
+    let mut inputs = SureInputs::new(alloc);
+    let mut outputs = SureOutputs::new(alloc);
+    run(
+        rt,
+        alloc,
+        &Open,
+        words,
+        &mut inputs,
+        &mut outputs,
+        source,
+        sink,
+        err,
+    )
+    .code()
+}
+
 /// Runs the words over these bytes, where there are no files.
 pub(crate) fn see<R: Threads + Sync + AllocGlobal>(
     rt: &R,
@@ -51,19 +76,9 @@ pub(crate) fn see<R: Threads + Sync + AllocGlobal>(
     let mut source = MemSource::new(bytes.to_vec(alloc)?, vec![in alloc; calls.read]?, most);
     let mut sink = MemSink::new(alloc, vec![in alloc; calls.write]?, most);
     let mut err = MemSink::new(alloc, vec![in alloc; calls.report]?, most);
-    let status = run(
-        rt,
-        alloc,
-        &Open,
-        &given,
-        &mut SureInputs::new(alloc),
-        &mut SureOutputs::new(alloc),
-        &mut source,
-        &mut sink,
-        &mut err,
-    );
+    let code = status_code(rt, &given, &mut source, &mut sink, &mut err);
     Ok(Seen {
-        code: status.code(),
+        code,
         output: sink.taken().to_vec(alloc)?,
         line: err.taken().to_vec(alloc)?,
     })
