@@ -54,7 +54,7 @@ fn names_the_end_of_a_stream_that_is_cut_anywhere(rt: HostRuntime) -> Result<(),
 }
 
 #[test]
-fn keeps_what_was_written_when_a_read_fails(rt: HostRuntime) -> Result<(), Fail> {
+fn ends_at_the_read_that_fails(rt: HostRuntime) -> Result<(), Fail> {
     for read in 1..=78 {
         let calls = Calls {
             read,
@@ -62,16 +62,14 @@ fn keeps_what_was_written_when_a_read_fails(rt: HostRuntime) -> Result<(), Fail>
             ..SOUND
         };
         let seen = see(&rt, ELTCALC, &ONE_RECORD, &calls)?;
-        assert_eq!(rt;
-            seen.code,
-            if read == 78 { 0 } else { 4 },
-            "where read {read} fails"
-        );
-        assert_eq!(rt;
-            seen.output.as_slice(),
-            table_by(read - 1),
-            "where read {read} fails"
-        );
+        // A block of 64 KiB is not full before the end, and behind a fault nothing is written.
+        let (code, output) = if read == 78 {
+            (0, TABLE)
+        } else {
+            (4, table_by(0))
+        };
+        assert_eq!(rt; seen.code, code, "where read {read} fails");
+        assert_eq!(rt; seen.output.as_slice(), output, "where read {read} fails");
         assert!(rt; seen.line.is_empty(), "where read {read} fails");
     }
     Ok(())
