@@ -5,7 +5,7 @@ mod conversions;
 mod folder;
 mod streams;
 
-use kt_out::{MemSink, MemSource, Open, SureInputs, SureOutputs};
+use kt_out::{Inputs, MemSink, MemSource, Open, Outputs, Sink, Source, SureInputs, SureOutputs};
 use kt_tools::{Words, run};
 use std::alloc::{AllocError, AllocGlobal};
 use std::thread::Threads;
@@ -35,24 +35,30 @@ pub(crate) struct Seen {
     pub(crate) line: Vec<u8>,
 }
 
-/// The exit status of a run without files. Its clauses end here, so that callers are checked without them.
-fn status_code<R: Threads + Sync + AllocGlobal>(
+/// The exit status of a run. Its clauses end here, so that callers are checked without them.
+pub(crate) fn status_code<
+    R: Threads + Sync + AllocGlobal,
+    I: Inputs,
+    O: Outputs,
+    S: Source,
+    K: Sink,
+    E: Sink,
+>(
     rt: &R,
     words: &Words,
-    source: &mut MemSource,
-    sink: &mut MemSink,
-    err: &mut MemSink,
+    inputs: &mut I,
+    outputs: &mut O,
+    source: &mut S,
+    sink: &mut K,
+    err: &mut E,
 ) -> u8 {
-    let alloc = rt.alloc();
-    let mut inputs = SureInputs::new(alloc);
-    let mut outputs = SureOutputs::new(alloc);
     run(
         rt,
-        alloc,
+        rt.alloc(),
         &Open,
         words,
-        &mut inputs,
-        &mut outputs,
+        inputs,
+        outputs,
         source,
         sink,
         err,
@@ -76,7 +82,17 @@ pub(crate) fn see<R: Threads + Sync + AllocGlobal>(
     let mut source = MemSource::new(bytes.to_vec(alloc)?, vec![in alloc; calls.read]?, most);
     let mut sink = MemSink::new(alloc, vec![in alloc; calls.write]?, most);
     let mut err = MemSink::new(alloc, vec![in alloc; calls.report]?, most);
-    let code = status_code(rt, &given, &mut source, &mut sink, &mut err);
+    let mut inputs = SureInputs::new(alloc);
+    let mut outputs = SureOutputs::new(alloc);
+    let code = status_code(
+        rt,
+        &given,
+        &mut inputs,
+        &mut outputs,
+        &mut source,
+        &mut sink,
+        &mut err,
+    );
     Ok(Seen {
         code,
         output: sink.taken().to_vec(alloc)?,

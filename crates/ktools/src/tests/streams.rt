@@ -1,8 +1,8 @@
 //! Event loss tables of summary streams.
 
-use super::{Calls, SOUND, see};
-use kt_out::{Inputs, Open, Outputs, SureInputs, SureOutputs, SureSink, SureSource};
-use kt_tools::{Words, run};
+use super::{Calls, SOUND, see, status_code};
+use kt_out::{Inputs, Outputs, SureInputs, SureOutputs, SureSink, SureSource};
+use kt_tools::Words;
 use std::test::Fail;
 
 /// A summary stream: set 1 with 2 samples, and one record with mean, deviation and both samples.
@@ -119,10 +119,8 @@ fn runs_over_objects_that_never_fail(rt: HostRuntime) -> Result<(), Fail> {
     let mut source = SureSource::new(ONE_RECORD.to_vec(alloc)?);
     let mut sink = SureSink::new(alloc);
     let mut err = SureSink::new(alloc);
-    let status = run(
+    let code = status_code(
         &rt,
-        alloc,
-        &Open,
         &words,
         &mut inputs,
         &mut outputs,
@@ -130,7 +128,7 @@ fn runs_over_objects_that_never_fail(rt: HostRuntime) -> Result<(), Fail> {
         &mut sink,
         &mut err,
     );
-    assert_eq!(rt; status.code(), 0);
+    assert_eq!(rt; code, 0);
     assert_eq!(rt; sink.taken(), TABLE);
     assert!(rt; source.left().is_empty());
     assert!(rt; err.taken().is_empty());
