@@ -92,6 +92,7 @@ counted_other (refusal.Missing name) other before now none = absurd (other tt)
 counted_other (refusal.Stream stop) other before now none = none
 counted_other (refusal.UnknownId byte) other before now none = none
 counted_other (refusal.LossSum byte) other before now none = none
+counted_other (refusal.Row event row why) other before now none = none
 counted_other (refusal.File file stop) other before now none = none
 counted_other (refusal.HeaderDiffers file) other before now none = none
 counted_other (refusal.TooLarge name) other before now none = none

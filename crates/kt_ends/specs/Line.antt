@@ -10,6 +10,8 @@ use Rattle.kt_words.specs.declared.stop.WordCause.{WordCause}
 use Rattle.kt_words.specs.declared.stop.WordCause.TheVariants.{Missing, UnknownTool, UnknownOption, Repeated, NeedsValue, BadValue, Unexpected, NotTogether, BadPart}
 use Rattle.kt_cells.specs.declared.stop.Cause.{Cause}
 use Rattle.kt_cells.specs.declared.stop.Cause.TheVariants as cause
+use Rattle.kt_foot.specs.declared.foot_rows.RowCause.{RowCause}
+use Rattle.kt_foot.specs.declared.foot_rows.RowCause.TheVariants as row_cause
 use Rattle.kt_ends.specs.declared.status.Refusal.{Refusal}
 use Rattle.kt_ends.specs.declared.status.Refusal.TheVariants as refusal
 use Rattle.kt_ends.specs.declared.status.Status.{Status}
@@ -66,6 +68,14 @@ field_text cause.Zero = codes "zero"
 field_text cause.Rule = codes "rule"
 field_text cause.Order = codes "order"
 
+-- what is wrong with a row of an event's footprint
+abbrev pub row_text : RowCause → List ℕ
+row_text row_cause.Areaperil = codes "areaperil"
+row_text row_cause.Intensity = codes "intensity"
+row_text row_cause.Prob = codes "prob"
+row_text row_cause.Twice = codes "twice"
+row_text row_cause.Sum = codes "sum"
+
 -- a file, and what is wrong with it
 abbrev pub file_text : List ℕ → List ℕ → List ℕ
 file_text name text = name ++ (codes ": " ++ text)
@@ -75,6 +85,7 @@ abbrev pub refusal_text : Refusal → List ℕ
 refusal_text (refusal.Stream stop) = stream_text stop
 refusal_text (refusal.UnknownId byte) = place_text byte (codes "unknown id")
 refusal_text (refusal.LossSum byte) = place_text byte (codes "loss sum")
+refusal_text (refusal.Row event row why) = codes "event " ++ (count_text event ++ (codes " row " ++ (count_text row ++ (codes ": " ++ row_text why))))
 refusal_text (refusal.File file stop) = codes "file " ++ (count_text file ++ (codes ": " ++ stream_text stop))
 refusal_text (refusal.HeaderDiffers file) = codes "file " ++ (count_text file ++ (codes ": " ++ codes "header differs"))
 refusal_text (refusal.Missing name) = file_text name (codes "missing")

@@ -45,6 +45,7 @@ lost_refusal found made before after (refusal.Missing name) is counted = inr (re
 lost_refusal found made before after (refusal.Stream stop) is counted = inl counted
 lost_refusal found made before after (refusal.UnknownId byte) is counted = inl counted
 lost_refusal found made before after (refusal.LossSum byte) is counted = inl counted
+lost_refusal found made before after (refusal.Row event row why) is counted = inl counted
 lost_refusal found made before after (refusal.File file stop) is counted = inl counted
 lost_refusal found made before after (refusal.HeaderDiffers file) is counted = inl counted
 lost_refusal found made before after (refusal.TooLarge name) is counted = inl counted

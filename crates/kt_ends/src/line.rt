@@ -2,12 +2,13 @@
 //! The rules: docs/REFUSALS.md, "Texts".
 ghost use Rattle.std.specs.Prelude.{◌≡◌, ◌++◌, OnOk, IfOk, codes};
 ghost use Rattle.kt_money.specs.NumberText.{count_text};
-ghost use Rattle.kt_ends.specs.Line.{cause_text, field_text, file_text, record_text, refusal_text, stream_text, status_text, status_line};
+ghost use Rattle.kt_ends.specs.Line.{cause_text, field_text, file_text, record_text, refusal_text, row_text, stream_text, status_text, status_line};
 ghost use Rattle.kt_ends.specs.Line.{IsRefused};
 ghost use Rattle.kt_ends.specs.declared.status.Refusal.TheVariants as refusal;
 
 use crate::status::{Refusal, Status};
 use kt_cells::Cause;
+use kt_foot::RowCause;
 use kt_money::{Bytes, OutOfMemory, push_count};
 use kt_rec::Name;
 use kt_stream::{RecordCause, StreamStop};
@@ -173,6 +174,30 @@ fn push_check(out: &mut Bytes, name: &Name, row: u64, number: u32) -> Result<(),
     push_count(out, number as u64)
 }
 
+/// The text of what is wrong with a row of an event's footprint.
+fn row_words(cause: RowCause) -> &'static [u8]
+    ensures { result.now ≡ row_text cause }
+{
+    match cause {
+        RowCause::Areaperil => b"areaperil",
+        RowCause::Intensity => b"intensity",
+        RowCause::Prob => b"prob",
+        RowCause::Twice => b"twice",
+        RowCause::Sum => b"sum",
+    }
+}
+
+/// Appends `event E row R: CAUSE`.
+fn push_event_row(out: &mut Bytes, event: u32, row: u64, cause: RowCause) -> Result<(), OutOfMemory>
+    ensures { OnOk result (out.new ≡ out.old ++ refusal_text (refusal.Row event row cause)) }
+{
+    push_number(out, b"event ", event)?;
+    out.append(b" row ")?;
+    push_count(out, row)?;
+    out.append(b": ")?;
+    out.append(row_words(cause))
+}
+
 /// Appends `file N: ` and why its stream is refused.
 fn push_file_stream(out: &mut Bytes, file: u32, stop: StreamStop) -> Result<(), OutOfMemory>
     ensures { OnOk result (out.new ≡ out.old ++ refusal_text (refusal.File file stop)) }
@@ -197,6 +222,7 @@ fn push_refusal(out: &mut Bytes, refusal: &Refusal) -> Result<(), OutOfMemory>
         Refusal::Stream(stop) => push_stream_text(out, *stop),
         Refusal::UnknownId { byte } => push_place(out, *byte, b"unknown id"),
         Refusal::LossSum { byte } => push_place(out, *byte, b"loss sum"),
+        Refusal::Row { event, row, cause } => push_event_row(out, *event, *row, *cause),
         Refusal::File { file, stop } => push_file_stream(out, *file, *stop),
         Refusal::HeaderDiffers { file } => push_other_header(out, *file),
         Refusal::Missing { name } => push_file(out, name, b"missing"),

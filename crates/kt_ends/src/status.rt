@@ -4,6 +4,7 @@ ghost use Rattle.std.specs.Prelude.{◌≡◌};
 ghost use Rattle.kt_ends.specs.Status.{status_code};
 
 use kt_cells::Cause;
+use kt_foot::RowCause;
 use kt_rec::Name;
 use kt_stream::StreamStop;
 use kt_words::WordStop;
@@ -23,6 +24,15 @@ pub enum Refusal {
     LossSum {
         /// The first byte of the record, counted from 0 in the whole stream.
         byte: u64,
+    },
+    /// A row of the footprint of an event is refused.
+    Row {
+        /// The event's id.
+        event: u32,
+        /// The row, counted from 1 within the event.
+        row: u64,
+        /// What is wrong.
+        cause: RowCause,
     },
     /// The stream in one of several files is refused.
     File {

@@ -1,5 +1,3 @@
-pub mod SeenLemmas
-pub mod JudgeLemmas
 pub mod ChanceLemmas
 pub mod AddLemmas
 pub mod BinLemmas

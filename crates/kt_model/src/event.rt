@@ -8,13 +8,13 @@ ghost use Rattle.kt_stream.specs.Bins.{AreBins, IsCdf};
 ghost use Rattle.kt_stream.specs.Pairs.{IsId};
 ghost use Rattle.kt_tables.specs.DamageLaws.{KeepsDamage};
 ghost use Rattle.kt_tables.specs.Portfolio.{IsPortfolio};
-ghost use Rattle.kt_model.specs.declared.foot_rows.ModelStop.TheVariants.{OutOfMemory};
+ghost use Rattle.kt_foot.specs.declared.foot_rows.ModelStop.TheVariants.{OutOfMemory};
 ghost use Rattle.kt_model.specs.Distribution.{distribution_of, distributions_of};
-ghost use Rattle.kt_model.specs.FootRows.{areaperil_total, first_refused_row};
+ghost use Rattle.kt_foot.specs.FootRows.{areaperil_total, first_refused_row};
 
 use crate::bins::bins_of;
 use crate::chances::{add_rows, clear, no_chances};
-use crate::foot_rows::{ModelStop, check_rows};
+use kt_foot::{ModelStop, check_rows};
 use kt_index::ByKey;
 use kt_rec::FootRow;
 use kt_stream::{Bins, Cdf, Records};

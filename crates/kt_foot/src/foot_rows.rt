@@ -1,9 +1,9 @@
 //! The check of the footprint rows of an event.
 //! The rules: docs/CHECKS.md, "Footprint rows of an event".
 ghost use Rattle.std.specs.Prelude.{◌≡◌, ◌≤◌, ◌⊎◌, ℕ, List, [], ◌∷◌, ◌++◌, None, Some, OnOk, IfOk, IfErr};
-ghost use Rattle.kt_model.specs.FootRows.{areaperil_total, field_cause, row_cause, first_refused_row};
-ghost use Rattle.kt_model.specs.Seen.{IsSeen};
-ghost use Rattle.kt_model.specs.declared.foot_rows.ModelStop.TheVariants.{OutOfMemory};
+ghost use Rattle.kt_foot.specs.FootRows.{areaperil_total, field_cause, row_cause, first_refused_row};
+ghost use Rattle.kt_foot.specs.Seen.{IsSeen};
+ghost use Rattle.kt_foot.specs.declared.foot_rows.ModelStop.TheVariants.{OutOfMemory};
 ghost use Rattle.kt_rec.specs.declared.hazard.FootRow.{FootRow};
 
 use kt_rec::FootRow;
@@ -40,7 +40,7 @@ pub enum ModelStop {
 }
 
 impl From<AllocError> for ModelStop {
-    ghost use Rattle.kt_model.specs.declared.foot_rows.ModelStop.TheVariants.{OutOfMemory};
+    ghost use Rattle.kt_foot.specs.declared.foot_rows.ModelStop.TheVariants.{OutOfMemory};
 
     ghost from_gives = { λ _ stop. stop ≡ OutOfMemory };
 
@@ -105,7 +105,7 @@ impl Seen {
 }
 
 /// Judges the rows of an event's footprint: the first that is refused, with its cause, or want of memory.
-pub(crate) fn check_rows(alloc: Global, rows: &[FootRow]) -> Result<(), ModelStop>
+pub fn check_rows(alloc: Global, rows: &[FootRow]) -> Result<(), ModelStop>
     ensures ok { OnOk result (first_refused_row rows.now ≡ None) }
     ensures within { OnOk result ((areaperil : ℕ) → areaperil_total rows.now areaperil ≤ 1001000) }
 
