@@ -15,6 +15,8 @@ ghost use Rattle.kt_stream.specs.Header.{IsHead};
 ghost use Rattle.kt_stream.specs.Reader.{Reading, IsPlaced};
 ghost use Rattle.kt_loop.specs.Reading.{AreGood};
 ghost use Rattle.kt_loop.specs.RecordStreams.{StandsFor};
+ghost use Rattle.kt_loop.specs.BoundedStreams.{StandsBounded, IsBoundedHead, IsPlacedWithin};
+ghost use Rattle.kt_loop.specs.declared.bounded_reader.BoundedHead.{BoundedHead};
 
 use kt_stream::Entry;
 use kt_stream::laws::what_is_read_fits;
@@ -38,6 +40,13 @@ pub fn joined_records_give_one_after_the_other<E>()
 /// Whatever a reader of records reads is in its ranges: what a stage needs to take it.
 pub fn what_is_read_can_be_taken<E: Entry>()
     ensures { (contents : List ℕ → Contents Head E) (fed : List ℕ) (taken : List (Placed E)) (reading : Reading E) → StandsFor E E.form contents fed taken reading → (bytes : List ℕ) → AreGood (IsHead reading.shape.kind) (IsPlaced E E.form E.IsGood reading.shape) (contents bytes).head (contents bytes).entries }
+{
+    what_is_read_fits::<E>();
+}
+
+/// The same of a reader that hands its bound of bins over with the header.
+pub fn what_is_read_within_bounds_can_be_taken<E: Entry>()
+    ensures { (bins : ℕ) (contents : List ℕ → Contents BoundedHead E) (fed : List ℕ) (taken : List (Placed E)) (reading : Reading E) → StandsBounded E E.form bins contents fed taken reading → reading.shape.bins ≡ bins → (bytes : List ℕ) → AreGood (IsBoundedHead reading.shape.kind) (IsPlacedWithin E E.form E.IsGood reading.shape.kind) (contents bytes).head (contents bytes).entries }
 {
     what_is_read_fits::<E>();
 }

@@ -2,6 +2,7 @@
 #![tactic(auto)]
 
 mod block;
+mod bounded_reader;
 mod by_run;
 mod carry;
 pub mod laws;
@@ -14,6 +15,7 @@ mod stage;
 mod turn;
 
 pub use block::{BLOCK, zeros};
+pub use bounded_reader::{BoundedHead, BoundedReader};
 pub use by_run::{RunStage, run_by_run};
 pub use reader::StreamReader;
 pub use run::run_stage;

@@ -1,6 +1,6 @@
 -- What the words of a call ask for, and the first faulty word.
 -- The rules: docs/COMMANDS.md, "Words".
-use Rattle.std.specs.Prelude.{◌≡◌, ℕ, List, [], ◌∷◌, true, Option, Some, None, Result, Ok, Err, not, if◌then◌else◌}
+use Rattle.std.specs.Prelude.{◌≡◌, ◌≤◌, ◌==◌, ℕ, List, [], ◌∷◌, true, Option, Some, None, Result, Ok, Err, not, if◌then◌else◌}
 use Rattle.kt_eve.specs.Parts.{has_part}
 use Rattle.kt_rec.specs.declared.table.Table.{Table}
 use Rattle.kt_rec.specs.declared.table.Table.TheVariants as table
@@ -27,10 +27,12 @@ abbrev pub IsConversion : Conversion → Type 0
 IsConversion (ToFile t periods) = Unit {0}
 IsConversion (ToText t) = t ≡ table.Footprint → ⊥
 
--- what every command keeps: a conversion that there is, and a part that there is
+-- what every command keeps: a conversion that there is, a part that there is, and 1 to 1,000 samples
 abbrev pub IsCommand : Command → Type 0
 IsCommand (command.Eltcalc heading) = Unit {0}
 IsCommand (command.Pltcalc heading) = Unit {0}
+IsCommand command.Getmodel = Unit {0}
+IsCommand (command.Gulcalc samples cut) = (1 ≤ samples) × (samples ≤ 1000)
 IsCommand (command.Convert conversion) = IsConversion conversion
 IsCommand command.FootprintText = Unit {0}
 IsCommand (command.Eve part parts) = has_part part parts ≡ true
@@ -71,10 +73,13 @@ part_command part parts word = if has_part part parts then Ok (command.Eve part 
 abbrev pub eve_command : Given → Result Command WordStop
 eve_command given = part_command (number_or_0 given.first) (number_or_0 given.second) (word_or_0 given.first)
 
--- the command of a tool by what its words said: of `eltcalc` and `pltcalc` whether -s was left out, of `tobin` the value of -P
+-- the command of a tool by what its words said: of `eltcalc` and `pltcalc` whether -s was left out, of `gulcalc` the values of -S and
+-- of -a, of `tobin` the value of -P
 abbrev pub command_from : Tool → Given → Result Command WordStop
 command_from tool.Eltcalc given = Ok (command.Eltcalc (not (is_given given 115)))
 command_from tool.Pltcalc given = Ok (command.Pltcalc (not (is_given given 115)))
+command_from tool.Getmodel given = Ok command.Getmodel
+command_from tool.Gulcalc given = Ok (command.Gulcalc (number_or_0 (given_at given 83)) (number_or_0 (given_at given 97) == 1))
 command_from tool.Tobin given = Ok (command.Convert (ToFile (table_or_first given.first) (number_or_0 (given_at given 80))))
 command_from tool.Tocsv given = Ok (to_text (table_or_first given.first))
 command_from tool.Eve given = eve_command given

@@ -2,6 +2,7 @@
 //! The rules: docs/COMMANDS.md, "Words".
 ghost use Rattle.std.specs.Prelude.{◌≡◌, IfOk, length};
 ghost use Rattle.kt_eve.specs.Parts.{has_part};
+ghost use Rattle.kt_words.specs.Fits.{IsRead};
 ghost use Rattle.kt_words.specs.Given.{given_at};
 ghost use Rattle.kt_words.specs.Command.{number_or_0, table_or_first, word_or_0, to_text, eve_command, command_from, command_of, IsCommand};
 
@@ -43,6 +44,15 @@ pub enum Command {
     Pltcalc {
         /// Whether the table begins with the names of its columns.
         heading: bool,
+    },
+    /// The damage distributions of events.
+    Getmodel,
+    /// The ground-up losses of a stream of damage distributions.
+    Gulcalc {
+        /// The number of samples, 1 to 1,000.
+        samples: u32,
+        /// Whether the losses of a coverage are cut to its insured value.
+        cut: bool,
     },
     /// A table in its other form.
     Convert(Conversion),
@@ -130,6 +140,7 @@ fn part_command(given: &Given) -> Result<Command, WordStop>
 
 /// The command of a tool by what its words said.
 fn tool_command(tool: Tool, given: &Given) -> Result<Command, WordStop>
+    requires read { IsRead tool given.now }
     ensures value { result ≡ command_from tool given.now }
     ensures keeps { IfOk result (λ command. IsCommand command) }
 {
@@ -139,6 +150,11 @@ fn tool_command(tool: Tool, given: &Given) -> Result<Command, WordStop>
         }),
         Tool::Pltcalc => Ok(Command::Pltcalc {
             heading: !given.has(b's'),
+        }),
+        Tool::Getmodel => Ok(Command::Getmodel),
+        Tool::Gulcalc => Ok(Command::Gulcalc {
+            samples: number(given.option(b'S')),
+            cut: number(given.option(b'a')) == 1,
         }),
         Tool::Tobin => Ok(Command::Convert(Conversion::ToFile {
             table: table(given.first),

@@ -87,8 +87,14 @@ impl Tool {
         ensures { result ≡ built_one self }
     {
         match self {
-            Tool::Eve | Tool::Eltcalc | Tool::Pltcalc | Tool::Tobin | Tool::Tocsv => true,
-            _ => false,
+            Tool::Fmcalc
+            | Tool::Summarycalc
+            | Tool::Aalcalc
+            | Tool::Leccalc
+            | Tool::Kat
+            | Tool::Chain
+            | Tool::Gen => false,
+            _ => true,
         }
     }
 
