@@ -14,4 +14,4 @@ pub mod Splitting
 pub mod RecordReading
 pub mod RecordsGood
 pub mod RunLists
-pub mod BoundedReading
+pub mod KnownReading

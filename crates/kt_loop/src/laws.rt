@@ -15,8 +15,8 @@ ghost use Rattle.kt_stream.specs.Header.{IsHead};
 ghost use Rattle.kt_stream.specs.Reader.{Reading, IsPlaced};
 ghost use Rattle.kt_loop.specs.Reading.{AreGood};
 ghost use Rattle.kt_loop.specs.RecordStreams.{StandsFor};
-ghost use Rattle.kt_loop.specs.BoundedStreams.{StandsBounded, IsBoundedHead, IsPlacedWithin};
-ghost use Rattle.kt_loop.specs.declared.bounded_reader.BoundedHead.{BoundedHead};
+ghost use Rattle.kt_loop.specs.KnownStreams.{StandsKnown, IsKnownHead, IsPlacedKnown};
+ghost use Rattle.kt_loop.specs.declared.known_reader.KnownHead.{KnownHead};
 
 use kt_stream::Entry;
 use kt_stream::laws::what_is_read_fits;
@@ -44,9 +44,9 @@ pub fn what_is_read_can_be_taken<E: Entry>()
     what_is_read_fits::<E>();
 }
 
-/// The same of a reader that hands its bound of bins over with the header.
-pub fn what_is_read_within_bounds_can_be_taken<E: Entry>()
-    ensures { (bins : ℕ) (contents : List ℕ → Contents BoundedHead E) (fed : List ℕ) (taken : List (Placed E)) (reading : Reading E) → StandsBounded E E.form bins contents fed taken reading → reading.shape.bins ≡ bins → (bytes : List ℕ) → AreGood (IsBoundedHead reading.shape.kind) (IsPlacedWithin E E.form E.IsGood reading.shape.kind) (contents bytes).head (contents bytes).entries }
+/// The same of a reader that hands over with the header what else is known.
+pub fn what_is_read_with_more_known_can_be_taken<E: Entry, B>()
+    ensures { (known : B) (contents : List ℕ → Contents (KnownHead B) E) (fed : List ℕ) (taken : List (Placed E)) (reading : Reading E) → StandsKnown E B E.form known contents fed taken reading → (bytes : List ℕ) → AreGood (IsKnownHead reading.shape known) (IsPlacedKnown E E.form E.IsGood reading.shape known) (contents bytes).head (contents bytes).entries }
 {
     what_is_read_fits::<E>();
 }

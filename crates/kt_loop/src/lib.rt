@@ -2,9 +2,9 @@
 #![tactic(auto)]
 
 mod block;
-mod bounded_reader;
 mod by_run;
 mod carry;
+mod known_reader;
 pub mod laws;
 mod reader;
 mod record_reader;
@@ -15,8 +15,8 @@ mod stage;
 mod turn;
 
 pub use block::{BLOCK, zeros};
-pub use bounded_reader::{BoundedHead, BoundedReader};
 pub use by_run::{RunStage, run_by_run};
+pub use known_reader::{KnownHead, KnownReader};
 pub use reader::StreamReader;
 pub use run::run_stage;
 pub use run_key::{RunKey, RunRecord};

@@ -1,45 +1,46 @@
-//! The reader of records whose header comes with the bound that the reader was told, as the loop uses it.
+//! A reader of records that hands something over with the header on which a stage stands.
 //! The rules: docs/STREAMS.md, "Readers".
 use crate::reader::StreamReader;
 use kt_stream::{Entry, Head, Placed, RecordReader, StreamStop, laws};
 
-/// The header of a stream, and the most bins of a distribution that its reader takes.
+/// The header of a stream, with what else is known of its records.
 #[derive(Clone, Copy, Debug, PartialEq, Eq)]
-pub struct BoundedHead {
+pub struct KnownHead<B> {
     /// What the stream's header says.
     pub head: Head,
-    /// The most bins of a distribution.
-    pub bins: u32,
+    /// What is known beside it.
+    pub known: B,
 }
 
-/// A reader of records that hands its bound of bins over with the header, so that a stage can rely on it.
+/// A reader of records that hands over with the header what is known of them: so a stage can rely on the bound that the
+/// reader was told.
 #[derive(Drop)]
-pub struct BoundedReader<E: Entry> {
+pub struct KnownReader<E: Entry, B> {
     /// The reader of the records.
     pub reader: RecordReader<E>,
-    /// The most bins of a distribution, as the reader was told.
-    pub bins: u32,
+    /// What is known beside the header.
+    pub known: B,
 }
 
-impl<E: Entry> StreamReader for BoundedReader<E> {
-    ghost use Rattle.kt_loop.specs.BoundedStreams.{StandsBounded, bounded_header};
+impl<E: Entry, B: Copy> StreamReader for KnownReader<E, B> {
+    ghost use Rattle.kt_loop.specs.KnownStreams.{StandsKnown, known_header};
     ghost use Rattle.kt_loop.specs.RecordStreams.{reading_held};
 
-    type Head = BoundedHead;
+    type Head = KnownHead<B>;
 
     type Entry = E;
 
-    ghost represents = { λ contents fed taken it. StandsBounded E E.form it.bins contents fed taken it.reader };
+    ghost represents = { λ contents fed taken it. StandsKnown E B E.form it.known contents fed taken it.reader };
 
-    ghost header = { λ it. bounded_header it.bins it.reader };
+    ghost header = { λ it. known_header it.known it.reader };
 
     ghost held = { λ it. reading_held it.reader };
 
-    fn head(&self) -> Option<BoundedHead> {
+    fn head(&self) -> Option<KnownHead<B>> {
         match self.reader.head() {
-            Some(head) => Some(BoundedHead {
+            Some(head) => Some(KnownHead {
                 head,
-                bins: self.bins,
+                known: self.known,
             }),
             None => None,
         }

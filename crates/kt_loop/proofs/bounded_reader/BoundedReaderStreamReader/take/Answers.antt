@@ -1,6 +1,0 @@
-use Rattle.std.proofs.Common.{refl}
-use Rattle.kt_loop.proofs.BoundedReading.{takes_bounded}
-use Rattle.kt_loop.proofs.bounded_reader.BoundedReaderStreamReader.take.Goals as goal
-
-pub returns-clause-stands : goal.returns-clause-stands
-returns-clause-stands g c = takes_bounded g.E.Entry.form c.args.self.now (record c.args.self.now { reader = c.take.new.self }) c.take.result c.take.ensures.found refl c.take.ensures.unchanged
