@@ -7,6 +7,7 @@ ghost use Rattle.kt_checks.specs.Checks.{first_refusal, samples_refusal, answer_
 ghost use Rattle.kt_tables.specs.Portfolio.{HasOnlyNeeded, IsPortfolio};
 ghost use Rattle.kt_tables.specs.Lookups.{event_ids};
 ghost use Rattle.kt_tables.specs.DamageLaws.{KeepsDamage};
+ghost use Rattle.kt_tables.specs.ExposureLaws.{BoundsExposures};
 ghost use Rattle.kt_keys.specs.Refusals.{is_loaded};
 ghost use Rattle.kt_rec.specs.declared.table.Table.TheVariants as table;
 
@@ -103,6 +104,13 @@ impl Portfolio {
     pub fn keeps_damage(&self)
         requires loaded { is_loaded self.now.need 0 table.DamageBinDict ≡ true }
         ensures kept { KeepsDamage self.now.rows }
+    {
+        let _ = &self.need;
+    }
+
+    /// Says that no summary's exposure is above 10^14 cents: the coverages of all items, one for each item, are worth no more.
+    pub fn bounds_exposures(&self)
+        ensures bounded { BoundsExposures self.now }
     {
         let _ = &self.need;
     }
