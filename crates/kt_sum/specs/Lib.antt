@@ -1,0 +1,4 @@
+pub mod RunLosses
+pub mod Summaries
+pub mod Adding
+pub mod Mapping

@@ -1,0 +1,11 @@
+//! Summaries: what the losses of a run come to in each summary of a set.
+#![tactic(auto)]
+
+mod group;
+mod mapped;
+mod run;
+mod sidx;
+mod span;
+mod sums;
+
+pub use run::summarise;
