@@ -27,6 +27,7 @@ tool_name Gen = codes "gen"
 -- the tools that are built
 abbrev pub is_built : Tool → Bool
 is_built Eve = true
+is_built Summarycalc = true
 is_built Eltcalc = true
 is_built Pltcalc = true
 is_built Tobin = true

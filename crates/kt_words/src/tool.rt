@@ -87,7 +87,12 @@ impl Tool {
         ensures { result ≡ built_one self }
     {
         match self {
-            Tool::Eve | Tool::Eltcalc | Tool::Pltcalc | Tool::Tobin | Tool::Tocsv => true,
+            Tool::Eve
+            | Tool::Summarycalc
+            | Tool::Eltcalc
+            | Tool::Pltcalc
+            | Tool::Tobin
+            | Tool::Tocsv => true,
             _ => false,
         }
     }
