@@ -7,3 +7,5 @@ pub mod SpanLemmas
 pub mod GoodLemmas
 pub mod MapLemmas
 pub mod RunLemmas
+pub mod HeldLemmas
+pub mod PortfolioLemmas

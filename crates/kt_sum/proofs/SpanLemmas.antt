@@ -1,9 +1,12 @@
 -- The places that records have are in their span.
-use Rattle.std.proofs.Common.{◌≡◌, ℕ, ◌+◌, ◌-◌, ◌<◌, ◌≤◌, ◌^◌, min, max, List, [], ◌∷◌, ◌++◌, length, slice_index, refl, sym, ap, subst, arith, ◌∙◌}
+use Rattle.std.proofs.Common.{◌≡◌, ℕ, ◌+◌, ◌-◌, ◌<◌, ◌≤◌, ◌^◌, min, max, List, [], ◌∷◌, ◌++◌, length, slice_index, slice_index_or, take, append-nil, refl, sym, ap, subst, arith, ◌∙◌}
 use Rattle.std.specs.Prelude.{All}
 use Rattle.std.specs.List.{AllByRecursion, fold}
+use Rattle.std.proofs.lemmas.Grind.{flat_map-append}
+use Rattle.std.proofs.lemmas.List.{take_more}
 use Rattle.std.proofs.lemmas.List.Concat.{flat_map-cons}
 use Rattle.std.proofs.lemmas.List.Elements.{All-from_recursion}
+use Rattle.std.proofs.lemmas.List.Sums.{fold-append}
 use Rattle.kt_stream.specs.declared.entry.LossRecord.{LossRecord}
 use Rattle.kt_stream.specs.declared.entry.Pair.{Pair}
 use Rattle.kt_sum.specs.Summaries.{end_place, least_place, pair_places, place_of, places}
@@ -82,3 +85,18 @@ zero_sums least width sums now zeros same = record {
   width_is = refl;
   each = λ k below. ap (λ (sums : List ℕ). slice_index sums k) same ∙ zeros.each k (omega (arith, ap length same, zeros.width_is));
 }
+
+-- the places of one record more
+pub places_more : (records : List LossRecord) (i : ℕ) (entry : LossRecord) → i < length records → entry ≡ slice_index_or records i entry → places (take (i + 1) records) ≡ places (take i records) ++ pair_places entry.pairs
+places_more records i entry below is =
+    ap places (take_more records i entry below)
+    ∙ (flat_map-append (λ (entry : LossRecord). pair_places entry.pairs) (take i records) (slice_index_or records i entry ∷ [])
+    ∙ (ap (λ back. places (take i records) ++ back) (append-nil _) ∙ ap (λ (entry : LossRecord). places (take i records) ++ pair_places entry.pairs) (sym is)))
+
+-- an end of them with one record more
+pub end_more : (f : ℕ → ℕ → ℕ) (start so_far now : ℕ) (records : List LossRecord) (i : ℕ) (entry : LossRecord) (pairs : List Pair) → i < length records → entry ≡ slice_index_or records i entry → pairs ≡ entry.pairs → so_far ≡ fold f start (places (take i records)) → now ≡ fold f so_far (pair_places pairs) → now ≡ fold f start (places (take (i + 1) records))
+end_more f start so_far now records i entry pairs below is pairs_are before after =
+    after
+    ∙ (ap (λ n. fold f n (pair_places pairs)) before
+    ∙ (ap (λ pairs. fold f (fold f start (places (take i records))) (pair_places pairs)) pairs_are
+    ∙ (sym (fold-append f start (places (take i records)) (pair_places entry.pairs)) ∙ ap (fold f start) (sym (places_more records i entry below is)))))

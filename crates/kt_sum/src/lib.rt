@@ -4,8 +4,10 @@
 mod group;
 mod mapped;
 mod run;
+mod run_entry;
 mod sidx;
 mod span;
 mod sums;
 
-pub use run::summarise;
+pub use run::{summarise, summarise_placed};
+pub use run_entry::RunEntry;

@@ -1,12 +1,12 @@
 //! The records of a run by the summaries to which they come.
 //! The rule: docs/CALCULATION.md, "Summaries".
-ghost use Rattle.std.specs.Prelude.{◌≡◌, IfOk};
+ghost use Rattle.std.specs.Prelude.{◌≡◌, map, IfOk};
 ghost use Rattle.kt_tables.specs.Lookups.{summary_in};
 ghost use Rattle.kt_sum.specs.Mapping.{AreMapped, AreAllMapped};
 
+use crate::run_entry::RunEntry;
 use kt_index::{ByKey, Keyed};
 use kt_rec::Perspective;
-use kt_stream::LossRecord;
 use kt_tables::Portfolio;
 use std::alloc::{AllocError, Global};
 
@@ -28,18 +28,18 @@ impl Keyed for Mapped {
 }
 
 /// The records whose ids a set maps to a summary, in their order.
-fn mapped_records(
+fn mapped_records<T: RunEntry>(
     alloc: Global,
     portfolio: &Portfolio,
     perspective: Perspective,
     set: u32,
-    records: &[LossRecord],
+    records: &[T],
 ) -> Result<Vec<Mapped>, AllocError>
-    ensures value { IfOk result (λ mapped. AreMapped (summary_in perspective portfolio.now.rows set) records.now records.now mapped.items) }
+    ensures value { IfOk result (λ mapped. AreMapped (summary_in perspective portfolio.now.rows set) (map T.entry_of records.now) (map T.entry_of records.now) mapped.items) }
 {
     let mut mapped = Vec::new(alloc);
-    for (place, entry) in records.iter().enumerate() {
-        if let Some(summary) = portfolio.summary_of(perspective, set, entry.id) {
+    for (place, held) in records.iter().enumerate() {
+        if let Some(summary) = portfolio.summary_of(perspective, set, held.entry().id) {
             mapped.push(Mapped { summary, place })?;
         }
     }
@@ -47,14 +47,14 @@ fn mapped_records(
 }
 
 /// The records whose ids a set maps to a summary, by rising summary.
-pub(crate) fn mapped_in_order(
+pub(crate) fn mapped_in_order<T: RunEntry>(
     alloc: Global,
     portfolio: &Portfolio,
     perspective: Perspective,
     set: u32,
-    records: &[LossRecord],
+    records: &[T],
 ) -> Result<ByKey<Mapped>, AllocError>
-    ensures value { IfOk result (λ mapped. AreAllMapped (summary_in perspective portfolio.now.rows set) records.now mapped) }
+    ensures value { IfOk result (λ mapped. AreAllMapped (summary_in perspective portfolio.now.rows set) (map T.entry_of records.now) mapped) }
 {
     let mapped = mapped_records(alloc, portfolio, perspective, set, records)?;
     let sorted = ByKey::new(alloc, &mapped)?;

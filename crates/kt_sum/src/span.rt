@@ -1,12 +1,13 @@
 //! The sidx that the records of a run have: from which place to which.
 //! The rule: docs/CALCULATION.md, "Summaries".
-ghost use Rattle.std.specs.Prelude.{◌≡◌, ◌+◌, ◌≤◌, ◌^◌, min, max};
+ghost use Rattle.std.specs.Prelude.{◌≡◌, ◌+◌, ◌≤◌, ◌^◌, map, min, max};
 ghost use Rattle.std.specs.List.{fold};
 ghost use Rattle.kt_sum.specs.Summaries.{least_place, end_place, pair_places, places};
 ghost use Rattle.kt_sum.specs.Adding.{IsSpan};
 
+use crate::run_entry::RunEntry;
 use crate::sidx::place_of;
-use kt_stream::{LossRecord, Pair};
+use kt_stream::Pair;
 
 /// The least place so far, and the place behind the greatest.
 #[derive(Clone, Copy)]
@@ -42,24 +43,24 @@ fn widened(ends: Ends, pairs: &[Pair]) -> Ends
 }
 
 /// The ends of the places that records have.
-fn ends_of(records: &[LossRecord]) -> Ends
-    ensures least { result.least ≡ least_place (places records.now) }
-    ensures last { result.upto ≡ end_place (places records.now) }
+fn ends_of<T: RunEntry>(records: &[T]) -> Ends
+    ensures least { result.least ≡ least_place (places (map T.entry_of records.now)) }
+    ensures last { result.upto ≡ end_place (places (map T.entry_of records.now)) }
     ensures within { result.upto ≤ 2 ^ 32 }
 {
     let mut ends = Ends {
         least: 4_294_967_296,
         upto: 0,
     };
-    for entry in records {
-        ends = widened(ends, entry.pairs.as_slice());
+    for held in records {
+        ends = widened(ends, held.entry().pairs.as_slice());
     }
     ends
 }
 
 /// The places of the sums of a run of records.
-pub(crate) fn span_of(records: &[LossRecord]) -> Span
-    ensures value { IsSpan records.now result.least result.width }
+pub(crate) fn span_of<T: RunEntry>(records: &[T]) -> Span
+    ensures value { IsSpan (map T.entry_of records.now) result.least result.width }
 {
     let ends = ends_of(records);
     Span {

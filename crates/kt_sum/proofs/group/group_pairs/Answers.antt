@@ -8,5 +8,5 @@ use Rattle.kt_sum.proofs.GroupLemmas.{pairs_are}
 use Rattle.kt_sum.proofs.group.group_pairs.Goals as goal
 
 pub returns-clause-value : goal.returns-clause-value
-returns-clause-value c =
-    IfOk-weaker c.take_pairs.result _ (λ pairs. pairs ≡ pairs_of (λ sidx. run_loss sidx (map (record_at c.args.records.now) c.args.group.now)) (map sidx_at (range_with_len c.args.least (length c.args.sums.now)))) (λ pairs is. is ∙ pairs_are c.args.least _ (λ sidx. run_loss sidx (map (record_at c.args.records.now) c.args.group.now)) _ _ c.requires.zeros c.add_group.ensures.value) c.take_pairs.ensures.value
+returns-clause-value g c =
+    IfOk-weaker c.take_pairs.result _ (λ pairs. pairs ≡ pairs_of (λ sidx. run_loss sidx (map (record_at (map g.T.RunEntry.entry_of c.args.records.now)) c.args.group.now)) (map sidx_at (range_with_len c.args.least (length c.args.sums.now)))) (λ pairs is. is ∙ pairs_are c.args.least _ (λ sidx. run_loss sidx (map (record_at (map g.T.RunEntry.entry_of c.args.records.now)) c.args.group.now)) _ _ c.requires.zeros c.add_group.ensures.value) c.take_pairs.ensures.value
