@@ -4,3 +4,4 @@ pub mod Kept
 pub mod PortfolioLaws
 pub mod DamageLaws
 pub mod ExposureLaws
+pub mod PeriodLaws
