@@ -8,4 +8,3 @@ pub mod GoodLemmas
 pub mod MapLemmas
 pub mod RunLemmas
 pub mod HeldLemmas
-pub mod PortfolioLemmas

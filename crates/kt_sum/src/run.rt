@@ -117,8 +117,7 @@ fn summaries_of<T: RunEntry>(
     ensures value { IfOk result (λ made. made ≡ run_summaries perspective portfolio.now.rows portfolio.now.need.rule set (map T.entry_of records.now)) }
     ensures good { (samples : ℕ) → All (IsLoss samples) (map T.entry_of records.now) → IfOk result (λ made. All (IsSummary samples) made) }
 {
-    portfolio.is_valid();
-    portfolio.bounds_exposures();
+    portfolio.keeps_summaries();
     let mapped = mapped_in_order(alloc, portfolio, perspective, set, records)?;
     let span = span_of(records);
     let mut sums = zeros(alloc, span.width)?;

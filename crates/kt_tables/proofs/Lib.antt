@@ -2,4 +2,4 @@ pub mod AnswerLemmas
 pub mod ItemLemmas
 pub mod ExposureLemmas
 pub mod DamageLemmas
-pub mod BoundLemmas
+pub mod SummaryLemmas

@@ -1,4 +1,4 @@
-use Rattle.std.proofs.Common.{List, ◌+◌, length, map, slice_index_or, ap, subst, sym, arith, ◌∙◌}
+use Rattle.std.proofs.Common.{List, ◌+◌, ◌<◌, length, map, slice_index_or, ap, subst, sym, arith, ◌∙◌}
 use Rattle.std.proofs.lemmas.List.{length-map}
 use Rattle.kt_stream.specs.declared.entry.LossRecord.{LossRecord}
 use Rattle.kt_stream.specs.declared.entry.Pair.{Pair}
@@ -17,7 +17,7 @@ add_pairs-requires-clause-inside g c =
     let entry_of = g.T.RunEntry.entry_of in
     let place = (slice_index_or c.args.group.now c.loop-mapped.mapped-index none).place in
     let named = c.requires.named c.loop-mapped.mapped-index none c.loop-mapped-test.true in
-    let below = omega (arith, named, length-map c.args.records.now entry_of) in
+    let below : place < length c.args.records.now = omega (arith, named, length-map c.args.records.now entry_of) in
     let is = entry_at entry_of c.args.records.now place c.index-records-mapped.result c.entry.result.now below c.index-records-mapped.is c.entry.ensures no_record in
     subst (AreInside c.args.least (length c.loop-mapped.sums)) (sym (c.as_slice.ensures.value ∙ ap (λ (entry : LossRecord). entry.pairs) is))
     (subst (λ n. AreInside c.args.least n (slice_index_or (map entry_of c.args.records.now) place no_record).pairs) (sym c.loop-mapped.invariant.width_is) (c.requires.inside place no_record named))
@@ -29,7 +29,7 @@ add_pairs-requires-clause-fits g c = λ k below.
     let here = c.loop-mapped.invariant in
     let place = (slice_index_or c.args.group.now c.loop-mapped.mapped-index none).place in
     let named = c.requires.named c.loop-mapped.mapped-index none c.loop-mapped-test.true in
-    let inside = omega (arith, named, length-map c.args.records.now entry_of) in
+    let inside : place < length c.args.records.now = omega (arith, named, length-map c.args.records.now entry_of) in
     let is = entry_at entry_of c.args.records.now place c.index-records-mapped.result c.entry.result.now inside c.index-records-mapped.is c.entry.ensures no_record in
     let sidx = sidx_at (c.args.least + k) in
     omega (

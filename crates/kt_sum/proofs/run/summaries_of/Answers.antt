@@ -4,7 +4,6 @@ use Rattle.kt_stream.specs.Summary.{IsSummary}
 use Rattle.kt_stream.specs.declared.entry.SummaryRecord.{SummaryRecord}
 use Rattle.kt_tables.specs.Lookups.{exposure_of, summary_in}
 use Rattle.kt_sum.proofs.GoodLemmas.{summaries_good}
-use Rattle.kt_sum.proofs.PortfolioLemmas.{known_summary}
 use Rattle.kt_sum.proofs.SpanLemmas.{span_sums, zero_sums}
 use Rattle.kt_sum.proofs.run.summaries_of.Goals as goal
 
@@ -21,5 +20,5 @@ returns-clause-good g c = λ samples are.
     let rows = c.args.portfolio.now.rows in
     subst (λ (made : List SummaryRecord). All (IsSummary samples) made) (sym (c.from_vec.ensures.value ∙ c.in_ok-made.ensures.value))
     (summaries_good (summary_in c.args.perspective rows c.args.set) (exposure_of c.args.perspective rows c.args.portfolio.now.need.rule c.args.set)
-    (known_summary c.args.portfolio.now c.is_valid.ensures.valid c.args.perspective c.args.set)
-    (c.bounds_exposures.ensures.bounded c.args.perspective c.args.set) samples (map g.T.RunEntry.entry_of c.args.records.now) c.requires.losses are)
+    (λ id summary is. let known = c.keeps_summaries.ensures.kept.known c.args.perspective c.args.set id summary is in (known.least, known.most))
+    (c.keeps_summaries.ensures.kept.exposures c.args.perspective c.args.set) samples (map g.T.RunEntry.entry_of c.args.records.now) c.requires.losses are)

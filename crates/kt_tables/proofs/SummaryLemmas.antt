@@ -1,13 +1,18 @@
--- An exposure is at most what the coverages of all items are worth, one for each item.
+-- The summaries of a portfolio: they are ids, and an exposure is at most what the coverages of all items are worth, one for each item.
 use Rattle.std.proofs.Common.{◌≡◌, ℕ, ◌+◌, ◌≤◌, Bool, true, false, cond, List, [], ◌∷◌, length, map, refl, ap, sym, subst, ◌∙◌, nat_eq, Option, None, Some, unwrap_or, arith, inl}
 use Rattle.std.specs.Prelude.{◌&&◌, ◌||◌}
 use Rattle.std.specs.List.{IsDistinct, AllByRecursion, list_any, sum_by}
 use Rattle.std.specs.Map.{lookup}
 use Rattle.std.proofs.lemmas.Bool.{eqb-true}
 use Rattle.std.proofs.lemmas.List.{nil_from_length}
+use Rattle.std.proofs.lemmas.List.Elements.{recursion_from_All}
 use Rattle.std.proofs.lemmas.List.Sums.{sum_by-cons}
 use Rattle.std.proofs.lemmas.Map.Keys.{IsDistinct-head, IsDistinct-tail}
+use Rattle.kt_rec.specs.Ranges.{IsFmSummaryXref, IsGulSummaryXref, IsId}
 use Rattle.kt_rec.specs.Rows.{Rows}
+use Rattle.kt_rec.specs.declared.summary.FmSummaryXref.{FmSummaryXref}
+use Rattle.kt_rec.specs.declared.summary.GulSummaryXref.{GulSummaryXref}
+use Rattle.kt_keys.specs.Keys.{same_pair}
 use Rattle.kt_rec.specs.declared.exposure.Coverage.{Coverage}
 use Rattle.kt_rec.specs.declared.exposure.Item.{Item}
 use Rattle.kt_rec.specs.declared.perspective.Perspective.{Perspective}
@@ -17,10 +22,35 @@ use Rattle.kt_keys.specs.Refusals.{at_stage, is_loaded}
 use Rattle.kt_checks.specs.CheckLaws.{keeps-from_valid}
 use Rattle.kt_checks.specs.KeptChecks.{values_within}
 use Rattle.kt_checks.specs.TableChecks.{tiv_of}
-use Rattle.kt_tables.specs.ExposureLaws.{BoundsExposures}
-use Rattle.kt_tables.specs.Lookups.{exposure_of, id_has, is_unit, item_has, lies_beneath, output_has, summary_has, summary_rows, top_unit, unit_has}
+use Rattle.kt_tables.specs.SummaryLaws.{KeepsSummaries}
+use Rattle.kt_tables.specs.declared.summaries.SummaryRow.{SummaryRow}
+use Rattle.kt_tables.specs.Lookups.{exposure_of, id_has, is_unit, item_has, item_summary_rows, lies_beneath, output_has, output_summary_rows, summary_has, summary_in, summary_rows, top_unit, unit_has}
 use Rattle.kt_tables.specs.Portfolio.{PortfolioRows, IsPortfolio}
 use Rattle.kt_tables.specs.PortfolioLaws.{coverages_distinct, no_rows}
+
+-- ---- summaries are ids
+
+-- a summary that is found is that of a row
+found_each : (rows : List SummaryRow) → AllByRecursion (λ row. IsId row.summary) rows → (key : ℕ × ℕ) (summary : ℕ) → lookup (same_pair key) (map (λ row. ((row.id, row.set), row.summary)) rows) ≡ Some summary → IsId summary
+found_each [] each key summary is = cc
+found_each (row ∷ rows) each key summary is = by (same_pair key (row.id, row.set)) (found_each rows each.1 key summary) is
+  where
+    same : (a b : ℕ) → Some a ≡ Some b → a ≡ b
+    same a b is = cc
+
+    by : (b : Bool) → (lookup (same_pair key) (map (λ row. ((row.id, row.set), row.summary)) rows) ≡ Some summary → IsId summary) → cond b (Some row.summary) (lookup (same_pair key) (map (λ row. ((row.id, row.set), row.summary)) rows)) ≡ Some summary → IsId summary
+    by true later is = subst IsId (same row.summary summary is) each.0
+    by false later is = later is
+
+-- the summaries of items
+item_each : (rows : List GulSummaryXref) → AllByRecursion IsGulSummaryXref rows → AllByRecursion (λ (row : SummaryRow). IsId row.summary) (map (λ row. record { id = row.item_id; set = row.summaryset_id; summary = row.summary_id }) rows)
+item_each [] each = tt
+item_each (row ∷ rows) each = (each.0.summary_id, item_each rows each.1)
+
+-- the summaries of outputs
+output_each : (rows : List FmSummaryXref) → AllByRecursion IsFmSummaryXref rows → AllByRecursion (λ (row : SummaryRow). IsId row.summary) (map (λ row. record { id = row.output_id; set = row.summaryset_id; summary = row.summary_id }) rows)
+output_each [] each = tt
+output_each (row ∷ rows) each = (each.0.summary_id, output_each rows each.1)
 
 -- ---- what a summary is of, some item is of
 
@@ -185,6 +215,15 @@ module _ (portfolio : PortfolioRows) (valid : IsPortfolio portfolio) where
   worth_within true false items coverages =
       omega (arith, tiv_of-none portfolio.rows.coverages portfolio.rows.items (no_rows portfolio valid (at_stage 0 Coverages) (record { stages = omega arith; financial = inl refl }) coverages))
 
-  -- what every portfolio's exposures keep
-  pub bounded : BoundsExposures portfolio
-  bounded = λ perspective set summary. omega (arith, exposure_le perspective set summary, worth_within (is_loaded portfolio.need 0 Items) (is_loaded portfolio.need 0 Coverages) refl refl)
+  -- a summary that a set has for an id is an id itself
+  known : (perspective : Perspective) (set id summary : ℕ) → summary_in perspective portfolio.rows set id ≡ Some summary → IsId summary
+  known Gul set id summary is = found_each (item_summary_rows portfolio.rows) (item_each portfolio.rows.gulsummaryxref (recursion_from_All IsGulSummaryXref portfolio.rows.gulsummaryxref valid.in_range.gulsummaryxref)) (id, set) summary is
+  known Il set id summary is = found_each (output_summary_rows portfolio.rows) (output_each portfolio.rows.fmsummaryxref (recursion_from_All IsFmSummaryXref portfolio.rows.fmsummaryxref valid.in_range.fmsummaryxref)) (id, set) summary is
+  known Ri set id summary is = found_each (output_summary_rows portfolio.rows) (output_each portfolio.rows.fmsummaryxref (recursion_from_All IsFmSummaryXref portfolio.rows.fmsummaryxref valid.in_range.fmsummaryxref)) (id, set) summary is
+
+  -- what every portfolio's summaries keep
+  pub summaries_kept : KeepsSummaries portfolio
+  summaries_kept = record {
+    known = known;
+    exposures = λ perspective set summary. omega (arith, exposure_le perspective set summary, worth_within (is_loaded portfolio.need 0 Items) (is_loaded portfolio.need 0 Coverages) refl refl);
+  }
