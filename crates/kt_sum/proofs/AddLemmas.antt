@@ -1,5 +1,5 @@
 -- Losses of pairs are added to the sums of their sidx.
-use Rattle.std.proofs.Common.{◌≡◌, ◌≢◌, ◌⊎◌, inl, inr, ℕ, zero, suc, ◌+◌, ◌-◌, ◌^◌, ◌<◌, ◌≤◌, Bool, true, false, cond, List, length, take, slice_index, slice_index_or, slice_set, refl, sym, ap, arith, ◌∙◌, ℤ}
+use Rattle.std.proofs.Common.{◌≡◌, ◌≢◌, ◌⊎◌, inl, inr, ℕ, ◌+◌, ◌-◌, ◌^◌, ◌<◌, ◌≤◌, Bool, true, false, cond, List, length, take, slice_index, slice_index_or, slice_set, refl, sym, ap, arith, ◌∙◌, ℤ}
 use Rattle.std.specs.Ordering.{int_eq}
 use Rattle.std.proofs.lemmas.Bool.{cases_eq}
 use Rattle.std.proofs.lemmas.Bool.Decides.{Decides-int_eq}
@@ -8,7 +8,7 @@ use Rattle.std.proofs.lemmas.List.Sums.{sum_by_more, sum_by-take-le}
 use Rattle.kt_stream.specs.declared.entry.Pair.{Pair}
 use Rattle.kt_sum.specs.RunLosses.{loss_of}
 use Rattle.kt_sum.specs.Summaries.{sidx_at}
-use Rattle.kt_sum.specs.Adding.{Holds, IsInside, IsAdded}
+use Rattle.kt_sum.specs.Adding.{IsAdded}
 use Rattle.kt_sum.proofs.SidxLemmas.{one_place}
 
 -- a sidx is itself

@@ -1,5 +1,5 @@
 -- The records of summaries are records of a stream: their ids, their exposures, their sidx and their losses are in their ranges.
-use Rattle.std.proofs.Common.{◌≡◌, ◌≢◌, ℕ, zero, suc, ◌+◌, ◌-◌, ◌<◌, ◌≤◌, Bool, true, false, cond, nat_eq, nat_lt, ℤ, ◌<ℤ◌, List, [], ◌∷◌, map, Option, Some, None, refl, sym, ap, subst, arith, ◌∙◌}
+use Rattle.std.proofs.Common.{◌≡◌, ℕ, zero, suc, ◌+◌, ◌-◌, ◌<◌, ◌≤◌, Bool, true, false, cond, nat_eq, nat_lt, ℤ, List, [], ◌∷◌, map, Option, Some, None, refl, subst, arith}
 use Rattle.std.specs.Prelude.{All}
 use Rattle.std.specs.List.{AllByRecursion, cons_option, filter_map, range_with_len}
 use Rattle.std.specs.Ordering.{int_eq}
@@ -20,7 +20,7 @@ use Rattle.kt_sum.proofs.SidxLemmas.{sidx_rises}
 -- ---- which sidx have a loss
 
 -- a sidx at which pairs have a loss is that of a pair
-pair_sidx : (samples : ℕ) (sidx : ℤ) (pairs : List Pair) → AllByRecursion (IsPair samples) pairs → 0 < loss_of sidx pairs → IsSidx samples sidx
+pub pair_sidx : (samples : ℕ) (sidx : ℤ) (pairs : List Pair) → AllByRecursion (IsPair samples) pairs → 0 < loss_of sidx pairs → IsSidx samples sidx
 pair_sidx samples sidx [] each some = absurd (omega arith)
 pair_sidx samples sidx (pair ∷ pairs) each some =
     by (int_eq pair.sidx sidx) refl (pair_sidx samples sidx pairs each.1) (subst (λ n. 0 < n) (sum_by-cons (λ (pair : Pair). cond (int_eq pair.sidx sidx) pair.loss 0) pair pairs) some)

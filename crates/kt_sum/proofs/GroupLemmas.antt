@@ -1,6 +1,5 @@
 -- The mapped records of a summary: what they add, and where they stand among all.
-use Rattle.std.proofs.Common.{◌≡◌, ◌≢◌, ℕ, zero, suc, ◌+◌, ◌-◌, ◌^◌, ◌<◌, ◌≤◌, Bool, true, false, cond, nat_eq, ℤ, List, [], ◌∷◌, ◌++◌, Option, length, take, drop, map, slice_index, slice_index_or, refl, sym, ap, subst, arith, ◌∙◌, append-nil, add-one}
-use Rattle.std.specs.Prelude.{All}
+use Rattle.std.proofs.Common.{◌≡◌, ◌≢◌, ℕ, zero, suc, ◌+◌, ◌<◌, ◌≤◌, Bool, true, false, cond, nat_eq, ℤ, List, [], ◌∷◌, ◌++◌, Option, length, take, drop, map, slice_index, slice_index_or, refl, sym, ap, subst, arith, ◌∙◌, append-nil}
 use Rattle.std.specs.List.{AllByRecursion, cons_option, filter, filter_map, range_with_len, sum_by}
 use Rattle.std.specs.List.Sorted.{IsNonDecreasingBy}
 use Rattle.std.proofs.lemmas.Bool.Decides.{nat_tests}
@@ -8,11 +7,10 @@ use Rattle.std.proofs.lemmas.List.{get_or-take, get_or-drop, take-append-drop, l
 use Rattle.std.proofs.lemmas.List.Elements.{filter-append, filter_map-append, recursion_from_All, All-drop}
 use Rattle.std.proofs.lemmas.List.Sums.{sum_by-cons, sum_by_more, sum_by-take-le}
 use Rattle.kt_stream.specs.declared.entry.LossRecord.{LossRecord}
-use Rattle.kt_stream.specs.declared.entry.Pair.{Pair}
 use Rattle.kt_stream.specs.declared.entry.SummaryRecord.{SummaryRecord}
 use Rattle.kt_sum.specs.declared.mapped.Mapped.{Mapped}
 use Rattle.kt_sum.specs.RunLosses.{loss_of, run_loss}
-use Rattle.kt_sum.specs.Summaries.{is_summary, members, pair_of, pairs_of, rising, sidx_at, summary_of_run, summaries_by}
+use Rattle.kt_sum.specs.Summaries.{is_summary, members, pair_of, pairs_of, rising, sidx_at, summary_of_run}
 use Rattle.kt_sum.specs.Adding.{Holds}
 use Rattle.kt_sum.specs.Mapping.{IsGroupEnd, IsLeft, of_summary, record_at}
 use Rattle.kt_sum.proofs.RisingLemmas.{rising_group}
@@ -62,7 +60,7 @@ shifted f g a b (suc n) same =
     ap (λ x. cons_option x (filter_map f (range_with_len (a + 1) n))) first ∙ ap (λ xs. cons_option (g (sidx_at b)) xs) rest
 
 -- sums that began at 0 give the pairs of what was added
-pub pairs_are : (least width : ℕ) (loss : ℤ → ℕ) (before now : List ℕ) → Holds least width (λ k. 0) before → Holds least width (λ k. slice_index before k + loss (sidx_at (least + k))) now → filter_map (λ k. pair_of (sidx_at (least + k)) (slice_index now k)) (range_with_len 0 (length now)) ≡ pairs_of loss (map sidx_at (range_with_len least width))
+pub pairs_are : (least width : ℕ) (loss : ℤ → ℕ) (before now : List ℕ) → Holds width (λ k. 0) before → Holds width (λ k. slice_index before k + loss (sidx_at (least + k))) now → filter_map (λ k. pair_of (sidx_at (least + k)) (slice_index now k)) (range_with_len 0 (length now)) ≡ pairs_of loss (map sidx_at (range_with_len least width))
 pairs_are least width loss before now zeros added =
     ap (λ n. filter_map (λ k. pair_of (sidx_at (least + k)) (slice_index now k)) (range_with_len 0 n)) added.width_is
     ∙ shifted (λ k. pair_of (sidx_at (least + k)) (slice_index now k)) (λ sidx. pair_of sidx (loss sidx)) 0 least width same

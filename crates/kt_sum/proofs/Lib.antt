@@ -8,3 +8,4 @@ pub mod GoodLemmas
 pub mod MapLemmas
 pub mod RunLemmas
 pub mod HeldLemmas
+pub mod RunSumLemmas

@@ -1,7 +1,6 @@
 -- The mapped records of a run: one record more, and all in order.
 use Rattle.std.proofs.Common.{◌≡◌, ℕ, ◌+◌, ◌<◌, Bool, true, false, cond, nat_eq, List, [], ◌∷◌, ◌++◌, Option, Some, None, length, take, map, slice_index_or, refl, sym, ap, arith, ◌∙◌, append-nil}
-use Rattle.std.specs.Prelude.{All}
-use Rattle.std.specs.List.{cons_option, filter, filter_map, list_any}
+use Rattle.std.specs.List.{cons_option, filter_map, list_any}
 use Rattle.std.specs.List.Sorted.{IsNonDecreasingBy, IsPermutation}
 use Rattle.std.proofs.lemmas.List.{get_or_default, map-append, take_more}
 use Rattle.std.proofs.lemmas.List.Elements.{All-push, filter-append, filter_map-append}
@@ -9,8 +8,8 @@ use Rattle.std.proofs.lemmas.List.Sorted.{All-permutation, IsPermutation-map, li
 use Rattle.kt_stream.specs.declared.entry.LossRecord.{LossRecord}
 use Rattle.kt_stream.specs.declared.entry.SummaryRecord.{SummaryRecord}
 use Rattle.kt_sum.specs.declared.mapped.Mapped.{Mapped}
-use Rattle.kt_sum.specs.Summaries.{found_summaries, is_summary, members, rising, summary_of_run, summaries_by}
-use Rattle.kt_sum.specs.Mapping.{AreAllMapped, AreMapped, AreNamed, IsLeft, no_record, of_summary, record_at}
+use Rattle.kt_sum.specs.Summaries.{found_summaries, is_summary, members, summary_of_run, summaries_by}
+use Rattle.kt_sum.specs.Mapping.{AreAllMapped, AreMapped, IsLeft, no_record, of_summary, record_at}
 use Rattle.kt_sum.proofs.RisingLemmas.{rising_same}
 
 module _ (find : ℕ → Option ℕ) (records : List LossRecord) (i : ℕ) (d : LossRecord) (below : i < length records) (mapped : List Mapped) (are : AreMapped find records (take i records) mapped) where

@@ -1,6 +1,5 @@
 -- The record of a summary, by the mapped records that come to it.
-use Rattle.std.proofs.Common.{◌≡◌, ℕ, ◌+◌, ◌-◌, ◌<◌, ◌≤◌, Bool, true, false, nat_eq, List, [], ◌∷◌, ◌++◌, Option, Some, None, length, map, refl, sym, ap, subst, arith, ◌∙◌, append-nil}
-use Rattle.std.specs.Prelude.{All}
+use Rattle.std.proofs.Common.{◌≡◌, ℕ, ◌+◌, ◌<◌, List, [], ◌∷◌, ◌++◌, Option, Some, None, length, map, refl, sym, ap, arith, ◌∙◌, append-nil}
 use Rattle.std.specs.List.{cons_option, range_with_len}
 use Rattle.kt_stream.specs.declared.entry.LossRecord.{LossRecord}
 use Rattle.kt_stream.specs.declared.entry.Pair.{Pair}

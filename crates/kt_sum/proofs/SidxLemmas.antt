@@ -1,5 +1,5 @@
 -- The places of sidx.
-use Rattle.std.proofs.Common.{◌≡◌, ◌≢◌, ℕ, zero, suc, ◌+◌, ◌-◌, ◌<◌, ◌≤◌, Bool, true, false, cond, nat_eq, nat_lt, ℤ, pos, negsuc, ◌<ℤ◌, refl, sym, ap, arith, ◌∙◌}
+use Rattle.std.proofs.Common.{◌≡◌, ℕ, ◌-◌, ◌<◌, Bool, true, false, cond, nat_lt, pos, negsuc, ◌<ℤ◌, refl, sym, ap, arith, ◌∙◌}
 
 use Rattle.std.proofs.lemmas.Bool.{ltb-true, ltb-false}
 

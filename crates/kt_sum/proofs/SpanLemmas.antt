@@ -76,12 +76,12 @@ span_is records least last least_is last_is within = rw (least_is, last_is) (rec
 })
 
 -- it is that of the sums that were made
-pub span_sums : (records : List LossRecord) (least width : ℕ) (sums now : List ℕ) → IsSpan records least width → Holds least width (λ k. 0) sums → now ≡ sums → IsSpan records least (length now)
+pub span_sums : (records : List LossRecord) (least width : ℕ) (sums now : List ℕ) → IsSpan records least width → Holds width (λ k. 0) sums → now ≡ sums → IsSpan records least (length now)
 span_sums records least width sums now span zeros same = subst (IsSpan records least) (sym (ap length same ∙ zeros.width_is)) span
 
 -- which are 0
-pub zero_sums : (least width : ℕ) (sums now : List ℕ) → Holds least width (λ k. 0) sums → now ≡ sums → Holds least (length now) (λ k. 0) now
-zero_sums least width sums now zeros same = record {
+pub zero_sums : (width : ℕ) (sums now : List ℕ) → Holds width (λ k. 0) sums → now ≡ sums → Holds (length now) (λ k. 0) now
+zero_sums width sums now zeros same = record {
   width_is = refl;
   each = λ k below. ap (λ (sums : List ℕ). slice_index sums k) same ∙ zeros.each k (omega (arith, ap length same, zeros.width_is));
 }

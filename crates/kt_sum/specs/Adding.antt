@@ -6,8 +6,8 @@ use Rattle.kt_stream.specs.declared.entry.Pair.{Pair}
 use Rattle.kt_sum.specs.RunLosses.{loss_of}
 use Rattle.kt_sum.specs.Summaries.{place_of, sidx_at, sidx_range}
 
--- sums have so many places, the first of which is that of the least sidx, and hold a loss for each
-pub record Holds (least width : ℕ) (loss : ℕ → ℕ) (sums : List ℕ) : Type 0 where
+-- sums have so many places, and hold a loss for each
+pub record Holds (width : ℕ) (loss : ℕ → ℕ) (sums : List ℕ) : Type 0 where
   pub width_is : length sums ≡ width
   pub each : (k : ℕ) → k < width → slice_index sums k ≡ loss k
 
@@ -22,7 +22,7 @@ AreInside least width pairs = All (λ pair. IsInside least width (place_of pair.
 
 -- the losses of pairs are added to sums
 abbrev pub IsAdded : ℕ → List ℕ → List Pair → List ℕ → Type 0
-IsAdded least before pairs now = Holds least (length before) (λ k. slice_index before k + loss_of (sidx_at (least + k)) pairs) now
+IsAdded least before pairs now = Holds (length before) (λ k. slice_index before k + loss_of (sidx_at (least + k)) pairs) now
 
 -- the sums of a run begin at its least place and end behind its greatest
 pub record IsSpan (records : List LossRecord) (least width : ℕ) : Type 0 where

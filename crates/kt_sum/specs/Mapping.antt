@@ -1,5 +1,5 @@
 -- The records of a run by the summaries to which they come.
-use Rattle.std.specs.Prelude.{◌≡◌, ◌≢◌, ℕ, ◌+◌, ◌<◌, ◌≤◌, nat_eq, List, [], ◌++◌, length, map, All, Option, slice_index_or}
+use Rattle.std.specs.Prelude.{◌≡◌, ◌≢◌, ℕ, ◌<◌, ◌≤◌, nat_eq, List, [], ◌++◌, length, map, All, Option, slice_index_or}
 use Rattle.std.specs.List.{filter, filter_map, list_any}
 use Rattle.std.specs.List.Sorted.{IsNonDecreasingBy}
 use Rattle.kt_stream.specs.declared.entry.LossRecord.{LossRecord}

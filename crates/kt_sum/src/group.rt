@@ -33,7 +33,7 @@ fn add_group<T: RunEntry>(sums: &mut [u64], least: u64, records: &[T], group: &[
     requires named { AreNamed (map T.entry_of records.now) group.now }
     requires inside { All (λ entry. AreInside least (length sums.old) entry.pairs) (map T.entry_of records.now) }
     requires fits { (k : ℕ) → k < length sums.old → slice_index sums.old k + run_loss (sidx_at (least + k)) (map (record_at (map T.entry_of records.now)) group.now) < 2 ^ 64 }
-    ensures value { Holds least (length sums.old) (λ k. slice_index sums.old k + run_loss (sidx_at (least + k)) (map (record_at (map T.entry_of records.now)) group.now)) sums.new }
+    ensures value { Holds (length sums.old) (λ k. slice_index sums.old k + run_loss (sidx_at (least + k)) (map (record_at (map T.entry_of records.now)) group.now)) sums.new }
 {
     for mapped in group {
         add_pairs(sums, least, records[mapped.place].entry().pairs.as_slice());
@@ -51,10 +51,10 @@ pub(crate) fn group_pairs<T: RunEntry>(
     requires named { AreNamed (map T.entry_of records.now) group.now }
     requires inside { All (λ entry. AreInside least (length sums.old) entry.pairs) (map T.entry_of records.now) }
     requires within { least + length sums.old ≤ 2 ^ 32 }
-    requires zeros { Holds least (length sums.old) (λ k. 0) sums.old }
+    requires zeros { Holds (length sums.old) (λ k. 0) sums.old }
     requires few { (k : ℕ) → run_loss (sidx_at (least + k)) (map (record_at (map T.entry_of records.now)) group.now) < 2 ^ 64 }
     ensures value { IfOk result (λ pairs. pairs ≡ pairs_of (λ sidx. run_loss sidx (map (record_at (map T.entry_of records.now)) group.now)) (map sidx_at (range_with_len least (length sums.old)))) }
-    ensures zeros { IfOk result (λ _. Holds least (length sums.old) (λ k. 0) sums.new) }
+    ensures zeros { IfOk result (λ _. Holds (length sums.old) (λ k. 0) sums.new) }
 {
     add_group(sums, least, records, group);
     take_pairs(alloc, sums, least)

@@ -49,9 +49,9 @@ fn push_summary<T: RunEntry>(
     requires named { AreNamed (map T.entry_of records.now) group.now }
     requires losses { AreWithin (map T.entry_of records.now) }
     requires span { IsSpan (map T.entry_of records.now) least (length sums.old) }
-    requires zeros { Holds least (length sums.old) (λ k. 0) sums.old }
+    requires zeros { Holds (length sums.old) (λ k. 0) sums.old }
     ensures ok { OnOk result (made.new.items ≡ made.old.items ++ filter_map (summary_of_run (summary_in perspective portfolio.now.rows set) (exposure_of perspective portfolio.now.rows portfolio.now.need.rule set) (map T.entry_of records.now)) (summary ∷ [])) }
-    ensures zeros { OnOk result (Holds least (length sums.old) (λ k. 0) sums.new) }
+    ensures zeros { OnOk result (Holds (length sums.old) (λ k. 0) sums.new) }
 {
     let pairs = group_pairs(alloc, sums, least, records, group)?;
     if !pairs.as_slice().is_empty() {
@@ -80,7 +80,7 @@ fn push_summaries<T: RunEntry>(
     requires order { IsNonDecreasingBy (λ mapped. mapped.summary) mapped.now }
     requires losses { AreWithin (map T.entry_of records.now) }
     requires span { IsSpan (map T.entry_of records.now) least (length sums.old) }
-    requires zeros { Holds least (length sums.old) (λ k. 0) sums.old }
+    requires zeros { Holds (length sums.old) (λ k. 0) sums.old }
     ensures value { IfOk result (λ made. made.items ≡ run_summaries perspective portfolio.now.rows portfolio.now.need.rule set (map T.entry_of records.now)) }
 {
     let mut made = Vec::new(alloc);

@@ -12,7 +12,7 @@ use std::alloc::{AllocError, Global};
 
 /// As many zeros.
 pub(crate) fn zeros(alloc: Global, width: usize) -> Result<Vec<u64>, AllocError>
-    ensures value { (least : ℕ) → IfOk result (λ sums. Holds least width (λ k. 0) sums.items) }
+    ensures value { IfOk result (λ sums. Holds width (λ k. 0) sums.items) }
 {
     vec![in alloc; 0; width]
 }
@@ -44,7 +44,7 @@ fn pair_at(place: u32, loss: u64) -> Pair
 pub(crate) fn take_pairs(alloc: Global, sums: &mut [u64], least: u64) -> Result<Pairs, AllocError>
     requires within { least + length sums.old ≤ 2 ^ 32 }
     ensures value { IfOk result (λ pairs. pairs ≡ filter_map (λ k. pair_of (sidx_at (least + k)) (slice_index sums.old k)) (range_with_len 0 (length sums.old))) }
-    ensures zeros { IfOk result (λ _. Holds least (length sums.old) (λ k. 0) sums.new) }
+    ensures zeros { IfOk result (λ _. Holds (length sums.old) (λ k. 0) sums.new) }
 {
     let mut pairs = Pairs::new(alloc);
     for place in 0..sums.len() {

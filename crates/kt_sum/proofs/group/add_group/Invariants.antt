@@ -7,4 +7,4 @@ use Rattle.kt_sum.specs.Mapping.{record_at}
 use Rattle.kt_sum.proofs.group.add_group.Given as goal
 
 abbrev pub invariant-loop-mapped : goal.invariant-loop-mapped
-invariant-loop-mapped g l = Holds l.least (length l.fn.sums) (λ k. slice_index l.fn.sums k + run_loss (sidx_at (l.least + k)) (map (record_at (map g.T.RunEntry.entry_of l.records)) (take l.mapped-index l.group))) l.sums
+invariant-loop-mapped g l = Holds (length l.fn.sums) (λ k. slice_index l.fn.sums k + run_loss (sidx_at (l.least + k)) (map (record_at (map g.T.RunEntry.entry_of l.records)) (take l.mapped-index l.group))) l.sums

@@ -21,5 +21,5 @@ pub loop-rest-preserved : goal.loop-rest-preserved
 loop-rest-preserved g c = record {
   left = rw (c.split_at.ensures.back, c.in_ok-push_summary.ensures.ok)
       (left_later (summary_in c.args.perspective c.args.portfolio.now.rows c.args.set) (exposure_of c.args.perspective c.args.portfolio.now.rows c.args.portfolio.now.need.rule c.args.set) (map g.T.RunEntry.entry_of c.args.records.now) c.loop-rest.rest.now c.loop-rest.made.items c.loop-rest.invariant.left _ c.group_end.result c.group_end.ensures.value);
-  zeros = subst (λ n. Holds c.args.least n (λ k. 0) c.push_summary.new.sums) c.loop-rest.invariant.zeros.width_is c.in_ok-push_summary.ensures.zeros;
+  zeros = subst (λ n. Holds n (λ k. 0) c.push_summary.new.sums) c.loop-rest.invariant.zeros.width_is c.in_ok-push_summary.ensures.zeros;
 }

@@ -8,7 +8,7 @@ use Rattle.kt_sum.proofs.run.push_summaries.Given as goal
 abbrev pub invariant-loop-rest : goal.invariant-loop-rest
 invariant-loop-rest g l = record {
   left : IsLeft (summary_in l.perspective l.portfolio.rows l.set) (exposure_of l.perspective l.portfolio.rows l.portfolio.need.rule l.set) (map g.T.RunEntry.entry_of l.records) l.rest l.made.items;
-  zeros : Holds l.least (length l.fn.sums) (λ k. 0) l.sums;
+  zeros : Holds (length l.fn.sums) (λ k. 0) l.sums;
 }
 
 abbrev pub decreases-loop-rest : goal.decreases-loop-rest

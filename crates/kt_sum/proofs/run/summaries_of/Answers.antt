@@ -9,11 +9,11 @@ use Rattle.kt_sum.proofs.run.summaries_of.Goals as goal
 
 pub push_summaries-requires-clause-span : goal.push_summaries-requires-clause-span
 push_summaries-requires-clause-span g c =
-    span_sums (map g.T.RunEntry.entry_of c.args.records.now) c.span_of-span.result.least c.span_of-span.result.width c.in_ok-sums.sums.items c.deref_mut.result.now c.span_of-span.ensures.value (c.in_ok-sums.ensures.value c.span_of-span.result.least) c.deref_mut.ensures.value
+    span_sums (map g.T.RunEntry.entry_of c.args.records.now) c.span_of-span.result.least c.span_of-span.result.width c.in_ok-sums.sums.items c.deref_mut.result.now c.span_of-span.ensures.value c.in_ok-sums.ensures.value c.deref_mut.ensures.value
 
 pub push_summaries-requires-clause-zeros : goal.push_summaries-requires-clause-zeros
 push_summaries-requires-clause-zeros g c =
-    zero_sums c.span_of-span.result.least c.span_of-span.result.width c.in_ok-sums.sums.items c.deref_mut.result.now (c.in_ok-sums.ensures.value c.span_of-span.result.least) c.deref_mut.ensures.value
+    zero_sums c.span_of-span.result.width c.in_ok-sums.sums.items c.deref_mut.result.now c.in_ok-sums.ensures.value c.deref_mut.ensures.value
 
 pub returns-clause-good : goal.returns-clause-good
 returns-clause-good g c = λ samples are.

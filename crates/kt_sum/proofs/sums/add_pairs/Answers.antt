@@ -1,4 +1,4 @@
-use Rattle.std.proofs.Common.{arith, slice_index_or, pos}
+use Rattle.std.proofs.Common.{arith, pos}
 use Rattle.kt_stream.specs.declared.entry.Pair.{Pair}
 use Rattle.kt_sum.proofs.AddLemmas.{added_more, fits_more}
 use Rattle.kt_sum.proofs.sums.add_pairs.Goals as goal

@@ -1,4 +1,4 @@
-use Rattle.std.proofs.Common.{arith, ap, sym, ◌∙◌, ◌++◌, ◌∷◌, [], slice_index_or}
+use Rattle.std.proofs.Common.{arith, ap, ◌∙◌, ◌++◌, ◌∷◌, [], slice_index_or}
 use Rattle.kt_sum.proofs.PairLemmas.{pairs_push, pairs_skip, taken_set, taken_same}
 use Rattle.kt_sum.proofs.sums.take_pairs.Goals as goal
 use Rattle.kt_sum.proofs.sums.take_pairs.Goals.{then-loss-gt0+in_ok-push, else-loss-gt0}
