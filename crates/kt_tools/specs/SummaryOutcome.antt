@@ -33,10 +33,8 @@ use Rattle.kt_sum.specs.Summaries.{run_summaries}
 use Rattle.kt_tables.specs.Portfolio.{PortfolioRows}
 
 -- what the summaries are made with: whether the losses are those of items, the set, and the portfolio
-pub record SetSummaries : Type 0 where
-  pub items : Bool
-  pub set : ℕ
-  pub portfolio : PortfolioRows
+abbrev pub SetSummaries : Type 0
+SetSummaries = Bool × ℕ × PortfolioRows
 
 -- the tables: items and coverages with the summaries of items, or with the programme, the outputs and their summaries
 abbrev pub summary_need : Bool → ℕ → Need
@@ -68,7 +66,7 @@ check_refusal found = refusal.Check found.number (file_name_of found.table) foun
 
 -- at the header: the header of the summaries, unless a check of the tables fails with the stream's samples
 abbrev pub summary_opening : SetSummaries → Head → Option CheckRefusal → Step SetSummaries Refusal
-summary_opening made head None = record { text = header_bytes stream.Summary (record { samples = head.samples; set = made.set }); next = Ok made }
+summary_opening made head None = record { text = header_bytes stream.Summary (record { samples = head.samples; set = made.1 }); next = Ok made }
 summary_opening made head (Some found) = record { text = []; next = Err (check_refusal found) }
 
 -- a record is refused for an id that is none, or for taking the losses of one sidx in its run too far
@@ -78,9 +76,9 @@ loss_refusal known past at = cond known (cond past (Some (refusal.LossSum at)) N
 -- the calculation: the header, and then the summaries of each closed run
 abbrev pub summary_runs : RunCalculation Head LossRecord SetSummaries Refusal
 summary_runs = record {
-  opens = λ head made. summary_opening made head (samples_refusal made.portfolio.rows made.portfolio.need head.samples);
-  refuses = λ head made run placed. loss_refusal (is_known made.items made.portfolio.rows placed.entry.id) (goes_past (bare run) placed.entry) placed.at;
-  closes = λ head made records. flat_map summary_bytes (run_summaries (perspective_of made.items) made.portfolio.rows made.portfolio.need.rule made.set records);
+  opens = λ head made. summary_opening made head (samples_refusal made.2.rows made.2.need head.samples);
+  refuses = λ head made run placed. loss_refusal (is_known made.0 made.2.rows placed.entry.id) (goes_past (bare run) placed.entry) placed.at;
+  closes = λ head made records. flat_map summary_bytes (run_summaries (perspective_of made.0) made.2.rows made.2.need.rule made.1 records);
 }
 
 -- what a stream of losses holds
@@ -97,4 +95,4 @@ summaries_behind made (Some head) contents =
 abbrev pub summary_rows_outcome : Bool → ℕ → ℕ → Rows → List ℕ → Outcome
 summary_rows_outcome items set rule rows source =
     let contents = loss_contents items source in
-    summaries_behind (record { items = items; set = set; portfolio = record { rows = rows; need = summary_need items rule } }) contents.head contents
+    summaries_behind (items, set, record { rows = rows; need = summary_need items rule }) contents.head contents

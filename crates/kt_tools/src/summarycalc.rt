@@ -146,7 +146,7 @@ fn check_stop(alloc: Global, stop: CheckStop) -> ToolStop
 }
 
 /// Appends summary records.
-fn put_summaries(out: &mut Bytes, entries: &[SummaryRecord]) -> Result<(), ToolStop>
+fn put_summaries(out: &mut Bytes, entries: &[SummaryRecord]) -> Result<(), AllocError>
     ensures ok { OnOk result (out.new ≡ out.old ++ flat_map summary_bytes entries.now) }
 {
     for entry in entries {
@@ -181,7 +181,7 @@ impl<'a> RunStage<Head, LossRecord, ()> for SetSummaries<'a> {
 
     ghost runs = { summary_runs };
 
-    ghost is_at = { λ made stage _. (stage.items ≡ made.items) × (stage.set ≡ made.set) × (stage.portfolio.now ≡ made.portfolio) };
+    ghost is_at = { λ made stage _. (stage.items ≡ made.0) × (stage.set ≡ made.1) × (stage.portfolio.now ≡ made.2) };
 
     ghost is_ready = { λ header run stage _. HoldsSums header run stage.sums.items × ((id : ℕ) → contains nat_eq stage.ids.now id ≡ is_known stage.items stage.portfolio.now.rows id) };
 
@@ -231,9 +231,7 @@ impl<'a> RunStage<Head, LossRecord, ()> for SetSummaries<'a> {
     ) -> Result<(), ToolStop> {
         let perspective = perspective_of(self.items);
         let made = summarise_placed(self.alloc, self.portfolio, perspective, self.set, run)?;
-        if let Err(stop) = put_summaries(out, made.as_slice()) {
-            return Err(stop);
-        }
+        put_summaries(out, made.as_slice())?;
         clear_run(&mut self.sums, head.samples);
         Ok(())
     }
@@ -252,7 +250,7 @@ fn write_summaries<S: Source, K: Sink>(
     requires need { portfolio.now.need ≡ tables_needed items rule }
     ensures { (inputs : InputsState) (outputs : OutputsState) → Ended (Finds (command_uses (Command.Summarycalc items set rule)) (world inputs outputs (S.state source.old) (K.state sink.old))) (command_uses (Command.Summarycalc items set rule)) (λ _ bytes. summary_rows_outcome items set rule portfolio.now.rows bytes) (world inputs outputs (S.state source.old) (K.state sink.old)) (world inputs outputs (S.state source.new) (K.state sink.new)) (end_status result) }
 {
-    runs_give_their_text::<Head, LossRecord, Portfolio>();
+    runs_give_their_text::<Head, LossRecord, (bool, u32, Portfolio)>();
     what_is_read_can_be_taken::<LossRecord>();
     let ids = match known_ids(alloc, items, portfolio.tables()) {
         Ok(ids) => ids,
