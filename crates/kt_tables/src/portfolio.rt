@@ -7,6 +7,7 @@ ghost use Rattle.kt_checks.specs.Checks.{first_refusal, samples_refusal, answer_
 ghost use Rattle.kt_tables.specs.Portfolio.{HasOnlyNeeded, HasPeriods, IsPortfolio, KeepsPeriods};
 ghost use Rattle.kt_tables.specs.Lookups.{event_ids};
 ghost use Rattle.kt_tables.specs.DamageLaws.{KeepsDamage};
+ghost use Rattle.kt_tables.specs.SummaryLaws.{KeepsSummaries};
 ghost use Rattle.kt_keys.specs.Refusals.{is_loaded};
 ghost use Rattle.kt_rec.specs.declared.table.Table.TheVariants as table;
 
@@ -104,6 +105,14 @@ impl Portfolio {
     pub fn keeps_damage(&self)
         requires loaded { is_loaded self.now.need 0 table.DamageBinDict ≡ true }
         ensures kept { KeepsDamage self.now.rows }
+    {
+        let _ = &self.need;
+    }
+
+    /// Says what every portfolio keeps of summaries: what a set has for an id is an id, and no exposure is above 10^14 cents,
+    /// since the coverages of all items, one for each item, are worth no more.
+    pub fn keeps_summaries(&self)
+        ensures kept { KeepsSummaries self.now }
     {
         let _ = &self.need;
     }

@@ -5,3 +5,4 @@ pub mod EveLemmas
 pub mod FootprintLemmas
 pub mod Loaded
 pub mod Running
+pub mod SummaryLemmas

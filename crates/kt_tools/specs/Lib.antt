@@ -1,5 +1,7 @@
 pub mod EltOutcome
 pub mod PltOutcome
+pub mod SummaryOutcome
+pub mod SummaryStage
 pub mod Outcome
 pub mod Uses
 pub mod Loading

@@ -6,6 +6,7 @@ mod eltcalc;
 mod eve;
 mod footprint;
 mod pltcalc;
+mod summarycalc;
 mod tables;
 mod top_call;
 mod whole_source;

@@ -15,6 +15,7 @@ use crate::eltcalc::eltcalc;
 use crate::eve::eve;
 use crate::footprint::footprint_to_text;
 use crate::pltcalc::pltcalc;
+use crate::summarycalc::summarycalc;
 use kt_ends::{Status, report, status_of};
 use kt_out::{Gate, Inputs, Outputs, Sink, Source};
 use kt_words::{Command, Words, read_command};
@@ -35,6 +36,9 @@ fn carry_out<I: Inputs, S: Source, K: Sink>(
 {
     match read_command(words) {
         Err(stop) => Status::Words(stop),
+        Ok(Command::Summarycalc { items, set, rule }) => {
+            status_of(summarycalc(alloc, items, set, rule, inputs, source, sink))
+        }
         Ok(Command::Eltcalc { heading }) => status_of(eltcalc(alloc, heading, source, sink)),
         Ok(Command::Pltcalc { heading }) => {
             status_of(pltcalc(alloc, heading, inputs, source, sink))

@@ -88,7 +88,6 @@ impl Tool {
     {
         match self {
             Tool::Fmcalc
-            | Tool::Summarycalc
             | Tool::Aalcalc
             | Tool::Leccalc
             | Tool::Kat

@@ -1,0 +1,5 @@
+pub mod RunLosses
+pub mod Summaries
+pub mod Adding
+pub mod Mapping
+pub mod RunSums
