@@ -5,3 +5,5 @@ pub mod EveLemmas
 pub mod FootprintLemmas
 pub mod Loaded
 pub mod Running
+mod GulLemmas
+mod ModelLemmas

@@ -1,5 +1,8 @@
 pub mod EltOutcome
 pub mod PltOutcome
+pub mod ModelOutcome
+pub mod ModelStage
+pub mod GulOutcome
 pub mod Outcome
 pub mod Uses
 pub mod Loading
