@@ -83,6 +83,10 @@ module _ (files : FileMap) where
       by_file None holds h = cc
       by_file (Some bytes) holds h = by_size bytes (nat_lt file_limit (length bytes)) holds h
 
+  -- the size is known behind the other tables
+  abbrev Later : (TableId → Bool) → List TableId → Rows → Type 0
+  Later keep ids now = (r : Rows) → with_files files (filter keep ids) r ≡ Ok now → WillBeKnown files (list_any (λ other. is_footprint other && keep other) ids) r → Known files now
+
   -- all were read
   all_read : (keep : TableId → Bool) (ids : List TableId) (rows now : Rows) → list_all fine ids ≡ true → with_files files (filter keep ids) rows ≡ Ok now → WillBeKnown files (list_any (λ id. is_footprint id && keep id) ids) rows → Known files now
   unfolding with_files
@@ -92,15 +96,12 @@ module _ (files : FileMap) where
       let parts = both (fine id) (list_all fine ids) right in
       by_keep (keep id) (λ r later. all_read keep ids r now parts.1 later) parts.0 is known
     where
-      abbrev Later : Type 0
-      Later = (r : Rows) → with_files files (filter keep ids) r ≡ Ok now → WillBeKnown files (list_any (λ other. is_footprint other && keep other) ids) r → Known files now
-
-      by_first : (b : Bool) → is_footprint id ≡ b → (new : Rows) → Later → fine id ≡ true → with_file rows id (files (file_name_of id)) ≡ Ok new → with_files files (filter keep ids) new ≡ Ok now → WillBeKnown files ((b && true) || list_any (λ other. is_footprint other && keep other) ids) rows → Known files now
+      by_first : (b : Bool) → is_footprint id ≡ b → (new : Rows) → Later keep ids now → fine id ≡ true → with_file rows id (files (file_name_of id)) ≡ Ok new → with_files files (filter keep ids) new ≡ Ok now → WillBeKnown files ((b && true) || list_any (λ other. is_footprint other && keep other) ids) rows → Known files now
       by_first true e new later fits read h known = later new h (inl (read_one rows new id fits read (inr e)))
       by_first false e new later fits read h (inl known) = later new h (inl (read_one rows new id fits read (inl known)))
       by_first false e new later fits read h (inr any) = later new h (inr any)
 
-      by_read : (read : Result Rows LoadStop) → with_file rows id (files (file_name_of id)) ≡ read → Later → fine id ≡ true → go_on read (with_files files (filter keep ids)) ≡ Ok now → WillBeKnown files ((is_footprint id && true) || list_any (λ other. is_footprint other && keep other) ids) rows → Known files now
+      by_read : (read : Result Rows LoadStop) → with_file rows id (files (file_name_of id)) ≡ read → Later keep ids now → fine id ≡ true → go_on read (with_files files (filter keep ids)) ≡ Ok now → WillBeKnown files ((is_footprint id && true) || list_any (λ other. is_footprint other && keep other) ids) rows → Known files now
       by_read (Ok new) e later fits h known = by_first (is_footprint id) refl new later fits e h known
       by_read (Err why) e later fits h known = cc
 
@@ -108,7 +109,7 @@ module _ (files : FileMap) where
       without true b is = is
       without false b is = is
 
-      by_keep : (b : Bool) → Later → fine id ≡ true → with_files files (cond b (id ∷ filter keep ids) (filter keep ids)) rows ≡ Ok now → WillBeKnown files ((is_footprint id && b) || list_any (λ other. is_footprint other && keep other) ids) rows → Known files now
+      by_keep : (b : Bool) → Later keep ids now → fine id ≡ true → with_files files (cond b (id ∷ filter keep ids) (filter keep ids)) rows ≡ Ok now → WillBeKnown files ((is_footprint id && b) || list_any (λ other. is_footprint other && keep other) ids) rows → Known files now
       by_keep true later fits h known = by_read (with_file rows id (files (file_name_of id))) refl later fits h known
       by_keep false later fits h (inl known) = later rows h (inl known)
       by_keep false later fits h (inr any) = later rows h (inr (without (is_footprint id) _ any))

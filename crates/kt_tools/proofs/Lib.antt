@@ -6,3 +6,5 @@ pub mod FootprintLemmas
 pub mod Loaded
 pub mod Running
 pub mod SummaryLemmas
+mod GulLemmas
+mod ModelLemmas

@@ -31,30 +31,25 @@ gul_need samples = record {
   net = false;
 }
 
--- what losses are made by: the rows of the tables, the number of samples, and whether a coverage's losses are cut
-pub record GulTables : Type 0 where
-  pub rows : Rows
-  pub samples : ℕ
-  pub cut : Bool
-
-abbrev pub gul_tables : Rows → ℕ → Bool → GulTables
-gul_tables rows samples cut = record { rows = rows; samples = samples; cut = cut }
+-- the number of samples, and whether a coverage's losses are cut
+abbrev pub GulOptions : Type 0
+GulOptions = ℕ × Bool
 
 -- the header of a stream of ground-up losses with so many samples
 abbrev pub gul_head : ℕ → Head
 gul_head samples = record { samples = samples; set = 0 }
 
 -- the records of the losses of a run of distributions, which are those of one event
-abbrev pub run_losses : GulTables → List Cdf → List ℕ
-run_losses made [] = []
-run_losses made (first ∷ later) = flat_map loss_bytes (ground_up_records made.rows made.samples made.cut first.event (first ∷ later))
+abbrev pub run_losses : Rows → GulOptions → List Cdf → List ℕ
+run_losses rows options [] = []
+run_losses rows options (first ∷ later) = flat_map loss_bytes (ground_up_records rows options.0 options.1 first.event (first ∷ later))
 
--- the calculation run by run: the header, and then the losses of each run, whatever else is known beside a stream's header
-abbrev pub gul_runs : {H : Type 0} → RunCalculation H Cdf GulTables Refusal
-gul_runs = record {
-  opens = λ head made. record { text = header_bytes Gul (gul_head made.samples); next = Ok made };
-  refuses = λ head made run placed. None;
-  closes = λ head made run. run_losses made run;
+-- the calculation run by run: the header, and then the losses of each run, by the rows that are known with the stream's header
+abbrev pub gul_runs : {H : Type 0} → (H → Rows) → RunCalculation H Cdf GulOptions Refusal
+gul_runs rows_by = record {
+  opens = λ head options. record { text = header_bytes Gul (gul_head options.0); next = Ok options };
+  refuses = λ head options run placed. None;
+  closes = λ head options run. run_losses (rows_by head) options run;
 }
 
 -- what a stream of distributions holds, none of more bins than the dictionary of damage bins
@@ -64,4 +59,4 @@ cdf_contents rows source = contents_of cdf_form (cdf_shape (length rows.damage_b
 -- the ground-up losses of the distributions of the source, run by run, by the rows of the tables
 abbrev pub gul_rows_outcome : ℕ → Bool → Rows → List ℕ → Outcome
 gul_rows_outcome samples cut rows source =
-    outcome (by_run cdf_key gul_runs) (record { kept = gul_tables rows samples cut; run = [] }) (cdf_contents rows source)
+    outcome (by_run cdf_key (gul_runs (λ head. rows))) (record { kept = (samples, cut); run = [] }) (cdf_contents rows source)

@@ -5,6 +5,8 @@ mod convert;
 mod eltcalc;
 mod eve;
 mod footprint;
+mod getmodel;
+mod gulcalc;
 mod pltcalc;
 mod summarycalc;
 mod tables;

@@ -14,6 +14,8 @@ use crate::convert::convert;
 use crate::eltcalc::eltcalc;
 use crate::eve::eve;
 use crate::footprint::footprint_to_text;
+use crate::getmodel::getmodel;
+use crate::gulcalc::gulcalc;
 use crate::pltcalc::pltcalc;
 use crate::summarycalc::summarycalc;
 use kt_ends::{Status, report, status_of};
@@ -42,6 +44,10 @@ fn carry_out<I: Inputs, S: Source, K: Sink>(
         Ok(Command::Eltcalc { heading }) => status_of(eltcalc(alloc, heading, source, sink)),
         Ok(Command::Pltcalc { heading }) => {
             status_of(pltcalc(alloc, heading, inputs, source, sink))
+        }
+        Ok(Command::Getmodel) => status_of(getmodel(alloc, inputs, source, sink)),
+        Ok(Command::Gulcalc { samples, cut }) => {
+            status_of(gulcalc(alloc, samples, cut, inputs, source, sink))
         }
         Ok(Command::Convert(conversion)) => status_of(convert(alloc, conversion, source, sink)),
         Ok(Command::FootprintText) => status_of(footprint_to_text(alloc, inputs, source, sink)),
