@@ -26,7 +26,7 @@ returns-in-Err g c outputs =
 pub write_distributions-requires : goal.write_distributions-requires
 write_distributions-requires g c =
     let are = subst (λ n. IfSome (g.I.Inputs.state c.args.inputs.now).held (λ files. loaded files n ≡ Ok c.in-Ok.portfolio.rows)) c.model_need.ensures c.in-Ok.ensures.exact in
-    subst (λ (state : InputsState). IsModelReady c.in-Ok.portfolio state.held) (sym c.in-Ok.ensures.inputs) (model_ready c.in-Ok.portfolio (g.I.Inputs.state c.args.inputs.now).held (c.in-Ok.ensures.need ∙ c.model_need.ensures) are)
+    record { ready = subst (λ (state : InputsState). IsModelReady c.in-Ok.portfolio state.held) (sym c.in-Ok.ensures.inputs) (model_ready c.in-Ok.portfolio (g.I.Inputs.state c.args.inputs.now).held (c.in-Ok.ensures.need ∙ c.model_need.ensures) are) }
 
 pub returns : goal.returns
 returns g c outputs =
