@@ -1,0 +1,162 @@
+//! The period totals and maxima of all records that were added.
+//! The rules: docs/CALCULATION.md, "Periods".
+ghost use Rattle.std.specs.Prelude.{◌≡◌, ◌⊎◌, ◌+◌, ◌≤◌, ◌^◌, ℕ, pos, ◌≤ℤ◌, List, [], ◌∷◌, ◌++◌, All, IsTrue, IfErr, OnOk, OnErr, IfNone, Some, None, true};
+ghost use Rattle.kt_curve.specs.declared.cell.CellStop.TheVariants as cell_stop;
+ghost use Rattle.kt_curve.specs.Losses.{KeyLoss, Added, losses_of, all_losses, maximum};
+ghost use Rattle.kt_curve.specs.Standing.{StandsFor, Standing, first_stop, stop_at, sidx_in_range, most_total, total_in, maximum_in, refusal_of, raised};
+ghost use Rattle.kt_curve.specs.Journal.{Puts, Noted};
+
+use crate::cell::{Cell, CellStop, Change, is_added};
+use kt_rec::{CellKey, Occurrence, Perspective};
+use kt_stream::SummaryRecord;
+use std::alloc::Global;
+use std::collections::BTreeMap;
+use std::marker::Model;
+
+/// The most cells.
+const MOST_CELLS: usize = 20_000_000;
+
+/// The greatest total of a key, in cents.
+const MOST_TOTAL: u64 = 1_000_000_000_000_000;
+
+/// The losses of all records that were added: for each perspective, set, summary id, sidx and period the total and the
+/// greatest loss. Only keys with a total above 0 are held.
+#[derive(Drop)]
+pub struct Cells {
+    alloc: Global,
+    periods: u32,
+    samples: u32,
+    map: BTreeMap<CellKey, Cell>,
+}
+
+impl Model for Cells {
+    ghost use Rattle.kt_curve.specs.Standing.{KeptCells, IsKept};
+
+    ghost Value = { KeptCells };
+
+    ghost view = { λ c. record { periods = c.periods; samples = c.samples; entries = c.map.entries } };
+
+    ghost invariant = { λ c. IsKept c.periods c.samples c.map.entries };
+}
+
+/// Why so many cells, among them this one of the key, refuse a loss.
+fn refusal(held: usize, old: Option<Cell>, key: CellKey, loss: u64) -> Option<CellStop>
+    requires total { total_in old ≤ most_total }
+    requires loss { loss ≤ 10 ^ 16 }
+    ensures value { result ≡ refusal_of held old key loss }
+    ensures room { IfNone result (total_in old + loss ≤ most_total) }
+{
+    match old {
+        Some(cell) if cell.total + loss > MOST_TOTAL => Some(CellStop::Period {
+            key,
+            held: cell.total,
+            more: loss,
+        }),
+        None if held >= MOST_CELLS => Some(CellStop::Cells { held: held as u64 }),
+        None if loss > MOST_TOTAL => Some(CellStop::Period {
+            key,
+            held: 0,
+            more: loss,
+        }),
+        _ => None,
+    }
+}
+
+/// The maximum of a key's cell, 0 where it has none.
+fn maximum_in(old: Option<Cell>) -> u64
+    ensures value { result ≡ maximum_in old }
+{
+    match old {
+        Some(cell) => cell.maximum,
+        None => 0,
+    }
+}
+
+/// The cell of a key after one more loss.
+fn raised(old: Option<Cell>, loss: u64) -> Cell
+    requires { total_in old + loss ≤ most_total }
+    ensures value { result ≡ raised old loss }
+{
+    match old {
+        Some(cell) => Cell {
+            total: cell.total + loss,
+            maximum: cell.maximum.max(loss),
+        },
+        None => Cell {
+            total: loss,
+            maximum: loss,
+        },
+    }
+}
+
+impl Cells {
+    /// No cells yet, for so many periods, from 1 to 100,000, and so many samples, from 1 to 1,000. Asks for no memory.
+    pub fn new(alloc: Global, periods: u32, samples: u32) -> Self
+        requires some { 1 ≤ periods }
+        requires few { periods ≤ 100000 }
+        requires some_samples { 1 ≤ samples }
+        requires few_samples { samples ≤ 1000 }
+        ensures value { result ≡ record { periods = periods; samples = samples; entries = [] } }
+    {
+        Cells {
+            alloc,
+            periods,
+            samples,
+            map: BTreeMap::new(alloc),
+        }
+    }
+
+    /// Adds one loss, above 0, to the cell of its key, and notes it in the journal.
+    fn put(&mut self, key: CellKey, loss: u64, journal: &mut Vec<Change>) -> Result<(), CellStop>
+        requires first { 1 ≤ key.period }
+        requires last { key.period ≤ self.old.periods }
+        requires sidx { sidx_in_range self.old.samples key.sidx ≡ true }
+        requires some { 1 ≤ loss }
+        requires loss { loss ≤ 10 ^ 16 }
+        requires journal { All (λ change. change.greatest ≤ most_total) journal.old.items }
+        ensures size { (self.new.periods ≡ self.old.periods) × (self.new.samples ≡ self.old.samples) }
+        ensures journal { All (λ change. change.greatest ≤ most_total) journal.new.items }
+        ensures step { (losses : List KeyLoss) → Standing losses self.old.entries → Puts losses (record { key = key; loss = loss }) result self.new.entries }
+        ensures noted { (losses : List KeyLoss) → Standing losses self.old.entries → Noted losses (record { key = key; loss = loss }) result journal.old.items journal.new.items }
+    {
+        let old = self.map.get(&key).copied();
+        if let Some(stop) = refusal(self.map.len(), old, key, loss) {
+            return Err(stop);
+        }
+        let before = journal.len();
+        let change = Change {
+            key,
+            loss,
+            greatest: maximum_in(old),
+        };
+        match journal.push(change) {
+            Ok(()) => {}
+            Err(_) => return Err(CellStop::OutOfMemory),
+        }
+        match self.map.insert(key, raised(old, loss)) {
+            Ok(_) => return Ok(()),
+            Err(_) => {}
+        }
+        journal.truncate(before);
+        Err(CellStop::OutOfMemory)
+    }
+
+    /// Takes back what the journal notes, the last first.
+    fn take_back(&mut self, change: Change)
+        requires { change.greatest ≤ most_total }
+        ensures size { (self.new.periods ≡ self.old.periods) × (self.new.samples ≡ self.old.samples) }
+        ensures taken { (losses : List KeyLoss) → change.greatest ≡ maximum losses change.key → 1 ≤ change.loss → Standing (losses ++ (record { key = change.key; loss = change.loss }) ∷ []) self.old.entries → Standing losses self.new.entries }
+    {
+        if let Some(cell) = self.map.get(&change.key).copied() {
+            if cell.total <= change.loss {
+                self.map.remove(&change.key);
+            } else {
+                let lowered = Cell {
+                    total: cell.total - change.loss,
+                    maximum: change.greatest,
+                };
+                let _ = self.map.insert(change.key, lowered);
+            }
+        }
+    }
+}

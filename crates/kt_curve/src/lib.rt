@@ -1,0 +1,8 @@
+//! Period totals and maxima of summary records, and the tables of them: average annual loss and exceedance curves.
+#![tactic(auto)]
+
+mod cell;
+mod cells;
+
+pub use cell::CellStop;
+pub use cells::Cells;
