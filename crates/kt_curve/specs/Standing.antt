@@ -1,6 +1,6 @@
 -- What kept cells stand for: the totals and maxima of a list of losses.
 -- The rules: docs/CALCULATION.md, "Periods".
-use Rattle.std.specs.Prelude.{ℕ, zero, suc, ℤ, pos, negsuc, Bool, true, false, ◌&&◌, ◌+◌, ◌^◌, ◌<◌, ◌≤◌, ◌≡◌, List, [], ◌∷◌, ◌++◌, length, All, max, nat_lt, nat_le, if◌then◌else◌, Option, Some, None}
+use Rattle.std.specs.Prelude.{ℕ, zero, suc, ℤ, pos, negsuc, Bool, true, false, ◌&&◌, ◌+◌, ◌^◌, ◌<◌, ◌≤◌, ◌≡◌, List, [], ◌∷◌, ◌++◌, length, All, max, nat_eq, nat_lt, nat_le, if◌then◌else◌, Option, Some, None}
 use Rattle.std.specs.BTreeMap.{is_at}
 use Rattle.std.specs.Map.{lookup}
 use Rattle.kt_rec.specs.contracts.perspective.CellKeyOrd.TheImpl as key_order
@@ -37,8 +37,7 @@ first_stop before (one ∷ rest) = or_else (stop_at before one) (first_stop (bef
 
 -- the cell of a key with this total and this maximum; a key with a total of 0 has none
 abbrev pub cell_of : ℕ → ℕ → Option Cell
-cell_of zero greatest = None
-cell_of (suc n) greatest = Some (record { total = suc n; maximum = greatest })
+cell_of sum greatest = if nat_eq sum 0 then None else Some (record { total = sum; maximum = greatest })
 
 -- the cell that entries have for a key
 abbrev pub cell_at : List (CellKey × Cell) → CellKey → Option Cell

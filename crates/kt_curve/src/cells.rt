@@ -120,8 +120,9 @@ impl Cells {
         ensures noted { (losses : List KeyLoss) → Standing losses self.old.entries → Noted losses (record { key = key; loss = loss }) result journal.old.items journal.new.items }
     {
         let old = self.map.get(&key).copied();
-        if let Some(stop) = refusal(self.map.len(), old, key, loss) {
-            return Err(stop);
+        match refusal(self.map.len(), old, key, loss) {
+            Some(stop) => return Err(stop),
+            None => {}
         }
         let before = journal.len();
         let change = Change {
