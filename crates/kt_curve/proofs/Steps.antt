@@ -1,5 +1,5 @@
 -- One more loss at the end of a list: what it does to totals, maxima, the number of cells and what stands for them.
-use Rattle.std.proofs.Common.{◌≡◌, ◌⊎◌, inl, inr, ⊎_elim, ℕ, zero, suc, ◌+◌, ◌<◌, ◌≤◌, List, [], ◌∷◌, ◌++◌, length, arith, refl, sym, ap, ◌∙◌, append_assoc, rules, cond}
+use Rattle.std.proofs.Common.{◌≡◌, ◌⊎◌, inl, inr, ⊎_elim, ℕ, zero, suc, ◌+◌, ◌-◌, ◌<◌, ◌≤◌, List, [], ◌∷◌, ◌++◌, length, arith, refl, sym, ap, ◌∙◌, append_assoc, rules, cond}
 use Rattle.std.specs.Prelude.{Bool, true, false, ◌&&◌, max, nat_lt, nat_eq, nat_le, Option, Some, None, is_some}
 use Rattle.std.specs.BTreeMap.{is_at}
 use Rattle.std.proofs.lemmas.List.Sums.{sum_by_push, sum_by-cons}
@@ -18,15 +18,15 @@ abbrev pub to_key : CellKey → ℕ → KeyLoss
 to_key key loss = record { key = key; loss = loss }
 
 -- the loss of one at a key
-abbrev loss_at : KeyLoss → CellKey → ℕ
-loss_at one key = cond (same_key one.key key) one.loss 0
+abbrev loss_for : KeyLoss → CellKey → ℕ
+loss_for one key = cond (same_key one.key key) one.loss 0
 
 -- a total with one more loss
-pub total_push : (losses : List KeyLoss) (one : KeyLoss) (q : CellKey) → total (losses ++ one ∷ []) q ≡ total losses q + loss_at one q
-total_push losses one q = sum_by_push (λ (l : KeyLoss). loss_at l q) losses one
+pub total_push : (losses : List KeyLoss) (one : KeyLoss) (q : CellKey) → total (losses ++ one ∷ []) q ≡ total losses q + loss_for one q
+total_push losses one q = sum_by_push (λ (l : KeyLoss). loss_for l q) losses one
 
 -- a maximum with one more loss
-pub maximum_push : (losses : List KeyLoss) (one : KeyLoss) (q : CellKey) → maximum (losses ++ one ∷ []) q ≡ max (maximum losses q) (loss_at one q)
+pub maximum_push : (losses : List KeyLoss) (one : KeyLoss) (q : CellKey) → maximum (losses ++ one ∷ []) q ≡ max (maximum losses q) (loss_for one q)
 maximum_push [] one q = omega arith
 maximum_push (x ∷ rest) one q = omega (arith, maximum_push rest one q)
 
@@ -71,7 +71,7 @@ maximum_of_cell (suc t) g none = ap maximum_in (cell_some (suc t) g (omega arith
 -- no loss is above its total, so a total of 0 has a maximum of 0
 pub maximum-le-total : (losses : List KeyLoss) (q : CellKey) → maximum losses q ≤ total losses q
 maximum-le-total [] q = omega arith
-maximum-le-total (x ∷ rest) q = omega (arith, maximum-le-total rest q, sum_by-cons (λ (l : KeyLoss). loss_at l q) x rest)
+maximum-le-total (x ∷ rest) q = omega (arith, maximum-le-total rest q, sum_by-cons (λ (l : KeyLoss). loss_for l q) x rest)
 
 -- a cell of two amounts
 abbrev cell : ℕ → ℕ → Option Cell
@@ -205,3 +205,34 @@ put_stop losses es key loss held old stop some stands old_is held_is refused =
 pub put_noted : (losses : List KeyLoss) (es : List (CellKey × Cell)) (key : CellKey) (old : Option Cell) → Standing losses es → old ≡ cell_at es key → maximum_in old ≡ maximum losses key
 put_noted losses es key old stands old_is =
     ap maximum_in (old_is ∙ stands.cells key) ∙ maximum_of_cell (total losses key) (maximum losses key) (λ none. omega (arith, maximum-le-total losses key))
+
+-- the cells without the last loss: its key is taken out where nothing is left
+pub take_out : (losses : List KeyLoss) (es new : List (CellKey × Cell)) (key : CellKey) (loss : ℕ) (here : Cell) → 1 ≤ loss → Standing (losses ++ to_key key loss ∷ []) es →
+    Some here ≡ cell_at es key → here.total ≤ loss →
+    ((q : CellKey) → cell_at new q ≡ cond (same_key key q) None (cell_at es q)) → length new + 1 ≡ length es → Standing losses new
+take_out losses es new key loss here some stands found low cells count =
+    let is : cell here.total here.maximum ≡ cell (total losses key + loss) (max (maximum losses key) loss) = found ∙ cell_behind losses es key loss some stands in
+    let total_is : here.total ≡ total losses key + loss = ap total_in is in
+    let none : total losses key ≡ 0 = omega arith in
+    standing_pop losses es new key loss some stands
+    (λ q. cells q ∙ ap (λ o. cond (same_key key q) o (cell_at es q)) (sym (ap (λ t. cell_of t (maximum losses key)) none)))
+    (rw none count)
+
+-- the cells without the last loss: its key has what is left, and the maximum of before
+pub take_down : (losses : List KeyLoss) (es new : List (CellKey × Cell)) (key : CellKey) (loss greatest : ℕ) (here lowered : Cell) → 1 ≤ loss → Standing (losses ++ to_key key loss ∷ []) es →
+    greatest ≡ maximum losses key → Some here ≡ cell_at es key → loss < here.total → lowered ≡ record { total = here.total - loss; maximum = greatest } →
+    ((q : CellKey) → cell_at new q ≡ cond (same_key key q) (Some lowered) (cell_at es q)) → length new ≡ length es → Standing losses new
+take_down losses es new key loss greatest here lowered some stands greatest_is found high lowered_is cells count =
+    let is : cell here.total here.maximum ≡ cell (total losses key + loss) (max (maximum losses key) loss) = found ∙ cell_behind losses es key loss some stands in
+    let total_is : here.total ≡ total losses key + loss = ap total_in is in
+    let left : here.total - loss ≡ total losses key = omega arith in
+    let above : nat_eq (total losses key) 0 ≡ false = grind (arith, nat_tests) in
+    let some_is : Some lowered ≡ cell_of (total losses key) (maximum losses key) = ap Some lowered_is ∙ same_cell _ _ _ _ left greatest_is ∙ sym (cell_some (total losses key) (maximum losses key) (omega arith)) in
+    standing_pop losses es new key loss some stands
+    (λ q. cells q ∙ ap (λ o. cond (same_key key q) o (cell_at es q)) some_is)
+    (omega (arith, count, ap one_if above))
+
+-- an amount is not above a list's total where its cell is missing
+pub never_missing : (losses : List KeyLoss) (es : List (CellKey × Cell)) (key : CellKey) (loss : ℕ) → 1 ≤ loss → Standing (losses ++ to_key key loss ∷ []) es → cell_at es key ≡ None → ⊥
+never_missing losses es key loss some stands missing =
+    let total_is : 0 ≡ total losses key + loss = ap total_in (sym missing ∙ cell_behind losses es key loss some stands) in omega arith

@@ -5,8 +5,8 @@ use Rattle.kt_curve.specs.declared.cell.Cell.{Cell}
 use Rattle.kt_curve.specs.declared.cell.Change.{Change}
 use Rattle.kt_curve.specs.declared.cell.CellStop.{CellStop}
 use Rattle.kt_curve.specs.declared.cell.CellStop.TheVariants as cell_stop
-use Rattle.kt_curve.specs.Losses.{KeyLoss, maximum}
-use Rattle.kt_curve.specs.Standing.{Standing, stop_at}
+use Rattle.kt_curve.specs.Losses.{KeyLoss, Added, all_losses, losses_of, maximum}
+use Rattle.kt_curve.specs.Standing.{Standing, StandsFor, KeptCells, stop_at, first_stop}
 
 -- what one more loss does to cells that stand for these losses: they stand for the list with the loss last, or they stand
 -- for the list as it was and the answer is the cause, or want of memory
@@ -31,3 +31,27 @@ Noted losses one (Err stop) old new = new ≡ old
 abbrev pub Recalls : List KeyLoss → List Change → Type 0
 Recalls before [] = Unit {0}
 Recalls before (change ∷ later) = (1 ≤ change.loss) × (change.greatest ≡ maximum before change.key) × Recalls (before ++ loss_of change ∷ []) later
+
+-- the cells after some losses of a record: they stand for them, none is refused, and the changes note them all
+pub record Going (before done : List KeyLoss) (changes : List Change) (entries : List (CellKey × Cell)) : Type 0 where
+  pub stands : Standing (before ++ done) entries
+  pub clear : first_stop before done ≡ None
+  pub noted : noted_losses changes ≡ done
+  pub recalls : Recalls before changes
+
+-- changes that can be taken back
+pub record Returns (before : List KeyLoss) (changes : List Change) (entries : List (CellKey × Cell)) : Type 0 where
+  pub stands : Standing (before ++ noted_losses changes) entries
+  pub recalls : Recalls before changes
+
+-- what further losses do to the cells: all are in, or the answer is the first cause, or want of memory, and what was done
+-- can be taken back
+abbrev pub GoesOn : List KeyLoss → List KeyLoss → List KeyLoss → Result Unit CellStop → List Change → List (CellKey × Cell) → Type 0
+GoesOn before done further (Ok all) changes entries = Going before (done ++ further) changes entries
+GoesOn before done further (Err stop) changes entries = ((stop ≡ cell_stop.OutOfMemory) ⊎ (first_stop before (done ++ further) ≡ Some stop)) × Returns before changes entries
+
+-- what a record does to the cells: they stand for the list with the record last, or the answer is the first cause, or want
+-- of memory, and they stand for the list as it was
+abbrev pub Adds : List Added → Added → Result Unit CellStop → KeptCells → Type 0
+Adds history added (Ok done) kept = (first_stop (all_losses history) (losses_of added) ≡ None) × StandsFor (history ++ added ∷ []) kept
+Adds history added (Err stop) kept = ((stop ≡ cell_stop.OutOfMemory) ⊎ (first_stop (all_losses history) (losses_of added) ≡ Some stop)) × StandsFor history kept

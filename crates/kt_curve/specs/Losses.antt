@@ -35,10 +35,17 @@ abbrev pub key_of : Perspective → ℕ → ℕ → ℤ → ℕ → CellKey
 key_of perspective set summary sidx period =
     record { perspective = perspective; set = set; summary = summary; sidx = sidx; period = period }
 
+-- whether the loss of a pair is added up: it is above 0, and its sidx has cells
+abbrev pub is_added : Pair → Bool
+is_added pair = has_cells pair.sidx && nat_lt 0 pair.loss
+
+-- the loss of a pair at an occurrence
+abbrev pub loss_at : Perspective → ℕ → ℕ → Pair → Occurrence → KeyLoss
+loss_at perspective set summary pair occurrence = record { key = key_of perspective set summary pair.sidx occurrence.period_no; loss = pair.loss }
+
 -- the losses of a pair, one for each occurrence
 abbrev pub pair_losses : Perspective → ℕ → ℕ → List Occurrence → Pair → List KeyLoss
-pair_losses perspective set summary at pair =
-    if has_cells pair.sidx then map (λ occurrence. record { key = key_of perspective set summary pair.sidx occurrence.period_no; loss = pair.loss }) at else []
+pair_losses perspective set summary at pair = if is_added pair then map (loss_at perspective set summary pair) at else []
 
 -- the losses of a record: pair by pair, and occurrence by occurrence
 abbrev pub losses_of : Added → List KeyLoss

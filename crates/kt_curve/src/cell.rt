@@ -1,7 +1,7 @@
 //! The total and the maximum of one key, and why cells refuse a record.
 //! The rules: docs/CALCULATION.md, "Periods".
 ghost use Rattle.std.specs.Prelude.{◌≡◌};
-ghost use Rattle.kt_curve.specs.Losses.{has_cells};
+ghost use Rattle.kt_curve.specs.Losses.{has_cells, is_added};
 
 use kt_rec::CellKey;
 use kt_stream::Pair;
@@ -47,8 +47,15 @@ pub enum CellStop {
     OutOfMemory,
 }
 
-/// Whether the losses of a pair are added up.
+/// Whether the loss of a pair is added up: that of sidx -1 or from 1 up, where it is above 0.
 pub(crate) fn is_added(pair: &Pair) -> bool
+    ensures { result ≡ is_added pair.now }
+{
+    has_cells(pair) && 0 < pair.loss
+}
+
+/// Whether the sidx of a pair has cells.
+fn has_cells(pair: &Pair) -> bool
     ensures { result ≡ has_cells pair.now.sidx }
 {
     match pair.sidx {

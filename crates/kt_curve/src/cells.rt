@@ -1,14 +1,14 @@
 //! The period totals and maxima of all records that were added.
 //! The rules: docs/CALCULATION.md, "Periods".
-ghost use Rattle.std.specs.Prelude.{◌≡◌, ◌⊎◌, ◌+◌, ◌≤◌, ◌^◌, ℕ, pos, ◌≤ℤ◌, List, [], ◌∷◌, ◌++◌, All, IsTrue, IfErr, OnOk, OnErr, IfNone, Some, None, true};
+ghost use Rattle.std.specs.Prelude.{◌≡◌, ◌⊎◌, ◌+◌, ◌≤◌, ◌^◌, ℕ, pos, ◌≤ℤ◌, List, [], ◌∷◌, ◌++◌, map, All, IsTrue, IfErr, OnOk, OnErr, IfNone, Some, None, true};
 ghost use Rattle.kt_curve.specs.declared.cell.CellStop.TheVariants as cell_stop;
-ghost use Rattle.kt_curve.specs.Losses.{KeyLoss, Added, losses_of, all_losses, maximum};
+ghost use Rattle.kt_curve.specs.Losses.{KeyLoss, Added, losses_of, all_losses, maximum, is_added, loss_at};
 ghost use Rattle.kt_curve.specs.Standing.{StandsFor, Standing, first_stop, stop_at, sidx_in_range, most_total, total_in, maximum_in, refusal_of, raised};
-ghost use Rattle.kt_curve.specs.Journal.{Puts, Noted};
+ghost use Rattle.kt_curve.specs.Journal.{Puts, Noted, Going, GoesOn, Returns, Adds};
 
 use crate::cell::{Cell, CellStop, Change, is_added};
 use kt_rec::{CellKey, Occurrence, Perspective};
-use kt_stream::SummaryRecord;
+use kt_stream::{Pair, SummaryRecord};
 use std::alloc::Global;
 use std::collections::BTreeMap;
 use std::marker::Model;
@@ -159,5 +159,83 @@ impl Cells {
                 let _ = self.map.insert(change.key, lowered);
             }
         }
+    }
+
+    /// Takes back what the changes note, the last first.
+    fn take_all_back(&mut self, mut journal: Vec<Change>)
+        requires { All (λ change. change.greatest ≤ most_total) journal.items }
+        ensures size { (self.new.periods ≡ self.old.periods) × (self.new.samples ≡ self.old.samples) }
+        ensures returned { (before : List KeyLoss) → Returns before journal.items self.old.entries → Standing before self.new.entries }
+    {
+        while let Some(change) = journal.pop() {
+            self.take_back(change);
+        }
+    }
+
+    /// Adds the losses of a pair, occurrence by occurrence.
+    fn add_pair(
+        &mut self,
+        perspective: Perspective,
+        set: u32,
+        summary: u32,
+        pair: &Pair,
+        at: &[Occurrence],
+        journal: &mut Vec<Change>,
+    ) -> Result<(), CellStop>
+        requires periods { All (λ occurrence. (1 ≤ occurrence.period_no) × (occurrence.period_no ≤ self.old.periods)) at.now }
+        requires added { is_added pair.now ≡ true }
+        requires sidx { sidx_in_range self.old.samples pair.now.sidx ≡ true }
+        requires loss { pair.now.loss ≤ 10 ^ 16 }
+        requires journal { All (λ change. change.greatest ≤ most_total) journal.old.items }
+        ensures size { (self.new.periods ≡ self.old.periods) × (self.new.samples ≡ self.old.samples) }
+        ensures journal { All (λ change. change.greatest ≤ most_total) journal.new.items }
+        ensures step { (before done : List KeyLoss) → Going before done journal.old.items self.old.entries → GoesOn before done (map (loss_at perspective set summary pair.now) at.now) result journal.new.items self.new.entries }
+    {
+        for occurrence in at {
+            let key = CellKey {
+                perspective,
+                set,
+                summary,
+                sidx: pair.sidx,
+                period: occurrence.period_no,
+            };
+            match self.put(key, pair.loss, journal) {
+                Ok(()) => {}
+                Err(stop) => return Err(stop),
+            }
+        }
+        Ok(())
+    }
+
+    /// Adds a record's losses to the totals and maxima of the periods in which its event occurs. An error names the first
+    /// pair and occurrence that pass a limit, or is want of memory; the cells then stand for what they stood for before.
+    /// The periods of the occurrences are those of the cells, the sidx at most their samples, and each loss at most 10^16
+    /// cents. A sidx that is neither -1 nor from 1 up is passed over.
+    pub fn add(
+        &mut self,
+        perspective: Perspective,
+        set: u32,
+        entry: &SummaryRecord,
+        at: &[Occurrence],
+    ) -> Result<(), CellStop>
+        requires periods { All (λ occurrence. (1 ≤ occurrence.period_no) × (occurrence.period_no ≤ self.old.periods)) at.now }
+        requires sidx { All (λ pair. pair.sidx ≤ℤ pos self.old.samples) entry.now.pairs }
+        requires losses { All (λ pair. pair.loss ≤ 10 ^ 16) entry.now.pairs }
+        ensures added { (history : List Added) → StandsFor history self.old → Adds history (record { perspective = perspective; set = set; entry = entry.now; at = at.now }) result self.new }
+        ensures size { (self.new.periods ≡ self.old.periods) × (self.new.samples ≡ self.old.samples) }
+    {
+        let mut journal = Vec::new(self.alloc);
+        for pair in entry.pairs.as_slice() {
+            if is_added(pair) {
+                match self.add_pair(perspective, set, entry.summary, pair, at, &mut journal) {
+                    Ok(()) => {}
+                    Err(stop) => {
+                        self.take_all_back(journal);
+                        return Err(stop);
+                    }
+                }
+            }
+        }
+        Ok(())
     }
 }
