@@ -30,7 +30,8 @@ pub maximum_push : (losses : List KeyLoss) (one : KeyLoss) (q : CellKey) → max
 maximum_push [] one q = omega arith
 maximum_push (x ∷ rest) one q = omega (arith, maximum_push rest one q)
 
-append_nil : {A : Type 0} (xs : List A) → xs ++ [] ≡ xs
+-- nothing behind a list
+pub append_nil : {A : Type 0} (xs : List A) → xs ++ [] ≡ xs
 append_nil [] = refl
 append_nil (x ∷ xs) = ap (λ ys. x ∷ ys) (append_nil xs)
 

@@ -1,8 +1,9 @@
 //! The period totals and maxima of all records that were added.
 //! The rules: docs/CALCULATION.md, "Periods".
 ghost use Rattle.std.specs.Prelude.{◌≡◌, ◌⊎◌, ◌+◌, ◌≤◌, ◌^◌, ℕ, pos, ◌≤ℤ◌, List, [], ◌∷◌, ◌++◌, map, All, IsTrue, IfErr, OnOk, OnErr, IfNone, Some, None, true};
+ghost use Rattle.std.specs.List.{flat_map};
 ghost use Rattle.kt_curve.specs.declared.cell.CellStop.TheVariants as cell_stop;
-ghost use Rattle.kt_curve.specs.Losses.{KeyLoss, Added, losses_of, all_losses, maximum, is_added, loss_at};
+ghost use Rattle.kt_curve.specs.Losses.{KeyLoss, Added, losses_of, all_losses, maximum, is_added, loss_at, key_of, pair_losses};
 ghost use Rattle.kt_curve.specs.Standing.{StandsFor, Standing, first_stop, stop_at, sidx_in_range, most_total, total_in, maximum_in, refusal_of, raised};
 ghost use Rattle.kt_curve.specs.Journal.{Puts, Noted, Going, GoesOn, Returns, Adds};
 
@@ -37,6 +38,25 @@ impl Model for Cells {
     ghost view = { λ c. record { periods = c.periods; samples = c.samples; entries = c.map.entries } };
 
     ghost invariant = { λ c. IsKept c.periods c.samples c.map.entries };
+}
+
+/// The key to which a pair's loss falls at an occurrence.
+fn key_of(
+    perspective: Perspective,
+    set: u32,
+    summary: u32,
+    pair: &Pair,
+    occurrence: &Occurrence,
+) -> CellKey
+    ensures value { result ≡ key_of perspective set summary pair.now.sidx occurrence.now.period_no }
+{
+    CellKey {
+        perspective,
+        set,
+        summary,
+        sidx: pair.sidx,
+        period: occurrence.period_no,
+    }
 }
 
 /// Why so many cells, among them this one of the key, refuse a loss.
@@ -192,14 +212,38 @@ impl Cells {
         ensures step { (before done : List KeyLoss) → Going before done journal.old.items self.old.entries → GoesOn before done (map (loss_at perspective set summary pair.now) at.now) result journal.new.items self.new.entries }
     {
         for occurrence in at {
-            let key = CellKey {
-                perspective,
-                set,
-                summary,
-                sidx: pair.sidx,
-                period: occurrence.period_no,
-            };
+            let key = key_of(perspective, set, summary, pair, occurrence);
             match self.put(key, pair.loss, journal) {
+                Ok(()) => {}
+                Err(stop) => return Err(stop),
+            }
+        }
+        Ok(())
+    }
+
+    /// Adds the losses of the pairs, pair by pair.
+    fn add_pairs(
+        &mut self,
+        perspective: Perspective,
+        set: u32,
+        summary: u32,
+        pairs: &[Pair],
+        at: &[Occurrence],
+        journal: &mut Vec<Change>,
+    ) -> Result<(), CellStop>
+        requires periods { All (λ occurrence. (1 ≤ occurrence.period_no) × (occurrence.period_no ≤ self.old.periods)) at.now }
+        requires sidx { All (λ pair. pair.sidx ≤ℤ pos self.old.samples) pairs.now }
+        requires losses { All (λ pair. pair.loss ≤ 10 ^ 16) pairs.now }
+        requires journal { journal.old.items ≡ [] }
+        ensures size { (self.new.periods ≡ self.old.periods) × (self.new.samples ≡ self.old.samples) }
+        ensures journal { All (λ change. change.greatest ≤ most_total) journal.new.items }
+        ensures step { (before : List KeyLoss) → Standing before self.old.entries → GoesOn before [] (flat_map (pair_losses perspective set summary at.now) pairs.now) result journal.new.items self.new.entries }
+    {
+        for pair in pairs {
+            if !is_added(pair) {
+                continue;
+            }
+            match self.add_pair(perspective, set, summary, pair, at, journal) {
                 Ok(()) => {}
                 Err(stop) => return Err(stop),
             }
@@ -225,17 +269,19 @@ impl Cells {
         ensures size { (self.new.periods ≡ self.old.periods) × (self.new.samples ≡ self.old.samples) }
     {
         let mut journal = Vec::new(self.alloc);
-        for pair in entry.pairs.as_slice() {
-            if is_added(pair) {
-                match self.add_pair(perspective, set, entry.summary, pair, at, &mut journal) {
-                    Ok(()) => {}
-                    Err(stop) => {
-                        self.take_all_back(journal);
-                        return Err(stop);
-                    }
-                }
+        match self.add_pairs(
+            perspective,
+            set,
+            entry.summary,
+            entry.pairs.as_slice(),
+            at,
+            &mut journal,
+        ) {
+            Ok(()) => Ok(()),
+            Err(stop) => {
+                self.take_all_back(journal);
+                Err(stop)
             }
         }
-        Ok(())
     }
 }
