@@ -1,13 +1,15 @@
 //! The period totals and maxima of all records that were added.
 //! The rules: docs/CALCULATION.md, "Periods".
-ghost use Rattle.std.specs.Prelude.{◌≡◌, ◌⊎◌, ◌+◌, ◌≤◌, ◌^◌, ℕ, pos, ◌≤ℤ◌, List, [], ◌∷◌, ◌++◌, map, All, IsTrue, IfErr, OnOk, OnErr, IfNone, Some, None, true};
+ghost use Rattle.std.specs.Prelude.{◌≡◌, ◌⊎◌, ◌+◌, ◌≤◌, ◌^◌, ℕ, pos, ◌≤ℤ◌, List, [], ◌∷◌, ◌++◌, map, All, IsTrue, IfErr, IfOk, OnOk, OnErr, IfNone, Some, None, true};
 ghost use Rattle.std.specs.List.{flat_map};
 ghost use Rattle.kt_curve.specs.declared.cell.CellStop.TheVariants as cell_stop;
 ghost use Rattle.kt_curve.specs.Losses.{KeyLoss, Added, losses_of, all_losses, maximum, is_added, loss_at, key_of, pair_losses};
 ghost use Rattle.kt_curve.specs.Standing.{StandsFor, Standing, first_stop, stop_at, sidx_in_range, most_total, total_in, maximum_in, refusal_of, raised};
+ghost use Rattle.kt_curve.specs.Grid.{in_set, set_entries, same_perspective};
 ghost use Rattle.kt_curve.specs.Journal.{Puts, Noted, Going, GoesOn, Returns, Adds};
 
 use crate::cell::{Cell, CellStop, Change, is_added};
+use kt_money::OutOfMemory;
 use kt_rec::{CellKey, Occurrence, Perspective};
 use kt_stream::{Pair, SummaryRecord};
 use std::alloc::Global;
@@ -284,4 +286,36 @@ impl Cells {
             }
         }
     }
+
+    /// The entries of a perspective and set, by rising key. An error is want of memory.
+    pub(crate) fn set_entries(
+        &self,
+        perspective: Perspective,
+        set: u32,
+    ) -> Result<Vec<(CellKey, Cell)>, OutOfMemory>
+        ensures { IfOk result (λ found. found.items ≡ set_entries perspective set self.now.entries) }
+    {
+        self.map
+            .iter()
+            .filter(|entry| is_in_set(entry.0, perspective, set))
+            .map(|entry| (*entry.0, *entry.1))
+            .collect(self.alloc)
+    }
+}
+
+/// Whether a key is of a perspective and set.
+fn is_in_set(key: &CellKey, perspective: Perspective, set: u32) -> bool
+    ensures value { result ≡ in_set perspective set key.now }
+{
+    is_perspective(key.perspective, perspective) && key.set == set
+}
+
+/// Whether two perspectives are the same.
+fn is_perspective(one: Perspective, other: Perspective) -> bool
+    ensures value { result ≡ same_perspective one other }
+{
+    matches!(
+        (one, other),
+        (Perspective::Gul, Perspective::Gul) | (Perspective::Il, Perspective::Il) | (Perspective::Ri, Perspective::Ri)
+    )
 }
