@@ -2,3 +2,4 @@ pub mod Keys
 pub mod Steps
 pub mod Walks
 pub mod Grids
+pub mod Moments

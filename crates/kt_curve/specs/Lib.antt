@@ -2,3 +2,4 @@ pub mod Losses
 pub mod Standing
 pub mod Journal
 pub mod Grid
+pub mod Average

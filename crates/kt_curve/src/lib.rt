@@ -1,8 +1,10 @@
 //! Period totals and maxima of summary records, and the tables of them: average annual loss and exceedance curves.
 #![tactic(auto)]
 
+mod average;
 mod cell;
 mod cells;
 
+pub use average::aal_heading;
 pub use cell::CellStop;
 pub use cells::Cells;
