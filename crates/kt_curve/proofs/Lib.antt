@@ -3,3 +3,4 @@ pub mod Steps
 pub mod Walks
 pub mod Grids
 pub mod Moments
+pub mod Parts

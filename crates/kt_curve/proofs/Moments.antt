@@ -93,3 +93,16 @@ group_moments p s n samples u group mean count is = same_moments count _ _ _ _ s
 pub length_amounts : (es : List (CellKey × Cell)) → length (map (λ (entry : CellKey × Cell). total_in (Some entry.1)) es) ≡ length es
 length_amounts [] = refl
 length_amounts (e ∷ es) = ap suc (length_amounts es)
+
+-- a mean and a deviation
+abbrev pair : ℕ → ℕ → MeanSd
+pair m d = record { mean = m; sd = d }
+
+-- the mean and the deviation, part by part
+pub moments_parts : (result : MeanSd) (n : ℕ) (amounts : List ℕ) (count : ℕ) (others : List ℕ) → result.mean ≡ mean_of n (sum amounts) → result.sd ≡ deviation_of n (sum amounts) (sum_by (λ amount. amount * amount) amounts) →
+    n ≡ count → amounts ≡ others → result ≡ moments_of count others
+moments_parts result n amounts count others mean sd count_is same =
+    parts result.mean (mean_of n (sum amounts)) result.sd (deviation_of n (sum amounts) (sum_by (λ amount. amount * amount) amounts)) mean sd ∙ ap (λ m. moments_of m amounts) count_is ∙ ap (moments_of count) same
+  where
+    parts : (a b c d : ℕ) → a ≡ b → c ≡ d → pair a c ≡ pair b d
+    parts a b c d e f = cc

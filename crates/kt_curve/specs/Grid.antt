@@ -1,6 +1,6 @@
 -- The values of a summary in all periods, zeros included, and their mean and deviation.
 -- The rules: docs/CALCULATION.md, "Average annual loss".
-use Rattle.std.specs.Prelude.{Bool, true, false, ◌&&◌, nat_eq, nat_lt, if◌then◌else◌, ◌≤◌, ◌≡◌, All, ℕ, ◌*◌, ℤ, pos, negsuc, List, [], ◌∷◌, map, sum, sum_by}
+use Rattle.std.specs.Prelude.{Bool, true, false, ◌&&◌, nat_eq, nat_lt, suc, if◌then◌else◌, ◌≤◌, ◌≡◌, All, ℕ, ◌*◌, ℤ, pos, negsuc, List, [], ◌∷◌, map, sum, sum_by}
 use Rattle.std.specs.List.{flat_map, range_with_len, filter}
 use Rattle.kt_money.specs.Rounding.{mean_of, deviation_of}
 use Rattle.kt_money.specs.declared.moments.MeanSd.{MeanSd}
@@ -88,3 +88,22 @@ of_kind mean entry = same_bool (is_mean entry.0.sidx) mean
 abbrev pub sidx_of_kind : Bool → ℕ → List ℤ
 sidx_of_kind true samples = mean_sidx
 sidx_of_kind false samples = sample_sidx samples
+
+-- entries of a perspective and set, within the bounds of their cells and by rising key
+pub record IsPart (perspective : Perspective) (set periods samples : ℕ) (entries : List (CellKey × Cell)) : Type 0 where
+  pub some : 1 ≤ periods
+  pub few : periods ≤ 100000
+  pub some_samples : 1 ≤ samples
+  pub few_samples : samples ≤ 1000
+  pub fitting : All (λ entry. FitsCells periods samples entry.0 entry.1) entries
+  pub sorted : IsStrictlySortedBy key_order.ghosts.cmp (keys_of entries)
+  pub own : All (λ entry. (entry.0.perspective ≡ perspective) × (entry.0.set ≡ set)) entries
+
+-- a text for each summary among the entries, by rising id
+abbrev pub by_summary : Perspective → ℕ → (ℕ → List (CellKey × Cell) → List ℕ) → List (CellKey × Cell) → List ℕ
+by_summary perspective set text entries = flat_map (λ summary. text summary (summary_entries summary entries)) (summary_ids perspective set (keys_of entries))
+
+-- how many of the first entries are of one summary
+abbrev pub group_length : ℕ → List (CellKey × Cell) → ℕ
+group_length summary [] = 0
+group_length summary (entry ∷ entries) = if nat_eq entry.0.summary summary then suc (group_length summary entries) else 0

@@ -1,6 +1,6 @@
 //! The table of average annual losses.
 //! The rules: docs/CALCULATION.md, "Average annual loss"; docs/OUTPUTS.md, "Average annual loss table".
-ghost use Rattle.std.specs.Prelude.{◌≡◌, ◌+◌, ◌*◌, ◌≤◌, ◌^◌, ℕ, List, [], ◌∷◌, ◌++◌, map, sum, sum_by, length, All, IfOk, OnOk, OnErr, Bool, Some, cond};
+ghost use Rattle.std.specs.Prelude.{◌≡◌, ◌+◌, ◌*◌, ◌≤◌, ◌^◌, ℕ, List, [], ◌∷◌, ◌++◌, map, sum, sum_by, length, All, IfOk, OnOk, OnErr, Bool, Some, if◌then◌else◌};
 ghost use Rattle.std.specs.List.{filter};
 ghost use Rattle.kt_money.specs.Rounding.{mean_of, deviation_of};
 ghost use Rattle.kt_curve.specs.Grid.{is_mean, of_kind, sidx_of_kind, keys_for, moments_of, IsGroup, same_bool};
@@ -68,7 +68,7 @@ fn moments(amounts: &[u64], count: u64) -> MeanSd
 pub(crate) fn count_of(periods: u32, samples: u32, mean: bool) -> u64
     requires periods { periods ≤ 100000 }
     requires samples { samples ≤ 1000 }
-    ensures { result ≡ cond mean periods (periods * samples) }
+    ensures { result ≡ (if mean then periods else periods * samples) }
 {
     if mean {
         u64::from(periods)
@@ -88,7 +88,7 @@ fn group_moments(
 ) -> Result<MeanSd, OutOfMemory>
     requires { (perspective : Perspective) × (set : ℕ) × (summary : ℕ) × IsGroup perspective set periods samples summary group.now }
     ensures { IfOk result (λ moments. (perspective : Perspective) (set summary : ℕ) → IsGroup perspective set periods samples summary group.now →
-        moments ≡ moments_of (length (keys_for perspective set summary (sidx_of_kind mean samples) periods)) (map (λ key. total_in (cell_at group.now key)) (keys_for perspective set summary (sidx_of_kind mean samples) periods))) }
+        moments ≡ moments_of (if mean then periods else periods * samples) (map (λ key. total_in (cell_at group.now key)) (keys_for perspective set summary (sidx_of_kind mean samples) periods))) }
 {
     let amounts = totals(alloc, group, mean)?;
     let count = count_of(periods, samples, mean);

@@ -4,6 +4,7 @@
 mod average;
 mod cell;
 mod cells;
+mod group;
 
 pub use average::aal_heading;
 pub use cell::CellStop;
