@@ -3,14 +3,17 @@
 ghost use Rattle.std.specs.Prelude.{◌≡◌, ◌+◌, ◌*◌, ◌≤◌, ◌^◌, ℕ, List, [], ◌∷◌, ◌++◌, map, sum, sum_by, length, All, IfOk, OnOk, OnErr, Bool, Some, if◌then◌else◌};
 ghost use Rattle.std.specs.List.{filter};
 ghost use Rattle.kt_money.specs.Rounding.{mean_of, deviation_of};
-ghost use Rattle.kt_curve.specs.Grid.{is_mean, of_kind, sidx_of_kind, keys_for, moments_of, IsGroup, same_bool};
-ghost use Rattle.kt_curve.specs.Standing.{cell_at, total_in, most_total};
+ghost use Rattle.kt_curve.specs.Grid.{is_mean, of_kind, sidx_of_kind, keys_for, moments_of, IsGroup, IsPart, by_summary, same_bool};
+ghost use Rattle.kt_curve.specs.Losses.{Added, all_losses};
+ghost use Rattle.kt_curve.specs.Standing.{StandsFor, cell_at, total_in, most_total};
 ghost use Rattle.kt_rec.specs.declared.perspective.Perspective.{Perspective};
-ghost use Rattle.kt_curve.specs.Average.{aal_heading_text, aal_row};
+ghost use Rattle.kt_curve.specs.Average.{aal_heading_text, aal_row, aal_rows, average_annual_loss_rows};
 
 use crate::cell::Cell;
-use kt_money::{MeanSd, OutOfMemory, mean_sd};
-use kt_rec::CellKey;
+use crate::cells::Cells;
+use crate::group::group_length;
+use kt_money::{Bytes, MeanSd, OutOfMemory, Row, mean_sd};
+use kt_rec::{CellKey, Perspective};
 use std::alloc::Global;
 
 /// The first line of a table of average annual losses, with its LF: the names of the columns.
@@ -93,4 +96,91 @@ fn group_moments(
     let amounts = totals(alloc, group, mean)?;
     let count = count_of(periods, samples, mean);
     Ok(moments(amounts.as_slice(), count))
+}
+
+/// Appends a row: the summary id, the type, the mean and the deviation. An error is want of memory.
+fn append_row(
+    out: &mut Bytes,
+    summary: u32,
+    kind: u32,
+    moments: MeanSd,
+) -> Result<(), OutOfMemory>
+    ensures ok { OnOk result (out.new ≡ out.old ++ aal_row summary kind moments) }
+{
+    let mut row = Row::new();
+    row.put_byte(b'\n');
+    row.put_money(moments.sd);
+    row.put_byte(b',');
+    row.put_money(moments.mean);
+    row.put_byte(b',');
+    row.put_count(u64::from(kind));
+    row.put_byte(b',');
+    row.put_count(u64::from(summary));
+    out.append(row.as_slice())
+}
+
+/// Appends the two rows of a summary. An error is want of memory.
+fn append_summary(
+    out: &mut Bytes,
+    alloc: Global,
+    summary: u32,
+    group: &[(CellKey, Cell)],
+    periods: u32,
+    samples: u32,
+) -> Result<(), OutOfMemory>
+    requires { (perspective : Perspective) × (set : ℕ) × IsGroup perspective set periods samples summary group.now }
+    ensures ok { OnOk result ((perspective : Perspective) (set : ℕ) → IsGroup perspective set periods samples summary group.now →
+        out.new ≡ out.old ++ aal_rows perspective set periods samples (λ key. total_in (cell_at group.now key)) summary) }
+{
+    let analytical = group_moments(alloc, group, periods, samples, true)?;
+    let sample = group_moments(alloc, group, periods, samples, false)?;
+    append_row(out, summary, 1, analytical)?;
+    append_row(out, summary, 2, sample)
+}
+
+/// Appends the rows of a perspective and set, summary by summary. An error is want of memory.
+fn append_rows(
+    out: &mut Bytes,
+    alloc: Global,
+    entries: &[(CellKey, Cell)],
+    periods: u32,
+    samples: u32,
+) -> Result<(), OutOfMemory>
+    requires { (perspective : Perspective) × (set : ℕ) × IsPart perspective set periods samples entries.now }
+    ensures ok { OnOk result ((perspective : Perspective) (set : ℕ) → IsPart perspective set periods samples entries.now →
+        out.new ≡ out.old ++ by_summary perspective set (λ summary group. aal_rows perspective set periods samples (λ key. total_in (cell_at group key)) summary) entries.now) }
+{
+    let mut rest = entries;
+    while let Some(first) = rest.first() {
+        let summary = first.0.summary;
+        let (group, later) = rest.split_at(group_length(summary, rest));
+        append_summary(out, alloc, summary, group, periods, samples)?;
+        rest = later;
+    }
+    Ok(())
+}
+
+/// Appends the rows of average annual loss of a perspective and set: for each summary with a cell, by rising id, the mean and
+/// the deviation in cents over the totals of all periods, of the mean and of all samples. An error is want of memory, and
+/// `out` is then as it was.
+pub fn aal_text(
+    out: &mut Bytes,
+    cells: &Cells,
+    perspective: Perspective,
+    set: u32,
+) -> Result<(), OutOfMemory>
+    ensures ok { (history : List Added) → StandsFor history cells.now → OnOk result (out.new ≡ out.old ++ average_annual_loss_rows perspective set cells.now.periods cells.now.samples (all_losses history)) }
+
+    ensures unchanged { OnErr result (out.new ≡ out.old) }
+{
+    let entries = cells.set_entries(perspective, set)?;
+    let mut text = Bytes::new(cells.alloc());
+    append_rows(
+        &mut text,
+        cells.alloc(),
+        entries.as_slice(),
+        cells.periods(),
+        cells.samples(),
+    )?;
+    out.append(text.as_slice())
 }

@@ -5,7 +5,7 @@ ghost use Rattle.std.specs.List.{flat_map};
 ghost use Rattle.kt_curve.specs.declared.cell.CellStop.TheVariants as cell_stop;
 ghost use Rattle.kt_curve.specs.Losses.{KeyLoss, Added, losses_of, all_losses, maximum, is_added, loss_at, key_of, pair_losses};
 ghost use Rattle.kt_curve.specs.Standing.{StandsFor, Standing, first_stop, stop_at, sidx_in_range, most_total, total_in, maximum_in, refusal_of, raised};
-ghost use Rattle.kt_curve.specs.Grid.{in_set, set_entries, same_perspective};
+ghost use Rattle.kt_curve.specs.Grid.{in_set, set_entries, same_perspective, IsPart};
 ghost use Rattle.kt_curve.specs.Journal.{Puts, Noted, Going, GoesOn, Returns, Adds};
 
 use crate::cell::{Cell, CellStop, Change, is_added};
@@ -287,13 +287,33 @@ impl Cells {
         }
     }
 
+    /// Where memory is taken from.
+    pub(crate) fn alloc(&self) -> Global {
+        self.alloc
+    }
+
+    /// The number of periods.
+    pub(crate) fn periods(&self) -> u32
+        ensures value { result ≡ self.now.periods }
+    {
+        self.periods
+    }
+
+    /// The number of samples.
+    pub(crate) fn samples(&self) -> u32
+        ensures value { result ≡ self.now.samples }
+    {
+        self.samples
+    }
+
     /// The entries of a perspective and set, by rising key. An error is want of memory.
     pub(crate) fn set_entries(
         &self,
         perspective: Perspective,
         set: u32,
     ) -> Result<Vec<(CellKey, Cell)>, OutOfMemory>
-        ensures { IfOk result (λ found. found.items ≡ set_entries perspective set self.now.entries) }
+        ensures value { IfOk result (λ found. found.items ≡ set_entries perspective set self.now.entries) }
+        ensures part { IfOk result (λ found. IsPart perspective set self.now.periods self.now.samples found.items) }
     {
         self.map
             .iter()

@@ -6,6 +6,6 @@ mod cell;
 mod cells;
 mod group;
 
-pub use average::aal_heading;
+pub use average::{aal_heading, aal_text};
 pub use cell::CellStop;
 pub use cells::Cells;

@@ -3,7 +3,7 @@ use Rattle.std.proofs.Common.{◌≡◌, ◌*◌, ◌≤◌, ℕ, length, take, 
 use Rattle.kt_money.specs.declared.moments.MeanSd.{MeanSd}
 use Rattle.kt_money.specs.Rounding.{mean_of, deviation_of}
 use Rattle.kt_curve.specs.Grid.{moments_of}
-use Rattle.kt_curve.proofs.Parts.{summary_order}
+use Rattle.kt_curve.proofs.Parts.{next_group}
 use Rattle.kt_curve.proofs.Moments.{group_moments, group_few, group_most, count_keys, length_amounts, moments_parts}
 use Rattle.kt_curve.proofs.average.group_moments.Goals as goal
 
