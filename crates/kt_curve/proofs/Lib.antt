@@ -4,3 +4,4 @@ pub mod Walks
 pub mod Grids
 pub mod Moments
 pub mod Parts
+pub mod Ids

@@ -1,14 +1,14 @@
 -- The entries of a perspective and set, summary by summary.
 use Rattle.std.proofs.Common.{◌≡◌, ◌≢◌, ◌⊎◌, inl, inr, ⊎_elim, ℕ, zero, suc, ◌+◌, ◌*◌, ◌<◌, ◌≤◌, List, [], ◌∷◌, ◌++◌, length, map, take, drop, arith, refl, sym, ap, ◌∙◌, cond, append_assoc, subst, take-append-drop}
-use Rattle.std.specs.Prelude.{Bool, true, false, ◌&&◌, nat_eq, nat_lt, All, ℤ}
-use Rattle.std.specs.List.{filter, flat_map, AllByRecursion}
+use Rattle.std.specs.Prelude.{Bool, true, false, ◌&&◌, nat_eq, nat_lt, All, ℤ, Result, Ok, Err, IfOk, Some}
+use Rattle.std.specs.List.{slice_get, filter, flat_map, AllByRecursion}
 use Rattle.std.specs.List.Sorted.{IsStrictlySortedBy}
 use Rattle.std.specs.Map.{keys_of}
 use Rattle.std.specs.declared.cmp.Ordering.{Ordering}
 use Rattle.std.specs.declared.cmp.Ordering.TheVariants.{Less, Equal, Greater}
 use Rattle.std.specs.Ordering.{ordering_then, nat_cmp, int_cmp}
 use Rattle.std.proofs.lemmas.Bool.Decides.{nat_tests, Decides-eqb}
-use Rattle.std.proofs.lemmas.List.Elements.{All-head, All-tail, All-nil, All-cons, All-take, All-drop, All-weaker}
+use Rattle.std.proofs.lemmas.List.Elements.{All-head, All-tail, All-nil, All-cons, All-take, All-drop, All-weaker, All-filter, filter_passes}
 use Rattle.std.proofs.lemmas.List.Concat.{flat_map-cons}
 use Rattle.std.proofs.lemmas.Map.Keys.{sorted_head, sorted_tail}
 use Rattle.kt_rec.specs.declared.perspective.Perspective.{Perspective}
@@ -18,8 +18,8 @@ use Rattle.kt_rec.specs.contracts.perspective.CellKeyOrd.TheImpl as key_order
 use Rattle.kt_rec.specs.contracts.perspective.PerspectiveOrd.TheImpl as perspective_order
 use Rattle.kt_curve.specs.declared.cell.Cell.{Cell}
 use Rattle.kt_curve.specs.Losses.{key_of}
-use Rattle.kt_curve.specs.Grid.{IsPart, IsGroup, in_set, same_perspective, with_id, summary_ids, summary_entries, by_summary, group_length}
-use Rattle.kt_curve.specs.Standing.{FitsCells}
+use Rattle.kt_curve.specs.Grid.{set_entries, IsPart, IsGroup, in_set, same_perspective, with_id, summary_ids, summary_entries, by_summary, group_length}
+use Rattle.kt_curve.specs.Standing.{FitsCells, IsKept}
 
 -- ---- the order of the summaries
 
@@ -313,3 +313,85 @@ next_group p s n samples text e es is =
     let set = rw long at (part_take p s n samples (group_length u (e ∷ es)) (e ∷ es) is) in
     rw long (ap (by_summary p s text) (ap (λ zs. e ∷ zs) (sym (take-append-drop (group_length u es) es)))
     ∙ by_summary_split p s u text e (take (group_length u es) es) (drop (group_length u es) es) set.own own back)
+
+-- ---- the entries of a set
+
+-- a key that is in a set
+in_set_is : (p : Perspective) (s : ℕ) (key : CellKey) → in_set p s key ≡ true → (key.perspective ≡ p) × (key.set ≡ s)
+in_set_is p s key same = both (same_perspective key.perspective p) (nat_eq key.set s) same (perspectives key.perspective p) ((Decides-eqb key.set s).0)
+  where
+    perspectives : (a b : Perspective) → same_perspective a b ≡ true → a ≡ b
+    perspectives Gul Gul e = refl
+    perspectives Gul Il e = cc
+    perspectives Gul Ri e = cc
+    perspectives Il Gul e = cc
+    perspectives Il Il e = refl
+    perspectives Il Ri e = cc
+    perspectives Ri Gul e = cc
+    perspectives Ri Il e = cc
+    perspectives Ri Ri e = refl
+
+    both : {A B : Type 0} (a b : Bool) → a && b ≡ true → (a ≡ true → A) → (b ≡ true → B) → A × B
+    both true b e f g = (f refl, g e)
+    both false b e f g = cc
+
+-- the entries of a set among all
+pub part_of_kept : (p : Perspective) (s n samples : ℕ) (es : List (CellKey × Cell)) → IsKept n samples es → IsStrictlySortedBy key_order.ghosts.cmp (keys_of es) → IsPart p s n samples (set_entries p s es)
+part_of_kept p s n samples es kept sorted =
+    record {
+      some = kept.some; few = kept.few; some_samples = kept.some_samples; few_samples = kept.few_samples;
+      fitting = All-filter (λ entry. in_set p s entry.0) (λ (e : CellKey × Cell). FitsCells n samples e.0 e.1) es kept.fitting;
+      sorted = sorted_filter (λ entry. in_set p s entry.0) es sorted;
+      own = All-weaker (λ (e : CellKey × Cell). in_set p s e.0 ≡ true) (OwnKey p s) (λ e same. in_set_is p s e.0 same) (set_entries p s es) (filter_passes (λ entry. in_set p s entry.0) es);
+    }
+
+-- what holds of an answer where more holds of it
+pub if_ok : {T E : Type 0} (P Q : T → Type 0) (r : Result T E) → ((x : T) → P x → Q x) → IfOk r P → IfOk r Q
+if_ok P Q (Ok x) f holds = f x holds
+if_ok P Q (Err e) f holds = tt
+
+-- ---- the first group, where the first entry is told
+
+-- a group is no longer than the entries
+pub group_length-le : (u : ℕ) (es : List (CellKey × Cell)) → group_length u es ≤ length es
+group_length-le u [] = omega arith
+group_length-le u (e ∷ es) = by_test (nat_eq e.0.summary u) (group_length-le u es)
+  where
+    by_test : (b : Bool) → group_length u es ≤ length es → cond b (suc (group_length u es)) 0 ≤ suc (length es)
+    by_test true less = omega arith
+    by_test false less = omega arith
+
+-- a group has an entry
+pub group_length-some : (u : ℕ) (es : List (CellKey × Cell)) (e : CellKey × Cell) → Some e ≡ slice_get es 0 → e.0.summary ≡ u → 1 ≤ group_length u es
+group_length-some u [] e first is = cc
+group_length-some u (x ∷ es) e first is =
+    let e_is : e ≡ x = cc in
+    let same : nat_eq x.0.summary u ≡ true = (Decides-eqb x.0.summary u).1 (ap (λ (y : CellKey × Cell). y.0.summary) (sym e_is) ∙ is) in
+    let long : group_length u (x ∷ es) ≡ suc (group_length u es) = ap (λ b. cond b (suc (group_length u es)) 0) same in
+    rw long (omega arith)
+
+-- the first group
+pub first_group_of : (p : Perspective) (s n samples : ℕ) (es : List (CellKey × Cell)) (e : CellKey × Cell) → Some e ≡ slice_get es 0 → IsPart p s n samples es →
+    IsGroup p s n samples e.0.summary (take (group_length e.0.summary es) es)
+first_group_of p s n samples [] e first is = cc
+first_group_of p s n samples (x ∷ es) e first is =
+    let e_is : x ≡ e = cc in subst (λ (y : CellKey × Cell). IsGroup p s n samples y.0.summary (take (group_length y.0.summary (x ∷ es)) (x ∷ es))) e_is (first_group p s n samples x es is)
+
+-- the text of the first group and then that of the others
+pub next_group_of : (p : Perspective) (s n samples : ℕ) (text : ℕ → List (CellKey × Cell) → List ℕ) (es : List (CellKey × Cell)) (e : CellKey × Cell) → Some e ≡ slice_get es 0 → IsPart p s n samples es →
+    by_summary p s text es ≡ text e.0.summary (take (group_length e.0.summary es) es) ++ by_summary p s text (drop (group_length e.0.summary es) es)
+next_group_of p s n samples text [] e first is = cc
+next_group_of p s n samples text (x ∷ es) e first is =
+    let e_is : x ≡ e = cc in
+    subst (λ (y : CellKey × Cell). by_summary p s text (x ∷ es) ≡ text y.0.summary (take (group_length y.0.summary (x ∷ es)) (x ∷ es)) ++ by_summary p s text (drop (group_length y.0.summary (x ∷ es)) (x ∷ es))) e_is (next_group p s n samples text x es is)
+
+-- one group more of a text
+pub next_text : (p : Perspective) (s n samples k : ℕ) (text : ℕ → List (CellKey × Cell) → List ℕ) (es group later : List (CellKey × Cell)) (e : CellKey × Cell) (out new whole : List ℕ) → Some e ≡ slice_get es 0 → IsPart p s n samples es →
+    k ≡ group_length e.0.summary es → group ≡ take k es → later ≡ drop k es → new ≡ out ++ text e.0.summary group → out ++ by_summary p s text es ≡ whole → new ++ by_summary p s text later ≡ whole
+next_text p s n samples k text es group later e out new whole first part k_is front back more is =
+    let group_is : group ≡ take (group_length e.0.summary es) es = front ∙ ap (λ j. take j es) k_is in
+    let later_is : later ≡ drop (group_length e.0.summary es) es = back ∙ ap (λ j. drop j es) k_is in
+    ap (λ t. t ++ by_summary p s text later) (more ∙ ap (λ g. out ++ text e.0.summary g) group_is)
+    ∙ append_assoc out (text e.0.summary (take (group_length e.0.summary es) es)) (by_summary p s text later)
+    ∙ ap (λ g. out ++ (text e.0.summary (take (group_length e.0.summary es) es) ++ by_summary p s text g)) later_is
+    ∙ ap (λ t. out ++ t) (sym (next_group_of p s n samples text es e first part)) ∙ is

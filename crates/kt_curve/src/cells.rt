@@ -306,20 +306,32 @@ impl Cells {
         self.samples
     }
 
-    /// The entries of a perspective and set, by rising key. An error is want of memory.
-    pub(crate) fn set_entries(
+    /// The entries of a perspective and set. An error is want of memory.
+    fn filtered(
         &self,
         perspective: Perspective,
         set: u32,
     ) -> Result<Vec<(CellKey, Cell)>, OutOfMemory>
-        ensures value { IfOk result (λ found. found.items ≡ set_entries perspective set self.now.entries) }
-        ensures part { IfOk result (λ found. IsPart perspective set self.now.periods self.now.samples found.items) }
+        ensures { IfOk result (λ found. found.items ≡ set_entries perspective set self.now.entries) }
     {
         self.map
             .iter()
             .filter(|entry| is_in_set(entry.0, perspective, set))
             .map(|entry| (*entry.0, *entry.1))
             .collect(self.alloc)
+    }
+
+    /// The entries of a perspective and set, by rising key. An error is want of memory.
+    pub(crate) fn set_entries(
+        &self,
+        perspective: Perspective,
+        set: u32,
+    ) -> Result<Vec<(CellKey, Cell)>, OutOfMemory>
+        ensures { IfOk result (λ found. (found.items ≡ set_entries perspective set self.now.entries) × IsPart perspective set self.now.periods self.now.samples found.items) }
+    {
+        // The map says that its keys rise.
+        let _cells = self.map.len();
+        self.filtered(perspective, set)
     }
 }
 
