@@ -112,7 +112,7 @@ range_once t a (suc n) from upto =
     (cases_lt a t)
 
 -- tests that hold together are the same
-bool_same : (a b : Bool) → (a ≡ true → b ≡ true) → (b ≡ true → a ≡ true) → a ≡ b
+pub bool_same : (a b : Bool) → (a ≡ true → b ≡ true) → (b ≡ true → a ≡ true) → a ≡ b
 bool_same true b f g = sym (f refl)
 bool_same false true f g = g refl
 bool_same false false f g = refl

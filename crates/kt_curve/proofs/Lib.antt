@@ -5,3 +5,4 @@ pub mod Grids
 pub mod Moments
 pub mod Parts
 pub mod Ids
+pub mod Averages

@@ -173,14 +173,17 @@ pub fn aal_text(
 
     ensures unchanged { OnErr result (out.new ≡ out.old) }
 {
+    let text = set_text(cells, perspective, set)?;
+    out.append(text.as_slice())
+}
+
+/// The rows of a perspective and set. An error is want of memory.
+fn set_text(cells: &Cells, perspective: Perspective, set: u32) -> Result<Bytes, OutOfMemory>
+    ensures { IfOk result (λ text. (history : List Added) → StandsFor history cells.now → text ≡ average_annual_loss_rows perspective set cells.now.periods cells.now.samples (all_losses history)) }
+{
     let entries = cells.set_entries(perspective, set)?;
     let mut text = Bytes::new(cells.alloc());
-    append_rows(
-        &mut text,
-        cells.alloc(),
-        entries.as_slice(),
-        cells.periods(),
-        cells.samples(),
-    )?;
-    out.append(text.as_slice())
+    let (periods, samples) = (cells.periods(), cells.samples());
+    append_rows(&mut text, cells.alloc(), entries.as_slice(), periods, samples)?;
+    Ok(text)
 }

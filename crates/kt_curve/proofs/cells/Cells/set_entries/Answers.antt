@@ -13,5 +13,5 @@ returns c =
     (λ (found : Vec (CellKey × Cell) Global). (found.items ≡ set_entries c.args.perspective c.args.set c.args.self.now.entries) × IsPart c.args.perspective c.args.set c.args.self.now.periods c.args.self.now.samples found.items)
     c.filtered.result
     (λ found is. (is, rw is (subst (λ (kept : KeptCells). IsPart c.args.perspective c.args.set kept.periods kept.samples (set_entries c.args.perspective c.args.set kept.entries)) c.self.view_is
-      (part_of_kept c.args.perspective c.args.set c.self.inside.periods c.self.inside.samples c.self.inside.map.entries c.self.invariant c.len-_cells.ensures.ordered))))
+      (part_of_kept c.args.perspective c.args.set c.self.inside.periods c.self.inside.samples c.self.inside.map.entries c.self.invariant c.len-cells.ensures.ordered))))
     c.filtered.ensures
