@@ -6,3 +6,4 @@ pub mod Moments
 pub mod Parts
 pub mod Ids
 pub mod Averages
+pub mod Ranking
