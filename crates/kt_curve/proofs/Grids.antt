@@ -187,26 +187,39 @@ kind_times false samples (negsuc (suc k)) within = cc
 
 -- ---- the entries of one summary
 
+-- the sum over all keys of some sidx is the sum over the entries of those sidx
+pub group_sum_by : (f : Option Cell → ℕ) → f None ≡ 0 → (p : Perspective) (s n samples u : ℕ) (group : List (CellKey × Cell)) (sidxs : List ℤ) (test : CellKey × Cell → Bool) → IsGroup p s n samples u group →
+    ((e : CellKey × Cell) → sidx_in_range samples e.0.sidx ≡ true → times (λ x. int_eq x e.0.sidx) sidxs ≡ one_if (test e)) →
+    sum_by (λ key. f (cell_at group key)) (keys_for p s u sidxs n) ≡ sum_by (λ e. f (Some e.1)) (filter test group)
+group_sum_by f none p s n samples u group sidxs test is tested =
+    grid_sum f none group (IsDistinct-from_sorted key_order.ghosts.cmp (keys_of group) is.sorted) (keys_for p s u sidxs n)
+    ∙ sum_filter test (λ e. times (λ key. same_key key e.0) (keys_for p s u sidxs n)) (λ e. f (Some e.1)) group (all group is.fitting is.own)
+  where
+    one : (e : CellKey × Cell) → FitsCells n samples e.0 e.1 → e.0 ≡ key_of p s u e.0.sidx e.0.period →
+        times (λ key. same_key key e.0) (keys_for p s u sidxs n) ≡ one_if (test e)
+    one e fits own =
+        ap (λ k. times (λ key. same_key key k) (keys_for p s u sidxs n)) own
+        ∙ keys_times p s u e.0.sidx e.0.period n sidxs fits.first fits.last ∙ tested e fits.sidx
+
+    all : (es : List (CellKey × Cell)) → All (λ e. FitsCells n samples e.0 e.1) es → All (λ e. e.0 ≡ key_of p s u e.0.sidx e.0.period) es →
+        All (λ e. times (λ key. same_key key e.0) (keys_for p s u sidxs n) ≡ one_if (test e)) es
+    all [] fits own = All-nil _
+    all (e ∷ es) fits own =
+        All-cons (λ (e : CellKey × Cell). times (λ key. same_key key e.0) (keys_for p s u sidxs n) ≡ one_if (test e)) e es
+        (one e (All-head (λ (e : CellKey × Cell). FitsCells n samples e.0 e.1) e es fits) (All-head (λ (e : CellKey × Cell). e.0 ≡ key_of p s u e.0.sidx e.0.period) e es own))
+        (all es (All-tail (λ (e : CellKey × Cell). FitsCells n samples e.0 e.1) e es fits) (All-tail (λ (e : CellKey × Cell). e.0 ≡ key_of p s u e.0.sidx e.0.period) e es own))
+
 -- the sum over all keys of a kind is the sum over the entries of that kind
 pub group_sum : (f : Option Cell → ℕ) → f None ≡ 0 → (p : Perspective) (s n samples u : ℕ) (group : List (CellKey × Cell)) (mean : Bool) → IsGroup p s n samples u group →
     sum_by (λ key. f (cell_at group key)) (keys_for p s u (sidx_of_kind mean samples) n) ≡ sum_by (λ e. f (Some e.1)) (filter (of_kind mean) group)
 group_sum f none p s n samples u group mean is =
-    grid_sum f none group (IsDistinct-from_sorted key_order.ghosts.cmp (keys_of group) is.sorted) (keys_for p s u (sidx_of_kind mean samples) n)
-    ∙ sum_filter (of_kind mean) (λ e. times (λ key. same_key key e.0) (keys_for p s u (sidx_of_kind mean samples) n)) (λ e. f (Some e.1)) group (all group is.fitting is.own)
-  where
-    one : (e : CellKey × Cell) → FitsCells n samples e.0 e.1 → e.0 ≡ key_of p s u e.0.sidx e.0.period →
-        times (λ key. same_key key e.0) (keys_for p s u (sidx_of_kind mean samples) n) ≡ one_if (of_kind mean e)
-    one e fits own =
-        ap (λ k. times (λ key. same_key key k) (keys_for p s u (sidx_of_kind mean samples) n)) own
-        ∙ keys_times p s u e.0.sidx e.0.period n (sidx_of_kind mean samples) fits.first fits.last ∙ kind_times mean samples e.0.sidx fits.sidx
+    group_sum_by f none p s n samples u group (sidx_of_kind mean samples) (of_kind mean) is (λ e within. kind_times mean samples e.0.sidx within)
 
-    all : (es : List (CellKey × Cell)) → All (λ e. FitsCells n samples e.0 e.1) es → All (λ e. e.0 ≡ key_of p s u e.0.sidx e.0.period) es →
-        All (λ e. times (λ key. same_key key e.0) (keys_for p s u (sidx_of_kind mean samples) n) ≡ one_if (of_kind mean e)) es
-    all [] fits own = All-nil _
-    all (e ∷ es) fits own =
-        All-cons (λ (e : CellKey × Cell). times (λ key. same_key key e.0) (keys_for p s u (sidx_of_kind mean samples) n) ≡ one_if (of_kind mean e)) e es
-        (one e (All-head (λ (e : CellKey × Cell). FitsCells n samples e.0 e.1) e es fits) (All-head (λ (e : CellKey × Cell). e.0 ≡ key_of p s u e.0.sidx e.0.period) e es own))
-        (all es (All-tail (λ (e : CellKey × Cell). FitsCells n samples e.0 e.1) e es fits) (All-tail (λ (e : CellKey × Cell). e.0 ≡ key_of p s u e.0.sidx e.0.period) e es own))
+-- a sidx is among one where it is that one
+pub single_times : (x y : ℤ) → times (λ z. int_eq z y) (x ∷ []) ≡ one_if (int_eq y x)
+single_times x y =
+    sum_by-cons (λ z. one_if (int_eq z y)) x [] ∙ (let e : one_if (int_eq x y) + 0 ≡ one_if (int_eq x y) = omega arith in e)
+    ∙ ap one_if (bool_same (int_eq x y) (int_eq y x) (λ same. (Decides-int_eq y x).1 (sym ((Decides-int_eq x y).0 same))) (λ same. (Decides-int_eq x y).1 (sym ((Decides-int_eq y x).0 same))))
 
 -- how many keys a kind has
 pub length_keys : (p : Perspective) (s u n : ℕ) (sidxs : List ℤ) → length (keys_for p s u sidxs n) ≡ length sidxs * n

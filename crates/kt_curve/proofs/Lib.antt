@@ -7,3 +7,4 @@ pub mod Parts
 pub mod Ids
 pub mod Averages
 pub mod Ranking
+pub mod Curves

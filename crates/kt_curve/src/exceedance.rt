@@ -14,6 +14,7 @@ pub(crate) fn rank(values: &mut [u64])
     ensures falls { Falls values.new }
     ensures same { (least : ℕ) → reaching least values.new ≡ reaching least values.old }
     ensures len { length values.new ≡ length values.old }
+    ensures most { All (λ value. value ≤ most_total) values.old → All (λ value. value ≤ most_total) values.new }
 {
     values.sort_unstable();
     values.reverse();
@@ -104,4 +105,22 @@ pub(crate) fn append_curve(
         append_row(out, summary, column, *period, loss)?;
     }
     Ok(())
+}
+
+/// Appends the rows of a curve of `count` values, of which those that are not listed are 0. An error is want of memory.
+pub(crate) fn append_values(
+    out: &mut Bytes,
+    summary: u32,
+    column: u32,
+    count: u64,
+    values: &mut [u64],
+    returns: &[u32],
+) -> Result<(), OutOfMemory>
+    requires count { count ≤ 10 ^ 8 }
+    requires most { All (λ value. value ≤ most_total) values.old }
+    requires returns { All (λ period. 1 ≤ period) returns.now }
+    ensures ok { OnOk result ((whole : List ℕ) → SameRanks values.old whole → out.new ≡ out.old ++ curve_rows summary column count whole returns.now) }
+{
+    rank(values);
+    append_curve(out, summary, column, count, values, returns)
 }

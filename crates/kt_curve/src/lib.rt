@@ -8,6 +8,7 @@ mod cells;
 mod curve;
 mod exceedance;
 mod group;
+mod lec;
 
 pub use average::{aal_heading, aal_text};
 pub use cell::CellStop;
