@@ -6,5 +6,3 @@ pub mod Moments
 pub mod Parts
 pub mod Ids
 pub mod Averages
-pub mod Ranking
-pub mod Curves

@@ -1,16 +1,11 @@
 //! Period totals and maxima of summary records, and the tables of them: average annual loss and exceedance curves.
 #![tactic(auto)]
 
-mod amounts;
 mod average;
 mod cell;
 mod cells;
-mod curve;
-mod exceedance;
 mod group;
-mod lec;
 
 pub use average::{aal_heading, aal_text};
 pub use cell::CellStop;
 pub use cells::Cells;
-pub use curve::Curve;
