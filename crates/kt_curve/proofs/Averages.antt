@@ -1,12 +1,11 @@
 -- The table of average annual losses, from the entries of its set.
-use Rattle.std.proofs.Common.{◌≡◌, ℕ, zero, suc, ◌*◌, ◌<◌, ◌≤◌, List, [], ◌∷◌, ◌++◌, map, arith, refl, sym, ap, ◌∙◌, cond}
+use Rattle.std.proofs.Common.{◌≡◌, ℕ, ◌*◌, ◌≤◌, List, [], ◌∷◌, ◌++◌, map, arith, refl, ap, ◌∙◌, cond}
 use Rattle.std.specs.Prelude.{Bool, true, false, ◌&&◌, nat_lt, All}
 use Rattle.std.specs.List.{flat_map}
 use Rattle.std.specs.Map.{keys_of}
 use Rattle.std.proofs.lemmas.Bool.Decides.{nat_tests}
 use Rattle.std.proofs.lemmas.List.Elements.{All-nil, All-cons, All-append}
 use Rattle.std.proofs.lemmas.List.Concat.{flat_map-cons}
-use Rattle.kt_money.specs.declared.moments.MeanSd.{MeanSd}
 use Rattle.kt_rec.specs.declared.perspective.Perspective.{Perspective}
 use Rattle.kt_rec.specs.declared.perspective.CellKey.{CellKey}
 use Rattle.kt_rec.specs.declared.periods.Occurrence.{Occurrence}
@@ -14,7 +13,7 @@ use Rattle.kt_stream.specs.declared.entry.Pair.{Pair}
 use Rattle.kt_curve.specs.declared.cell.Cell.{Cell}
 use Rattle.kt_curve.specs.Losses.{KeyLoss, Added, total, all_losses, losses_of, pair_losses, is_added, has_cells, loss_at}
 use Rattle.kt_curve.specs.Grid.{summary_ids, summary_entries, set_entries, keys_for, mean_sidx, sample_sidx, moments_of, by_summary}
-use Rattle.kt_curve.specs.Standing.{Standing, StandsFor, cell_at, total_in}
+use Rattle.kt_curve.specs.Standing.{Standing, cell_at, total_in}
 use Rattle.kt_curve.specs.Average.{aal_row, aal_rows, average_annual_loss_rows}
 use Rattle.kt_curve.proofs.Ids.{ids_of_standing, totals_of_standing, flat_map_each}
 

@@ -1,9 +1,9 @@
 -- Sums over all keys of a grid, zeros included, are sums over the entries alone.
-use Rattle.std.proofs.Common.{◌≡◌, ◌⊎◌, inl, inr, ⊎_elim, ℕ, zero, suc, ◌+◌, ◌*◌, ◌<◌, ◌≤◌, List, [], ◌∷◌, ◌++◌, length, map, add-mul, length-append, arith, refl, sym, ap, ◌∙◌, cond}
+use Rattle.std.proofs.Common.{◌≡◌, ⊎_elim, ℕ, zero, suc, ◌+◌, ◌*◌, ◌<◌, ◌≤◌, List, [], ◌∷◌, length, map, add-mul, length-append, arith, refl, sym, ap, ◌∙◌, cond}
 use Rattle.std.specs.Prelude.{Bool, true, false, ◌&&◌, sum_by, nat_eq, All, ℤ, pos, negsuc, Option, Some, None}
-use Rattle.std.specs.List.{IsDistinct, AllByRecursion, filter, flat_map, range_with_len}
+use Rattle.std.specs.List.{IsDistinct, AllByRecursion, filter, range_with_len}
 use Rattle.std.proofs.lemmas.List.Concat.{flat_map-cons}
-use Rattle.std.specs.Map.{keys_of, lookup}
+use Rattle.std.specs.Map.{keys_of}
 use Rattle.std.specs.BTreeMap.{is_at}
 use Rattle.std.specs.Ordering.{eq_by_cmp, int_eq}
 use Rattle.std.proofs.lemmas.List.Sums.{sum_by-cons, sum_by-append}

@@ -1,5 +1,5 @@
 -- The entries of a perspective and set, summary by summary.
-use Rattle.std.proofs.Common.{◌≡◌, ◌≢◌, ◌⊎◌, inl, inr, ⊎_elim, ℕ, zero, suc, ◌+◌, ◌*◌, ◌<◌, ◌≤◌, List, [], ◌∷◌, ◌++◌, length, map, take, drop, arith, refl, sym, ap, ◌∙◌, cond, append_assoc, subst, take-append-drop}
+use Rattle.std.proofs.Common.{◌≡◌, ◌≢◌, ◌⊎◌, inl, inr, ℕ, zero, suc, ◌<◌, ◌≤◌, List, [], ◌∷◌, ◌++◌, length, take, drop, arith, refl, sym, ap, ◌∙◌, cond, append_assoc, subst, take-append-drop}
 use Rattle.std.specs.Prelude.{Bool, true, false, ◌&&◌, nat_eq, nat_lt, All, ℤ, Result, Ok, Err, IfOk, Some}
 use Rattle.std.specs.List.{slice_get, filter, flat_map, AllByRecursion}
 use Rattle.std.specs.List.Sorted.{IsStrictlySortedBy}
@@ -282,16 +282,26 @@ group_of_part p s n samples u es is own =
 pub part_take : (p : Perspective) (s n samples k : ℕ) (es : List (CellKey × Cell)) → IsPart p s n samples es → IsPart p s n samples (take k es)
 part_take p s n samples k es is =
     record {
-      some = is.some; few = is.few; some_samples = is.some_samples; few_samples = is.few_samples;
-      fitting = All-take (λ (e : CellKey × Cell). FitsCells n samples e.0 e.1) k es is.fitting; sorted = sorted_take k es is.sorted; own = All-take (OwnKey p s) k es is.own;
+      some = is.some;
+      few = is.few;
+      some_samples = is.some_samples;
+      few_samples = is.few_samples;
+      fitting = All-take (λ (e : CellKey × Cell). FitsCells n samples e.0 e.1) k es is.fitting;
+      sorted = sorted_take k es is.sorted;
+      own = All-take (OwnKey p s) k es is.own;
     }
 
 -- the other entries of a set
 pub part_drop : (p : Perspective) (s n samples k : ℕ) (es : List (CellKey × Cell)) → IsPart p s n samples es → IsPart p s n samples (drop k es)
 part_drop p s n samples k es is =
     record {
-      some = is.some; few = is.few; some_samples = is.some_samples; few_samples = is.few_samples;
-      fitting = All-drop (λ (e : CellKey × Cell). FitsCells n samples e.0 e.1) k es is.fitting; sorted = sorted_drop k es is.sorted; own = All-drop (OwnKey p s) k es is.own;
+      some = is.some;
+      few = is.few;
+      some_samples = is.some_samples;
+      few_samples = is.few_samples;
+      fitting = All-drop (λ (e : CellKey × Cell). FitsCells n samples e.0 e.1) k es is.fitting;
+      sorted = sorted_drop k es is.sorted;
+      own = All-drop (OwnKey p s) k es is.own;
     }
 
 -- the first group of a set
@@ -339,7 +349,10 @@ in_set_is p s key same = both (same_perspective key.perspective p) (nat_eq key.s
 pub part_of_kept : (p : Perspective) (s n samples : ℕ) (es : List (CellKey × Cell)) → IsKept n samples es → IsStrictlySortedBy key_order.ghosts.cmp (keys_of es) → IsPart p s n samples (set_entries p s es)
 part_of_kept p s n samples es kept sorted =
     record {
-      some = kept.some; few = kept.few; some_samples = kept.some_samples; few_samples = kept.few_samples;
+      some = kept.some;
+      few = kept.few;
+      some_samples = kept.some_samples;
+      few_samples = kept.few_samples;
       fitting = All-filter (λ entry. in_set p s entry.0) (λ (e : CellKey × Cell). FitsCells n samples e.0 e.1) es kept.fitting;
       sorted = sorted_filter (λ entry. in_set p s entry.0) es sorted;
       own = All-weaker (λ (e : CellKey × Cell). in_set p s e.0 ≡ true) (OwnKey p s) (λ e same. in_set_is p s e.0 same) (set_entries p s es) (filter_passes (λ entry. in_set p s entry.0) es);

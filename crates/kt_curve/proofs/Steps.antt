@@ -1,11 +1,9 @@
 -- One more loss at the end of a list: what it does to totals, maxima, the number of cells and what stands for them.
-use Rattle.std.proofs.Common.{◌≡◌, ◌⊎◌, inl, inr, ⊎_elim, ℕ, zero, suc, ◌+◌, ◌-◌, ◌<◌, ◌≤◌, List, [], ◌∷◌, ◌++◌, length, arith, refl, sym, ap, ◌∙◌, append_assoc, rules, cond}
+use Rattle.std.proofs.Common.{◌≡◌, ◌⊎◌, inl, inr, ⊎_elim, ℕ, zero, suc, ◌+◌, ◌-◌, ◌<◌, ◌≤◌, List, [], ◌∷◌, ◌++◌, length, arith, refl, sym, ap, ◌∙◌, append_assoc, cond}
 use Rattle.std.specs.Prelude.{Bool, true, false, ◌&&◌, max, nat_lt, nat_eq, nat_le, Option, Some, None, is_some}
-use Rattle.std.specs.BTreeMap.{is_at}
 use Rattle.std.proofs.lemmas.List.Sums.{sum_by_push, sum_by-cons}
 use Rattle.std.proofs.lemmas.Bool.Decides.{nat_tests}
 use Rattle.kt_rec.specs.declared.perspective.CellKey.{CellKey}
-use Rattle.kt_rec.specs.contracts.perspective.CellKeyOrd.TheImpl as key_order
 use Rattle.kt_curve.specs.declared.cell.Cell.{Cell}
 use Rattle.kt_curve.specs.declared.cell.CellStop.{CellStop}
 use Rattle.kt_curve.specs.declared.cell.CellStop.TheVariants as cell_stop
@@ -190,11 +188,12 @@ pub put_step : (losses : List KeyLoss) (es new : List (CellKey × Cell)) (key : 
     old ≡ cell_at es key → was ≡ cell_at es key → new_cell ≡ raised old loss → held ≡ length es → None ≡ refusal_of held old key loss →
     ((q : CellKey) → cell_at new q ≡ cond (same_key key q) (Some new_cell) (cell_at es q)) → length new ≡ length es + extra was →
     (stop_at losses (to_key key loss) ≡ None) × Standing (losses ++ to_key key loss ∷ []) new
-put_step losses es new key loss held old was new_cell some stands old_is was_is cell_is held_is room cells count =
-    (stop_at-is losses es key loss some stands ∙ ap (λ o. refusal_of (length es) o key loss) (sym old_is) ∙ ap (λ n. refusal_of n old key loss) (sym held_is) ∙ sym room,
-    standing_push losses es new key loss some stands
-    (λ q. cells q ∙ ap (λ x. cond (same_key key q) (Some x) (cell_at es q)) (cell_is ∙ ap (λ o. raised o loss) old_is))
-    (count ∙ ap (λ o. length es + extra o) was_is))
+put_step losses es new key loss held old was new_cell some stands old_is was_is cell_is held_is room cells count = (
+  stop_at-is losses es key loss some stands ∙ ap (λ o. refusal_of (length es) o key loss) (sym old_is) ∙ ap (λ n. refusal_of n old key loss) (sym held_is) ∙ sym room,
+  standing_push losses es new key loss some stands
+      (λ q. cells q ∙ ap (λ x. cond (same_key key q) (Some x) (cell_at es q)) (cell_is ∙ ap (λ o. raised o loss) old_is))
+      (count ∙ ap (λ o. length es + extra o) was_is),
+)
 
 -- the cells with a refusal
 pub put_stop : (losses : List KeyLoss) (es : List (CellKey × Cell)) (key : CellKey) (loss held : ℕ) (old : Option Cell) (stop : CellStop) → 1 ≤ loss → Standing losses es →

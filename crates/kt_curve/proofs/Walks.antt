@@ -1,6 +1,6 @@
 -- The losses of a record, one after the other: what stands after each, the first refusal, and what is noted.
-use Rattle.std.proofs.Common.{◌≡◌, ◌⊎◌, inl, inr, ℕ, zero, suc, ◌+◌, ◌<◌, ◌≤◌, List, [], ◌∷◌, ◌++◌, length, arith, refl, sym, ap, ◌∙◌, append_assoc, subst, get_or, take, drop, take-append-drop}
-use Rattle.std.specs.Prelude.{Option, Some, None, Result, Ok, Err, map}
+use Rattle.std.proofs.Common.{◌≡◌, ℕ, ◌+◌, ◌<◌, ◌≤◌, List, [], ◌∷◌, ◌++◌, length, refl, sym, ap, ◌∙◌, append_assoc, get_or, take, drop, take-append-drop}
+use Rattle.std.specs.Prelude.{Option, Some, None, map}
 use Rattle.std.specs.List.{flat_map}
 use Rattle.std.proofs.lemmas.List.{map-append, take_more}
 use Rattle.std.proofs.lemmas.Grind.{flat_map-append}
@@ -8,11 +8,10 @@ use Rattle.std.proofs.lemmas.List.Concat.{flat_map-cons}
 use Rattle.kt_curve.specs.declared.cell.Cell.{Cell}
 use Rattle.kt_curve.specs.declared.cell.Change.{Change}
 use Rattle.kt_curve.specs.declared.cell.CellStop.{CellStop}
-use Rattle.kt_curve.specs.declared.cell.CellStop.TheVariants as cell_stop
 use Rattle.kt_rec.specs.declared.perspective.CellKey.{CellKey}
 use Rattle.kt_curve.specs.Losses.{KeyLoss, Added, all_losses, losses_of, maximum}
-use Rattle.kt_curve.specs.Standing.{Standing, StandsFor, KeptCells, stop_at, first_stop, or_else}
-use Rattle.kt_curve.specs.Journal.{Puts, Noted, loss_of, noted_losses, Recalls, Going, GoesOn, Returns, Adds}
+use Rattle.kt_curve.specs.Standing.{Standing, stop_at, first_stop, or_else}
+use Rattle.kt_curve.specs.Journal.{loss_of, noted_losses, Recalls, Going, Returns}
 use Rattle.kt_curve.proofs.Steps.{append_nil}
 
 -- the first of three causes

@@ -1,15 +1,13 @@
 -- The average annual loss of each summary: the mean and the deviation of its totals over all periods, zeros included.
 -- The rules: docs/CALCULATION.md, "Average annual loss".
-use Rattle.std.specs.Prelude.{Bool, true, false, ℕ, ◌*◌, ℤ, pos, negsuc, List, [], ◌∷◌, ◌++◌, map, sum, sum_by, codes}
-use Rattle.std.specs.List.{flat_map, filter, join_with_byte}
+use Rattle.std.specs.Prelude.{ℕ, ◌*◌, List, [], ◌∷◌, ◌++◌, map, codes}
+use Rattle.std.specs.List.{flat_map, join_with_byte}
 use Rattle.kt_money.specs.NumberText.{count_text, money_text}
-use Rattle.kt_money.specs.Rounding.{mean_of, deviation_of}
 use Rattle.kt_money.specs.declared.moments.MeanSd.{MeanSd}
 use Rattle.kt_rec.specs.declared.perspective.Perspective.{Perspective}
 use Rattle.kt_rec.specs.declared.perspective.CellKey.{CellKey}
-use Rattle.kt_curve.specs.declared.cell.Cell.{Cell}
-use Rattle.kt_curve.specs.Losses.{KeyLoss, Added, all_losses, total}
-use Rattle.kt_curve.specs.Grid.{mean_sidx, sample_sidx, keys_for, moments_of, in_set, summary_ids}
+use Rattle.kt_curve.specs.Losses.{KeyLoss, total}
+use Rattle.kt_curve.specs.Grid.{mean_sidx, sample_sidx, keys_for, moments_of, summary_ids}
 
 -- a line of a table: its fields with a comma between each two, and an LF
 abbrev pub table_line : List (List ℕ) → List ℕ

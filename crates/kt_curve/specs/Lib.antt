@@ -3,3 +3,4 @@ pub mod Standing
 pub mod Journal
 pub mod Grid
 pub mod Average
+pub mod Examples

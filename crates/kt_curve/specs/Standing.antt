@@ -1,6 +1,6 @@
 -- What kept cells stand for: the totals and maxima of a list of losses.
 -- The rules: docs/CALCULATION.md, "Periods".
-use Rattle.std.specs.Prelude.{ℕ, zero, suc, ℤ, pos, negsuc, Bool, true, false, ◌&&◌, ◌+◌, ◌^◌, ◌<◌, ◌≤◌, ◌≡◌, List, [], ◌∷◌, ◌++◌, length, All, max, nat_eq, nat_lt, nat_le, if◌then◌else◌, Option, Some, None}
+use Rattle.std.specs.Prelude.{ℕ, zero, suc, ℤ, pos, negsuc, Bool, true, false, ◌&&◌, ◌+◌, ◌≤◌, ◌≡◌, List, [], ◌∷◌, ◌++◌, length, All, max, nat_eq, nat_lt, nat_le, if◌then◌else◌, Option, Some, None}
 use Rattle.std.specs.BTreeMap.{is_at}
 use Rattle.std.specs.Map.{lookup}
 use Rattle.kt_rec.specs.contracts.perspective.CellKeyOrd.TheImpl as key_order
@@ -8,7 +8,7 @@ use Rattle.kt_rec.specs.declared.perspective.CellKey.{CellKey}
 use Rattle.kt_curve.specs.declared.cell.Cell.{Cell}
 use Rattle.kt_curve.specs.declared.cell.CellStop.{CellStop}
 use Rattle.kt_curve.specs.declared.cell.CellStop.TheVariants as cell_stop
-use Rattle.kt_curve.specs.Losses.{KeyLoss, Added, losses_of, all_losses, total, maximum, opens, cell_count}
+use Rattle.kt_curve.specs.Losses.{KeyLoss, Added, all_losses, total, maximum, opens, cell_count}
 
 -- the most cells
 abbrev pub most_cells : ℕ

@@ -99,12 +99,7 @@ fn group_moments(
 }
 
 /// Appends a row: the summary id, the type, the mean and the deviation. An error is want of memory.
-fn append_row(
-    out: &mut Bytes,
-    summary: u32,
-    kind: u32,
-    moments: MeanSd,
-) -> Result<(), OutOfMemory>
+fn append_row(out: &mut Bytes, summary: u32, kind: u32, moments: MeanSd) -> Result<(), OutOfMemory>
     ensures ok { OnOk result (out.new ≡ out.old ++ aal_row summary kind moments) }
 {
     let mut row = Row::new();
@@ -184,6 +179,12 @@ fn set_text(cells: &Cells, perspective: Perspective, set: u32) -> Result<Bytes, 
     let entries = cells.set_entries(perspective, set)?;
     let mut text = Bytes::new(cells.alloc());
     let (periods, samples) = (cells.periods(), cells.samples());
-    append_rows(&mut text, cells.alloc(), entries.as_slice(), periods, samples)?;
+    append_rows(
+        &mut text,
+        cells.alloc(),
+        entries.as_slice(),
+        periods,
+        samples,
+    )?;
     Ok(text)
 }

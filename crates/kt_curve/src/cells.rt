@@ -348,6 +348,8 @@ fn is_perspective(one: Perspective, other: Perspective) -> bool
 {
     matches!(
         (one, other),
-        (Perspective::Gul, Perspective::Gul) | (Perspective::Il, Perspective::Il) | (Perspective::Ri, Perspective::Ri)
+        (Perspective::Gul, Perspective::Gul)
+            | (Perspective::Il, Perspective::Il)
+            | (Perspective::Ri, Perspective::Ri)
     )
 }

@@ -5,6 +5,7 @@ mod average;
 mod cell;
 mod cells;
 mod group;
+mod shared;
 
 pub use average::{aal_heading, aal_text};
 pub use cell::CellStop;

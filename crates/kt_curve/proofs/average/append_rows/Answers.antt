@@ -1,12 +1,8 @@
 -- One summary more.
-use Rattle.std.proofs.Common.{◌≡◌, ◌++◌, ◌∷◌, ◌-◌, ◌≤◌, ◌<◌, List, ℕ, append_assoc, sym, ap, ◌∙◌, arith, length, take, drop, subst, refl}
-use Rattle.kt_rec.specs.declared.perspective.CellKey.{CellKey}
-use Rattle.kt_curve.specs.declared.cell.Cell.{Cell}
-use Rattle.kt_curve.specs.Grid.{IsGroup, IsPart, by_summary, group_length}
+use Rattle.std.proofs.Common.{arith, refl}
 use Rattle.kt_curve.specs.Standing.{cell_at, total_in}
 use Rattle.kt_curve.specs.Average.{aal_rows}
-use Rattle.kt_curve.proofs.Ids.{same_ids}
-use Rattle.kt_curve.proofs.Parts.{next_group_of, first_group_of, part_drop, group_length-le, group_length-some, next_text}
+use Rattle.kt_curve.proofs.Parts.{first_group_of, part_drop, group_length-le, group_length-some, next_text}
 use Rattle.kt_curve.proofs.average.append_rows.Goals as goal
 
 pub split_at-requires : goal.split_at-requires
@@ -21,14 +17,14 @@ pub loop-first-preserved : goal.loop-first-preserved
 loop-first-preserved c =
     record {
       part = λ perspective set is.
-        let part = c.loop-first.invariant.part perspective set is in
-        rw c.split_at.ensures.back (part_drop perspective set c.args.periods c.args.samples c.group_length.result c.loop-first.rest.now part);
+          let part = c.loop-first.invariant.part perspective set is in
+          rw c.split_at.ensures.back (part_drop perspective set c.args.periods c.args.samples c.group_length.result c.loop-first.rest.now part);
       text = λ perspective set is.
-        let part = c.loop-first.invariant.part perspective set is in
-        let group = first_group_of perspective set c.args.periods c.args.samples c.loop-first.rest.now c.in-Some.first.now c.in-Some.ensures.value part in
-        next_text perspective set c.args.periods c.args.samples c.group_length.result (λ summary entries. aal_rows perspective set c.args.periods c.args.samples (λ key. total_in (cell_at entries key)) summary)
-        c.loop-first.rest.now c.split_at.result.0.now c.split_at.result.1.now c.in-Some.first.now c.loop-first.out c.append_summary.new.out _ c.in-Some.ensures.value part c.group_length.ensures.value
-        c.split_at.ensures.front c.split_at.ensures.back (c.in_ok-append_summary.ensures.ok perspective set (rw (c.split_at.ensures.front, c.group_length.ensures.value) group)) (c.loop-first.invariant.text perspective set is);
+          let part = c.loop-first.invariant.part perspective set is in
+          let group = first_group_of perspective set c.args.periods c.args.samples c.loop-first.rest.now c.in-Some.first.now c.in-Some.ensures.value part in
+          next_text perspective set c.args.periods c.args.samples c.group_length.result (λ summary entries. aal_rows perspective set c.args.periods c.args.samples (λ key. total_in (cell_at entries key)) summary)
+          c.loop-first.rest.now c.split_at.result.0.now c.split_at.result.1.now c.in-Some.first.now c.loop-first.out c.append_summary.new.out _ c.in-Some.ensures.value part c.group_length.ensures.value
+          c.split_at.ensures.front c.split_at.ensures.back (c.in_ok-append_summary.ensures.ok perspective set (rw (c.split_at.ensures.front, c.group_length.ensures.value) group)) (c.loop-first.invariant.text perspective set is);
     }
 
 pub loop-first-smaller : goal.loop-first-smaller

@@ -1,9 +1,5 @@
 -- The mean and the deviation of a summary, from the amounts that are there.
-use Rattle.std.proofs.Common.{◌≡◌, ◌*◌, ◌≤◌, ℕ, length, take, arith, ap, sym, ◌∙◌, map, cond, List, subst}
-use Rattle.kt_money.specs.declared.moments.MeanSd.{MeanSd}
-use Rattle.kt_money.specs.Rounding.{mean_of, deviation_of}
-use Rattle.kt_curve.specs.Grid.{moments_of}
-use Rattle.kt_curve.proofs.Parts.{next_group}
+use Rattle.std.proofs.Common.{sym, ◌∙◌}
 use Rattle.kt_curve.proofs.Moments.{group_moments, group_few, group_most, count_keys, length_amounts, moments_parts}
 use Rattle.kt_curve.proofs.average.group_moments.Goals as goal
 

@@ -1,5 +1,5 @@
 -- The sums of the amounts stay within their types.
-use Rattle.std.proofs.Common.{◌≡◌, ◌*◌, ◌≤◌, length, take, arith, take_all}
+use Rattle.std.proofs.Common.{◌≡◌, take, take_all}
 use Rattle.kt_curve.proofs.Moments.{spread}
 use Rattle.kt_curve.proofs.average.moments.Goals as goal
 

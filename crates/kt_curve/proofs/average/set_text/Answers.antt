@@ -1,5 +1,4 @@
 -- The rows of a set.
-use Rattle.std.proofs.Common.{◌≡◌, ◌++◌, [], List, sym, ap, ◌∙◌}
 use Rattle.kt_curve.proofs.Averages.{rows_of_standing, fresh_text}
 use Rattle.kt_curve.proofs.average.set_text.Goals as goal
 

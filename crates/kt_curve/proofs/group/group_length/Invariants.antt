@@ -1,5 +1,5 @@
 -- The first entries are of the summary.
-use Rattle.std.proofs.Common.{◌≡◌, ◌+◌, length, drop}
+use Rattle.std.proofs.Common.{◌≡◌, ◌+◌, drop}
 use Rattle.kt_curve.specs.Grid.{group_length}
 use Rattle.kt_curve.proofs.group.group_length.Given as goal
 

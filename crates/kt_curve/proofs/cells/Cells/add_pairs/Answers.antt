@@ -1,13 +1,9 @@
 -- The losses of a record, pair by pair.
-use Rattle.std.proofs.Common.{◌≡◌, ◌⊎◌, inl, inr, ◌≤◌, ◌<◌, ℕ, pos, List, [], ◌∷◌, ◌++◌, map, take, length, arith, sym, ap, ◌∙◌, get_or, refl, ⊎_elim, cond, subst}
-use Rattle.std.specs.Prelude.{true, false, Bool, Some, None}
-use Rattle.std.specs.List.{flat_map}
+use Rattle.std.proofs.Common.{◌≡◌, inl, inr, pos, List, [], arith, ◌∙◌, refl, ⊎_elim, cond}
+use Rattle.std.specs.Prelude.{true, false, Bool}
 use Rattle.kt_stream.specs.declared.entry.Pair.{Pair}
-use Rattle.kt_curve.specs.declared.cell.CellStop.TheVariants as cell_stop
-use Rattle.kt_curve.specs.Losses.{KeyLoss, loss_at, is_added, pair_losses, all_losses, losses_of}
-use Rattle.kt_curve.specs.Standing.{first_stop, Standing}
-use Rattle.kt_curve.specs.Journal.{Going, Returns}
-use Rattle.kt_curve.proofs.Walks.{record_stop, all_losses_push, going_pair, going_passed}
+use Rattle.kt_curve.specs.Losses.{KeyLoss, pair_losses}
+use Rattle.kt_curve.proofs.Walks.{record_stop, going_pair, going_passed}
 use Rattle.kt_curve.proofs.cells.Cells.add_pairs.Goals as goal
 
 -- no pair
@@ -27,9 +23,10 @@ passed true xs e = cc
 pub returns-in-Err-clause-step : goal.returns-in-Err-clause-step
 returns-in-Err-clause-step c = λ before stands.
     let g = c.loop-pair.invariant.going before stands in
-    let s = c.in-Err.ensures.step _ _ g in
-    (⊎_elim (λ e. inl e) (λ found. inr (record_stop (pair_losses c.args.perspective c.args.set c.args.summary c.args.at.now) c.args.pairs.now c.loop-pair.pair-index none before _ c.in-Err.stop (omega arith) (taken _ _ c.if-not-is_added.ensures) found)) s.0,
-    s.1)
+    let s = c.in-Err.ensures.step _ _ g in (
+      ⊎_elim (λ e. inl e) (λ found. inr (record_stop (pair_losses c.args.perspective c.args.set c.args.summary c.args.at.now) c.args.pairs.now c.loop-pair.pair-index none before _ c.in-Err.stop (omega arith) (taken _ _ c.if-not-is_added.ensures) found)) s.0,
+      s.1,
+    )
 
 pub loop-pair-preserved : goal.loop-pair-preserved
 loop-pair-preserved c =
@@ -38,8 +35,8 @@ loop-pair-preserved c =
       size = (c.in-Ok.ensures.size.0 ∙ now.size.0, c.in-Ok.ensures.size.1 ∙ now.size.1);
       greatest = c.in-Ok.ensures.journal;
       going = λ before stands.
-        going_pair (pair_losses c.args.perspective c.args.set c.args.summary c.args.at.now) c.args.pairs.now c.loop-pair.pair-index none before _ _ _ (omega arith) (taken _ _ c.if-not-is_added.ensures)
-        (c.in-Ok.ensures.step _ _ (now.going before stands));
+          going_pair (pair_losses c.args.perspective c.args.set c.args.summary c.args.at.now) c.args.pairs.now c.loop-pair.pair-index none before _ _ _ (omega arith) (taken _ _ c.if-not-is_added.ensures)
+          (c.in-Ok.ensures.step _ _ (now.going before stands));
     }
 
 pub loop-pair-preserved-then-not-is_added : goal.loop-pair-preserved-then-not-is_added
@@ -49,5 +46,5 @@ loop-pair-preserved-then-not-is_added c =
       size = now.size;
       greatest = now.greatest;
       going = λ before stands.
-        going_passed (pair_losses c.args.perspective c.args.set c.args.summary c.args.at.now) c.args.pairs.now c.loop-pair.pair-index none before _ _ (omega arith) (passed _ _ c.if-not-is_added.ensures) (now.going before stands);
+          going_passed (pair_losses c.args.perspective c.args.set c.args.summary c.args.at.now) c.args.pairs.now c.loop-pair.pair-index none before _ _ (omega arith) (passed _ _ c.if-not-is_added.ensures) (now.going before stands);
     }

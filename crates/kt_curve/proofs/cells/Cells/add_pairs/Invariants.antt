@@ -1,5 +1,5 @@
 -- The losses of the first pairs of a record.
-use Rattle.std.proofs.Common.{◌≡◌, ◌≤◌, List, [], ◌++◌, map, take}
+use Rattle.std.proofs.Common.{◌≡◌, ◌≤◌, List, take}
 use Rattle.std.specs.Prelude.{All}
 use Rattle.std.specs.List.{flat_map}
 use Rattle.kt_curve.specs.Losses.{KeyLoss, pair_losses}

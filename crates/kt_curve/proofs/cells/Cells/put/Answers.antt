@@ -1,12 +1,11 @@
 -- One loss put in: the entries stand for one more, and the cells stay within their bounds.
-use Rattle.std.proofs.Common.{◌≡◌, ◌≤◌, ◌+◌, ℕ, List, [], ◌∷◌, ◌++◌, arith, sym, ap, ◌∙◌, length, subst}
-use Rattle.std.specs.Prelude.{All, Some, None, Option, true}
+use Rattle.std.proofs.Common.{◌≡◌, ◌≤◌, ℕ, [], ◌∷◌, ◌++◌, sym, ap, ◌∙◌, subst}
+use Rattle.std.specs.Prelude.{true}
 use Rattle.std.proofs.lemmas.List.Elements.{All-push}
 use Rattle.kt_curve.specs.declared.cell.Change.{Change}
-use Rattle.kt_curve.specs.declared.cell.Cell.{Cell}
-use Rattle.kt_curve.specs.Standing.{most_total, total_in, maximum_in, cell_at, raised, KeptCells, Standing, sidx_in_range}
+use Rattle.kt_curve.specs.Standing.{most_total, maximum_in, KeptCells, Standing, sidx_in_range}
 use Rattle.kt_curve.proofs.Keys.{fits_insert, found_fits, fits_raised, kept_with}
-use Rattle.kt_curve.proofs.Steps.{put_step, put_stop, put_noted}
+use Rattle.kt_curve.proofs.Steps.{put_step, put_noted}
 use Rattle.kt_curve.proofs.cells.Cells.put.Goals as goal
 
 pub refusal-requires-clause-total : goal.refusal-requires-clause-total

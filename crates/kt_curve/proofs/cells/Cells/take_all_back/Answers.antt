@@ -1,9 +1,8 @@
 -- Changes taken back, the last first.
-use Rattle.std.proofs.Common.{◌≡◌, ◌≤◌, List, [], ◌∷◌, ◌++◌, ◌∙◌, Some}
+use Rattle.std.proofs.Common.{◌≤◌, ◌∙◌, Some}
 use Rattle.std.proofs.lemmas.List.Elements.{All-pop}
 use Rattle.kt_curve.specs.declared.cell.Change.{Change}
 use Rattle.kt_curve.specs.Standing.{most_total}
-use Rattle.kt_curve.specs.Journal.{Returns}
 use Rattle.kt_curve.proofs.Walks.{returns_pop}
 use Rattle.kt_curve.proofs.cells.Cells.take_all_back.Goals as goal
 
@@ -15,5 +14,5 @@ loop-change-preserved c =
       size = (c.take_back.ensures.size.0 ∙ now.size.0, c.take_back.ensures.size.1 ∙ now.size.1);
       greatest = popped.0;
       returns = λ before returns. returns_pop before c.pop.new.self.items c.in-Some.change c.loop-change.self.entries c.take_back.new.self.entries
-        (rw c.in-Some.ensures.items at (now.returns before returns)) c.take_back.ensures.taken;
+          (rw c.in-Some.ensures.items at (now.returns before returns)) c.take_back.ensures.taken;
     }

@@ -1,9 +1,8 @@
 -- One loss taken back: the entries stand for one less, and the cells stay within their bounds.
-use Rattle.std.proofs.Common.{◌≡◌, ◌≤◌, ◌<◌, ◌-◌, ◌+◌, ℕ, List, [], ◌∷◌, ◌++◌, arith, sym, ap, ◌∙◌, length, subst, refl}
-use Rattle.std.specs.Prelude.{All, Some, None, Option}
+use Rattle.std.proofs.Common.{◌≡◌, ◌-◌, [], ◌∷◌, ◌++◌, sym, ◌∙◌, length, subst, refl}
+use Rattle.std.specs.Prelude.{Some, None}
 use Rattle.kt_curve.specs.declared.cell.Cell.{Cell}
-use Rattle.kt_curve.specs.Losses.{same_key}
-use Rattle.kt_curve.specs.Standing.{most_total, cell_at, KeptCells, Standing}
+use Rattle.kt_curve.specs.Standing.{cell_at, KeptCells, Standing}
 use Rattle.kt_curve.proofs.Keys.{fits_insert, fits_remove, fits_at, fits_lowered, kept_with, on_ok, same_length, removed_one}
 use Rattle.kt_curve.proofs.Steps.{take_out, take_down, never_missing, to_key}
 use Rattle.kt_curve.proofs.cells.Cells.take_back.Goals as goal
