@@ -4,5 +4,6 @@ pub mod Walks
 pub mod Grids
 pub mod Moments
 pub mod Parts
+pub mod FirstGroup
 pub mod Ids
 pub mod Averages

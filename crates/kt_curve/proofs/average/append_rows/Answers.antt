@@ -2,7 +2,7 @@
 use Rattle.std.proofs.Common.{arith, refl}
 use Rattle.kt_curve.specs.Standing.{cell_at, total_in}
 use Rattle.kt_curve.specs.Average.{aal_rows}
-use Rattle.kt_curve.proofs.Parts.{first_group_of, part_drop, group_length-le, group_length-some, next_text}
+use Rattle.kt_curve.proofs.FirstGroup.{first_group_of, part_drop, group_length-le, group_length-some, next_text}
 use Rattle.kt_curve.proofs.average.append_rows.Goals as goal
 
 pub split_at-requires : goal.split_at-requires

@@ -4,7 +4,7 @@ use Rattle.kt_rec.specs.declared.perspective.CellKey.{CellKey}
 use Rattle.kt_curve.specs.declared.cell.Cell.{Cell}
 use Rattle.kt_curve.specs.Grid.{IsPart, set_entries}
 use Rattle.kt_curve.specs.Standing.{KeptCells}
-use Rattle.kt_curve.proofs.Parts.{part_of_kept, if_ok}
+use Rattle.kt_curve.proofs.FirstGroup.{part_of_kept, if_ok}
 use Rattle.kt_curve.proofs.cells.Cells.set_entries.Goals as goal
 
 pub returns : goal.returns
