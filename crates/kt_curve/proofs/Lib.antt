@@ -1,0 +1,9 @@
+pub mod Keys
+pub mod Steps
+pub mod Walks
+pub mod Grids
+pub mod Moments
+pub mod Parts
+pub mod FirstGroup
+pub mod Ids
+pub mod Averages
