@@ -1,0 +1,5 @@
+pub mod Sums
+pub mod Tree
+pub mod TreeLaws
+pub mod Sharing
+pub mod SharingLaws
