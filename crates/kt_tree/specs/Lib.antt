@@ -6,3 +6,4 @@ pub mod SharingLaws
 pub mod Rising
 pub mod Programme
 pub mod Examples
+pub mod ProgrammeLaws

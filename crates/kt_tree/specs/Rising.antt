@@ -3,7 +3,7 @@ use Rattle.std.specs.Prelude.{◌≡◌, ℕ, ◌<◌, ◌≤◌, ◌||◌, ◌�
 use Rattle.std.specs.List.{AllByRecursion, IsDistinct, list_any}
 use Rattle.std.specs.Cmp.{nat_eq_equiv}
 use Rattle.std.proofs.Common.{refl, sym, ap, subst, ◌∙◌, arith, inl, inr}
-use Rattle.std.proofs.lemmas.Bool.{eqb-true, eqb-false, ltb-true, ltb-false, or_right}
+use Rattle.std.proofs.lemmas.Bool.{eqb-true, eqb-false, ltb-true, ltb-false, or_left, or_right, true≢false}
 use Rattle.std.proofs.lemmas.Bool.Decides.{nat_tests}
 use Rattle.kt_tree.specs.Sums.{each_then}
 
@@ -87,3 +87,55 @@ distinct-from_rising (id ∷ ids) rises = (each_then _ _ (λ other less. apart i
   where
     apart : (one other : ℕ) → one < other → nat_eq one other ≡ false
     apart one other less = grind (arith, nat_tests)
+
+-- rising ids are distinct
+pub rising-distinct : (ids : List ℕ) → IsDistinct nat_eq (rising ids)
+rising-distinct ids = distinct-from_rising (rising ids) (rising-rises ids)
+
+-- ---- rising ids are told by what is among them
+
+-- what is among ids that are above one is above it
+above-member : (low : ℕ) (ids : List ℕ) → AllByRecursion (λ other. low < other) ids → (id : ℕ) → list_any (nat_eq id) ids ≡ true → low < id
+above-member low [] above id member = absurd (true≢false (sym member))
+above-member low (first ∷ ids) above id member = by (nat_eq id first) refl member (above-member low ids above.1 id)
+  where
+    by : (b : Bool) → nat_eq id first ≡ b → (b || list_any (nat_eq id) ids) ≡ true → (list_any (nat_eq id) ids ≡ true → low < id) → low < id
+    by true is member rest = let same = eqb-true id first is in let less = above.0 in omega arith
+    by false is member rest = rest member
+
+-- two rising lists with the same ids are one
+pub rising-unique : (one other : List ℕ) → IsRising one → IsRising other → ((id : ℕ) → list_any (nat_eq id) one ≡ list_any (nat_eq id) other) → one ≡ other
+unfolding IsRising
+rising-unique [] [] rises rises_too same = refl
+rising-unique [] (first ∷ other) rises rises_too same = absurd (true≢false (sym (same first ∙ or_left (nat_eq first first) _ (nat_eq_equiv.refl first))))
+rising-unique (first ∷ one) [] rises rises_too same = absurd (true≢false (sym (or_left (nat_eq first first) _ (nat_eq_equiv.refl first)) ∙ same first))
+rising-unique (first ∷ one) (second ∷ other) rises rises_too same =
+    let here : first ≡ second = heads in
+    let rest : one ≡ other = rising-unique one other rises.1 rises_too.1 (tails here) in
+    rw (here, rest) refl
+  where
+    heads : first ≡ second
+    heads = by (nat_eq first second) refl (same first) (nat_eq second first) refl (same second)
+      where
+        by : (b : Bool) → nat_eq first second ≡ b → (nat_eq first first || list_any (nat_eq first) one) ≡ (b || list_any (nat_eq first) other) → (c : Bool) → nat_eq second first ≡ c → (c || list_any (nat_eq second) one) ≡ (nat_eq second second || list_any (nat_eq second) other) → first ≡ second
+        by true is e c is_too e_too = eqb-true first second is
+        by false is e true is_too e_too = sym (eqb-true second first is_too)
+        by false is e false is_too e_too =
+            let up = above-member second other rises_too.0 first (sym e ∙ or_left (nat_eq first first) _ (nat_eq_equiv.refl first)) in
+            let down = above-member first one rises.0 second (e_too ∙ or_left (nat_eq second second) _ (nat_eq_equiv.refl second)) in
+            omega arith
+
+    tails : first ≡ second → (id : ℕ) → list_any (nat_eq id) one ≡ list_any (nat_eq id) other
+    tails here id = by (nat_eq id first) (nat_eq id second) refl refl (same id)
+      where
+        none : (low : ℕ) (ids : List ℕ) → AllByRecursion (λ x. low < x) ids → id ≡ low → list_any (nat_eq id) ids ≡ false
+        none low ids above is = not_member (list_any (nat_eq id) ids) refl
+          where
+            not_member : (b : Bool) → list_any (nat_eq id) ids ≡ b → list_any (nat_eq id) ids ≡ false
+            not_member true member = let less = above-member low ids above id member in absurd (omega arith)
+            not_member false member = member
+
+        by : (b c : Bool) → nat_eq id first ≡ b → nat_eq id second ≡ c → (b || list_any (nat_eq id) one) ≡ (c || list_any (nat_eq id) other) → list_any (nat_eq id) one ≡ list_any (nat_eq id) other
+        by false false is is_too e = e
+        by true c is is_too e = let at = eqb-true id first is in none first one rises.0 at ∙ sym (none second other rises_too.0 (at ∙ here))
+        by false true is is_too e = let at = eqb-true id second is_too in none first one rises.0 (at ∙ sym here) ∙ sym (none second other rises_too.0 at)
