@@ -12,7 +12,7 @@ use Rattle.kt_rules.specs.Rules.{applied}
 use Rattle.kt_rules.specs.RuleLaws.{AreShares, keeps-rule_of, loss-le-total}
 use Rattle.kt_rules.specs.declared.carry.Carry.{Carry}
 use Rattle.kt_rules.specs.declared.profile.Profile.{Profile}
-use Rattle.kt_tree.specs.Sums.{sum_by-agree, sum_by-swap, sum_by-one, sum_by-none, sum_by-filter, each_then, each_member}
+use Rattle.kt_tree.specs.Sums.{sum_by-agree, sum_by-swap, sum_by-one, sum_by-none, sum_by-filter, sum_by-below, each_then, each_member}
 use Rattle.kt_tree.specs.Tree.{Tree, IsTree, whole_loss, add_carries, sum_carries, carry_of, base_of, policy_loss, ground_up, is_unit, comes_to, beneath}
 
 -- the shares of a profile are at most the whole
@@ -112,3 +112,13 @@ pub ground_up-beneath : (tree : Tree) → IsTree tree → (losses : ℕ → ℕ)
 ground_up-beneath tree is losses top =
     ground_up-gathered tree is losses tree.top_level top (λ bottom. absurd (let above = is.levels in omega arith))
     ∙ sym (sum_by-filter losses (comes_to tree tree.top_level top) tree.ids)
+
+-- the ground-up loss beneath a unit above level 0 is not above that of all ids
+pub ground_up-few : (tree : Tree) → IsTree tree → (losses : ℕ → ℕ) (level unit : ℕ) → ground_up tree losses (suc level) unit ≤ sum_by losses tree.ids
+ground_up-few tree is losses level unit =
+    let gathered = ground_up-gathered tree is losses (suc level) unit (λ bottom. absurd (omega arith)) in
+    omega (arith, gathered, sum_by-below (λ id. cond (comes_to tree (suc level) unit id) (losses id) 0) losses tree.ids (λ id. few (comes_to tree (suc level) unit id) (losses id)))
+  where
+    few : (b : Bool) (amount : ℕ) → cond b amount 0 ≤ amount
+    few true amount = omega arith
+    few false amount = omega arith
