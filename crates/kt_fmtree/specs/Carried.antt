@@ -62,6 +62,13 @@ row_of parts losses level = row_from parts.levels (leaf_row parts.leaves losses)
 pub record CanClimb (levels : List (List Node)) (leaves : List Carry) (last : ℕ) : Type 0 where
   pub each : (level : ℕ) → level < last → All (CanCarry (row_from levels leaves level)) (slice_index_or levels level [])
 
+-- what the units of all levels but the last carry, and what comes to those of the last
+abbrev pub climbed_rows : List (List Node) → List Carry → Carried
+climbed_rows levels leaves = record {
+  rows = map (row_from levels leaves) (range_with_len 0 (length levels));
+  bases = map (child_sum (row_from levels leaves (length levels - 1))) (slice_index_or levels (length levels - 1) []);
+}
+
 -- the amounts are those of a tree, for the losses of its ids
 pub record AreCarried (tree : Tree) (loss : ℕ → ℕ) (parts : Parts) (carried : Carried) : Type 0 where
   pub rows_are : (level : ℕ) → level < tree.top_level → slice_index_or carried.rows level [] ≡ map (carry_of tree loss level) (units_at parts level)

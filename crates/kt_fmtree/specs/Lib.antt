@@ -1,3 +1,4 @@
 pub mod Parts
 pub mod Carried
 pub mod CarriedLaws
+pub mod PartsLaws

@@ -5,7 +5,7 @@ ghost use Rattle.std.specs.List.{range_with_len, sum};
 ghost use Rattle.kt_rules.specs.Amounts.{total};
 ghost use Rattle.kt_tree.specs.Tree.{Tree, whole_loss};
 ghost use Rattle.kt_fmtree.specs.Parts.{IsProgramme};
-ghost use Rattle.kt_fmtree.specs.Carried.{child_sum, node_carry, leaf_row, row_from, loss_by, CanCarry, CanClimb, AreCarried, IsCarriedBy};
+ghost use Rattle.kt_fmtree.specs.Carried.{child_sum, node_carry, leaf_row, row_from, loss_by, CanCarry, CanClimb, climbed_rows, AreCarried, IsCarriedBy};
 
 use crate::levels::Levels;
 use crate::node::Node;
@@ -115,6 +115,25 @@ fn rows_up(
     Ok(rows)
 }
 
+/// What the units of each level carry, and what comes to each top, from one loss for each id.
+fn levels_of(
+    alloc: Global,
+    levels: &[Vec<Node>],
+    leaves: &[u32],
+    losses: &[u64],
+) -> Result<Levels, AllocError>
+    requires some { 0 < length levels.now }
+    requires places { All (λ place. place < length losses.now) leaves.now }
+    requires can { CanClimb (map (λ nodes. nodes.items) levels.now) (leaf_row leaves.now losses.now) (length levels.now) }
+    ensures value { IfOk result (λ carried. carried ≡ climbed_rows (map (λ nodes. nodes.items) levels.now) (leaf_row leaves.now losses.now)) }
+{
+    let leaves = leaf_row(alloc, leaves, losses)?;
+    let last = levels.len() - 1;
+    let rows = rows_up(alloc, levels, last, leaves)?;
+    let bases = base_row(alloc, nodes_at(levels, last), row_at(&rows, last))?;
+    Ok(Levels { rows, bases })
+}
+
 impl Programme {
     /// What the units of each level carry, and what comes to each top, from one loss in cents for each id, which add to at
     /// most 10^16. An error is want of memory.
@@ -124,10 +143,7 @@ impl Programme {
         ensures value { IfOk result (λ levels. (tree : Tree) → IsProgramme tree self.now → AreCarried tree (loss_by tree.ids losses.now) self.now levels) }
         ensures carried { IfOk result (IsCarriedBy self.now) }
     {
-        let leaves = leaf_row(alloc, &self.leaves, losses)?;
-        let last = self.levels.len() - 1;
-        let rows = rows_up(alloc, &self.levels, last, leaves)?;
-        let bases = base_row(alloc, nodes_at(&self.levels, last), row_at(&rows, last))?;
-        Ok(Levels { rows, bases })
+        let carried = levels_of(alloc, &self.levels, &self.leaves, losses)?;
+        Ok(carried)
     }
 }

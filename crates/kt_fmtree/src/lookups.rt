@@ -23,13 +23,29 @@ impl Programme {
         &self.tops
     }
 
+    /// The layers of a top.
+    pub(crate) fn layers_at(&self, node: usize) -> &[u32]
+        requires { node < length self.now.tops }
+        ensures value { result.now ≡ slice_index_or self.now.layers node [] }
+    {
+        &self.layers[node]
+    }
+
+    /// The ids beneath a top.
+    fn beneath_at(&self, node: usize) -> &[u32]
+        requires { node < length self.now.tops }
+        ensures value { result.now ≡ slice_index_or self.now.beneath node [] }
+    {
+        &self.beneath[node]
+    }
+
     /// The layers, rising, of the top at a place among the tops, which is counted from 0.
     pub fn layers(&self, node: u32) -> &[u32]
         requires { node < length self.now.tops }
         ensures value { result.now ≡ slice_index_or self.now.layers node [] }
         ensures tree { (tree : Tree) → IsProgramme tree self.now → result.now ≡ tree.layers (slice_index tree.tops node) }
     {
-        &self.layers[node as usize]
+        self.layers_at(node as usize)
     }
 
     /// The ids, rising, beneath the top at a place among the tops, which is counted from 0.
@@ -38,6 +54,6 @@ impl Programme {
         ensures value { result.now ≡ slice_index_or self.now.beneath node [] }
         ensures tree { (tree : Tree) → IsProgramme tree self.now → result.now ≡ beneath tree (slice_index tree.tops node) }
     {
-        &self.beneath[node as usize]
+        self.beneath_at(node as usize)
     }
 }

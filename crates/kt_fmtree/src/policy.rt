@@ -24,14 +24,32 @@ fn place_of(layers: &[u32], layer: u32) -> usize
     unreachable!()
 }
 
+/// The terms in a place.
+fn profile_at(terms: &[Profile], place: usize) -> &Profile
+    requires { place < length terms.now }
+    ensures value { result.now ≡ slice_index_or terms.now place result.now }
+{
+    &terms[place]
+}
+
 impl Programme {
+    /// The terms of the layers of a top.
+    fn terms_at(&self, node: usize) -> &[Profile]
+        requires { node < length self.now.tops }
+        ensures value { result.now ≡ slice_index_or self.now.terms node [] }
+    {
+        &self.terms[node]
+    }
+
     /// The terms of a layer of a top.
     fn layer_terms(&self, node: usize, layer: u32) -> &Profile
         requires node { node < length self.now.tops }
         requires layer { list_any (nat_eq layer) (slice_index_or self.now.layers node []) ≡ true }
         ensures value { (tree : Tree) → IsProgramme tree self.now → result.now ≡ tree.layer_profile (slice_index tree.tops node) layer }
     {
-        &self.terms[node][place_of(&self.layers[node], layer)]
+        self.is_of_a_tree();
+        let place = place_of(self.layers_at(node), layer);
+        profile_at(self.terms_at(node), place)
     }
 
     /// What the distinct coverages beneath a top are worth.

@@ -1,5 +1,7 @@
 //! The programme of the base or of a reinsurance stage.
 //! The rule: docs/FINANCIAL_MODULE.md, "Levels".
+ghost use Rattle.kt_fmtree.specs.Parts.{HasProgramme};
+
 use crate::node::Node;
 use kt_rules::Profile;
 use std::marker::Model;
@@ -27,4 +29,13 @@ impl Model for Programme {
     ghost use Rattle.kt_fmtree.specs.Parts.{HasProgramme};
 
     ghost invariant = { λ p. HasProgramme (parts_of p) };
+}
+
+impl Programme {
+    /// Says what every programme keeps: it is that of a tree that hangs together.
+    pub fn is_of_a_tree(&self)
+        ensures kept { HasProgramme self.now }
+    {
+        let _ = &self.ids;
+    }
 }
