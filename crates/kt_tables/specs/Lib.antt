@@ -3,3 +3,4 @@ pub mod Portfolio
 pub mod Kept
 pub mod PortfolioLaws
 pub mod DamageLaws
+pub mod PeriodLaws
