@@ -4,7 +4,8 @@ use Rattle.std.proofs.lemmas.Bool.{and_parts, leb-true}
 use Rattle.kt_rules.specs.declared.profile.Profile.{Profile}
 use Rattle.kt_rules.specs.declared.steps.Step.{Step}
 use Rattle.kt_rules.specs.declared.steps.Step.TheVariants as step
-use Rattle.kt_rules.specs.Profiles.{is_good, is_rule, is_deductible_part, is_limit_part, most_of, IsProfile}
+use Rattle.kt_rec.specs.Ranges.{is_rule_number, is_deductible_part, is_limit_part}
+use Rattle.kt_rules.specs.Profiles.{is_good, most_of, IsProfile}
 use Rattle.kt_rules.specs.Steps.{can_step, can_take}
 
 -- a profile that passes the test is one
@@ -17,7 +18,7 @@ is_good-is profile good =
     let h4 = and_parts _ (nat_le profile.att1 100000000000000000) h5.0 in
     let h3 = and_parts _ (nat_le profile.ded3 100000000000000000) h4.0 in
     let h2 = and_parts _ (nat_le profile.ded2 100000000000000000) h3.0 in
-    let h1 = and_parts (is_rule profile.rule) (nat_le profile.ded1 (most_of (is_deductible_part profile.rule))) h2.0 in
+    let h1 = and_parts (is_rule_number profile.rule) (nat_le profile.ded1 (most_of (is_deductible_part profile.rule))) h2.0 in
     record {
       rule = h1.0;
       ded1 = leb-true _ _ h1.1;

@@ -7,7 +7,7 @@ use Rattle.kt_rules.specs.declared.carry.Carry.{Carry}
 use Rattle.kt_rules.specs.declared.profile.Profile.{Profile}
 use Rattle.kt_rules.specs.declared.table.Row.{Row}
 use Rattle.kt_rules.specs.declared.table.TheConstants.{TABLE}
-use Rattle.kt_rules.specs.Profiles.{is_rule}
+use Rattle.kt_rec.specs.Ranges.{is_rule_number}
 use Rattle.kt_rules.specs.Rules.{rule_of}
 use Rattle.kt_rules.specs.Steps.{IsRight, after_steps, place_of}
 
@@ -120,11 +120,11 @@ placed_below d (suc n) k all below =
     here false is there before = before (let h = eqb-false k n is in omega arith)
 
 -- a rule above 26 is the last
-last : (rule : ℕ) → is_rule rule ≡ true → nat_le rule 26 ≡ false → rule ≡ 100
+last : (rule : ℕ) → is_rule_number rule ≡ true → nat_le rule 26 ≡ false → rule ≡ 100
 last rule known is = grind (arith, nat_tests)
 
 -- each rule stands in its place
-placed : (d : Row) (rule : ℕ) → is_rule rule ≡ true → (get_or TABLE (place_of rule) d).rule ≡ rule
+placed : (d : Row) (rule : ℕ) → is_rule_number rule ≡ true → (get_or TABLE (place_of rule) d).rule ≡ rule
 unfolding are_placed
 placed d zero known = cc
 placed d (suc k) known = by (nat_le (suc k) 26) refl (placed_below d 26 k refl)
@@ -134,7 +134,7 @@ placed d (suc k) known = by (nat_le (suc k) 26) refl (placed_below d 26 k refl)
     by false is before = sym (last (suc k) known is)
 
 -- the row in the place of a rule takes its steps
-pub steps_right : (rule k : ℕ) (d : Row) → is_rule rule ≡ true → k ≡ place_of rule → (terms : Profile) (tiv : ℕ) (carry : Carry) → after_steps (get_or TABLE k d).steps terms tiv carry.loss carry ≡ rule_of rule terms tiv carry
+pub steps_right : (rule k : ℕ) (d : Row) → is_rule_number rule ≡ true → k ≡ place_of rule → (terms : Profile) (tiv : ℕ) (carry : Carry) → after_steps (get_or TABLE k d).steps terms tiv carry.loss carry ≡ rule_of rule terms tiv carry
 steps_right rule k d known is terms tiv carry =
     let number : (get_or TABLE k d).rule ≡ rule = subst (λ m. (get_or TABLE m d).rule ≡ rule) (sym is) (placed d rule known) in
     let right = at TABLE each_right k d (within rule k is) in

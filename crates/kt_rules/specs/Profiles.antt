@@ -1,21 +1,9 @@
 -- The terms of a profile, and the ranges that go by its rule.
 -- The rules: docs/FINANCIAL_MODULE.md, "Terms".
-use Rattle.std.specs.Prelude.{◌≡◌, ℕ, ◌≤◌, ◌&&◌, ◌||◌, Bool, true, cond, nat_eq, nat_le}
+use Rattle.std.specs.Prelude.{◌≡◌, ℕ, ◌≤◌, ◌&&◌, Bool, true, cond, nat_le}
+use Rattle.kt_rec.specs.Ranges.{is_rule_number, is_deductible_part, is_limit_part}
 use Rattle.kt_rec.specs.declared.financial.FmProfile.{FmProfile}
 use Rattle.kt_rules.specs.declared.profile.Profile.{Profile}
-
--- whether there is such a rule
-abbrev pub is_rule : ℕ → Bool
-is_rule rule = (nat_le 1 rule && nat_le rule 26) || nat_eq rule 100
-
--- whether the first deductible of a rule is in parts per million
-abbrev pub is_deductible_part : ℕ → Bool
-is_deductible_part rule =
-    (nat_le 4 rule && nat_le rule 6) || nat_eq rule 9 || (nat_le 16 rule && nat_le rule 19) || nat_eq rule 21 || nat_eq rule 26
-
--- whether the limit of a rule is in parts per million
-abbrev pub is_limit_part : ℕ → Bool
-is_limit_part rule = nat_eq rule 5 || nat_eq rule 15
 
 -- the most of a term, by whether it is in parts per million or in cents
 abbrev pub most_of : Bool → ℕ
@@ -24,7 +12,7 @@ most_of is_part = cond is_part 1000000 100000000000000000
 -- whether the rule is known and each term is in its range
 abbrev pub is_good : Profile → Bool
 is_good profile =
-    is_rule profile.rule
+    is_rule_number profile.rule
     && nat_le profile.ded1 (most_of (is_deductible_part profile.rule))
     && nat_le profile.ded2 100000000000000000
     && nat_le profile.ded3 100000000000000000
@@ -36,7 +24,7 @@ is_good profile =
 
 -- the rule is known, and each term is in its range
 pub record IsProfile (profile : Profile) : Type 0 where
-  pub rule : is_rule profile.rule ≡ true
+  pub rule : is_rule_number profile.rule ≡ true
   pub ded1 : profile.ded1 ≤ most_of (is_deductible_part profile.rule)
   pub ded2 : profile.ded2 ≤ 100000000000000000
   pub ded3 : profile.ded3 ≤ 100000000000000000

@@ -7,6 +7,9 @@ use Rattle.kt_money.specs.Rounding.{ppm_part}
 use Rattle.kt_rules.specs.declared.carry.Carry.{Carry}
 use Rattle.kt_rules.specs.declared.profile.Profile.{Profile}
 use Rattle.kt_rules.specs.Amounts.{total, deduct, limited, attached, shared, franchise, reverse_franchise, at_most, at_least, between}
+use Rattle.kt_rec.specs.Ranges.{IsTerm, IsFmProfile, is_deductible_part, is_limit_part}
+use Rattle.kt_rec.specs.declared.financial.FmProfile.{FmProfile}
+use Rattle.kt_rules.specs.Profiles.{IsProfile, most_of, profile_of}
 use Rattle.kt_rules.specs.Rules.{Rule, rules, rule_among, rule_of, applied}
 
 -- the shares are at most the whole
@@ -161,3 +164,25 @@ keeps-rule_of number = keep_among rules keep number
 -- so the loss that is left is not above it
 pub loss-le-total : (profile : Profile) (tiv : ℕ) (carry : Carry) → AreShares profile → (applied profile tiv carry).loss ≤ total carry
 loss-le-total profile tiv carry shares = omega (arith, keeps-rule_of profile.rule profile tiv carry shares)
+
+-- ---- the terms of rows
+
+-- a term in its range is in that of its rule
+within : (is_part : Bool) (term : ℕ) → IsTerm is_part term → term ≤ most_of is_part
+within true term is = is
+within false term is = omega arith
+
+-- the terms of a row in its ranges are a profile
+pub profile_of-is : (row : FmProfile) → IsFmProfile row → IsProfile (profile_of row)
+profile_of-is row is =
+    record {
+      rule = is.calcrule_id;
+      ded1 = within (is_deductible_part row.calcrule_id) row.deductible1 is.deductible1;
+      ded2 = omega arith;
+      ded3 = omega arith;
+      att1 = omega arith;
+      lim1 = within (is_limit_part row.calcrule_id) row.limit1 is.limit1;
+      share1 = is.share1;
+      share2 = is.share2;
+      share3 = is.share3;
+    }

@@ -7,7 +7,7 @@ use Rattle.kt_rules.specs.declared.steps.Step.{Step}
 use Rattle.kt_rules.specs.declared.steps.Step.TheVariants as step
 use Rattle.kt_rules.specs.declared.table.Row.{Row}
 use Rattle.kt_rules.specs.Amounts.{deduct, limited, attached, shared, franchise, reverse_franchise, at_most, at_least, between}
-use Rattle.kt_rules.specs.Profiles.{is_deductible_part, is_limit_part}
+use Rattle.kt_rec.specs.Ranges.{is_deductible_part, is_limit_part}
 use Rattle.kt_rules.specs.Rules.{part_of, bounded_part_of, rule_of}
 
 -- what a step makes of the four amounts, beside the insured value and the loss before the rule's first step

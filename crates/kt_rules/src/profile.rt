@@ -1,7 +1,8 @@
 //! The terms of a profile, in the ranges of its rule.
 //! The rules: docs/FINANCIAL_MODULE.md, "Terms".
 ghost use Rattle.std.specs.Prelude.{◌≡◌, ◌≤◌, ◌||◌, nat_eq, true, cond, IfOk, OnErr};
-ghost use Rattle.kt_rules.specs.Profiles.{is_rule, is_deductible_part, is_limit_part, is_good, profile_of, IsProfile};
+ghost use Rattle.kt_rec.specs.Ranges.{is_rule_number, is_deductible_part, is_limit_part};
+ghost use Rattle.kt_rules.specs.Profiles.{is_good, profile_of, IsProfile};
 
 use kt_rec::FmProfile;
 
@@ -39,16 +40,22 @@ const WHOLE: u64 = 1_000_000;
 
 /// Whether there is such a rule.
 fn is_rule(rule: u32) -> bool
-    ensures value { result ≡ is_rule rule }
+    ensures value { result ≡ is_rule_number rule }
 {
-    1 <= rule && rule <= 26 || rule == 100
+    (1 <= rule && rule <= 26) || rule == 100
 }
 
 /// Whether the first deductible of a rule is in parts per million.
 fn is_deductible_part(rule: u32) -> bool
     ensures value { result ≡ is_deductible_part rule }
 {
-    4 <= rule && rule <= 6 || rule == 9 || 16 <= rule && rule <= 19 || rule == 21 || rule == 26
+    rule == 4
+        || rule == 5
+        || rule == 6
+        || rule == 9
+        || (16 <= rule && rule <= 19)
+        || rule == 21
+        || rule == 26
 }
 
 /// Whether the limit of a rule is in parts per million.

@@ -3,7 +3,8 @@
 ghost use Rattle.std.specs.Prelude.{◌≡◌, ◌≤◌, ◌^◌, true};
 ghost use Rattle.kt_money.specs.Rounding.{ppm_part};
 ghost use Rattle.kt_rules.specs.Amounts.{total};
-ghost use Rattle.kt_rules.specs.Profiles.{IsProfile, is_deductible_part, is_limit_part};
+ghost use Rattle.kt_rec.specs.Ranges.{is_deductible_part, is_limit_part};
+ghost use Rattle.kt_rules.specs.Profiles.{IsProfile};
 ghost use Rattle.kt_rules.specs.Rules.{part_of, bounded_part_of};
 ghost use Rattle.kt_rules.specs.Steps.{after_step, can_step};
 

@@ -3,7 +3,7 @@
 ghost use Rattle.std.specs.Prelude.{◌≡◌, ◌<◌, ℕ, true};
 ghost use Rattle.kt_rules.specs.declared.carry.Carry.{Carry};
 ghost use Rattle.kt_rules.specs.declared.profile.Profile.{Profile};
-ghost use Rattle.kt_rules.specs.Profiles.{is_rule};
+ghost use Rattle.kt_rec.specs.Ranges.{is_rule_number};
 ghost use Rattle.kt_rules.specs.Rules.{rule_of};
 ghost use Rattle.kt_rules.specs.Steps.{after_steps, can_take, place_of};
 
@@ -137,7 +137,7 @@ const TABLE: [Row; 27] = [
 
 /// The place of a rule in the table.
 fn place_of(rule: u32) -> usize
-    requires { is_rule rule ≡ true }
+    requires { is_rule_number rule ≡ true }
     ensures within { result < 27 }
     ensures value { result ≡ place_of rule }
 {
@@ -146,7 +146,7 @@ fn place_of(rule: u32) -> usize
 
 /// The steps of a rule.
 pub(crate) fn steps_of(rule: u32) -> [Step; 4]
-    requires { is_rule rule ≡ true }
+    requires { is_rule_number rule ≡ true }
     ensures can { can_take result rule ≡ true }
     ensures value { (terms : Profile) (tiv : ℕ) (carry : Carry) → after_steps result terms tiv carry.loss carry ≡ rule_of rule terms tiv carry }
 {
