@@ -2,3 +2,4 @@ pub mod Parts
 pub mod Carried
 pub mod CarriedLaws
 pub mod PartsLaws
+pub mod Plan

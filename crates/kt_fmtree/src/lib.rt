@@ -3,11 +3,15 @@
 
 mod carrying;
 mod levels;
+mod links;
 mod lookups;
 mod node;
+mod plan;
 mod policy;
 mod programme;
+mod rising;
 mod sums;
+mod terms;
 
 pub use levels::Levels;
 pub use programme::Programme;
