@@ -24,6 +24,14 @@ link_of row = record { level = row.level_id; unit = row.to_agg_id; child = row.f
 abbrev pub link_key : Link → ℕ
 link_key row = row.level * 2 ^ 32 + row.unit
 
+-- the link of a layer to its unit
+abbrev pub layer_link : FmPolicytc → Link
+layer_link row = record { level = row.level_id; unit = row.agg_id; child = row.layer_id }
+
+-- what links have for a unit of a level, rising
+abbrev pub linked : List Link → ℕ → ℕ → List ℕ
+linked links level unit = rising (map (λ row. row.child) (filter (λ row. nat_eq (link_key row) (level * 2 ^ 32 + unit)) links))
+
 -- the terms are those of the tables
 pub record AreTerms (policytc : List FmPolicytc) (profiles : List FmProfile) (terms : Terms) : Type 0 where
   pub units : (key : ℕ × ℕ × ℕ) → get same_triple terms.by_unit key ≡ lookup (same_triple key) (map (λ row. ((row.layer_id, row.level_id, row.agg_id), row.policytc_id)) policytc)
@@ -41,7 +49,7 @@ found_tiv plan level unit = unwrap_or (get same_pair plan.tivs (level, unit)) 0
 
 -- the units whose losses come to a unit of a level, as they were found
 abbrev pub kids : Plan → ℕ → ℕ → List ℕ
-kids plan level unit = rising (map (λ row. row.child) (filter (λ row. nat_eq (link_key row) (level * 2 ^ 32 + unit)) plan.links))
+kids plan level unit = linked plan.links level unit
 
 -- a unit of a level, with so many children from a place on
 abbrev pub new_node : Plan → ℕ → ℕ → ℕ → ℕ → Node

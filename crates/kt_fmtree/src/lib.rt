@@ -2,10 +2,12 @@
 #![tactic(auto)]
 
 mod carrying;
+mod leaves;
 mod levels;
 mod links;
 mod lookups;
 mod node;
+mod outline;
 mod plan;
 mod policy;
 mod programme;

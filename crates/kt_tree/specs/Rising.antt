@@ -51,7 +51,7 @@ rising-member (id ∷ ids) other = put-member id (rising ids) other ∙ ap (λ b
 -- ---- their order
 
 -- ids above one are above a lower one
-above-all : (low high : ℕ) (ids : List ℕ) → low ≤ high → AllByRecursion (λ other. high < other) ids → AllByRecursion (λ other. low < other) ids
+pub above-all : (low high : ℕ) (ids : List ℕ) → low ≤ high → AllByRecursion (λ other. high < other) ids → AllByRecursion (λ other. low < other) ids
 above-all low high ids less above = each_then _ _ (λ other h. omega arith) ids above
 
 put-rising : (id : ℕ) (ids : List ℕ) → IsRising ids → IsRising (put id ids)
