@@ -3,3 +3,4 @@ pub mod RowLemmas
 pub mod RisingLemmas
 pub mod PlanLemmas
 pub mod LeafLemmas
+pub mod CoverageLemmas

@@ -141,15 +141,16 @@ module _ (tree : Tree) (plan : Plan) (finds : Finds tree plan) (level : ℕ) (le
       let mine = kids plan level unit in
       let rest = flat_map (kids plan level) units in
       let long : length (before ++ mine) ≡ length before + length mine = length-append before mine in
-      let later = nodes_from-are (before ++ mine) units small.1 in
-      (record {
+      let later = nodes_from-are (before ++ mine) units small.1 in (
+        record {
           within = let all = length-append before (mine ++ rest) in let back = length-append mine rest in omega arith;
           children_are = take-behind before mine rest ∙ finds.children_are level unit small.0;
           tiv_is = finds.tivs_are level unit least most;
           profile_is = finds.profiles_are level unit;
         },
-      subst (λ n. AllByRecursion (IsNode tree level (before ++ (mine ++ rest))) (nodes_from plan level n units)) long
-      (subst (λ bs. AllByRecursion (IsNode tree level bs) (nodes_from plan level (length (before ++ mine)) units)) (append_assoc before mine rest) later))
+        subst (λ n. AllByRecursion (IsNode tree level (before ++ (mine ++ rest))) (nodes_from plan level n units)) long
+            (subst (λ bs. AllByRecursion (IsNode tree level bs) (nodes_from plan level (length (before ++ mine)) units)) (append_assoc before mine rest) later),
+      )
 
 -- the units of each level are small
 units_from-small : (tree : Tree) (plan : Plan) → Finds tree plan → (level at : ℕ) (units : List ℕ) → AllByRecursion (λ unit. unit < 2 ^ 32) units → AllByRecursion (λ unit. unit < 2 ^ 32) (units_from plan level units at)

@@ -2,6 +2,7 @@
 #![tactic(auto)]
 
 mod carrying;
+mod coverage;
 mod leaves;
 mod levels;
 mod links;

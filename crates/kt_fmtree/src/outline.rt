@@ -16,10 +16,10 @@ use crate::terms::Terms;
 use kt_checks::climbed;
 use kt_index::ByKey;
 use kt_keys::top_level;
-use kt_rules::Profile;
-use std::collections::HashMap;
 use kt_rec::{FmPolicytc, FmProgramme};
+use kt_rules::Profile;
 use std::alloc::{AllocError, Global};
+use std::collections::HashMap;
 
 /// The units from which losses come at level 1.
 fn sources(alloc: Global, programme: &[FmProgramme]) -> Result<Vec<u32>, AllocError>
@@ -80,10 +80,7 @@ fn layer_rows(alloc: Global, policytc: &[FmPolicytc]) -> Result<Vec<Link>, Alloc
 }
 
 /// The links of the layers of units, by their units.
-pub(crate) fn layer_links(
-    alloc: Global,
-    policytc: &[FmPolicytc],
-) -> Result<ByKey<Link>, AllocError>
+pub(crate) fn layer_links(alloc: Global, policytc: &[FmPolicytc]) -> Result<ByKey<Link>, AllocError>
     ensures kept { IfOk result (λ links. (key : ℕ) → filter (λ row. nat_eq (link_key row) key) links ≡ filter (λ row. nat_eq (link_key row) key) (map layer_link policytc.now)) }
 {
     let rows = layer_rows(alloc, policytc)?;
@@ -197,11 +194,7 @@ fn top_links(
 }
 
 /// The ids beneath each top, by links of ids to tops.
-fn linked_ids(
-    alloc: Global,
-    links: &ByKey<Link>,
-    tops: &[u32],
-) -> Result<Vec<Vec<u32>>, AllocError>
+fn linked_ids(alloc: Global, links: &ByKey<Link>, tops: &[u32]) -> Result<Vec<Vec<u32>>, AllocError>
     ensures value { IfOk result (λ rows. map (λ row. row.items) rows.items ≡ map (λ top. linked links.now 0 top) tops.now) }
 {
     let mut rows = Vec::with_capacity(alloc, tops.len())?;
