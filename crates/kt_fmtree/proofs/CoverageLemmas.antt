@@ -1,5 +1,5 @@
 -- What the coverages beneath a unit are worth is the sum over the distinct coverages beneath it.
-use Rattle.std.proofs.Common.{◌≡◌, ℕ, zero, suc, ◌+◌, ◌≤◌, ◌<◌, Bool, true, false, cond, List, [], ◌∷◌, ◌++◌, length, map, refl, ap, sym, subst, ◌∙◌, nat_eq, Option, None, Some, unwrap_or, arith, zero-add}
+use Rattle.std.proofs.Common.{◌≡◌, ℕ, zero, suc, ◌+◌, ◌≤◌, ◌<◌, Bool, true, false, cond, List, [], ◌∷◌, ◌++◌, length, map, refl, ap, sym, subst, ◌∙◌, nat_eq, Option, None, Some, unwrap_or, arith, zero-add, append-nil, append_assoc, ◌-◌}
 use Rattle.std.proofs.Math.Path.{fun_ext}
 use Rattle.std.specs.Prelude.{◌&&◌, ◌||◌, All}
 use Rattle.std.specs.List.{IsDistinct, AllByRecursion, flat_map, list_any, sum_by}
@@ -45,17 +45,17 @@ tiv_of-absent (row ∷ coverages) id h = by (nat_eq id row.coverage_id) (tiv_of-
 
 -- the sum of values over distinct ids, of which one may have another value in place of 0
 sum-one : (value : ℕ → ℕ) (key amount : ℕ) → value key ≡ 0 → (ids : List ℕ) → IsDistinct nat_eq ids → sum_by (λ id. cond (nat_eq id key) amount (value id)) ids ≡ cond (list_any (nat_eq key) ids) amount 0 + sum_by value ids
-sum-one value key amount zero [] apart = refl
-sum-one value key amount zero (id ∷ ids) apart =
+sum-one value key amount without [] apart = refl
+sum-one value key amount without (id ∷ ids) apart =
     sum_by-cons (λ x. cond (nat_eq x key) amount (value x)) id ids
-    ∙ (by (nat_eq id key) refl (sum-one value key amount zero ids (IsDistinct-tail nat_eq id ids apart)) (absent id ids (IsDistinct-head nat_eq id ids apart))
+    ∙ (by (nat_eq id key) refl (sum-one value key amount without ids (IsDistinct-tail nat_eq id ids apart)) (absent id ids (IsDistinct-head nat_eq id ids apart))
     ∙ ap (λ n. cond (list_any (nat_eq key) (id ∷ ids)) amount 0 + n) (sym (sum_by-cons value id ids)))
   where
     by : (b : Bool) → nat_eq id key ≡ b → sum_by (λ x. cond (nat_eq x key) amount (value x)) ids ≡ cond (list_any (nat_eq key) ids) amount 0 + sum_by value ids → list_any (nat_eq id) ids ≡ false → cond (nat_eq id key) amount (value id) + sum_by (λ x. cond (nat_eq x key) amount (value x)) ids ≡ cond (nat_eq key id || list_any (nat_eq key) ids) amount 0 + (value id + sum_by value ids)
     by true e rest none =
         let same : id ≡ key = eqb-true id key e in
         let gone : list_any (nat_eq key) ids ≡ false = subst (λ n. list_any (nat_eq n) ids ≡ false) same none in
-        let nothing : value id ≡ 0 = ap value same ∙ zero in
+        let nothing : value id ≡ 0 = ap value same ∙ without in
         rw (e, eq_flip key id, e, rest, gone, nothing) refl
     by false e rest none = rw (e, eq_flip key id, e, rest) (omega arith)
 
@@ -126,8 +126,85 @@ climb-at next (suc levels) level unit coverage (suc high) top test below = by (n
     by (Some reached) rest =
         let other : nat_eq level (level + suc high) ≡ false = grind (arith, nat_tests) in
         let same : level + suc high ≡ level + 1 + high = omega arith in
-        rw (other, same) (rest reached)
+        ap (λ b. (b && (nat_eq reached top && test coverage)) || list_any (λ row. nat_eq row.set (level + suc high) && (nat_eq row.summary top && test row.unit)) (climb_rows next levels (level + 1) reached coverage)) other
+        ∙ (ap (λ n. list_any (λ row. nat_eq row.set n && (nat_eq row.summary top && test row.unit)) (climb_rows next levels (level + 1) reached coverage)) same ∙ rest reached)
 
 -- a coverage is of another exactly where they are one, among coverages
+own-yes : (coverages : List Coverage) (coverage : ℕ) → list_any (nat_eq coverage) (map (λ row. row.coverage_id) coverages) ≡ true → unit_covers (map own_pair coverages) coverage coverage ≡ true
+own-yes [] coverage member = member
+own-yes (row ∷ coverages) coverage member = by (nat_eq coverage row.coverage_id) (eq_flip row.coverage_id coverage) member (own-yes coverages coverage)
+  where
+    by : (b : Bool) → nat_eq row.coverage_id coverage ≡ b → (b || list_any (nat_eq coverage) (map (λ x. x.coverage_id) coverages)) ≡ true → (list_any (nat_eq coverage) (map (λ x. x.coverage_id) coverages) ≡ true → unit_covers (map own_pair coverages) coverage coverage ≡ true) → ((nat_eq row.coverage_id coverage && nat_eq row.coverage_id coverage) || unit_covers (map own_pair coverages) coverage coverage) ≡ true
+    by true is member rest = ap (λ b. (b && b) || unit_covers (map own_pair coverages) coverage coverage) is
+    by false is member rest = ap (λ b. (b && b) || unit_covers (map own_pair coverages) coverage coverage) is ∙ rest member
+
+own-no : (coverages : List Coverage) (unit coverage : ℕ) → nat_eq unit coverage ≡ false → unit_covers (map own_pair coverages) unit coverage ≡ false
+own-no [] unit coverage apart = refl
+own-no (row ∷ coverages) unit coverage apart =
+    ap (λ b. b || unit_covers (map own_pair coverages) unit coverage) (differ row.coverage_id) ∙ own-no coverages unit coverage apart
+  where
+    differ : (id : ℕ) → (nat_eq id unit && nat_eq id coverage) ≡ false
+    differ id = grind (arith, nat_tests)
+
 own-covers : (coverages : List Coverage) (unit coverage : ℕ) → list_any (nat_eq coverage) (map (λ row. row.coverage_id) coverages) ≡ true → unit_covers (map own_pair coverages) unit coverage ≡ nat_eq unit coverage
-own-covers coverages unit coverage member = ?
+own-covers coverages unit coverage member = by (nat_eq unit coverage) refl
+  where
+    by : (b : Bool) → nat_eq unit coverage ≡ b → unit_covers (map own_pair coverages) unit coverage ≡ b
+    by true is = subst (λ n. unit_covers (map own_pair coverages) n coverage ≡ true) (sym (eqb-true unit coverage is)) (own-yes coverages coverage member)
+    by false is = own-no coverages unit coverage is
+
+-- ---- a climb, step by step
+
+pub climb-ends : (next : ℕ × ℕ → Option ℕ) (levels level unit coverage : ℕ) (rows all : List SummaryUnit) → 0 < levels → None ≡ next (level, unit) → rows ++ climb_rows next levels level unit coverage ≡ all → rows ≡ all
+climb-ends next zero level unit coverage rows all some none so_far = absurd (omega arith)
+climb-ends next (suc levels) level unit coverage rows all some none so_far =
+    sym (append-nil rows) ∙ (ap (λ found. rows ++ row_and level coverage found (λ reached. climb_rows next levels (level + 1) reached coverage)) none ∙ so_far)
+
+pub climb-goes : (next : ℕ × ℕ → Option ℕ) (levels level unit coverage reached : ℕ) (rows more all : List SummaryUnit) → 0 < levels → Some reached ≡ next (level, unit) → rows ++ climb_rows next levels level unit coverage ≡ all → more ≡ rows ++ record { set = level; summary = reached; unit = coverage } ∷ [] → more ++ climb_rows next (levels - 1) (level + 1) reached coverage ≡ all
+climb-goes next zero level unit coverage reached rows more all some found so_far more_is = absurd (omega arith)
+climb-goes next (suc levels) level unit coverage reached rows more all some found so_far more_is =
+    let less : suc levels - 1 ≡ levels = omega arith in
+    ap (λ n. more ++ climb_rows next n (level + 1) reached coverage) less
+    ∙ (ap (λ rs. rs ++ climb_rows next levels (level + 1) reached coverage) more_is
+    ∙ (append_assoc rows (record { set = level; summary = reached; unit = coverage } ∷ []) (climb_rows next levels (level + 1) reached coverage)
+    ∙ (ap (λ at. rows ++ row_and level coverage at (λ r. climb_rows next levels (level + 1) r coverage)) found ∙ so_far)))
+
+-- ---- what is found is what lies beneath
+
+list_any-flat_map : {X Y : Type 0} (test : Y → Bool) (f : X → List Y) (xs : List X) → list_any test (flat_map f xs) ≡ list_any (λ x. list_any test (f x)) xs
+list_any-flat_map test f [] = refl
+list_any-flat_map test f (x ∷ xs) = list_any-append test (f x) (flat_map f xs) ∙ ap (λ b. list_any test (f x) || b) (list_any-flat_map test f xs)
+
+-- the rows of ids with their coverages cover what lies beneath a unit of a level
+covers-beneath : (next : ℕ × ℕ → Option ℕ) (top high unit coverage : ℕ) (covered : List (ℕ × Option ℕ)) (coverages : List Coverage) → high < top → list_any (nat_eq coverage) (map (λ row. row.coverage_id) coverages) ≡ true → summary_covers (flat_map (rows_for next top) covered) (map own_pair coverages) (1 + high, unit) coverage ≡ has_coverage covered next (suc high) unit coverage
+covers-beneath next top high unit coverage covered coverages below member =
+    list_any-flat_map (λ row. nat_eq row.set (1 + high) && nat_eq row.summary unit && unit_covers (map own_pair coverages) row.unit coverage) (rows_for next top) covered
+    ∙ ap (λ test. list_any test covered) (fun_ext (λ (pair : ℕ × Option ℕ). one pair.0 pair.1))
+  where
+    grouped : (a b c : Bool) → (a && b && c) ≡ (a && (b && c))
+    grouped true b c = refl
+    grouped false b c = refl
+
+    and_none : (b : Bool) → (b && false) ≡ false
+    and_none true = refl
+    and_none false = refl
+
+    one : (id : ℕ) (found : Option ℕ) → list_any (λ row. nat_eq row.set (1 + high) && nat_eq row.summary unit && unit_covers (map own_pair coverages) row.unit coverage) (covered_rows next top id found) ≡ (is_unit unit (climbed next (suc high) 1 id) && is_unit coverage found)
+    one id None = sym (and_none (is_unit unit (climbed next (suc high) 1 id)))
+    one id (Some own) =
+        ap (λ test. list_any test (climb_rows next top 1 id own)) (fun_ext (λ (row : SummaryUnit). grouped (nat_eq row.set (1 + high)) (nat_eq row.summary unit) (unit_covers (map own_pair coverages) row.unit coverage)))
+        ∙ (climb-at next top 1 id own high unit (λ u. unit_covers (map own_pair coverages) u coverage) below
+        ∙ ap (λ b. is_unit unit (climbed next (suc high) 1 id) && b) (own-covers coverages own coverage member))
+
+-- what was found for a unit of a level is the sum over the distinct coverages beneath
+pub found-beneath : (next : ℕ × ℕ → Option ℕ) (top level unit total : ℕ) (covered : List (ℕ × Option ℕ)) (coverages : List Coverage) → IsDistinct nat_eq (map (λ row. row.coverage_id) coverages) → 1 ≤ level → level ≤ top → IsTotalOf (summary_covers (flat_map (rows_for next top) covered) (map own_pair coverages) (level, unit)) (tiv_of coverages) total → total ≡ sum_by (λ row. cond (has_coverage covered next level unit row.coverage_id) row.tiv 0) coverages
+found-beneath next top zero unit total covered coverages apart least most found = absurd (omega arith)
+found-beneath next top (suc high) unit total covered coverages apart least most found =
+    let same : suc high ≡ 1 + high = omega arith in
+    found.is ∙ (total_is coverages apart (summary_covers (flat_map (rows_for next top) covered) (map own_pair coverages) (suc high, unit)) found.ids found.distinct found.passing
+    ∙ (ap (λ n. sum_by (λ row. cond (summary_covers (flat_map (rows_for next top) covered) (map own_pair coverages) (n, unit) row.coverage_id) row.tiv 0) coverages) same
+    ∙ sum_by-agree _ _ coverages (members coverages (each_member (map (λ row. row.coverage_id) coverages)))))
+  where
+    members : (rows : List Coverage) → AllByRecursion (λ id. list_any (nat_eq id) (map (λ row. row.coverage_id) coverages) ≡ true) (map (λ row. row.coverage_id) rows) → AllByRecursion (λ row. cond (summary_covers (flat_map (rows_for next top) covered) (map own_pair coverages) (1 + high, unit) row.coverage_id) row.tiv 0 ≡ cond (has_coverage covered next (suc high) unit row.coverage_id) row.tiv 0) rows
+    members [] all = tt
+    members (row ∷ rows) all = (ap (λ b. cond b row.tiv 0) (covers-beneath next top high unit row.coverage_id covered coverages (omega arith) all.0), members rows all.1)

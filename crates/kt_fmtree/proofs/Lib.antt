@@ -4,3 +4,4 @@ pub mod RisingLemmas
 pub mod PlanLemmas
 pub mod LeafLemmas
 pub mod CoverageLemmas
+pub mod FindLemmas
