@@ -10,14 +10,24 @@ use Rattle.std.proofs.lemmas.Bool.Decides.{nat_tests}
 use Rattle.kt_rec.specs.declared.financial.FmPolicytc.{FmPolicytc}
 use Rattle.kt_rec.specs.declared.financial.FmProfile.{FmProfile}
 use Rattle.kt_rec.specs.declared.financial.FmProgramme.{FmProgramme}
-use Rattle.kt_keys.specs.Keys.{same_triple}
-use Rattle.kt_checks.specs.OutputChecks.{climbed}
+use Rattle.kt_rec.specs.Ranges.{IsFmProgramme, IsFmPolicytc}
+use Rattle.kt_rec.specs.Rows.{Rows}
+use Rattle.kt_rec.specs.declared.exposure.Coverage.{Coverage}
+use Rattle.kt_keys.specs.Keys.{same_triple, programme_of, policytc_of, profile_of as profiles_of}
+use Rattle.kt_keys.specs.Units.{top_level}
+use Rattle.kt_index.specs.Exposure.{IsTotalOf, summary_covers}
+use Rattle.kt_checks.specs.TableChecks.{tiv_of}
+use Rattle.kt_checks.specs.OutputChecks.{climbed, next_unit}
 use Rattle.kt_rules.specs.declared.profile.Profile.{Profile}
 use Rattle.kt_tree.specs.Sums.{each_then, each_member, each_flat_map}
 use Rattle.kt_tree.specs.Rising.{put, rising, IsRising, rising-member, rising-rises, rising-unique}
 use Rattle.kt_tree.specs.Tree.{Tree, IsTree, is_unit, comes_to}
-use Rattle.kt_tree.specs.Programme.{terms_or_none, with_id, profile_with, terms_in}
-use Rattle.kt_fmtree.specs.Plan.{link_key, linked, found_terms, AreTerms, kids, Finds, build_leaves}
+use Rattle.kt_tree.specs.Programme.{terms_or_none, with_id, profile_with, terms_in, covered_ids, has_coverage, tiv_beneath, tree_of}
+use Rattle.kt_tree.specs.ProgrammeLaws.{tree_of-is}
+use Rattle.kt_fmtree.proofs.CoverageLemmas.{found-beneath}
+use Rattle.kt_fmtree.specs.Coverages.{rows_for, own_pair}
+use Rattle.kt_fmtree.specs.Ready.{IsReady, each-from}
+use Rattle.kt_fmtree.specs.Plan.{link_key, link_of, linked, found_terms, found_tiv, AreTerms, kids, Finds, build_leaves}
 use Rattle.kt_fmtree.specs.declared.links.Link.{Link}
 use Rattle.kt_fmtree.specs.declared.plan.Plan.{Plan}
 use Rattle.kt_fmtree.specs.declared.terms.Terms.{Terms}
@@ -149,3 +159,51 @@ pub beneath-found : (climb : ℕ → Option ℕ) (links : List Link) (ids : List
 beneath-found climb links ids rises kept top =
     ap (λ found. rising (map (λ row. row.child) found)) (kept (0 * 2 ^ 32 + top))
     ∙ (ap rising (top-rows climb top ids) ∙ rising-same (filter (λ id. is_unit top (climb id)) ids) (filter-rises (λ id. is_unit top (climb id)) ids rises))
+
+-- ---- a plan of the tables
+
+-- what was found for each unit of each level is what lies beneath
+pub tivs-beneath : (rows : Rows) (stage : ℕ) → IsReady rows stage → (next : ℕ × ℕ → Option ℕ) (top : ℕ) (covered : List (ℕ × Option ℕ)) (coverages : List Coverage) → next ≡ next_unit (programme_of rows stage) → top ≡ top_level (programme_of rows stage) → covered ≡ covered_ids rows stage → coverages ≡ rows.coverages → (found : ℕ × ℕ → ℕ)
+    → ((key : ℕ × ℕ) → IsTotalOf (summary_covers (flat_map (rows_for next top) covered) (map own_pair coverages) key) (tiv_of coverages) (found key))
+    → (level unit : ℕ) → 1 ≤ level → level ≤ top_level (programme_of rows stage) → found (level, unit) ≡ tiv_beneath rows stage level unit
+tivs-beneath rows stage ready next top covered coverages next_is top_is covered_is coverages_are found totals level unit least most =
+    let apart = subst (λ (cs : List Coverage). IsDistinct nat_eq (map (λ row. row.coverage_id) cs)) (sym coverages_are) ready.has.coverages in
+    found-beneath next top level unit (found (level, unit)) covered coverages apart least (omega arith) (totals (level, unit))
+    ∙ (ap (λ n. sum_by (λ (row : Coverage). cond (has_coverage covered n level unit row.coverage_id) row.tiv 0) coverages) next_is
+    ∙ (ap (λ cs. sum_by (λ (row : Coverage). cond (has_coverage cs (next_unit (programme_of rows stage)) level unit row.coverage_id) row.tiv 0) coverages) covered_is
+    ∙ ap (sum_by (λ (row : Coverage). cond (has_coverage (covered_ids rows stage) (next_unit (programme_of rows stage)) level unit row.coverage_id) row.tiv 0)) coverages_are))
+
+-- the units that losses come from and go to fit 32 bits
+fits-child : (rows : List FmProgramme) → All IsFmProgramme rows → AllByRecursion (λ row. row.from_agg_id < 2 ^ 32) rows
+fits-child rows all = each-from (λ row. row.from_agg_id < 2 ^ 32) rows (λ k d below. let is = all k d below in let most = is.from_agg_id.most in omega arith)
+
+pub fits-unit : (rows : List FmProgramme) → All IsFmProgramme rows → AllByRecursion (λ row. row.to_agg_id < 2 ^ 32) rows
+fits-unit rows all = each-from (λ row. row.to_agg_id < 2 ^ 32) rows (λ k d below. let is = all k d below in let most = is.to_agg_id.most in omega arith)
+
+pub fits-agg : (rows : List FmPolicytc) → All IsFmPolicytc rows → AllByRecursion (λ row. row.agg_id < 2 ^ 32) rows
+fits-agg rows all = each-from (λ row. row.agg_id < 2 ^ 32) rows (λ k d below. let is = all k d below in let most = is.agg_id.most in omega arith)
+
+-- what links of a programme have fits 32 bits
+small-links : (links : List Link) (programme : List FmProgramme) → ((key : ℕ) → filter (λ row. nat_eq (link_key row) key) links ≡ filter (λ row. nat_eq (link_key row) key) (map link_of programme)) → AllByRecursion (λ row. row.from_agg_id < 2 ^ 32) programme → (level unit : ℕ) → AllByRecursion (λ kid. kid < 2 ^ 32) (linked links level unit)
+small-links links programme kept small level unit =
+    rising-all (λ kid. kid < 2 ^ 32) _ (subst (λ (found : List Link). AllByRecursion (λ kid. kid < 2 ^ 32) (map (λ row. row.child) found)) (sym (kept (level * 2 ^ 32 + unit))) (each-filter (λ kid. kid < 2 ^ 32) (λ (row : Link). row.child) (λ row. nat_eq (link_key row) (level * 2 ^ 32 + unit)) (map link_of programme) (mapped programme small)))
+  where
+    mapped : (rows : List FmProgramme) → AllByRecursion (λ row. row.from_agg_id < 2 ^ 32) rows → AllByRecursion (λ (row : Link). row.child < 2 ^ 32) (map link_of rows)
+    mapped [] all = tt
+    mapped (row ∷ rows) all = (all.0, mapped rows all.1)
+
+-- a plan of the tables finds what their tree has
+pub plan-finds : (rows : Rows) (stage : ℕ) → IsReady rows stage → (plan : Plan)
+    → ((key : ℕ) → filter (λ row. nat_eq (link_key row) key) plan.links ≡ filter (λ row. nat_eq (link_key row) key) (map link_of (programme_of rows stage)))
+    → AreTerms (policytc_of rows stage) (profiles_of rows stage) plan.terms
+    → ((level unit : ℕ) → 1 ≤ level → level ≤ top_level (programme_of rows stage) → found_tiv plan level unit ≡ tiv_beneath rows stage level unit)
+    → Finds (tree_of rows stage) plan
+plan-finds rows stage ready plan kept terms values =
+    record {
+      is = tree_of-is rows stage ready.has;
+      children_are = λ level unit fits. linked-are link_of plan.links (programme_of rows stage) kept (fits-unit (programme_of rows stage) ready.programme) level unit fits;
+      kids_small = small-links plan.links (programme_of rows stage) kept (fits-child (programme_of rows stage) ready.programme);
+      profiles_are = terms-found (policytc_of rows stage) (profiles_of rows stage) plan.terms terms 1;
+      layers_are = λ top layer. terms-found (policytc_of rows stage) (profiles_of rows stage) plan.terms terms layer (top_level (programme_of rows stage)) top;
+      tivs_are = values;
+    }

@@ -69,14 +69,14 @@ abbrev pub units_from : Plan → ℕ → List ℕ → ℕ → List ℕ
 units_from plan zero units at = units
 units_from plan (suc level) units at = cond (nat_eq at (suc level)) units (units_from plan level (flat_map (kids plan (suc level)) units) at)
 
-build_levels-length : (plan : Plan) (level : ℕ) (units : List ℕ) → length (build_levels plan level units) ≡ level
+pub build_levels-length : (plan : Plan) (level : ℕ) (units : List ℕ) → length (build_levels plan level units) ≡ level
 build_levels-length plan zero units = refl
 build_levels-length plan (suc level) units =
     length-append (build_levels plan level (flat_map (kids plan (suc level)) units)) (nodes_from plan (suc level) 0 units ∷ [])
     ∙ (ap (λ n. n + 1) (build_levels-length plan level (flat_map (kids plan (suc level)) units)) ∙ omega arith)
 
 -- those at the top are the units
-units_from-top : (plan : Plan) (level : ℕ) (units : List ℕ) → units_from plan level units level ≡ units
+pub units_from-top : (plan : Plan) (level : ℕ) (units : List ℕ) → units_from plan level units level ≡ units
 units_from-top plan zero units = refl
 units_from-top plan (suc level) units = ap (λ b. cond b units (units_from plan level (flat_map (kids plan (suc level)) units) (suc level))) (nat_eq_equiv.refl (suc level))
 
@@ -88,12 +88,12 @@ units_from-lower plan level at units below = ap (λ b. cond b units (units_from 
     apart a b less = grind (arith, nat_tests)
 
 -- the units at the bottom are the leaves
-units_from-leaves : (plan : Plan) (level : ℕ) (units : List ℕ) → units_from plan level units 0 ≡ build_leaves plan level units
+pub units_from-leaves : (plan : Plan) (level : ℕ) (units : List ℕ) → units_from plan level units 0 ≡ build_leaves plan level units
 units_from-leaves plan zero units = refl
 units_from-leaves plan (suc level) units = units_from-lower plan level 0 units (omega arith) ∙ units_from-leaves plan level (flat_map (kids plan (suc level)) units)
 
 -- the units of a level are the children of those of the level above
-units_from-next : (plan : Plan) (level at : ℕ) (units : List ℕ) → at < level → units_from plan level units at ≡ flat_map (kids plan (suc at)) (units_from plan level units (suc at))
+pub units_from-next : (plan : Plan) (level at : ℕ) (units : List ℕ) → at < level → units_from plan level units at ≡ flat_map (kids plan (suc at)) (units_from plan level units (suc at))
 units_from-next plan zero at units below = absurd (omega arith)
 units_from-next plan (suc level) at units below =
     units_from-lower plan level at units below ∙ by (cases_eq at level) (λ inside. units_from-next plan level at (flat_map (kids plan (suc level)) units) inside)
@@ -103,7 +103,7 @@ units_from-next plan (suc level) at units below =
     by (inr other) rest = rest (omega arith) ∙ ap (flat_map (kids plan (suc at))) (sym (units_from-lower plan level (suc at) units (omega arith)))
 
 -- the nodes of a level are those of its units
-build_levels-at : (plan : Plan) (level at : ℕ) (units : List ℕ) → at < level → get_or (build_levels plan level units) at [] ≡ nodes_from plan (suc at) 0 (units_from plan level units (suc at))
+pub build_levels-at : (plan : Plan) (level at : ℕ) (units : List ℕ) → at < level → get_or (build_levels plan level units) at [] ≡ nodes_from plan (suc at) 0 (units_from plan level units (suc at))
 build_levels-at plan zero at units below = absurd (omega arith)
 build_levels-at plan (suc level) at units below = by (cases_eq at level) (λ inside. build_levels-at plan level at (flat_map (kids plan (suc level)) units) inside)
   where
@@ -118,7 +118,7 @@ build_levels-at plan (suc level) at units below = by (cases_eq at level) (λ ins
         ∙ (rest (omega arith) ∙ ap (nodes_from plan (suc at) 0) (sym (units_from-lower plan level (suc at) units (omega arith))))
 
 -- the units of nodes
-nodes_from-units : (plan : Plan) (level start : ℕ) (units : List ℕ) → map (λ node. node.unit) (nodes_from plan level start units) ≡ units
+pub nodes_from-units : (plan : Plan) (level start : ℕ) (units : List ℕ) → map (λ node. node.unit) (nodes_from plan level start units) ≡ units
 nodes_from-units plan level start [] = refl
 nodes_from-units plan level start (unit ∷ units) = ap (λ us. unit ∷ us) (nodes_from-units plan level (start + length (kids plan level unit)) units)
 
@@ -153,7 +153,7 @@ module _ (tree : Tree) (plan : Plan) (finds : Finds tree plan) (level : ℕ) (le
       )
 
 -- the units of each level are small
-units_from-small : (tree : Tree) (plan : Plan) → Finds tree plan → (level at : ℕ) (units : List ℕ) → AllByRecursion (λ unit. unit < 2 ^ 32) units → AllByRecursion (λ unit. unit < 2 ^ 32) (units_from plan level units at)
+pub units_from-small : (tree : Tree) (plan : Plan) → Finds tree plan → (level at : ℕ) (units : List ℕ) → AllByRecursion (λ unit. unit < 2 ^ 32) units → AllByRecursion (λ unit. unit < 2 ^ 32) (units_from plan level units at)
 units_from-small tree plan finds zero at units small = small
 units_from-small tree plan finds (suc level) at units small = by (nat_eq at (suc level)) (units_from-small tree plan finds level at (flat_map (kids plan (suc level)) units) (each_flat_map _ _ (kids plan (suc level)) (λ unit here. finds.kids_small (suc level) unit) units small))
   where

@@ -4,3 +4,4 @@ pub mod CarriedLaws
 pub mod PartsLaws
 pub mod Plan
 pub mod Coverages
+pub mod Ready

@@ -68,13 +68,13 @@ fn whole_loss(loss: u64) -> Carry
 }
 
 /// What the ids carry in the order of the tree: their losses.
-fn leaf_row(alloc: Global, leaves: &[u32], losses: &[u64]) -> Result<Vec<Carry>, AllocError>
+fn leaf_row(alloc: Global, leaves: &[usize], losses: &[u64]) -> Result<Vec<Carry>, AllocError>
     requires { All (λ place. place < length losses.now) leaves.now }
     ensures value { IfOk result (λ row. row.items ≡ leaf_row leaves.now losses.now) }
 {
     let mut row = Vec::with_capacity(alloc, leaves.len())?;
     for place in leaves {
-        row.push(whole_loss(losses[*place as usize]))?;
+        row.push(whole_loss(losses[*place]))?;
     }
     Ok(row)
 }
@@ -119,7 +119,7 @@ fn rows_up(
 fn levels_of(
     alloc: Global,
     levels: &[Vec<Node>],
-    leaves: &[u32],
+    leaves: &[usize],
     losses: &[u64],
 ) -> Result<Levels, AllocError>
     requires some { 0 < length levels.now }

@@ -1,6 +1,6 @@
 //! The places of the ids in the order of the tree.
 //! The rule: docs/FINANCIAL_MODULE.md, "Levels".
-ghost use Rattle.std.specs.Prelude.{◌≡◌, ◌<◌, ◌^◌, nat_eq, true, length, map, All, IfOk, slice_index};
+ghost use Rattle.std.specs.Prelude.{◌≡◌, ◌<◌, nat_eq, true, length, map, All, IfOk, slice_index};
 ghost use Rattle.std.specs.List.{AllByRecursion, list_any};
 ghost use Rattle.kt_tree.specs.Rising.{IsRising};
 
@@ -19,17 +19,16 @@ fn place_of(ids: &[u32], id: u32) -> usize
     }
 }
 
-/// The places of ids among rising ids, which are fewer than 2^32.
-pub(crate) fn places(alloc: Global, ids: &[u32], leaves: &[u32]) -> Result<Vec<u32>, AllocError>
+/// The places of ids among rising ids.
+pub(crate) fn places(alloc: Global, ids: &[u32], leaves: &[u32]) -> Result<Vec<usize>, AllocError>
     requires rising { IsRising ids.now }
-    requires few { length ids.now < 2 ^ 32 }
     requires members { AllByRecursion (λ id. list_any (nat_eq id) ids.now ≡ true) leaves.now }
     ensures within { IfOk result (λ places. All (λ place. place < length ids.now) places.items) }
     ensures value { IfOk result (λ places. map (slice_index ids.now) places.items ≡ leaves.now) }
 {
     let mut places = Vec::with_capacity(alloc, leaves.len())?;
     for id in leaves {
-        places.push(place_of(ids, *id) as u32)?;
+        places.push(place_of(ids, *id))?;
     }
     Ok(places)
 }

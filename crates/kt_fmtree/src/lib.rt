@@ -1,6 +1,7 @@
 //! The programme of the financial module: its levels, what they carry, and the policy losses of its layers.
 #![tactic(auto)]
 
+mod building;
 mod carrying;
 mod coverage;
 mod leaves;

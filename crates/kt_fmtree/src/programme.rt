@@ -11,7 +11,7 @@ use std::marker::Model;
 #[derive(Debug, Drop)]
 pub struct Programme {
     pub(crate) ids: Vec<u32>,
-    pub(crate) leaves: Vec<u32>,
+    pub(crate) leaves: Vec<usize>,
     pub(crate) levels: Vec<Vec<Node>>,
     pub(crate) tops: Vec<u32>,
     pub(crate) layers: Vec<Vec<u32>>,
