@@ -5,3 +5,4 @@ pub mod PlanLemmas
 pub mod LeafLemmas
 pub mod CoverageLemmas
 pub mod FindLemmas
+pub mod AssemblyLemmas
