@@ -92,3 +92,9 @@ all-terms rows stage ready plan finds links kept tops small =
     map-same : {f g : ℕ → Profile} (layers : List ℕ) → ((layer : ℕ) → f layer ≡ g layer) → map f layers ≡ map g layers
     map-same [] same = refl
     map-same {f = f} {g = g} (layer ∷ layers) same = ap (λ y. y ∷ map f layers) (same layer) ∙ ap (λ ys. g layer ∷ ys) (map-same layers same)
+
+-- the ids that are linked to each top are those that come to it
+pub all-beneath : (climb : ℕ → Option ℕ) (links : List Link) (ids tops : List ℕ) → IsRising ids → ((key : ℕ) → filter (λ row. nat_eq (link_key row) key) links ≡ filter (λ row. nat_eq (link_key row) key) (filter_map (λ id. option_map (λ unit. record { level = 0; unit = unit; child = id }) (climb id)) ids)) → map (λ top. linked links 0 top) tops ≡ map (λ top. filter (λ id. is_unit top (climb id)) ids) tops
+all-beneath climb links ids [] rises kept = refl
+all-beneath climb links ids (top ∷ tops) rises kept =
+    ap (λ y. y ∷ map (λ t. linked links 0 t) tops) (beneath-found climb links ids rises kept top) ∙ ap (λ ys. filter (λ id. is_unit top (climb id)) ids ∷ ys) (all-beneath climb links ids tops rises kept)

@@ -7,7 +7,8 @@ ghost use Rattle.kt_checks.specs.OutputChecks.{climbed};
 ghost use Rattle.kt_keys.specs.Keys.{same_pair};
 ghost use Rattle.kt_tree.specs.Programme.{ids_in, or_first};
 ghost use Rattle.kt_fmtree.specs.Plan.{found_terms, layer_link, link_key, linked};
-ghost use Rattle.kt_tree.specs.Rising.{rising};
+ghost use Rattle.kt_tree.specs.Rising.{rising, IsRising};
+ghost use Rattle.kt_tree.specs.Tree.{is_unit};
 ghost use Rattle.kt_keys.specs.Units.{top_targets};
 
 use crate::links::{Link, children};
@@ -201,5 +202,21 @@ fn linked_ids(alloc: Global, links: &ByKey<Link>, tops: &[u32]) -> Result<Vec<Ve
     for top in tops {
         rows.push(children(alloc, links, 0, *top)?)?;
     }
+    Ok(rows)
+}
+
+/// The ids, rising, beneath each top.
+pub(crate) fn beneath(
+    alloc: Global,
+    next: &HashMap<(u32, u32), u32>,
+    level: u32,
+    ids: &[u32],
+    tops: &[u32],
+) -> Result<Vec<Vec<u32>>, AllocError>
+    requires rising { IsRising ids.now }
+    ensures value { IfOk result (λ rows. map (λ row. row.items) rows.items ≡ map (λ top. filter (λ id. is_unit top (climbed (get same_pair next.now) level 1 id)) ids.now) tops.now) }
+{
+    let links = top_links(alloc, next, level, ids)?;
+    let rows = linked_ids(alloc, &links, tops)?;
     Ok(rows)
 }
