@@ -98,3 +98,39 @@ pub all-beneath : (climb : ℕ → Option ℕ) (links : List Link) (ids tops : L
 all-beneath climb links ids [] rises kept = refl
 all-beneath climb links ids (top ∷ tops) rises kept =
     ap (λ y. y ∷ map (λ t. linked links 0 t) tops) (beneath-found climb links ids rises kept top) ∙ ap (λ ys. filter (λ id. is_unit top (climb id)) ids ∷ ys) (all-beneath climb links ids tops rises kept)
+
+-- the ids of a programme rise
+pub ids-rise : (programme : List FmProgramme) (ids : List ℕ) → ids ≡ ids_in programme → IsRising ids
+ids-rise programme ids same = subst IsRising (sym same) (rising-rises (map (λ row. row.from_agg_id) (filter (λ row. nat_eq row.level_id 1) programme)))
+
+module _ (rows : Rows) (stage : ℕ) (ready : IsReady rows stage) (plan : Plan) (finds : Finds (tree_of rows stage) plan) (top : ℕ) (ids tops : List ℕ) (top_is : top ≡ top_level (programme_of rows stage)) (ids_are : ids ≡ ids_in (programme_of rows stage)) (tops_are : tops ≡ rising (top_targets (programme_of rows stage))) where
+  small : AllByRecursion (λ unit. unit < 2 ^ 32) tops
+  small = subst (AllByRecursion (λ unit. unit < 2 ^ 32)) (sym tops_are) (tops-small rows stage ready)
+
+  -- the ids beneath the tops are ids
+  pub members-ready : AllByRecursion (λ id. list_any (nat_eq id) ids ≡ true) (build_leaves plan top tops)
+  members-ready =
+      subst (λ n. AllByRecursion (λ id. list_any (nat_eq id) ids ≡ true) (build_leaves plan n tops)) (sym top_is)
+      (subst (λ found. AllByRecursion (λ id. list_any (nat_eq id) found ≡ true) (build_leaves plan (top_level (programme_of rows stage)) tops)) (sym ids_are) (leaves-members (tree_of rows stage) plan finds tops small))
+
+  -- the lists that were made are those of the tree of the tables
+  pub programme-made : (links : List Link) (next : ℕ × ℕ → Option ℕ) (parts : Parts)
+      → ((key : ℕ) → filter (λ row. nat_eq (link_key row) key) links ≡ filter (λ row. nat_eq (link_key row) key) (map layer_link (policytc_of rows stage)))
+      → next ≡ next_unit (programme_of rows stage)
+      → parts.ids ≡ ids → parts.tops ≡ tops
+      → All (λ place. place < length parts.ids) parts.leaves
+      → map (λ place. get_or parts.ids place 0) parts.leaves ≡ build_leaves plan top tops
+      → parts.levels ≡ build_levels plan top tops
+      → parts.layers ≡ map (λ unit. or_first (linked links top unit)) tops
+      → parts.terms ≡ map (λ unit. map (λ layer. found_terms plan.terms layer top unit) (or_first (linked links top unit))) tops
+      → parts.beneath ≡ map (λ unit. filter (λ id. is_unit unit (climbed next top 1 id)) ids) tops
+      → IsProgramme (tree_of rows stage) parts
+  programme-made links next parts kept next_is ids_same tops_same within leaves levels layers terms below =
+      let tree = tree_of rows stage in
+      assembled tree plan finds tops small parts (ids_same ∙ ids_are) within
+      (leaves ∙ ap (λ n. build_leaves plan n tops) top_is)
+      (levels ∙ ap (λ n. build_levels plan n tops) top_is)
+      (tops_same ∙ tops_are) tops_are
+      (layers ∙ (ap (λ n. map (λ unit. or_first (linked links n unit)) tops) top_is ∙ (all-layers rows stage ready links kept (top_level (programme_of rows stage)) tops small ∙ ap (map tree.layers) tops_are)))
+      (terms ∙ (ap (λ n. map (λ unit. map (λ layer. found_terms plan.terms layer n unit) (or_first (linked links n unit))) tops) top_is ∙ (all-terms rows stage ready plan finds links kept tops small ∙ ap (map (λ unit. map (tree.layer_profile unit) (tree.layers unit))) tops_are)))
+      (below ∙ (ap (λ f. map (λ unit. filter (λ id. is_unit unit (climbed f top 1 id)) ids) tops) next_is ∙ (ap (λ n. map (λ unit. filter (λ id. is_unit unit (climbed (next_unit (programme_of rows stage)) n 1 id)) ids) tops) top_is ∙ (ap (λ all. map (λ unit. filter (λ id. is_unit unit (climbed (next_unit (programme_of rows stage)) (top_level (programme_of rows stage)) 1 id)) all) tops) ids_are ∙ ap (map (beneath tree)) tops_are))))
