@@ -14,6 +14,7 @@ mod plan;
 mod policy;
 mod programme;
 mod rising;
+mod shared;
 mod sums;
 mod terms;
 
