@@ -1,16 +1,16 @@
 -- The lists that are made from a plan are those of the tree of the tables.
-use Rattle.std.proofs.Common.{◌≡◌, ℕ, zero, suc, ◌+◌, ◌*◌, ◌^◌, ◌<◌, ◌≤◌, Bool, true, false, cond, List, [], ◌∷◌, ◌++◌, length, map, get_or, refl, ap, sym, subst, ◌∙◌, nat_eq, Option, None, Some, arith}
-use Rattle.std.specs.Prelude.{◌&&◌, option_map}
-use Rattle.std.specs.List.{All, AllByRecursion, filter, filter_map, flat_map, list_any}
+use Rattle.std.proofs.Common.{◌≡◌, ℕ, zero, suc, ◌^◌, ◌<◌, ◌≤◌, true, List, [], ◌∷◌, length, map, get_or, refl, ap, sym, subst, ◌∙◌, nat_eq, Option, arith}
+use Rattle.std.specs.Prelude.{option_map}
+use Rattle.std.specs.List.{All, AllByRecursion, filter, filter_map, list_any}
 use Rattle.kt_rec.specs.Rows.{Rows}
-use Rattle.kt_keys.specs.Keys.{programme_of, policytc_of, profile_of as profiles_of}
+use Rattle.kt_keys.specs.Keys.{programme_of, policytc_of}
 use Rattle.kt_keys.specs.Units.{top_level, top_targets}
 use Rattle.kt_checks.specs.OutputChecks.{climbed, next_unit}
 use Rattle.kt_rec.specs.declared.financial.FmProgramme.{FmProgramme}
 use Rattle.kt_rules.specs.declared.profile.Profile.{Profile}
 use Rattle.kt_tree.specs.Sums.{each_then, each_member, each_flat_map}
 use Rattle.kt_tree.specs.Rising.{rising, IsRising, rising-rises}
-use Rattle.kt_tree.specs.Tree.{Tree, IsTree, is_unit, beneath}
+use Rattle.kt_tree.specs.Tree.{Tree, is_unit, beneath}
 use Rattle.kt_tree.specs.Programme.{ids_in, layers_in, or_first, tree_of}
 use Rattle.kt_fmtree.specs.Parts.{Parts, IsNode, IsProgramme, nodes_at, units_at}
 use Rattle.kt_fmtree.specs.Plan.{link_key, linked, layer_link, found_terms, kids, build_levels, build_leaves, Finds}

@@ -1,12 +1,11 @@
 -- What a plan finds is what the tree of the tables has.
-use Rattle.std.proofs.Common.{◌≡◌, ℕ, zero, suc, ◌+◌, ◌*◌, ◌^◌, ◌<◌, ◌≤◌, Bool, true, false, cond, List, [], ◌∷◌, ◌++◌, length, map, get_or, refl, ap, sym, subst, ◌∙◌, nat_eq, Option, None, Some, ◌⊎◌, inl, inr, arith}
+use Rattle.std.proofs.Common.{◌≡◌, ℕ, ◌+◌, ◌*◌, ◌^◌, ◌<◌, ◌≤◌, Bool, true, false, cond, List, [], ◌∷◌, map, refl, ap, sym, subst, ◌∙◌, nat_eq, Option, None, Some, arith}
 use Rattle.std.specs.Prelude.{◌&&◌, option_map, nat_lt}
-use Rattle.std.specs.List.{All, AllByRecursion, IsDistinct, cons_option, filter, filter_map, flat_map, list_any, sum_by}
+use Rattle.std.specs.List.{All, AllByRecursion, IsDistinct, cons_option, filter, filter_map, flat_map, sum_by}
 use Rattle.std.specs.HashMap.{get}
 use Rattle.std.specs.Map.{lookup}
 use Rattle.std.specs.Cmp.{nat_eq_equiv}
-use Rattle.std.proofs.lemmas.Bool.{eqb-true, cases_eq, true≢false}
-use Rattle.std.proofs.lemmas.Bool.Decides.{nat_tests}
+use Rattle.std.proofs.lemmas.Bool.{eqb-true}
 use Rattle.kt_rec.specs.declared.financial.FmPolicytc.{FmPolicytc}
 use Rattle.kt_rec.specs.declared.financial.FmProfile.{FmProfile}
 use Rattle.kt_rec.specs.declared.financial.FmProgramme.{FmProgramme}
@@ -17,17 +16,15 @@ use Rattle.kt_keys.specs.Keys.{same_triple, programme_of, policytc_of, profile_o
 use Rattle.kt_keys.specs.Units.{top_level}
 use Rattle.kt_index.specs.Exposure.{IsTotalOf, summary_covers}
 use Rattle.kt_checks.specs.TableChecks.{tiv_of}
-use Rattle.kt_checks.specs.OutputChecks.{climbed, next_unit}
-use Rattle.kt_rules.specs.declared.profile.Profile.{Profile}
-use Rattle.kt_tree.specs.Sums.{each_then, each_member, each_flat_map}
+use Rattle.kt_checks.specs.OutputChecks.{next_unit}
 use Rattle.kt_tree.specs.Rising.{put, rising, IsRising, rising-member, rising-rises, rising-unique}
-use Rattle.kt_tree.specs.Tree.{Tree, IsTree, is_unit, comes_to}
+use Rattle.kt_tree.specs.Tree.{is_unit}
 use Rattle.kt_tree.specs.Programme.{terms_or_none, with_id, profile_with, terms_in, covered_ids, has_coverage, tiv_beneath, tree_of}
 use Rattle.kt_tree.specs.ProgrammeLaws.{tree_of-is}
 use Rattle.kt_fmtree.proofs.CoverageLemmas.{found-beneath}
 use Rattle.kt_fmtree.specs.Coverages.{rows_for, own_pair}
 use Rattle.kt_fmtree.specs.Ready.{IsReady, each-from}
-use Rattle.kt_fmtree.specs.Plan.{link_key, link_of, linked, found_terms, found_tiv, AreTerms, kids, Finds, build_leaves}
+use Rattle.kt_fmtree.specs.Plan.{link_key, link_of, linked, found_terms, found_tiv, AreTerms, Finds}
 use Rattle.kt_fmtree.specs.declared.links.Link.{Link}
 use Rattle.kt_fmtree.specs.declared.plan.Plan.{Plan}
 use Rattle.kt_fmtree.specs.declared.terms.Terms.{Terms}

@@ -7,9 +7,9 @@ use Rattle.std.proofs.lemmas.List.{map-append, get_or_push}
 use Rattle.std.proofs.Math.ListN.{get_or-append}
 use Rattle.std.specs.List.{All, AllByRecursion, flat_map}
 use Rattle.kt_tree.specs.Sums.{each_flat_map}
-use Rattle.kt_tree.specs.Tree.{Tree, IsTree}
+use Rattle.kt_tree.specs.Tree.{Tree}
 use Rattle.kt_fmtree.specs.Parts.{IsNode}
-use Rattle.kt_fmtree.specs.Plan.{kids, new_node, nodes_from, build_levels, build_leaves, found_tiv, found_terms, Finds}
+use Rattle.kt_fmtree.specs.Plan.{kids, new_node, nodes_from, build_levels, build_leaves, Finds}
 use Rattle.kt_fmtree.specs.declared.node.Node.{Node}
 use Rattle.kt_fmtree.specs.declared.plan.Plan.{Plan}
 

@@ -1,6 +1,6 @@
 -- What is sorted and has each number once is rising.
-use Rattle.std.proofs.Common.{◌≡◌, ℕ, zero, suc, ◌+◌, ◌<◌, ◌≤◌, Bool, true, false, List, [], ◌∷◌, length, get_or, nat_eq, eqb, refl, sym, ◌∙◌, subst, arith}
-use Rattle.std.specs.List.{AllByRecursion, Contains, dedup, list_any}
+use Rattle.std.proofs.Common.{◌≡◌, ℕ, suc, ◌+◌, ◌<◌, Bool, true, false, List, [], ◌∷◌, length, get_or, nat_eq, eqb, refl, sym, ◌∙◌, subst, arith}
+use Rattle.std.specs.List.{AllByRecursion, dedup, list_any}
 use Rattle.std.specs.List.Sorted.{IsPermutation, IsSorted, IsStrictlyIncreasing}
 use Rattle.std.specs.Ordering.{nat_cmp}
 use Rattle.std.specs.Cmp.{nat_eq_equiv}

@@ -5,7 +5,7 @@ use Rattle.std.proofs.lemmas.List.{map-append}
 use Rattle.std.proofs.lemmas.List.FromFn.{length-map-range_with_len, get_or-map-range_with_len, map-range_with_len_more}
 use Rattle.kt_rules.specs.declared.carry.Carry.{Carry}
 use Rattle.kt_tree.specs.Tree.{Tree}
-use Rattle.kt_fmtree.specs.Parts.{Parts, IsProgramme, HasProgramme, nodes_at}
+use Rattle.kt_fmtree.specs.Parts.{Parts, IsProgramme, HasProgramme}
 use Rattle.kt_fmtree.specs.Carried.{Carried, child_sum, node_carry, leaf_row, row_from, row_of, climbed_rows, loss_by, CanCarry, CanClimb, AreCarried, IsCarriedBy}
 use Rattle.kt_fmtree.specs.CarriedLaws.{can-carry, carried-is, losses-few}
 use Rattle.kt_fmtree.specs.declared.node.Node.{Node}

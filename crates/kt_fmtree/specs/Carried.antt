@@ -1,13 +1,13 @@
 -- What the units of a programme carry, as lists.
 -- The rule: docs/FINANCIAL_MODULE.md, "Levels".
 use Rattle.std.specs.Prelude.{◌≡◌, ℕ, zero, suc, ◌+◌, ◌-◌, ◌≤◌, ◌<◌, ◌^◌, cond, nat_eq, List, [], ◌∷◌, length, map, take, drop, All, slice_index, slice_index_or}
-use Rattle.std.specs.List.{fold, range_with_len, sum, sum_by}
+use Rattle.std.specs.List.{range_with_len, sum, sum_by}
 use Rattle.kt_rules.specs.Amounts.{total}
 use Rattle.kt_rules.specs.Profiles.{IsProfile}
 use Rattle.kt_rules.specs.Rules.{applied}
 use Rattle.kt_rules.specs.declared.carry.Carry.{Carry}
 use Rattle.kt_tree.specs.Tree.{Tree, whole_loss, add_carries, carry_of, base_of}
-use Rattle.kt_fmtree.specs.Parts.{Parts, IsProgramme, nodes_at, units_at}
+use Rattle.kt_fmtree.specs.Parts.{Parts, IsProgramme, units_at}
 use Rattle.kt_fmtree.specs.declared.node.Node.{Node}
 use Rattle.kt_fmtree.specs.declared.levels.Levels.TheInside.{Inside}
 

@@ -1,9 +1,8 @@
 -- The lists of what is carried are those of the tree.
-use Rattle.std.specs.Prelude.{◌≡◌, ℕ, zero, suc, ◌+◌, ◌≤◌, ◌<◌, ◌^◌, cond, nat_eq, Bool, true, false, List, [], ◌∷◌, length, map, take, drop, All, slice_index, slice_index_or}
-use Rattle.std.specs.List.{AllByRecursion, IsDistinct, list_any, range_with_len, sum, sum_by}
+use Rattle.std.specs.Prelude.{◌≡◌, ℕ, zero, suc, ◌+◌, ◌≤◌, ◌<◌, ◌^◌, cond, nat_eq, false, List, [], ◌∷◌, length, map, take, drop, All, slice_index, slice_index_or}
+use Rattle.std.specs.List.{AllByRecursion, IsDistinct, range_with_len, sum, sum_by}
 use Rattle.std.specs.Cmp.{nat_eq_equiv}
 use Rattle.std.proofs.Common.{refl, sym, ap, subst, ◌∙◌, arith}
-use Rattle.std.proofs.lemmas.Bool.{eqb-true}
 use Rattle.std.proofs.lemmas.List.{take-map}
 use Rattle.std.proofs.lemmas.List.FromFn.{get_or-map-range_with_len}
 use Rattle.std.proofs.lemmas.List.Sums.{sum_by-cons, sum-map}
@@ -12,10 +11,10 @@ use Rattle.kt_rules.specs.Profiles.{IsProfile}
 use Rattle.kt_rules.specs.Rules.{applied}
 use Rattle.kt_rules.specs.declared.carry.Carry.{Carry}
 use Rattle.kt_tree.specs.Sums.{sum_by-agree}
-use Rattle.kt_tree.specs.Tree.{Tree, IsTree, whole_loss, add_carries, sum_carries, carry_of, base_of, ground_up}
+use Rattle.kt_tree.specs.Tree.{Tree, whole_loss, add_carries, sum_carries, carry_of, base_of, ground_up}
 use Rattle.kt_tree.specs.TreeLaws.{each, carry_of-total, ground_up-few}
 use Rattle.kt_fmtree.specs.Parts.{Parts, IsNode, IsProgramme, nodes_at, units_at}
-use Rattle.kt_fmtree.specs.Carried.{Carried, added, child_sum, node_carry, leaf_row, row_from, row_of, loss_by, CanCarry, CanClimb, AreCarried}
+use Rattle.kt_fmtree.specs.Carried.{Carried, added, child_sum, node_carry, leaf_row, row_of, loss_by, CanCarry, AreCarried}
 use Rattle.kt_fmtree.specs.declared.node.Node.{Node}
 
 -- ---- lists

@@ -1,6 +1,6 @@
 -- The lists of a programme, and the tree whose lists they are.
 -- The rule: docs/FINANCIAL_MODULE.md, "Levels".
-use Rattle.std.specs.Prelude.{◌≡◌, ℕ, zero, suc, ◌+◌, ◌-◌, ◌≤◌, ◌<◌, List, [], ◌∷◌, length, map, take, drop, All, slice_index, slice_index_or}
+use Rattle.std.specs.Prelude.{◌≡◌, ℕ, zero, suc, ◌+◌, ◌≤◌, ◌<◌, List, [], length, map, take, drop, All, slice_index, slice_index_or}
 use Rattle.kt_rules.specs.declared.profile.Profile.{Profile}
 use Rattle.kt_tree.specs.Tree.{Tree, IsTree, beneath}
 use Rattle.kt_fmtree.specs.declared.node.Node.{Node}

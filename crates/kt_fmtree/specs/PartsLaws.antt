@@ -1,16 +1,16 @@
 -- What the lists of a programme give of its tree.
-use Rattle.std.specs.Prelude.{◌≡◌, ℕ, zero, suc, ◌+◌, ◌≤◌, ◌<◌, ◌^◌, nat_eq, true, List, [], ◌∷◌, length, map, All, slice_index, slice_index_or}
-use Rattle.std.specs.List.{list_any, sum}
+use Rattle.std.specs.Prelude.{◌≡◌, ℕ, zero, suc, ◌≤◌, ◌<◌, ◌^◌, List, [], ◌∷◌, length, map, slice_index, slice_index_or}
+use Rattle.std.specs.List.{sum}
 use Rattle.std.proofs.Common.{refl, sym, ap, subst, ◌∙◌, arith}
 use Rattle.std.proofs.lemmas.List.{get_or-map}
 use Rattle.std.proofs.lemmas.List.Sums.{sum-map}
 use Rattle.kt_rules.specs.Amounts.{total}
 use Rattle.kt_rules.specs.declared.carry.Carry.{Carry}
 use Rattle.kt_rules.specs.declared.profile.Profile.{Profile}
-use Rattle.kt_tree.specs.Tree.{Tree, IsTree, beneath, base_of, ground_up}
+use Rattle.kt_tree.specs.Tree.{Tree, IsTree, beneath, base_of}
 use Rattle.kt_tree.specs.TreeLaws.{base_of-total, ground_up-few}
 use Rattle.kt_fmtree.specs.Carried.{Carried, AreCarried}
-use Rattle.kt_fmtree.specs.Parts.{Parts, IsProgramme, HasProgramme, nodes_at, units_at}
+use Rattle.kt_fmtree.specs.Parts.{Parts, IsProgramme}
 
 module _ (tree : Tree) (parts : Parts) (is : IsProgramme tree parts) (node : ℕ) (below : node < length parts.tops) where
   node-top : node < length tree.tops

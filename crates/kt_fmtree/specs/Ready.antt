@@ -1,14 +1,13 @@
 -- What the tables of a programme keep, so that it can be made.
-use Rattle.std.specs.Prelude.{◌≡◌, ℕ, zero, suc, ◌+◌, ◌≤◌, ◌<◌, nat_eq, Bool, true, false, cond, max, List, [], ◌∷◌, length, map, All, Option, Some, None, slice_index_or, refl}
-use Rattle.std.specs.List.{AllByRecursion, IsDistinct, fold, sum_by}
-use Rattle.std.proofs.Common.{sym, ap, subst, ◌∙◌, arith, inl, inr}
+use Rattle.std.specs.Prelude.{◌≡◌, ℕ, zero, suc, ◌≤◌, ◌<◌, nat_eq, Bool, true, false, cond, max, List, [], ◌∷◌, length, All, Option, Some, None, slice_index_or, refl}
+use Rattle.std.specs.List.{AllByRecursion, fold, sum_by}
+use Rattle.std.proofs.Common.{sym, ap, subst, arith, inl, inr}
 use Rattle.std.proofs.lemmas.Bool.{eqb-false, cases_lt}
 use Rattle.std.proofs.lemmas.List.{nil_from_length}
 use Rattle.std.proofs.lemmas.List.Sums.{sum_by-cons}
 use Rattle.kt_rec.specs.Ranges.{IsCoverage, IsFmProgramme, IsFmPolicytc, IsFmProfile, AreFinancial}
 use Rattle.kt_rec.specs.Rows.{Rows, FinancialRows}
 use Rattle.kt_rec.specs.declared.exposure.Item.{Item}
-use Rattle.kt_rec.specs.declared.financial.FmProfile.{FmProfile}
 use Rattle.kt_rec.specs.declared.financial.FmProgramme.{FmProgramme}
 use Rattle.kt_rec.specs.declared.table.Table.TheVariants as table
 use Rattle.kt_keys.specs.Keys.{financial_of, no_financial, programme_of, policytc_of, profile_of as profiles_of}

@@ -1,4 +1,4 @@
-use Rattle.std.proofs.Common.{◌≡◌, ◌∙◌, ◌+◌, ◌-◌, ap, sym, arith, length}
+use Rattle.std.proofs.Common.{◌≡◌, ◌+◌, ◌-◌, ap, sym, arith, length}
 use Rattle.kt_fmtree.proofs.RowLemmas.{count, base-climbs, made, length-map_is}
 use Rattle.kt_fmtree.proofs.carrying.levels_of.Goals as goal
 

@@ -1,4 +1,4 @@
-use Rattle.std.proofs.Common.{◌≡◌, ◌∙◌, ℕ, ◌+◌, map, ap, sym, arith, [], get_or, subst, List, length, Vec, Global}
+use Rattle.std.proofs.Common.{◌≡◌, ◌∙◌, ◌+◌, map, ap, arith, length, Vec, Global}
 use Rattle.kt_rules.specs.declared.carry.Carry.{Carry}
 use Rattle.kt_fmtree.proofs.RowLemmas.{count, row-read, climbs, next-row, pushed}
 use Rattle.kt_fmtree.proofs.carrying.rows_up.Goals as goal

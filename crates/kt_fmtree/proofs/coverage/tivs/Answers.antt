@@ -1,10 +1,9 @@
-use Rattle.std.proofs.Common.{◌≡◌, ◌∙◌, ℕ, List, map, nat_eq, unwrap_or, subst, sym}
+use Rattle.std.proofs.Common.{◌∙◌, ℕ, List, map, unwrap_or, subst, sym}
 use Rattle.std.proofs.Math.Path.{fun_ext}
 use Rattle.std.specs.List.{flat_map}
 use Rattle.std.specs.HashMap.{get}
 use Rattle.std.proofs.lemmas.Result.{IfOk-weaker}
 use Rattle.kt_keys.specs.Keys.{same_pair}
-use Rattle.kt_checks.specs.TableChecks.{tiv_of}
 use Rattle.kt_index.specs.Exposure.{AddsUp, IsTotalOf, summary_covers, value_in}
 use Rattle.kt_index.specs.declared.exposure.SummaryUnit.{SummaryUnit}
 use Rattle.kt_index.specs.declared.exposure.UnitCoverage.{UnitCoverage}

@@ -1,4 +1,4 @@
-use Rattle.std.proofs.Common.{◌≡◌, ◌∙◌, ap, sym, subst, length, map}
+use Rattle.std.proofs.Common.{◌∙◌, ap, sym, subst, length, map}
 use Rattle.kt_fmtree.specs.Parts.{Parts, parts_of, HasProgramme}
 use Rattle.kt_fmtree.specs.Carried.{Carried, climbed_rows, leaf_row, AreCarried, IsCarriedBy, loss_by}
 use Rattle.kt_fmtree.proofs.RowLemmas.{climbs-along, programme-climbs, programme-carries, programme-carried}

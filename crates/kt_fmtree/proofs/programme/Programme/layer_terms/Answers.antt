@@ -1,5 +1,5 @@
 use Rattle.std.proofs.Common.{ap, length, arith}
-use Rattle.kt_fmtree.specs.PartsLaws.{terms-count, terms-at}
+use Rattle.kt_fmtree.specs.PartsLaws.{terms-count}
 use Rattle.kt_fmtree.proofs.programme.Programme.layer_terms.Goals as goal
 
 pub profile_at-requires : goal.profile_at-requires
