@@ -1,12 +1,12 @@
 -- The worked examples of docs/FINANCIAL_MODULE.md on policy losses and their allocation, by computing.
-use Rattle.std.specs.Prelude.{◌≡◌, ℕ, List, [], ◌∷◌, cond, nat_eq}
+use Rattle.std.specs.Prelude.{◌≡◌, ℕ, [], ◌∷◌, cond, nat_eq}
 use Rattle.std.proofs.Common.{refl}
-use Rattle.kt_rec.specs.Rows.{Rows, no_rows, no_financial_rows}
+use Rattle.kt_rec.specs.Rows.{Rows, no_rows}
 use Rattle.kt_rec.specs.declared.financial.FmProgramme.{FmProgramme}
 use Rattle.kt_rec.specs.declared.financial.FmPolicytc.{FmPolicytc}
 use Rattle.kt_rec.specs.declared.financial.FmProfile.{FmProfile}
 use Rattle.kt_rules.specs.Rules.{rule_of}
-use Rattle.kt_tree.specs.Tree.{Tree, policy_loss, beneath}
+use Rattle.kt_tree.specs.Tree.{policy_loss}
 use Rattle.kt_tree.specs.Sharing.{allocated}
 use Rattle.kt_tree.specs.Programme.{tree_of}
 

@@ -1,6 +1,6 @@
 -- The tree of the tables of a programme: the base's, or those of a reinsurance stage.
 -- The rules: docs/FINANCIAL_MODULE.md, "Levels", "Policy losses".
-use Rattle.std.specs.Prelude.{ℕ, ◌+◌, ◌&&◌, Bool, true, false, cond, nat_eq, List, [], ◌∷◌, map, Option, Some, None}
+use Rattle.std.specs.Prelude.{ℕ, ◌&&◌, Bool, cond, nat_eq, List, [], ◌∷◌, map, Option, Some, None}
 use Rattle.std.specs.List.{filter, list_any, sum_by}
 use Rattle.std.specs.Map.{lookup}
 use Rattle.kt_rec.specs.Rows.{Rows}

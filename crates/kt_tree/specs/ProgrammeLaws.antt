@@ -4,7 +4,7 @@ use Rattle.std.specs.List.{AllByRecursion, IsDistinct, filter, list_any, sum_by}
 use Rattle.std.specs.Map.{lookup}
 use Rattle.std.specs.Cmp.{nat_eq_equiv}
 use Rattle.std.proofs.Common.{refl, sym, ap, subst, ◌∙◌, arith}
-use Rattle.std.proofs.lemmas.Bool.{and_parts, and_from, or_left, or_right, or_parts, eqb-true, cases_Bool}
+use Rattle.std.proofs.lemmas.Bool.{and_from, or_left, or_right, eqb-true}
 use Rattle.std.proofs.lemmas.List.Sums.{sum_by-cons}
 use Rattle.kt_rec.specs.Rows.{Rows}
 use Rattle.kt_rec.specs.declared.exposure.Coverage.{Coverage}
@@ -17,11 +17,10 @@ use Rattle.kt_keys.specs.Units.{top_level}
 use Rattle.kt_checks.specs.OutputChecks.{climbed, next_unit}
 use Rattle.kt_checks.specs.TableChecks.{tiv_of}
 use Rattle.kt_rules.specs.Profiles.{IsProfile, profile_of}
-use Rattle.kt_rules.specs.declared.profile.Profile.{Profile}
-use Rattle.kt_tree.specs.Sums.{sum_by-agree, sum_by-plus, sum_by-none, sum_by-below}
-use Rattle.kt_tree.specs.Rising.{rising, rising-member, rising-distinct}
-use Rattle.kt_tree.specs.Tree.{Tree, IsTree, is_unit}
-use Rattle.kt_tree.specs.Programme.{ids_in, children_in, no_terms, terms_or_none, profile_with, with_id, terms_in, coverage_of, covered_ids, has_coverage, tiv_beneath, tree_of}
+use Rattle.kt_tree.specs.Sums.{sum_by-plus, sum_by-none, sum_by-below}
+use Rattle.kt_tree.specs.Rising.{rising-member, rising-distinct}
+use Rattle.kt_tree.specs.Tree.{IsTree, is_unit}
+use Rattle.kt_tree.specs.Programme.{no_terms, terms_or_none, profile_with, with_id, terms_in, coverage_of, covered_ids, has_coverage, tiv_beneath, tree_of}
 
 -- the rows of a programme are right: it has a level, it takes the losses of a unit at a level once, its profiles are in their
 -- ranges, the coverages are distinct, and the items' values are bounded
@@ -183,7 +182,7 @@ beneath-item rows stage level unit coverage = by (nat_eq stage 0)
 tiv_beneath-few : (rows : Rows) (stage : ℕ) → HasTree rows stage → (level unit : ℕ) → tiv_beneath rows stage level unit ≤ 100000000000000
 tiv_beneath-few rows stage has level unit =
     let few = sum_by-below (λ row. cond (has_coverage (covered_ids rows stage) (next_unit (programme_of rows stage)) level unit row.coverage_id) row.tiv 0) (λ row. cond (list_any (λ item. nat_eq item.coverage_id row.coverage_id) rows.items) row.tiv 0) rows.coverages
-        (λ row. either (has_coverage (covered_ids rows stage) (next_unit (programme_of rows stage)) level unit row.coverage_id) _ row.tiv (beneath-item rows stage level unit row.coverage_id)) in
+    (λ row. either (has_coverage (covered_ids rows stage) (next_unit (programme_of rows stage)) level unit row.coverage_id) _ row.tiv (beneath-item rows stage level unit row.coverage_id)) in
     omega (arith, few, covered-value rows.coverages has.coverages rows.items, has.values)
   where
     either : (one other : Bool) (tiv : ℕ) → (one ≡ true → other ≡ true) → cond one tiv 0 ≤ cond other tiv 0

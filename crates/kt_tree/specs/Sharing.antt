@@ -1,6 +1,6 @@
 -- How a policy loss is shared back to the ids beneath it.
 -- The rules: docs/FINANCIAL_MODULE.md, "Allocation".
-use Rattle.std.specs.Prelude.{ℕ, zero, suc, Bool, cond, nat_eq, List, [], ◌∷◌, map}
+use Rattle.std.specs.Prelude.{ℕ, zero, suc, cond, nat_eq, List, [], ◌∷◌, map}
 use Rattle.std.specs.List.{flat_map, sum_by}
 use Rattle.kt_money.specs.Sharing.{share_out}
 use Rattle.kt_tree.specs.Tree.{Tree, carry_of, ground_up, policy_loss, beneath}

@@ -1,16 +1,16 @@
 -- Laws of sharing back: the amounts beneath add to the policy loss, and an id without a loss gets nothing.
-use Rattle.std.specs.Prelude.{◌≡◌, ℕ, zero, suc, ◌+◌, ◌≤◌, ◌<◌, ◌||◌, Bool, true, false, cond, nat_eq, List, [], ◌∷◌, map, slice_index, Option, Some, None}
-use Rattle.std.specs.List.{AllByRecursion, IsDistinct, filter, flat_map, list_any, sum, sum_by}
+use Rattle.std.specs.Prelude.{◌≡◌, ℕ, zero, suc, ◌+◌, ◌<◌, Bool, true, false, cond, nat_eq, List, [], ◌∷◌, map, slice_index, Option, Some, None}
+use Rattle.std.specs.List.{AllByRecursion, IsDistinct, flat_map, list_any, sum, sum_by}
 use Rattle.std.specs.Cmp.{nat_eq_equiv}
 use Rattle.std.proofs.Common.{refl, sym, ap, subst, ◌∙◌, arith, eq-zero-or-pos, inl, inr}
 use Rattle.std.proofs.lemmas.Bool.{eqb-true, eqb-false}
-use Rattle.std.proofs.lemmas.List.Sums.{sum_by-cons, sum_by-append, sum-map}
+use Rattle.std.proofs.lemmas.List.Sums.{sum_by-cons, sum-map}
 use Rattle.kt_checks.specs.OutputChecks.{climbed, after}
 use Rattle.kt_money.specs.Sharing.{share_of, shares_after, share_out}
 use Rattle.kt_money.specs.SharingLaws.{share_out-adds, share_of-zero}
-use Rattle.kt_tree.specs.Sums.{sum_by-agree, sum_by-plus, sum_by-swap, sum_by-one, sum_by-none, sum_by-filter, sum_by-flat_map, each_then, each_member, each_flat_map, member_filter, distinct_filter}
+use Rattle.kt_tree.specs.Sums.{sum_by-agree, sum_by-swap, sum_by-one, sum_by-flat_map, each_then, each_member, each_flat_map, member_filter, distinct_filter}
 use Rattle.kt_tree.specs.Tree.{Tree, IsTree, carry_of, ground_up, policy_loss, is_unit, comes_to, beneath}
-use Rattle.kt_tree.specs.TreeLaws.{each, carry_of-loss-le, policy_loss-le, comes_to-next, ground_up-beneath}
+use Rattle.kt_tree.specs.TreeLaws.{carry_of-loss-le, policy_loss-le, comes_to-next, ground_up-beneath}
 use Rattle.kt_tree.specs.Sharing.{Part, parts_for, carried_loss, weight_of, passed_down, id_parts, part_of, policy_parts, shared_at_once, shared_down, allocated}
 
 -- ---- units with amounts
@@ -98,12 +98,13 @@ module _ (tree : Tree) (is : IsTree tree) (losses : ℕ → ℕ) (top : ℕ) whe
           → AllByRecursion (λ child. list_any (nat_eq child.unit) (tree.children (suc level) part.unit) ≡ true) parts
           → AllByRecursion (IsGood tree losses top level) parts
       both [] weighed members = tt
-      both (child ∷ parts) weighed members =
-          (record {
-              backed = λ some. weight-backed level (tree.children (suc level) part.unit) child.unit (weighed.0 some);
-              leads = child-leads level part.unit child.unit good.leads members.0;
-            },
-          both parts weighed.1 members.1)
+      both (child ∷ parts) weighed members = (
+        record {
+          backed = λ some. weight-backed level (tree.children (suc level) part.unit) child.unit (weighed.0 some);
+          leads = child-leads level part.unit child.unit good.leads members.0;
+        },
+        both parts weighed.1 members.1,
+      )
 
   -- ---- down to the ids
 

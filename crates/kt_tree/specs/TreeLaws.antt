@@ -1,6 +1,6 @@
 -- Laws of the tree: its amounts add to the ground-up loss beneath.
-use Rattle.std.specs.Prelude.{◌≡◌, ℕ, zero, suc, ◌+◌, ◌≤◌, ◌<◌, ◌||◌, Bool, true, false, cond, nat_eq, List, [], ◌∷◌, Option, Some, None}
-use Rattle.std.specs.List.{AllByRecursion, IsDistinct, filter, list_any, sum_by}
+use Rattle.std.specs.Prelude.{◌≡◌, ℕ, zero, suc, ◌+◌, ◌≤◌, Bool, true, false, cond, nat_eq, List, [], ◌∷◌, Option, Some, None}
+use Rattle.std.specs.List.{AllByRecursion, list_any, sum_by}
 use Rattle.std.specs.Cmp.{nat_eq_equiv}
 use Rattle.std.proofs.lemmas.Bool.{eqb-true}
 use Rattle.std.proofs.Common.{refl, sym, ap, subst, ◌∙◌, arith}
@@ -8,12 +8,11 @@ use Rattle.std.proofs.lemmas.List.Sums.{sum_by-cons}
 use Rattle.kt_checks.specs.OutputChecks.{climbed, after}
 use Rattle.kt_rules.specs.Amounts.{total}
 use Rattle.kt_rules.specs.Profiles.{IsProfile}
-use Rattle.kt_rules.specs.Rules.{applied}
 use Rattle.kt_rules.specs.RuleLaws.{AreShares, keeps-rule_of, loss-le-total}
 use Rattle.kt_rules.specs.declared.carry.Carry.{Carry}
 use Rattle.kt_rules.specs.declared.profile.Profile.{Profile}
 use Rattle.kt_tree.specs.Sums.{sum_by-agree, sum_by-swap, sum_by-one, sum_by-none, sum_by-filter, sum_by-below, each_then, each_member}
-use Rattle.kt_tree.specs.Tree.{Tree, IsTree, whole_loss, add_carries, sum_carries, carry_of, base_of, policy_loss, ground_up, is_unit, comes_to, beneath}
+use Rattle.kt_tree.specs.Tree.{Tree, IsTree, sum_carries, carry_of, base_of, policy_loss, ground_up, is_unit, comes_to, beneath}
 
 -- the shares of a profile are at most the whole
 pub shares_of : (profile : Profile) → IsProfile profile → AreShares profile
