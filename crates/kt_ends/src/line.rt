@@ -245,7 +245,10 @@ fn push_refusal(out: &mut Bytes, refusal: &Refusal) -> Result<(), OutOfMemory>
         Refusal::Row { event, row, cause } => push_event_row(out, *event, *row, *cause),
         Refusal::Cells { event, .. } => push_event(out, *event, b"cell limit"),
         Refusal::Period {
-            event, held, more, ..
+            event,
+            held,
+            more,
+            ..
         } => push_period(out, *event, *held, *more),
         Refusal::File { file, stop } => push_file_stream(out, *file, *stop),
         Refusal::HeaderDiffers { file } => push_other_header(out, *file),

@@ -36,7 +36,10 @@ fn model_need() -> Need
 {
     let items = with_table(TableSet::new(), Table::Items);
     let footprint = with_table(with_table(items, Table::Footprint), Table::FootprintIdx);
-    let damage = with_table(with_table(footprint, Table::Vulnerability), Table::DamageBinDict);
+    let damage = with_table(
+        with_table(footprint, Table::Vulnerability),
+        Table::DamageBinDict,
+    );
     Need {
         loaded: damage,
         samples: 0,
