@@ -8,8 +8,14 @@ use std::alloc::{AllocError, AllocGlobal, Global};
 use std::thread::Threads;
 
 /// The names of the files of a run.
-const NAMES: [&str; 3] = [
+const NAMES: [&str; 9] = [
     "input/events.bin",
+    "input/items.bin",
+    "input/coverages.bin",
+    "input/fm_programme.bin",
+    "input/fm_xref.bin",
+    "input/gulsummaryxref.bin",
+    "input/fmsummaryxref.bin",
     "input/occurrence.bin",
     "static/footprint.idx",
 ];
