@@ -1,8 +1,6 @@
 -- The places of sidx.
 use Rattle.std.proofs.Common.{◌≡◌, ℕ, ◌-◌, ◌<◌, Bool, true, false, cond, nat_lt, pos, negsuc, ◌<ℤ◌, refl, sym, ap, arith, ◌∙◌}
-
 use Rattle.std.proofs.lemmas.Bool.{ltb-true, ltb-false}
-
 use Rattle.std.proofs.lemmas.Int.{ints}
 use Rattle.kt_sum.specs.Summaries.{place_of, sidx_at}
 

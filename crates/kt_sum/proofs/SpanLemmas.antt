@@ -51,8 +51,7 @@ pairs_inside least last (pair ∷ pairs) each = (
 records_inside : (least last : ℕ) (records : List LossRecord) → AllByRecursion (λ place. (least ≤ place) × (place < last)) (places records) → AllByRecursion (λ entry. AreInside least (last - least) entry.pairs) records
 records_inside least last [] each = tt
 records_inside least last (entry ∷ records) each =
-    let split = subst (AllByRecursion (λ place. (least ≤ place) × (place < last))) (flat_map-cons (λ (entry : LossRecord). pair_places entry.pairs) entry records) each in
-    (
+    let split = subst (AllByRecursion (λ place. (least ≤ place) × (place < last))) (flat_map-cons (λ (entry : LossRecord). pair_places entry.pairs) entry records) each in (
       All-from_recursion (λ (pair : Pair). IsInside least (last - least) (place_of pair.sidx)) entry.pairs (pairs_inside least last entry.pairs (front_each (λ place. (least ≤ place) × (place < last)) (pair_places entry.pairs) (places records) split)),
       records_inside least last records (back_each (λ place. (least ≤ place) × (place < last)) (pair_places entry.pairs) (places records) split),
     )

@@ -11,11 +11,11 @@ loop-place-preserved c =
     let is = here.taking.left n (omega arith) in
     elim c.if-loss-gt0.branch [
       | then-loss-gt0+in_ok-push w ↦ rw (w.sums-is, w.pairs-is) (record {
-          taking = taken_set c.args.sums.now sums n here.taking (omega (arith, c.loop-place-test.true, c.loop-place.auto.sums));
-          pairs_are = pairs_push c.args.least n (slice_index_or sums n 0) c.args.sums.now is c.loop-place.pairs here.pairs_are _ w.if-loss-gt0.true (w.in_ok-push.ensures.ok ∙ ap (λ pair. c.loop-place.pairs ++ pair ∷ []) w.pair_at.ensures.value);
-        })
+        taking = taken_set c.args.sums.now sums n here.taking (omega (arith, c.loop-place-test.true, c.loop-place.auto.sums));
+        pairs_are = pairs_push c.args.least n (slice_index_or sums n 0) c.args.sums.now is c.loop-place.pairs here.pairs_are _ w.if-loss-gt0.true (w.in_ok-push.ensures.ok ∙ ap (λ pair. c.loop-place.pairs ++ pair ∷ []) w.pair_at.ensures.value);
+      })
       | else-loss-gt0 w ↦ rw (w.sums-is, w.pairs-is) (record {
-          taking = taken_same c.args.sums.now sums n here.taking (omega (arith, w.if-loss-gt0.false));
-          pairs_are = pairs_skip c.args.least n (slice_index_or sums n 0) c.args.sums.now is c.loop-place.pairs here.pairs_are (omega (arith, w.if-loss-gt0.false));
-        })
+        taking = taken_same c.args.sums.now sums n here.taking (omega (arith, w.if-loss-gt0.false));
+        pairs_are = pairs_skip c.args.least n (slice_index_or sums n 0) c.args.sums.now is c.loop-place.pairs here.pairs_are (omega (arith, w.if-loss-gt0.false));
+      })
     ]
