@@ -1,9 +1,7 @@
 -- The worked examples of docs/CALCULATION.md and docs/EXAMPLES.md, by computing.
-use Rattle.std.specs.Prelude.{◌≡◌, ℕ, true, false, cond, nat_lt, pos, negsuc, List, [], ◌∷◌, Option, Some}
+use Rattle.std.specs.Prelude.{◌≡◌, ℕ, true, false, cond, nat_lt, pos, negsuc, List, [], ◌∷◌, Some}
 use Rattle.std.proofs.Common.{refl}
 use Rattle.kt_stream.specs.declared.entry.LossRecord.{LossRecord}
-use Rattle.kt_stream.specs.declared.entry.Pair.{Pair}
-use Rattle.kt_stream.specs.declared.entry.SummaryRecord.{SummaryRecord}
 use Rattle.kt_sum.specs.RunLosses.{goes_past}
 use Rattle.kt_sum.specs.Summaries.{summaries_by}
 
