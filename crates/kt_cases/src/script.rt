@@ -8,7 +8,7 @@ use std::alloc::{AllocError, AllocGlobal, Global};
 use std::thread::Threads;
 
 /// The names of the files of a run.
-const NAMES: [&str; 9] = [
+const NAMES: [&str; 13] = [
     "input/events.bin",
     "input/items.bin",
     "input/coverages.bin",
@@ -17,6 +17,10 @@ const NAMES: [&str; 9] = [
     "static/vulnerability.bin",
     "static/damage_bin_dict.bin",
     "static/random.bin",
+    "input/fm_programme.bin",
+    "input/fm_xref.bin",
+    "input/gulsummaryxref.bin",
+    "input/fmsummaryxref.bin",
     "input/occurrence.bin",
 ];
 

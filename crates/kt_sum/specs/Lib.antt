@@ -3,3 +3,4 @@ pub mod Summaries
 pub mod Adding
 pub mod Mapping
 pub mod RunSums
+pub mod Examples
