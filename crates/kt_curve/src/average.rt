@@ -1,6 +1,6 @@
 //! The table of average annual losses.
 //! The rules: docs/CALCULATION.md, "Average annual loss"; docs/OUTPUTS.md, "Average annual loss table".
-ghost use Rattle.std.specs.Prelude.{◌≡◌, ◌+◌, ◌*◌, ◌≤◌, ◌^◌, ℕ, List, [], ◌∷◌, ◌++◌, map, sum, sum_by, length, All, IfOk, OnOk, OnErr, Bool, Some, if◌then◌else◌};
+ghost use Rattle.std.specs.Prelude.{◌≡◌, ◌+◌, ◌*◌, ◌≤◌, ◌^◌, ℕ, List, ◌++◌, map, sum, sum_by, length, All, IfOk, OnOk, OnErr, Some, if◌then◌else◌};
 ghost use Rattle.std.specs.List.{filter};
 ghost use Rattle.kt_money.specs.Rounding.{mean_of, deviation_of};
 ghost use Rattle.kt_curve.specs.Grid.{is_mean, of_kind, sidx_of_kind, keys_for, moments_of, IsGroup, IsPart, by_summary, same_bool};

@@ -1,10 +1,9 @@
 //! The period totals and maxima of all records that were added.
 //! The rules: docs/CALCULATION.md, "Periods".
-ghost use Rattle.std.specs.Prelude.{◌≡◌, ◌⊎◌, ◌+◌, ◌≤◌, ◌^◌, ℕ, pos, ◌≤ℤ◌, List, [], ◌∷◌, ◌++◌, map, All, IsTrue, IfErr, IfOk, OnOk, OnErr, IfNone, Some, None, true};
+ghost use Rattle.std.specs.Prelude.{◌≡◌, ◌+◌, ◌≤◌, ◌^◌, pos, ◌≤ℤ◌, List, [], ◌∷◌, ◌++◌, map, All, IfOk, IfNone, Some, None, true};
 ghost use Rattle.std.specs.List.{flat_map};
-ghost use Rattle.kt_curve.specs.declared.cell.CellStop.TheVariants as cell_stop;
-ghost use Rattle.kt_curve.specs.Losses.{KeyLoss, Added, losses_of, all_losses, maximum, is_added, loss_at, key_of, pair_losses};
-ghost use Rattle.kt_curve.specs.Standing.{StandsFor, Standing, first_stop, stop_at, sidx_in_range, most_total, total_in, maximum_in, refusal_of, raised};
+ghost use Rattle.kt_curve.specs.Losses.{KeyLoss, Added, maximum, is_added, loss_at, key_of, pair_losses};
+ghost use Rattle.kt_curve.specs.Standing.{StandsFor, Standing, sidx_in_range, most_total, total_in, maximum_in, refusal_of, raised};
 ghost use Rattle.kt_curve.specs.Grid.{in_set, set_entries, same_perspective, IsPart};
 ghost use Rattle.kt_curve.specs.Journal.{Puts, Noted, Going, GoesOn, Returns, Adds};
 

@@ -1,6 +1,6 @@
 //! Losses carried up a programme, level by level.
 //! The rule: docs/FINANCIAL_MODULE.md, "Levels".
-ghost use Rattle.std.specs.Prelude.{◌≡◌, ◌+◌, ◌≤◌, ◌<◌, ◌^◌, ℕ, [], length, map, All, IfOk, slice_index_or};
+ghost use Rattle.std.specs.Prelude.{◌≡◌, ◌+◌, ◌≤◌, ◌<◌, ◌^◌, [], length, map, All, IfOk, slice_index_or};
 ghost use Rattle.std.specs.List.{range_with_len, sum};
 ghost use Rattle.kt_rules.specs.Amounts.{total};
 ghost use Rattle.kt_tree.specs.Tree.{Tree, whole_loss};

@@ -1,9 +1,9 @@
 -- Rows of numbers that are in the ranges of their kinds are rows in range.
-use Rattle.std.proofs.Common.{◌≡◌, ◌≤◌, ◌<◌, ℕ, List, [], ◌∷◌, map, length, refl, ◌∙◌, zero, suc, Ok, Err, arith, ap, subst, sym, ◌^◌, Bool, true, false}
+use Rattle.std.proofs.Common.{◌≡◌, ◌≤◌, ◌<◌, ℕ, List, [], ◌∷◌, map, length, refl, zero, suc, Ok, Err, arith, subst, ◌^◌, Bool, true, false}
 use Rattle.std.specs.Prelude.{slice_index_or, nat_lt, All, if◌then◌else◌}
 use Rattle.std.proofs.lemmas.Bool.{ltb-false}
-use Rattle.kt_rec.specs.Ranges.{IsId, IsPart, IsCount, IsAmount, IsOffset, IsLevel, IsLayer, IsSet, IsTerm, is_rule_number, ArePeriods}
-use Rattle.kt_cells.specs.Kinds.{in_range, within, under, is_ppm, known_rule}
+use Rattle.kt_rec.specs.Ranges.{IsId, IsPart, IsCount, IsAmount, IsOffset, IsLevel, IsLayer, IsSet, IsTerm, is_rule_number}
+use Rattle.kt_cells.specs.Kinds.{in_range, within, under, is_ppm}
 use Rattle.kt_cells.specs.Ranges.{IsRow, AreRows}
 use Rattle.kt_cells.specs.Reading.{rule_after}
 use Rattle.kt_cells.specs.declared.kind.Kind.{Kind}

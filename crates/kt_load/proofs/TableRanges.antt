@@ -1,5 +1,5 @@
 -- The rows of each table are in range, and stay so with those of one more table.
-use Rattle.std.proofs.Common.{◌≡◌, ◌≤◌, ◌<◌, ℕ, List, [], ◌∷◌, map, length, refl, zero, suc, Ok, Err, arith, subst, sym, Bool, true, false}
+use Rattle.std.proofs.Common.{◌≡◌, ◌≤◌, ◌<◌, ℕ, List, [], ◌∷◌, length, refl, Ok, Err, arith, subst, sym, Bool, true, false}
 use Rattle.std.specs.Prelude.{slice_index_or, All, IfOk, nat_lt, not, ◌==◌, if◌then◌else◌, drop, Result}
 use Rattle.byteorder.specs.Endian.{little_number}
 use Rattle.std.proofs.lemmas.Bool.{ltb-true, ltb-false}
@@ -11,8 +11,8 @@ use Rattle.kt_rec.specs.declared.table.Table.{Table}
 use Rattle.kt_rec.specs.declared.table.Table.TheVariants as table
 use Rattle.kt_rec.specs.TableNames.{number_of}
 use Rattle.kt_cells.specs.Header.{header_extra, header_width, mark, number_at, version}
-use Rattle.kt_cells.specs.Kinds.{under, is_ppm, within}
-use Rattle.kt_cells.specs.Ranges.{IsRow, AreRows}
+use Rattle.kt_cells.specs.Kinds.{is_ppm, within}
+use Rattle.kt_cells.specs.Ranges.{IsRow}
 use Rattle.kt_cells.specs.declared.kind.Kind.{Kind}
 use Rattle.kt_cells.specs.declared.kind.Kind.TheVariants as kind
 use Rattle.kt_cells.specs.declared.kind.Term.TheVariants as term

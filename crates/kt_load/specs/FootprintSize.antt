@@ -1,8 +1,8 @@
 -- The rows that were loaded say how long the footprint's file is.
 -- The rules: docs/TABLES.md, "Footprint rows of an event".
-use Rattle.std.specs.Prelude.{◌≡◌, ◌⊎◌, ◌<◌, ℕ, ◌==◌, ◌&&◌, ◌||◌, Bool, true, false, cond, not, nat_lt, drop, List, [], ◌∷◌, length, refl, Option, None, Some, Result, Ok, Err, IfOk, IfSome, IsSomeAnd, All, slice_index_or, if◌then◌else◌, ⊤}
+use Rattle.std.specs.Prelude.{◌≡◌, ◌⊎◌, ℕ, ◌==◌, ◌&&◌, ◌||◌, Bool, true, false, cond, not, nat_lt, drop, List, [], ◌∷◌, length, refl, Option, None, Some, Result, Ok, Err, IfOk, IfSome, IsSomeAnd, if◌then◌else◌}
 use Rattle.std.specs.List.{filter, list_all, list_any}
-use Rattle.std.proofs.Common.{sym, subst, ap, ◌∙◌, arith, inl, inr, zero, suc}
+use Rattle.std.proofs.Common.{sym, subst, ap, ◌∙◌, arith, inl, inr}
 use Rattle.std.proofs.lemmas.Bool.{eqb-true}
 use Rattle.kt_out.specs.NamedFiles.{FileMap}
 use Rattle.kt_rec.specs.Rows.{Rows, no_rows}
@@ -11,7 +11,6 @@ use Rattle.kt_rec.specs.TableSet.{is_in, is_same}
 use Rattle.kt_rec.specs.declared.table.Table.{Table}
 use Rattle.kt_rec.specs.declared.table.Table.TheVariants as table
 use Rattle.kt_rec.specs.declared.table.TableId.{TableId}
-use Rattle.kt_rec.specs.declared.table_set.TableSet.{TableSet}
 use Rattle.kt_cells.specs.declared.stop.TableStop.{TableStop}
 use Rattle.kt_checks.specs.Checks.{first_refusal}
 use Rattle.kt_keys.specs.declared.need.Need.{Need}

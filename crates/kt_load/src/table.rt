@@ -1,6 +1,6 @@
 //! Reads the files of tables, one after the other.
 //! The rules: docs/REFUSALS.md, "Order".
-ghost use Rattle.std.specs.Prelude.{◌≡◌, ◌≤◌, true, IfOk, IfErr, IfSome, OnOk, Ok, All};
+ghost use Rattle.std.specs.Prelude.{◌≡◌, ◌≤◌, true, IfErr, IfSome, OnOk, Ok, All};
 ghost use Rattle.std.specs.List.{filter, list_any};
 ghost use Rattle.kt_rec.specs.Rows.{rows_of};
 ghost use Rattle.kt_rec.specs.TableNames.{IsTableId};

@@ -12,12 +12,12 @@ use Rattle.kt_stream.specs.Reader.{Reading, IsPlaced}
 use Rattle.kt_stream.specs.Reader.{Feeds as FeedsRecords, Finishes as FinishesRecords}
 use Rattle.kt_stream.specs.Stream.{Form, stream_of}
 use Rattle.kt_loop.specs.KnownStreams.{StandsKnown, known_beside, known_contents, known_header, with_known, IsKnownHead, IsPlacedKnown}
-use Rattle.kt_loop.specs.Contents.{Contents, Grows, refused, IsRefused}
-use Rattle.kt_loop.specs.Reading.{AreGood, IsRead, GoesOn, IsStopped, Feeds, Finishes}
+use Rattle.kt_loop.specs.Contents.{Contents, Grows, refused}
+use Rattle.kt_loop.specs.Reading.{AreGood, IsRead, Feeds, Finishes}
 use Rattle.kt_loop.specs.RecordStreams.{contents_of, StandsFor}
 use Rattle.kt_loop.specs.declared.known_reader.KnownHead.{KnownHead}
 use Rattle.kt_loop.specs.declared.known_reader.KnownReader.{KnownReader}
-use Rattle.kt_loop.proofs.RecordReading.{Stays, HeadFirst, feeds_so, finishes_so, takes_so, grows_so, read_so}
+use Rattle.kt_loop.proofs.RecordReading.{Stays, HeadFirst, feeds_so, takes_so, grows_so, read_so}
 use Rattle.kt_loop.proofs.RecordsGood.{good_so}
 
 -- contents with what is known grow as they do without it

@@ -1,6 +1,6 @@
 //! The terms of a profile, in the ranges of its rule.
 //! The rules: docs/FINANCIAL_MODULE.md, "Terms".
-ghost use Rattle.std.specs.Prelude.{◌≡◌, ◌≤◌, ◌||◌, nat_eq, true, cond, IfOk, OnErr};
+ghost use Rattle.std.specs.Prelude.{◌≡◌, ◌||◌, cond, IfOk, OnErr};
 ghost use Rattle.kt_rec.specs.Ranges.{is_rule_number, is_deductible_part, is_limit_part};
 ghost use Rattle.kt_rules.specs.Profiles.{is_good, profile_of, IsProfile};
 

@@ -1,6 +1,6 @@
 //! The records of a run by the summaries to which they come.
 //! The rule: docs/CALCULATION.md, "Summaries".
-ghost use Rattle.std.specs.Prelude.{◌≡◌, map, IfOk};
+ghost use Rattle.std.specs.Prelude.{map, IfOk};
 ghost use Rattle.kt_tables.specs.Lookups.{summary_in};
 ghost use Rattle.kt_sum.specs.Mapping.{AreMapped, AreAllMapped};
 

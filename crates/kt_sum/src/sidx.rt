@@ -1,6 +1,6 @@
 //! The places of sidx among the whole numbers of 32 bits.
 //! The rules: docs/STREAMS.md, "Records".
-ghost use Rattle.std.specs.Prelude.{◌≡◌, ◌<◌, ◌^◌};
+ghost use Rattle.std.specs.Prelude.{◌≡◌, ◌<◌};
 ghost use Rattle.kt_sum.specs.Summaries.{place_of, sidx_at};
 
 use kt_stream::Pair;

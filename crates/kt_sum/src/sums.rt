@@ -1,6 +1,6 @@
 //! Losses added sidx by sidx, in one scratch for a run.
 //! The rule: docs/CALCULATION.md, "Summaries".
-ghost use Rattle.std.specs.Prelude.{◌≡◌, ℕ, ◌+◌, ◌<◌, ◌≤◌, ◌^◌, length, slice_index, map, IfOk};
+ghost use Rattle.std.specs.Prelude.{◌≡◌, ℕ, ◌+◌, ◌<◌, ◌≤◌, ◌^◌, length, slice_index, IfOk};
 ghost use Rattle.std.specs.List.{range_with_len, filter_map};
 ghost use Rattle.kt_sum.specs.RunLosses.{loss_of};
 ghost use Rattle.kt_sum.specs.Summaries.{sidx_at, pair_of};

@@ -1,5 +1,5 @@
 -- The summaries of a portfolio: they are ids, and an exposure is at most what the coverages of all items are worth, one for each item.
-use Rattle.std.proofs.Common.{◌≡◌, ℕ, ◌+◌, ◌≤◌, Bool, true, false, cond, List, [], ◌∷◌, length, map, refl, ap, sym, subst, ◌∙◌, nat_eq, Option, None, Some, unwrap_or, arith, inl}
+use Rattle.std.proofs.Common.{◌≡◌, ℕ, ◌+◌, ◌≤◌, Bool, true, false, cond, List, [], ◌∷◌, length, map, refl, ap, sym, subst, nat_eq, Option, Some, unwrap_or, arith, inl}
 use Rattle.std.specs.Prelude.{◌&&◌, ◌||◌}
 use Rattle.std.specs.List.{IsDistinct, AllByRecursion, list_any, sum_by}
 use Rattle.std.specs.Map.{lookup}

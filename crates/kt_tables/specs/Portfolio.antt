@@ -1,6 +1,6 @@
 -- What contracts see of a portfolio: the rows of its tables, and what they are needed for.
 -- The rules: docs/CHECKS.md.
-use Rattle.std.specs.Prelude.{◌≡◌, ◌≤◌, ℕ, All, true, false}
+use Rattle.std.specs.Prelude.{◌≡◌, ◌≤◌, All, true, false}
 use Rattle.kt_rec.specs.Ranges.{AreInRange, ArePeriods}
 use Rattle.kt_rec.specs.Rows.{Rows, row_count}
 use Rattle.kt_rec.specs.TableNames.{IsTableId}

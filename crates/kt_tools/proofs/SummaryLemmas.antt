@@ -1,11 +1,9 @@
 -- Summaries run by run: what a stage stands on, and the outcome in words of whole runs.
-use Rattle.std.proofs.Common.{◌≡◌, ℕ, ◌+◌, ◌<◌, ◌≤◌, Bool, true, false, List, [], ◌∷◌, ◌++◌, length, map, take, slice_index_or, Option, None, Some, Ok, refl, sym, ap, ◌∙◌, append-nil}
+use Rattle.std.proofs.Common.{◌≡◌, ℕ, ◌+◌, ◌<◌, Bool, true, false, List, [], ◌∷◌, ◌++◌, length, map, take, slice_index_or, Option, None, Some, Ok, refl, sym, ap, ◌∙◌, append-nil}
 use Rattle.std.specs.List.{AllByRecursion, flat_map}
 use Rattle.std.proofs.lemmas.Grind.{flat_map-append}
 use Rattle.std.proofs.lemmas.List.{append_assoc, take_more}
-use Rattle.kt_ends.specs.declared.status.Refusal.{Refusal}
-use Rattle.kt_loop.specs.ByRun.{RunCalculation, by_run, outcome_by_run}
-use Rattle.kt_loop.specs.Contents.{Contents}
+use Rattle.kt_loop.specs.ByRun.{by_run, outcome_by_run}
 use Rattle.kt_loop.specs.Outcome.{outcome}
 use Rattle.kt_loop.specs.Reading.{AreGood}
 use Rattle.kt_loop.specs.Runs.{bare, loss_key}

@@ -1,6 +1,6 @@
 -- The ground-up losses of a stream of damage distributions.
 -- The rules: docs/COMMANDS.md, "gulcalc".
-use Rattle.std.specs.Prelude.{ℕ, Bool, false, List, [], ◌∷◌, length, Option, None, Some, Ok}
+use Rattle.std.specs.Prelude.{ℕ, Bool, false, List, [], ◌∷◌, length, None, Ok}
 use Rattle.std.specs.List.{flat_map}
 use Rattle.kt_ends.specs.Outcome.{Outcome}
 use Rattle.kt_ends.specs.declared.status.Refusal.{Refusal}

@@ -1,6 +1,6 @@
 -- The summaries of the records of a stream of losses, run by run.
 -- The rules: docs/COMMANDS.md, "summarycalc"; docs/CALCULATION.md, "Summaries".
-use Rattle.std.specs.Prelude.{ℕ, ◌+◌, Bool, true, false, cond, not, nat_eq, List, [], ◌∷◌, map, Option, None, Some, Ok, Err}
+use Rattle.std.specs.Prelude.{ℕ, ◌+◌, Bool, true, false, cond, nat_eq, List, [], map, Option, None, Some, Ok, Err}
 use Rattle.std.specs.List.{flat_map, list_any}
 use Rattle.kt_checks.specs.Checks.{samples_refusal}
 use Rattle.kt_ends.specs.Outcome.{Outcome}
@@ -24,7 +24,6 @@ use Rattle.kt_stream.specs.Header.{header_bytes}
 use Rattle.kt_stream.specs.Losses.{loss_form, loss_shape}
 use Rattle.kt_stream.specs.Summary.{summary_bytes}
 use Rattle.kt_stream.specs.declared.entry.LossRecord.{LossRecord}
-use Rattle.kt_stream.specs.declared.entry.Placed.{Placed}
 use Rattle.kt_stream.specs.declared.kind.Head.{Head}
 use Rattle.kt_stream.specs.declared.kind.StreamKind.{StreamKind}
 use Rattle.kt_stream.specs.declared.kind.StreamKind.TheVariants as stream

@@ -1,6 +1,6 @@
 //! The tool that makes the damage distributions of the events of a stream.
 //! The rules: docs/COMMANDS.md, "getmodel".
-ghost use Rattle.std.specs.Prelude.{◌≡◌, ◌++◌, true, OnOk, IfOk, IfErr};
+ghost use Rattle.std.specs.Prelude.{◌≡◌, ◌++◌, true, OnOk, IfErr};
 ghost use Rattle.std.specs.List.{flat_map};
 ghost use Rattle.kt_ends.specs.Ending.{Ended};
 ghost use Rattle.kt_ends.specs.Stops.{end_status};

@@ -93,10 +93,8 @@ struct GroundUp {
 impl<'a> RunStage<KnownHead<&'a Portfolio>, Cdf, ()> for GroundUp {
     ghost use Rattle.std.specs.Prelude.{◌≡◌, ◌≤◌};
     ghost use Rattle.kt_stream.specs.Bins.{IsCdf, cdf_form, cdf_shape};
-    ghost use Rattle.kt_stream.specs.Header.{IsHead};
     ghost use Rattle.kt_stream.specs.Reader.{IsPlaced};
     ghost use Rattle.kt_stream.specs.declared.entry.Cdf.{Cdf};
-    ghost use Rattle.kt_stream.specs.declared.kind.StreamKind.TheVariants as kind;
     ghost use Rattle.kt_keys.specs.Refusals.{is_loaded};
     ghost use Rattle.kt_rec.specs.declared.table.Table.TheVariants as table;
     ghost use Rattle.kt_tools.specs.GulOutcome.{GulOptions, gul_runs};

@@ -1,14 +1,13 @@
 -- What was read of the words of a tool fits its table.
-use Rattle.std.proofs.Common.{◌≡◌, ◌≢◌, ◌≤◌, ◌<◌, ℕ, ◌+◌, Bool, true, false, List, [], ◌∷◌, length, drop, get_or, set, Option, Some, None, Result, Ok, Err, refl, sym, ap, ◌∙◌, subst, arith, nat_eq, cond}
+use Rattle.std.proofs.Common.{◌≡◌, ◌≤◌, ℕ, ◌+◌, Bool, true, false, List, [], ◌∷◌, length, drop, Option, Some, None, Result, Ok, Err, refl, sym, ap, ◌∙◌, subst, arith, nat_eq, cond}
 use Rattle.std.specs.Prelude.{find, nat_le, nat_lt, replicate, slice_index_or, slice_set, IfOk, not, ◌==◌, ◌&&◌, ◌||◌, IfSome, is_some, if◌then◌else◌, slice_index}
-use Rattle.std.specs.List.{list_any}
 use Rattle.std.proofs.lemmas.Bool.{eqb-true, eqb-false, leb-true, ltb-true, ltb-false}
 use Rattle.std.proofs.lemmas.List.{get_or-set_other, get_or_past, get_or-replicate, length-set, length-replicate}
 use Rattle.std.proofs.lemmas.Grind.{get_or-set_at}
 use Rattle.kt_words.specs.Command.{number_or_0}
 use Rattle.kt_words.specs.Fits.{IsNumber, Fits, FitsWord, FitsTable, IsRead}
-use Rattle.kt_words.specs.Given.{none_given, given_at, is_given, option_named, with_entry, with_value, value_or_bad, with_text, with_flag, with_valued, by_form, with_row, row_or_unknown, with_option, with_place, place_of, place_or_bad, plain_by, with_plain, with_own, with_next, with_word}
-use Rattle.kt_words.specs.Judging.{finished, unless_awaited, judged, is_missing, lacks_some, lacks_by_some_rule, lacks_option, refused_word, unless_clash, clash}
+use Rattle.kt_words.specs.Given.{none_given, given_at, is_given, option_named, with_value, value_or_bad, with_text, with_flag, with_valued, by_form, row_or_unknown, with_option, with_place, place_of, place_or_bad, plain_by, with_plain, with_own, with_next, with_word}
+use Rattle.kt_words.specs.Judging.{finished, unless_awaited, is_missing, lacks_some, lacks_by_some_rule, refused_word, unless_clash, clash}
 use Rattle.kt_words.specs.Reading.{read_from, and_on, finish_read, unless_wrong, given_by}
 use Rattle.kt_words.specs.Rows.{letter_of, form_of, form_at, wants_at}
 use Rattle.kt_words.specs.Table.{options_of, plain_of}

@@ -1,9 +1,8 @@
 //! What the words of a call ask for.
 //! The rules: docs/COMMANDS.md, "Words".
-ghost use Rattle.std.specs.Prelude.{◌≡◌, IfOk, length};
+ghost use Rattle.std.specs.Prelude.{◌≡◌, IfOk};
 ghost use Rattle.kt_eve.specs.Parts.{has_part};
 ghost use Rattle.kt_words.specs.Fits.{IsRead};
-ghost use Rattle.kt_words.specs.Given.{given_at};
 ghost use Rattle.kt_words.specs.Command.{number_or_0, number_or, table_or_first, word_or_0, set_given, summary_command, to_text, eve_command, command_from, command_of, IsSet, IsCommand};
 
 use crate::given::{Given, GivenWord};

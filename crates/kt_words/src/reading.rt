@@ -1,6 +1,6 @@
 //! The words of a tool, from left to right.
 //! The rules: docs/COMMANDS.md, "Words".
-ghost use Rattle.std.specs.Prelude.{◌≡◌, ◌+◌, ◌<◌, ◌≤◌, length, IfOk};
+ghost use Rattle.std.specs.Prelude.{◌≡◌, ◌+◌, ◌<◌, length, IfOk};
 ghost use Rattle.kt_words.specs.Fits.{IsRead};
 ghost use Rattle.kt_words.specs.Reading.{given_by, judged_words};
 

@@ -1,4 +1,4 @@
-use Rattle.std.proofs.Common.{ℕ, List, true, [], refl, sym, ap, subst}
+use Rattle.std.proofs.Common.{true, [], refl, sym, ap, subst}
 use Rattle.std.specs.Prelude.{unwrap_or}
 use Rattle.kt_load.specs.EventRows.{footprint_name}
 use Rattle.kt_loop.specs.Reading.{AreGood}

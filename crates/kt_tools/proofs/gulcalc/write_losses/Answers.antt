@@ -1,4 +1,4 @@
-use Rattle.std.proofs.Common.{◌≡◌, ℕ, List, true, [], length, refl, sym, ap, subst, ◌∙◌}
+use Rattle.std.proofs.Common.{◌≡◌, true, [], length, refl, sym, ap, subst, ◌∙◌}
 use Rattle.kt_keys.specs.Refusals.{is_loaded}
 use Rattle.kt_loop.specs.KnownStreams.{IsKnownHead, IsPlacedKnown, good_by, known_contents}
 use Rattle.kt_rec.specs.declared.table.Table.TheVariants as table

@@ -1,5 +1,5 @@
-use Rattle.std.proofs.Common.{◌≡◌, ℕ, List, Ok, ap, refl, subst, sym, ◌∙◌}
-use Rattle.std.specs.Prelude.{IfSome, Bool}
+use Rattle.std.proofs.Common.{◌≡◌, ℕ, List, Ok, refl, subst, sym}
+use Rattle.std.specs.Prelude.{IfSome}
 use Rattle.kt_ends.specs.Ending.{Ended}
 use Rattle.kt_ends.specs.Endings.{ends_as}
 use Rattle.kt_ends.specs.Outcome.{Outcome}
@@ -9,7 +9,6 @@ use Rattle.kt_load.specs.Ends.{TellsLoad}
 use Rattle.kt_load.specs.Loaded.{loaded}
 use Rattle.kt_out.specs.InputFiles.{InputsState}
 use Rattle.kt_out.specs.NamedFiles.{FileMap}
-use Rattle.kt_rec.specs.Rows.{Rows}
 use Rattle.kt_tools.specs.Outcome.{summary_outcome}
 use Rattle.kt_tools.specs.SummaryOutcome.{summary_need, summary_rows_outcome}
 use Rattle.kt_tools.specs.Uses.{command_uses}

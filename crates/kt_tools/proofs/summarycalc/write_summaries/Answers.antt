@@ -8,7 +8,6 @@ use Rattle.kt_stream.specs.Losses.{IsLoss, loss_form, loss_shape}
 use Rattle.kt_stream.specs.Reader.{IsPlaced}
 use Rattle.kt_stream.specs.declared.entry.LossRecord.{LossRecord}
 use Rattle.kt_stream.specs.declared.kind.Shape.{Shape}
-use Rattle.kt_tables.specs.Portfolio.{PortfolioRows}
 use Rattle.kt_tools.specs.SummaryOutcome.{SetSummaries, loss_contents, losses_kind, summary_need, summary_rows_outcome, summary_runs}
 use Rattle.kt_tools.proofs.SummaryLemmas.{good_losses, summaries_are}
 use Rattle.kt_tools.proofs.summarycalc.write_summaries.Goals as goal

@@ -1,10 +1,10 @@
-use Rattle.std.proofs.Common.{◌≡◌, List, ℕ, subst, sym, ap, ◌∙◌}
+use Rattle.std.proofs.Common.{◌≡◌, List, subst, sym, ap, ◌∙◌}
 use Rattle.kt_loop.specs.Steps.{StepsBy}
 use Rattle.kt_load.specs.EventRows.{event_rows}
 use Rattle.kt_out.specs.InputFiles.{InputsState}
 use Rattle.kt_rec.specs.Rows.{Rows}
 use Rattle.kt_rec.specs.declared.hazard.FootRow.{FootRow}
-use Rattle.kt_tools.specs.ModelOutcome.{ModelTables, rows_step}
+use Rattle.kt_tools.specs.ModelOutcome.{rows_step}
 use Rattle.kt_tools.specs.ModelStage.{HoldsFootprint}
 use Rattle.kt_tools.proofs.ModelLemmas.{of_footprint, steps_as}
 use Rattle.kt_tools.proofs.getmodel.DistributionsStageHeadEventId.take.Goals as goal

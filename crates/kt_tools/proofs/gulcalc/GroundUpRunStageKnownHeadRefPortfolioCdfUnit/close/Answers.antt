@@ -1,6 +1,5 @@
-use Rattle.std.proofs.Common.{List, length, subst, sym, ◌∙◌}
+use Rattle.std.proofs.Common.{length, subst, sym, ◌∙◌}
 use Rattle.kt_gul.specs.StruckItems.{AreCdfs}
-use Rattle.kt_stream.specs.declared.entry.Cdf.{Cdf}
 use Rattle.kt_tools.proofs.GulLemmas.{are_cdfs}
 use Rattle.kt_tools.proofs.gulcalc.GroundUpRunStageKnownHeadRefPortfolioCdfUnit.close.Goals as goal
 
