@@ -7,3 +7,6 @@ pub mod Parts
 pub mod FirstGroup
 pub mod Ids
 pub mod Averages
+pub mod Ranking
+pub mod Curves
+pub mod Periods

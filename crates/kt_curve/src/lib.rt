@@ -1,12 +1,17 @@
 //! Period totals and maxima of summary records, and the tables of them: average annual loss and exceedance curves.
 #![tactic(auto)]
 
+mod amounts;
 mod average;
 mod cell;
 mod cells;
+mod curve;
+mod exceedance;
 mod group;
+mod lec;
 mod shared;
 
 pub use average::{aal_heading, aal_text};
 pub use cell::CellStop;
 pub use cells::Cells;
+pub use curve::Curve;
