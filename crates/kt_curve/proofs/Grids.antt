@@ -43,7 +43,7 @@ sum_by_same f g same [] = refl
 sum_by_same f g same (k ∷ keys) = rw (sum_by-cons f k keys, sum_by-cons g k keys, same k, sum_by_same f g same keys) refl
 
 -- a function at a choice
-at_choice : {X : Type 0} (f : X → ℕ) (b : Bool) (x y : X) → f (cond b x y) ≡ cond b (f x) (f y)
+pub at_choice : {X : Type 0} (f : X → ℕ) (b : Bool) (x y : X) → f (cond b x y) ≡ cond b (f x) (f y)
 at_choice f true x y = refl
 at_choice f false x y = refl
 

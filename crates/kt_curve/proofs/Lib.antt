@@ -10,3 +10,5 @@ pub mod Averages
 pub mod Ranking
 pub mod Curves
 pub mod Periods
+pub mod Means
+pub mod Exceedances

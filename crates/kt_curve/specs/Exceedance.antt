@@ -42,6 +42,12 @@ abbrev pub lec_heading_text : Bool → List ℕ
 lec_heading_text false = codes "summary_id,type,return_period,loss" ++ 10 ∷ []
 lec_heading_text true = codes "summary_id,sidx,return_period,loss" ++ 10 ∷ []
 
+-- whether the table of a curve has a sidx in its rows, or a type
+abbrev pub by_sidx : Curve → Bool
+by_sidx WheatAep = true
+by_sidx WheatOep = true
+by_sidx other = false
+
 -- a row: the summary id, the type or the sidx, the return period and its loss
 abbrev pub lec_row : ℕ → ℕ → ℕ → ℕ → List ℕ
 lec_row summary column return loss = table_line (count_text summary ∷ count_text column ∷ count_text return ∷ money_text loss ∷ [])

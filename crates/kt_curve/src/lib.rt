@@ -8,10 +8,13 @@ mod cells;
 mod curve;
 mod exceedance;
 mod group;
+mod kinds;
 mod lec;
+mod mean_curves;
 mod shared;
 
 pub use average::{aal_heading, aal_text};
 pub use cell::CellStop;
 pub use cells::Cells;
 pub use curve::Curve;
+pub use lec::{lec_heading, lec_text};

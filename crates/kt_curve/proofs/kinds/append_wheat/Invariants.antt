@@ -7,7 +7,7 @@ use Rattle.kt_curve.specs.Grid.{IsGroup}
 use Rattle.kt_curve.specs.Standing.{cell_at}
 use Rattle.kt_curve.specs.Amounts.{amount_in}
 use Rattle.kt_curve.specs.Exceedance.{curve_rows, sidx_values}
-use Rattle.kt_curve.proofs.lec.append_wheat.Given as goal
+use Rattle.kt_curve.proofs.kinds.append_wheat.Given as goal
 
 abbrev pub invariant-loop-sample : goal.invariant-loop-sample
 invariant-loop-sample l = (perspective : Perspective) (set : ℕ) → IsGroup perspective set l.group.periods l.group.samples l.group.summary l.group.entries.now →

@@ -1,7 +1,7 @@
 -- The rows of both types of a full curve.
 use Rattle.std.proofs.Common.{◌≡◌, ◌++◌, List, ◌∙◌, ap, sym}
 use Rattle.kt_curve.proofs.Curves.{two_texts}
-use Rattle.kt_curve.proofs.lec.append_full.Goals as goal
+use Rattle.kt_curve.proofs.kinds.append_full.Goals as goal
 
 pub returns : goal.returns
 returns c = record {

@@ -6,7 +6,7 @@ use Rattle.kt_curve.specs.Standing.{cell_at}
 use Rattle.kt_curve.specs.Amounts.{amount_in}
 use Rattle.kt_curve.specs.Exceedance.{curve_rows, sidx_values}
 use Rattle.kt_curve.proofs.Curves.{samples_more, samples_all}
-use Rattle.kt_curve.proofs.lec.append_wheat.Goals as goal
+use Rattle.kt_curve.proofs.kinds.append_wheat.Goals as goal
 
 pub loop-sample-preserved : goal.loop-sample-preserved
 loop-sample-preserved c = λ perspective set is.

@@ -7,7 +7,7 @@ use Rattle.kt_curve.specs.Standing.{cell_at}
 use Rattle.kt_curve.specs.Amounts.{amount_in, amounts_of}
 use Rattle.kt_curve.specs.Grid.{keys_for, sidx_of_kind}
 use Rattle.kt_curve.proofs.Curves.{ranks_of_kind, amounts_most, ranks_of_equal, rows_of_count}
-use Rattle.kt_curve.proofs.lec.append_kind.Goals as goal
+use Rattle.kt_curve.proofs.kinds.append_kind.Goals as goal
 
 pub append_values-requires-clause-most : goal.append_values-requires-clause-most
 append_values-requires-clause-most c =
