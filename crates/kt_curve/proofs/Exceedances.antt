@@ -1,5 +1,5 @@
 -- The tables of exceedance curves, from the entries of a set.
-use Rattle.std.proofs.Common.{◌≡◌, ℕ, ◌+◌, ◌*◌, List, [], ◌∷◌, ◌++◌, map, arith, refl, ap, ◌∙◌, cond}
+use Rattle.std.proofs.Common.{◌≡◌, ◌⊎◌, inl, inr, sym, ℕ, ◌+◌, ◌*◌, List, [], ◌∷◌, ◌++◌, map, arith, refl, ap, ◌∙◌, cond}
 use Rattle.std.specs.Prelude.{Bool, true, false, ℤ, pos, sum_by}
 use Rattle.std.specs.List.{flat_map, range_with_len}
 use Rattle.std.specs.Map.{keys_of}
@@ -81,3 +81,25 @@ curves_of_standing curve p s n samples returns history es part stands is =
     (λ summary. rows_same curve p s n samples summary returns _ (amount_of (takes_maxima curve) (all_losses history)) (amounts_of_standing (takes_maxima curve) p s summary (all_losses history) es stands))
     (summary_ids p s (keys_of (set_entries p s es)))
     ∙ ap (flat_map (lec_rows curve p s n samples (amount_of (takes_maxima curve) (all_losses history)) returns)) (ids_of_standing p s (all_losses history) es stands (losses_positive history))
+
+-- ---- the rows of each kind
+
+-- of a full kind
+pub rows_full : (curve : Curve) → (curve ≡ FullAep) ⊎ (curve ≡ FullOep) → (p : Perspective) (s n samples u : ℕ) (returns : List ℕ) (f : CellKey → ℕ) → full_rows p s n samples f returns u ≡ lec_rows curve p s n samples f returns u
+rows_full curve (inl is) p s n samples u returns f = ap (λ kind. lec_rows kind p s n samples f returns u) (sym is)
+rows_full curve (inr is) p s n samples u returns f = ap (λ kind. lec_rows kind p s n samples f returns u) (sym is)
+
+-- of the means of the periods
+pub rows_sample : (curve : Curve) → (curve ≡ SampleAep) ⊎ (curve ≡ SampleOep) → (p : Perspective) (s n samples u : ℕ) (returns : List ℕ) (f : CellKey → ℕ) → curve_rows u 2 n (period_means p s n samples f u) returns ≡ lec_rows curve p s n samples f returns u
+rows_sample curve (inl is) p s n samples u returns f = ap (λ kind. lec_rows kind p s n samples f returns u) (sym is)
+rows_sample curve (inr is) p s n samples u returns f = ap (λ kind. lec_rows kind p s n samples f returns u) (sym is)
+
+-- of a wheat kind
+pub rows_wheat : (curve : Curve) → (curve ≡ WheatAep) ⊎ (curve ≡ WheatOep) → (p : Perspective) (s n samples u : ℕ) (returns : List ℕ) (f : CellKey → ℕ) → wheat_rows p s n samples f returns u ≡ lec_rows curve p s n samples f returns u
+rows_wheat curve (inl is) p s n samples u returns f = ap (λ kind. lec_rows kind p s n samples f returns u) (sym is)
+rows_wheat curve (inr is) p s n samples u returns f = ap (λ kind. lec_rows kind p s n samples f returns u) (sym is)
+
+-- of the means of the ranks
+pub rows_wheatmean : (curve : Curve) → (curve ≡ WheatmeanAep) ⊎ (curve ≡ WheatmeanOep) → (p : Perspective) (s n samples u : ℕ) (returns : List ℕ) (f : CellKey → ℕ) → curve_rows u 2 n (rank_means p s n samples f u) returns ≡ lec_rows curve p s n samples f returns u
+rows_wheatmean curve (inl is) p s n samples u returns f = ap (λ kind. lec_rows kind p s n samples f returns u) (sym is)
+rows_wheatmean curve (inr is) p s n samples u returns f = ap (λ kind. lec_rows kind p s n samples f returns u) (sym is)
