@@ -7,3 +7,4 @@ pub mod Amounts
 pub mod Ranks
 pub mod Exceedance
 pub mod Examples
+pub mod CurveExamples
