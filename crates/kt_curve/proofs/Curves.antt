@@ -1,6 +1,6 @@
 -- The losses of a summary's entries have the ranks of those of all its keys.
-use Rattle.std.proofs.Common.{◌≡◌, ℕ, zero, suc, ◌+◌, ◌-◌, ◌*◌, ◌<◌, ◌≤◌, List, [], ◌∷◌, ◌++◌, map, arith, refl, sym, ap, ◌∙◌, cond, append_assoc}
-use Rattle.std.specs.Prelude.{Bool, true, false, nat_le, All, ℤ, pos, Option, Some, None, sum_by, Result, Ok, Err, OnOk}
+use Rattle.std.proofs.Common.{◌≡◌, ℕ, zero, suc, ◌+◌, ◌-◌, ◌≤◌, List, [], ◌∷◌, ◌++◌, map, arith, sym, ap, ◌∙◌, append_assoc}
+use Rattle.std.specs.Prelude.{Bool, true, false, nat_le, All, ℤ, pos, Some, None, Result, Ok, Err, OnOk}
 use Rattle.std.specs.List.{filter, flat_map, range_with_len}
 use Rattle.std.proofs.lemmas.Grind.{flat_map-append}
 use Rattle.std.proofs.lemmas.List.Concat.{flat_map-cons}
@@ -90,10 +90,10 @@ samples_more f sample base out new some is more =
     let last : 1 + (sample - 1) ≡ sample = omega arith in
     more ∙ ap (λ t. t ++ f sample) is ∙ append_assoc base (flat_map f (range_with_len 1 (sample - 1))) (f sample)
     ∙ ap (λ t. base ++ t) (
-      ap (λ t. flat_map f (range_with_len 1 (sample - 1)) ++ t) (sym (flat_map-cons f sample [] ∙ append_nil (f sample)))
-      ∙ sym (flat_map-append f (range_with_len 1 (sample - 1)) (sample ∷ []))
-      ∙ ap (λ m. flat_map f (range_with_len 1 (sample - 1) ++ m ∷ [])) (sym last)
-      ∙ ap (flat_map f) (sym (range_more 1 (sample - 1))) ∙ ap (λ k. flat_map f (range_with_len 1 k)) (sym longer))
+    ap (λ t. flat_map f (range_with_len 1 (sample - 1)) ++ t) (sym (flat_map-cons f sample [] ∙ append_nil (f sample)))
+    ∙ sym (flat_map-append f (range_with_len 1 (sample - 1)) (sample ∷ []))
+    ∙ ap (λ m. flat_map f (range_with_len 1 (sample - 1) ++ m ∷ [])) (sym last)
+    ∙ ap (flat_map f) (sym (range_more 1 (sample - 1))) ∙ ap (λ k. flat_map f (range_with_len 1 k)) (sym longer))
 
 -- the text of all samples
 pub samples_all : (f : ℕ → List ℕ) (sample samples : ℕ) (base out : List ℕ) → sample ≡ samples + 1 → out ≡ base ++ flat_map f (range_with_len 1 (sample - 1)) → out ≡ base ++ flat_map f (range_with_len 1 samples)

@@ -1,5 +1,5 @@
 -- The tables of exceedance curves, from the entries of a set.
-use Rattle.std.proofs.Common.{◌≡◌, ◌⊎◌, inl, inr, sym, ℕ, ◌+◌, ◌*◌, List, [], ◌∷◌, ◌++◌, map, arith, refl, ap, ◌∙◌, cond}
+use Rattle.std.proofs.Common.{◌≡◌, ◌⊎◌, inl, inr, sym, ℕ, ◌*◌, List, [], ◌∷◌, ◌++◌, map, arith, refl, ap, ◌∙◌}
 use Rattle.std.specs.Prelude.{Bool, true, false, ℤ, pos, sum_by}
 use Rattle.std.specs.List.{flat_map, range_with_len}
 use Rattle.std.specs.Map.{keys_of}

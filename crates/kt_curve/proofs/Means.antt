@@ -1,24 +1,21 @@
 -- The samples' means in each period and at each rank, from sums by place.
-use Rattle.std.proofs.Common.{◌≡◌, ◌⊎◌, ⊎_elim, ℕ, zero, suc, ◌+◌, ◌-◌, ◌*◌, ◌<◌, ◌≤◌, ◌^◌, List, [], ◌∷◌, ◌++◌, map, length, get_or, arith, refl, sym, ap, ◌∙◌, cond, add-mul}
-use Rattle.std.specs.Prelude.{Bool, true, false, All, ℤ, pos, Option, Some, None, sum, sum_by}
+use Rattle.std.proofs.Common.{◌≡◌, ⊎_elim, ℕ, zero, suc, ◌+◌, ◌-◌, ◌*◌, ◌<◌, ◌≤◌, List, [], ◌∷◌, map, length, get_or, arith, refl, sym, ap, ◌∙◌, cond, add-mul}
+use Rattle.std.specs.Prelude.{Bool, true, false, All, ℤ, pos, Some, None, sum, sum_by}
 use Rattle.std.specs.List.{filter, range_with_len}
-use Rattle.std.specs.Ordering.{int_eq}
 use Rattle.std.proofs.lemmas.Bool.{cases_lt}
 use Rattle.std.proofs.lemmas.List.{get_or_past}
-use Rattle.std.proofs.lemmas.List.Sums.{sum_by-cons, sum_by-le, sum-map}
+use Rattle.std.proofs.lemmas.List.Sums.{sum_by-le, sum-map}
 use Rattle.std.proofs.lemmas.List.FromFn.{length-map-range_with_len, sum_by-map-range_with_len_more}
-use Rattle.std.proofs.lemmas.List.Elements.{All-head, All-tail, All-from_get_or, All-get_or}
+use Rattle.std.proofs.lemmas.List.Elements.{All-head, All-tail, All-from_get_or}
 use Rattle.kt_money.specs.Rounding.{half_up}
 use Rattle.kt_rec.specs.declared.perspective.Perspective.{Perspective}
 use Rattle.kt_rec.specs.declared.perspective.CellKey.{CellKey}
 use Rattle.kt_curve.specs.declared.cell.Cell.{Cell}
 use Rattle.kt_curve.specs.Losses.{same_key, key_of}
-use Rattle.kt_curve.specs.Grid.{IsGroup, keys_for, sample_sidx}
+use Rattle.kt_curve.specs.Grid.{IsGroup, sample_sidx}
 use Rattle.kt_curve.specs.Standing.{cell_at, most_total, FitsCells}
 use Rattle.kt_curve.specs.Amounts.{amount_in, amounts_of, of_period, of_sample}
-use Rattle.kt_curve.specs.Ranks.{SameRanks, Falls}
 use Rattle.kt_curve.specs.Exceedance.{ranked_loss, sidx_values, period_means, rank_means}
-use Rattle.kt_curve.proofs.Ranking.{loss_is_ranked}
 use Rattle.kt_curve.proofs.Grids.{at_choice, length_keys, single_times}
 use Rattle.kt_curve.proofs.Moments.{few_by}
 use Rattle.kt_curve.proofs.Periods.{period_sum}

@@ -1,6 +1,6 @@
 -- The totals or the maxima of cells.
 -- The rules: docs/CALCULATION.md, "Exceedance curves".
-use Rattle.std.specs.Prelude.{Bool, true, false, ◌&&◌, nat_eq, ℕ, ℤ, pos, List, map, Option, Some, None, if◌then◌else◌}
+use Rattle.std.specs.Prelude.{Bool, false, ◌&&◌, nat_eq, ℕ, pos, List, map, Option, Some, if◌then◌else◌}
 use Rattle.std.specs.List.{filter}
 use Rattle.std.specs.Ordering.{int_eq}
 use Rattle.kt_rec.specs.declared.perspective.CellKey.{CellKey}

@@ -6,8 +6,8 @@ use Rattle.kt_rec.specs.declared.perspective.Perspective.TheVariants.{Gul}
 use Rattle.kt_rec.specs.declared.periods.Occurrence.{Occurrence}
 use Rattle.kt_curve.specs.declared.curve.Curve.{Curve}
 use Rattle.kt_curve.specs.declared.curve.Curve.TheVariants.{FullAep, FullOep, SampleAep, SampleOep, WheatAep, WheatOep, WheatmeanAep, WheatmeanOep}
-use Rattle.kt_curve.specs.Losses.{Added, all_losses}
-use Rattle.kt_curve.specs.Exceedance.{exceedance_loss, exceedance_rows, lec_row}
+use Rattle.kt_curve.specs.Losses.{Added, all_losses, total}
+use Rattle.kt_curve.specs.Exceedance.{exceedance_loss, exceedance_rows, lec_row, period_means, rank_means}
 use Rattle.kt_curve.specs.Examples.{once}
 
 -- texts, one behind the other
@@ -79,3 +79,13 @@ wheatmean_aep = refl
 
 wheatmean_oep : of_once WheatmeanOep ≡ their_mean
 wheatmean_oep = refl
+
+-- a sample's loss in the first of two periods, and another's in the second
+abbrev apart : Added
+apart = record { perspective = Gul; set = 1; entry = record { event = 2; summary = 1; exposure = 0; pairs = record { sidx = pos 2; loss = 3000 } ∷ [] }; at = in_period 2 ∷ [] }
+
+of_periods : period_means Gul 1 2 2 (total (all_losses (one_loss 1 9000 ∷ apart ∷ []))) 1 ≡ 4500 ∷ 1500 ∷ []
+of_periods = refl
+
+of_ranks : rank_means Gul 1 2 2 (total (all_losses (one_loss 1 9000 ∷ apart ∷ []))) 1 ≡ 6000 ∷ 0 ∷ []
+of_ranks = refl

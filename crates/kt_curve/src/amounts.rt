@@ -84,11 +84,7 @@ pub(crate) fn period_sums(
 }
 
 /// The means of sums over the samples, to the nearest cent, halves up. An error is want of memory.
-pub(crate) fn means(
-    alloc: Global,
-    sums: &[u128],
-    samples: u32,
-) -> Result<Vec<u64>, OutOfMemory>
+pub(crate) fn means(alloc: Global, sums: &[u128], samples: u32) -> Result<Vec<u64>, OutOfMemory>
     requires some { 1 ≤ samples }
     requires few { samples ≤ 1000 }
     requires most { All (λ total. total ≤ samples * most_total) sums.now }

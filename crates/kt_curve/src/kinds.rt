@@ -1,10 +1,9 @@
 //! The full and wheat curves of a summary.
 //! The rules: docs/CALCULATION.md, "Exceedance curves"; docs/OUTPUTS.md, "Exceedance curve tables".
-ghost use Rattle.std.specs.Prelude.{◌≡◌, ◌+◌, ◌*◌, ◌≤◌, ◌^◌, ℕ, List, [], ◌∷◌, ◌++◌, map, pos, if◌then◌else◌, All, IfOk, OnOk, OnErr, Bool, true};
+ghost use Rattle.std.specs.Prelude.{◌≡◌, ◌+◌, ◌*◌, ◌≤◌, ℕ, ◌++◌, map, pos, if◌then◌else◌, All, OnOk, true};
 ghost use Rattle.kt_rec.specs.declared.perspective.Perspective.{Perspective};
-ghost use Rattle.kt_curve.specs.Grid.{IsGroup, IsPart, by_summary, keys_for, sidx_of_kind};
-ghost use Rattle.kt_curve.specs.Losses.{Added, all_losses};
-ghost use Rattle.kt_curve.specs.Standing.{StandsFor, cell_at};
+ghost use Rattle.kt_curve.specs.Grid.{IsGroup, keys_for, sidx_of_kind};
+ghost use Rattle.kt_curve.specs.Standing.{cell_at};
 ghost use Rattle.kt_curve.specs.Amounts.{amount_in};
 ghost use Rattle.kt_curve.specs.Exceedance.{full_rows, wheat_rows, curve_rows, sidx_values};
 
@@ -47,7 +46,14 @@ fn append_kind(
 {
     let mut values = kind_amounts(alloc, group.entries, mean, group.maxima)?;
     let count = count_of(group.periods, group.samples, mean);
-    append_values(out, group.summary, column, count, values.as_mut_slice(), returns)?;
+    append_values(
+        out,
+        group.summary,
+        column,
+        count,
+        values.as_mut_slice(),
+        returns,
+    )?;
     Ok(())
 }
 

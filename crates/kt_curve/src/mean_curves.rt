@@ -1,12 +1,12 @@
 //! The curves of the samples' means: period by period, or rank by rank.
 //! The rules: docs/CALCULATION.md, "Exceedance curves"; docs/OUTPUTS.md, "Exceedance curve tables".
-ghost use Rattle.std.specs.Prelude.{◌≡◌, ◌+◌, ◌*◌, ◌≤◌, ◌<◌, ◌^◌, ℕ, List, [], ◌∷◌, ◌++◌, map, length, slice_index, sum_by, pos, All, IfOk, OnOk};
+ghost use Rattle.std.specs.Prelude.{◌≡◌, ◌+◌, ◌*◌, ◌≤◌, ◌^◌, ℕ, List, ◌++◌, map, length, slice_index, sum_by, All, OnOk};
 ghost use Rattle.kt_money.specs.Rounding.{half_up};
 ghost use Rattle.kt_rec.specs.declared.perspective.Perspective.{Perspective};
 ghost use Rattle.kt_curve.specs.Grid.{IsGroup, sample_sidx};
 ghost use Rattle.kt_curve.specs.Standing.{cell_at, most_total};
 ghost use Rattle.kt_curve.specs.Amounts.{amount_in};
-ghost use Rattle.kt_curve.specs.Ranks.{SameRanks, Falls};
+ghost use Rattle.kt_curve.specs.Ranks.{SameRanks};
 ghost use Rattle.kt_curve.specs.Exceedance.{curve_rows, sidx_values, ranked_loss, period_means, rank_means};
 
 use crate::amounts::{means, period_sums, sample_amounts};

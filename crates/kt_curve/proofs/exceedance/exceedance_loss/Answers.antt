@@ -1,6 +1,4 @@
 -- The loss of a return period, by the losses of two ranks.
-use Rattle.std.proofs.Common.{◌≡◌, ◌-◌, ◌/◌, ◌≤◌, ℕ, List, get_or, sym, ap, ◌∙◌, arith}
-use Rattle.kt_curve.specs.Exceedance.{loss_between, ranked_loss}
 use Rattle.kt_curve.proofs.Ranking.{loss_from_ranked, falls_before}
 use Rattle.kt_curve.proofs.exceedance.exceedance_loss.Goals as goal
 
@@ -9,6 +7,6 @@ between-requires-clause-falls c = rw (c.loss_of_rank-upper.ensures.value, c.loss
 
 pub returns : goal.returns
 returns c = record {
-    value = λ values same. loss_from_ranked c.args.count c.args.period c.from.result c.between.result c.loss_of_rank-upper.result c.loss_of_rank-lower.result c.args.ranked.now values c.requires.falls same c.from.ensures
+  value = λ values same. loss_from_ranked c.args.count c.args.period c.from.result c.between.result c.loss_of_rank-upper.result c.loss_of_rank-lower.result c.args.ranked.now values c.requires.falls same c.from.ensures
       c.loss_of_rank-upper.ensures.value c.loss_of_rank-lower.ensures.value c.between.ensures.value;
-  }
+}

@@ -1,6 +1,6 @@
 -- Sorted values the other way round.
-use Rattle.std.proofs.Common.{◌≡◌, ◌≤◌, ℕ, List, reverse, sym, ap, ◌∙◌}
-use Rattle.std.proofs.lemmas.List.Sorted.{IsNonDecreasingBy-from_sort, sum_by-IsPermutation, IsPermutation-reverse}
+use Rattle.std.proofs.Common.{◌≤◌, ℕ, ◌∙◌}
+use Rattle.std.proofs.lemmas.List.Sorted.{IsNonDecreasingBy-from_sort, sum_by-IsPermutation}
 use Rattle.std.specs.Prelude.{nat_le}
 use Rattle.kt_curve.specs.Losses.{one_if}
 use Rattle.std.proofs.lemmas.List.Sorted.{All-permutation}

@@ -1,7 +1,6 @@
 -- The rows of one sample more.
-use Rattle.std.proofs.Common.{◌≡◌, ◌++◌, ◌-◌, ◌+◌, ℕ, List, ◌∙◌, ap, sym, arith}
+use Rattle.std.proofs.Common.{ℕ, arith}
 use Rattle.std.specs.Prelude.{pos}
-use Rattle.std.specs.List.{flat_map, range_with_len}
 use Rattle.kt_curve.specs.Standing.{cell_at}
 use Rattle.kt_curve.specs.Amounts.{amount_in}
 use Rattle.kt_curve.specs.Exceedance.{curve_rows, sidx_values}
@@ -15,7 +14,7 @@ loop-sample-preserved c = λ perspective set is.
 
 pub returns : goal.returns
 returns c = record {
-    ok = λ perspective set is.
+  ok = λ perspective set is.
       samples_all (λ (sample : ℕ). curve_rows c.args.group.now.summary sample c.args.group.now.periods (sidx_values perspective set c.args.group.now.periods (λ key. amount_in c.args.group.now.maxima (cell_at c.args.group.now.entries.now key)) c.args.group.now.summary (pos sample)) c.args.returns.now)
       c.loop-sample.sample c.args.group.now.samples c.args.out.now c.loop-sample.out (omega (arith, is.some_samples, c.loop-sample.auto.sample-end (omega arith), c.loop-sample-test.false)) (c.loop-sample.invariant perspective set is);
-  }
+}

@@ -1,5 +1,5 @@
 -- The rows of the first samples are there.
-use Rattle.std.proofs.Common.{◌≡◌, ◌-◌, ℕ, List, ◌++◌}
+use Rattle.std.proofs.Common.{◌≡◌, ◌-◌, ℕ, ◌++◌}
 use Rattle.std.specs.Prelude.{pos}
 use Rattle.std.specs.List.{flat_map, range_with_len}
 use Rattle.kt_rec.specs.declared.perspective.Perspective.{Perspective}

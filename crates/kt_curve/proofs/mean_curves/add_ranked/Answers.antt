@@ -1,5 +1,5 @@
 -- The losses of the ranks are added.
-use Rattle.std.proofs.Common.{◌≡◌, ◌+◌, ◌≤◌, ℕ, List, slice_index, ap, ◌∙◌, arith}
+use Rattle.std.proofs.Common.{◌+◌, slice_index, ap, ◌∙◌}
 use Rattle.kt_curve.proofs.Ranking.{loss_is_ranked}
 use Rattle.kt_curve.proofs.mean_curves.add_ranked.Goals as goal
 

@@ -1,5 +1,5 @@
 -- The sums of one sample more.
-use Rattle.std.proofs.Common.{◌≡◌, ◌+◌, ◌-◌, ◌*◌, ◌≤◌, ℕ, List, map, length, ap, ◌∙◌, arith}
+use Rattle.std.proofs.Common.{◌≡◌, ◌-◌, ℕ, List, map, length, ap, ◌∙◌, arith}
 use Rattle.std.specs.Prelude.{ℤ, pos, sum_by}
 use Rattle.std.specs.List.{range_with_len}
 use Rattle.kt_curve.specs.Standing.{cell_at, most_total}
@@ -21,14 +21,14 @@ add_ranked-requires-clause-most c =
 
 pub loop-sample-preserved : goal.loop-sample-preserved
 loop-sample-preserved c = record {
-    len = c.add_ranked.ensures.len ∙ c.loop-sample.invariant.len;
-    most = λ place. bound_more most_total c.loop-sample.sample _ _ c.loop-sample.auto.sample (c.loop-sample.invariant.most place) (c.add_ranked.ensures.most place);
-    sums = λ perspective set is place.
+  len = c.add_ranked.ensures.len ∙ c.loop-sample.invariant.len;
+  most = λ place. bound_more most_total c.loop-sample.sample _ _ c.loop-sample.auto.sample (c.loop-sample.invariant.most place) (c.add_ranked.ensures.most place);
+  sums = λ perspective set is place.
       let whole : ℤ → List ℕ = sidx_values perspective set c.args.group.now.periods (λ key. amount_in c.args.group.now.maxima (cell_at c.args.group.now.entries.now key)) c.args.group.now.summary in
       let ranks = ranks_of_sample perspective set c.args.group.now.periods c.args.group.now.samples c.args.group.now.summary c.args.group.now.entries.now c.args.group.now.maxima c.loop-sample.sample is in
       let taken = ranks_of_equal c.as_mut_slice.result.now (amounts_of c.args.group.now.maxima (of_sample c.loop-sample.sample) c.args.group.now.entries.now) (whole (pos c.loop-sample.sample)) (c.as_mut_slice.ensures.value ∙ c.in_ok-values.ensures) ranks in
       sample_more (λ sidx. ranked_loss (whole sidx) place) c.loop-sample.sample _ _ c.loop-sample.auto.sample (c.loop-sample.invariant.sums perspective set is place) (c.add_ranked.ensures.sums (whole (pos c.loop-sample.sample)) taken place);
-  }
+}
 
 pub returns-clause-sums : goal.returns-clause-sums
 returns-clause-sums c = λ perspective set is place.
