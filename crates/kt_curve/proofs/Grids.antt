@@ -118,7 +118,7 @@ bool_same false true f g = g refl
 bool_same false false f g = refl
 
 -- a test of numbers as signed ones
-pos_same : (i j : ℕ) → int_eq (pos i) (pos j) ≡ nat_eq i j
+pub pos_same : (i j : ℕ) → int_eq (pos i) (pos j) ≡ nat_eq i j
 pos_same i j =
     bool_same (int_eq (pos i) (pos j)) (nat_eq i j)
     (λ same. let is : pos i ≡ pos j = (Decides-int_eq (pos i) (pos j)).0 same in (Decides-eqb i j).1 (let e : i ≡ j = cc in e))

@@ -9,6 +9,7 @@ pub mod Ids
 pub mod Averages
 pub mod Ranking
 pub mod Curves
+pub mod SampleRuns
 pub mod Periods
 pub mod Means
 pub mod Exceedances

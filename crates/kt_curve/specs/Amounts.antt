@@ -1,6 +1,7 @@
 -- The totals or the maxima of cells.
 -- The rules: docs/CALCULATION.md, "Exceedance curves".
-use Rattle.std.specs.Prelude.{Bool, false, ◌&&◌, nat_eq, ℕ, pos, List, map, Option, Some, if◌then◌else◌}
+use Rattle.std.specs.Prelude.{Bool, true, false, ◌&&◌, ◌≡◌, ◌≤◌, nat_eq, nat_lt, nat_le, ℕ, ℤ, pos, negsuc, List, map, length, Option, Some, if◌then◌else◌}
+use Rattle.std.specs.List.Sorted.{IsPartitionPoint}
 use Rattle.std.specs.List.{filter}
 use Rattle.std.specs.Ordering.{int_eq}
 use Rattle.kt_rec.specs.declared.perspective.CellKey.{CellKey}
@@ -19,6 +20,18 @@ amounts_of maxima test entries = map (λ entry. amount_in maxima (Some entry.1))
 -- whether an entry is of a sample
 abbrev pub of_sample : ℕ → CellKey × Cell → Bool
 of_sample sample entry = int_eq entry.0.sidx (pos sample)
+
+-- the sample of a sidx, and 0 for the mean
+abbrev pub sample_of : ℤ → ℕ
+sample_of (pos n) = n
+sample_of (negsuc n) = 0
+
+-- where the entries of a sample begin and end, among entries whose samples rise
+pub record SampleEnds (entries : List (CellKey × Cell)) (sample start last : ℕ) : Type 0 where
+  pub start_within : start ≤ length entries
+  pub last_within : last ≤ length entries
+  pub below : IsPartitionPoint (λ entry. nat_lt (sample_of entry.0.sidx) sample ≡ true) (λ entry. nat_lt (sample_of entry.0.sidx) sample ≡ false) entries start
+  pub upto : IsPartitionPoint (λ entry. nat_le (sample_of entry.0.sidx) sample ≡ true) (λ entry. nat_le (sample_of entry.0.sidx) sample ≡ false) entries last
 
 -- whether an entry is of a sample, and of a period
 abbrev pub of_period : ℕ → CellKey × Cell → Bool

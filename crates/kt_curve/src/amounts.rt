@@ -1,14 +1,15 @@
 //! The totals or the maxima of a summary's cells.
 //! The rules: docs/CALCULATION.md, "Exceedance curves".
-ghost use Rattle.std.specs.Prelude.{◌≡◌, ◌≤◌, ◌+◌, ◌*◌, ◌^◌, ◌<◌, ℕ, pos, map, sum, length, slice_index, All, IfOk, Some};
-ghost use Rattle.std.specs.Ordering.{int_eq};
-ghost use Rattle.kt_curve.specs.Grid.{of_kind};
+ghost use Rattle.std.specs.Prelude.{◌≡◌, ◌≤◌, ◌+◌, ◌*◌, ◌<◌, ℕ, map, sum, length, slice_index, All, IfOk, Some};
+ghost use Rattle.kt_curve.specs.Grid.{of_kind, IsGroup};
+ghost use Rattle.kt_rec.specs.declared.perspective.Perspective.{Perspective};
 ghost use Rattle.kt_money.specs.Rounding.{half_up};
 ghost use Rattle.kt_curve.specs.Standing.{most_total};
 ghost use Rattle.kt_curve.specs.Amounts.{amount_in, amounts_of, of_period, of_sample};
 
 use crate::average::{is_mean, is_same};
 use crate::cell::Cell;
+use crate::samples::sample_entries;
 use kt_money::{OutOfMemory, div_half_up};
 use kt_rec::CellKey;
 use std::alloc::Global;
@@ -18,14 +19,6 @@ pub(crate) fn amount(cell: &Cell, maxima: bool) -> u64
     ensures value { result ≡ amount_in maxima (Some cell.now) }
 {
     if maxima { cell.maximum } else { cell.total }
-}
-
-/// Whether a key is of a sample, from 1 to 1,000.
-pub(crate) fn is_sample(key: &CellKey, sample: u32) -> bool
-    requires { sample < 2 ^ 31 }
-    ensures value { result ≡ int_eq key.now.sidx (pos sample) }
-{
-    key.sidx == sample as i32
 }
 
 /// The amounts of the means, or those of all samples. An error is want of memory.
@@ -51,12 +44,12 @@ pub(crate) fn sample_amounts(
     sample: u32,
     maxima: bool,
 ) -> Result<Vec<u64>, OutOfMemory>
-    requires { sample < 2 ^ 31 }
+    requires group { (perspective : Perspective) × (set : ℕ) × (periods : ℕ) × (samples : ℕ) × (summary : ℕ) × IsGroup perspective set periods samples summary group.now }
+    requires sample { 1 ≤ sample }
     ensures { IfOk result (λ found. found.items ≡ amounts_of maxima (of_sample sample) group.now) }
 {
-    group
+    sample_entries(group, sample)
         .iter()
-        .filter(|entry| is_sample(&entry.0, sample))
         .map(|entry| amount(&entry.1, maxima))
         .collect(alloc)
 }

@@ -83,7 +83,7 @@ fn append_sample(
     returns: &[u32],
 ) -> Result<(), OutOfMemory>
     requires group { (perspective : Perspective) × (set : ℕ) × IsGroup perspective set group.now.periods group.now.samples group.now.summary group.now.entries.now }
-    requires sample { sample ≤ 1000 }
+    requires sample { 1 ≤ sample }
     requires returns { All (λ period. 1 ≤ period) returns.now }
     ensures ok { OnOk result ((perspective : Perspective) (set : ℕ) → IsGroup perspective set group.now.periods group.now.samples group.now.summary group.now.entries.now →
         out.new ≡ out.old ++ curve_rows group.now.summary sample group.now.periods (sidx_values perspective set group.now.periods (λ key. amount_in group.now.maxima (cell_at group.now.entries.now key)) group.now.summary (pos sample)) returns.now) }

@@ -11,6 +11,7 @@ mod group;
 mod kinds;
 mod lec;
 mod mean_curves;
+mod samples;
 mod shared;
 
 pub use average::{aal_heading, aal_text};
