@@ -44,7 +44,6 @@ sample_order (pos m) (negsuc n) (inl less) = cc
 sample_order (pos m) (negsuc n) (inr equal) = cc
 sample_order (negsuc m) y order = omega arith
 
-
 -- behind an entry no sample is lower
 later_samples : (p : Perspective) (s u : ℕ) (e : Entry) → e.0 ≡ key_of p s u e.0.sidx e.0.period → (es : List Entry) → AllByRecursion (λ y. key_order.ghosts.cmp e.0 y ≡ Less) (keys_of es) →
     All (λ x. x.0 ≡ key_of p s u x.0.sidx x.0.period) es → All (λ x. entry_sample e ≤ entry_sample x) es

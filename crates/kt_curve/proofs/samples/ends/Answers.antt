@@ -1,6 +1,5 @@
 -- The ends by two searches.
 use Rattle.std.proofs.Common.{rules, leb, ltb}
-use Rattle.std.specs.List.Sorted.{IsNonDecreasingBy}
 use Rattle.std.proofs.lemmas.List.Sorted.{IsPartitionPoint-from_clause, IsPartitionedBy-leb, IsPartitionedBy-ltb}
 use Rattle.kt_rec.specs.declared.perspective.CellKey.{CellKey}
 use Rattle.kt_curve.specs.declared.cell.Cell.{Cell}
