@@ -1,5 +1,5 @@
 -- The totals or the maxima of cells.
--- The rules: docs/CALCULATION.md, "Exceedance curves".
+-- The rules: docs/CALCULATION.md, "Kinds of exceedance curves".
 use Rattle.std.specs.Prelude.{Bool, true, false, ◌&&◌, ◌≡◌, ◌≤◌, nat_eq, nat_lt, nat_le, ℕ, ℤ, pos, negsuc, List, map, length, Option, Some, if◌then◌else◌}
 use Rattle.std.specs.List.Sorted.{IsPartitionPoint}
 use Rattle.std.specs.List.{filter}

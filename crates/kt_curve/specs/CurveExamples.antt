@@ -1,4 +1,4 @@
--- The worked examples of docs/CALCULATION.md, "Exceedance curves", by computing.
+-- The worked examples of docs/CALCULATION.md, "Exceedance curves" and "Kinds of exceedance curves", by computing.
 use Rattle.std.specs.Prelude.{◌≡◌, ℕ, pos, List, [], ◌∷◌, ◌++◌}
 use Rattle.std.specs.List.{flat_map}
 use Rattle.std.proofs.Common.{refl}

@@ -1,5 +1,5 @@
 -- Exceedance curves: the loss that is reached once in so many periods, by ranking losses.
--- The rules: docs/CALCULATION.md, "Exceedance curves".
+-- The rules: docs/CALCULATION.md, "Exceedance curves", "Kinds of exceedance curves".
 use Rattle.std.specs.Prelude.{Bool, true, false, ℕ, ◌+◌, ◌-◌, ◌*◌, ◌/◌, ℤ, pos, List, [], ◌∷◌, ◌++◌, map, sum_by, codes, nat_le, if◌then◌else◌}
 use Rattle.std.specs.List.{flat_map, range_with_len, slice_index}
 use Rattle.kt_money.specs.NumberText.{count_text, money_text}

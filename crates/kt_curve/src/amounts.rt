@@ -1,5 +1,5 @@
 //! The totals or the maxima of a summary's cells.
-//! The rules: docs/CALCULATION.md, "Exceedance curves".
+//! The rules: docs/CALCULATION.md, "Kinds of exceedance curves".
 ghost use Rattle.std.specs.Prelude.{◌≡◌, ◌≤◌, ◌+◌, ◌*◌, ◌<◌, ℕ, map, sum, length, slice_index, All, IfOk, Some};
 ghost use Rattle.kt_curve.specs.Grid.{of_kind, IsGroup};
 ghost use Rattle.kt_rec.specs.declared.perspective.Perspective.{Perspective};

@@ -1,5 +1,5 @@
 //! The kinds of exceedance curves.
-//! The rules: docs/CALCULATION.md, "Exceedance curves".
+//! The rules: docs/CALCULATION.md, "Kinds of exceedance curves".
 
 /// Which losses a curve ranks, and how it takes the samples. An aep curve ranks the totals of the periods, an oep curve the
 /// greatest losses.

@@ -1,5 +1,5 @@
 //! The full and wheat curves of a summary.
-//! The rules: docs/CALCULATION.md, "Exceedance curves"; docs/OUTPUTS.md, "Exceedance curve tables".
+//! The rules: docs/CALCULATION.md, "Kinds of exceedance curves"; docs/OUTPUTS.md, "Exceedance curve tables".
 ghost use Rattle.std.specs.Prelude.{◌≡◌, ◌+◌, ◌*◌, ◌≤◌, ℕ, ◌++◌, map, pos, if◌then◌else◌, All, OnOk, true};
 ghost use Rattle.kt_rec.specs.declared.perspective.Perspective.{Perspective};
 ghost use Rattle.kt_curve.specs.Grid.{IsGroup, keys_for, sidx_of_kind};

@@ -1,5 +1,5 @@
 //! The curves of the samples' means: period by period, or rank by rank.
-//! The rules: docs/CALCULATION.md, "Exceedance curves"; docs/OUTPUTS.md, "Exceedance curve tables".
+//! The rules: docs/CALCULATION.md, "Kinds of exceedance curves"; docs/OUTPUTS.md, "Exceedance curve tables".
 ghost use Rattle.std.specs.Prelude.{◌≡◌, ◌+◌, ◌*◌, ◌≤◌, ◌^◌, ℕ, List, ◌++◌, map, length, slice_index, sum_by, All, OnOk};
 ghost use Rattle.kt_money.specs.Rounding.{half_up};
 ghost use Rattle.kt_rec.specs.declared.perspective.Perspective.{Perspective};
