@@ -43,7 +43,7 @@ sum_by_same f g same [] = refl
 sum_by_same f g same (k ∷ keys) = rw (sum_by-cons f k keys, sum_by-cons g k keys, same k, sum_by_same f g same keys) refl
 
 -- a function at a choice
-at_choice : {X : Type 0} (f : X → ℕ) (b : Bool) (x y : X) → f (cond b x y) ≡ cond b (f x) (f y)
+pub at_choice : {X : Type 0} (f : X → ℕ) (b : Bool) (x y : X) → f (cond b x y) ≡ cond b (f x) (f y)
 at_choice f true x y = refl
 at_choice f false x y = refl
 
@@ -118,7 +118,7 @@ bool_same false true f g = g refl
 bool_same false false f g = refl
 
 -- a test of numbers as signed ones
-pos_same : (i j : ℕ) → int_eq (pos i) (pos j) ≡ nat_eq i j
+pub pos_same : (i j : ℕ) → int_eq (pos i) (pos j) ≡ nat_eq i j
 pos_same i j =
     bool_same (int_eq (pos i) (pos j)) (nat_eq i j)
     (λ same. let is : pos i ≡ pos j = (Decides-int_eq (pos i) (pos j)).0 same in (Decides-eqb i j).1 (let e : i ≡ j = cc in e))

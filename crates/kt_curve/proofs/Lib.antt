@@ -7,3 +7,9 @@ pub mod Parts
 pub mod FirstGroup
 pub mod Ids
 pub mod Averages
+pub mod Ranking
+pub mod Curves
+pub mod SampleRuns
+pub mod Periods
+pub mod Means
+pub mod Exceedances

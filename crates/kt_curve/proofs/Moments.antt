@@ -1,6 +1,6 @@
 -- The mean and the deviation over all periods, from the amounts that are there.
 use Rattle.std.proofs.Common.{◌≡◌, ℕ, suc, ◌+◌, ◌*◌, ◌≤◌, List, [], ◌∷◌, length, map, arith, refl, sym, ap, ◌∙◌, cond}
-use Rattle.std.specs.Prelude.{Bool, true, false, sum, sum_by, All, pos, Option, Some, None, is_some}
+use Rattle.std.specs.Prelude.{Bool, true, false, sum, sum_by, All, ℤ, pos, Option, Some, None, is_some}
 use Rattle.std.specs.List.{filter}
 use Rattle.std.proofs.lemmas.List.Sums.{sum_by-cons, sum-map}
 use Rattle.std.proofs.lemmas.List.Elements.{All-map, All-filter, All-weaker}
@@ -13,8 +13,10 @@ use Rattle.kt_rec.specs.declared.perspective.Perspective.{Perspective}
 use Rattle.kt_rec.specs.declared.perspective.CellKey.{CellKey}
 use Rattle.kt_curve.specs.declared.cell.Cell.{Cell}
 use Rattle.kt_curve.specs.Grid.{keys_for, sidx_of_kind, of_kind, IsGroup, moments_of, sample_sidx, mean_sidx}
-use Rattle.kt_curve.specs.Standing.{cell_at, total_in, most_total, FitsCells}
-use Rattle.kt_curve.proofs.Grids.{group_sum, length_keys}
+use Rattle.std.specs.Ordering.{int_eq}
+use Rattle.kt_curve.specs.Losses.{one_if}
+use Rattle.kt_curve.specs.Standing.{cell_at, total_in, most_total, FitsCells, sidx_in_range}
+use Rattle.kt_curve.proofs.Grids.{group_sum, group_sum_by, kind_times, times, length_keys}
 
 -- a sum over what a function gives
 pub sum_by_map : {X Y : Type 0} (f : Y → ℕ) (h : X → Y) (xs : List X) → sum_by f (map h xs) ≡ sum_by (λ x. f (h x)) xs
@@ -35,16 +37,23 @@ at_most : {X : Type 0} (f : X → ℕ) → ((x : X) → f x ≤ 1) → (xs : Lis
 at_most f one [] = omega arith
 at_most f one (x ∷ xs) = omega (arith, sum_by-cons f x xs, one x, at_most f one xs)
 
--- there are at most as many amounts as keys
-pub group_few : (p : Perspective) (s n samples u : ℕ) (group : List (CellKey × Cell)) (mean : Bool) → IsGroup p s n samples u group →
-    length (filter (of_kind mean) group) ≤ length (keys_for p s u (sidx_of_kind mean samples) n)
-group_few p s n samples u group mean is =
-    let all : sum_by (λ key. there (cell_at group key)) (keys_for p s u (sidx_of_kind mean samples) n) ≡ sum_by (λ (e : CellKey × Cell). 1) (filter (of_kind mean) group) = group_sum there refl p s n samples u group mean is in
-    omega (arith, all, ones (filter (of_kind mean) group), at_most (λ (key : CellKey). there (cell_at group key)) (λ key. below (cell_at group key)) (keys_for p s u (sidx_of_kind mean samples) n))
+-- there are at most as many entries that pass a test as keys that it is for
+pub few_by : (p : Perspective) (s n samples u : ℕ) (group : List (CellKey × Cell)) (sidxs : List ℤ) (test : CellKey × Cell → Bool) → IsGroup p s n samples u group →
+    ((e : CellKey × Cell) → sidx_in_range samples e.0.sidx ≡ true → times (λ x. int_eq x e.0.sidx) sidxs ≡ one_if (test e)) →
+    length (filter test group) ≤ length (keys_for p s u sidxs n)
+few_by p s n samples u group sidxs test is tested =
+    let all : sum_by (λ key. there (cell_at group key)) (keys_for p s u sidxs n) ≡ sum_by (λ (e : CellKey × Cell). 1) (filter test group) = group_sum_by there refl p s n samples u group sidxs test is tested in
+    omega (arith, all, ones (filter test group), at_most (λ (key : CellKey). there (cell_at group key)) (λ key. below (cell_at group key)) (keys_for p s u sidxs n))
   where
     below : (o : Option Cell) → there o ≤ 1
     below None = omega arith
     below (Some c) = omega arith
+
+-- of the means, or of all samples
+pub group_few : (p : Perspective) (s n samples u : ℕ) (group : List (CellKey × Cell)) (mean : Bool) → IsGroup p s n samples u group →
+    length (filter (of_kind mean) group) ≤ length (keys_for p s u (sidx_of_kind mean samples) n)
+group_few p s n samples u group mean is =
+    few_by p s n samples u group (sidx_of_kind mean samples) (of_kind mean) is (λ e within. kind_times mean samples e.0.sidx within)
 
 -- how many keys a kind has
 pub count_keys : (p : Perspective) (s n samples u : ℕ) (mean : Bool) → length (keys_for p s u (sidx_of_kind mean samples) n) ≡ cond mean n (n * samples)

@@ -56,6 +56,18 @@ summary_order a b perspective set less =
     let two = then_less (nat_cmp a.set b.set) later second one in
     not_above a.summary b.summary (first_not_greater (nat_cmp a.summary b.summary) (ordering_then (int_cmp a.sidx b.sidx) (nat_cmp a.period b.period)) two)
 
+-- of two keys of a summary the lesser has no greater sidx
+pub sidx_order : (a b : CellKey) → a.perspective ≡ b.perspective → a.set ≡ b.set → a.summary ≡ b.summary → key_order.ghosts.cmp a b ≡ Less → (int_cmp a.sidx b.sidx ≡ Less) ⊎ (int_cmp a.sidx b.sidx ≡ Equal)
+sidx_order a b perspective set summary less =
+    let last : Ordering = ordering_then (int_cmp a.sidx b.sidx) (nat_cmp a.period b.period) in
+    let later : Ordering = ordering_then (nat_cmp a.summary b.summary) last in
+    let first : perspective_order.ghosts.cmp a.perspective b.perspective ≡ Equal = ap (λ p. perspective_order.ghosts.cmp p b.perspective) perspective ∙ perspective_itself b.perspective in
+    let one = then_less (perspective_order.ghosts.cmp a.perspective b.perspective) (ordering_then (nat_cmp a.set b.set) later) first less in
+    let second : nat_cmp a.set b.set ≡ Equal = ap (λ n. nat_cmp n b.set) set ∙ number_itself b.set in
+    let two = then_less (nat_cmp a.set b.set) later second one in
+    let third : nat_cmp a.summary b.summary ≡ Equal = ap (λ n. nat_cmp n b.summary) summary ∙ number_itself b.summary in
+    first_not_greater (int_cmp a.sidx b.sidx) (nat_cmp a.period b.period) (then_less (nat_cmp a.summary b.summary) last third two)
+
 -- ---- the first summary and the others
 
 -- what one summary has among entries of which the first are its own and the others are not

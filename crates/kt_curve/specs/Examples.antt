@@ -20,7 +20,7 @@ abbrev pairs : List Pair
 pairs = record { sidx = negsuc 0; loss = 22500 } ∷ record { sidx = pos 1; loss = 25000 } ∷ record { sidx = pos 2; loss = 25000 } ∷ []
 
 -- the record of the event's losses, once
-abbrev once : List Added
+abbrev pub once : List Added
 once = record { perspective = Gul; set = 1; entry = record { event = 1; summary = 1; exposure = 100000; pairs = pairs }; at = in_period_one ∷ [] } ∷ []
 
 -- the record of an event that occurs twice in the period
