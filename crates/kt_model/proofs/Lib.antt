@@ -3,3 +3,4 @@ pub mod AddLemmas
 pub mod BinLemmas
 pub mod RecordLemmas
 mod Worked
+pub mod PairLemmas

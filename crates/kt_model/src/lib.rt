@@ -4,6 +4,7 @@
 mod bins;
 mod chances;
 mod event;
+mod pairs;
 mod shared;
 
 pub use event::distributions;
