@@ -1,1 +1,3 @@
 pub mod GivingLemmas
+pub mod DownLemmas
+pub mod IdLemmas
