@@ -3,7 +3,7 @@ use Rattle.std.proofs.Common.{◌≡◌, ℕ, zero, suc, ◌+◌, ◌<◌, ◌�
 use Rattle.std.specs.Prelude.{Err, ◌||◌, replicate}
 use Rattle.std.specs.List.{AllByRecursion, list_any, sum, sum_by}
 use Rattle.std.specs.List.Sorted.{IsBinarySearchResult}
-use Rattle.std.specs.Ordering.{nat_cmp}
+use Rattle.std.specs.Ordering.{nat_cmp, Equal}
 use Rattle.std.specs.Cmp.{nat_eq_equiv}
 use Rattle.std.proofs.lemmas.Bool.{eqb-true, true≢false}
 use Rattle.std.proofs.lemmas.List.{map-append, take_more, get_or-map}
@@ -23,24 +23,24 @@ use Rattle.kt_alloc.proofs.DownLemmas.{sum_by-map}
 -- what is above an id is not that id
 above-none : (id : ℕ) (ids : List ℕ) → AllByRecursion (λ other. id < other) ids → list_any (nat_eq id) ids ≡ false
 above-none id [] above = refl
-above-none id (other ∷ ids) above = by (nat_eq id other) refl
+above-none id (other ∷ ids) above = by (nat_eq id other) refl (above-none id ids above.1)
   where
-    by : (b : Bool) → nat_eq id other ≡ b → (b || list_any (nat_eq id) ids) ≡ false
-    by true is = let same = eqb-true id other is in let less = above.0 in absurd (omega arith)
-    by false is = above-none id ids above.1
+    by : (b : Bool) → nat_eq id other ≡ b → list_any (nat_eq id) ids ≡ false → (b || list_any (nat_eq id) ids) ≡ false
+    by true is rest = let same = eqb-true id other is in let less = above.0 in absurd (omega arith)
+    by false is rest = rest
 
 with-none : (ids amounts : List ℕ) (id more : ℕ) → length amounts ≡ length ids → list_any (nat_eq id) ids ≡ false → with_more ids amounts id more ≡ amounts
 with-none [] [] id more same none = refl
 with-none [] (amount ∷ amounts) id more same none = absurd (omega arith)
 with-none (first ∷ ids) [] id more same none = absurd (omega arith)
-with-none (first ∷ ids) (amount ∷ amounts) id more same none = by (nat_eq id first) none
+with-none (first ∷ ids) (amount ∷ amounts) id more same none = by (nat_eq id first) none (with-none ids amounts id more (omega arith))
   where
     plus-none : amount + 0 ≡ amount
     plus-none = omega arith
 
-    by : (b : Bool) → (b || list_any (nat_eq id) ids) ≡ false → (amount + cond b more 0) ∷ with_more ids amounts id more ≡ amount ∷ amounts
-    by true none = absurd (true≢false none)
-    by false none = ap (λ n. n ∷ with_more ids amounts id more) plus-none ∙ ap (λ ns. amount ∷ ns) (with-none ids amounts id more (omega arith) none)
+    by : (b : Bool) → (b || list_any (nat_eq id) ids) ≡ false → (list_any (nat_eq id) ids ≡ false → with_more ids amounts id more ≡ amounts) → (amount + cond b more 0) ∷ with_more ids amounts id more ≡ amount ∷ amounts
+    by true none rest = absurd (true≢false none)
+    by false none rest = ap (λ n. n ∷ with_more ids amounts id more) plus-none ∙ ap (λ ns. amount ∷ ns) (rest none)
 
 -- an id that is not found has nothing more
 pub with-missed : (ids amounts : List ℕ) (id more at : ℕ) → IsRising ids → length amounts ≡ length ids → IsBinarySearchResult (λ other. nat_cmp other id) ids (Err at) → amounts ≡ with_more ids amounts id more
@@ -49,6 +49,10 @@ with-missed ids amounts id more at rises same missed = by (list_any (nat_eq id) 
     by : (b : Bool) → list_any (nat_eq id) ids ≡ b → amounts ≡ with_more ids amounts id more
     by true member = absurd (not-missed ids id at rises member missed)
     by false none = sym (with-none ids amounts id more same none)
+
+-- an id that compares as equal is the one
+pub found-here : (ids : List ℕ) (id place : ℕ) → ((d : ℕ) → nat_cmp (get_or ids place d) id ≡ Equal) → get_or ids place 0 ≡ id
+found-here ids id place equal = let here = equal 0 in omega arith
 
 -- an id that is found has more
 pub with-found : (ids amounts : List ℕ) (id more place : ℕ) → IsRising ids → length amounts ≡ length ids → place < length ids → get_or ids place 0 ≡ id → slice_set amounts place (get_or amounts place 0 + more) ≡ with_more ids amounts id more

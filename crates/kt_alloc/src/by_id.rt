@@ -31,11 +31,11 @@ fn id_at(programme: &Programme, place: usize) -> u32
 }
 
 /// Adds an amount to that of an id, if it is among these.
-fn add_to(ids: &[u32], amounts: &mut [u64], id: u32, amount: u64)
+fn add_to(ids: &[u32], amounts: &mut Vec<u64>, id: u32, amount: u64)
     requires rising { IsRising ids.now }
-    requires same { length amounts.old ≡ length ids.now }
-    requires few { (place : ℕ) → place < length ids.now → slice_index amounts.old place + amount ≤ 10 ^ 17 }
-    ensures value { amounts.new ≡ with_more ids.now amounts.old id amount }
+    requires same { length amounts.old.items ≡ length ids.now }
+    requires few { (place : ℕ) → place < length ids.now → slice_index amounts.old.items place + amount ≤ 10 ^ 17 }
+    ensures value { amounts.new.items ≡ with_more ids.now amounts.old.items id amount }
 {
     if let Ok(place) = ids.binary_search(&id) {
         amounts[place] += amount;

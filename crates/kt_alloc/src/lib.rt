@@ -1,7 +1,10 @@
 //! Policy losses shared back to the ids beneath a top.
 #![tactic(auto)]
 
-pub mod by_id;
-pub mod down;
-pub mod giving;
-pub mod part;
+mod allocation;
+mod by_id;
+mod down;
+mod giving;
+mod part;
+
+pub use allocation::allocate;

@@ -25,7 +25,7 @@ pub levels_down-requires : goal.levels_down-requires
 levels_down-requires t c =
     let next : c.args.level ≡ suc (c.args.level - 1) = omega arith in
     let given = c.in_ok-given.ensures.value ∙ (ap (λ (nodes : List Node). level_down c.args.whole nodes c.row.result.now c.deref.result.now) c.nodes_above.ensures.value ∙ (ap (λ (row : List Carry). level_down c.args.whole (slice_index_or c.args.programme.now.levels (c.args.level - 1) []) row c.deref.result.now) c.row.ensures.value ∙ ap (level_down c.args.whole (slice_index_or c.args.programme.now.levels (c.args.level - 1) []) (slice_index_or c.args.levels.now.rows (c.args.level - 1) [])) c.deref.ensures.value)) in
-    (omega (arith, c.decreases), c.requires.levels, can-next c.args.programme.now c.args.levels.now c.requires.levels c.args.whole c.args.level (c.args.level - 1) next c.args.parts.items c.in_ok-given.given.items c.requires.can given)
+    (omega (arith, c.decreases), (c.requires.levels, can-next c.args.programme.now c.args.levels.now c.requires.levels c.args.whole c.args.level (c.args.level - 1) next c.args.parts.items c.in_ok-given.given.items c.requires.can given))
 
 pub returns : goal.returns
 returns t c =
