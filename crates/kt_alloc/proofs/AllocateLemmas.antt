@@ -1,11 +1,9 @@
 -- Lemmas on what the ids beneath a top have of a policy loss.
-use Rattle.std.proofs.Common.{◌≡◌, ℕ, zero, suc, ◌+◌, ◌<◌, ◌≤◌, ◌^◌, Bool, true, false, cond, nat_eq, List, [], ◌∷◌, length, map, get_or, refl, sym, ap, subst, ◌∙◌, arith, ⊥}
+use Rattle.std.proofs.Common.{◌≡◌, ℕ, zero, suc, ◌<◌, ◌≤◌, ◌^◌, Bool, true, false, List, [], ◌∷◌, length, map, get_or, refl, sym, ap, subst, ◌∙◌, arith}
 use Rattle.std.specs.List.{AllByRecursion, sum, sum_by}
-use Rattle.std.proofs.lemmas.Bool.{eqb-true}
 use Rattle.std.proofs.lemmas.List.Sums.{sum_by-cons, sum-map}
-use Rattle.kt_money.specs.Sharing.{share_out}
 use Rattle.kt_tree.specs.Rising.{IsRising}
-use Rattle.kt_tree.specs.Sharing.{Part, part_of, id_parts, allocated, shared_at_once, shared_down}
+use Rattle.kt_tree.specs.Sharing.{Part, part_of, id_parts, shared_down}
 use Rattle.kt_tree.specs.Tree.{Tree, IsTree, ground_up, policy_loss, comes_to, beneath}
 use Rattle.kt_tree.specs.TreeLaws.{ground_up-few, ground_up-beneath, policy_loss-le}
 use Rattle.kt_fmtree.specs.Parts.{Parts, IsProgramme, units_at}
@@ -101,12 +99,14 @@ whole-parts-few programme carried of node below parts are =
 
 -- ---- the losses and the amounts
 
+-- the ids beneath a top have their losses
 pub losses-are : (programme : Parts) (carried : Carried) → IsCarriedBy programme carried → (node : ℕ) → node < length programme.tops → (tree : Tree) (loss : ℕ → ℕ) (is : IsProgramme tree programme) → AreCarried tree loss programme carried → (parts : List PlacedPart) (ids amounts : List ℕ) → parts ≡ levels_down true programme.levels carried.rows (length programme.levels) (top_part node 0) → ids ≡ get_or programme.beneath node [] → amounts ≡ map (part_of (unit_parts (units_at programme 0) parts)) ids
     → amounts ≡ map loss (beneath tree (get_or tree.tops node 0))
 losses-are programme carried of node below tree loss is are parts ids amounts parts_are ids_are amounts_are =
     amounts-beneath programme carried of true node 0 below (omega arith) tree loss is are parts ids amounts parts_are ids_are amounts_are
     ∙ whole-losses tree is.is loss (get_or tree.tops node 0) 0
 
+-- the ids beneath a top have their shares of its policy loss
 pub down-are : (programme : Parts) (carried : Carried) → IsCarriedBy programme carried → (node layer amount : ℕ) → node < length programme.tops → amount ≤ 10 ^ 16 → (tree : Tree) (loss : ℕ → ℕ) (is : IsProgramme tree programme) → AreCarried tree loss programme carried → amount ≡ policy_loss tree loss (get_or tree.tops node 0) layer → (parts : List PlacedPart) (ids amounts : List ℕ) → parts ≡ levels_down false programme.levels carried.rows (length programme.levels) (top_part node amount) → ids ≡ get_or programme.beneath node [] → amounts ≡ map (part_of (unit_parts (units_at programme 0) parts)) ids
     → amounts ≡ shared_down tree loss (get_or tree.tops node 0) layer
 down-are programme carried of node layer amount below few tree loss is are policy parts ids amounts parts_are ids_are amounts_are =
@@ -123,18 +123,3 @@ losses-few programme carried of node layer policy losses policy_is losses_are =
     let policy_few = policy_loss-le of.tree of.is.is of.loss top layer in
     let top_few = top-few of.tree of.is.is of.loss of.few top in
     (omega (arith, sums, policy_is, policy_few), omega (arith, sums, top_few))
-
-pub at-once-are : (tree : Tree) (loss : ℕ → ℕ) (top layer policy : ℕ) (losses amounts : List ℕ) → policy ≡ policy_loss tree loss top layer → losses ≡ map loss (beneath tree top) → amounts ≡ share_out policy losses → amounts ≡ shared_at_once tree loss top layer
-at-once-are tree loss top layer policy losses amounts policy_is losses_are amounts_are = amounts_are ∙ (ap (λ n. share_out n losses) policy_is ∙ ap (share_out (policy_loss tree loss top layer)) losses_are)
-
--- ---- by rule
-
-pub by-one : (tree : Tree) (loss : ℕ → ℕ) (rule top layer : ℕ) (amounts : List ℕ) → rule ≡ 1 → amounts ≡ shared_at_once tree loss top layer → amounts ≡ allocated tree loss rule top layer
-by-one tree loss rule top layer amounts one are = are ∙ ap (λ r. allocated tree loss r top layer) (sym one)
-
-pub by-other : (tree : Tree) (loss : ℕ → ℕ) (rule top layer : ℕ) (amounts : List ℕ) → (rule ≡ 1 → ⊥) → amounts ≡ shared_down tree loss top layer → amounts ≡ allocated tree loss rule top layer
-by-other tree loss rule top layer amounts other are = are ∙ by (nat_eq rule 1) refl
-  where
-    by : (b : Bool) → nat_eq rule 1 ≡ b → shared_down tree loss top layer ≡ cond b (shared_at_once tree loss top layer) (shared_down tree loss top layer)
-    by true is = absurd (other (eqb-true rule 1 is))
-    by false is = refl

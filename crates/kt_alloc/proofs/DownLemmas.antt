@@ -1,5 +1,5 @@
 -- Lemmas on parts that are given down, level by level.
-use Rattle.std.proofs.Common.{◌≡◌, ℕ, zero, suc, ◌+◌, ◌*◌, ◌<◌, ◌≤◌, ◌^◌, Bool, true, false, cond, List, [], ◌∷◌, ◌++◌, length, map, take, drop, get_or, refl, sym, ap, subst, ◌∙◌, arith, drop-cons, add-one, append_assoc, append-nil}
+use Rattle.std.proofs.Common.{◌≡◌, ℕ, zero, suc, ◌+◌, ◌*◌, ◌<◌, ◌≤◌, ◌^◌, Bool, true, false, List, [], ◌∷◌, ◌++◌, length, map, take, drop, get_or, refl, sym, ap, subst, ◌∙◌, arith, drop-cons, add-one, append_assoc, append-nil}
 use Rattle.std.specs.List.{All, AllByRecursion, flat_map, sum, sum_by}
 use Rattle.std.proofs.Math.Nat.{div-zero}
 use Rattle.std.proofs.lemmas.Bool.{true≢false}
@@ -10,7 +10,7 @@ use Rattle.kt_rules.specs.Amounts.{total}
 use Rattle.kt_rules.specs.Profiles.{IsProfile}
 use Rattle.kt_rules.specs.declared.carry.Carry.{Carry}
 use Rattle.kt_tree.specs.Sums.{sum_by-agree, sum_by-below, sum_by-flat_map, each_flat_map}
-use Rattle.kt_tree.specs.Tree.{Tree, carry_of, ground_up}
+use Rattle.kt_tree.specs.Tree.{carry_of, ground_up}
 use Rattle.kt_tree.specs.TreeLaws.{each, carry_of-total, ground_up-few}
 use Rattle.kt_fmtree.specs.Parts.{Parts, IsNode, units_at}
 use Rattle.kt_fmtree.specs.Carried.{Carried, CanCarry, IsCarriedBy}

@@ -1,13 +1,12 @@
 -- Lemmas on what a unit gives to its children.
-use Rattle.std.proofs.Common.{◌≡◌, ℕ, zero, suc, ◌+◌, ◌-◌, ◌*◌, ◌/◌, ◌<◌, ◌≤◌, ◌^◌, Bool, true, false, cond, nat_eq, List, [], ◌∷◌, ◌++◌, length, map, drop, get_or, refl, sym, ap, subst, ◌∙◌, arith, drop-cons, add-one, append_assoc, append-nil, ◌⊎◌, inl, inr}
+use Rattle.std.proofs.Common.{◌≡◌, ℕ, zero, suc, ◌+◌, ◌*◌, ◌<◌, ◌≤◌, Bool, true, false, cond, nat_eq, List, [], ◌∷◌, ◌++◌, length, map, drop, get_or, refl, sym, ap, ◌∙◌, arith, drop-cons, add-one, append_assoc, append-nil, ◌⊎◌, inl, inr}
 use Rattle.std.specs.List.{sum, sum_by}
 use Rattle.std.proofs.Math.Nat.{div-zero}
 use Rattle.std.proofs.lemmas.Bool.{eqb-true}
-use Rattle.std.proofs.lemmas.List.Sums.{sum_by-cons, sum-map, get_or-le-sum_by}
+use Rattle.std.proofs.lemmas.List.Sums.{sum_by-cons, sum-map}
 use Rattle.kt_money.specs.Sharing.{Sharing, share_of, shares_after, share_out}
 use Rattle.kt_rules.specs.Amounts.{total}
 use Rattle.kt_rules.specs.declared.carry.Carry.{Carry}
-use Rattle.kt_tree.specs.Tree.{add_carries}
 use Rattle.kt_fmtree.specs.Carried.{added}
 use Rattle.kt_alloc.specs.Placed.{weight, weights, due, parts_from}
 use Rattle.kt_alloc.specs.declared.part.PlacedPart.{PlacedPart}

@@ -1,13 +1,14 @@
 -- Lemmas on amounts of ids, in order of id.
-use Rattle.std.proofs.Common.{◌≡◌, ℕ, zero, suc, ◌+◌, ◌<◌, ◌≤◌, ◌^◌, Bool, true, false, cond, nat_eq, List, [], ◌∷◌, ◌++◌, length, map, take, drop, get_or, refl, sym, ap, subst, ◌∙◌, arith, drop-cons, add-one, append_assoc, append-nil, ◌⊎◌, inl, inr, slice_set}
+use Rattle.std.proofs.Common.{◌≡◌, ℕ, zero, suc, ◌+◌, ◌<◌, ◌≤◌, ◌^◌, Bool, true, false, cond, nat_eq, List, [], ◌∷◌, ◌++◌, length, map, take, drop, get_or, refl, sym, ap, subst, ◌∙◌, arith, drop-cons, add-one, append_assoc, append-nil, ◌⊎◌, inl, inr, slice_set, Equal}
 use Rattle.std.specs.Prelude.{Err, ◌||◌, replicate}
 use Rattle.std.specs.List.{AllByRecursion, list_any, sum, sum_by}
 use Rattle.std.specs.List.Sorted.{IsBinarySearchResult}
-use Rattle.std.specs.Ordering.{nat_cmp, Equal}
+use Rattle.std.specs.Ordering.{nat_cmp}
+use Rattle.std.specs.FinMap.{nat_cmp-IsAntisymmetric}
 use Rattle.std.specs.Cmp.{nat_eq_equiv}
 use Rattle.std.proofs.lemmas.Bool.{eqb-true, true≢false}
 use Rattle.std.proofs.lemmas.List.{map-append, take_more, get_or-map}
-use Rattle.std.proofs.lemmas.List.Sums.{sum_by-cons, sum_by-append, sum_by-take-le, get_or-le-sum_by}
+use Rattle.std.proofs.lemmas.List.Sums.{sum_by-cons, sum_by-append, sum_by-take-le}
 use Rattle.kt_money.specs.Sharing.{Sharing, share_of, shares_after, share_out}
 use Rattle.kt_tree.specs.Rising.{IsRising}
 use Rattle.kt_tree.specs.Sums.{sum_by-below}
@@ -52,7 +53,7 @@ with-missed ids amounts id more at rises same missed = by (list_any (nat_eq id) 
 
 -- an id that compares as equal is the one
 pub found-here : (ids : List ℕ) (id place : ℕ) → ((d : ℕ) → nat_cmp (get_or ids place d) id ≡ Equal) → get_or ids place 0 ≡ id
-found-here ids id place equal = let here = equal 0 in omega arith
+found-here ids id place equal = nat_cmp-IsAntisymmetric (get_or ids place 0) id (equal 0)
 
 -- an id that is found has more
 pub with-found : (ids amounts : List ℕ) (id more place : ℕ) → IsRising ids → length amounts ≡ length ids → place < length ids → get_or ids place 0 ≡ id → slice_set amounts place (get_or amounts place 0 + more) ≡ with_more ids amounts id more

@@ -1,23 +1,22 @@
 -- Parts by places are the parts of the tree.
-use Rattle.std.proofs.Common.{◌≡◌, ℕ, zero, suc, ◌+◌, ◌<◌, ◌≤◌, ◌^◌, Bool, true, false, cond, nat_eq, List, [], ◌∷◌, ◌++◌, length, map, take, drop, get_or, refl, sym, ap, subst, ◌∙◌, arith, drop-cons, add-one}
+use Rattle.std.proofs.Common.{◌≡◌, ℕ, zero, suc, ◌+◌, ◌<◌, ◌≤◌, Bool, true, false, cond, nat_eq, List, [], ◌∷◌, ◌++◌, length, map, take, drop, get_or, refl, sym, ap, ◌∙◌, arith, drop-cons, add-one}
 use Rattle.std.specs.Cmp.{nat_eq_equiv}
-use Rattle.std.specs.Prelude.{◌||◌}
-use Rattle.std.specs.List.{All, AllByRecursion, flat_map, list_any, sum, sum_by}
+use Rattle.std.specs.List.{All, AllByRecursion, flat_map, list_any, sum_by}
 use Rattle.std.proofs.lemmas.Bool.{eqb-true}
 use Rattle.std.proofs.lemmas.List.{map-append, get_or-map}
-use Rattle.std.proofs.lemmas.List.Sums.{sum_by-cons, sum-map}
+use Rattle.std.proofs.lemmas.List.Sums.{sum_by-cons}
 use Rattle.kt_money.specs.Sharing.{share_out}
 use Rattle.kt_rules.specs.Amounts.{total}
 use Rattle.kt_rules.specs.declared.carry.Carry.{Carry}
-use Rattle.kt_tree.specs.Sums.{sum_by-agree, sum_by-flat_map, sum_by-one, each_member, each_then, distinct_filter}
+use Rattle.kt_tree.specs.Sums.{sum_by-agree, sum_by-flat_map, sum_by-one, each_member, distinct_filter}
 use Rattle.kt_tree.specs.Sharing.{Part, parts_for, carried_loss, weight_of, passed_down, id_parts, part_of}
 use Rattle.kt_tree.specs.Tree.{Tree, IsTree, carry_of, ground_up, comes_to, beneath}
 use Rattle.kt_tree.specs.TreeLaws.{each, carry_of-total, ground_up-beneath}
-use Rattle.kt_fmtree.specs.Parts.{Parts, IsNode, IsProgramme, nodes_at, units_at}
-use Rattle.kt_fmtree.specs.Carried.{Carried, CanCarry, AreCarried, IsCarriedBy}
+use Rattle.kt_fmtree.specs.Parts.{Parts, IsNode, IsProgramme, units_at}
+use Rattle.kt_fmtree.specs.Carried.{Carried, AreCarried, IsCarriedBy}
 use Rattle.kt_fmtree.specs.CarriedLaws.{children-of, map-agree, map-map}
 use Rattle.kt_fmtree.specs.declared.node.Node.{Node}
-use Rattle.kt_alloc.specs.Placed.{weight, weights, amounts_for, parts_from, children_of, no_node, node_at, given_by, level_down, levels_down, CanShare, unit_parts}
+use Rattle.kt_alloc.specs.Placed.{weight, amounts_for, parts_from, children_of, no_node, node_at, given_by, level_down, levels_down, CanShare, unit_parts}
 use Rattle.kt_alloc.specs.declared.part.PlacedPart.{PlacedPart}
 use Rattle.kt_alloc.proofs.DownLemmas.{length-map_is, sum_by-map, amounts-length, nodes-places, can-next}
 

@@ -1,6 +1,6 @@
 -- Parts by places: what units give to their children, level by level.
 -- The rule: docs/FINANCIAL_MODULE.md, "Allocation".
-use Rattle.std.specs.Prelude.{◌≡◌, ℕ, zero, suc, ◌+◌, ◌≤◌, ◌<◌, ◌^◌, Bool, true, false, cond, nat_eq, List, [], ◌∷◌, length, map, take, drop, slice_index, slice_index_or}
+use Rattle.std.specs.Prelude.{◌≡◌, ℕ, zero, suc, ◌+◌, ◌≤◌, ◌<◌, ◌^◌, Bool, false, cond, nat_eq, List, [], ◌∷◌, length, map, take, drop, slice_index, slice_index_or}
 use Rattle.std.specs.List.{AllByRecursion, flat_map, sum_by}
 use Rattle.kt_money.specs.Sharing.{share_out}
 use Rattle.kt_rules.specs.Amounts.{total}

@@ -37,11 +37,7 @@ fn weight(carried: u64, carry: Carry) -> u64
 fn due(amount: u64, weights: u64) -> u64
     ensures value { result ≡ due amount weights }
 {
-    if weights == 0 {
-        0
-    } else {
-        amount
-    }
+    if weights == 0 { 0 } else { amount }
 }
 
 /// Puts the shares of children, whose places begin at one, of an amount behind other parts.
