@@ -47,7 +47,7 @@ module _ (tree : Tree) (plan : Plan) (finds : Finds tree plan) (tops : List ℕ)
       ∙ nodes_from-units plan (suc at) 0 (units_from plan tree.top_level tops (suc at)))
 
   -- the lists are those of the tree
-  pub assembled : (parts : Parts) → parts.ids ≡ tree.ids → All (λ place. place < length parts.ids) parts.leaves
+  pub assembled : (parts : Parts) → parts.ids ≡ tree.ids → IsRising parts.ids → All (λ place. place < length parts.ids) parts.leaves
       → map (λ place. get_or parts.ids place 0) parts.leaves ≡ build_leaves plan tree.top_level tops
       → parts.levels ≡ build_levels plan tree.top_level tops
       → parts.tops ≡ tree.tops → tops ≡ tree.tops
@@ -55,10 +55,11 @@ module _ (tree : Tree) (plan : Plan) (finds : Finds tree plan) (tops : List ℕ)
       → parts.terms ≡ map (λ top. map (tree.layer_profile top) (tree.layers top)) tree.tops
       → parts.beneath ≡ map (beneath tree) tree.tops
       → IsProgramme tree parts
-  assembled parts ids within leaves levels tops_are tops_same layers terms below =
+  assembled parts ids rise within leaves levels tops_are tops_same layers terms below =
       record {
         is = finds.is;
         ids_are = ids;
+        ids_rise = rise;
         leaves_within = within;
         levels_are = ap length levels ∙ build_levels-length plan tree.top_level tops;
         nodes_are = λ level under. subst (λ units. All (IsNode tree (suc level) units) (nodes_at parts (suc level))) (sym (units-are parts leaves levels level (omega arith)))
@@ -127,7 +128,7 @@ module _ (rows : Rows) (stage : ℕ) (ready : IsReady rows stage) (plan : Plan) 
       → IsProgramme (tree_of rows stage) parts
   programme-made links next parts kept next_is ids_same tops_same within leaves levels layers terms below =
       let tree = tree_of rows stage in
-      assembled tree plan finds tops small parts (ids_same ∙ ids_are) within
+      assembled tree plan finds tops small parts (ids_same ∙ ids_are) (ids-rise (programme_of rows stage) parts.ids (ids_same ∙ ids_are)) within
       (leaves ∙ ap (λ n. build_leaves plan n tops) top_is)
       (levels ∙ ap (λ n. build_levels plan n tops) top_is)
       (tops_same ∙ tops_are) tops_are

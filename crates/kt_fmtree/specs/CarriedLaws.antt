@@ -79,7 +79,7 @@ added-map f [] = refl
 added-map f (unit ∷ units) = ap (add_carries (f unit)) (added-map f units)
 
 -- the children of a node, among what the level below carries
-children-of : (tree : Tree) (level : ℕ) (below : List ℕ) (node : Node) → IsNode tree level below node → (f : ℕ → Carry) → take node.width (drop node.start (map f below)) ≡ map f (tree.children level node.unit)
+pub children-of : (tree : Tree) (level : ℕ) (below : List ℕ) (node : Node) → IsNode tree level below node → (f : ℕ → Carry) → take node.width (drop node.start (map f below)) ≡ map f (tree.children level node.unit)
 children-of tree level below node is f =
     ap (take node.width) (drop-map f node.start below) ∙ (take-map f node.width (drop node.start below) ∙ ap (map f) is.children_are)
 

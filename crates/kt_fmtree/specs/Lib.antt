@@ -5,3 +5,4 @@ pub mod PartsLaws
 pub mod Plan
 pub mod Coverages
 pub mod Ready
+pub mod RisingLaws

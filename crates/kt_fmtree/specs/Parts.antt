@@ -2,6 +2,7 @@
 -- The rule: docs/FINANCIAL_MODULE.md, "Levels".
 use Rattle.std.specs.Prelude.{◌≡◌, ℕ, zero, suc, ◌+◌, ◌≤◌, ◌<◌, List, [], length, map, take, drop, All, slice_index, slice_index_or}
 use Rattle.kt_rules.specs.declared.profile.Profile.{Profile}
+use Rattle.kt_tree.specs.Rising.{IsRising}
 use Rattle.kt_tree.specs.Tree.{Tree, IsTree, beneath}
 use Rattle.kt_fmtree.specs.declared.node.Node.{Node}
 use Rattle.kt_fmtree.specs.declared.programme.Programme.TheInside.{Inside}
@@ -50,6 +51,7 @@ pub record IsNode (tree : Tree) (level : ℕ) (below : List ℕ) (node : Node) :
 pub record IsProgramme (tree : Tree) (parts : Parts) : Type 0 where
   pub is : IsTree tree
   pub ids_are : parts.ids ≡ tree.ids
+  pub ids_rise : IsRising parts.ids
   pub leaves_within : All (λ place. place < length parts.ids) parts.leaves
   pub levels_are : length parts.levels ≡ tree.top_level
   pub nodes_are : (level : ℕ) → level < tree.top_level → All (IsNode tree (suc level) (units_at parts level)) (nodes_at parts (suc level))

@@ -1,6 +1,6 @@
 //! What the units of a programme carry, level by level.
 //! The rule: docs/FINANCIAL_MODULE.md, "Levels".
-ghost use Rattle.std.specs.Prelude.{◌≡◌, ◌<◌, length, slice_index_or};
+ghost use Rattle.std.specs.Prelude.{◌≡◌, ◌<◌, [], length, slice_index_or};
 
 use kt_rules::Carry;
 use std::marker::Model;
@@ -21,6 +21,16 @@ impl Model for Levels {
 }
 
 impl Levels {
+    /// What the units of a level below the top level carry, in the order of the tree; of any other level nothing.
+    pub fn row(&self, level: usize) -> &[Carry]
+        ensures value { result.now ≡ slice_index_or self.now.rows level [] }
+    {
+        match self.rows.get(level) {
+            Some(row) => row,
+            None => &[],
+        }
+    }
+
     /// What comes to a top.
     pub(crate) fn base(&self, node: usize) -> Carry
         requires { node < length self.now.bases }

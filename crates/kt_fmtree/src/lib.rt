@@ -19,4 +19,6 @@ mod sums;
 mod terms;
 
 pub use levels::Levels;
+pub use node::Node;
 pub use programme::Programme;
+pub use sums::added;

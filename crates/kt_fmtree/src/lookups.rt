@@ -4,6 +4,7 @@ ghost use Rattle.std.specs.Prelude.{◌≡◌, ◌<◌, [], length, slice_index,
 ghost use Rattle.kt_tree.specs.Tree.{Tree, beneath};
 ghost use Rattle.kt_fmtree.specs.Parts.{IsProgramme};
 
+use crate::node::Node;
 use crate::programme::Programme;
 
 impl Programme {
@@ -21,6 +22,28 @@ impl Programme {
         ensures tree { (tree : Tree) → IsProgramme tree self.now → result.now ≡ tree.tops }
     {
         &self.tops
+    }
+
+    /// How many levels there are from level 1 up.
+    pub fn depth(&self) -> usize
+        ensures value { result ≡ length self.now.levels }
+    {
+        self.levels.len()
+    }
+
+    /// The units of the next level above a level, which is counted from 0, in the order of the tree.
+    pub fn nodes_above(&self, level: usize) -> &[Node]
+        requires { level < length self.now.levels }
+        ensures value { result.now ≡ slice_index_or self.now.levels level [] }
+    {
+        &self.levels[level]
+    }
+
+    /// The places of the ids in the order of the tree, among the ids by rising number.
+    pub fn leaves(&self) -> &[usize]
+        ensures value { result.now ≡ self.now.leaves }
+    {
+        &self.leaves
     }
 
     /// The layers of a top.

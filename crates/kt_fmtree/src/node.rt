@@ -6,13 +6,13 @@ use kt_rules::Profile;
 #[derive(Clone, Copy, Debug)]
 pub struct Node {
     /// The unit.
-    pub(crate) unit: u32,
+    pub unit: u32,
     /// The place of its first child.
-    pub(crate) start: usize,
+    pub start: usize,
     /// How many children it has.
-    pub(crate) width: usize,
+    pub width: usize,
     /// What the distinct coverages beneath it are worth, in cents.
-    pub(crate) tiv: u64,
+    pub tiv: u64,
     /// Its terms below the top level.
-    pub(crate) profile: Profile,
+    pub profile: Profile,
 }

@@ -21,8 +21,8 @@ fn add(one: Carry, other: Carry) -> Carry
     }
 }
 
-/// The amounts of units, added.
-pub(crate) fn added(carries: &[Carry]) -> Carry
+/// The amounts of units, added. They add to at most 10^16 cents.
+pub fn added(carries: &[Carry]) -> Carry
     requires { sum_by total carries.now ≤ 10 ^ 16 }
     ensures value { result ≡ added carries.now }
     ensures few { total result ≤ 10 ^ 16 }

@@ -1,4 +1,4 @@
-use Rattle.kt_fmtree.proofs.LeafLemmas.{not-missed}
+use Rattle.kt_fmtree.specs.RisingLaws.{not-missed}
 use Rattle.kt_fmtree.proofs.leaves.place_of.Goals as goal
 
 pub unreachable-requires : goal.unreachable-requires
