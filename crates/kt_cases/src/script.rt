@@ -8,10 +8,20 @@ use std::alloc::{AllocError, AllocGlobal, Global};
 use std::thread::Threads;
 
 /// The names of the files of a run.
-const NAMES: [&str; 3] = [
+const NAMES: [&str; 13] = [
     "input/events.bin",
-    "input/occurrence.bin",
+    "input/items.bin",
+    "input/coverages.bin",
+    "static/footprint.bin",
     "static/footprint.idx",
+    "static/vulnerability.bin",
+    "static/damage_bin_dict.bin",
+    "static/random.bin",
+    "input/fm_programme.bin",
+    "input/fm_xref.bin",
+    "input/gulsummaryxref.bin",
+    "input/fmsummaryxref.bin",
+    "input/occurrence.bin",
 ];
 
 /// The state between two lines.

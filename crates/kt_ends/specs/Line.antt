@@ -1,7 +1,7 @@
 -- The line on standard error that says why a run was refused.
 -- The rules: docs/REFUSALS.md, "Texts".
 use Rattle.std.specs.Prelude.{ℕ, List, [], ◌++◌, codes}
-use Rattle.kt_money.specs.NumberText.{count_text}
+use Rattle.kt_money.specs.NumberText.{count_text, money_text}
 use Rattle.kt_stream.specs.declared.stop.RecordCause.{RecordCause}
 use Rattle.kt_stream.specs.declared.stop.RecordCause.TheVariants as record_cause
 use Rattle.kt_stream.specs.declared.stop.StreamStop.{StreamStop}
@@ -10,6 +10,8 @@ use Rattle.kt_words.specs.declared.stop.WordCause.{WordCause}
 use Rattle.kt_words.specs.declared.stop.WordCause.TheVariants.{Missing, UnknownTool, UnknownOption, Repeated, NeedsValue, BadValue, Unexpected, NotTogether, BadPart}
 use Rattle.kt_cells.specs.declared.stop.Cause.{Cause}
 use Rattle.kt_cells.specs.declared.stop.Cause.TheVariants as cause
+use Rattle.kt_foot.specs.declared.foot_rows.RowCause.{RowCause}
+use Rattle.kt_foot.specs.declared.foot_rows.RowCause.TheVariants as row_cause
 use Rattle.kt_ends.specs.declared.status.Refusal.{Refusal}
 use Rattle.kt_ends.specs.declared.status.Refusal.TheVariants as refusal
 use Rattle.kt_ends.specs.declared.status.Status.{Status}
@@ -66,15 +68,30 @@ field_text cause.Zero = codes "zero"
 field_text cause.Rule = codes "rule"
 field_text cause.Order = codes "order"
 
+-- what is wrong with a row of an event's footprint
+abbrev pub row_text : RowCause → List ℕ
+row_text row_cause.Areaperil = codes "areaperil"
+row_text row_cause.Intensity = codes "intensity"
+row_text row_cause.Prob = codes "prob"
+row_text row_cause.Twice = codes "twice"
+row_text row_cause.Sum = codes "sum"
+
 -- a file, and what is wrong with it
 abbrev pub file_text : List ℕ → List ℕ → List ℕ
 file_text name text = name ++ (codes ": " ++ text)
+
+-- an event, and what is wrong with it
+abbrev pub event_text : ℕ → List ℕ → List ℕ
+event_text event text = codes "event " ++ (count_text event ++ (codes ": " ++ text))
 
 -- why a run is refused
 abbrev pub refusal_text : Refusal → List ℕ
 refusal_text (refusal.Stream stop) = stream_text stop
 refusal_text (refusal.UnknownId byte) = place_text byte (codes "unknown id")
 refusal_text (refusal.LossSum byte) = place_text byte (codes "loss sum")
+refusal_text (refusal.Row event row why) = codes "event " ++ (count_text event ++ (codes " row " ++ (count_text row ++ (codes ": " ++ row_text why))))
+refusal_text (refusal.Cells event held) = event_text event (codes "cell limit")
+refusal_text (refusal.Period event key held more) = event_text event (codes "period limit: " ++ (money_text held ++ (codes " + " ++ money_text more)))
 refusal_text (refusal.File file stop) = codes "file " ++ (count_text file ++ (codes ": " ++ stream_text stop))
 refusal_text (refusal.HeaderDiffers file) = codes "file " ++ (count_text file ++ (codes ": " ++ codes "header differs"))
 refusal_text (refusal.Missing name) = file_text name (codes "missing")

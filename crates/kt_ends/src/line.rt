@@ -1,14 +1,15 @@
 //! The line on standard error that says why a run was refused.
 //! The rules: docs/REFUSALS.md, "Texts".
 ghost use Rattle.std.specs.Prelude.{◌≡◌, ◌++◌, OnOk, IfOk, codes};
-ghost use Rattle.kt_money.specs.NumberText.{count_text};
-ghost use Rattle.kt_ends.specs.Line.{cause_text, field_text, file_text, record_text, refusal_text, stream_text, status_text, status_line};
+ghost use Rattle.kt_money.specs.NumberText.{count_text, money_text};
+ghost use Rattle.kt_ends.specs.Line.{cause_text, event_text, field_text, file_text, record_text, refusal_text, row_text, stream_text, status_text, status_line};
 ghost use Rattle.kt_ends.specs.Line.{IsRefused};
 ghost use Rattle.kt_ends.specs.declared.status.Refusal.TheVariants as refusal;
 
 use crate::status::{Refusal, Status};
 use kt_cells::Cause;
-use kt_money::{Bytes, OutOfMemory, push_count};
+use kt_foot::RowCause;
+use kt_money::{Bytes, OutOfMemory, push_count, push_money};
 use kt_rec::Name;
 use kt_stream::{RecordCause, StreamStop};
 use kt_words::WordCause;
@@ -173,6 +174,30 @@ fn push_check(out: &mut Bytes, name: &Name, row: u64, number: u32) -> Result<(),
     push_count(out, number as u64)
 }
 
+/// The text of what is wrong with a row of an event's footprint.
+fn row_words(cause: RowCause) -> &'static [u8]
+    ensures { result.now ≡ row_text cause }
+{
+    match cause {
+        RowCause::Areaperil => b"areaperil",
+        RowCause::Intensity => b"intensity",
+        RowCause::Prob => b"prob",
+        RowCause::Twice => b"twice",
+        RowCause::Sum => b"sum",
+    }
+}
+
+/// Appends `event E row R: CAUSE`.
+fn push_event_row(out: &mut Bytes, event: u32, row: u64, cause: RowCause) -> Result<(), OutOfMemory>
+    ensures { OnOk result (out.new ≡ out.old ++ refusal_text (refusal.Row event row cause)) }
+{
+    push_number(out, b"event ", event)?;
+    out.append(b" row ")?;
+    push_count(out, row)?;
+    out.append(b": ")?;
+    out.append(row_words(cause))
+}
+
 /// Appends `file N: ` and why its stream is refused.
 fn push_file_stream(out: &mut Bytes, file: u32, stop: StreamStop) -> Result<(), OutOfMemory>
     ensures { OnOk result (out.new ≡ out.old ++ refusal_text (refusal.File file stop)) }
@@ -189,6 +214,26 @@ fn push_other_header(out: &mut Bytes, file: u32) -> Result<(), OutOfMemory>
     out.append(b"header differs")
 }
 
+/// Appends `event E: TEXT`.
+fn push_event(out: &mut Bytes, event: u32, text: &[u8]) -> Result<(), OutOfMemory>
+    ensures { OnOk result (out.new ≡ out.old ++ event_text event text.now) }
+{
+    out.append(b"event ")?;
+    push_count(out, u64::from(event))?;
+    out.append(b": ")?;
+    out.append(text)
+}
+
+/// Appends `event E: period limit: H + M`, with amounts of money.
+fn push_period(out: &mut Bytes, event: u32, held: u64, more: u64) -> Result<(), OutOfMemory>
+    ensures { OnOk result (out.new ≡ out.old ++ event_text event (codes "period limit: " ++ (money_text held ++ (codes " + " ++ money_text more)))) }
+{
+    push_event(out, event, b"period limit: ")?;
+    push_money(out, held)?;
+    out.append(b" + ")?;
+    push_money(out, more)
+}
+
 /// Appends why a run is refused.
 fn push_refusal(out: &mut Bytes, refusal: &Refusal) -> Result<(), OutOfMemory>
     ensures { OnOk result (out.new ≡ out.old ++ refusal_text refusal.now) }
@@ -197,6 +242,14 @@ fn push_refusal(out: &mut Bytes, refusal: &Refusal) -> Result<(), OutOfMemory>
         Refusal::Stream(stop) => push_stream_text(out, *stop),
         Refusal::UnknownId { byte } => push_place(out, *byte, b"unknown id"),
         Refusal::LossSum { byte } => push_place(out, *byte, b"loss sum"),
+        Refusal::Row { event, row, cause } => push_event_row(out, *event, *row, *cause),
+        Refusal::Cells { event, .. } => push_event(out, *event, b"cell limit"),
+        Refusal::Period {
+            event,
+            held,
+            more,
+            ..
+        } => push_period(out, *event, *held, *more),
         Refusal::File { file, stop } => push_file_stream(out, *file, *stop),
         Refusal::HeaderDiffers { file } => push_other_header(out, *file),
         Refusal::Missing { name } => push_file(out, name, b"missing"),

@@ -4,7 +4,8 @@ ghost use Rattle.std.specs.Prelude.{◌≡◌};
 ghost use Rattle.kt_ends.specs.Status.{status_code};
 
 use kt_cells::Cause;
-use kt_rec::Name;
+use kt_foot::RowCause;
+use kt_rec::{CellKey, Name};
 use kt_stream::StreamStop;
 use kt_words::WordStop;
 
@@ -23,6 +24,33 @@ pub enum Refusal {
     LossSum {
         /// The first byte of the record, counted from 0 in the whole stream.
         byte: u64,
+    },
+    /// A row of the footprint of an event is refused.
+    Row {
+        /// The event's id.
+        event: u32,
+        /// The row, counted from 1 within the event.
+        row: u64,
+        /// What is wrong.
+        cause: RowCause,
+    },
+    /// One loss more would need another cell than the 20,000,000 that are held.
+    Cells {
+        /// The event whose record is refused.
+        event: u32,
+        /// How many cells are held.
+        held: u64,
+    },
+    /// A loss takes the total of a period past 10^15 cents.
+    Period {
+        /// The event whose record is refused.
+        event: u32,
+        /// The summary, the sidx and the period.
+        key: CellKey,
+        /// The total before, in cents.
+        held: u64,
+        /// The loss, in cents.
+        more: u64,
     },
     /// The stream in one of several files is refused.
     File {

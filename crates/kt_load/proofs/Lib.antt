@@ -1,6 +1,7 @@
 mod ReadLemmas
 mod TypedLemmas
 mod RangeLemmas
+mod TableRanges
 mod OutsideLemmas
 mod HeaderLemmas
 mod TableLemmas

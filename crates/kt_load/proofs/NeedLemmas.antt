@@ -1,19 +1,23 @@
 -- Loading begins with no rows, and reads the tables that are needed.
 use Rattle.std.proofs.Common.{◌≡◌, List, [], refl, ap, sym, ◌∙◌, Option, Some, None, Ok, arith, true, false, Bool, inl, inr}
+use Rattle.std.proofs.lemmas.List.Elements.{All-replicate}
 use Rattle.std.specs.Prelude.{All, IfSome, slice_index_or, nat_le, ◌==◌, ◌&&◌, ◌||◌}
-use Rattle.std.specs.List.{filter}
+use Rattle.std.specs.List.{filter, list_any}
 use Rattle.std.proofs.lemmas.Bool.{eqb-true, leb-true}
 use Rattle.std.proofs.lemmas.List.Sums.{AllPass-from_list_all}
-use Rattle.kt_rec.specs.Ranges.{AreInRange}
-use Rattle.kt_rec.specs.Rows.{Rows, no_rows}
+use Rattle.kt_rec.specs.Ranges.{AreInRange, AreFinancial, ArePeriods}
+use Rattle.kt_rec.specs.Rows.{Rows, no_rows, no_financial_rows}
 use Rattle.kt_rec.specs.TableNames.{IsTableId, number_of}
 use Rattle.kt_rec.specs.TableSet.{is_in}
 use Rattle.kt_rec.specs.declared.table.TableId.{TableId}
 use Rattle.kt_checks.specs.Checks.{first_refusal}
 use Rattle.kt_keys.specs.declared.need.Need.{Need}
 use Rattle.kt_out.specs.NamedFiles.{FileMap}
-use Rattle.kt_tables.specs.Portfolio.{PortfolioRows}
-use Rattle.kt_load.specs.FileNames.{load_order}
+use Rattle.kt_tables.specs.Portfolio.{PortfolioRows, HasPeriods}
+use Rattle.kt_rec.specs.declared.table.Table.TheVariants as table
+use Rattle.kt_keys.specs.Refusals.{is_loaded}
+use Rattle.kt_load.specs.FileNames.{load_order, table_at}
+use Rattle.kt_load.specs.Steps.{has_periods}
 use Rattle.kt_load.specs.Loaded.{TellsLoaded, loaded, unless_refused}
 use Rattle.kt_load.specs.Reading.{with_files, go_on}
 
@@ -44,7 +48,26 @@ none P = λ k d below. absurd (omega arith)
 
 -- no rows are in range
 pub no_rows-in_range : AreInRange no_rows
-no_rows-in_range = record { events = none _; items = none _; coverages = none _; vulnerability = none _; damage_bin_dict = none _; random = none _; returnperiods = none _ }
+no_rows-in_range = record {
+  events = none _;
+  items = none _;
+  coverages = none _;
+  footprint_idx = none _;
+  vulnerability = none _;
+  damage_bin_dict = none _;
+  random = none _;
+  fm_xref = none _;
+  gulsummaryxref = none _;
+  fmsummaryxref = none _;
+  occurrence = none _;
+  returnperiods = none _;
+  financial = All-replicate AreFinancial 10 no_financial_rows (record { programme = none _; policytc = none _; profile = none _ });
+}
+
+-- the number of periods is in range where the occurrences were read
+pub has_periods-from_all : (need : Need) (order : List TableId) (now : Rows) → order ≡ load_order → (list_any has_periods order ≡ true → is_in need.loaded (table_at 0 table.Occurrence) ≡ true → ArePeriods now.periods) → HasPeriods now need
+unfolding is_loaded
+has_periods-from_all need order now ordered read loaded = read (ap (list_any has_periods) ordered) loaded
 
 -- what was read makes a portfolio where no check refuses it
 pub loads_portfolio : (held : Option FileMap) (need : Need) (order : List TableId) (empty now : Rows) (portfolio : PortfolioRows) → order ≡ load_order → empty ≡ no_rows → IfSome held (λ files. with_files files (filter (is_in need.loaded) order) empty ≡ Ok now) → first_refusal now need ≡ None → portfolio ≡ record { rows = now; need = need } → IfSome held (λ files. TellsLoaded (loaded files need) (Ok portfolio))

@@ -7,7 +7,7 @@ use Rattle.kt_out.specs.InputFiles.{FindsSize, IsSizeOf}
 use Rattle.kt_rec.specs.declared.table.Table.{Table}
 use Rattle.kt_rec.specs.declared.table.TableId.{TableId}
 use Rattle.kt_rec.specs.declared.tables.Tables.{Tables}
-use Rattle.kt_rec.specs.Ranges.{AreInRange}
+use Rattle.kt_rec.specs.Ranges.{AreInRange, ArePeriods}
 use Rattle.kt_rec.specs.Rows.{Rows, rows_of}
 use Rattle.kt_rec.specs.TableNames.{IsTableId}
 use Rattle.kt_cells.specs.Stops.{Tells}
@@ -22,7 +22,7 @@ use Rattle.kt_load.specs.Reading.{file_limit, go_on, with_read, with_size, with_
 use Rattle.kt_load.specs.Steps.{KeepsRows, NoneOutside}
 use Rattle.kt_load.proofs.HeaderLemmas.{front-loads}
 use Rattle.kt_load.proofs.OutsideLemmas.{outside-with_rows, outside-with_size}
-use Rattle.kt_load.proofs.RangeLemmas.{in_range-with_rows, in_range-with_size}
+use Rattle.kt_load.proofs.TableRanges.{in_range-with_rows, in_range-with_size, periods-with_rows, periods-from_occurrences}
 use Rattle.kt_load.proofs.TypedLemmas.{loads-rows_at}
 
 -- what the file of a table gives, once its size and its front are known
@@ -66,9 +66,12 @@ reads-table (Some files) id name size front old mid new named small found is loa
 pub keeps-table : (id : TableId) (size : ℕ) (front : List ℕ) (old mid new : Tables) → IsTableId id → Loads id front old mid → rows_of new ≡ with_size (rows_of mid) id.table size → KeepsRows id (rows_of old) (rows_of new)
 keeps-table id size front old mid new is loads sized =
     let has = loads-rows_at id.table id.stage front old mid loads in
+    let becomes = sized ∙ ap (λ rows. with_size rows id.table size) has.becomes in
     record {
       in_range = λ h. subst AreInRange (sym sized) (in_range-with_size id.table (rows_of mid) size (subst AreInRange (sym has.becomes) (in_range-with_rows id.table (rows_of old) id.stage has.extra has.values has.in_range h)));
       outside = λ set there h. subst (NoneOutside set) (sym sized) (outside-with_size id.table set (rows_of mid) size (subst (NoneOutside set) (sym has.becomes) (outside-with_rows id.table set (rows_of old) id.stage has.extra has.values is there h)));
+      periods = λ h. subst (λ rows. ArePeriods rows.periods) (sym becomes) (periods-with_rows id.table (rows_of old) id.stage has.extra size front has.values has.read h);
+      read_periods = λ h. subst (λ rows. ArePeriods rows.periods) (sym becomes) (periods-from_occurrences id.table (rows_of old) id.stage has.extra size front has.values has.read h);
     }
 
 -- the file is not that of its table

@@ -1,11 +1,14 @@
 -- Reading table after table.
-use Rattle.std.proofs.Common.{◌≡◌, List, [], ◌∷◌, Option, Some, None, Ok, Result, refl, ap, sym, subst, ◌∙◌, true, false}
-use Rattle.std.specs.Prelude.{IfSome, cond}
-use Rattle.std.specs.List.{filter}
+use Rattle.std.proofs.Common.{◌≡◌, ◌⊎◌, Bool, List, [], ◌∷◌, Option, Some, None, Ok, Result, refl, ap, sym, subst, ◌∙◌, true, false, inl, inr}
+use Rattle.std.specs.Prelude.{IfSome, cond, ◌||◌, ◌&&◌, ◌==◌, ◌+◌, ◌-◌, ◌*◌, slice_index_or}
+use Rattle.std.specs.List.{filter, list_any}
+use Rattle.std.proofs.lemmas.Bool.{eqb-true}
 use Rattle.kt_out.specs.NamedFiles.{FileMap}
-use Rattle.kt_rec.specs.Ranges.{AreInRange}
+use Rattle.kt_rec.specs.Ranges.{AreInRange, ArePeriods}
 use Rattle.kt_rec.specs.Rows.{Rows}
+use Rattle.kt_rec.specs.TableNames.{number_of}
 use Rattle.kt_rec.specs.TableSet.{is_in}
+use Rattle.kt_rec.specs.declared.table.Table.TheVariants as table
 use Rattle.kt_rec.specs.declared.table.TableId.{TableId}
 use Rattle.kt_rec.specs.declared.table_set.TableSet.{TableSet}
 use Rattle.kt_load.specs.declared.stop.LoadStop.{LoadStop}
@@ -13,13 +16,23 @@ use Rattle.kt_load.specs.declared.stop.LoadStop.TheVariants.{Missing, TooLarge, 
 use Rattle.kt_load.specs.Ends.{TellsLoad}
 use Rattle.kt_load.specs.FileNames.{file_name_of}
 use Rattle.kt_load.specs.Reading.{with_file, with_files, go_on}
-use Rattle.kt_load.specs.Steps.{KeepsRows, NoneOutside}
+use Rattle.kt_load.specs.FileNames.{table_at}
+use Rattle.kt_load.specs.Steps.{KeepsRows, NoneOutside, has_periods}
+
+-- false is not true
+false_is_true : false ≡ true → ⊥
+false_is_true is = cc
+
+-- the occurrences are still to be read, or the number of periods is in range, or they are not in the set
+abbrev pub OnPeriods : TableSet → List TableId → List TableId → Rows → Type 0
+OnPeriods set ids rest now = (list_any has_periods rest ≡ list_any has_periods ids) ⊎ (ArePeriods now.periods ⊎ (is_in set (table_at 0 table.Occurrence) ≡ false))
 
 -- what is left of the tables to read says what all give
 pub record IsOnTheWay (held : Option FileMap) (set : TableSet) (ids rest : List TableId) (old now : Rows) : Type 0 where
   pub gives : IfSome held (λ files. with_files files (filter (is_in set) ids) old ≡ with_files files (filter (is_in set) rest) now)
   pub in_range : AreInRange old → AreInRange now
   pub outside : NoneOutside set old → NoneOutside set now
+  pub periods : OnPeriods set ids rest now
 
 -- a table of the set is read next
 takes : (files : FileMap) (set : TableSet) (id : TableId) (rest : List TableId) (now : Rows) → is_in set id ≡ true → with_files files (filter (is_in set) (id ∷ rest)) now ≡ go_on (with_file now id (files (file_name_of id))) (with_files files (filter (is_in set) rest))
@@ -35,12 +48,53 @@ chained : (held : Option FileMap) (P Q R : FileMap → Type 0) → ((files : Fil
 chained None P Q R both p q = tt
 chained (Some files) P Q R both p q = both files p q
 
+-- both of two tests pass
+both_parts : (a b : Bool) → (a && b) ≡ true → (a ≡ true) × (b ≡ true)
+both_parts true b is = (refl, is)
+both_parts false b is = cc
+
+-- a table that has the number of periods is that of the occurrences
+occurrence_number : (id : TableId) → has_periods id ≡ true → number_of id.table ≡ 15
+occurrence_number id is = eqb-true (number_of id.table) 15 (both_parts (id.stage == 0) (number_of id.table == 15) is).1
+
+-- and so it is in a set where they are
+occurrence_in : (set : TableSet) (id : TableId) → has_periods id ≡ true → is_in set id ≡ is_in set (table_at 0 table.Occurrence)
+occurrence_in set id is =
+    ap (λ stage. slice_index_or set.present (stage * 16 + number_of id.table - 1) false) (eqb-true id.stage 0 (both_parts (id.stage == 0) (number_of id.table == 15) is).0)
+    ∙ ap (λ number. slice_index_or set.present (0 * 16 + number - 1) false) (occurrence_number id is)
+
+-- the number of periods with one table more
+periods-read : (set : TableSet) (ids : List TableId) (id : TableId) (rest : List TableId) (now new : Rows) → OnPeriods set ids (id ∷ rest) now → KeepsRows id now new → OnPeriods set ids rest new
+periods-read set ids id rest now new (inr (inl are)) keeps = inr (inl (keeps.periods are))
+periods-read set ids id rest now new (inr (inr outside)) keeps = inr (inr outside)
+periods-read set ids id rest now new (inl to_read) keeps = by_test (has_periods id) refl to_read
+  where
+    by_test : (b : Bool) → has_periods id ≡ b → (b || list_any has_periods rest) ≡ list_any has_periods ids → OnPeriods set ids rest new
+    by_test true is h = inr (inl (keeps.read_periods (occurrence_number id is)))
+    by_test false is h = inl h
+
+-- and with one left out
+periods-skipped : (set : TableSet) (ids : List TableId) (id : TableId) (rest : List TableId) (now : Rows) → OnPeriods set ids (id ∷ rest) now → is_in set id ≡ false → OnPeriods set ids rest now
+periods-skipped set ids id rest now (inr found) outside = inr found
+periods-skipped set ids id rest now (inl to_read) outside = by_test (has_periods id) refl to_read
+  where
+    by_test : (b : Bool) → has_periods id ≡ b → (b || list_any has_periods rest) ≡ list_any has_periods ids → OnPeriods set ids rest now
+    by_test true is h = inr (inr (sym (occurrence_in set id is) ∙ outside))
+    by_test false is h = inl h
+
+-- where the occurrences were to be read, the number of periods is in range
+pub periods-from_all : (set : TableSet) (ids : List TableId) (now : Rows) → OnPeriods set ids [] now → list_any has_periods ids ≡ true → is_in set (table_at 0 table.Occurrence) ≡ true → ArePeriods now.periods
+periods-from_all set ids now (inl none) among there = absurd (false_is_true (none ∙ among))
+periods-from_all set ids now (inr (inl are)) among there = are
+periods-from_all set ids now (inr (inr outside)) among there = absurd (false_is_true (sym outside ∙ there))
+
 -- one table more was read
 pub reads-on : (held : Option FileMap) (set : TableSet) (ids : List TableId) (id : TableId) (rest : List TableId) (old now new : Rows) → IsOnTheWay held set ids (id ∷ rest) old now → is_in set id ≡ true → IfSome held (λ files. with_file now id (files (file_name_of id)) ≡ Ok new) → KeepsRows id now new → IsOnTheWay held set ids rest old new
 reads-on held set ids id rest old now new before there read keeps = record {
   gives = chained held (λ files. with_files files (filter (is_in set) ids) old ≡ with_files files (filter (is_in set) (id ∷ rest)) now) (λ files. with_file now id (files (file_name_of id)) ≡ Ok new) (λ files. with_files files (filter (is_in set) ids) old ≡ with_files files (filter (is_in set) rest) new) (λ files so_far this. so_far ∙ takes files set id rest now there ∙ ap (λ r. go_on r (with_files files (filter (is_in set) rest))) this) before.gives read;
   in_range = λ h. keeps.in_range (before.in_range h);
   outside = λ h. keeps.outside set there (before.outside h);
+  periods = periods-read set ids id rest now new before.periods keeps;
 }
 
 -- one was left out
@@ -49,6 +103,7 @@ skips-on held set ids id rest old now before outside = record {
   gives = chained held (λ files. with_files files (filter (is_in set) ids) old ≡ with_files files (filter (is_in set) (id ∷ rest)) now) (λ files. with_files files (filter (is_in set) ids) old ≡ with_files files (filter (is_in set) (id ∷ rest)) now) (λ files. with_files files (filter (is_in set) ids) old ≡ with_files files (filter (is_in set) rest) now) (λ files so_far _. so_far ∙ leaves files set id rest now outside) before.gives before.gives;
   in_range = before.in_range;
   outside = before.outside;
+  periods = periods-skipped set ids id rest now before.periods outside;
 }
 
 -- a stop is that of what would go on
@@ -72,5 +127,5 @@ reads-all (Some files) set ids old now before = before.gives
 
 -- nothing is read yet
 pub on_the_way : (held : Option FileMap) (set : TableSet) (ids : List TableId) (old : Rows) → IsOnTheWay held set ids ids old old
-on_the_way None set ids old = record { gives = tt; in_range = λ h. h; outside = λ h. h }
-on_the_way (Some files) set ids old = record { gives = refl; in_range = λ h. h; outside = λ h. h }
+on_the_way None set ids old = record { gives = tt; in_range = λ h. h; outside = λ h. h; periods = inl refl }
+on_the_way (Some files) set ids old = record { gives = refl; in_range = λ h. h; outside = λ h. h; periods = inl refl }

@@ -5,3 +5,4 @@ pub mod Loaded
 pub mod Ends
 pub mod Steps
 pub mod EventRows
+pub mod FootprintSize

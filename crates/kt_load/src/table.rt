@@ -1,17 +1,18 @@
 //! Reads the files of tables, one after the other.
 //! The rules: docs/REFUSALS.md, "Order".
-ghost use Rattle.std.specs.Prelude.{◌≡◌, ◌≤◌, IfOk, IfErr, IfSome, OnOk, Ok, All};
-ghost use Rattle.std.specs.List.{filter};
+ghost use Rattle.std.specs.Prelude.{◌≡◌, ◌≤◌, true, IfErr, IfSome, OnOk, Ok, All};
+ghost use Rattle.std.specs.List.{filter, list_any};
 ghost use Rattle.kt_rec.specs.Rows.{rows_of};
 ghost use Rattle.kt_rec.specs.TableNames.{IsTableId};
 ghost use Rattle.kt_rec.specs.TableSet.{is_in};
 ghost use Rattle.kt_load.specs.Ends.{TellsLoad, AfterLoad};
-ghost use Rattle.kt_load.specs.FileNames.{file_name_of};
+ghost use Rattle.kt_load.specs.FileNames.{file_name_of, table_at};
 ghost use Rattle.kt_load.specs.Reading.{with_file, with_files};
 ghost use Rattle.kt_load.specs.Reading.{file_limit, with_size};
 ghost use Rattle.kt_load.specs.Ends.{bytes_wanted};
-ghost use Rattle.kt_rec.specs.Ranges.{AreInRange};
-ghost use Rattle.kt_load.specs.Steps.{KeepsRows, NoneOutside};
+ghost use Rattle.kt_rec.specs.Ranges.{AreInRange, ArePeriods};
+ghost use Rattle.kt_rec.specs.declared.table.Table.TheVariants as table;
+ghost use Rattle.kt_load.specs.Steps.{KeepsRows, NoneOutside, has_periods};
 
 use crate::file::read_front;
 use crate::naming::file_name;
@@ -93,6 +94,7 @@ pub(crate) fn read_tables<I: Inputs>(
     requires { All IsTableId ids.now }
     ensures ok { OnOk result (IfSome (I.state inputs.old).held (λ files. with_files files (filter (is_in set.now) ids.now) (rows_of tables.old) ≡ Ok (rows_of tables.new))) }
     ensures in_range { OnOk result (AreInRange (rows_of tables.old) → AreInRange (rows_of tables.new)) }
+    ensures periods { OnOk result (list_any has_periods ids.now ≡ true → is_in set.now (table_at 0 table.Occurrence) ≡ true → ArePeriods (rows_of tables.new).periods) }
     ensures outside { OnOk result (NoneOutside set.now (rows_of tables.old) → NoneOutside set.now (rows_of tables.new)) }
 
     ensures refused { IfErr result (λ stop. IfSome (I.state inputs.old).held (λ files. TellsLoad (with_files files (filter (is_in set.now) ids.now) (rows_of tables.old)) stop)) }

@@ -14,3 +14,4 @@ pub mod Splitting
 pub mod RecordReading
 pub mod RecordsGood
 pub mod RunLists
+pub mod KnownReading

@@ -23,7 +23,7 @@ fault_refused n Partial stop is = absurd (none_is_some stop is)
 fault_refused n (Refused other) stop is = is
 
 module _ {E : Type 0} (form : Form E) where
-  abbrev Stays : Type 0
+  abbrev pub Stays : Type 0
   Stays = (shape : Shape) (bytes more : List ℕ) → GrowsTo E (stream_of form shape bytes) (stream_of form shape (bytes ++ more))
 
   -- ---- more bytes
@@ -98,7 +98,7 @@ module _ {E : Type 0} (form : Form E) where
 
   -- ---- the laws
 
-  abbrev HeadFirst : Type 0
+  abbrev pub HeadFirst : Type 0
   HeadFirst = (shape : Shape) (bytes : List ℕ) → (stream_of form shape bytes).head ≡ None → (stream_of form shape bytes).entries ≡ []
 
   pub grows_so : (stays : Stays) (first : HeadFirst) (contents : List ℕ → Contents Head E) (fed : List ℕ) (taken : List (Placed E)) (r : Reading E) → StandsFor E form contents fed taken r → (bytes more : List ℕ) → Grows (contents bytes) (contents (bytes ++ more))

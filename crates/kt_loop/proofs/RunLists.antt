@@ -27,7 +27,8 @@ module _ {E : Type 0} (key : E → RunKey) where
   records_all runs (next ∷ later) =
       records_all (read_more key runs next) later ∙ ap (λ (xs : List (Placed E)). xs ++ later) (records_more (joins key runs.last next) runs next) ∙ append_assoc (records runs) (next ∷ []) later
 
-  run_longer : (run : List (Placed E)) (next : Placed E) → IsRun key run → joins key run next ≡ true → IsRun key (run ++ next ∷ [])
+  -- a run with a record that goes on it
+  pub run_longer : (run : List (Placed E)) (next : Placed E) → IsRun key run → joins key run next ≡ true → IsRun key (run ++ next ∷ [])
   run_longer [] next is joined = tt
   run_longer (last ∷ []) next is joined = (joined, tt)
   run_longer (first ∷ (second ∷ later)) next is joined = (is.0, run_longer (second ∷ later) next is.1 joined)

@@ -13,3 +13,4 @@ pub mod Runs
 pub mod ByRun
 pub mod RunSteps
 pub mod RecordStreams
+pub mod KnownStreams

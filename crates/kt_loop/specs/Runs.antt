@@ -3,6 +3,7 @@
 use Rattle.std.specs.Prelude.{◌≡◌, ℕ, Bool, true, false, nat_eq, nat_lt, ◌&&◌, ◌||◌, List, [], ◌∷◌, ◌++◌}
 use Rattle.std.specs.List.{AllByRecursion, flat_map}
 use Rattle.kt_stream.specs.declared.entry.Placed.{Placed}
+use Rattle.kt_stream.specs.declared.entry.Cdf.{Cdf}
 use Rattle.kt_stream.specs.declared.entry.LossRecord.{LossRecord}
 use Rattle.kt_stream.specs.declared.entry.SummaryRecord.{SummaryRecord}
 use Rattle.kt_loop.specs.declared.run_key.RunKey.{RunKey}
@@ -63,6 +64,10 @@ IsRun key (first ∷ (second ∷ later)) = (goes_on (key first.entry) (key secon
 pub record AreRuns {E : Type 0} (key : E → RunKey) (runs : List (List (Placed E))) (entries : List (Placed E)) : Type 0 where
   pub whole : flat_map (λ run. run) runs ≡ entries
   pub each : AllByRecursion (IsRun key) runs
+
+-- a distribution stands in a run by its event, its areaperil and its vulnerability
+abbrev pub cdf_key : Cdf → RunKey
+cdf_key entry = record { event = entry.event; id = entry.areaperil; second = entry.vulnerability }
 
 -- a loss record stands in a run by its event and its id
 abbrev pub loss_key : LossRecord → RunKey

@@ -16,7 +16,7 @@ ghost use Rattle.kt_loop.specs.Counts.{Consults};
 ghost use Rattle.kt_loop.specs.Reading.{IsFresh, ReadsGood};
 ghost use Rattle.kt_loop.specs.RunSteps.{JudgesBy, ClosesBy, unwritten};
 ghost use Rattle.kt_loop.specs.Running.{EndsRun};
-ghost use Rattle.kt_loop.specs.Runs.{bare, joins};
+ghost use Rattle.kt_loop.specs.Runs.{IsRun, bare, joins};
 ghost use Rattle.kt_loop.specs.Steps.{StepsBy};
 
 use crate::reader::StreamReader;
@@ -31,7 +31,7 @@ use std::alloc::Global;
 
 /// A stage that gives, for a record behind those of its run, a refusal, and for the records of a closed run, the
 /// bytes. `W` is what it asks beside the stream: the input files, or `()`.
-pub trait RunStage<H, E, W> {
+pub trait RunStage<H, E: RunRecord, W> {
     /// What the stage was made with.
     ghost Kept: { Type 0 };
 
@@ -41,8 +41,8 @@ pub trait RunStage<H, E, W> {
     /// It was made with this. Where files are asked that are not known it may stand for nothing.
     ghost is_at: { Kept → Self → W → Type 0 };
 
-    /// It is ready for a header, or for the records behind this one, with what it asks beside.
-    ghost is_ready: { Option H → Self → W → Type 0 };
+    /// It is ready for a header, or behind it for the record that follows these of the open run, with what it asks beside.
+    ghost is_ready: { Option H → List (Placed E) → Self → W → Type 0 };
 
     /// A header that it can take.
     ghost accepts: { H → Type 0 };
@@ -56,10 +56,10 @@ pub trait RunStage<H, E, W> {
     /// Appends what is written at the header.
     fn open(&mut self, beside: &mut W, head: H, out: &mut Bytes) -> Result<(), ToolStop>
         requires accepted { accepts head }
-        requires ready { is_ready None self.old beside.old }
+        requires ready { is_ready None [] self.old beside.old }
 
         ensures step { (kept : Kept) → is_at kept self.old beside.old → StepsBy (runs.opens head kept) (λ next. is_at next self.new beside.new) out.old out.new result }
-        ensures ready { OnOk result (is_ready (Some head) self.new beside.new) }
+        ensures ready { OnOk result (is_ready (Some head) [] self.new beside.new) }
         ensures counted { (others : InputsState) → Consults (inputs others beside.old) (inputs others beside.new) result };
 
     /// Judges a record that stands behind the records of its run.
@@ -73,10 +73,11 @@ pub trait RunStage<H, E, W> {
         requires accepted { accepts head }
         requires good { AllByRecursion (is_good head) run.now }
         requires next { is_good head placed.now }
-        requires ready { is_ready (Some head) self.old beside.old }
+        requires rising { IsRun E.key (run.now ++ placed.now ∷ []) }
+        requires ready { is_ready (Some head) run.now self.old beside.old }
 
         ensures judged { (kept : Kept) → is_at kept self.old beside.old → JudgesBy (runs.refuses head kept run.now placed.now) (is_at kept self.new beside.new) result }
-        ensures ready { OnOk result (is_ready (Some head) self.new beside.new) }
+        ensures ready { OnOk result (is_ready (Some head) (run.now ++ placed.now ∷ []) self.new beside.new) }
         ensures counted { (others : InputsState) → Consults (inputs others beside.old) (inputs others beside.new) result };
 
     /// Appends what the records of a closed run give.
@@ -89,10 +90,11 @@ pub trait RunStage<H, E, W> {
     ) -> Result<(), ToolStop>
         requires accepted { accepts head }
         requires good { AllByRecursion (is_good head) run.now }
-        requires ready { is_ready (Some head) self.old beside.old }
+        requires rising { IsRun E.key run.now }
+        requires ready { is_ready (Some head) run.now self.old beside.old }
 
         ensures closed { (kept : Kept) → is_at kept self.old beside.old → ClosesBy (runs.closes head kept (bare run.now)) (is_at kept self.new beside.new) out.old out.new result }
-        ensures ready { OnOk result (is_ready (Some head) self.new beside.new) }
+        ensures ready { OnOk result (is_ready (Some head) [] self.new beside.new) }
         ensures counted { (others : InputsState) → Consults (inputs others beside.old) (inputs others beside.new) result };
 }
 
@@ -115,7 +117,7 @@ fn joins_run<E: RunRecord>(run: &[Placed<E>], placed: &Placed<E>) -> bool
 }
 
 /// Judges a record, and keeps it behind those of its run.
-fn judge_next<H: Copy, E: Drop, W, C: RunStage<H, E, W>>(
+fn judge_next<H: Copy, E: RunRecord + Drop, W, C: RunStage<H, E, W>>(
     it: &mut ByRun<E, C>,
     beside: &mut W,
     head: H,
@@ -124,11 +126,13 @@ fn judge_next<H: Copy, E: Drop, W, C: RunStage<H, E, W>>(
     requires accepted { C.accepts head }
     requires good { AllByRecursion (C.is_good head) it.old.run.items }
     requires next { C.is_good head placed }
-    requires ready { C.is_ready (Some head) it.old.stage beside.old }
+    requires rising { IsRun E.key (it.old.run.items ++ placed ∷ []) }
+    requires ready { C.is_ready (Some head) it.old.run.items it.old.stage beside.old }
 
     ensures step { (kept : C.Kept) → C.is_at kept it.old.stage beside.old → StepsBy (unwritten (judged kept it.old.run.items placed (C.runs.refuses head kept it.old.run.items placed))) (λ next. C.is_at next.kept it.new.stage beside.new × (it.new.run.items ≡ next.run)) [] [] result }
     ensures good { OnOk result (AllByRecursion (C.is_good head) it.new.run.items) }
-    ensures ready { OnOk result (C.is_ready (Some head) it.new.stage beside.new) }
+    ensures rising { OnOk result (IsRun E.key it.new.run.items) }
+    ensures ready { OnOk result (C.is_ready (Some head) it.new.run.items it.new.stage beside.new) }
     ensures counted { (others : InputsState) → Consults (C.inputs others beside.old) (C.inputs others beside.new) result }
 {
     if let Err(why) = it.stage.judge(beside, head, it.run.as_slice(), &placed) {
@@ -141,7 +145,7 @@ fn judge_next<H: Copy, E: Drop, W, C: RunStage<H, E, W>>(
 }
 
 /// Closes the open run, if there is one.
-fn close_open<H: Copy, E: Drop, W, C: RunStage<H, E, W>>(
+fn close_open<H: Copy, E: RunRecord + Drop, W, C: RunStage<H, E, W>>(
     it: &mut ByRun<E, C>,
     beside: &mut W,
     head: H,
@@ -149,11 +153,12 @@ fn close_open<H: Copy, E: Drop, W, C: RunStage<H, E, W>>(
 ) -> Result<(), ToolStop>
     requires accepted { C.accepts head }
     requires good { AllByRecursion (C.is_good head) it.old.run.items }
-    requires ready { C.is_ready (Some head) it.old.stage beside.old }
+    requires rising { IsRun E.key it.old.run.items }
+    requires ready { C.is_ready (Some head) it.old.run.items it.old.stage beside.old }
 
     ensures closed { (kept : C.Kept) → C.is_at kept it.old.stage beside.old → ClosesBy (closing C.runs head kept it.old.run.items) (C.is_at kept it.new.stage beside.new) out.old out.new result }
     ensures emptied { OnOk result (it.new.run.items ≡ []) }
-    ensures ready { OnOk result (C.is_ready (Some head) it.new.stage beside.new) }
+    ensures ready { OnOk result (C.is_ready (Some head) [] it.new.stage beside.new) }
     ensures counted { (others : InputsState) → Consults (C.inputs others beside.old) (C.inputs others beside.new) result }
 {
     if it.run.is_empty() {
@@ -171,6 +176,7 @@ impl<H: Copy, E: RunRecord + Drop, W, C: RunStage<H, E, W>> Stage<H, E, W> for B
     ghost use Rattle.std.specs.List.{AllByRecursion};
     ghost use Rattle.kt_loop.specs.ByRun.{OpenRun, by_run};
     ghost use Rattle.kt_loop.specs.RunSteps.{IsReady};
+    ghost use Rattle.kt_loop.specs.Runs.{IsRun};
 
     ghost State = { OpenRun C.Kept E };
 
@@ -178,7 +184,7 @@ impl<H: Copy, E: RunRecord + Drop, W, C: RunStage<H, E, W>> Stage<H, E, W> for B
 
     ghost is_at = { λ state it beside. C.is_at state.kept it.stage beside × (it.run.items ≡ state.run) };
 
-    ghost is_ready = { λ header it beside. C.is_ready header it.stage beside × IsReady C.is_good header it.run.items };
+    ghost is_ready = { λ header it beside. C.is_ready header it.run.items it.stage beside × (IsReady C.is_good header it.run.items × IsRun E.key it.run.items) };
 
     ghost accepts = { C.accepts };
 
@@ -228,7 +234,7 @@ where
     R::Entry: RunRecord + Drop,
     requires fresh { IsFresh R.represents reader.old }
     requires good { ReadsGood R.represents C.accepts C.is_good [] reader.old }
-    requires ready { C.is_ready None stage beside.old }
+    requires ready { C.is_ready None [] stage beside.old }
 
     ensures ended { (asks : Bool) (made : FileMap → List ℕ → Outcome) (others : InputsState) (outputs : OutputsState) (contents : List ℕ → Contents R.Head R.Entry) → R.represents contents [] [] reader.old → EndsRun (by_run R.Entry.key C.runs) contents (λ state. C.is_at state.kept stage beside.old × ([] ≡ state.run)) asks made (world (C.inputs others beside.old) outputs (S.state source.old) (K.state sink.old)) (world (C.inputs others beside.new) outputs (S.state source.new) (K.state sink.new)) (end_status result) }
 {

@@ -4,6 +4,7 @@
 mod block;
 mod by_run;
 mod carry;
+mod known_reader;
 pub mod laws;
 mod reader;
 mod record_reader;
@@ -15,6 +16,7 @@ mod turn;
 
 pub use block::{BLOCK, zeros};
 pub use by_run::{RunStage, run_by_run};
+pub use known_reader::{KnownHead, KnownReader};
 pub use reader::StreamReader;
 pub use run::run_stage;
 pub use run_key::{RunKey, RunRecord};

@@ -3,7 +3,7 @@
 ghost use Rattle.std.specs.Prelude.{◌≡◌};
 ghost use Rattle.kt_loop.specs.Runs.{goes_on};
 
-use kt_stream::{LossRecord, SummaryRecord};
+use kt_stream::{Cdf, LossRecord, SummaryRecord};
 
 /// The event of a record and its id: one number, or two, of which the first counts most.
 #[derive(Clone, Copy, Debug, PartialEq, Eq)]
@@ -26,6 +26,20 @@ pub trait RunRecord {
     /// Its event and its id.
     fn run_key(&self) -> RunKey
         ensures { result ≡ key self.now };
+}
+
+impl RunRecord for Cdf {
+    ghost use Rattle.kt_loop.specs.Runs.{cdf_key};
+
+    ghost key = { cdf_key };
+
+    fn run_key(&self) -> RunKey {
+        RunKey {
+            event: self.event,
+            id: self.areaperil,
+            second: self.vulnerability,
+        }
+    }
 }
 
 impl RunRecord for LossRecord {

@@ -20,7 +20,7 @@ use Rattle.kt_stream.specs.declared.entry.Bin.{Bin}
 use Rattle.kt_stream.specs.declared.entry.Cdf.{Cdf}
 use Rattle.kt_tables.specs.Lookups.{item_pairs, pair_of, pair_order}
 use Rattle.kt_model.specs.Distribution.{bins_behind, meets, chance_of, distribution_of, record_with, record_of, distributions_of}
-use Rattle.kt_model.specs.FootRows.{areaperil_total}
+use Rattle.kt_foot.specs.FootRows.{areaperil_total}
 
 -- bins make a record
 record_some : (event : ℕ) (pair : ℕ × ℕ) (bins : List Bin) → nat_eq (length bins) 0 ≡ false → record_with event pair bins ≡ Some (record { event = event; areaperil = pair.0; vulnerability = pair.1; bins = bins })
@@ -33,7 +33,7 @@ record_none event pair [] none = refl
 record_none event pair (b ∷ bins) none = absurd (let e = eqb-true (length (b ∷ bins)) 0 none in omega arith)
 
 -- what one more of a list adds to what is made of it
-filter_map_more : {X Y : Type 0} (f : X → Option Y) (xs : List X) (i : ℕ) (d : X) → i < length xs → filter_map f (take (i + 1) xs) ≡ filter_map f (take i xs) ++ cons_option (f (get_or xs i d)) []
+pub filter_map_more : {X Y : Type 0} (f : X → Option Y) (xs : List X) (i : ℕ) (d : X) → i < length xs → filter_map f (take (i + 1) xs) ≡ filter_map f (take i xs) ++ cons_option (f (get_or xs i d)) []
 filter_map_more f xs i d within = ap (filter_map f) (take_more xs i d within) ∙ filter_map-append f (take i xs) (get_or xs i d ∷ [])
 
 module _ (rows : Rows) (event : ℕ) (foot : List FootRow) (pairs : List (ℕ × ℕ)) (i : ℕ) (d : ℕ × ℕ) (within : i < length pairs) (records : List Cdf) (bins : List Bin) (was : records ≡ filter_map (record_of rows event foot) (take i pairs)) (is : bins ≡ distribution_of rows foot (get_or pairs i d).0 (get_or pairs i d).1) where

@@ -1,4 +1,2 @@
-pub mod FootRows
 pub mod Distribution
-pub mod Seen
 pub mod Scratch

@@ -1,6 +1,6 @@
 -- The chances that the rows of one areaperil add up to.
-use Rattle.std.specs.Prelude.{◌≡◌, ℕ, ◌*◌, ◌<◌, cond, nat_eq, List, length, slice_index, slice_index_or}
-use Rattle.std.specs.List.{sum_by}
+use Rattle.std.specs.Prelude.{◌≡◌, ℕ, ◌*◌, ◌<◌, cond, nat_eq, List, [], length, slice_index, slice_index_or}
+use Rattle.std.specs.List.{filter, sum_by}
 use Rattle.kt_rec.specs.Rows.{Rows}
 use Rattle.kt_rec.specs.declared.hazard.DamageBin.{DamageBin}
 use Rattle.kt_rec.specs.declared.hazard.FootRow.{FootRow}
@@ -18,3 +18,7 @@ chance_in rows foot vulnerability bin = sum_by (λ row. chance_at (damages_at ro
 -- a list has the chance of each bin of the dictionary at its row
 abbrev pub AreChances : (ℕ → ℕ) → List ℕ → List DamageBin → Type 0
 AreChances chance chances dictionary = (k : ℕ) (d : DamageBin) → k < length dictionary → chance (slice_index_or dictionary k d).bin_index ≡ slice_index chances k
+
+-- no row is of an areaperil
+abbrev pub HasNone : List FootRow → ℕ → Type 0
+HasNone rows areaperil = filter (λ row. nat_eq row.areaperil areaperil) rows ≡ []

@@ -8,13 +8,14 @@ ghost use Rattle.kt_stream.specs.Bins.{AreBins, IsCdf};
 ghost use Rattle.kt_stream.specs.Pairs.{IsId};
 ghost use Rattle.kt_tables.specs.DamageLaws.{KeepsDamage};
 ghost use Rattle.kt_tables.specs.Portfolio.{IsPortfolio};
-ghost use Rattle.kt_model.specs.declared.foot_rows.ModelStop.TheVariants.{OutOfMemory};
+ghost use Rattle.kt_foot.specs.declared.foot_rows.ModelStop.TheVariants.{OutOfMemory};
 ghost use Rattle.kt_model.specs.Distribution.{distribution_of, distributions_of};
-ghost use Rattle.kt_model.specs.FootRows.{areaperil_total, first_refused_row};
+ghost use Rattle.kt_foot.specs.FootRows.{areaperil_total, first_refused_row};
 
 use crate::bins::bins_of;
 use crate::chances::{add_rows, clear, no_chances};
-use crate::foot_rows::{ModelStop, check_rows};
+use crate::pairs::next_struck;
+use kt_foot::{ModelStop, check_rows};
 use kt_index::ByKey;
 use kt_rec::FootRow;
 use kt_stream::{Bins, Cdf, Records};
@@ -64,8 +65,11 @@ fn records_of(
     let mut memory = no_chances(alloc, portfolio.damage_bins().len())?;
     let chances = memory.as_mut_slice();
     let mut records = Records::new(alloc);
-    for pair in portfolio.pairs() {
-        let (areaperil, vulnerability) = *pair;
+    let pairs = portfolio.pairs();
+    let mut place = next_struck(pairs, foot.as_slice(), 0);
+    while place < pairs.len() {
+        let (areaperil, vulnerability) = pairs[place];
+        place = next_struck(pairs, foot.as_slice(), place + 1);
         let bins = pair_bins(alloc, portfolio, foot, chances, areaperil, vulnerability)?;
         if !bins.as_slice().is_empty() {
             records.push(Cdf {

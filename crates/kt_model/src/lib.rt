@@ -4,8 +4,8 @@
 mod bins;
 mod chances;
 mod event;
-mod foot_rows;
+mod pairs;
 mod shared;
 
 pub use event::distributions;
-pub use foot_rows::{ModelStop, RowCause};
+pub use kt_foot::{ModelStop, RowCause};

@@ -1,13 +1,10 @@
 //! The public types may be sent to threads and shared by them.
-use crate::foot_rows::{ModelStop, RowCause};
 use kt_stream::{Cdf, Records};
 
 /// Takes what may be sent to threads and shared by them.
 fn is_shared<T: Send + Sync>(_: &T) {}
 
 /// Each public type once.
-pub(crate) fn are_shared(records: &Records<Cdf>, stop: &ModelStop, cause: &RowCause) {
+pub(crate) fn are_shared(records: &Records<Cdf>) {
     is_shared(records);
-    is_shared(stop);
-    is_shared(cause);
 }

@@ -2,3 +2,4 @@ pub mod AnswerLemmas
 pub mod ItemLemmas
 pub mod ExposureLemmas
 pub mod DamageLemmas
+pub mod SummaryLemmas

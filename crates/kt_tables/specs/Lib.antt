@@ -3,3 +3,5 @@ pub mod Portfolio
 pub mod Kept
 pub mod PortfolioLaws
 pub mod DamageLaws
+pub mod SummaryLaws
+pub mod PeriodLaws

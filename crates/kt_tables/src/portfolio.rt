@@ -4,9 +4,10 @@ ghost use Rattle.std.specs.Prelude.{◌≡◌, ◌⊎◌, true, None, IfOk, IfEr
 ghost use Rattle.kt_rec.specs.Ranges.{AreInRange};
 ghost use Rattle.kt_rec.specs.Rows.{rows_of};
 ghost use Rattle.kt_checks.specs.Checks.{first_refusal, samples_refusal, answer_of};
-ghost use Rattle.kt_tables.specs.Portfolio.{HasOnlyNeeded, IsPortfolio};
+ghost use Rattle.kt_tables.specs.Portfolio.{HasOnlyNeeded, HasPeriods, IsPortfolio, KeepsPeriods};
 ghost use Rattle.kt_tables.specs.Lookups.{event_ids};
 ghost use Rattle.kt_tables.specs.DamageLaws.{KeepsDamage};
+ghost use Rattle.kt_tables.specs.SummaryLaws.{KeepsSummaries};
 ghost use Rattle.kt_keys.specs.Refusals.{is_loaded};
 ghost use Rattle.kt_rec.specs.declared.table.Table.TheVariants as table;
 
@@ -46,6 +47,7 @@ impl Portfolio {
     pub fn new(alloc: Global, tables: Tables, need: Need) -> Result<Portfolio, CheckStop>
         requires ranges { AreInRange (rows_of tables) }
         requires needed { HasOnlyNeeded (rows_of tables) need }
+        requires periods { HasPeriods (rows_of tables) need }
         ensures ok { IfOk result (λ portfolio. portfolio ≡ record { rows = rows_of tables; need = need }) }
         ensures valid { IfOk result (λ _. first_refusal (rows_of tables) need ≡ None) }
 
@@ -103,6 +105,23 @@ impl Portfolio {
     pub fn keeps_damage(&self)
         requires loaded { is_loaded self.now.need 0 table.DamageBinDict ≡ true }
         ensures kept { KeepsDamage self.now.rows }
+    {
+        let _ = &self.need;
+    }
+
+    /// Says what every portfolio keeps of summaries: what a set has for an id is an id, and no exposure is above 10^14 cents,
+    /// since the coverages of all items, one for each item, are worth no more.
+    pub fn keeps_summaries(&self)
+        ensures kept { KeepsSummaries self.now }
+    {
+        let _ = &self.need;
+    }
+
+    /// Says what every portfolio keeps of periods where the occurrences are loaded: there are 1 to 100,000, and each
+    /// occurrence is in one of them.
+    pub fn keeps_periods(&self)
+        requires loaded { is_loaded self.now.need 0 table.Occurrence ≡ true }
+        ensures kept { KeepsPeriods self.now.rows }
     {
         let _ = &self.need;
     }

@@ -5,3 +5,6 @@ pub mod EveLemmas
 pub mod FootprintLemmas
 pub mod Loaded
 pub mod Running
+pub mod SummaryLemmas
+mod GulLemmas
+mod ModelLemmas

@@ -24,37 +24,48 @@ use Rattle.kt_tools.specs.Loading.{load_stop}
 use Rattle.kt_tools.specs.Outcome.{with_tables}
 use Rattle.kt_tools.proofs.Converting.{told_of}
 
-module _ (uses : Uses) (need : Need) (made : Rows → List ℕ → Outcome) (before now : InputsState) (outputs : OutputsState) (source : SourceState) (sink : SinkState) (used : uses.inputs ≡ true) where
+-- A tool that makes its outcome of the files and of the rows of its tables.
+module _ (uses : Uses) (need : Need) (made : FileMap → Rows → List ℕ → Outcome) (before now : InputsState) (outputs : OutputsState) (source : SourceState) (sink : SinkState) (used : uses.inputs ≡ true) where
   -- what is found is what the files tell
   told : (P : FileMap → Type 0) → IfSome before.held P → (files : FileMap) (bytes : List ℕ) → Finds uses (world before outputs source sink) files bytes → P files
   told P holds files bytes finds = told_of P before.held files (finds.files_told used) holds
 
   -- the outcome where the tables are refused
-  is_refused : (stop : LoadStop) → IfSome before.held (λ files. loaded files need ≡ Err stop) → (files : FileMap) (bytes : List ℕ) → Finds uses (world before outputs source sink) files bytes → with_tables (loaded files need) (λ rows. made rows bytes) ≡ nothing (stop_status (load_stop stop))
-  is_refused stop tells files bytes finds = ap (λ (r : Result Rows LoadStop). with_tables r (λ rows. made rows bytes)) (told (λ f. loaded f need ≡ Err stop) tells files bytes finds)
+  is_refused : (stop : LoadStop) → IfSome before.held (λ files. loaded files need ≡ Err stop) → (files : FileMap) (bytes : List ℕ) → Finds uses (world before outputs source sink) files bytes → with_tables (loaded files need) (λ rows. made files rows bytes) ≡ nothing (stop_status (load_stop stop))
+  is_refused stop tells files bytes finds = ap (λ (r : Result Rows LoadStop). with_tables r (λ rows. made files rows bytes)) (told (λ f. loaded f need ≡ Err stop) tells files bytes finds)
 
   -- nothing was counted
   way : now ≡ before → UnderWay uses (world before outputs source sink) (world now outputs source sink)
   way same = record { inputs = same; outputs = refl; sink = refl; reads = refl; source = λ unused. refl }
 
   -- a refusal that is no missing file
-  refuses : (stop : LoadStop) (why : Refusal) → (IsMissing (status.Refused why) → ⊥) → stop_status (load_stop stop) ≡ status.Refused why → now ≡ before → IfSome before.held (λ files. loaded files need ≡ Err stop) → Ended (Finds uses (world before outputs source sink)) uses (λ files bytes. with_tables (loaded files need) (λ rows. made rows bytes)) (world before outputs source sink) (world now outputs source sink) (status.Refused why)
+  refuses : (stop : LoadStop) (why : Refusal) → (IsMissing (status.Refused why) → ⊥) → stop_status (load_stop stop) ≡ status.Refused why → now ≡ before → IfSome before.held (λ files. loaded files need ≡ Err stop) → Ended (Finds uses (world before outputs source sink)) uses (λ files bytes. with_tables (loaded files need) (λ rows. made files rows bytes)) (world before outputs source sink) (world now outputs source sink) (status.Refused why)
   refuses stop why other is same tells = ends_refused _ uses _ _ _ why other (way same) (λ files bytes finds. is_refused stop tells files bytes finds ∙ ap nothing is)
 
   -- the tables were not loaded
+  pub ends_unloaded_by : (stop : LoadStop) → IfSome before.held (λ files. TellsLoad (loaded files need) stop) → AfterStop before now stop → Ended (Finds uses (world before outputs source sink)) uses (λ files bytes. with_tables (loaded files need) (λ rows. made files rows bytes)) (world before outputs source sink) (world now outputs source sink) (stop_status (load_stop stop))
+  ends_unloaded_by load.ReadFault tells after = ends_unread_files _ uses _ _ _ used after refl refl refl
+  ends_unloaded_by load.OutOfMemory tells after = ends_for_memory _ uses _ _ _ (way after)
+  ends_unloaded_by (load.Missing name) tells after = ends_missing _ uses _ _ _ name used after refl refl refl (is_refused (load.Missing name) tells)
+  ends_unloaded_by (load.TooLarge name) tells after = refuses (load.TooLarge name) _ (λ missing. missing) refl after tells
+  ends_unloaded_by (load.Table name table.NotProfile) tells after = refuses (load.Table name table.NotProfile) _ (λ missing. missing) refl after tells
+  ends_unloaded_by (load.Table name (table.WrongTable found)) tells after = refuses (load.Table name (table.WrongTable found)) _ (λ missing. missing) refl after tells
+  ends_unloaded_by (load.Table name (table.WrongVersion found)) tells after = refuses (load.Table name (table.WrongVersion found)) _ (λ missing. missing) refl after tells
+  ends_unloaded_by (load.Table name (table.CutRecord row)) tells after = refuses (load.Table name (table.CutRecord row)) _ (λ missing. missing) refl after tells
+  ends_unloaded_by (load.Table name (table.Bad row column cause)) tells after = refuses (load.Table name (table.Bad row column cause)) _ (λ missing. missing) refl after tells
+  ends_unloaded_by (load.Table name table.OutOfMemory) tells after = ends_for_memory _ uses _ _ _ (way after)
+  ends_unloaded_by (load.Check number name row) tells after = refuses (load.Check number name row) _ (λ missing. missing) refl after tells
+
+  -- the outcome where they were loaded
+  pub is_loaded_by : (rows : Rows) → IfSome before.held (λ files. loaded files need ≡ Ok rows) → (files : FileMap) (bytes : List ℕ) → Finds uses (world before outputs source sink) files bytes → with_tables (loaded files need) (λ rows. made files rows bytes) ≡ made files rows bytes
+  is_loaded_by rows tells files bytes finds = ap (λ (r : Result Rows LoadStop). with_tables r (λ rows. made files rows bytes)) (told (λ f. loaded f need ≡ Ok rows) tells files bytes finds)
+
+-- The same of a tool that makes nothing else of the files than the rows of its tables.
+module _ (uses : Uses) (need : Need) (made : Rows → List ℕ → Outcome) (before now : InputsState) (outputs : OutputsState) (source : SourceState) (sink : SinkState) (used : uses.inputs ≡ true) where
+  -- the tables were not loaded
   pub ends_unloaded : (stop : LoadStop) → IfSome before.held (λ files. TellsLoad (loaded files need) stop) → AfterStop before now stop → Ended (Finds uses (world before outputs source sink)) uses (λ files bytes. with_tables (loaded files need) (λ rows. made rows bytes)) (world before outputs source sink) (world now outputs source sink) (stop_status (load_stop stop))
-  ends_unloaded load.ReadFault tells after = ends_unread_files _ uses _ _ _ used after refl refl refl
-  ends_unloaded load.OutOfMemory tells after = ends_for_memory _ uses _ _ _ (way after)
-  ends_unloaded (load.Missing name) tells after = ends_missing _ uses _ _ _ name used after refl refl refl (is_refused (load.Missing name) tells)
-  ends_unloaded (load.TooLarge name) tells after = refuses (load.TooLarge name) _ (λ missing. missing) refl after tells
-  ends_unloaded (load.Table name table.NotProfile) tells after = refuses (load.Table name table.NotProfile) _ (λ missing. missing) refl after tells
-  ends_unloaded (load.Table name (table.WrongTable found)) tells after = refuses (load.Table name (table.WrongTable found)) _ (λ missing. missing) refl after tells
-  ends_unloaded (load.Table name (table.WrongVersion found)) tells after = refuses (load.Table name (table.WrongVersion found)) _ (λ missing. missing) refl after tells
-  ends_unloaded (load.Table name (table.CutRecord row)) tells after = refuses (load.Table name (table.CutRecord row)) _ (λ missing. missing) refl after tells
-  ends_unloaded (load.Table name (table.Bad row column cause)) tells after = refuses (load.Table name (table.Bad row column cause)) _ (λ missing. missing) refl after tells
-  ends_unloaded (load.Table name table.OutOfMemory) tells after = ends_for_memory _ uses _ _ _ (way after)
-  ends_unloaded (load.Check number name row) tells after = refuses (load.Check number name row) _ (λ missing. missing) refl after tells
+  ends_unloaded stop tells after = ends_unloaded_by uses need (λ files. made) before now outputs source sink used stop tells after
 
   -- the outcome where they were loaded
   pub is_loaded : (rows : Rows) → IfSome before.held (λ files. loaded files need ≡ Ok rows) → (files : FileMap) (bytes : List ℕ) → Finds uses (world before outputs source sink) files bytes → with_tables (loaded files need) (λ rows. made rows bytes) ≡ made rows bytes
-  is_loaded rows tells files bytes finds = ap (λ (r : Result Rows LoadStop). with_tables r (λ rows. made rows bytes)) (told (λ f. loaded f need ≡ Ok rows) tells files bytes finds)
+  is_loaded rows tells files bytes finds = is_loaded_by uses need (λ files. made) before now outputs source sink used rows tells files bytes finds

@@ -1,5 +1,10 @@
 pub mod EltOutcome
 pub mod PltOutcome
+pub mod SummaryOutcome
+pub mod SummaryStage
+pub mod ModelOutcome
+pub mod ModelStage
+pub mod GulOutcome
 pub mod Outcome
 pub mod Uses
 pub mod Loading

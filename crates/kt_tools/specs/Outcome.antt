@@ -18,8 +18,11 @@ use Rattle.kt_tables.specs.Lookups.{event_ids}
 use Rattle.kt_tools.specs.Loading.{need_of, load_stop}
 use Rattle.kt_tools.specs.EltOutcome.{elt_outcome}
 use Rattle.kt_tools.specs.PltOutcome.{plt_rows_outcome}
+use Rattle.kt_tools.specs.SummaryOutcome.{summary_need, summary_rows_outcome}
 use Rattle.kt_words.specs.declared.command.Command.{Command}
-use Rattle.kt_words.specs.declared.command.Command.TheVariants.{Eltcalc, Pltcalc, Convert, FootprintText, Eve}
+use Rattle.kt_words.specs.declared.command.Command.TheVariants.{Summarycalc, Eltcalc, Pltcalc, Convert, FootprintText, Eve, Getmodel, Gulcalc}
+use Rattle.kt_tools.specs.ModelOutcome.{model_need, model_rows_outcome}
+use Rattle.kt_tools.specs.GulOutcome.{gul_need, gul_rows_outcome}
 use Rattle.kt_words.specs.declared.command.Conversion.{Conversion}
 use Rattle.kt_words.specs.declared.stop.WordStop.{WordStop}
 use Rattle.kt_ends.specs.declared.status.Refusal.TheVariants.{TooLarge, Check}
@@ -68,10 +71,25 @@ footprint_outcome files source = with_tables (loaded files (need_of table.Footpr
 abbrev pub plt_outcome : Bool → FileMap → List ℕ → Outcome
 plt_outcome heading files source = with_tables (loaded files (need_of table.Occurrence)) (λ rows. plt_rows_outcome heading rows source)
 
+-- the summaries of a set, by the items or outputs among the tables
+abbrev pub summary_outcome : Bool → ℕ → ℕ → FileMap → List ℕ → Outcome
+summary_outcome items set rule files source = with_tables (loaded files (summary_need items rule)) (λ rows. summary_rows_outcome items set rule rows source)
+
+-- the damage distributions of the events of the source, by the tables and the footprint
+abbrev pub model_outcome : FileMap → List ℕ → Outcome
+model_outcome files source = with_tables (loaded files model_need) (λ rows. model_rows_outcome files rows source)
+
+-- the ground-up losses of the distributions of the source, by the tables
+abbrev pub gul_outcome : ℕ → Bool → FileMap → List ℕ → Outcome
+gul_outcome samples cut files source = with_tables (loaded files (gul_need samples)) (λ rows. gul_rows_outcome samples cut rows source)
+
 -- the outcome of each tool, over the named files and the source
 abbrev pub tool_outcome : Command → FileMap → List ℕ → Outcome
+tool_outcome (Summarycalc items set rule) files source = summary_outcome items set rule files source
 tool_outcome (Eltcalc heading) files source = elt_outcome heading source
 tool_outcome (Pltcalc heading) files source = plt_outcome heading files source
+tool_outcome Getmodel files source = model_outcome files source
+tool_outcome (Gulcalc samples cut) files source = gul_outcome samples cut files source
 tool_outcome (Convert conversion) files source = convert_outcome conversion source
 tool_outcome FootprintText files source = footprint_outcome files source
 tool_outcome (Eve part parts) files source = eve_outcome part parts files

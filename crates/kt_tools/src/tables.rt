@@ -1,6 +1,8 @@
 //! Loads the tables that a tool needs.
 //! The rules: docs/REFUSALS.md, "Order".
 ghost use Rattle.std.specs.Prelude.{◌≡◌};
+ghost use Rattle.kt_load.specs.FileNames.{table_at};
+ghost use Rattle.kt_rec.specs.TableSet.{with_table as set_with};
 ghost use Rattle.kt_tools.specs.Loading.{load_stop as stop_of, need_of as needs};
 
 use crate::convert::table_stop;
@@ -21,6 +23,14 @@ pub fn need_of(table: Table) -> Need
         rule: 0,
         net: false,
     }
+}
+
+/// A set with one more table of the base.
+pub fn with_table(mut set: TableSet, table: Table) -> TableSet
+    ensures { result ≡ set_with set (table_at 0 table) }
+{
+    set.add(TableId { stage: 0, table });
+    set
 }
 
 /// How a refusal of the tables ends a tool.

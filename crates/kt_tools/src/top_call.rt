@@ -14,7 +14,10 @@ use crate::convert::convert;
 use crate::eltcalc::eltcalc;
 use crate::eve::eve;
 use crate::footprint::footprint_to_text;
+use crate::getmodel::getmodel;
+use crate::gulcalc::gulcalc;
 use crate::pltcalc::pltcalc;
+use crate::summarycalc::summarycalc;
 use kt_ends::{Status, report, status_of};
 use kt_out::{Gate, Inputs, Outputs, Sink, Source};
 use kt_words::{Command, Words, read_command};
@@ -35,9 +38,16 @@ fn carry_out<I: Inputs, S: Source, K: Sink>(
 {
     match read_command(words) {
         Err(stop) => Status::Words(stop),
+        Ok(Command::Summarycalc { items, set, rule }) => {
+            status_of(summarycalc(alloc, items, set, rule, inputs, source, sink))
+        }
         Ok(Command::Eltcalc { heading }) => status_of(eltcalc(alloc, heading, source, sink)),
         Ok(Command::Pltcalc { heading }) => {
             status_of(pltcalc(alloc, heading, inputs, source, sink))
+        }
+        Ok(Command::Getmodel) => status_of(getmodel(alloc, inputs, source, sink)),
+        Ok(Command::Gulcalc { samples, cut }) => {
+            status_of(gulcalc(alloc, samples, cut, inputs, source, sink))
         }
         Ok(Command::Convert(conversion)) => status_of(convert(alloc, conversion, source, sink)),
         Ok(Command::FootprintText) => status_of(footprint_to_text(alloc, inputs, source, sink)),

@@ -1,6 +1,6 @@
 -- What the words of a call ask for, and the first faulty word.
 -- The rules: docs/COMMANDS.md, "Words".
-use Rattle.std.specs.Prelude.{◌≡◌, ℕ, List, [], ◌∷◌, true, Option, Some, None, Result, Ok, Err, not, if◌then◌else◌}
+use Rattle.std.specs.Prelude.{◌≡◌, ◌≤◌, ◌==◌, ℕ, List, [], ◌∷◌, true, Option, Some, None, Result, Ok, Err, not, if◌then◌else◌}
 use Rattle.kt_eve.specs.Parts.{has_part}
 use Rattle.kt_rec.specs.declared.table.Table.{Table}
 use Rattle.kt_rec.specs.declared.table.Table.TheVariants as table
@@ -27,10 +27,17 @@ abbrev pub IsConversion : Conversion → Type 0
 IsConversion (ToFile t periods) = Unit {0}
 IsConversion (ToText t) = t ≡ table.Footprint → ⊥
 
--- what every command keeps: a conversion that there is, and a part that there is
+-- a summary set is from 1 to 9
+abbrev pub IsSet : ℕ → Type 0
+IsSet set = (1 ≤ set) × (set ≤ 9)
+
+-- what every command keeps: a summary set, a conversion and a part that there is, and 1 to 1,000 samples
 abbrev pub IsCommand : Command → Type 0
+IsCommand (command.Summarycalc items set rule) = IsSet set
 IsCommand (command.Eltcalc heading) = Unit {0}
 IsCommand (command.Pltcalc heading) = Unit {0}
+IsCommand command.Getmodel = Unit {0}
+IsCommand (command.Gulcalc samples cut) = (1 ≤ samples) × (samples ≤ 1000)
 IsCommand (command.Convert conversion) = IsConversion conversion
 IsCommand command.FootprintText = Unit {0}
 IsCommand (command.Eve part parts) = has_part part parts ≡ true
@@ -43,6 +50,17 @@ number_in other = 0
 abbrev pub number_or_0 : Option GivenWord → ℕ
 number_or_0 None = 0
 number_or_0 (Some given) = number_in given.value
+
+-- the number that a word said; the other number where there is none
+abbrev pub number_or : Option GivenWord → ℕ → ℕ
+number_or None other = other
+number_or (Some given) other = number_in given.value
+
+-- the summary set whose option was given: of -1 to -9 one is, and 9 is left where it is none of the others
+abbrev pub set_given : Given → ℕ
+set_given given =
+    if is_given given 49 then 1 else (if is_given given 50 then 2 else (if is_given given 51 then 3 else (if is_given given 52 then 4
+    else (if is_given given 53 then 5 else (if is_given given 54 then 6 else (if is_given given 55 then 7 else (if is_given given 56 then 8 else 9)))))))
 
 abbrev pub table_in : Value → Table
 table_in (value.Table t) = t
@@ -71,10 +89,18 @@ part_command part parts word = if has_part part parts then Ok (command.Eve part 
 abbrev pub eve_command : Given → Result Command WordStop
 eve_command given = part_command (number_or_0 given.first) (number_or_0 given.second) (word_or_0 given.first)
 
--- the command of a tool by what its words said: of `eltcalc` and `pltcalc` whether -s was left out, of `tobin` the value of -P
+-- the summaries of a set: of items where -i was given, by rule 2 where -a was left out
+abbrev pub summary_command : Given → Command
+summary_command given = command.Summarycalc (is_given given 105) (set_given given) (number_or (given_at given 97) 2)
+
+-- the command of a tool by what its words said: of `eltcalc` and `pltcalc` whether -s was left out, of `gulcalc` the values of -S and
+-- of -a, of `tobin` the value of -P
 abbrev pub command_from : Tool → Given → Result Command WordStop
+command_from tool.Summarycalc given = Ok (summary_command given)
 command_from tool.Eltcalc given = Ok (command.Eltcalc (not (is_given given 115)))
 command_from tool.Pltcalc given = Ok (command.Pltcalc (not (is_given given 115)))
+command_from tool.Getmodel given = Ok command.Getmodel
+command_from tool.Gulcalc given = Ok (command.Gulcalc (number_or_0 (given_at given 83)) (number_or_0 (given_at given 97) == 1))
 command_from tool.Tobin given = Ok (command.Convert (ToFile (table_or_first given.first) (number_or_0 (given_at given 80))))
 command_from tool.Tocsv given = Ok (to_text (table_or_first given.first))
 command_from tool.Eve given = eve_command given

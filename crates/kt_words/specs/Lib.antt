@@ -6,4 +6,5 @@ pub mod Values
 pub mod Given
 pub mod Judging
 pub mod Reading
+pub mod Fits
 pub mod Command

@@ -24,14 +24,15 @@ tool_name Tocsv = codes "tocsv"
 tool_name Chain = codes "chain"
 tool_name Gen = codes "gen"
 
--- the tools that are built
+-- the tools that are built: all but these
 abbrev pub is_built : Tool → Bool
-is_built Eve = true
-is_built Eltcalc = true
-is_built Pltcalc = true
-is_built Tobin = true
-is_built Tocsv = true
-is_built tool = false
+is_built Fmcalc = false
+is_built Aalcalc = false
+is_built Leccalc = false
+is_built Kat = false
+is_built Chain = false
+is_built Gen = false
+is_built tool = true
 
 -- all tools
 abbrev pub tools : List Tool

@@ -1,9 +1,9 @@
 //! What the words of a call ask for.
 //! The rules: docs/COMMANDS.md, "Words".
-ghost use Rattle.std.specs.Prelude.{◌≡◌, IfOk, length};
+ghost use Rattle.std.specs.Prelude.{◌≡◌, IfOk};
 ghost use Rattle.kt_eve.specs.Parts.{has_part};
-ghost use Rattle.kt_words.specs.Given.{given_at};
-ghost use Rattle.kt_words.specs.Command.{number_or_0, table_or_first, word_or_0, to_text, eve_command, command_from, command_of, IsCommand};
+ghost use Rattle.kt_words.specs.Fits.{IsRead};
+ghost use Rattle.kt_words.specs.Command.{number_or_0, number_or, table_or_first, word_or_0, set_given, summary_command, to_text, eve_command, command_from, command_of, IsSet, IsCommand};
 
 use crate::given::{Given, GivenWord};
 use crate::judging::refused;
@@ -34,6 +34,15 @@ pub enum Conversion {
 /// What the words ask for.
 #[derive(Clone, Copy, Debug, PartialEq, Eq)]
 pub enum Command {
+    /// The losses of the summaries of a set.
+    Summarycalc {
+        /// Whether the losses are those of items, else of outputs of a programme.
+        items: bool,
+        /// The summary set, from 1 to 9.
+        set: u32,
+        /// The allocation rule by which the losses of outputs were made.
+        rule: u32,
+    },
     /// The event loss table of a summary stream.
     Eltcalc {
         /// Whether the table begins with the names of its columns.
@@ -43,6 +52,15 @@ pub enum Command {
     Pltcalc {
         /// Whether the table begins with the names of its columns.
         heading: bool,
+    },
+    /// The damage distributions of events.
+    Getmodel,
+    /// The ground-up losses of a stream of damage distributions.
+    Gulcalc {
+        /// The number of samples, 1 to 1,000.
+        samples: u32,
+        /// Whether the losses of a coverage are cut to its insured value.
+        cut: bool,
     },
     /// A table in its other form.
     Convert(Conversion),
@@ -97,6 +115,57 @@ fn word_number(given: Option<GivenWord>) -> u32
     }
 }
 
+/// The number that a word said; the other number where there is none.
+fn number_or(given: Option<GivenWord>, other: u32) -> u32
+    ensures { result ≡ number_or given other }
+{
+    match given {
+        Some(_) => number(given),
+        None => other,
+    }
+}
+
+/// The summary set of the first option among `-1` to `-8` that was given; 9 where none was.
+fn set_given(given: &Given) -> u32
+    ensures value { result ≡ set_given given.now }
+    ensures keeps { IsSet result }
+{
+    if given.has(b'1') {
+        return 1;
+    }
+    if given.has(b'2') {
+        return 2;
+    }
+    if given.has(b'3') {
+        return 3;
+    }
+    if given.has(b'4') {
+        return 4;
+    }
+    if given.has(b'5') {
+        return 5;
+    }
+    if given.has(b'6') {
+        return 6;
+    }
+    if given.has(b'7') {
+        return 7;
+    }
+    if given.has(b'8') { 8 } else { 9 }
+}
+
+/// The summaries of the set that the words named.
+fn summary_command(given: &Given) -> Command
+    ensures value { result ≡ summary_command given.now }
+    ensures keeps { IsCommand result }
+{
+    Command::Summarycalc {
+        items: given.has(b'i'),
+        set: set_given(given),
+        rule: number_or(given.option(b'a'), 2),
+    }
+}
+
 /// The text of a table: that of the footprint needs its index too.
 fn text_command(table: Table) -> Command
     ensures value { result ≡ to_text table }
@@ -130,15 +199,22 @@ fn part_command(given: &Given) -> Result<Command, WordStop>
 
 /// The command of a tool by what its words said.
 fn tool_command(tool: Tool, given: &Given) -> Result<Command, WordStop>
+    requires read { IsRead tool given.now }
     ensures value { result ≡ command_from tool given.now }
     ensures keeps { IfOk result (λ command. IsCommand command) }
 {
     match tool {
+        Tool::Summarycalc => Ok(summary_command(given)),
         Tool::Eltcalc => Ok(Command::Eltcalc {
             heading: !given.has(b's'),
         }),
         Tool::Pltcalc => Ok(Command::Pltcalc {
             heading: !given.has(b's'),
+        }),
+        Tool::Getmodel => Ok(Command::Getmodel),
+        Tool::Gulcalc => Ok(Command::Gulcalc {
+            samples: number(given.option(b'S')),
+            cut: number(given.option(b'a')) == 1,
         }),
         Tool::Tobin => Ok(Command::Convert(Conversion::ToFile {
             table: table(given.first),

@@ -1,6 +1,7 @@
 //! The words of a tool, from left to right.
 //! The rules: docs/COMMANDS.md, "Words".
-ghost use Rattle.std.specs.Prelude.{◌≡◌, ◌+◌, ◌<◌, ◌≤◌, length};
+ghost use Rattle.std.specs.Prelude.{◌≡◌, ◌+◌, ◌<◌, length, IfOk};
+ghost use Rattle.kt_words.specs.Fits.{IsRead};
 ghost use Rattle.kt_words.specs.Reading.{given_by, judged_words};
 
 use crate::given::Given;
@@ -12,7 +13,8 @@ use crate::words::Words;
 /// What the words behind the first say to a tool, or the first faulty one.
 pub(crate) fn read_given(tool: Tool, words: &Words) -> Result<Given, WordStop>
     requires { 0 < length words.now }
-    ensures { result ≡ given_by tool words.now }
+    ensures value { result ≡ given_by tool words.now }
+    ensures read { IfOk result (IsRead tool) }
 {
     let mut given = Given::new();
     'words: for n in 1..words.len() {

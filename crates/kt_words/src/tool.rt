@@ -87,8 +87,9 @@ impl Tool {
         ensures { result ≡ built_one self }
     {
         match self {
-            Tool::Eve | Tool::Eltcalc | Tool::Pltcalc | Tool::Tobin | Tool::Tocsv => true,
-            _ => false,
+            Tool::Fmcalc | Tool::Aalcalc | Tool::Leccalc | Tool::Kat | Tool::Chain | Tool::Gen =>
+                false,
+            _ => true,
         }
     }
 

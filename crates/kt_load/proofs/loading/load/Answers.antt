@@ -2,7 +2,7 @@ use Rattle.std.proofs.Common.{subst, sym}
 use Rattle.kt_rec.specs.Ranges.{AreInRange}
 use Rattle.kt_rec.specs.Rows.{rows_of}
 use Rattle.kt_load.specs.Steps.{NoneOutside}
-use Rattle.kt_load.proofs.NeedLemmas.{no_rows-in_range, loads_portfolio}
+use Rattle.kt_load.proofs.NeedLemmas.{no_rows-in_range, has_periods-from_all, loads_portfolio}
 use Rattle.kt_load.proofs.OutsideLemmas.{no_rows-outside}
 use Rattle.kt_load.proofs.loading.load.Goals as goal
 
@@ -17,6 +17,10 @@ new-requires-clause-ranges g c = c.in-Ok.ensures.in_range (subst AreInRange (sym
 -- src/loading.rt:110:11
 pub new-requires-clause-needed : goal.new-requires-clause-needed
 new-requires-clause-needed g c = c.in-Ok.ensures.outside (subst (NoneOutside c.args.need.loaded) (sym c.new-tables.ensures.absent) (no_rows-outside c.args.need.loaded))
+
+-- src/loading.rt:110:11
+pub new-requires-clause-periods : goal.new-requires-clause-periods
+new-requires-clause-periods g c = has_periods-from_all c.args.need c.load_order.result (rows_of c.read_tables.new.tables) c.load_order.ensures.value c.in-Ok.ensures.periods
 
 -- the portfolio that was made
 pub returns-in-Ok-new-clause-exact : goal.returns-in-Ok-new-clause-exact

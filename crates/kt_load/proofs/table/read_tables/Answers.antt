@@ -8,7 +8,7 @@ use Rattle.kt_load.specs.Ends.{TellsLoad}
 use Rattle.kt_out.specs.InputFiles.{InputsState}
 use Rattle.kt_load.specs.FileNames.{table_at, file_name_of}
 use Rattle.kt_load.specs.Reading.{with_file}
-use Rattle.kt_load.proofs.TablesLemmas.{IsOnTheWay, reads-on, skips-on, stops-on, reads-all}
+use Rattle.kt_load.proofs.TablesLemmas.{IsOnTheWay, reads-on, skips-on, stops-on, reads-all, periods-from_all}
 use Rattle.kt_load.proofs.table.read_tables.Goals as goal
 use Rattle.kt_load.proofs.table.read_tables.Goals.{then-has+in-Ok, else-has}
 
@@ -47,3 +47,7 @@ loop-id-preserved g c =
 -- src/table.rt:87:1
 pub returns-clause-ok : goal.returns-clause-ok
 returns-clause-ok g c = reads-all (g.I.Inputs.state c.args.inputs.now).held c.args.set.now c.args.ids.now (rows_of c.args.tables.now) (rows_of c.loop-id.tables) (subst (λ r. IsOnTheWay (g.I.Inputs.state c.args.inputs.now).held c.args.set.now c.args.ids.now r (rows_of c.args.tables.now) (rows_of c.loop-id.tables)) (drop_all c.loop-id.id-index c.args.ids.now (omega (arith, c.loop-id-test.false))) c.loop-id.invariant.0)
+
+-- src/table.rt:87:1
+pub returns-clause-periods : goal.returns-clause-periods
+returns-clause-periods g c = periods-from_all c.args.set.now c.args.ids.now (rows_of c.loop-id.tables) (subst (λ r. IsOnTheWay (g.I.Inputs.state c.args.inputs.now).held c.args.set.now c.args.ids.now r (rows_of c.args.tables.now) (rows_of c.loop-id.tables)) (drop_all c.loop-id.id-index c.args.ids.now (omega (arith, c.loop-id-test.false))) c.loop-id.invariant.0).periods

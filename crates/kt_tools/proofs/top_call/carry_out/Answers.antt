@@ -1,14 +1,23 @@
 use Rattle.std.proofs.Common.{◌∙◌, ap, sym}
 use Rattle.kt_ends.specs.Stops.{end_status}
-use Rattle.kt_words.specs.declared.command.Command.TheVariants.{Eltcalc, Pltcalc, Convert, FootprintText, Eve}
+use Rattle.kt_words.specs.declared.command.Command.TheVariants.{Summarycalc, Eltcalc, Pltcalc, Convert, FootprintText, Eve, Getmodel, Gulcalc}
 use Rattle.kt_tools.proofs.Running.{by_command, command_is}
 use Rattle.kt_tools.proofs.top_call.carry_out.Goals as goal
 
+pub returns-in-Ok-Summarycalc-clause-ends : goal.returns-in-Ok-Summarycalc-clause-ends
+returns-in-Ok-Summarycalc-clause-ends g c outputs = by_command c.args.words.now (Summarycalc c.in-Ok-Summarycalc.items c.in-Ok-Summarycalc.set c.in-Ok-Summarycalc.rule) _ _ (end_status c.summarycalc.result) _ (sym c.read_command.ensures.value ∙ c.in-Ok-Summarycalc.is ∙ ap command_is c.in-Ok-Summarycalc.field-0-is) c.status_of.ensures (c.summarycalc.ensures outputs)
+
 pub returns-in-Ok-Eltcalc-clause-ends : goal.returns-in-Ok-Eltcalc-clause-ends
-returns-in-Ok-Eltcalc-clause-ends g c outputs = by_command c.args.words.now (Eltcalc c.in-Ok-Eltcalc.heading) _ _ (end_status c.eltcalc.result) _ (sym c.read_command.ensures.value ∙ c.in-Ok-Eltcalc.is ∙ ap command_is c.in-Ok-Eltcalc.field-0-is) c.status_of.ensures (c.eltcalc.ensures (g.I.Inputs.state c.args.inputs.now) outputs)
+returns-in-Ok-Eltcalc-clause-ends g c outputs = by_command c.args.words.now (Eltcalc c.in-Ok-Eltcalc.heading) _ _ (end_status c.eltcalc.result) _ (sym c.read_command.ensures.value ∙ c.in-Ok-Eltcalc.is ∙ ap command_is c.in-Ok-Eltcalc.field-0-is) c.status_of-in-Ok-Eltcalc.ensures (c.eltcalc.ensures (g.I.Inputs.state c.args.inputs.now) outputs)
 
 pub returns-in-Ok-Pltcalc-clause-ends : goal.returns-in-Ok-Pltcalc-clause-ends
 returns-in-Ok-Pltcalc-clause-ends g c outputs = by_command c.args.words.now (Pltcalc c.in-Ok-Pltcalc.heading) _ _ (end_status c.pltcalc.result) _ (sym c.read_command.ensures.value ∙ c.in-Ok-Pltcalc.is ∙ ap command_is c.in-Ok-Pltcalc.field-0-is) c.status_of-in-Ok-Pltcalc.ensures (c.pltcalc.ensures outputs)
+
+pub returns-in-Ok-Getmodel-clause-ends : goal.returns-in-Ok-Getmodel-clause-ends
+returns-in-Ok-Getmodel-clause-ends g c outputs = by_command c.args.words.now Getmodel _ _ (end_status c.getmodel.result) _ (sym c.read_command.ensures.value ∙ c.in-Ok-Getmodel.is ∙ ap command_is c.in-Ok-Getmodel.field-0-is) c.status_of-in-Ok-Getmodel.ensures (c.getmodel.ensures outputs)
+
+pub returns-in-Ok-Gulcalc-clause-ends : goal.returns-in-Ok-Gulcalc-clause-ends
+returns-in-Ok-Gulcalc-clause-ends g c outputs = by_command c.args.words.now (Gulcalc c.in-Ok-Gulcalc.samples c.in-Ok-Gulcalc.cut) _ _ (end_status c.gulcalc.result) _ (sym c.read_command.ensures.value ∙ c.in-Ok-Gulcalc.is ∙ ap command_is c.in-Ok-Gulcalc.field-0-is) c.status_of-in-Ok-Gulcalc.ensures (c.gulcalc.ensures outputs)
 
 pub returns-in-Ok-Convert-clause-ends : goal.returns-in-Ok-Convert-clause-ends
 returns-in-Ok-Convert-clause-ends g c outputs = by_command c.args.words.now (Convert c.in-Ok-Convert.conversion) _ _ (end_status c.convert.result) _ (sym c.read_command.ensures.value ∙ c.in-Ok-Convert.is ∙ ap command_is c.in-Ok-Convert.field-0-is) c.status_of-in-Ok-Convert.ensures (c.convert.ensures (g.I.Inputs.state c.args.inputs.now) outputs)

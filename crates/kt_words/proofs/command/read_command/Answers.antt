@@ -11,9 +11,9 @@ returns-in-Err-clause-value c =
 pub returns-in-Ok-read_given-clause-value : goal.returns-in-Ok-read_given-clause-value
 returns-in-Ok-read_given-clause-value c =
     let first : command_of c.args.words.now ≡ by_tool c.read_tool.result c.args.words.now = command_by_first c.args.words.now c.word.result.now c.read_tool.result c.word.ensures.value c.read_tool.ensures in
-    c.tool_command.ensures.value ∙ sym (first ∙ rw c.in-Ok.is (ap (command_by c.in-Ok.tool) (sym c.read_given.ensures ∙ c.in-Ok-read_given.is)))
+    c.tool_command.ensures.value ∙ sym (first ∙ rw c.in-Ok.is (ap (command_by c.in-Ok.tool) (sym c.read_given.ensures.value ∙ c.in-Ok-read_given.is)))
 
 pub returns-in-Err-read_given-clause-value : goal.returns-in-Err-read_given-clause-value
 returns-in-Err-read_given-clause-value c =
     let first : command_of c.args.words.now ≡ by_tool c.read_tool.result c.args.words.now = command_by_first c.args.words.now c.word.result.now c.read_tool.result c.word.ensures.value c.read_tool.ensures in
-    sym (first ∙ rw c.in-Ok.is (ap (command_by c.in-Ok.tool) (sym c.read_given.ensures ∙ c.in-Err-read_given.is)))
+    sym (first ∙ rw c.in-Ok.is (ap (command_by c.in-Ok.tool) (sym c.read_given.ensures.value ∙ c.in-Err-read_given.is)))

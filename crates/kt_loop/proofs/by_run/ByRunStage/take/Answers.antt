@@ -1,6 +1,7 @@
 use Rattle.std.proofs.Common.{◌≡◌, List, sym, ap, ◌∙◌}
 use Rattle.kt_stream.specs.declared.entry.Placed.{Placed}
 use Rattle.kt_loop.specs.Runs.{joins}
+use Rattle.kt_loop.proofs.RunLists.{run_longer}
 use Rattle.kt_loop.proofs.RunStepping.{joined_step, opening_step, consults_behind}
 use Rattle.kt_loop.proofs.by_run.ByRunStage.take.Goals as goal
 
@@ -20,3 +21,9 @@ returns-clause-step g c state at =
 
 pub returns-clause-counted : goal.returns-clause-counted
 returns-clause-counted g c beside = consults_behind _ _ _ c.judge_next-2.result (c.in_default.ensures.counted beside) (c.judge_next-2.ensures.counted beside)
+
+-- the record goes on the open run
+pub judge_next-requires-clause-rising : goal.judge_next-requires-clause-rising
+judge_next-requires-clause-rising g c =
+    run_longer g.E.RunRecord.key c.args.self.now.run.items (record { at = c.args.at; entry = c.args.entry }) c.requires.ready.1.1
+    (ap (λ (run : List (Placed g.row.E.Denot)). joins g.E.RunRecord.key run (record { at = c.args.at; entry = c.args.entry })) (sym c.as_slice.ensures.value) ∙ sym c.joins_run.ensures ∙ c.if-joins_run.true)

@@ -4,10 +4,10 @@ use Rattle.kt_tables.proofs.portfolio.Portfolio.new.Goals as goal
 
 pub invariant_of-result : goal.invariant_of-result
 invariant_of-result c = record {
-  valid = valid-from_ok _ c.requires.ranges c.requires.needed c.first_check.result c.first_check.ensures.exact c.in_ok-first_check.was;
+  valid = valid-from_ok _ c.requires.ranges c.requires.needed c.requires.periods c.first_check.result c.first_check.ensures.exact c.in_ok-first_check.was;
   counts = c.in_ok-counts.ensures.value;
   lookups = c.in_ok-lookups.ensures.value;
 }
 
 pub new-requires : goal.new-requires
-new-requires c = addable _ (valid-from_ok _ c.requires.ranges c.requires.needed c.first_check.result c.first_check.ensures.exact c.in_ok-first_check.was)
+new-requires c = addable _ (valid-from_ok _ c.requires.ranges c.requires.needed c.requires.periods c.first_check.result c.first_check.ensures.exact c.in_ok-first_check.was)

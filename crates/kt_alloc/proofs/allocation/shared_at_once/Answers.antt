@@ -1,0 +1,19 @@
+use Rattle.std.proofs.Common.{◌∙◌}
+use Rattle.kt_alloc.proofs.AllocateLemmas.{losses-few}
+use Rattle.kt_alloc.proofs.allocation.shared_at_once.Goals as goal
+
+pub shares-requires-clause-few : goal.shares-requires-clause-few
+shares-requires-clause-few c =
+    let levels = c.requires.levels in
+    let losses = c.deref.ensures.value ∙ c.in_ok-losses.ensures.value levels.tree levels.loss levels.is levels.carried_are in
+    let policy = c.policy_of-policy.ensures.value levels.tree levels.loss levels.is levels.carried_are in
+    let both = losses-few c.args.programme.now c.args.levels.now levels c.args.node c.args.layer c.policy_of-policy.result c.deref.result.now policy losses in
+    both.1
+
+pub shares-requires-clause-most : goal.shares-requires-clause-most
+shares-requires-clause-most c =
+    let levels = c.requires.levels in
+    let losses = c.deref.ensures.value ∙ c.in_ok-losses.ensures.value levels.tree levels.loss levels.is levels.carried_are in
+    let policy = c.policy_of-policy.ensures.value levels.tree levels.loss levels.is levels.carried_are in
+    let both = losses-few c.args.programme.now c.args.levels.now levels c.args.node c.args.layer c.policy_of-policy.result c.deref.result.now policy losses in
+    both.0

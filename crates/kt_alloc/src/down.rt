@@ -1,0 +1,60 @@
+//! Parts that are given down a programme, level by level.
+//! The rule: docs/FINANCIAL_MODULE.md, "Allocation".
+ghost use Rattle.std.specs.Prelude.{◌≡◌, ◌≤◌, ◌<◌, ◌^◌, length, false, All, IfOk};
+ghost use Rattle.std.specs.List.{AllByRecursion, sum_by};
+ghost use Rattle.kt_fmtree.specs.Carried.{CanCarry, IsCarriedBy};
+ghost use Rattle.kt_alloc.specs.Placed.{CanShare, level_down, levels_down};
+
+use crate::giving::push_children;
+use crate::part::PlacedPart;
+use kt_fmtree::{Levels, Node, Programme};
+use kt_rules::Carry;
+use std::alloc::{AllocError, Global};
+
+/// What parts of the units of a level give to those of the level below.
+fn level_down(
+    alloc: Global,
+    nodes: &[Node],
+    below: &[Carry],
+    whole: bool,
+    parts: &[PlacedPart],
+) -> Result<Vec<PlacedPart>, AllocError>
+    requires can { All (CanCarry below.now) nodes.now }
+    requires places { AllByRecursion (λ part. part.place < length nodes.now) parts.now }
+    requires few { whole ≡ false → sum_by (λ part. part.amount) parts.now ≤ 10 ^ 17 }
+    ensures value { IfOk result (λ given. given.items ≡ level_down whole nodes.now below.now parts.now) }
+{
+    let mut given = Vec::with_capacity(alloc, parts.len())?;
+    for part in parts {
+        push_children(&nodes[part.place], below, whole, part.amount, &mut given)?;
+    }
+    Ok(given)
+}
+
+/// What parts of the units of a level give to the ids beneath them.
+pub(crate) fn levels_down(
+    alloc: Global,
+    programme: &Programme,
+    levels: &Levels,
+    whole: bool,
+    level: usize,
+    parts: Vec<PlacedPart>,
+) -> Result<Vec<PlacedPart>, AllocError>
+    requires levels { IsCarriedBy programme.now levels.now }
+    requires can { CanShare programme.now whole level parts.items }
+    ensures value { IfOk result (λ given. given.items ≡ levels_down whole programme.now.levels levels.now.rows level parts.items) }
+{
+    if level == 0 {
+        return Ok(parts);
+    }
+    let next = level - 1;
+    let given = level_down(
+        alloc,
+        programme.nodes_above(next),
+        levels.row(next),
+        whole,
+        &parts,
+    )?;
+    let last = levels_down(alloc, programme, levels, whole, next, given)?;
+    Ok(last)
+}

@@ -1,0 +1,10 @@
+//! Policy losses shared back to the ids beneath a top.
+#![tactic(auto)]
+
+mod allocation;
+mod by_id;
+mod down;
+mod giving;
+mod part;
+
+pub use allocation::allocate;

@@ -1,0 +1,69 @@
+-- The table of average annual losses, from the entries of its set.
+use Rattle.std.proofs.Common.{◌≡◌, ℕ, ◌*◌, ◌≤◌, List, [], ◌∷◌, ◌++◌, map, arith, refl, ap, ◌∙◌, cond}
+use Rattle.std.specs.Prelude.{Bool, true, false, ◌&&◌, nat_lt, All}
+use Rattle.std.specs.List.{flat_map}
+use Rattle.std.specs.Map.{keys_of}
+use Rattle.std.proofs.lemmas.Bool.Decides.{nat_tests}
+use Rattle.std.proofs.lemmas.List.Elements.{All-nil, All-cons, All-append}
+use Rattle.std.proofs.lemmas.List.Concat.{flat_map-cons}
+use Rattle.kt_rec.specs.declared.perspective.Perspective.{Perspective}
+use Rattle.kt_rec.specs.declared.perspective.CellKey.{CellKey}
+use Rattle.kt_rec.specs.declared.periods.Occurrence.{Occurrence}
+use Rattle.kt_stream.specs.declared.entry.Pair.{Pair}
+use Rattle.kt_curve.specs.declared.cell.Cell.{Cell}
+use Rattle.kt_curve.specs.Losses.{KeyLoss, Added, total, all_losses, losses_of, pair_losses, is_added, has_cells, loss_at}
+use Rattle.kt_curve.specs.Grid.{summary_ids, summary_entries, set_entries, keys_for, mean_sidx, sample_sidx, moments_of, by_summary}
+use Rattle.kt_curve.specs.Standing.{Standing, cell_at, total_in}
+use Rattle.kt_curve.specs.Average.{aal_row, aal_rows, average_annual_loss_rows}
+use Rattle.kt_curve.proofs.Ids.{ids_of_standing, totals_of_standing, flat_map_each}
+
+-- ---- losses are above 0
+
+-- a pair that is added up has a loss
+added_some : (pair : Pair) → is_added pair ≡ true → 1 ≤ pair.loss
+added_some pair added = both (has_cells pair.sidx) (nat_lt 0 pair.loss) pair.loss added (λ e. grind (arith, nat_tests))
+  where
+    both : (a b : Bool) (loss : ℕ) → a && b ≡ true → (b ≡ true → 1 ≤ loss) → 1 ≤ loss
+    both true b loss e f = f e
+    both false b loss e f = cc
+
+-- what holds of all that each gives holds of all
+all_flat : {X : Type 0} (P : KeyLoss → Type 0) (f : X → List KeyLoss) → ((x : X) → All P (f x)) → (xs : List X) → All P (flat_map f xs)
+all_flat P f each [] = All-nil P
+all_flat P f each (x ∷ xs) = rw (flat_map-cons f x xs) (All-append P (f x) (flat_map f xs) (each x) (all_flat P f each xs))
+
+-- the losses of all records are above 0
+pub losses_positive : (history : List Added) → All (λ one. 1 ≤ one.loss) (all_losses history)
+losses_positive history =
+    all_flat (λ one. 1 ≤ one.loss) losses_of (λ added. all_flat (λ one. 1 ≤ one.loss) (pair_losses added.perspective added.set added.entry.summary added.at) (λ pair. of_pair added pair (is_added pair) (added_some pair)) added.entry.pairs) history
+  where
+    each : (added : Added) (pair : Pair) → 1 ≤ pair.loss → (at : List Occurrence) → All (λ one. 1 ≤ one.loss) (map (loss_at added.perspective added.set added.entry.summary pair) at)
+    each added pair some [] = All-nil _
+    each added pair some (o ∷ at) = All-cons (λ (one : KeyLoss). 1 ≤ one.loss) (loss_at added.perspective added.set added.entry.summary pair o) (map (loss_at added.perspective added.set added.entry.summary pair) at) some (each added pair some at)
+
+    of_pair : (added : Added) (pair : Pair) (b : Bool) → (b ≡ true → 1 ≤ pair.loss) → All (λ one. 1 ≤ one.loss) (cond b (map (loss_at added.perspective added.set added.entry.summary pair) added.at) [])
+    of_pair added pair true some = each added pair (some refl) added.at
+    of_pair added pair false some = All-nil _
+
+-- ---- the rows
+
+-- rows of the same amounts
+rows_same : (p : Perspective) (s n samples u : ℕ) (f g : CellKey → ℕ) → map f (keys_for p s u mean_sidx n) ≡ map g (keys_for p s u mean_sidx n) → map f (keys_for p s u (sample_sidx samples) n) ≡ map g (keys_for p s u (sample_sidx samples) n) →
+    aal_rows p s n samples f u ≡ aal_rows p s n samples g u
+rows_same p s n samples u f g means others =
+    ap (λ amounts. aal_row u 1 (moments_of n amounts) ++ aal_row u 2 (moments_of (n * samples) (map f (keys_for p s u (sample_sidx samples) n)))) means
+    ∙ ap (λ amounts. aal_row u 1 (moments_of n (map g (keys_for p s u mean_sidx n))) ++ aal_row u 2 (moments_of (n * samples) amounts)) others
+
+-- the rows of the entries of a set are those of the losses for which they stand
+pub rows_of_standing : (p : Perspective) (s n samples : ℕ) (history : List Added) (es part : List (CellKey × Cell)) → Standing (all_losses history) es → part ≡ set_entries p s es →
+    by_summary p s (λ summary group. aal_rows p s n samples (λ key. total_in (cell_at group key)) summary) part ≡ average_annual_loss_rows p s n samples (all_losses history)
+rows_of_standing p s n samples history es part stands is =
+    ap (by_summary p s (λ summary group. aal_rows p s n samples (λ key. total_in (cell_at group key)) summary)) is
+    ∙ flat_map_each (λ summary. aal_rows p s n samples (λ key. total_in (cell_at (summary_entries summary (set_entries p s es)) key)) summary) (aal_rows p s n samples (total (all_losses history)))
+    (λ summary. rows_same p s n samples summary _ (total (all_losses history)) (totals_of_standing p s summary n (all_losses history) es mean_sidx stands) (totals_of_standing p s summary n (all_losses history) es (sample_sidx samples) stands))
+    (summary_ids p s (keys_of (set_entries p s es)))
+    ∙ ap (flat_map (aal_rows p s n samples (total (all_losses history)))) (ids_of_standing p s (all_losses history) es stands (losses_positive history))
+
+-- a text that was begun with no bytes
+pub fresh_text : (new fresh more all : List ℕ) → new ≡ fresh ++ more → fresh ≡ [] → more ≡ all → new ≡ all
+fresh_text new fresh more all is none same = is ∙ ap (λ t. t ++ more) none ∙ same

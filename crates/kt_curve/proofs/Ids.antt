@@ -1,0 +1,283 @@
+-- The summary ids of entries are those of the losses for which they stand, and so are the amounts.
+use Rattle.std.proofs.Common.{◌≡◌, ◌≢◌, ◌⊎◌, inl, inr, ℕ, ◌+◌, ◌<◌, ◌≤◌, List, [], ◌∷◌, ◌++◌, map, arith, refl, sym, ap, ◌∙◌, cond}
+use Rattle.std.specs.Prelude.{Bool, true, false, ◌&&◌, ◌||◌, nat_eq, nat_lt, All, ℤ, Some, None}
+use Rattle.std.specs.List.{flat_map, list_any, range_with_len}
+use Rattle.std.specs.Map.{keys_of}
+use Rattle.std.specs.BTreeMap.{is_at}
+use Rattle.std.proofs.lemmas.Bool.{cases_lt}
+use Rattle.std.proofs.lemmas.Bool.Decides.{nat_tests, Decides-eqb}
+use Rattle.std.proofs.lemmas.List.Elements.{All-head, All-tail, All-nil, All-cons, All-weaker}
+use Rattle.std.proofs.lemmas.List.Concat.{flat_map-cons}
+use Rattle.std.proofs.lemmas.List.{map-append}
+use Rattle.std.proofs.lemmas.List.Sums.{sum_by-cons}
+use Rattle.std.proofs.lemmas.Map.Entries.{lookup-filter-keys}
+use Rattle.kt_rec.specs.declared.perspective.Perspective.{Perspective}
+use Rattle.kt_rec.specs.declared.perspective.CellKey.{CellKey}
+use Rattle.kt_rec.specs.contracts.perspective.CellKeyOrd.TheImpl as key_order
+use Rattle.kt_curve.specs.declared.cell.Cell.{Cell}
+use Rattle.kt_curve.specs.Losses.{KeyLoss, same_key, key_of, total, maximum}
+use Rattle.kt_curve.specs.Grid.{in_set, with_id, summary_ids, summary_entries, set_entries, keys_for}
+use Rattle.kt_curve.specs.Standing.{Standing, cell_at, cell_of, total_in}
+use Rattle.kt_curve.proofs.Keys.{same_exact, same_itself}
+use Rattle.kt_curve.proofs.Steps.{cell_some, total_of_cell}
+use Rattle.kt_curve.proofs.Grids.{bool_same}
+use Rattle.kt_curve.proofs.Parts.{is_in_set}
+
+-- ---- rising lists
+
+-- each number is below those behind it
+Rising : List ℕ → Type 0
+Rising [] = Unit {0}
+Rising (x ∷ xs) = All (λ y. x < y) xs × Rising xs
+
+-- whether a number is listed
+abbrev has : ℕ → List ℕ → Bool
+has i xs = list_any (nat_eq i) xs
+
+-- a number below all is not listed
+not_below : (i : ℕ) (xs : List ℕ) → All (λ y. i < y) xs → has i xs ≡ false
+not_below i [] above = refl
+not_below i (x ∷ xs) above =
+    let head = All-head (λ y. i < y) x xs above in
+    let apart : nat_eq i x ≡ false = grind (arith, nat_tests) in
+    ap (λ b. b || has i xs) apart ∙ not_below i xs (All-tail (λ y. i < y) x xs above)
+
+-- a listed number
+has_first : (x : ℕ) (xs : List ℕ) → has x (x ∷ xs) ≡ true
+has_first x xs = ap (λ b. b || has x xs) ((Decides-eqb x x).1 refl)
+
+-- rising lists of the same numbers are the same
+same_rising : (xs ys : List ℕ) → Rising xs → Rising ys → ((i : ℕ) → has i xs ≡ has i ys) → xs ≡ ys
+unfolding Rising
+same_rising [] [] a b same = refl
+same_rising [] (y ∷ ys) a b same = let wrong : false ≡ true = same y ∙ has_first y ys in cc
+same_rising (x ∷ xs) [] a b same = let wrong : true ≡ false = sym (has_first x xs) ∙ same x in cc
+same_rising (x ∷ xs) (y ∷ ys) a b same =
+    let first : x ≡ y = heads (cases_lt x y) (cases_lt y x) in
+    let rest : (i : ℕ) → has i xs ≡ has i ys = λ i. tails first i (nat_eq i x) refl in
+    ap (λ z. z ∷ xs) first ∙ ap (λ zs. y ∷ zs) (same_rising xs ys a.1 b.1 rest)
+  where
+    heads : (x < y) ⊎ (y ≤ x) → (y < x) ⊎ (x ≤ y) → x ≡ y
+    heads (inl less) other =
+        let none : has x (y ∷ ys) ≡ false = not_below x (y ∷ ys) (All-cons (λ z. x < z) y ys less (All-weaker (λ z. y < z) (λ z. x < z) (λ z more. omega arith) ys b.0)) in
+        let wrong : true ≡ false = sym (has_first x xs) ∙ same x ∙ none in cc
+    heads (inr more) (inl less) =
+        let none : has y (x ∷ xs) ≡ false = not_below y (x ∷ xs) (All-cons (λ z. y < z) x xs less (All-weaker (λ z. x < z) (λ z. y < z) (λ z more. omega arith) xs a.0)) in
+        let wrong : true ≡ false = sym (has_first y ys) ∙ sym (same y) ∙ none in cc
+    heads (inr more) (inr less) = omega arith
+
+    tails : x ≡ y → (i : ℕ) → (b' : Bool) → nat_eq i x ≡ b' → has i xs ≡ has i ys
+    tails first i true is =
+        let i_is : i ≡ x = (Decides-eqb i x).0 is in
+        ap (λ j. has j xs) i_is ∙ not_below x xs a.0 ∙ sym (ap (λ j. has j ys) (i_is ∙ first) ∙ not_below y ys b.0)
+    tails first i false is =
+        ap (λ c. c || has i xs) (sym is) ∙ same i ∙ ap (λ c. c || has i ys) (ap (nat_eq i) (sym first) ∙ is)
+
+-- an id that is put in is listed, and the others stay
+has_with_id : (i id : ℕ) (ids : List ℕ) → has i (with_id id ids) ≡ nat_eq i id || has i ids
+has_with_id i id [] = refl
+has_with_id i id (x ∷ ids) = by_tests (nat_lt id x) (nat_eq id x) ((Decides-eqb id x).0) (has_with_id i id ids)
+  where
+    swap : (a b c : Bool) → a || (b || c) ≡ b || (a || c)
+    swap true true c = refl
+    swap true false c = refl
+    swap false true c = refl
+    swap false false c = refl
+
+    twice : (a c : Bool) → a || c ≡ a || (a || c)
+    twice true c = refl
+    twice false c = refl
+
+    by_tests : (less same : Bool) → (same ≡ true → id ≡ x) → has i (with_id id ids) ≡ nat_eq i id || has i ids →
+        has i (cond less (id ∷ x ∷ ids) (cond same (x ∷ ids) (x ∷ with_id id ids))) ≡ nat_eq i id || (nat_eq i x || has i ids)
+    by_tests true same is later = refl
+    by_tests false true is later = ap (λ z. nat_eq i z || has i ids) (sym (is refl)) ∙ twice (nat_eq i id) (has i ids) ∙ ap (λ z. nat_eq i id || (nat_eq i z || has i ids)) (is refl)
+    by_tests false false is later = ap (λ b. nat_eq i x || b) later ∙ swap (nat_eq i x) (nat_eq i id) (has i ids)
+
+-- an id that is put in keeps the list rising
+rising_with_id : (id : ℕ) (ids : List ℕ) → Rising ids → Rising (with_id id ids)
+unfolding Rising
+rising_with_id id [] rising = (All-nil _, tt)
+rising_with_id id (x ∷ ids) rising = by_tests (nat_lt id x) (nat_eq id x) (λ e. grind (arith, nat_tests)) (λ e f. grind (arith, nat_tests)) (rising_with_id id ids rising.1)
+  where
+    above : (x < id) → (ids : List ℕ) → All (λ y. x < y) ids → All (λ y. x < y) (with_id id ids)
+    above more [] all = All-cons (λ y. x < y) id [] more all
+    above more (z ∷ ids) all = at_z (nat_lt id z) (nat_eq id z) (above more ids (All-tail (λ y. x < y) z ids all))
+      where
+        at_z : (less same : Bool) → All (λ y. x < y) (with_id id ids) → All (λ y. x < y) (cond less (id ∷ z ∷ ids) (cond same (z ∷ ids) (z ∷ with_id id ids)))
+        at_z true same later = All-cons (λ y. x < y) id (z ∷ ids) more all
+        at_z false true later = all
+        at_z false false later = All-cons (λ y. x < y) z (with_id id ids) (All-head (λ y. x < y) z ids all) later
+
+    by_tests : (less same : Bool) → (less ≡ true → id < x) → (less ≡ false → same ≡ false → x < id) → Rising (with_id id ids) → Rising (cond less (id ∷ x ∷ ids) (cond same (x ∷ ids) (x ∷ with_id id ids)))
+    by_tests true same less more later =
+        let low : id < x = less refl in
+        (All-cons (λ y. id < y) x ids low (All-weaker (λ y. x < y) (λ y. id < y) (λ y high. omega arith) ids rising.0), rising)
+    by_tests false true less more later = rising
+    by_tests false false less more later = (above (more refl refl) ids rising.0, later)
+
+-- the ids of keys rise
+rising_ids : (p : Perspective) (s : ℕ) (keys : List CellKey) → Rising (summary_ids p s keys)
+unfolding Rising
+rising_ids p s [] = tt
+rising_ids p s (key ∷ keys) = by_set (in_set p s key) (rising_ids p s keys)
+  where
+    by_set : (b : Bool) → Rising (summary_ids p s keys) → Rising (cond b (with_id key.summary (summary_ids p s keys)) (summary_ids p s keys))
+    by_set true later = rising_with_id key.summary (summary_ids p s keys) later
+    by_set false later = later
+
+-- whether a key is of a summary
+abbrev of_summary : Perspective → ℕ → ℕ → CellKey → Bool
+of_summary p s i key = in_set p s key && nat_eq i key.summary
+
+-- the ids are those of keys of the set
+has_ids : (p : Perspective) (s i : ℕ) (keys : List CellKey) → has i (summary_ids p s keys) ≡ list_any (of_summary p s i) keys
+has_ids p s i [] = refl
+has_ids p s i (key ∷ keys) = by_set (in_set p s key) (has_ids p s i keys)
+  where
+    by_set : (b : Bool) → has i (summary_ids p s keys) ≡ list_any (of_summary p s i) keys →
+        has i (cond b (with_id key.summary (summary_ids p s keys)) (summary_ids p s keys)) ≡ (b && nat_eq i key.summary) || list_any (of_summary p s i) keys
+    by_set true later = has_with_id i key.summary (summary_ids p s keys) ∙ ap (λ c. nat_eq i key.summary || c) later
+    by_set false later = later
+
+-- the ids of two lists of keys, where each key of a set is in both
+pub same_ids : (p : Perspective) (s : ℕ) (xs ys : List CellKey) → ((i : ℕ) → list_any (of_summary p s i) xs ≡ list_any (of_summary p s i) ys) → summary_ids p s xs ≡ summary_ids p s ys
+same_ids p s xs ys same =
+    same_rising (summary_ids p s xs) (summary_ids p s ys) (rising_ids p s xs) (rising_ids p s ys) (λ i. has_ids p s i xs ∙ same i ∙ sym (has_ids p s i ys))
+
+-- ---- the keys of a set, among entries and among losses
+
+-- entries outside a set do not matter
+any_in_set : (p : Perspective) (s i : ℕ) (es : List (CellKey × Cell)) → list_any (of_summary p s i) (keys_of (set_entries p s es)) ≡ list_any (of_summary p s i) (keys_of es)
+any_in_set p s i [] = refl
+any_in_set p s i (e ∷ es) = by_set (in_set p s e.0) refl (any_in_set p s i es)
+  where
+    by_set : (b : Bool) → in_set p s e.0 ≡ b → list_any (of_summary p s i) (keys_of (set_entries p s es)) ≡ list_any (of_summary p s i) (keys_of es) →
+        list_any (of_summary p s i) (keys_of (cond b (e ∷ set_entries p s es) (set_entries p s es))) ≡ of_summary p s i e.0 || list_any (of_summary p s i) (keys_of es)
+    by_set true is later = ap (λ c. of_summary p s i e.0 || c) later
+    by_set false is later = later ∙ ap (λ b. (b && nat_eq i e.0.summary) || list_any (of_summary p s i) (keys_of es)) (sym is)
+
+-- a key that is found passes a test of all keys
+found_passes : (t : CellKey → Bool) (k : CellKey) (c : Cell) (es : List (CellKey × Cell)) → t k ≡ true → cell_at es k ≡ Some c → list_any t (keys_of es) ≡ true
+found_passes t k c [] passes found = cc
+found_passes t k c (e ∷ es) passes found = by_key (same_key k e.0) refl found (λ later. found_passes t k c es passes later)
+  where
+    by_key : (b : Bool) → same_key k e.0 ≡ b → cond b (Some e.1) (cell_at es k) ≡ Some c → (cell_at es k ≡ Some c → list_any t (keys_of es) ≡ true) → t e.0 || list_any t (keys_of es) ≡ true
+    by_key true same is later = ap (λ b. b || list_any t (keys_of es)) (ap t (sym (same_exact k e.0 same)) ∙ passes)
+    by_key false same is later = ap (λ b. t e.0 || b) (later is) ∙ always (t e.0)
+      where
+        always : (a : Bool) → a || true ≡ true
+        always true = refl
+        always false = refl
+
+-- a key of an entry that passes a test is found
+record Found (t : CellKey → Bool) (es : List (CellKey × Cell)) : Type 0 where
+  key : CellKey
+  passes : t key ≡ true
+  there : cell_at es key ≢ None
+
+-- an entry that passes
+any_found : (t : CellKey → Bool) (es : List (CellKey × Cell)) → list_any t (keys_of es) ≡ true → Found t es
+any_found t [] any = cc
+any_found t (e ∷ es) any = by_test (t e.0) refl any (any_found t es)
+  where
+    first : t e.0 ≡ true → Found t (e ∷ es)
+    first passes = record { key = e.0; passes = passes; there = λ none. let wrong : Some e.1 ≡ None = sym (ap (λ b. cond b (Some e.1) (cell_at es e.0)) (same_itself e.0)) ∙ none in cc }
+
+    behind : Found t es → Found t (e ∷ es)
+    behind found = record { key = found.key; passes = found.passes; there = λ none. found.there (tail (same_key found.key e.0) none) }
+      where
+        tail : (b : Bool) → cond b (Some e.1) (cell_at es found.key) ≡ None → cell_at es found.key ≡ None
+        tail true none = cc
+        tail false none = none
+
+    by_test : (b : Bool) → t e.0 ≡ b → b || list_any t (keys_of es) ≡ true → (list_any t (keys_of es) ≡ true → Found t es) → Found t (e ∷ es)
+    by_test true is any later = first is
+    by_test false is any later = behind (later any)
+
+-- a key with a total passes a test of the keys of all losses
+total_passes : (t : CellKey → Bool) (k : CellKey) (losses : List KeyLoss) → t k ≡ true → total losses k ≢ 0 → list_any t (map (λ one. one.key) losses) ≡ true
+total_passes t k [] passes some = absurd (some refl)
+total_passes t k (one ∷ rest) passes some = by_key (same_key one.key k) refl (λ none. total_passes t k rest passes none)
+  where
+    always : (a : Bool) → a || true ≡ true
+    always true = refl
+    always false = refl
+
+    by_key : (b : Bool) → same_key one.key k ≡ b → (total rest k ≢ 0 → list_any t (map (λ one. one.key) rest) ≡ true) → t one.key || list_any t (map (λ one. one.key) rest) ≡ true
+    by_key true same later = ap (λ b. b || list_any t (map (λ one. one.key) rest)) (ap t (same_exact one.key k same) ∙ passes)
+    by_key false other later =
+        let split : total (one ∷ rest) k ≡ cond (same_key one.key k) one.loss 0 + total rest k = sum_by-cons (λ (l : KeyLoss). cond (same_key l.key k) l.loss 0) one rest in
+        let nothing : cond (same_key one.key k) one.loss 0 ≡ 0 = ap (λ b. cond b one.loss 0) other in
+        ap (λ b. t one.key || b) (later (λ none. some (omega (arith, split, nothing, none)))) ∙ always (t one.key)
+
+-- a key with a total that passes a test
+record Summed (t : CellKey → Bool) (losses : List KeyLoss) : Type 0 where
+  key : CellKey
+  passes : t key ≡ true
+  some : 1 ≤ total losses key
+
+-- a loss that passes, where all losses are above 0
+any_summed : (t : CellKey → Bool) (losses : List KeyLoss) → All (λ one. 1 ≤ one.loss) losses → list_any t (map (λ one. one.key) losses) ≡ true → Summed t losses
+any_summed t [] positive any = cc
+any_summed t (one ∷ rest) positive any = by_test (t one.key) refl any (any_summed t rest (All-tail (λ (l : KeyLoss). 1 ≤ l.loss) one rest positive))
+  where
+    split : (k : CellKey) → total (one ∷ rest) k ≡ cond (same_key one.key k) one.loss 0 + total rest k
+    split k = sum_by-cons (λ (l : KeyLoss). cond (same_key l.key k) l.loss 0) one rest
+
+    by_test : (b : Bool) → t one.key ≡ b → b || list_any t (map (λ one. one.key) rest) ≡ true → (list_any t (map (λ one. one.key) rest) ≡ true → Summed t rest) → Summed t (one ∷ rest)
+    by_test true is any later =
+        let here : cond (same_key one.key one.key) one.loss 0 ≡ one.loss = ap (λ b. cond b one.loss 0) (same_itself one.key) in
+        let some : 1 ≤ one.loss = All-head (λ (l : KeyLoss). 1 ≤ l.loss) one rest positive in
+        record { key = one.key; passes = is; some = omega (arith, split one.key, here, some) }
+    by_test false is any later = let found = later any in record { key = found.key; passes = found.passes; some = omega (arith, split found.key, found.some) }
+
+-- the ids of the entries of a set are those of the losses
+pub ids_of_standing : (p : Perspective) (s : ℕ) (losses : List KeyLoss) (es : List (CellKey × Cell)) → Standing losses es → All (λ one. 1 ≤ one.loss) losses →
+    summary_ids p s (keys_of (set_entries p s es)) ≡ summary_ids p s (map (λ one. one.key) losses)
+ids_of_standing p s losses es stands positive =
+    same_ids p s (keys_of (set_entries p s es)) (map (λ one. one.key) losses) (λ i. any_in_set p s i es ∙ bool_same (list_any (of_summary p s i) (keys_of es)) (list_any (of_summary p s i) (map (λ one. one.key) losses)) (there i) (back i))
+  where
+    there : (i : ℕ) → list_any (of_summary p s i) (keys_of es) ≡ true → list_any (of_summary p s i) (map (λ one. one.key) losses) ≡ true
+    there i any =
+        let found = any_found (of_summary p s i) es any in
+        total_passes (of_summary p s i) found.key losses found.passes (λ none. found.there (stands.cells found.key ∙ ap (λ t. cell_of t (maximum losses found.key)) none))
+
+    back : (i : ℕ) → list_any (of_summary p s i) (map (λ one. one.key) losses) ≡ true → list_any (of_summary p s i) (keys_of es) ≡ true
+    back i any =
+        let found = any_summed (of_summary p s i) losses positive any in
+        found_passes (of_summary p s i) found.key _ es found.passes (stands.cells found.key ∙ cell_some (total losses found.key) (maximum losses found.key) found.some)
+
+-- ---- the amounts of a summary
+
+-- what the entries of a summary have at its keys is what all entries have
+pub cell_in_summary : (p : Perspective) (s u : ℕ) (x : ℤ) (t : ℕ) (es : List (CellKey × Cell)) → cell_at (summary_entries u (set_entries p s es)) (key_of p s u x t) ≡ cell_at es (key_of p s u x t)
+cell_in_summary p s u x t es =
+    lookup-filter-keys (is_at (key_order.ghosts.cmp (key_of p s u x t))) (λ key. nat_eq key.summary u) true
+    (λ k same. ap (λ key. nat_eq key.summary u) (sym (same_exact (key_of p s u x t) k same)) ∙ (Decides-eqb u u).1 refl) (set_entries p s es)
+    ∙ lookup-filter-keys (is_at (key_order.ghosts.cmp (key_of p s u x t))) (λ key. in_set p s key) true
+    (λ k same. ap (in_set p s) (sym (same_exact (key_of p s u x t) k same)) ∙ is_in_set p s (key_of p s u x t) refl refl) es
+
+-- amounts that are the same at each key of a summary
+pub keys_for_same : (f g : CellKey → ℕ) (p : Perspective) (s u n : ℕ) (sidxs : List ℤ) → ((x : ℤ) (t : ℕ) → f (key_of p s u x t) ≡ g (key_of p s u x t)) → map f (keys_for p s u sidxs n) ≡ map g (keys_for p s u sidxs n)
+keys_for_same f g p s u n [] same = refl
+keys_for_same f g p s u n (x ∷ sidxs) same =
+    ap (map f) (flat_map-cons (λ sidx. map (key_of p s u sidx) (range_with_len 1 n)) x sidxs) ∙ map-append f (map (key_of p s u x) (range_with_len 1 n)) (keys_for p s u sidxs n)
+    ∙ ap (λ zs. zs ++ map f (keys_for p s u sidxs n)) (periods (range_with_len 1 n)) ∙ ap (λ zs. map g (map (key_of p s u x) (range_with_len 1 n)) ++ zs) (keys_for_same f g p s u n sidxs same)
+    ∙ sym (map-append g (map (key_of p s u x) (range_with_len 1 n)) (keys_for p s u sidxs n)) ∙ sym (ap (map g) (flat_map-cons (λ sidx. map (key_of p s u sidx) (range_with_len 1 n)) x sidxs))
+  where
+    periods : (ts : List ℕ) → map f (map (key_of p s u x) ts) ≡ map g (map (key_of p s u x) ts)
+    periods [] = refl
+    periods (t ∷ ts) = ap (λ y. y ∷ map f (map (key_of p s u x) ts)) (same x t) ∙ ap (λ ys. g (key_of p s u x t) ∷ ys) (periods ts)
+
+-- the totals of a summary's entries are those of the losses
+pub totals_of_standing : (p : Perspective) (s u n : ℕ) (losses : List KeyLoss) (es : List (CellKey × Cell)) (sidxs : List ℤ) → Standing losses es →
+    map (λ key. total_in (cell_at (summary_entries u (set_entries p s es)) key)) (keys_for p s u sidxs n) ≡ map (total losses) (keys_for p s u sidxs n)
+totals_of_standing p s u n losses es sidxs stands =
+    keys_for_same (λ key. total_in (cell_at (summary_entries u (set_entries p s es)) key)) (total losses) p s u n sidxs
+    (λ x t. ap total_in (cell_in_summary p s u x t es ∙ stands.cells (key_of p s u x t)) ∙ total_of_cell (total losses (key_of p s u x t)) (maximum losses (key_of p s u x t)))
+
+-- texts that are the same for each
+pub flat_map_each : {X : Type 0} (f g : X → List ℕ) → ((x : X) → f x ≡ g x) → (xs : List X) → flat_map f xs ≡ flat_map g xs
+flat_map_each f g same [] = refl
+flat_map_each f g same (x ∷ xs) = flat_map-cons f x xs ∙ ap (λ t. t ++ flat_map f xs) (same x) ∙ ap (λ t. g x ++ t) (flat_map_each f g same xs) ∙ sym (flat_map-cons g x xs)

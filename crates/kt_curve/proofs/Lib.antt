@@ -1,0 +1,15 @@
+pub mod Keys
+pub mod Steps
+pub mod Walks
+pub mod Grids
+pub mod Moments
+pub mod Parts
+pub mod FirstGroup
+pub mod Ids
+pub mod Averages
+pub mod Ranking
+pub mod Curves
+pub mod SampleRuns
+pub mod Periods
+pub mod Means
+pub mod Exceedances

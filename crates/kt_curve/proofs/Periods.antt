@@ -1,0 +1,104 @@
+-- The sum over the samples of one period is the sum over the entries of that period.
+use Rattle.std.proofs.Common.{◌≡◌, ℕ, ◌+◌, ◌*◌, ◌<◌, ◌≤◌, List, [], ◌∷◌, ◌++◌, map, length, take, get_or, cond, ⊎_elim, arith, refl, sym, ap, ◌∙◌}
+use Rattle.std.specs.Prelude.{Bool, true, false, ◌&&◌, nat_eq, All, ℤ, Option, Some, None, sum, sum_by}
+use Rattle.std.specs.List.{filter}
+use Rattle.std.specs.Ordering.{int_eq}
+use Rattle.std.specs.Map.{keys_of}
+use Rattle.std.proofs.lemmas.Bool.{cases_lt}
+use Rattle.std.proofs.lemmas.Nat.{mul-le}
+use Rattle.std.proofs.Math.Nat.{mul-div-le}
+use Rattle.kt_money.specs.Rounding.{half_up}
+use Rattle.std.proofs.lemmas.List.{take_more}
+use Rattle.std.proofs.lemmas.List.Sums.{sum_by-cons}
+use Rattle.std.proofs.lemmas.List.Elements.{All-head, All-tail, All-nil, All-cons}
+use Rattle.std.proofs.lemmas.Map.Keys.{IsDistinct-from_sorted}
+use Rattle.kt_rec.specs.declared.perspective.Perspective.{Perspective}
+use Rattle.kt_rec.specs.declared.perspective.CellKey.{CellKey}
+use Rattle.kt_rec.specs.contracts.perspective.CellKeyOrd.TheImpl as key_order
+use Rattle.kt_curve.specs.declared.cell.Cell.{Cell}
+use Rattle.kt_curve.specs.Losses.{one_if, same_key, key_of}
+use Rattle.kt_curve.specs.Grid.{IsGroup, sample_sidx, is_mean, same_bool}
+use Rattle.kt_curve.specs.Standing.{cell_at, FitsCells}
+use Rattle.kt_curve.specs.Amounts.{of_period, amount_in, amounts_of}
+use Rattle.kt_curve.proofs.Grids.{grid_sum, sum_filter, times, times_map, times_same, same_by_parts, kind_times}
+use Rattle.kt_curve.proofs.Moments.{sum_by_map}
+
+-- the keys of one period, of which those of a sidx are one's own where it is that period
+period_times : (p : Perspective) (s u : ℕ) (y : ℤ) (t k : ℕ) (sidxs : List ℤ) (b : Bool) → times (λ x. int_eq x y) sidxs ≡ one_if b →
+    times (λ key. same_key key (key_of p s u y k)) (map (λ x. key_of p s u x t) sidxs) ≡ one_if (b && nat_eq t k)
+period_times p s u y t k sidxs b is =
+    times_map (λ key. same_key key (key_of p s u y k)) (λ x. key_of p s u x t) sidxs
+    ∙ times_same (λ x. same_key (key_of p s u x t) (key_of p s u y k)) (λ x. int_eq x y && nat_eq t k) (λ x. same_by_parts p s u x y t k) sidxs
+    ∙ by_period (nat_eq t k)
+  where
+    never : (xs : List ℤ) → times (λ x. int_eq x y && false) xs ≡ 0
+    never [] = refl
+    never (x ∷ xs) = sum_by-cons (λ z. one_if (int_eq z y && false)) x xs ∙ omega (arith, ap one_if (nothing (int_eq x y)), never xs)
+      where
+        nothing : (a : Bool) → a && false ≡ false
+        nothing true = refl
+        nothing false = refl
+
+    always : (a : Bool) → a && true ≡ a
+    always true = refl
+    always false = refl
+
+    by_period : (c : Bool) → times (λ x. int_eq x y && c) sidxs ≡ one_if (b && c)
+    by_period true = times_same (λ x. int_eq x y && true) (λ x. int_eq x y) (λ x. always (int_eq x y)) sidxs ∙ is ∙ ap one_if (sym (always b))
+    by_period false = never sidxs ∙ ap one_if (sym (none b))
+      where
+        none : (a : Bool) → a && false ≡ false
+        none true = refl
+        none false = refl
+
+-- the sum over the samples of a period is the sum over its entries
+pub period_sum : (f : Option Cell → ℕ) → f None ≡ 0 → (p : Perspective) (s n samples u : ℕ) (group : List (CellKey × Cell)) (t : ℕ) → IsGroup p s n samples u group →
+    sum_by (λ x. f (cell_at group (key_of p s u x t))) (sample_sidx samples) ≡ sum_by (λ e. f (Some e.1)) (filter (of_period t) group)
+period_sum f none p s n samples u group t is =
+    sym (sum_by_map (λ key. f (cell_at group key)) (λ x. key_of p s u x t) (sample_sidx samples))
+    ∙ grid_sum f none group (IsDistinct-from_sorted key_order.ghosts.cmp (keys_of group) is.sorted) (map (λ x. key_of p s u x t) (sample_sidx samples))
+    ∙ sum_filter (of_period t) (λ e. times (λ key. same_key key e.0) (map (λ x. key_of p s u x t) (sample_sidx samples))) (λ e. f (Some e.1)) group (all group is.fitting is.own)
+  where
+    one : (e : CellKey × Cell) → FitsCells n samples e.0 e.1 → e.0 ≡ key_of p s u e.0.sidx e.0.period →
+        times (λ key. same_key key e.0) (map (λ x. key_of p s u x t) (sample_sidx samples)) ≡ one_if (of_period t e)
+    one e fits own =
+        ap (λ k. times (λ key. same_key key k) (map (λ x. key_of p s u x t) (sample_sidx samples))) own
+        ∙ period_times p s u e.0.sidx t e.0.period (sample_sidx samples) (same_bool (is_mean e.0.sidx) false) (kind_times false samples e.0.sidx fits.sidx)
+
+    all : (es : List (CellKey × Cell)) → All (λ e. FitsCells n samples e.0 e.1) es → All (λ e. e.0 ≡ key_of p s u e.0.sidx e.0.period) es →
+        All (λ e. times (λ key. same_key key e.0) (map (λ x. key_of p s u x t) (sample_sidx samples)) ≡ one_if (of_period t e)) es
+    all [] fits own = All-nil _
+    all (e ∷ es) fits own =
+        All-cons (λ (e : CellKey × Cell). times (λ key. same_key key e.0) (map (λ x. key_of p s u x t) (sample_sidx samples)) ≡ one_if (of_period t e)) e es
+        (one e (All-head (λ (e : CellKey × Cell). FitsCells n samples e.0 e.1) e es fits) (All-head (λ (e : CellKey × Cell). e.0 ≡ key_of p s u e.0.sidx e.0.period) e es own))
+        (all es (All-tail (λ (e : CellKey × Cell). FitsCells n samples e.0 e.1) e es fits) (All-tail (λ (e : CellKey × Cell). e.0 ≡ key_of p s u e.0.sidx e.0.period) e es own))
+
+-- the amounts of one entry more
+pub amounts_more : (maxima : Bool) (test : CellKey × Cell → Bool) (es : List (CellKey × Cell)) (i : ℕ) (d : CellKey × Cell) → i < length es →
+    sum (amounts_of maxima test (take (i + 1) es)) ≡ sum (amounts_of maxima test (take i es)) + cond (test (get_or es i d)) (amount_in maxima (Some (get_or es i d).1)) 0
+amounts_more maxima test es i d inside =
+    ap (λ zs. sum (amounts_of maxima test zs)) (take_more es i d inside) ∙ at_end (take i es) (get_or es i d)
+  where
+    at_end : (zs : List (CellKey × Cell)) (e : CellKey × Cell) → sum (amounts_of maxima test (zs ++ e ∷ [])) ≡ sum (amounts_of maxima test zs) + cond (test e) (amount_in maxima (Some e.1)) 0
+    at_end [] e = by_test (test e)
+      where
+        by_test : (b : Bool) → sum (map (λ (entry : CellKey × Cell). amount_in maxima (Some entry.1)) (cond b (e ∷ []) [])) ≡ 0 + cond b (amount_in maxima (Some e.1)) 0
+        by_test true = refl
+        by_test false = refl
+    at_end (z ∷ zs) e = by_test (test z) (at_end zs e)
+      where
+        by_test : (b : Bool) → sum (amounts_of maxima test (zs ++ e ∷ [])) ≡ sum (amounts_of maxima test zs) + cond (test e) (amount_in maxima (Some e.1)) 0 →
+            sum (map (λ (entry : CellKey × Cell). amount_in maxima (Some entry.1)) (cond b (z ∷ filter test (zs ++ e ∷ [])) (filter test (zs ++ e ∷ []))))
+            ≡ sum (map (λ (entry : CellKey × Cell). amount_in maxima (Some entry.1)) (cond b (z ∷ filter test zs) (filter test zs))) + cond (test e) (amount_in maxima (Some e.1)) 0
+        by_test true later = omega (arith, later, sum_by-cons (λ (x : ℕ). x) (amount_in maxima (Some z.1)) (amounts_of maxima test (zs ++ e ∷ [])), sum_by-cons (λ (x : ℕ). x) (amount_in maxima (Some z.1)) (amounts_of maxima test zs))
+        by_test false later = later
+
+-- the mean of a sum that is at most so many times an amount is at most the amount
+pub mean-le : (total samples most : ℕ) → 1 ≤ samples → total ≤ samples * most → half_up total samples ≤ most
+mean-le total samples most some within =
+    ⊎_elim
+    (λ (more : most < half_up total samples).
+    let low = mul-le (2 * samples) (most + 1) (2 * samples) (half_up total samples) (omega arith) (omega arith) in
+    let high = mul-div-le (2 * total + samples) (2 * samples) in
+    absurd (omega (arith, low, high, within)))
+    (λ (less : half_up total samples ≤ most). less) (cases_lt most (half_up total samples))

@@ -1,0 +1,15 @@
+-- The losses of the first pairs of a record.
+use Rattle.std.proofs.Common.{◌≡◌, ◌≤◌, List, take}
+use Rattle.std.specs.Prelude.{All}
+use Rattle.std.specs.List.{flat_map}
+use Rattle.kt_curve.specs.Losses.{KeyLoss, pair_losses}
+use Rattle.kt_curve.specs.Standing.{most_total, Standing}
+use Rattle.kt_curve.specs.Journal.{Going}
+use Rattle.kt_curve.proofs.cells.Cells.add_pairs.Given as goal
+
+abbrev pub invariant-loop-pair : goal.invariant-loop-pair
+invariant-loop-pair l = record {
+  size : (l.self.periods ≡ l.fn.self.periods) × (l.self.samples ≡ l.fn.self.samples);
+  greatest : All (λ change. change.greatest ≤ most_total) l.journal.items;
+  going : (before : List KeyLoss) → Standing before l.fn.self.entries → Going before (flat_map (pair_losses l.perspective l.set l.summary l.at) (take l.pair-index l.pairs)) l.journal.items l.self.entries;
+}

@@ -1,0 +1,10 @@
+pub mod Losses
+pub mod Standing
+pub mod Journal
+pub mod Grid
+pub mod Average
+pub mod Amounts
+pub mod Ranks
+pub mod Exceedance
+pub mod Examples
+pub mod CurveExamples

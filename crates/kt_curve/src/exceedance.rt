@@ -1,0 +1,125 @@
+//! The rows of one exceedance curve.
+//! The rules: docs/CALCULATION.md, "Exceedance curves"; docs/OUTPUTS.md, "Exceedance curve tables".
+ghost use Rattle.std.specs.Prelude.{◌≡◌, ◌+◌, ◌-◌, ◌*◌, ◌/◌, ◌≤◌, ◌<◌, ◌^◌, ℕ, List, ◌++◌, length, All, OnOk};
+ghost use Rattle.std.specs.List.{slice_index};
+ghost use Rattle.kt_curve.specs.Standing.{most_total};
+ghost use Rattle.kt_curve.specs.Exceedance.{loss_between, lec_row, curve_rows, exceedance_loss};
+ghost use Rattle.kt_curve.specs.Ranks.{SameRanks, Falls, reaching};
+
+use kt_money::{Bytes, OutOfMemory, Row};
+
+/// Sorts values so that they fall.
+pub(crate) fn rank(values: &mut [u64])
+    ensures falls { Falls values.new }
+    ensures same { (least : ℕ) → reaching least values.new ≡ reaching least values.old }
+    ensures len { length values.new ≡ length values.old }
+    ensures most { All (λ value. value ≤ most_total) values.old → All (λ value. value ≤ most_total) values.new }
+{
+    values.sort_unstable();
+    values.reverse();
+}
+
+/// The loss of a rank, counted from 0; 0 behind the last.
+fn loss_of_rank(ranked: &[u64], rank: u64) -> u64
+    ensures value { result ≡ slice_index ranked.now rank }
+{
+    match usize::try_from(rank) {
+        Ok(place) if place < ranked.len() => ranked[place],
+        _ => 0,
+    }
+}
+
+/// What lies between two ranked losses.
+fn between(count: u64, period: u32, rank: u64, upper: u64, lower: u64) -> u64
+    requires some { 1 ≤ period }
+    requires count { count ≤ 10 ^ 8 }
+    requires within { period ≤ count }
+    requires rank { rank ≡ count / period }
+    requires upper { upper ≤ most_total }
+    requires falls { lower ≤ upper }
+    ensures value { result ≡ loss_between count period rank upper lower }
+{
+    let weight = rank * (u64::from(period) * (rank + 1) - count);
+    let part = u128::from(weight) * u128::from(upper - lower) / u128::from(count);
+    lower + part as u64
+}
+
+/// The loss of a return period, of ranked losses among `count` values.
+fn exceedance_loss(ranked: &[u64], count: u64, period: u32) -> u64
+    requires some { 1 ≤ period }
+    requires count { count ≤ 10 ^ 8 }
+    requires within { period ≤ count }
+    requires falls { Falls ranked.now }
+    requires most { All (λ value. value ≤ most_total) ranked.now }
+    ensures value { (values : List ℕ) → SameRanks ranked.now values → result ≡ exceedance_loss count values period }
+{
+    let rank = count / u64::from(period);
+    let upper = loss_of_rank(ranked, rank - 1);
+    let lower = loss_of_rank(ranked, rank);
+    between(count, period, rank, upper, lower)
+}
+
+/// Appends a row: the summary id, the type or sidx, the return period and its loss. An error is want of memory.
+fn append_row(
+    out: &mut Bytes,
+    summary: u32,
+    column: u32,
+    period: u32,
+    loss: u64,
+) -> Result<(), OutOfMemory>
+    ensures ok { OnOk result (out.new ≡ out.old ++ lec_row summary column period loss) }
+{
+    let mut row = Row::new();
+    row.put_byte(b'\n');
+    row.put_money(loss);
+    row.put_byte(b',');
+    row.put_count(u64::from(period));
+    row.put_byte(b',');
+    row.put_count(u64::from(column));
+    row.put_byte(b',');
+    row.put_count(u64::from(summary));
+    out.append(row.as_slice())
+}
+
+/// Appends the rows of a curve: of `count` values, of which those above 0 are ranked. An error is want of memory.
+pub(crate) fn append_curve(
+    out: &mut Bytes,
+    summary: u32,
+    column: u32,
+    count: u64,
+    ranked: &[u64],
+    returns: &[u32],
+) -> Result<(), OutOfMemory>
+    requires count { count ≤ 10 ^ 8 }
+    requires falls { Falls ranked.now }
+    requires most { All (λ value. value ≤ most_total) ranked.now }
+    requires returns { All (λ period. 1 ≤ period) returns.now }
+    ensures ok { OnOk result ((values : List ℕ) → SameRanks ranked.now values → out.new ≡ out.old ++ curve_rows summary column count values returns.now) }
+{
+    for period in returns {
+        if u64::from(*period) > count {
+            continue;
+        }
+        let loss = exceedance_loss(ranked, count, *period);
+        append_row(out, summary, column, *period, loss)?;
+    }
+    Ok(())
+}
+
+/// Appends the rows of a curve of `count` values, of which those that are not listed are 0. An error is want of memory.
+pub(crate) fn append_values(
+    out: &mut Bytes,
+    summary: u32,
+    column: u32,
+    count: u64,
+    values: &mut [u64],
+    returns: &[u32],
+) -> Result<(), OutOfMemory>
+    requires count { count ≤ 10 ^ 8 }
+    requires most { All (λ value. value ≤ most_total) values.old }
+    requires returns { All (λ period. 1 ≤ period) returns.now }
+    ensures ok { OnOk result ((whole : List ℕ) → SameRanks values.old whole → out.new ≡ out.old ++ curve_rows summary column count whole returns.now) }
+{
+    rank(values);
+    append_curve(out, summary, column, count, values, returns)
+}

@@ -1,0 +1,119 @@
+//! The full and wheat curves of a summary.
+//! The rules: docs/CALCULATION.md, "Kinds of exceedance curves"; docs/OUTPUTS.md, "Exceedance curve tables".
+ghost use Rattle.std.specs.Prelude.{◌≡◌, ◌+◌, ◌*◌, ◌≤◌, ℕ, ◌++◌, map, pos, if◌then◌else◌, All, OnOk, true};
+ghost use Rattle.kt_rec.specs.declared.perspective.Perspective.{Perspective};
+ghost use Rattle.kt_curve.specs.Grid.{IsGroup, keys_for, sidx_of_kind};
+ghost use Rattle.kt_curve.specs.Standing.{cell_at};
+ghost use Rattle.kt_curve.specs.Amounts.{amount_in};
+ghost use Rattle.kt_curve.specs.Exceedance.{full_rows, wheat_rows, curve_rows, sidx_values};
+
+use crate::amounts::{kind_amounts, sample_amounts};
+use crate::average::count_of;
+use crate::cell::Cell;
+use crate::exceedance::append_values;
+use kt_money::{Bytes, OutOfMemory};
+use kt_rec::CellKey;
+use std::alloc::Global;
+
+/// A summary's entries, and what a curve takes of them.
+#[derive(Clone, Copy)]
+pub(crate) struct Group<'a> {
+    /// The summary id.
+    pub(crate) summary: u32,
+    /// Its entries.
+    pub(crate) entries: &'a [(CellKey, Cell)],
+    /// The number of periods.
+    pub(crate) periods: u32,
+    /// The number of samples.
+    pub(crate) samples: u32,
+    /// Whether the maxima are taken, or the totals.
+    pub(crate) maxima: bool,
+}
+
+/// Appends the rows of one type of a full curve. An error is want of memory.
+fn append_kind(
+    out: &mut Bytes,
+    alloc: Global,
+    group: &Group<'_>,
+    column: u32,
+    mean: bool,
+    returns: &[u32],
+) -> Result<(), OutOfMemory>
+    requires group { (perspective : Perspective) × (set : ℕ) × IsGroup perspective set group.now.periods group.now.samples group.now.summary group.now.entries.now }
+    requires returns { All (λ period. 1 ≤ period) returns.now }
+    ensures ok { OnOk result ((perspective : Perspective) (set : ℕ) → IsGroup perspective set group.now.periods group.now.samples group.now.summary group.now.entries.now →
+        out.new ≡ out.old ++ curve_rows group.now.summary column (if mean then group.now.periods else group.now.periods * group.now.samples) (map (λ key. amount_in group.now.maxima (cell_at group.now.entries.now key)) (keys_for perspective set group.now.summary (sidx_of_kind mean group.now.samples) group.now.periods)) returns.now) }
+{
+    let mut values = kind_amounts(alloc, group.entries, mean, group.maxima)?;
+    let count = count_of(group.periods, group.samples, mean);
+    append_values(
+        out,
+        group.summary,
+        column,
+        count,
+        values.as_mut_slice(),
+        returns,
+    )?;
+    Ok(())
+}
+
+/// Appends the rows of a full curve. An error is want of memory.
+pub(crate) fn append_full(
+    out: &mut Bytes,
+    alloc: Global,
+    group: &Group<'_>,
+    returns: &[u32],
+) -> Result<(), OutOfMemory>
+    requires group { (perspective : Perspective) × (set : ℕ) × IsGroup perspective set group.now.periods group.now.samples group.now.summary group.now.entries.now }
+    requires returns { All (λ period. 1 ≤ period) returns.now }
+    ensures ok { OnOk result ((perspective : Perspective) (set : ℕ) → IsGroup perspective set group.now.periods group.now.samples group.now.summary group.now.entries.now →
+        out.new ≡ out.old ++ full_rows perspective set group.now.periods group.now.samples (λ key. amount_in group.now.maxima (cell_at group.now.entries.now key)) returns.now group.now.summary) }
+{
+    append_kind(out, alloc, group, 1, true, returns)?;
+    append_kind(out, alloc, group, 2, false, returns)?;
+    Ok(())
+}
+
+/// Appends the rows of one sample's curve. An error is want of memory.
+fn append_sample(
+    out: &mut Bytes,
+    alloc: Global,
+    group: &Group<'_>,
+    sample: u32,
+    returns: &[u32],
+) -> Result<(), OutOfMemory>
+    requires group { (perspective : Perspective) × (set : ℕ) × IsGroup perspective set group.now.periods group.now.samples group.now.summary group.now.entries.now }
+    requires sample { 1 ≤ sample }
+    requires returns { All (λ period. 1 ≤ period) returns.now }
+    ensures ok { OnOk result ((perspective : Perspective) (set : ℕ) → IsGroup perspective set group.now.periods group.now.samples group.now.summary group.now.entries.now →
+        out.new ≡ out.old ++ curve_rows group.now.summary sample group.now.periods (sidx_values perspective set group.now.periods (λ key. amount_in group.now.maxima (cell_at group.now.entries.now key)) group.now.summary (pos sample)) returns.now) }
+{
+    let mut values = sample_amounts(alloc, group.entries, sample, group.maxima)?;
+    append_values(
+        out,
+        group.summary,
+        sample,
+        u64::from(group.periods),
+        values.as_mut_slice(),
+        returns,
+    )?;
+    Ok(())
+}
+
+/// Appends the rows of the curves of all samples. An error is want of memory.
+pub(crate) fn append_wheat(
+    out: &mut Bytes,
+    alloc: Global,
+    group: &Group<'_>,
+    returns: &[u32],
+) -> Result<(), OutOfMemory>
+    requires group { (perspective : Perspective) × (set : ℕ) × IsGroup perspective set group.now.periods group.now.samples group.now.summary group.now.entries.now }
+    requires returns { All (λ period. 1 ≤ period) returns.now }
+    ensures ok { OnOk result ((perspective : Perspective) (set : ℕ) → IsGroup perspective set group.now.periods group.now.samples group.now.summary group.now.entries.now →
+        out.new ≡ out.old ++ wheat_rows perspective set group.now.periods group.now.samples (λ key. amount_in group.now.maxima (cell_at group.now.entries.now key)) returns.now group.now.summary) }
+{
+    for sample in 1..group.samples + 1 {
+        append_sample(out, alloc, group, sample, returns)?;
+    }
+    Ok(())
+}

@@ -1,0 +1,147 @@
+//! The tables of exceedance curves.
+//! The rules: docs/CALCULATION.md, "Exceedance curves"; docs/OUTPUTS.md, "Exceedance curve tables".
+ghost use Rattle.std.specs.Prelude.{◌≡◌, ◌≤◌, ℕ, List, ◌++◌, All, IfOk, OnOk, OnErr};
+ghost use Rattle.kt_rec.specs.declared.perspective.Perspective.{Perspective};
+ghost use Rattle.kt_curve.specs.Grid.{IsGroup, IsPart, by_summary};
+ghost use Rattle.kt_curve.specs.Losses.{Added, all_losses};
+ghost use Rattle.kt_curve.specs.Standing.{StandsFor, cell_at};
+ghost use Rattle.kt_curve.specs.Amounts.{amount_in};
+ghost use Rattle.kt_curve.specs.Exceedance.{lec_heading_text, by_sidx, takes_maxima, lec_rows, exceedance_rows};
+
+use crate::cell::Cell;
+use crate::cells::Cells;
+use crate::curve::Curve;
+use crate::group::group_length;
+use crate::kinds::{Group, append_full, append_wheat};
+use crate::mean_curves::{append_period_means, append_rank_means};
+use kt_money::{Bytes, OutOfMemory};
+use kt_rec::{CellKey, Perspective};
+use std::alloc::Global;
+
+/// Whether the table of a curve names a sidx in each row, or a type.
+fn is_by_sidx(curve: Curve) -> bool
+    ensures value { result ≡ by_sidx curve }
+{
+    matches!(curve, Curve::WheatAep | Curve::WheatOep)
+}
+
+/// The first line of the table of a curve, with its LF: the names of the columns.
+pub fn lec_heading(curve: Curve) -> &'static [u8]
+    ensures value { result.now ≡ lec_heading_text (by_sidx curve) }
+{
+    if is_by_sidx(curve) {
+        b"summary_id,sidx,return_period,loss\n"
+    } else {
+        b"summary_id,type,return_period,loss\n"
+    }
+}
+
+/// Whether a curve takes the maxima of the periods, or their totals.
+fn takes_maxima(curve: Curve) -> bool
+    ensures value { result ≡ takes_maxima curve }
+{
+    matches!(
+        curve,
+        Curve::FullOep | Curve::SampleOep | Curve::WheatOep | Curve::WheatmeanOep
+    )
+}
+
+/// Appends the rows of a summary. An error is want of memory.
+fn append_group(
+    out: &mut Bytes,
+    alloc: Global,
+    group: &Group<'_>,
+    curve: Curve,
+    returns: &[u32],
+) -> Result<(), OutOfMemory>
+    requires group { (perspective : Perspective) × (set : ℕ) × IsGroup perspective set group.now.periods group.now.samples group.now.summary group.now.entries.now }
+    requires returns { All (λ period. 1 ≤ period) returns.now }
+    ensures ok { OnOk result ((perspective : Perspective) (set : ℕ) → IsGroup perspective set group.now.periods group.now.samples group.now.summary group.now.entries.now →
+        out.new ≡ out.old ++ lec_rows curve perspective set group.now.periods group.now.samples (λ key. amount_in group.now.maxima (cell_at group.now.entries.now key)) returns.now group.now.summary) }
+{
+    match curve {
+        Curve::FullAep | Curve::FullOep => append_full(out, alloc, group, returns),
+        Curve::SampleAep | Curve::SampleOep => append_period_means(out, alloc, group, returns),
+        Curve::WheatAep | Curve::WheatOep => append_wheat(out, alloc, group, returns),
+        Curve::WheatmeanAep | Curve::WheatmeanOep => append_rank_means(out, alloc, group, returns),
+    }
+}
+
+/// Appends the rows of a perspective and set, summary by summary. An error is want of memory.
+fn append_groups(
+    out: &mut Bytes,
+    alloc: Global,
+    entries: &[(CellKey, Cell)],
+    periods: u32,
+    samples: u32,
+    curve: Curve,
+    returns: &[u32],
+) -> Result<(), OutOfMemory>
+    requires part { (perspective : Perspective) × (set : ℕ) × IsPart perspective set periods samples entries.now }
+    requires returns { All (λ period. 1 ≤ period) returns.now }
+    ensures ok { OnOk result ((perspective : Perspective) (set : ℕ) → IsPart perspective set periods samples entries.now →
+        out.new ≡ out.old ++ by_summary perspective set (λ summary group. lec_rows curve perspective set periods samples (λ key. amount_in (takes_maxima curve) (cell_at group key)) returns.now summary) entries.now) }
+{
+    let maxima = takes_maxima(curve);
+    let mut rest = entries;
+    while let Some(first) = rest.first() {
+        let summary = first.0.summary;
+        let (entries, later) = rest.split_at(group_length(summary, rest));
+        let group = Group {
+            summary,
+            entries,
+            periods,
+            samples,
+            maxima,
+        };
+        append_group(out, alloc, &group, curve, returns)?;
+        rest = later;
+    }
+    Ok(())
+}
+
+/// The rows of a perspective and set. An error is want of memory.
+fn set_curves(
+    cells: &Cells,
+    perspective: Perspective,
+    set: u32,
+    curve: Curve,
+    returns: &[u32],
+) -> Result<Bytes, OutOfMemory>
+    requires { All (λ period. 1 ≤ period) returns.now }
+    ensures { IfOk result (λ text. (history : List Added) → StandsFor history cells.now → text ≡ exceedance_rows curve perspective set cells.now.periods cells.now.samples (all_losses history) returns.now) }
+{
+    let entries = cells.set_entries(perspective, set)?;
+    let mut text = Bytes::new(cells.alloc());
+    let (periods, samples) = (cells.periods(), cells.samples());
+    append_groups(
+        &mut text,
+        cells.alloc(),
+        entries.as_slice(),
+        periods,
+        samples,
+        curve,
+        returns,
+    )?;
+    Ok(text)
+}
+
+/// Appends the rows of an exceedance curve of a perspective and set: for each summary with a cell, by rising id, and for each
+/// type or sidx the loss in cents that is reached once in so many periods, at each return period of `returns` that is at most
+/// the number of ranked values, in their order. Each return period is above 0. An error is want of memory, and `out` is then
+/// as it was.
+pub fn lec_text(
+    out: &mut Bytes,
+    cells: &Cells,
+    perspective: Perspective,
+    set: u32,
+    curve: Curve,
+    returns: &[u32],
+) -> Result<(), OutOfMemory>
+    requires { All (λ period. 1 ≤ period) returns.now }
+    ensures ok { (history : List Added) → StandsFor history cells.now → OnOk result (out.new ≡ out.old ++ exceedance_rows curve perspective set cells.now.periods cells.now.samples (all_losses history) returns.now) }
+    ensures unchanged { OnErr result (out.new ≡ out.old) }
+{
+    let text = set_curves(cells, perspective, set, curve, returns)?;
+    out.append(text.as_slice())
+}

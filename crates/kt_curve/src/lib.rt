@@ -1,0 +1,21 @@
+//! Period totals and maxima of summary records, and the tables of them: average annual loss and exceedance curves.
+#![tactic(auto)]
+
+mod amounts;
+mod average;
+mod cell;
+mod cells;
+mod curve;
+mod exceedance;
+mod group;
+mod kinds;
+mod lec;
+mod mean_curves;
+mod samples;
+mod shared;
+
+pub use average::{aal_heading, aal_text};
+pub use cell::CellStop;
+pub use cells::Cells;
+pub use curve::Curve;
+pub use lec::{lec_heading, lec_text};

@@ -1,0 +1,60 @@
+-- The places of rising ids are found by halving.
+use Rattle.std.specs.Prelude.{◌≡◌, ℕ, zero, suc, ◌<◌, ◌≤◌, Bool, true, false, cond, List, [], ◌∷◌, length, nat_eq, Err, ◌||◌}
+use Rattle.std.specs.List.{AllByRecursion, filter, list_any}
+use Rattle.std.specs.List.Sorted.{IsBinarySearchResult}
+use Rattle.std.specs.Ordering.{nat_cmp}
+use Rattle.std.proofs.Common.{get_or, refl, sym, arith, inl, inr}
+use Rattle.std.proofs.lemmas.Bool.{eqb-true, true≢false, cases_lt}
+use Rattle.std.proofs.lemmas.List.Sorted.{searched}
+use Rattle.kt_tree.specs.Rising.{IsRising}
+
+-- rising ids do not fall
+pub rising-order : (ids : List ℕ) → IsRising ids → (i j : ℕ) → i ≤ j → j < length ids → get_or ids i 0 ≤ get_or ids j 0
+unfolding IsRising
+rising-order [] rises i j less below = absurd (omega arith)
+rising-order (id ∷ ids) rises zero zero less below = omega arith
+rising-order (id ∷ ids) rises zero (suc j) less below = let up = above-at ids rises.0 j (omega arith) in omega arith
+  where
+    above-at : (others : List ℕ) → AllByRecursion (λ other. id < other) others → (j : ℕ) → j < length others → id < get_or others j 0
+    above-at [] all j below = absurd (omega arith)
+    above-at (other ∷ others) all zero below = all.0
+    above-at (other ∷ others) all (suc j) below = above-at others all.1 j (omega arith)
+rising-order (id ∷ ids) rises (suc i) zero less below = absurd (omega arith)
+rising-order (id ∷ ids) rises (suc i) (suc j) less below = rising-order ids rises.1 i j (omega arith) (omega arith)
+
+-- an id that is among others has a place
+pub place-of : (id : ℕ) (ids : List ℕ) → list_any (nat_eq id) ids ≡ true → (k : ℕ) × (k < length ids) × (get_or ids k 0 ≡ id)
+place-of id [] member = absurd (true≢false (sym member))
+place-of id (first ∷ ids) member = by (nat_eq id first) refl member (place-of id ids)
+  where
+    by : (b : Bool) → nat_eq id first ≡ b → (b || list_any (nat_eq id) ids) ≡ true → (list_any (nat_eq id) ids ≡ true → (k : ℕ) × (k < length ids) × (get_or ids k 0 ≡ id)) → (k : ℕ) × (k < length (first ∷ ids)) × (get_or (first ∷ ids) k 0 ≡ id)
+    by true is member rest = (0, omega arith, sym (eqb-true id first is))
+    by false is member rest = let found = rest member in (suc found.0, (let h = found.1 in omega arith), found.2)
+
+-- a search finds each id that is there
+pub not-missed : (ids : List ℕ) (id at : ℕ) → IsRising ids → list_any (nat_eq id) ids ≡ true → IsBinarySearchResult (λ other. nat_cmp other id) ids (Err at) → ⊥
+not-missed ids id at rises member missed =
+    let found = place-of id ids member in
+    let parts = searched ids id (Err at) missed (rising-order ids rises) in
+    elim (cases_lt found.0 at) [
+      | inl before ↦ let low = parts.1 found.0 before in let here = found.2 in omega arith
+      | inr behind ↦ let high = parts.2 found.0 behind found.1 in let here = found.2 in omega arith
+    ]
+
+-- those of rising ids that pass a test rise
+pub rising-filter : (test : ℕ → Bool) (ids : List ℕ) → IsRising ids → IsRising (filter test ids)
+unfolding IsRising
+rising-filter test [] rises = tt
+rising-filter test (id ∷ ids) rises = by (test id) (rising-filter test ids rises.1)
+  where
+    above : (rest : List ℕ) → AllByRecursion (λ other. id < other) rest → AllByRecursion (λ other. id < other) (filter test rest)
+    above [] all = tt
+    above (other ∷ rest) all = kept (test other) (above rest all.1)
+      where
+        kept : (b : Bool) → AllByRecursion (λ next. id < next) (filter test rest) → AllByRecursion (λ next. id < next) (cond b (other ∷ filter test rest) (filter test rest))
+        kept true passed = (all.0, passed)
+        kept false passed = passed
+
+    by : (b : Bool) → IsRising (filter test ids) → IsRising (cond b (id ∷ filter test ids) (filter test ids))
+    by true passed = (above ids rises.0, passed)
+    by false passed = passed

@@ -1,0 +1,34 @@
+//! The places of the ids in the order of the tree.
+//! The rule: docs/FINANCIAL_MODULE.md, "Levels".
+ghost use Rattle.std.specs.Prelude.{◌≡◌, ◌<◌, nat_eq, true, length, map, All, IfOk, slice_index};
+ghost use Rattle.std.specs.List.{AllByRecursion, list_any};
+ghost use Rattle.kt_tree.specs.Rising.{IsRising};
+
+use std::alloc::{AllocError, Global};
+
+/// The place of an id among rising ids that have it.
+fn place_of(ids: &[u32], id: u32) -> usize
+    requires rising { IsRising ids.now }
+    requires member { list_any (nat_eq id) ids.now ≡ true }
+    ensures within { result < length ids.now }
+    ensures value { slice_index ids.now result ≡ id }
+{
+    match ids.binary_search(&id) {
+        Ok(place) => place,
+        Err(_) => unreachable!(),
+    }
+}
+
+/// The places of ids among rising ids.
+pub(crate) fn places(alloc: Global, ids: &[u32], leaves: &[u32]) -> Result<Vec<usize>, AllocError>
+    requires rising { IsRising ids.now }
+    requires members { AllByRecursion (λ id. list_any (nat_eq id) ids.now ≡ true) leaves.now }
+    ensures within { IfOk result (λ places. All (λ place. place < length ids.now) places.items) }
+    ensures value { IfOk result (λ places. map (slice_index ids.now) places.items ≡ leaves.now) }
+{
+    let mut places = Vec::with_capacity(alloc, leaves.len())?;
+    for id in leaves {
+        places.push(place_of(ids, *id))?;
+    }
+    Ok(places)
+}

@@ -1,0 +1,41 @@
+//! The programme of the base or of a reinsurance stage.
+//! The rule: docs/FINANCIAL_MODULE.md, "Levels".
+ghost use Rattle.kt_fmtree.specs.Parts.{HasProgramme};
+
+use crate::node::Node;
+use kt_rules::Profile;
+use std::marker::Model;
+
+/// The tree of a programme, level by level. Contracts see its lists, and say what they give by the trees of which they are the
+/// lists.
+#[derive(Debug, Drop)]
+pub struct Programme {
+    pub(crate) ids: Vec<u32>,
+    pub(crate) leaves: Vec<usize>,
+    pub(crate) levels: Vec<Vec<Node>>,
+    pub(crate) tops: Vec<u32>,
+    pub(crate) layers: Vec<Vec<u32>>,
+    pub(crate) terms: Vec<Vec<Profile>>,
+    pub(crate) beneath: Vec<Vec<u32>>,
+}
+
+impl Model for Programme {
+    ghost use Rattle.kt_fmtree.specs.Parts.{Parts, parts_of};
+
+    ghost Value = { Parts };
+
+    ghost view = { parts_of };
+
+    ghost use Rattle.kt_fmtree.specs.Parts.{HasProgramme};
+
+    ghost invariant = { λ p. HasProgramme (parts_of p) };
+}
+
+impl Programme {
+    /// Says what every programme keeps: it is that of a tree that hangs together.
+    pub fn is_of_a_tree(&self)
+        ensures kept { HasProgramme self.now }
+    {
+        let _ = &self.ids;
+    }
+}

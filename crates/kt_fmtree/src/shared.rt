@@ -1,0 +1,12 @@
+//! The types of this crate may be sent to threads and shared by them.
+use crate::levels::Levels;
+use crate::programme::Programme;
+
+/// Takes what may be sent to threads and shared by them.
+fn is_shared<T: Send + Sync>(_: &T) {}
+
+/// Each type once.
+pub(crate) fn are_shared(programme: &Programme, levels: &Levels) {
+    is_shared(programme);
+    is_shared(levels);
+}

@@ -1,0 +1,2 @@
+pub mod FootRows
+pub mod Seen

@@ -1,0 +1,68 @@
+//! A reader of records that hands something over with the header on which a stage stands.
+//! The rules: docs/STREAMS.md, "Readers".
+use crate::reader::StreamReader;
+use kt_stream::{Entry, Head, Placed, RecordReader, StreamStop, laws};
+
+/// The header of a stream, with what else is known of its records.
+#[derive(Clone, Copy, Debug, PartialEq, Eq)]
+pub struct KnownHead<B> {
+    /// What the stream's header says.
+    pub head: Head,
+    /// What is known beside it.
+    pub known: B,
+}
+
+/// A reader of records that hands over with the header what is known of them: so a stage can rely on the bound that the
+/// reader was told.
+#[derive(Drop)]
+pub struct KnownReader<E: Entry, B> {
+    /// The reader of the records.
+    pub reader: RecordReader<E>,
+    /// What is known beside the header.
+    pub known: B,
+}
+
+impl<E: Entry, B: Copy> StreamReader for KnownReader<E, B> {
+    ghost use Rattle.kt_loop.specs.KnownStreams.{StandsKnown, known_header};
+    ghost use Rattle.kt_loop.specs.RecordStreams.{reading_held};
+
+    type Head = KnownHead<B>;
+
+    type Entry = E;
+
+    ghost represents = { λ contents fed taken it. StandsKnown E B E.form it.known contents fed taken it.reader };
+
+    ghost header = { λ it. known_header it.known it.reader };
+
+    ghost held = { λ it. reading_held it.reader };
+
+    fn head(&self) -> Option<KnownHead<B>> {
+        match self.reader.head() {
+            Some(head) => Some(KnownHead {
+                head,
+                known: self.known,
+            }),
+            None => None,
+        }
+    }
+
+    fn feed(&mut self, piece: &[u8]) -> Result<(), StreamStop> {
+        laws::what_is_read_stays::<E>();
+        self.reader.feed(piece)
+    }
+
+    fn finish(&mut self) -> Result<(), StreamStop> {
+        self.reader.finish()
+    }
+
+    fn take(&mut self) -> Option<Placed<E>> {
+        self.reader.take()
+    }
+
+    fn what_is_read_stays() {
+        laws::what_is_read_stays::<E>();
+        laws::no_header_means_no_records::<E>();
+    }
+
+    fn what_is_held_was_read() {}
+}

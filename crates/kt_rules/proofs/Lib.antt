@@ -1,0 +1,2 @@
+pub mod ProfileLemmas
+pub mod TableLemmas

@@ -1,0 +1,6 @@
+pub mod Amounts
+pub mod Profiles
+pub mod Rules
+pub mod Steps
+pub mod RuleLaws
+pub mod Examples

@@ -1,0 +1,15 @@
+//! The calculation rules of the financial module: what the terms of a profile make of a loss.
+#![tactic(auto)]
+
+mod amounts;
+mod carry;
+pub mod laws;
+mod profile;
+mod rule;
+mod shared;
+mod steps;
+mod table;
+
+pub use carry::Carry;
+pub use profile::{BadProfile, Profile};
+pub use rule::apply;

@@ -1,0 +1,11 @@
+pub mod SidxLemmas
+pub mod AddLemmas
+pub mod PairLemmas
+pub mod RisingLemmas
+pub mod GroupLemmas
+pub mod SpanLemmas
+pub mod GoodLemmas
+pub mod MapLemmas
+pub mod RunLemmas
+pub mod HeldLemmas
+pub mod RunSumLemmas

@@ -1,0 +1,22 @@
+use Rattle.std.proofs.Common.{List, length, map, sym, ap, arith, ◌∙◌}
+use Rattle.std.proofs.lemmas.Bool.{eqb-false, eqb-true}
+use Rattle.kt_stream.specs.declared.entry.Pair.{Pair}
+use Rattle.kt_tables.specs.Lookups.{exposure_of, summary_in}
+use Rattle.kt_sum.proofs.RunLemmas.{group_within, pushed, skipped}
+use Rattle.kt_sum.proofs.run.push_summary.Goals as goal
+
+pub group_pairs-requires-clause-few : goal.group_pairs-requires-clause-few
+group_pairs-requires-clause-few g c =
+    group_within (summary_in c.args.perspective c.args.portfolio.now.rows c.args.set) (exposure_of c.args.perspective c.args.portfolio.now.rows c.args.portfolio.now.need.rule c.args.set) (map g.T.RunEntry.entry_of c.args.records.now) c.args.summary c.args.group.now c.requires.members c.args.least c.requires.losses
+
+pub returns-in_ok-push-clause-ok : goal.returns-in_ok-push-clause-ok
+returns-in_ok-push-clause-ok g c =
+    pushed (summary_in c.args.perspective c.args.portfolio.now.rows c.args.set) (exposure_of c.args.perspective c.args.portfolio.now.rows c.args.portfolio.now.need.rule c.args.set) (map g.T.RunEntry.entry_of c.args.records.now) c.args.summary c.args.group.now c.requires.members
+    c.args.least (length c.args.sums.now) c.requires.span.range_is c.in_ok-pairs.pairs c.in_ok-pairs.ensures.value
+    c.args.made.now.items _ c.event_of.result c.exposure.result c.event_of.ensures.value c.exposure.ensures.value (let some = eqb-false (length c.as_slice.result.now) 0 (sym c.is_empty.ensures ∙ c.if-not-is_empty.true) in omega (arith, ap (λ (pairs : List Pair). length pairs) c.as_slice.ensures.value)) c.in_ok-push.ensures.items
+
+pub returns-else-not-is_empty-clause-ok : goal.returns-else-not-is_empty-clause-ok
+returns-else-not-is_empty-clause-ok g c =
+    skipped (summary_in c.args.perspective c.args.portfolio.now.rows c.args.set) (exposure_of c.args.perspective c.args.portfolio.now.rows c.args.portfolio.now.need.rule c.args.set) (map g.T.RunEntry.entry_of c.args.records.now) c.args.summary c.args.group.now c.requires.members
+    c.args.least (length c.args.sums.now) c.requires.span.range_is c.in_ok-pairs.pairs c.in_ok-pairs.ensures.value
+    c.args.made.now.items (ap (λ (pairs : List Pair). length pairs) (sym c.as_slice.ensures.value) ∙ eqb-true (length c.as_slice.result.now) 0 (sym c.is_empty.ensures ∙ c.if-not-is_empty.false))

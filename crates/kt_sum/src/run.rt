@@ -1,0 +1,167 @@
+//! The summaries of a run.
+//! The rule: docs/CALCULATION.md, "Summaries".
+ghost use Rattle.std.specs.Prelude.{◌≡◌, ℕ, ◌∷◌, [], ◌++◌, length, map, All, IfOk, OnOk};
+ghost use Rattle.std.specs.List.{filter_map};
+ghost use Rattle.std.specs.List.Sorted.{IsNonDecreasingBy};
+ghost use Rattle.kt_stream.specs.Losses.{IsLoss};
+ghost use Rattle.kt_stream.specs.Summary.{IsSummary};
+ghost use Rattle.kt_tables.specs.Lookups.{exposure_of, summary_in};
+ghost use Rattle.kt_sum.specs.RunLosses.{AreWithin};
+ghost use Rattle.kt_sum.specs.Summaries.{event_of, members, summary_of_run, run_summaries};
+ghost use Rattle.kt_sum.specs.Adding.{Holds, IsSpan};
+ghost use Rattle.kt_sum.specs.Mapping.{AreAllMapped, AreNamed, record_at};
+
+use crate::group::{group_end, group_pairs};
+use crate::mapped::{Mapped, mapped_in_order};
+use crate::run_entry::RunEntry;
+use crate::span::span_of;
+use crate::sums::zeros;
+use kt_rec::Perspective;
+use kt_stream::{LossRecord, Placed, Records, SummaryRecord};
+use kt_tables::Portfolio;
+use std::alloc::{AllocError, Global};
+
+/// The event of the records of a run, 0 where there is none.
+fn event_of<T: RunEntry>(records: &[T]) -> u32
+    ensures value { result ≡ event_of (map T.entry_of records.now) }
+{
+    match records {
+        [] => 0,
+        [first, ..] => first.entry().event,
+    }
+}
+
+/// Appends the record of a summary, to which the records of a group come, where there are pairs. The sums are 0 before and
+/// afterwards.
+fn push_summary<T: RunEntry>(
+    alloc: Global,
+    portfolio: &Portfolio,
+    perspective: Perspective,
+    set: u32,
+    records: &[T],
+    summary: u32,
+    group: &[Mapped],
+    least: u64,
+    sums: &mut [u64],
+    made: &mut Vec<SummaryRecord>,
+) -> Result<(), AllocError>
+    requires members { map (record_at (map T.entry_of records.now)) group.now ≡ members (summary_in perspective portfolio.now.rows set) (map T.entry_of records.now) summary }
+    requires named { AreNamed (map T.entry_of records.now) group.now }
+    requires losses { AreWithin (map T.entry_of records.now) }
+    requires span { IsSpan (map T.entry_of records.now) least (length sums.old) }
+    requires zeros { Holds (length sums.old) (λ k. 0) sums.old }
+    ensures ok { OnOk result (made.new.items ≡ made.old.items ++ filter_map (summary_of_run (summary_in perspective portfolio.now.rows set) (exposure_of perspective portfolio.now.rows portfolio.now.need.rule set) (map T.entry_of records.now)) (summary ∷ [])) }
+    ensures zeros { OnOk result (Holds (length sums.old) (λ k. 0) sums.new) }
+{
+    let pairs = group_pairs(alloc, sums, least, records, group)?;
+    if !pairs.as_slice().is_empty() {
+        made.push(SummaryRecord {
+            event: event_of(records),
+            summary,
+            exposure: portfolio.exposure(perspective, set, summary),
+            pairs,
+        })?;
+    }
+    Ok(())
+}
+
+/// The records of the summaries of mapped records, which stand by rising summary.
+fn push_summaries<T: RunEntry>(
+    alloc: Global,
+    portfolio: &Portfolio,
+    perspective: Perspective,
+    set: u32,
+    records: &[T],
+    mapped: &[Mapped],
+    least: u64,
+    sums: &mut [u64],
+) -> Result<Vec<SummaryRecord>, AllocError>
+    requires all { AreAllMapped (summary_in perspective portfolio.now.rows set) (map T.entry_of records.now) mapped.now }
+    requires order { IsNonDecreasingBy (λ mapped. mapped.summary) mapped.now }
+    requires losses { AreWithin (map T.entry_of records.now) }
+    requires span { IsSpan (map T.entry_of records.now) least (length sums.old) }
+    requires zeros { Holds (length sums.old) (λ k. 0) sums.old }
+    ensures value { IfOk result (λ made. made.items ≡ run_summaries perspective portfolio.now.rows portfolio.now.need.rule set (map T.entry_of records.now)) }
+{
+    let mut made = Vec::new(alloc);
+    let mut rest = mapped;
+    while !rest.is_empty() {
+        let summary = rest[0].summary;
+        let (group, later) = rest.split_at(group_end(rest, summary));
+        push_summary(
+            alloc,
+            portfolio,
+            perspective,
+            set,
+            records,
+            summary,
+            group,
+            least,
+            sums,
+            &mut made,
+        )?;
+        rest = later;
+    }
+    Ok(made)
+}
+
+/// The records of the summaries of a set, by rising summary.
+fn summaries_of<T: RunEntry>(
+    alloc: Global,
+    portfolio: &Portfolio,
+    perspective: Perspective,
+    set: u32,
+    records: &[T],
+) -> Result<Records<SummaryRecord>, AllocError>
+    requires losses { AreWithin (map T.entry_of records.now) }
+    ensures value { IfOk result (λ made. made ≡ run_summaries perspective portfolio.now.rows portfolio.now.need.rule set (map T.entry_of records.now)) }
+    ensures good { (samples : ℕ) → All (IsLoss samples) (map T.entry_of records.now) → IfOk result (λ made. All (IsSummary samples) made) }
+{
+    portfolio.keeps_summaries();
+    let mapped = mapped_in_order(alloc, portfolio, perspective, set, records)?;
+    let span = span_of(records);
+    let mut sums = zeros(alloc, span.width)?;
+    let made = push_summaries(
+        alloc,
+        portfolio,
+        perspective,
+        set,
+        records,
+        mapped.as_slice(),
+        span.least,
+        &mut sums,
+    )?;
+    Ok(Records::from_vec(made))
+}
+
+/// The records of the summaries of a set, by rising summary, for the records of one run: one event, rising ids, rising sidx.
+/// The losses of the run add to at most 10^16 cents at each sidx. A summary to which no id of the run is mapped, and one
+/// whose losses add to 0, has no record. An error is want of memory.
+pub fn summarise(
+    alloc: Global,
+    portfolio: &Portfolio,
+    perspective: Perspective,
+    set: u32,
+    records: &[LossRecord],
+) -> Result<Records<SummaryRecord>, AllocError>
+    requires losses { AreWithin records.now }
+    ensures value { IfOk result (λ made. made ≡ run_summaries perspective portfolio.now.rows portfolio.now.need.rule set records.now) }
+    ensures good { (samples : ℕ) → All (IsLoss samples) records.now → IfOk result (λ made. All (IsSummary samples) made) }
+{
+    summaries_of(alloc, portfolio, perspective, set, records)
+}
+
+/// As `summarise`, for records with their places in a stream.
+pub fn summarise_placed(
+    alloc: Global,
+    portfolio: &Portfolio,
+    perspective: Perspective,
+    set: u32,
+    records: &[Placed<LossRecord>],
+) -> Result<Records<SummaryRecord>, AllocError>
+    requires losses { AreWithin (map (λ placed. placed.entry) records.now) }
+    ensures value { IfOk result (λ made. made ≡ run_summaries perspective portfolio.now.rows portfolio.now.need.rule set (map (λ placed. placed.entry) records.now)) }
+    ensures good { (samples : ℕ) → All (IsLoss samples) (map (λ placed. placed.entry) records.now) → IfOk result (λ made. All (IsSummary samples) made) }
+{
+    summaries_of(alloc, portfolio, perspective, set, records)
+}

@@ -1,0 +1,18 @@
+use Rattle.std.proofs.Common.{◌≡◌, List, ◌++◌, ◌∷◌, [], length, sym, subst, ◌∙◌}
+use Rattle.kt_loop.specs.Runs.{bare}
+use Rattle.kt_stream.specs.declared.entry.LossRecord.{LossRecord}
+use Rattle.kt_sum.specs.RunSums.{AreRunSums}
+use Rattle.kt_tools.proofs.SummaryLemmas.{bare_more, front_whole}
+use Rattle.kt_tools.proofs.summarycalc.SetSummariesRunStageHeadLossRecordUnit.judge.Goals as goal
+
+pub returns-clause-ready : goal.returns-clause-ready
+returns-clause-ready c =
+    let samples = c.args.head.samples in
+    let run = c.args._run.now in
+    let placed = c.args.placed.now in
+    let sums = c.add_to_run.new.sums in
+    let long : c.args.self.now.sums.len ≡ length sums = sym (c.add_to_run.auto.sums ∙ c.deref_mut.ensures.len) in
+    let kept = c.add_to_run.ensures.kept (bare run) (subst (AreRunSums samples (bare run)) (sym c.deref_mut.ensures.value) c.requires.ready.0) c.if-not-add_to_run.false in (
+      subst (AreRunSums samples (bare (run ++ placed ∷ []))) (sym (front_whole sums _ _ long)) (subst (λ (records : List LossRecord). AreRunSums samples records sums) (sym (bare_more run placed)) kept),
+      c.requires.ready.1,
+    )

@@ -1,0 +1,24 @@
+-- Where the stage that makes summaries stands.
+-- The rules: docs/COMMANDS.md, "summarycalc".
+use Rattle.std.specs.Prelude.{◌≡◌, ◌⊎◌, ℕ, List, Option, None, Some}
+use Rattle.kt_ends.specs.declared.tool_stop.ToolStop.{ToolStop}
+use Rattle.kt_ends.specs.declared.tool_stop.ToolStop.TheVariants.{Refused, NoMemory}
+use Rattle.kt_keys.specs.declared.need.CheckStop.{CheckStop}
+use Rattle.kt_keys.specs.declared.need.CheckStop.TheVariants.{Check, OutOfMemory}
+use Rattle.kt_ends.specs.declared.status.Refusal.TheVariants as refusal
+use Rattle.kt_load.specs.FileNames.{file_name_of}
+use Rattle.kt_loop.specs.Runs.{bare}
+use Rattle.kt_stream.specs.declared.entry.LossRecord.{LossRecord}
+use Rattle.kt_stream.specs.declared.entry.Placed.{Placed}
+use Rattle.kt_stream.specs.declared.kind.Head.{Head}
+use Rattle.kt_sum.specs.RunSums.{AreRunSums}
+
+-- behind a header the sums are those of the open run
+abbrev pub HoldsSums : Option Head → List (Placed LossRecord) → List ℕ → Type 0
+HoldsSums None run sums = Unit {0}
+HoldsSums (Some head) run sums = AreRunSums head.samples (bare run) sums
+
+-- the stop for tables that a check refuses, or want of memory for the name
+abbrev pub IsCheckStop : CheckStop → ToolStop → Type 0
+IsCheckStop (Check number table row) end = (end ≡ Refused (refusal.Check number (file_name_of table) row)) ⊎ (end ≡ NoMemory)
+IsCheckStop OutOfMemory end = end ≡ NoMemory

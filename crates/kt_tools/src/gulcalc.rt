@@ -1,0 +1,225 @@
+//! The tool that makes the ground-up losses of a stream of damage distributions.
+//! The rules: docs/COMMANDS.md, "gulcalc".
+ghost use Rattle.std.specs.Prelude.{◌≡◌, ◌++◌, ◌≤◌, true, length, OnOk, IfOk};
+ghost use Rattle.std.specs.List.{flat_map};
+ghost use Rattle.kt_ends.specs.Ending.{Ended};
+ghost use Rattle.kt_ends.specs.Stops.{end_status};
+ghost use Rattle.kt_ends.specs.World.{Finds, world};
+ghost use Rattle.kt_keys.specs.Refusals.{is_loaded};
+ghost use Rattle.kt_loop.specs.Runs.{bare};
+ghost use Rattle.kt_out.specs.InputFiles.{InputsState};
+ghost use Rattle.kt_out.specs.OutputFiles.{OutputsState};
+ghost use Rattle.kt_rec.specs.declared.table.Table.TheVariants as table;
+ghost use Rattle.kt_stream.specs.Losses.{loss_bytes};
+ghost use Rattle.kt_tools.specs.GulOutcome.{gul_need as needs, gul_rows_outcome};
+ghost use Rattle.kt_tools.specs.Outcome.{gul_outcome};
+ghost use Rattle.kt_tools.specs.Uses.{ToolEnds, command_uses};
+ghost use Rattle.kt_words.specs.declared.command.Command.TheVariants as Command;
+
+use crate::tables::{load_stop, with_table};
+use kt_checks::Need;
+use kt_ends::ToolStop;
+use kt_gul::ground_up;
+use kt_load::load;
+use kt_loop::laws::{runs_give_their_text, what_is_read_with_more_known_can_be_taken};
+use kt_loop::{KnownHead, KnownReader, RunStage, run_by_run};
+use kt_money::{Bytes, OutOfMemory};
+use kt_out::{Inputs, Sink, Source};
+use kt_rec::{Table, TableSet};
+use kt_stream::{
+    Bin, Bins, Cdf, CdfReader, Head, LossRecord, Placed, StreamKind, put_head, put_loss,
+};
+use kt_tables::Portfolio;
+use std::alloc::{AllocError, Global};
+
+/// What the tool needs: the items, the coverages, the damage bins and the random numbers, for so many samples.
+fn gul_need(samples: u32) -> Need
+    ensures { result ≡ needs samples }
+{
+    let exposure = with_table(with_table(TableSet::new(), Table::Items), Table::Coverages);
+    let loaded = with_table(with_table(exposure, Table::DamageBinDict), Table::Random);
+    Need {
+        loaded,
+        samples,
+        rule: 0,
+        net: false,
+    }
+}
+
+/// Appends records of losses, one after the other.
+fn put_losses(out: &mut Bytes, records: &[LossRecord]) -> Result<(), OutOfMemory>
+    ensures { OnOk result (out.new ≡ out.old ++ flat_map loss_bytes records.now) }
+{
+    for record in records {
+        put_loss(out, record)?;
+    }
+    Ok(())
+}
+
+/// The same bins.
+fn copy_bins(alloc: Global, bins: &[Bin]) -> Result<Bins, AllocError>
+    ensures { IfOk result (λ same. same ≡ bins.now) }
+{
+    let mut items = Vec::with_capacity(alloc, bins.len())?;
+    items.extend_from_slice(bins)?;
+    Ok(Bins::from_vec(items))
+}
+
+/// The distributions of a run without their places in the stream.
+fn bare_run(alloc: Global, run: &[Placed<Cdf>]) -> Result<Vec<Cdf>, AllocError>
+    ensures { IfOk result (λ cdfs. cdfs.items ≡ bare run.now) }
+{
+    let mut cdfs = Vec::with_capacity(alloc, run.len())?;
+    for placed in run {
+        let cdf = &placed.entry;
+        cdfs.push(Cdf {
+            event: cdf.event,
+            areaperil: cdf.areaperil,
+            vulnerability: cdf.vulnerability,
+            bins: copy_bins(alloc, cdf.bins.as_slice())?,
+        })?;
+    }
+    Ok(cdfs)
+}
+
+/// The ground-up losses of the runs of a stream of distributions, by the portfolio that is known with its header.
+#[derive(Drop)]
+struct GroundUp {
+    alloc: Global,
+    samples: u32,
+    cut: bool,
+}
+
+impl<'a> RunStage<KnownHead<&'a Portfolio>, Cdf, ()> for GroundUp {
+    ghost use Rattle.std.specs.Prelude.{◌≡◌, ◌≤◌};
+    ghost use Rattle.kt_stream.specs.Bins.{IsCdf, cdf_form, cdf_shape};
+    ghost use Rattle.kt_stream.specs.Reader.{IsPlaced};
+    ghost use Rattle.kt_stream.specs.declared.entry.Cdf.{Cdf};
+    ghost use Rattle.kt_keys.specs.Refusals.{is_loaded};
+    ghost use Rattle.kt_rec.specs.declared.table.Table.TheVariants as table;
+    ghost use Rattle.kt_tools.specs.GulOutcome.{GulOptions, gul_runs};
+
+    ghost Kept = { GulOptions };
+
+    ghost runs = { gul_runs (λ head. head.known.now.rows) };
+
+    ghost is_at = { λ options stage _. (stage.samples ≡ options.0) × (stage.cut ≡ options.1) };
+
+    ghost is_ready = { λ _ _ stage _. (1 ≤ stage.samples) × (stage.samples ≤ 1000) };
+
+    ghost accepts = { λ head. is_loaded head.known.now.need 0 table.Random ≡ true };
+
+    ghost is_good = { λ head placed. IsPlaced Cdf cdf_form (λ shape samples cdf. IsCdf shape.bins cdf) (cdf_shape (length head.known.now.rows.damage_bin_dict)) head.head placed };
+
+    ghost inputs = { λ others _. others };
+
+    fn open(
+        &mut self,
+        _beside: &mut (),
+        _head: KnownHead<&'a Portfolio>,
+        out: &mut Bytes,
+    ) -> Result<(), ToolStop> {
+        let head = Head {
+            samples: self.samples,
+            set: 0,
+        };
+        put_head(out, StreamKind::Gul, head)?;
+        Ok(())
+    }
+
+    fn judge(
+        &mut self,
+        _beside: &mut (),
+        _head: KnownHead<&'a Portfolio>,
+        _run: &[Placed<Cdf>],
+        _placed: &Placed<Cdf>,
+    ) -> Result<(), ToolStop> {
+        Ok(())
+    }
+
+    fn close(
+        &mut self,
+        _beside: &mut (),
+        head: KnownHead<&'a Portfolio>,
+        run: &[Placed<Cdf>],
+        out: &mut Bytes,
+    ) -> Result<(), ToolStop> {
+        if run.is_empty() {
+            return Ok(());
+        }
+        let event = run[0].entry.event;
+        let cdfs = bare_run(self.alloc, run)?;
+        let records = ground_up(
+            self.alloc,
+            head.known,
+            self.samples,
+            self.cut,
+            event,
+            cdfs.as_slice(),
+        )?;
+        put_losses(out, records.as_slice())?;
+        Ok(())
+    }
+}
+
+/// How many damage bins there are.
+fn bin_count(portfolio: &Portfolio) -> u32
+    requires few { length portfolio.now.rows.damage_bin_dict ≤ 1000 }
+    ensures { result ≡ length portfolio.now.rows.damage_bin_dict }
+{
+    portfolio.damage_bins().len() as u32
+}
+
+/// Reads a stream of distributions and writes their ground-up losses by a portfolio.
+fn write_losses<S: Source, K: Sink>(
+    alloc: Global,
+    samples: u32,
+    cut: bool,
+    portfolio: &Portfolio,
+    source: &mut S,
+    sink: &mut K,
+) -> Result<(), ToolStop>
+    requires random { is_loaded portfolio.now.need 0 table.Random ≡ true }
+    requires bins { is_loaded portfolio.now.need 0 table.DamageBinDict ≡ true }
+    requires some { 1 ≤ samples }
+    requires few { samples ≤ 1000 }
+    ensures { (inputs : InputsState) (outputs : OutputsState) → Ended (Finds (command_uses (Command.Gulcalc samples cut)) (world inputs outputs (S.state source.old) (K.state sink.old))) (command_uses (Command.Gulcalc samples cut)) (λ _ bytes. gul_rows_outcome samples cut portfolio.now.rows bytes) (world inputs outputs (S.state source.old) (K.state sink.old)) (world inputs outputs (S.state source.new) (K.state sink.new)) (end_status result) }
+{
+    portfolio.keeps_damage();
+    runs_give_their_text::<Head, Cdf, (u32, bool)>();
+    runs_give_their_text::<KnownHead<&Portfolio>, Cdf, (u32, bool)>();
+    what_is_read_with_more_known_can_be_taken::<Cdf, &Portfolio>();
+    let reader = CdfReader::new(alloc, bin_count(portfolio));
+    let mut reader = KnownReader {
+        reader,
+        known: portfolio,
+    };
+    let stage = GroundUp {
+        alloc,
+        samples,
+        cut,
+    };
+    run_by_run(alloc, &mut reader, stage, &mut (), source, sink)
+}
+
+/// Loads the tables of the exposure, of the damage bins and of the random numbers, reads a stream of distributions and
+/// writes their ground-up losses.
+pub fn gulcalc<I: Inputs, S: Source, K: Sink>(
+    alloc: Global,
+    samples: u32,
+    cut: bool,
+    inputs: &mut I,
+    source: &mut S,
+    sink: &mut K,
+) -> Result<(), ToolStop>
+    requires some { 1 ≤ samples }
+    requires few { samples ≤ 1000 }
+    // The output files are none of its objects.
+    ensures { (outputs : OutputsState) → ToolEnds (command_uses (Command.Gulcalc samples cut)) (gul_outcome samples cut) (world (I.state inputs.old) outputs (S.state source.old) (K.state sink.old)) (world (I.state inputs.new) outputs (S.state source.new) (K.state sink.new)) (end_status result) }
+{
+    let portfolio = match load(alloc, inputs, gul_need(samples)) {
+        Ok(portfolio) => portfolio,
+        Err(stop) => return Err(load_stop(stop)),
+    };
+    write_losses(alloc, samples, cut, &portfolio, source, sink)
+}

@@ -1,0 +1,241 @@
+-- What was read of the words of a tool fits its table.
+use Rattle.std.proofs.Common.{◌≡◌, ◌≤◌, ℕ, ◌+◌, Bool, true, false, List, [], ◌∷◌, length, drop, Option, Some, None, Result, Ok, Err, refl, sym, ap, ◌∙◌, subst, arith, nat_eq, cond}
+use Rattle.std.specs.Prelude.{find, nat_le, nat_lt, replicate, slice_index_or, slice_set, IfOk, not, ◌==◌, ◌&&◌, ◌||◌, IfSome, is_some, if◌then◌else◌, slice_index}
+use Rattle.std.proofs.lemmas.Bool.{eqb-true, eqb-false, leb-true, ltb-true, ltb-false}
+use Rattle.std.proofs.lemmas.List.{get_or-set_other, get_or_past, get_or-replicate, length-set, length-replicate}
+use Rattle.std.proofs.lemmas.Grind.{get_or-set_at}
+use Rattle.kt_words.specs.Command.{number_or_0}
+use Rattle.kt_words.specs.Fits.{IsNumber, Fits, FitsWord, FitsTable, IsRead}
+use Rattle.kt_words.specs.Given.{none_given, given_at, is_given, option_named, with_value, value_or_bad, with_text, with_flag, with_valued, by_form, row_or_unknown, with_option, with_place, place_of, place_or_bad, plain_by, with_plain, with_own, with_next, with_word}
+use Rattle.kt_words.specs.Judging.{finished, unless_awaited, is_missing, lacks_some, lacks_by_some_rule, refused_word, unless_clash, clash}
+use Rattle.kt_words.specs.Reading.{read_from, and_on, finish_read, unless_wrong, given_by}
+use Rattle.kt_words.specs.Rows.{letter_of, form_of, form_at, wants_at}
+use Rattle.kt_words.specs.Table.{options_of, plain_of}
+use Rattle.kt_words.specs.Values.{value_of, in_range, number_of_word}
+use Rattle.kt_words.specs.declared.given.Awaited.{Awaited}
+use Rattle.kt_words.specs.declared.given.Given.{Given}
+use Rattle.kt_words.specs.declared.given.GivenWord.{GivenWord}
+use Rattle.kt_words.specs.declared.rows.Form.{Form}
+use Rattle.kt_words.specs.declared.rows.Form.TheVariants as form
+use Rattle.kt_words.specs.declared.rows.OptionRow.{OptionRow}
+use Rattle.kt_words.specs.declared.rows.OptionRow.TheVariants.{Needed}
+use Rattle.kt_words.specs.declared.stop.WordCause.{WordCause}
+use Rattle.kt_words.specs.declared.stop.WordCause.TheVariants.{UnknownOption, Repeated, BadValue, Missing}
+use Rattle.kt_words.specs.declared.stop.WordStop.{WordStop}
+use Rattle.kt_words.specs.declared.tool.Tool.{Tool}
+use Rattle.kt_words.specs.declared.tool.Tool.TheVariants.{Gulcalc}
+use Rattle.kt_words.specs.declared.value.Value.{Value}
+use Rattle.kt_words.specs.declared.value.Value.TheVariants as value
+
+-- ---- values
+
+-- the number that a word of its form says is within the bounds
+number_fits : (least most : ℕ) (found : Option ℕ) (said : Value) → in_range least most found ≡ Some said → IsNumber least most said
+number_fits least most None said is = cc
+number_fits least most (Some number) said is = by_tests (nat_le least number) (nat_le number most) refl refl is
+  where
+    by_tests : (low high : Bool) → nat_le least number ≡ low → nat_le number most ≡ high → (if (low && high) then Some (value.Number number) else None) ≡ Some said → IsNumber least most said
+    by_tests true true l h e = subst (λ found. IfSome found (IsNumber least most)) e (leb-true least number l, leb-true number most h)
+    by_tests true false l h e = cc
+    by_tests false high l h e = cc
+
+value_fits : (f : Form) (word : List ℕ) (said : Value) → value_of f word ≡ Some said → Fits f said
+value_fits (form.Number least most) word said is = number_fits least most (number_of_word word) said is
+value_fits f word said is = tt
+
+-- ---- options
+
+-- an option that was found has the letter
+found_letter : (letter : ℕ) (rows : List OptionRow) (row : OptionRow) → find (λ one. letter_of one == letter) rows ≡ Some row → letter_of row ≡ letter
+found_letter letter [] row is = cc
+found_letter letter (one ∷ rows) row is = by_test (letter_of one == letter) (λ later. found_letter letter rows row later) refl is
+  where
+    by_test : (b : Bool) → (find (λ other. letter_of other == letter) rows ≡ Some row → letter_of row ≡ letter) → (letter_of one == letter) ≡ b → cond b (Some one) (find (λ other. letter_of other == letter) rows) ≡ Some row → letter_of row ≡ letter
+    by_test true later e h = subst (λ found. IfSome found (λ other. letter_of other ≡ letter)) h (eqb-true (letter_of one) letter e)
+    by_test false later e h = later h
+
+-- it is the option of its own letter
+names_itself : (tool : Tool) (letter : ℕ) (row : OptionRow) → option_named tool letter ≡ Some row → option_named tool (letter_of row) ≡ Some row
+names_itself tool letter row is = ap (option_named tool) (found_letter letter (options_of tool) row is) ∙ is
+
+-- what stands at a letter behind an entry: the entry, nothing, or what stood there
+entry_fits : (P : Option GivenWord → Type 0) (options : List (Option GivenWord)) (at letter : ℕ) (entry : GivenWord) → P None → (letter ≡ at → P (Some entry)) → P (slice_index_or options letter None) → P (slice_index_or (slice_set options at (Some entry)) letter None)
+entry_fits P options at letter entry none new old = by_test (nat_eq letter at) refl
+  where
+    within : (b : Bool) → nat_lt at (length options) ≡ b → letter ≡ at → P (slice_index_or (slice_set options at (Some entry)) letter None)
+    within true e same = subst P (sym (get_or-set_at options at letter (Some entry) None same (ltb-true at (length options) e))) (new same)
+    within false e same = subst P (sym (ap (λ l. slice_index_or (slice_set options at (Some entry)) l None) same ∙ get_or_past (slice_set options at (Some entry)) at None (omega (arith, ltb-false at (length options) e, length-set options at (Some entry))))) none
+
+    by_test : (b : Bool) → nat_eq letter at ≡ b → P (slice_index_or (slice_set options at (Some entry)) letter None)
+    by_test true e = within (nat_lt at (length options)) refl (eqb-true letter at e)
+    by_test false e = subst P (sym (get_or-set_other options at letter (Some entry) None (eqb-false letter at e))) old
+
+some_is : {A : Type 0} (P : A → Type 0) (one other : A) → Some one ≡ Some other → P one → P other
+some_is P one other is p = subst (λ found. IfSome found P) is p
+
+-- ---- one word more
+
+module _ (tool : Tool) (given : Given) (fits : FitsTable tool given) where
+  value_kept : (row : OptionRow) (word : ℕ) (said : Value) → option_named tool (letter_of row) ≡ Some row → Fits (form_of row) said → FitsTable tool (with_value given tool row word said)
+  value_kept row word said named is = record {
+    options = λ letter other found. entry_fits (FitsWord (form_of other)) given.options (letter_of row) letter (record { word = word; value = said }) tt (λ same. some_is (λ one. Fits (form_of one) said) row other (sym named ∙ ap (option_named tool) (sym same) ∙ found) is) (fits.options letter other found);
+    awaited = tt;
+  }
+
+  text_kept : (row : OptionRow) (word : ℕ) (text : List ℕ) (next : Given) → option_named tool (letter_of row) ≡ Some row → with_text given tool row word text ≡ Ok next → FitsTable tool next
+  text_kept row word text next named is = by_value (value_of (form_of row) text) refl is
+    where
+      by_value : (found : Option Value) → value_of (form_of row) text ≡ found → value_or_bad given tool row word found ≡ Ok next → FitsTable tool next
+      by_value None e h = cc
+      by_value (Some said) e h = subst (λ (read : Result Given WordCause). IfOk read (FitsTable tool)) h (value_kept row word said named (value_fits (form_of row) text said e))
+
+  -- what a word gives is kept where it is one of these
+  ok_kept : (one next : Given) → ◌≡◌ {A = Result Given WordCause} (Ok one) (Ok next) → FitsTable tool one → FitsTable tool next
+  ok_kept one next is kept = subst (λ (read : Result Given WordCause). IfOk read (FitsTable tool)) is kept
+
+  flag_kept : (row : OptionRow) (word : ℕ) (attached : List ℕ) (next : Given) → form_of row ≡ form.Flag → option_named tool (letter_of row) ≡ Some row → with_flag given tool row word attached ≡ Ok next → FitsTable tool next
+  flag_kept row word attached next flag named is = by_tests (not (length attached == 0)) (is_given given (letter_of row)) is
+    where
+      by_tests : (longer twice : Bool) → (if longer then Err UnknownOption else (if twice then Err Repeated else Ok (with_value given tool row word value.Bare))) ≡ Ok next → FitsTable tool next
+      by_tests true twice h = cc
+      by_tests false true h = cc
+      by_tests false false h = ok_kept _ next h (value_kept row word value.Bare named (subst (λ f. Fits f value.Bare) (sym flag) tt))
+
+  valued_kept : (row : OptionRow) (word : ℕ) (attached : List ℕ) (next : Given) → option_named tool (letter_of row) ≡ Some row → with_valued given tool row word attached ≡ Ok next → FitsTable tool next
+  valued_kept row word attached next named is = by_tests (is_given given (letter_of row)) (length attached == 0) is
+    where
+      by_tests : (twice alone : Bool) → (if twice then Err Repeated else (if alone then Ok (record given { awaited = Some (record { option = row; word = word }) }) else with_text given tool row word attached)) ≡ Ok next → FitsTable tool next
+      by_tests true alone h = cc
+      by_tests false true h = ok_kept _ next h (record { options = fits.options; awaited = named })
+      by_tests false false h = text_kept row word attached next named h
+
+  form_kept : (f : Form) (row : OptionRow) (word : ℕ) (attached : List ℕ) (next : Given) → form_of row ≡ f → option_named tool (letter_of row) ≡ Some row → by_form f given tool row word attached ≡ Ok next → FitsTable tool next
+  form_kept form.Flag row word attached next same named is = flag_kept row word attached next same named is
+  form_kept f row word attached next same named is = valued_kept row word attached next named is
+
+  option_kept : (word letter : ℕ) (attached : List ℕ) (next : Given) → with_option given tool word letter attached ≡ Ok next → FitsTable tool next
+  option_kept word letter attached next is = by_row (option_named tool letter) refl is
+    where
+      by_row : (found : Option OptionRow) → option_named tool letter ≡ found → row_or_unknown found given tool word attached ≡ Ok next → FitsTable tool next
+      by_row None e h = cc
+      by_row (Some row) e h = form_kept (form_of row) row word attached next refl (names_itself tool letter row e) h
+
+  -- a plain word changes no option
+  place_kept : (entry : GivenWord) → FitsTable tool (with_place given entry)
+  place_kept entry = by_tests (place_of given == 0) (place_of given == 1) (place_of given == 2)
+    where
+      by_tests : (none one two : Bool) → FitsTable tool (if none then record given { first = Some entry } else (if one then record given { second = Some entry } else (if two then record given { third = Some entry } else given)))
+      by_tests true one two = record { options = fits.options; awaited = fits.awaited }
+      by_tests false true two = record { options = fits.options; awaited = fits.awaited }
+      by_tests false false true = record { options = fits.options; awaited = fits.awaited }
+      by_tests false false false = fits
+
+  plain_kept : (word : ℕ) (text : List ℕ) (next : Given) → with_plain given tool word text ≡ Ok next → FitsTable tool next
+  plain_kept word text next is = by_form_at (form_at (plain_of tool) (place_of given)) is
+    where
+      by_value : (found : Option Value) → place_or_bad given word found ≡ Ok next → FitsTable tool next
+      by_value None h = cc
+      by_value (Some said) h = ok_kept _ next h (place_kept (record { word = word; value = said }))
+
+      by_form_at : (found : Option Form) → plain_by found given word text ≡ Ok next → FitsTable tool next
+      by_form_at None h = cc
+      by_form_at (Some f) h = by_value (value_of f text) h
+
+  own_kept : (word : ℕ) (text : List ℕ) (next : Given) → with_own given tool word text ≡ Ok next → FitsTable tool next
+  own_kept word text next is = by_tests (length text == 0 || not (slice_index text 0 == 45)) (length text == 1) is
+    where
+      by_tests : (plain short : Bool) → (if plain then with_plain given tool word text else (if short then Err UnknownOption else with_option given tool word (slice_index text 1) (drop 2 text))) ≡ Ok next → FitsTable tool next
+      by_tests true short h = plain_kept word text next h
+      by_tests false true h = cc
+      by_tests false false h = option_kept word (slice_index text 1) (drop 2 text) next h
+
+  next_kept : (awaited : Option Awaited) (word : ℕ) (text : List ℕ) (next : Given) → IfSome awaited (λ one. option_named tool (letter_of one.option) ≡ Some one.option) → with_next awaited given tool word text ≡ Ok next → FitsTable tool next
+  next_kept (Some one) word text next named is = text_kept one.option one.word text next named is
+  next_kept None word text next named is = own_kept word text next is
+
+  word_kept : (word : ℕ) (text : List ℕ) (next : Given) → with_word given tool word text ≡ Ok next → FitsTable tool next
+  word_kept word text next is = by_test (nat_lt 255 (length text)) is
+    where
+      by_test : (long : Bool) → (if long then Err BadValue else with_next given.awaited given tool word text) ≡ Ok next → FitsTable tool next
+      by_test true h = cc
+      by_test false h = next_kept given.awaited word text next fits.awaited h
+
+-- ---- all words
+
+-- no word gave an option
+abbrev no_word : Option GivenWord
+no_word = None
+
+-- before the first word nothing was given
+none_fits : (tool : Tool) → FitsTable tool none_given
+none_fits tool = record {
+  options = λ letter row found. subst (FitsWord (form_of row)) (sym (nothing letter)) tt;
+  awaited = tt;
+}
+  where
+    nothing : (letter : ℕ) → slice_index_or (replicate 256 no_word) letter no_word ≡ no_word
+    nothing letter = by_test (nat_lt letter 256) refl
+      where
+        by_test : (b : Bool) → nat_lt letter 256 ≡ b → slice_index_or (replicate 256 no_word) letter no_word ≡ no_word
+        by_test true e = get_or-replicate 256 letter no_word no_word (ltb-true letter 256 e)
+        by_test false e = get_or_past (replicate 256 no_word) letter no_word (omega (arith, ltb-false letter 256 e, length-replicate 256 no_word))
+
+all_kept : (tool : Tool) (given : Given) (word : ℕ) (texts : List (List ℕ)) (last : Given) → FitsTable tool given → read_from tool given word texts ≡ Ok last → FitsTable tool last
+unfolding read_from
+all_kept tool given word [] last fits is = subst (λ (read : Result Given WordStop). IfOk read (FitsTable tool)) is fits
+all_kept tool given word (text ∷ texts) last fits is = by_word (with_word given tool word text) (λ next kept later. all_kept tool next (word + 1) texts last kept later) refl is
+  where
+    by_word : (read : Result Given WordCause) → ((next : Given) → FitsTable tool next → read_from tool next (word + 1) texts ≡ Ok last → FitsTable tool last) → with_word given tool word text ≡ read → and_on word (λ next. read_from tool next (word + 1) texts) read ≡ Ok last → FitsTable tool last
+    by_word (Ok next) later e h = later next (word_kept tool given fits word text next e) h
+    by_word (Err cause) later e h = cc
+
+-- what the words of a tool come to, where none is faulty
+pub read_whole : (tool : Tool) (words : List (List ℕ)) (given : Given) → given_by tool words ≡ Ok given → IsRead tool given
+read_whole tool words given is = by_read (read_from tool none_given 2 (drop 1 words)) refl is
+  where
+    by_end : (one : Given) (end : Result Unit WordStop) → FitsTable tool one → finished one tool (length words) ≡ end → unless_wrong one end ≡ Ok given → IsRead tool given
+    by_end one (Ok nothing) fits e h = subst (λ (read : Result Given WordStop). IfOk read (IsRead tool)) h (record { fits = fits; count = length words; finished = e })
+    by_end one (Err stop) fits e h = cc
+
+    by_read : (read : Result Given WordStop) → read_from tool none_given 2 (drop 1 words) ≡ read → finish_read tool (length words) read ≡ Ok given → IsRead tool given
+    by_read (Ok one) e h = by_end one (finished one tool (length words)) (all_kept tool none_given 2 (drop 1 words) one (none_fits tool) e) refl h
+    by_read (Err stop) e h = cc
+
+-- ---- options with a number that are needed
+
+-- no needed option is missing
+nothing_missing : (tool : Tool) (given : Given) (count : ℕ) → finished given tool count ≡ Ok tt → is_missing given tool ≡ false
+nothing_missing tool given count is = by_awaited given.awaited is
+  where
+    by_test : (missing : Bool) → is_missing given tool ≡ missing → (if missing then refused_word (count + 1) Missing else unless_clash (clash given tool)) ≡ Ok tt → is_missing given tool ≡ false
+    by_test true e h = cc
+    by_test false e h = e
+
+    by_awaited : (awaited : Option Awaited) → unless_awaited awaited given tool count ≡ Ok tt → is_missing given tool ≡ false
+    by_awaited (Some one) h = cc
+    by_awaited None h = by_test (is_missing given tool) refl h
+
+-- a number of an option that was given is within its bounds
+pub number_said : (least most : ℕ) (found : Option GivenWord) → is_some found ≡ true → FitsWord (form.Number least most) found → (least ≤ number_or_0 found) × (number_or_0 found ≤ most)
+number_said least most None there fits = cc
+number_said least most (Some given) there fits = by_value given.value fits
+  where
+    by_value : (said : Value) → IsNumber least most said → (least ≤ number_or_0 (Some (record { word = given.word; value = said }))) × (number_or_0 (Some (record { word = given.word; value = said })) ≤ most)
+    by_value (value.Number number) is = is
+    by_value said is = absurd is
+
+either : (a b : Bool) → (a || b) ≡ false → (a ≡ false) × (b ≡ false)
+either true b is = cc
+either false b is = (refl, is)
+
+negated : (a : Bool) → not a ≡ false → a ≡ true
+negated true is = refl
+negated false is = cc
+
+-- the samples of `gulcalc`
+pub gulcalc_samples : (given : Given) → IsRead Gulcalc given → (1 ≤ number_or_0 (given_at given 83)) × (number_or_0 (given_at given 83) ≤ 1000)
+gulcalc_samples given read =
+    let complete = either (wants_at (plain_of Gulcalc) (place_of given)) (lacks_some given Gulcalc || lacks_by_some_rule given Gulcalc) (nothing_missing Gulcalc given read.count read.finished) in
+    let options = either (lacks_some given Gulcalc) (lacks_by_some_rule given Gulcalc) complete.1 in
+    let samples = either (not (is_given given 83)) _ options.0 in
+    number_said 1 1000 (given_at given 83) (negated (is_given given 83) samples.0) (read.fits.options 83 (Needed 83 (form.Number 1 1000)) refl)
