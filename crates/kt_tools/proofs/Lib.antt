@@ -3,7 +3,6 @@ pub mod Reading
 pub mod Converting
 pub mod EveLemmas
 pub mod FootprintLemmas
-pub mod Loaded
 pub mod Running
 pub mod SummaryLemmas
 mod GulLemmas

@@ -25,15 +25,6 @@ source_limit = 2 ^ 30
 abbrev pub source_name : List ℕ
 source_name = codes "source"
 
--- how a table's refusal ends a tool, by the name of its file
-abbrev pub table_stop : List ℕ → TableStop → ToolStop
-table_stop name stop.NotProfile = Refused (refusal.NotProfile name)
-table_stop name (stop.WrongTable found) = Refused (refusal.WrongTable name found)
-table_stop name (stop.WrongVersion found) = Refused (refusal.WrongVersion name found)
-table_stop name (stop.CutRecord row) = Refused (refusal.CutRecord name row)
-table_stop name (stop.Bad row column cause) = Refused (refusal.Bad name row column cause)
-table_stop name stop.OutOfMemory = NoMemory
-
 -- the other form of these bytes, or the first that is wrong in them
 abbrev pub other_form : Conversion → List ℕ → Result (List ℕ) TableStop
 other_form (ToFile t periods) bytes = csv_bin t periods bytes

@@ -7,6 +7,5 @@ pub mod ModelStage
 pub mod GulOutcome
 pub mod Outcome
 pub mod Uses
-pub mod Loading
 pub mod Converting
 pub mod FootprintText

@@ -15,7 +15,7 @@ use Rattle.kt_load.specs.Loaded.{loaded}
 use Rattle.kt_load.specs.declared.stop.LoadStop.{LoadStop}
 use Rattle.kt_schema.specs.Footprint.{footprint_csv}
 use Rattle.kt_tables.specs.Lookups.{event_ids}
-use Rattle.kt_tools.specs.Loading.{need_of, load_stop}
+use Rattle.kt_loading.specs.Loading.{need_of, load_stop}
 use Rattle.kt_tools.specs.EltOutcome.{elt_outcome}
 use Rattle.kt_tools.specs.PltOutcome.{plt_rows_outcome}
 use Rattle.kt_tools.specs.SummaryOutcome.{summary_need, summary_rows_outcome}
@@ -49,11 +49,6 @@ text_unless index bytes (Some row) = nothing (Refused (Check 9 (file_name_of (ta
 -- the text of the source, a footprint, by its index: the index is judged by the size of the source first
 abbrev pub footprint_text : List FootprintIdx → List ℕ → Outcome
 footprint_text index source = within_limit (λ bytes. text_unless index bytes (first_where (is_misplaced (length bytes)) index)) source
-
--- what is done with the rows of loaded tables, or why there are none
-abbrev pub with_tables : Result Rows LoadStop → (Rows → Outcome) → Outcome
-with_tables (Ok rows) made = made rows
-with_tables (Err why) made = nothing (stop_status (load_stop why))
 
 -- the ids of events as a stream: four bytes each, the lowest first
 abbrev pub event_bytes : List ℕ → List ℕ

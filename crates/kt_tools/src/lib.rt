@@ -9,7 +9,6 @@ mod getmodel;
 mod gulcalc;
 mod pltcalc;
 mod summarycalc;
-mod tables;
 mod top_call;
 mod whole_source;
 

@@ -16,11 +16,11 @@ ghost use Rattle.kt_tools.specs.SummaryStage.{IsCheckStop};
 ghost use Rattle.kt_tools.specs.Uses.{ToolEnds, command_uses};
 ghost use Rattle.kt_words.specs.declared.command.Command.TheVariants as Command;
 
-use crate::tables::load_stop;
 use kt_checks::{CheckStop, Need};
 use kt_ends::{Refusal, ToolStop};
 use kt_keys::set_of;
-use kt_load::{file_name, load};
+use kt_load::file_name;
+use kt_loading::load_tables;
 use kt_loop::laws::{runs_give_their_text, what_is_read_can_be_taken};
 use kt_loop::{RunStage, run_by_run};
 use kt_money::Bytes;
@@ -282,9 +282,9 @@ pub fn summarycalc<I: Inputs, S: Source, K: Sink>(
     // The output files are none of its objects.
     ensures { (outputs : OutputsState) → ToolEnds (command_uses (Command.Summarycalc items set rule)) (summary_outcome items set rule) (world (I.state inputs.old) outputs (S.state source.old) (K.state sink.old)) (world (I.state inputs.new) outputs (S.state source.new) (K.state sink.new)) (end_status result) }
 {
-    let portfolio = match load(alloc, inputs, summary_need(items, rule)) {
+    let portfolio = match load_tables(alloc, inputs, summary_need(items, rule)) {
         Ok(portfolio) => portfolio,
-        Err(stop) => return Err(load_stop(stop)),
+        Err(stop) => return Err(stop),
     };
     write_summaries(alloc, items, set, rule, &portfolio, source, sink)
 }
