@@ -46,7 +46,7 @@ fn gul_need(samples: u32) -> Need
 }
 
 /// Appends records of losses, one after the other.
-fn put_losses(out: &mut Bytes, records: &[LossRecord]) -> Result<(), OutOfMemory>
+pub(crate) fn put_losses(out: &mut Bytes, records: &[LossRecord]) -> Result<(), OutOfMemory>
     ensures { OnOk result (out.new ≡ out.old ++ flat_map loss_bytes records.now) }
 {
     for record in records {

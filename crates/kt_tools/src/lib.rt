@@ -4,9 +4,11 @@
 mod convert;
 mod eltcalc;
 mod eve;
+mod fmcalc;
 mod footprint;
 mod getmodel;
 mod gulcalc;
+mod period_tables;
 mod pltcalc;
 mod summarycalc;
 mod top_call;
