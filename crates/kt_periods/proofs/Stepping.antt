@@ -1,0 +1,76 @@
+-- Where the stage stands after a step.
+use Rattle.std.proofs.Common.{◌≡◌, ◌⊎◌, ℕ, List, [], ◌∷◌, ◌++◌, Option, Some, None, Result, Ok, Err, refl, ap, sym, subst, inl, inr, append-nil, ◌∙◌}
+use Rattle.kt_curve.specs.Journal.{Adds}
+use Rattle.kt_curve.specs.Losses.{Added, KeyLoss, all_losses, losses_of}
+use Rattle.kt_curve.specs.Standing.{KeptCells, Standing, StandsFor, first_stop}
+use Rattle.kt_curve.specs.declared.cell.Cell.{Cell}
+use Rattle.kt_curve.specs.declared.cell.CellStop.{CellStop}
+use Rattle.kt_curve.specs.declared.cell.CellStop.TheVariants as cell_stop
+use Rattle.kt_ends.specs.declared.status.Refusal.{Refusal}
+use Rattle.kt_ends.specs.declared.status.Refusal.TheVariants as refusal
+use Rattle.kt_loop.specs.Steps.{StepsBy, StepsOn, StepsToRefusal}
+use Rattle.kt_periods.specs.Adding.{added_of, record_refusal, refusal_of}
+use Rattle.kt_periods.specs.PeriodTables.{PeriodSums, added_unless, period_calculation, table_text, stream_table}
+use Rattle.kt_periods.specs.Standing.{HoldsLosses, StandsAt, IsReady, cell_tool_stop}
+use Rattle.kt_periods.specs.declared.table.PeriodTable.{PeriodTable}
+use Rattle.kt_rec.specs.Rows.{Rows}
+use Rattle.kt_rec.specs.declared.perspective.CellKey.{CellKey}
+use Rattle.kt_stream.specs.declared.entry.Placed.{Placed}
+use Rattle.kt_stream.specs.declared.entry.SummaryRecord.{SummaryRecord}
+use Rattle.kt_stream.specs.declared.kind.Head.{Head}
+use Rattle.kt_tables.specs.Lookups.{return_periods_of}
+use Rattle.kt_tables.specs.Portfolio.{PortfolioRows}
+
+-- no cells stand for no losses
+nothing_stands : Standing (all_losses []) []
+nothing_stands = record { cells = λ key. refl; count = refl }
+
+stands_for_none : (history : List Added) (cells : KeptCells) → history ≡ [] → cells.entries ≡ [] → StandsFor history cells
+stands_for_none history cells none empty =
+    subst (λ (entries : List (CellKey × Cell)). Standing (all_losses history) entries) (sym empty)
+    (subst (λ (records : List Added). Standing (all_losses records) []) (sym none) nothing_stands)
+
+-- the first cells: before the header there is no record
+pub holds_none : (portfolio : PortfolioRows) (history : List Added) (old : Option KeptCells) (cells : KeptCells) → IsReady None portfolio old → HoldsLosses history old → cells.entries ≡ [] → StandsFor history cells
+holds_none portfolio history None cells ready holds empty = stands_for_none history cells holds empty
+holds_none portfolio history (Some old) cells ready holds empty = absurd ready.are
+
+module _ (head : Head) (sums : PeriodSums) (placed : Placed SummaryRecord) (kind : PeriodTable) (rows : Rows) (same_kind : kind ≡ sums.kind) (same_rows : rows ≡ sums.rows) (text : List ℕ) where
+  -- the record with the occurrences of its event
+  abbrev added : Added
+  added = added_of rows head placed.entry
+
+  -- the step is that of the cells' answer
+  step_by : (stop : Option CellStop) → first_stop (all_losses sums.history) (losses_of added) ≡ stop → (period_calculation.takes head sums placed).next ≡ added_unless sums added (refusal_of placed.entry.event stop)
+  step_by stop is =
+      subst (λ (r : Rows). (period_calculation.takes head sums placed).next ≡ added_unless sums (added_of r head placed.entry) (record_refusal sums.history (added_of r head placed.entry))) (sym same_rows) refl
+      ∙ ap (λ (why : Option CellStop). added_unless sums added (refusal_of placed.entry.event why)) is
+
+  -- the record is added
+  pub takes_on : (new : KeptCells) → first_stop (all_losses sums.history) (losses_of added) ≡ None → StandsFor (sums.history ++ added ∷ []) new → StepsOn (period_calculation.takes head sums placed) (λ next. StandsAt next kind rows (Some new)) text text
+  takes_on new none stands = record {
+    next = record { kind = sums.kind; rows = sums.rows; history = sums.history ++ added ∷ [] };
+    reached = step_by None none;
+    state = record { same_kind = same_kind; same_rows = same_rows; holds = stands };
+    wrote = sym (append-nil text);
+  }
+
+  -- the record is refused, or memory is wanting
+  pub takes_to_refusal : (stop : CellStop) (stands : PeriodSums → Type 0) → (stop ≡ cell_stop.OutOfMemory) ⊎ (first_stop (all_losses sums.history) (losses_of added) ≡ Some stop)
+      → StepsBy {T = Unit {0}} (period_calculation.takes head sums placed) stands text text (Err (cell_tool_stop placed.entry.event stop))
+  takes_to_refusal (cell_stop.Cells held) stands (inl other) = cc
+  takes_to_refusal (cell_stop.Cells held) stands (inr is) = record { reached = step_by (Some (cell_stop.Cells held)) is; wrote = sym (append-nil text) }
+  takes_to_refusal (cell_stop.Period key held more) stands (inl other) = cc
+  takes_to_refusal (cell_stop.Period key held more) stands (inr is) = record { reached = step_by (Some (cell_stop.Period key held more)) is; wrote = sym (append-nil text) }
+  takes_to_refusal cell_stop.OutOfMemory stands why = tt
+
+-- the table of the cells is that of the records
+pub table_at_end : (head : Head) (sums : PeriodSums) (kind : PeriodTable) (rows : Rows) (cells : KeptCells) (returns old new : List ℕ) → kind ≡ sums.kind → rows ≡ sums.rows → cells.periods ≡ rows.periods → cells.samples ≡ head.samples → returns ≡ return_periods_of rows
+    → new ≡ old ++ table_text kind head.set cells.periods cells.samples returns (all_losses sums.history) → new ≡ old ++ stream_table sums.kind sums.rows head (all_losses sums.history)
+table_at_end head sums kind rows cells returns old new same_kind same_rows periods samples are is =
+    let losses : List KeyLoss = all_losses sums.history in
+    is ∙ ap (λ (text : List ℕ). old ++ text) (
+      ap (λ (k : PeriodTable). table_text k head.set cells.periods cells.samples returns losses) same_kind
+      ∙ ap (λ (n : ℕ). table_text sums.kind head.set n cells.samples returns losses) (periods ∙ ap (λ (r : Rows). r.periods) same_rows)
+      ∙ ap (λ (n : ℕ). table_text sums.kind head.set sums.rows.periods n returns losses) samples
+      ∙ ap (λ (asked : List ℕ). table_text sums.kind head.set sums.rows.periods head.samples asked losses) (are ∙ ap return_periods_of same_rows))
