@@ -5,6 +5,7 @@ pub mod ModelOutcome
 pub mod ModelStage
 pub mod GulOutcome
 pub mod FmOutcome
+pub mod KatOutcome
 pub mod PeriodOutcome
 pub mod Outcome
 pub mod Uses

@@ -8,6 +8,7 @@ mod fmcalc;
 mod footprint;
 mod getmodel;
 mod gulcalc;
+mod kat;
 mod period_tables;
 mod pltcalc;
 mod summarycalc;

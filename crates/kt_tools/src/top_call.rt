@@ -17,6 +17,7 @@ use crate::fmcalc::fmcalc;
 use crate::footprint::footprint_to_text;
 use crate::getmodel::getmodel;
 use crate::gulcalc::gulcalc;
+use crate::kat::kat;
 use crate::period_tables::{aalcalc, leccalc};
 use crate::pltcalc::pltcalc;
 use crate::summarycalc::summarycalc;
