@@ -1,25 +1,18 @@
 -- Where the stage stands after a step.
-use Rattle.std.proofs.Common.{◌≡◌, ◌⊎◌, ℕ, List, [], ◌∷◌, ◌++◌, Option, Some, None, Result, Ok, Err, refl, ap, sym, subst, inl, inr, append-nil, ◌∙◌}
-use Rattle.kt_curve.specs.Journal.{Adds}
-use Rattle.kt_curve.specs.Losses.{Added, KeyLoss, all_losses, losses_of}
-use Rattle.kt_curve.specs.Standing.{KeptCells, Standing, StandsFor, first_stop}
-use Rattle.kt_curve.specs.declared.cell.Cell.{Cell}
+use Rattle.std.proofs.Common.{◌≡◌, ◌⊎◌, ℕ, List, [], ◌∷◌, ◌++◌, Option, Some, None, Err, refl, ap, sym, subst, inl, inr, append-nil, ◌∙◌}
+use Rattle.kt_curve.specs.Losses.{Added, all_losses, losses_of}
+use Rattle.kt_curve.specs.Standing.{KeptCells, StandsFor, first_stop}
 use Rattle.kt_curve.specs.declared.cell.CellStop.{CellStop}
 use Rattle.kt_curve.specs.declared.cell.CellStop.TheVariants as cell_stop
-use Rattle.kt_ends.specs.declared.status.Refusal.{Refusal}
-use Rattle.kt_ends.specs.declared.status.Refusal.TheVariants as refusal
-use Rattle.kt_loop.specs.Steps.{StepsBy, StepsOn, StepsToRefusal}
+use Rattle.kt_loop.specs.Steps.{StepsBy, StepsOn}
 use Rattle.kt_periods.specs.Adding.{added_of, record_refusal, refusal_of}
-use Rattle.kt_periods.specs.PeriodTables.{PeriodSums, added_unless, period_calculation, table_text, stream_table}
+use Rattle.kt_periods.specs.PeriodTables.{PeriodSums, added_unless, period_calculation}
 use Rattle.kt_periods.specs.Standing.{AreCells, HoldsLosses, StandsAt, cell_tool_stop}
 use Rattle.kt_periods.specs.declared.table.PeriodTable.{PeriodTable}
 use Rattle.kt_rec.specs.Rows.{Rows}
-use Rattle.kt_rec.specs.declared.perspective.CellKey.{CellKey}
 use Rattle.kt_stream.specs.declared.entry.Placed.{Placed}
 use Rattle.kt_stream.specs.declared.entry.SummaryRecord.{SummaryRecord}
 use Rattle.kt_stream.specs.declared.kind.Head.{Head}
-use Rattle.kt_tables.specs.Lookups.{return_periods_of}
-use Rattle.kt_tables.specs.Portfolio.{PortfolioRows}
 
 -- behind the header there are cells
 pub cells_are : (periods : ℕ) (head : Head) (found : Option KeptCells) (cells : KeptCells) → AreCells periods (Some head) found → found ≡ Some cells → (cells.periods ≡ periods) × (cells.samples ≡ head.samples)

@@ -5,7 +5,7 @@ use Rattle.std.specs.Fmt.{digits}
 use Rattle.std.specs.List.{flat_map}
 use Rattle.std.proofs.Common.{refl, ap, ◌∙◌, arith}
 use Rattle.kt_money.specs.NumberText.{padded_digits, plain}
-use Rattle.kt_money.specs.Rounding.{root, deviation_of}
+use Rattle.kt_money.specs.Rounding.{root}
 use Rattle.kt_money.specs.RoundingLaws.{deviation-unique, deviation_of-is}
 use Rattle.kt_curve.specs.Average.{aal_heading_text, aal_row}
 use Rattle.kt_curve.specs.Losses.{key_of}
@@ -21,6 +21,7 @@ use Rattle.kt_rec.specs.Rows.{Rows, no_rows}
 use Rattle.kt_rec.specs.declared.periods.Occurrence.{Occurrence}
 use Rattle.kt_rec.specs.declared.perspective.Perspective.TheVariants.{Gul}
 use Rattle.kt_stream.specs.declared.entry.Pair.{Pair}
+use Rattle.kt_stream.specs.Pairs.{pair_in, pairs_in}
 use Rattle.kt_stream.specs.Read.{number_of}
 use Rattle.kt_stream.specs.Stream.{reads_on, walk, within_room}
 use Rattle.kt_stream.specs.Summary.{summary_in}
@@ -105,3 +106,15 @@ past_limit = refl
 -- the refused record comes before what is wrong behind it
 before_a_cut : contents_outcome (ExceedanceCurve FullAep) twice (record greatest_record { fault = Some (Cut 80) }) ≡ gives (Refused (Period 1 (key_of Gul 1 1 (pos 1) 1) (10 ^ 15) (10 ^ 15))) []
 before_a_cut = refl
+
+-- the same in bytes: a header with one sample and set 1; event 1, summary 1, no exposure; sidx 1 with 10^15 cents; the end pair
+abbrev greatest_bytes : List ℕ
+greatest_bytes =
+    (3 ∷ 0 ∷ 0 ∷ 101 ∷ 1 ∷ 0 ∷ 0 ∷ 0 ∷ 1 ∷ 0 ∷ 0 ∷ 0 ∷ [])
+    ++ ((1 ∷ 0 ∷ 0 ∷ 0 ∷ 1 ∷ 0 ∷ 0 ∷ 0 ∷ 0 ∷ 0 ∷ 0 ∷ 0 ∷ 0 ∷ 0 ∷ 0 ∷ 0 ∷ [])
+    ++ ((1 ∷ 0 ∷ 0 ∷ 0 ∷ 0 ∷ 128 ∷ 198 ∷ 164 ∷ 126 ∷ 141 ∷ 3 ∷ 0 ∷ [])
+    ++ (0 ∷ 0 ∷ 0 ∷ 0 ∷ 0 ∷ 0 ∷ 0 ∷ 0 ∷ 0 ∷ 0 ∷ 0 ∷ 0 ∷ [])))
+
+bytes_past_limit : aal_rows_outcome twice greatest_bytes ≡ gives (Refused (Period 1 (key_of Gul 1 1 (pos 1) 1) (10 ^ 15) (10 ^ 15))) []
+unfolding number_of pair_in pairs_in reads_on summary_in walk within_room
+bytes_past_limit = refl
