@@ -1,6 +1,6 @@
 -- A record that was read, and the occurrences of its event, fit the cells.
-use Rattle.std.proofs.Common.{ℕ, ◌≤◌, ◌^◌, pos, ◌≤ℤ◌, List, [], ◌∷◌, arith}
-use Rattle.std.specs.Prelude.{◌≡◌, All, nat_eq}
+use Rattle.std.proofs.Common.{ℕ, ◌≤◌, ◌^◌, pos, ◌≤ℤ◌, List, [], ◌∷◌}
+use Rattle.std.specs.Prelude.{All, nat_eq}
 use Rattle.std.specs.List.{AllByRecursion}
 use Rattle.std.proofs.lemmas.List.Elements.{All-filter, All-from_recursion, All-map}
 use Rattle.kt_rec.specs.Ranges.{AreInRange}

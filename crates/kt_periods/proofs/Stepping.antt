@@ -1,39 +1,26 @@
 -- Where the stage stands after a step.
-use Rattle.std.proofs.Common.{◌≡◌, ◌⊎◌, ℕ, List, [], ◌∷◌, ◌++◌, Option, Some, None, Result, Ok, Err, refl, ap, sym, subst, inl, inr, append-nil, ◌∙◌}
-use Rattle.kt_curve.specs.Journal.{Adds}
-use Rattle.kt_curve.specs.Losses.{Added, KeyLoss, all_losses, losses_of}
-use Rattle.kt_curve.specs.Standing.{KeptCells, Standing, StandsFor, first_stop}
-use Rattle.kt_curve.specs.declared.cell.Cell.{Cell}
+use Rattle.std.proofs.Common.{◌≡◌, ◌⊎◌, ℕ, List, [], ◌∷◌, ◌++◌, Option, Some, None, Err, refl, ap, sym, subst, inl, inr, append-nil, ◌∙◌}
+use Rattle.kt_curve.specs.Losses.{Added, all_losses, losses_of}
+use Rattle.kt_curve.specs.Standing.{KeptCells, StandsFor, first_stop}
 use Rattle.kt_curve.specs.declared.cell.CellStop.{CellStop}
 use Rattle.kt_curve.specs.declared.cell.CellStop.TheVariants as cell_stop
-use Rattle.kt_ends.specs.declared.status.Refusal.{Refusal}
-use Rattle.kt_ends.specs.declared.status.Refusal.TheVariants as refusal
-use Rattle.kt_loop.specs.Steps.{StepsBy, StepsOn, StepsToRefusal}
+use Rattle.kt_loop.specs.Steps.{StepsBy, StepsOn}
 use Rattle.kt_periods.specs.Adding.{added_of, record_refusal, refusal_of}
-use Rattle.kt_periods.specs.PeriodTables.{PeriodSums, added_unless, period_calculation, table_text, stream_table}
-use Rattle.kt_periods.specs.Standing.{HoldsLosses, StandsAt, IsReady, cell_tool_stop}
+use Rattle.kt_periods.specs.PeriodTables.{PeriodSums, added_unless, period_calculation}
+use Rattle.kt_periods.specs.Standing.{AreCells, HoldsLosses, StandsAt, cell_tool_stop}
 use Rattle.kt_periods.specs.declared.table.PeriodTable.{PeriodTable}
 use Rattle.kt_rec.specs.Rows.{Rows}
-use Rattle.kt_rec.specs.declared.perspective.CellKey.{CellKey}
 use Rattle.kt_stream.specs.declared.entry.Placed.{Placed}
 use Rattle.kt_stream.specs.declared.entry.SummaryRecord.{SummaryRecord}
 use Rattle.kt_stream.specs.declared.kind.Head.{Head}
-use Rattle.kt_tables.specs.Lookups.{return_periods_of}
-use Rattle.kt_tables.specs.Portfolio.{PortfolioRows}
 
--- no cells stand for no losses
-nothing_stands : Standing (all_losses []) []
-nothing_stands = record { cells = λ key. refl; count = refl }
+-- behind the header there are cells
+pub cells_are : (periods : ℕ) (head : Head) (found : Option KeptCells) (cells : KeptCells) → AreCells periods (Some head) found → found ≡ Some cells → (cells.periods ≡ periods) × (cells.samples ≡ head.samples)
+cells_are periods head found cells are is = subst (AreCells periods (Some head)) is are
 
-stands_for_none : (history : List Added) (cells : KeptCells) → history ≡ [] → cells.entries ≡ [] → StandsFor history cells
-stands_for_none history cells none empty =
-    subst (λ (entries : List (CellKey × Cell)). Standing (all_losses history) entries) (sym empty)
-    (subst (λ (records : List Added). Standing (all_losses records) []) (sym none) nothing_stands)
-
--- the first cells: before the header there is no record
-pub holds_none : (portfolio : PortfolioRows) (history : List Added) (old : Option KeptCells) (cells : KeptCells) → IsReady None portfolio old → HoldsLosses history old → cells.entries ≡ [] → StandsFor history cells
-holds_none portfolio history None cells ready holds empty = stands_for_none history cells holds empty
-holds_none portfolio history (Some old) cells ready holds empty = absurd ready.are
+-- they stand for the records
+pub cells_stand : (history : List Added) (found : Option KeptCells) (cells : KeptCells) → HoldsLosses history found → found ≡ Some cells → StandsFor history cells
+cells_stand history found cells holds is = subst (HoldsLosses history) is holds
 
 module _ (head : Head) (sums : PeriodSums) (placed : Placed SummaryRecord) (kind : PeriodTable) (rows : Rows) (same_kind : kind ≡ sums.kind) (same_rows : rows ≡ sums.rows) (text : List ℕ) where
   -- the record with the occurrences of its event
@@ -63,14 +50,3 @@ module _ (head : Head) (sums : PeriodSums) (placed : Placed SummaryRecord) (kind
   takes_to_refusal (cell_stop.Period key held more) stands (inl other) = cc
   takes_to_refusal (cell_stop.Period key held more) stands (inr is) = record { reached = step_by (Some (cell_stop.Period key held more)) is; wrote = sym (append-nil text) }
   takes_to_refusal cell_stop.OutOfMemory stands why = tt
-
--- the table of the cells is that of the records
-pub table_at_end : (head : Head) (sums : PeriodSums) (kind : PeriodTable) (rows : Rows) (cells : KeptCells) (returns old new : List ℕ) → kind ≡ sums.kind → rows ≡ sums.rows → cells.periods ≡ rows.periods → cells.samples ≡ head.samples → returns ≡ return_periods_of rows
-    → new ≡ old ++ table_text kind head.set cells.periods cells.samples returns (all_losses sums.history) → new ≡ old ++ stream_table sums.kind sums.rows head (all_losses sums.history)
-table_at_end head sums kind rows cells returns old new same_kind same_rows periods samples are is =
-    let losses : List KeyLoss = all_losses sums.history in
-    is ∙ ap (λ (text : List ℕ). old ++ text) (
-      ap (λ (k : PeriodTable). table_text k head.set cells.periods cells.samples returns losses) same_kind
-      ∙ ap (λ (n : ℕ). table_text sums.kind head.set n cells.samples returns losses) (periods ∙ ap (λ (r : Rows). r.periods) same_rows)
-      ∙ ap (λ (n : ℕ). table_text sums.kind head.set sums.rows.periods n returns losses) samples
-      ∙ ap (λ (asked : List ℕ). table_text sums.kind head.set sums.rows.periods head.samples asked losses) (are ∙ ap return_periods_of same_rows))

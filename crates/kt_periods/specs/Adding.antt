@@ -24,7 +24,7 @@ added_of rows head entry = record { perspective = Gul; set = head.set; entry = e
 abbrev pub all_added : Rows → Head → List (Placed SummaryRecord) → List Added
 all_added rows head entries = map (λ placed. added_of rows head placed.entry) entries
 
--- how a run is refused where the cells refuse a record of an event; want of memory is no refusal
+-- how a run is refused where the cells refuse a record of an event; want of memory is no refusal, and no `first_stop`
 abbrev pub cell_refusal : ℕ → CellStop → Option Refusal
 cell_refusal event (cell_stop.Cells held) = Some (refusal.Cells event held)
 cell_refusal event (cell_stop.Period key held more) = Some (refusal.Period event key held more)
