@@ -27,7 +27,7 @@ use Rattle.kt_stream.specs.declared.entry.LossRecord.{LossRecord}
 use Rattle.kt_stream.specs.declared.kind.Head.{Head}
 use Rattle.kt_stream.specs.declared.kind.StreamKind.{StreamKind}
 use Rattle.kt_stream.specs.declared.kind.StreamKind.TheVariants as stream
-use Rattle.kt_sum.specs.RunLosses.{goes_past}
+use Rattle.kt_runs.specs.RunLosses.{goes_past}
 use Rattle.kt_sum.specs.Summaries.{run_summaries}
 use Rattle.kt_tables.specs.Portfolio.{PortfolioRows}
 

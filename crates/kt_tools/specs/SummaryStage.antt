@@ -11,7 +11,7 @@ use Rattle.kt_loop.specs.Runs.{bare}
 use Rattle.kt_stream.specs.declared.entry.LossRecord.{LossRecord}
 use Rattle.kt_stream.specs.declared.entry.Placed.{Placed}
 use Rattle.kt_stream.specs.declared.kind.Head.{Head}
-use Rattle.kt_sum.specs.RunSums.{AreRunSums}
+use Rattle.kt_runs.specs.RunSums.{AreRunSums}
 
 -- behind a header the sums are those of the open run
 abbrev pub HoldsSums : Option Head → List (Placed LossRecord) → List ℕ → Type 0

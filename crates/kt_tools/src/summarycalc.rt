@@ -29,7 +29,8 @@ use kt_rec::{FmXref, Item, Perspective, Table, TableId, TableSet, Tables};
 use kt_stream::{
     Head, LossReader, LossRecord, Placed, StreamKind, SummaryRecord, put_head, put_summary,
 };
-use kt_sum::{add_to_run, clear_run, no_run_sums, summarise_placed};
+use kt_runs::{add_to_run, clear_run, no_run_sums};
+use kt_sum::summarise_placed;
 use kt_tables::Portfolio;
 use std::alloc::{AllocError, Global};
 use std::collections::HashSet;

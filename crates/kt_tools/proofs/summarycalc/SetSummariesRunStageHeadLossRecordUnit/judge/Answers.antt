@@ -1,7 +1,7 @@
 use Rattle.std.proofs.Common.{◌≡◌, List, ◌++◌, ◌∷◌, [], length, sym, subst, ◌∙◌}
 use Rattle.kt_loop.specs.Runs.{bare}
 use Rattle.kt_stream.specs.declared.entry.LossRecord.{LossRecord}
-use Rattle.kt_sum.specs.RunSums.{AreRunSums}
+use Rattle.kt_runs.specs.RunSums.{AreRunSums}
 use Rattle.kt_tools.proofs.SummaryLemmas.{bare_more, front_whole}
 use Rattle.kt_tools.proofs.summarycalc.SetSummariesRunStageHeadLossRecordUnit.judge.Goals as goal
 

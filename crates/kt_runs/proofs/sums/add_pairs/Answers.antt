@@ -1,7 +1,7 @@
 use Rattle.std.proofs.Common.{arith, pos}
 use Rattle.kt_stream.specs.declared.entry.Pair.{Pair}
-use Rattle.kt_sum.proofs.AddLemmas.{added_more, fits_more}
-use Rattle.kt_sum.proofs.sums.add_pairs.Goals as goal
+use Rattle.kt_runs.proofs.AddLemmas.{added_more, fits_more}
+use Rattle.kt_runs.proofs.sums.add_pairs.Goals as goal
 
 pub overflow_add-sums : goal.overflow_add-sums
 overflow_add-sums c =

@@ -3,8 +3,8 @@
 ghost use Rattle.std.specs.Prelude.{◌≡◌, true, not, ◌+◌, [], ◌∷◌, ◌++◌, List, length, IfOk};
 ghost use Rattle.kt_stream.specs.Losses.{IsLoss};
 ghost use Rattle.kt_stream.specs.declared.entry.LossRecord.{LossRecord};
-ghost use Rattle.kt_sum.specs.RunLosses.{goes_past};
-ghost use Rattle.kt_sum.specs.RunSums.{AreSums, AreRunSums};
+ghost use Rattle.kt_runs.specs.RunLosses.{goes_past};
+ghost use Rattle.kt_runs.specs.RunSums.{AreSums, AreRunSums};
 
 use crate::sidx::place_of;
 use crate::sums::zeros;

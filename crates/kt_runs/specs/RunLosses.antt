@@ -21,3 +21,8 @@ goes_past records entry = list_any (λ pair. nat_lt 10000000000000000 (run_loss 
 -- the losses of records add to at most 10^16 cents at each sidx
 abbrev pub AreWithin : List LossRecord → Type 0
 AreWithin records = (sidx : ℤ) → run_loss sidx records ≤ 10000000000000000
+
+-- the event of the records of a run
+abbrev pub event_of : List LossRecord → ℕ
+event_of [] = 0
+event_of (entry ∷ later) = entry.event

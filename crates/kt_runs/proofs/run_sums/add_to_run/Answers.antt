@@ -1,13 +1,13 @@
 use Rattle.std.proofs.Common.{◌≡◌, ◌+◌, ◌-◌, ◌<◌, List, length, take, slice_index_or, not, pos, ap, subst, sym, arith, ◌∙◌}
 use Rattle.std.proofs.lemmas.List.{take_all}
 use Rattle.kt_stream.specs.declared.entry.Pair.{Pair}
-use Rattle.kt_sum.specs.Adding.{IsAdded}
-use Rattle.kt_sum.specs.Summaries.{place_of, sidx_at}
-use Rattle.kt_sum.proofs.AddLemmas.{added_more}
-use Rattle.kt_sum.proofs.RunSumLemmas.{not_past, past, run_kept, set_few, sidx_inside}
+use Rattle.kt_runs.specs.Adding.{IsAdded}
+use Rattle.kt_runs.specs.Sidx.{place_of, sidx_at}
+use Rattle.kt_runs.proofs.AddLemmas.{added_more}
+use Rattle.kt_runs.proofs.RunSumLemmas.{not_past, past, run_kept, set_few, sidx_inside}
 use Rattle.std.proofs.lemmas.List.Elements.{All-from_recursion}
 use Rattle.kt_stream.specs.Pairs.{IsPair}
-use Rattle.kt_sum.proofs.run_sums.add_to_run.Goals as goal
+use Rattle.kt_runs.proofs.run_sums.add_to_run.Goals as goal
 
 pub returns-then-sum-gt-MOST-clause-exact : goal.returns-then-sum-gt-MOST-clause-exact
 returns-then-sum-gt-MOST-clause-exact c = λ records run_are.

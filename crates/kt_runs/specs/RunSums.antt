@@ -2,9 +2,9 @@
 -- The rule: docs/STREAMS.md, "Runs".
 use Rattle.std.specs.Prelude.{◌≡◌, ℕ, ◌+◌, ◌≤◌, List, length, slice_index}
 use Rattle.kt_stream.specs.declared.entry.LossRecord.{LossRecord}
-use Rattle.kt_sum.specs.RunLosses.{AreWithin, run_loss}
-use Rattle.kt_sum.specs.Summaries.{sidx_at}
-use Rattle.kt_sum.specs.Adding.{Holds}
+use Rattle.kt_runs.specs.RunLosses.{AreWithin, run_loss}
+use Rattle.kt_runs.specs.Sidx.{sidx_at}
+use Rattle.kt_runs.specs.Adding.{Holds}
 
 -- sums of a stream with so many samples, a place for each sidx from -2 up, each at most 10^16 cents
 pub record AreSums (samples : ℕ) (sums : List ℕ) : Type 0 where

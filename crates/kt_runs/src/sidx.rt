@@ -1,7 +1,7 @@
 //! The places of sidx among the whole numbers of 32 bits.
 //! The rules: docs/STREAMS.md, "Records".
 ghost use Rattle.std.specs.Prelude.{◌≡◌, ◌<◌};
-ghost use Rattle.kt_sum.specs.Summaries.{place_of, sidx_at};
+ghost use Rattle.kt_runs.specs.Sidx.{place_of, sidx_at};
 
 use kt_stream::Pair;
 
@@ -10,7 +10,7 @@ const MIDDLE: u32 = 2_147_483_648;
 
 /// The place of the sidx of a pair.
 #[inline]
-pub(crate) fn place_of(pair: &Pair) -> u32
+pub fn place_of(pair: &Pair) -> u32
     ensures value { result ≡ place_of pair.now.sidx }
     ensures back { sidx_at result ≡ pair.now.sidx }
 {
@@ -24,7 +24,7 @@ pub(crate) fn place_of(pair: &Pair) -> u32
 
 /// The sidx at a place.
 #[inline]
-pub(crate) fn sidx_at(place: u32) -> i32
+pub fn sidx_at(place: u32) -> i32
     ensures value { result ≡ sidx_at place }
 {
     place.wrapping_sub(MIDDLE).cast_signed()

@@ -11,12 +11,12 @@ use Rattle.kt_stream.specs.declared.entry.LossRecord.{LossRecord}
 use Rattle.kt_stream.specs.declared.entry.Pair.{Pair}
 use Rattle.kt_stream.specs.Losses.{IsLoss}
 use Rattle.kt_stream.specs.Pairs.{IsSidx}
-use Rattle.kt_sum.specs.RunLosses.{AreWithin, goes_past, loss_of, run_loss}
-use Rattle.kt_sum.specs.RunSums.{AreRunSums, AreSums}
-use Rattle.kt_sum.specs.Summaries.{place_of, sidx_at}
-use Rattle.kt_sum.specs.Adding.{IsAdded}
-use Rattle.kt_sum.proofs.AddLemmas.{own_more}
-use Rattle.kt_sum.proofs.GoodLemmas.{pair_sidx}
+use Rattle.kt_runs.specs.RunLosses.{AreWithin, goes_past, loss_of, run_loss}
+use Rattle.kt_runs.specs.RunSums.{AreRunSums, AreSums}
+use Rattle.kt_runs.specs.Sidx.{place_of, sidx_at}
+use Rattle.kt_runs.specs.Adding.{IsAdded}
+use Rattle.kt_runs.proofs.AddLemmas.{own_more}
+use Rattle.kt_runs.specs.LossLaws.{pair_sidx}
 
 -- a sidx of a stream has its place among the sums
 pub sidx_inside : (samples : ℕ) (sidx : ℤ) → IsSidx samples sidx → (2147483646 ≤ place_of sidx) × (place_of sidx < 2147483646 + (samples + 3))

@@ -1,7 +1,7 @@
 -- The losses of the pairs so far are added, and none of the sums passes the limit.
 use Rattle.std.proofs.Common.{ℕ, ◌≤◌, slice_index, take}
-use Rattle.kt_sum.specs.Adding.{IsAdded}
-use Rattle.kt_sum.proofs.run_sums.add_to_run.Given as goal
+use Rattle.kt_runs.specs.Adding.{IsAdded}
+use Rattle.kt_runs.proofs.run_sums.add_to_run.Given as goal
 
 abbrev pub invariant-loop-pair : goal.invariant-loop-pair
 invariant-loop-pair l = record {

@@ -6,10 +6,10 @@ use Rattle.std.proofs.lemmas.Bool.Decides.{Decides-int_eq}
 use Rattle.std.proofs.lemmas.List.{get_or-set_same, get_or-set_other, length-set}
 use Rattle.std.proofs.lemmas.List.Sums.{sum_by_more, sum_by-take-le}
 use Rattle.kt_stream.specs.declared.entry.Pair.{Pair}
-use Rattle.kt_sum.specs.RunLosses.{loss_of}
-use Rattle.kt_sum.specs.Summaries.{sidx_at}
-use Rattle.kt_sum.specs.Adding.{IsAdded}
-use Rattle.kt_sum.proofs.SidxLemmas.{one_place}
+use Rattle.kt_runs.specs.RunLosses.{loss_of}
+use Rattle.kt_runs.specs.Sidx.{sidx_at}
+use Rattle.kt_runs.specs.Adding.{IsAdded}
+use Rattle.kt_runs.specs.SidxLaws.{one_place}
 
 -- a sidx is itself
 pub same_sidx : (sidx other : ℤ) → sidx ≡ other → int_eq sidx other ≡ true

@@ -2,7 +2,7 @@
 use Rattle.std.proofs.Common.{◌≡◌, ℕ, ◌-◌, ◌<◌, Bool, true, false, cond, nat_lt, pos, negsuc, ◌<ℤ◌, refl, sym, ap, arith, ◌∙◌}
 use Rattle.std.proofs.lemmas.Bool.{ltb-true, ltb-false}
 use Rattle.std.proofs.lemmas.Int.{ints}
-use Rattle.kt_sum.specs.Summaries.{place_of, sidx_at}
+use Rattle.kt_runs.specs.Sidx.{place_of, sidx_at}
 
 -- the place of the sidx at a place
 place_back : (place : ℕ) → place_of (sidx_at place) ≡ place
