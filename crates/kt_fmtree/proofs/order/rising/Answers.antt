@@ -1,7 +1,7 @@
 use Rattle.std.proofs.Common.{◌∙◌, eqb}
 use Rattle.std.proofs.lemmas.List.Filters.{dedup_is}
 use Rattle.kt_fmtree.proofs.RisingLemmas.{sorted-rising}
-use Rattle.kt_fmtree.proofs.rising.rising.Goals as goal
+use Rattle.kt_fmtree.proofs.order.rising.Goals as goal
 
 pub returns : goal.returns
 returns c = record {
