@@ -167,26 +167,27 @@ order-each P outputs all = from (rising (map (λ row. row.output_id) outputs))
     from [] = tt
     from (id ∷ ids) = found-each P (nat_eq id) (map (λ row. (row.output_id, row)) outputs) (paired outputs all) _ (from ids)
 
+-- what an output loses at a sidx
+abbrev loss_for : Tree → ℕ → List LossRecord → FmXref → ℤ → ℕ
+loss_for tree rule records output sidx = output_loss tree (taken_loss tree records sidx) rule output.agg_id output.layer_id
+
 -- insured losses are records of a stream
 pub insured-good : (tree : Tree) → IsTree tree → (rule samples : ℕ) (outputs : List FmXref) (records : List LossRecord) → All IsFmXref outputs → All (IsLoss samples) records → AreWithin records → All (IsLoss samples) (insured_records tree rule samples outputs records)
 insured-good tree is rule samples outputs records ids are within =
     All-from_recursion (IsLoss samples) (insured_records tree rule samples outputs records) (over records refl (recursion_from_All (IsLoss samples) records are))
   where
-    abbrev loss : FmXref → ℤ → ℕ
-    loss output sidx = output_loss tree (taken_loss tree records sidx) rule output.agg_id output.layer_id
-
-    few : (output : FmXref) (sidx : ℤ) → loss output sidx ≤ 10000000000000000
+    few : (output : FmXref) (sidx : ℤ) → loss_for tree rule records output sidx ≤ 10000000000000000
     few output sidx = omega (arith, output-few tree is records sidx rule output.agg_id output.layer_id, within sidx)
 
     some : IsId (event_of records) → (outs : List FmXref) → AllByRecursion IsFmXref outs → AllByRecursion (IsLoss samples) (filter_map (output_record tree rule samples records) outs)
     some event [] all = tt
-    some event (output ∷ outs) all = record-good samples (loss output) (few output) (event_of records) output.output_id event all.0.output_id (filter_map (output_record tree rule samples records) outs) (some event outs all.1)
+    some event (output ∷ outs) all = record-good samples (loss_for tree rule records output) (few output) (event_of records) output.output_id event all.0.output_id (filter_map (output_record tree rule samples records) outs) (some event outs all.1)
 
     none : ((sidx : ℤ) → run_loss sidx records ≡ 0) → (outs : List FmXref) → filter_map (output_record tree rule samples records) outs ≡ []
     none nothing [] = refl
     none nothing (output ∷ outs) =
         ap (λ pairs. cons_option (record_with (event_of records) output.output_id pairs) (filter_map (output_record tree rule samples records) outs))
-        (pairs-none (loss output) (λ sidx. omega (arith, output-few tree is records sidx rule output.agg_id output.layer_id, nothing sidx)) (insured_range samples))
+        (pairs-none (loss_for tree rule records output) (λ sidx. omega (arith, output-few tree is records sidx rule output.agg_id output.layer_id, nothing sidx)) (insured_range samples))
         ∙ none nothing outs
 
     over : (all : List LossRecord) → records ≡ all → AllByRecursion (IsLoss samples) records → AllByRecursion (IsLoss samples) (insured_records tree rule samples outputs records)

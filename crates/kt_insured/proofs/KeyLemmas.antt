@@ -30,18 +30,19 @@ keys-shared tree parts is rule one other within =
     here : slice_index_or parts.beneath one.node [] ≡ beneath tree one.top
     here = beneath-are tree parts is one.node within.node ∙ ap (beneath tree) (ap (λ tops. slice_index tops one.node) (sym is.tops_are) ∙ within.top_is)
 
+-- the keys behind a place with theirs
+abbrev later_pairs : List (ℕ × ℕ) → ℕ → List ((ℕ × ℕ) × ℕ)
+later_pairs keys place = zip (drop (place + 1) keys) (range_with_len (place + 1) (length keys - (place + 1)))
+
 -- one more key with its place
 pub placed-step : (keys : List (ℕ × ℕ)) (placed now : List ((ℕ × ℕ) × ℕ)) (place : ℕ) (key : ℕ × ℕ) → place < length keys → key ≡ slice_index_or keys place key → placed ++ zip (drop place keys) (range_with_len place (length keys - place)) ≡ zip keys (range_with_len 0 (length keys)) → now ≡ placed ++ (key, place) ∷ [] → now ++ zip (drop (place + 1) keys) (range_with_len (place + 1) (length keys - (place + 1))) ≡ zip keys (range_with_len 0 (length keys))
 placed-step keys placed now place key below key_is so_far now_is =
-    ap (λ made. made ++ rest) now_is
-    ∙ (append_assoc placed ((key, place) ∷ []) rest
-    ∙ (ap (λ one. placed ++ ((one, place) ∷ rest)) key_is
+    ap (λ made. made ++ later_pairs keys place) now_is
+    ∙ (append_assoc placed ((key, place) ∷ []) (later_pairs keys place)
+    ∙ (ap (λ one. placed ++ ((one, place) ∷ later_pairs keys place)) key_is
     ∙ (ap (λ more. placed ++ more) (sym next) ∙ so_far)))
   where
-    abbrev rest : List ((ℕ × ℕ) × ℕ)
-    rest = zip (drop (place + 1) keys) (range_with_len (place + 1) (length keys - (place + 1)))
-
-    next : zip (drop place keys) (range_with_len place (length keys - place)) ≡ (slice_index_or keys place key, place) ∷ rest
+    next : zip (drop place keys) (range_with_len place (length keys - place)) ≡ (slice_index_or keys place key, place) ∷ later_pairs keys place
     next =
         let first : drop place keys ≡ slice_index_or keys place key ∷ drop (place + 1) keys = rw (add-one, drop-cons keys place key) refl in
         let many : length keys - place ≡ suc (length keys - (place + 1)) = omega arith in

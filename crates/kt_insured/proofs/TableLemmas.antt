@@ -142,10 +142,7 @@ module _ (tree : Tree) (is : IsTree tree) (rule samples : ℕ) (records : List L
   record-is : (output : FmXref) → followed (outlet_of (keys tree rule) output) (record_in (event_of records) table) ≡ output_record tree rule samples records output
   record-is output = by (place_in (keys tree rule) (output.agg_id, output.layer_id)) refl
     where
-      abbrev key : ℕ × ℕ
-      key = (output.agg_id, output.layer_id)
-
-      by : (found : Option ℕ) → place_in (keys tree rule) key ≡ found → followed (outlet_of (keys tree rule) output) (record_in (event_of records) table) ≡ output_record tree rule samples records output
+      by : (found : Option ℕ) → place_in (keys tree rule) (output.agg_id, output.layer_id) ≡ found → followed (outlet_of (keys tree rule) output) (record_in (event_of records) table) ≡ output_record tree rule samples records output
       by None none =
           ap (λ found. followed (option_map (λ place. record { id = output.output_id; place = place }) found) (record_in (event_of records) table)) none
           ∙ ap (record_with (event_of records) output.output_id) (sym (pairs-none (loss_of_output output) nothing (insured_range samples)))
@@ -153,14 +150,14 @@ module _ (tree : Tree) (is : IsTree tree) (rule samples : ℕ) (records : List L
           nothing : (sidx : ℤ) → loss_of_output output sidx ≡ 0
           nothing sidx =
               sym (output-is tree (taken_loss tree records sidx) rule output.agg_id output.layer_id)
-              ∙ ap (λ found. unwrap_or found 0) (place-none (same_pair key) 0 (keys tree rule) (row_for tree (taken_loss tree records sidx) rule (layers_of tree)).shares none)
+              ∙ ap (λ found. unwrap_or found 0) (place-none (same_pair (output.agg_id, output.layer_id)) 0 (keys tree rule) (row_for tree (taken_loss tree records sidx) rule (layers_of tree)).shares none)
       by (Some place) some =
           ap (λ found. followed (option_map (λ place. record { id = output.output_id; place = place }) found) (record_in (event_of records) table)) some
           ∙ ap (record_with (event_of records) output.output_id) (pairs-are place (loss_of_output output) stands)
         where
           stands : (row : ℕ) → slice_index (full row).shares place ≡ loss_of_output output (sidx_at (row_place row))
           stands row =
-              let found = place-some (same_pair key) 0 (keys tree rule) (full row).shares place (length-row tree (losses row) rule (layers_of tree)) some in
+              let found = place-some (same_pair (output.agg_id, output.layer_id)) 0 (keys tree rule) (full row).shares place (length-row tree (losses row) rule (layers_of tree)) some in
               sym (ap (λ found. unwrap_or found 0) found.found_is) ∙ output-is tree (losses row) rule output.agg_id output.layer_id
 
   -- the records of outputs that have places are those of all

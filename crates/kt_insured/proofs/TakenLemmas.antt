@@ -139,9 +139,6 @@ module _ (width at : ℕ) (placed : List PlacedLosses) (i : ℕ) (d one : Placed
     each = λ k within. by k within (cases_eq k one.place);
   }
     where
-      value : ℕ
-      value = slice_index_or losses one.place 0 + slice_index one.losses.items at
-
       by : (k : ℕ) → k < width → (k ≡ one.place) ⊎ (k ≢ one.place) → slice_index (slice_set losses one.place (slice_index_or losses one.place 0 + slice_index one.losses.items at)) k ≡ placed_loss (take (i + 1) placed) at k
       by k within (inl same) =
           ap (slice_index (slice_set losses one.place (slice_index_or losses one.place 0 + slice_index one.losses.items at))) same

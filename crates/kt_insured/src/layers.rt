@@ -38,10 +38,7 @@ fn push_layers(
 }
 
 /// The layers of the tops of a programme, by top and then by layer.
-pub(crate) fn top_layers(
-    alloc: Global,
-    programme: &Programme,
-) -> Result<Vec<TopLayer>, AllocError>
+pub(crate) fn top_layers(alloc: Global, programme: &Programme) -> Result<Vec<TopLayer>, AllocError>
     requires rising { IsRising programme.now.tops }
     ensures value { IfOk result (λ found. found.items ≡ layers_from programme.now.layers 0 programme.now.tops) }
 {

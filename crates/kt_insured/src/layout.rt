@@ -85,10 +85,7 @@ fn keys_of(
 }
 
 /// Keys with their places.
-fn placed_keys(
-    alloc: Global,
-    keys: &[(u32, u32)],
-) -> Result<Vec<((u32, u32), usize)>, AllocError>
+fn placed_keys(alloc: Global, keys: &[(u32, u32)]) -> Result<Vec<((u32, u32), usize)>, AllocError>
     ensures value { IfOk result (λ placed. placed.items ≡ zip keys.now (range_with_len 0 (length keys.now))) }
 {
     let mut placed = Vec::with_capacity(alloc, keys.len())?;
@@ -109,10 +106,7 @@ fn first_places(
 }
 
 /// The first place of each key.
-fn places_of(
-    alloc: Global,
-    keys: &[(u32, u32)],
-) -> Result<HashMap<(u32, u32), usize>, AllocError>
+fn places_of(alloc: Global, keys: &[(u32, u32)]) -> Result<HashMap<(u32, u32), usize>, AllocError>
     ensures value { IfOk result (λ places. (key : ℕ × ℕ) → get same_pair places key ≡ place_in keys.now key) }
 {
     let pairs = placed_keys(alloc, keys)?;
@@ -131,10 +125,7 @@ fn output_rows(alloc: Global, outputs: &[FmXref]) -> Result<Vec<(u32, FmXref)>, 
 }
 
 /// The first row of each output.
-fn first_rows(
-    alloc: Global,
-    rows: &[(u32, FmXref)],
-) -> Result<HashMap<u32, FmXref>, AllocError>
+fn first_rows(alloc: Global, rows: &[(u32, FmXref)]) -> Result<HashMap<u32, FmXref>, AllocError>
     ensures value { IfOk result (λ found. (id : ℕ) → get nat_eq found id ≡ lookup (nat_eq id) rows.now) }
 {
     first_values(alloc, rows)
@@ -219,5 +210,26 @@ impl Layout {
             layers,
             outlets,
         })
+    }
+
+    /// The allocation rule.
+    pub(crate) fn rule(&self) -> u32
+        ensures value { result ≡ self.now.rule }
+    {
+        self.rule
+    }
+
+    /// The layers of the tops, by top and then by layer.
+    pub(crate) fn layers(&self) -> &[TopLayer]
+        ensures value { result.now ≡ self.now.layers }
+    {
+        &self.layers
+    }
+
+    /// The outputs that have a place, by rising output.
+    pub(crate) fn outlets(&self) -> &[Outlet]
+        ensures value { result.now ≡ self.now.outlets }
+    {
+        &self.outlets
     }
 }

@@ -8,6 +8,7 @@ mod made;
 mod outputs;
 mod row;
 mod run;
+mod shared;
 mod sums;
 mod table;
 

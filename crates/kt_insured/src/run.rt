@@ -51,12 +51,13 @@ fn insured_of<T: RunEntry>(
 {
     portfolio.is_valid();
     let event = event_of(records);
-    let table = table_of(alloc, programme, samples, layout.rule, &layout.layers, records)?;
-    let made = records_of(alloc, event, &table, &layout.outlets)?;
-    let layers = sums_of(alloc, event, &table, &layout.layers)?;
+    let layers = layout.layers();
+    let table = table_of(alloc, programme, samples, layout.rule(), layers, records)?;
+    let made = records_of(alloc, event, &table, layout.outlets())?;
+    let sums = sums_of(alloc, event, &table, layers)?;
     Ok(Insured {
         records: made,
-        layers,
+        layers: sums,
     })
 }
 
