@@ -1,22 +1,20 @@
 -- The records of summaries are records of a stream: their ids, their exposures, their sidx and their losses are in their ranges.
-use Rattle.std.proofs.Common.{◌≡◌, ℕ, zero, suc, ◌+◌, ◌-◌, ◌<◌, ◌≤◌, Bool, true, false, cond, nat_eq, nat_lt, ℤ, List, [], ◌∷◌, map, Option, Some, None, refl, subst, arith}
+use Rattle.std.proofs.Common.{◌≡◌, ℕ, zero, suc, ◌+◌, ◌-◌, ◌<◌, ◌≤◌, Bool, true, false, cond, nat_eq, nat_lt, ℤ, List, [], ◌∷◌, map, Option, Some, None, refl, arith}
 use Rattle.std.specs.Prelude.{All}
 use Rattle.std.specs.List.{AllByRecursion, cons_option, filter_map, range_with_len}
-use Rattle.std.specs.Ordering.{int_eq}
-use Rattle.std.proofs.lemmas.Bool.Decides.{Decides-int_eq}
 use Rattle.std.proofs.lemmas.List.Elements.{All-from_recursion, recursion_from_All}
-use Rattle.std.proofs.lemmas.List.Sums.{sum_by-cons}
 use Rattle.kt_stream.specs.declared.entry.LossRecord.{LossRecord}
 use Rattle.kt_stream.specs.declared.entry.Pair.{Pair}
 use Rattle.kt_stream.specs.declared.entry.SummaryRecord.{SummaryRecord}
 use Rattle.kt_stream.specs.Losses.{IsLoss}
 use Rattle.kt_stream.specs.Pairs.{BeginsAbove, IsId, IsPair, IsSidx, RisingSidx}
 use Rattle.kt_stream.specs.Summary.{IsSummary}
-use Rattle.kt_runs.specs.RunLosses.{AreWithin, loss_of, run_loss}
+use Rattle.kt_runs.specs.RunLosses.{AreWithin, run_loss}
 use Rattle.kt_sum.specs.Summaries.{end_place, found_summaries, insert_id, least_place, members, places, record_with, rising, sidx_range, summaries_by, summary_of_run}
 use Rattle.kt_runs.specs.RunLosses.{event_of}
 use Rattle.kt_runs.specs.Sidx.{pair_of, pairs_of, sidx_at}
 use Rattle.kt_sum.proofs.GroupLemmas.{members_within}
+use Rattle.kt_runs.specs.LossLaws.{record_sidx}
 use Rattle.kt_runs.specs.SidxLaws.{sidx_rises}
 
 -- ---- the pairs

@@ -1,8 +1,7 @@
 -- The worked examples of docs/CALCULATION.md and docs/EXAMPLES.md, by computing.
-use Rattle.std.specs.Prelude.{◌≡◌, ℕ, true, false, cond, nat_lt, pos, negsuc, List, [], ◌∷◌, Some}
+use Rattle.std.specs.Prelude.{◌≡◌, ℕ, cond, nat_lt, pos, negsuc, List, [], ◌∷◌, Some}
 use Rattle.std.proofs.Common.{refl}
 use Rattle.kt_stream.specs.declared.entry.LossRecord.{LossRecord}
-use Rattle.kt_runs.specs.RunLosses.{goes_past}
 use Rattle.kt_sum.specs.Summaries.{summaries_by}
 
 -- a sample of an output in event 4

@@ -1,6 +1,6 @@
 -- The summaries of a run: what the losses of its records come to in each summary of a set.
 -- The rules: docs/CALCULATION.md, "Summaries"; docs/STREAMS.md, "Records".
-use Rattle.std.specs.Prelude.{ℕ, zero, suc, ◌+◌, ◌-◌, Bool, false, cond, nat_eq, nat_lt, min, max, ℤ, pos, negsuc, List, [], ◌∷◌, map, Option, None, Some}
+use Rattle.std.specs.Prelude.{ℕ, ◌+◌, ◌-◌, Bool, false, cond, nat_eq, nat_lt, min, max, ℤ, List, [], ◌∷◌, map, Option, None, Some}
 use Rattle.std.specs.List.{filter, filter_map, flat_map, fold, range_with_len}
 use Rattle.kt_rec.specs.Rows.{Rows}
 use Rattle.kt_rec.specs.declared.perspective.Perspective.{Perspective}
@@ -8,7 +8,8 @@ use Rattle.kt_stream.specs.declared.entry.LossRecord.{LossRecord}
 use Rattle.kt_stream.specs.declared.entry.Pair.{Pair}
 use Rattle.kt_stream.specs.declared.entry.SummaryRecord.{SummaryRecord}
 use Rattle.kt_tables.specs.Lookups.{exposure_of, summary_in}
-use Rattle.kt_runs.specs.RunLosses.{run_loss}
+use Rattle.kt_runs.specs.RunLosses.{event_of, run_loss}
+use Rattle.kt_runs.specs.Sidx.{pairs_of, place_of, sidx_at}
 
 -- ---- the sidx of records
 

@@ -9,9 +9,8 @@ ghost use Rattle.kt_runs.specs.Adding.{Holds, AreInside};
 ghost use Rattle.kt_sum.specs.Mapping.{AreNamed, IsGroupEnd, record_at};
 
 use crate::mapped::Mapped;
-use kt_runs::RunEntry;
 use crate::sums::take_pairs;
-use kt_runs::add_pairs;
+use kt_runs::{RunEntry, add_pairs};
 use kt_stream::Pairs;
 use std::alloc::{AllocError, Global};
 

@@ -15,10 +15,9 @@ ghost use Rattle.kt_sum.specs.Mapping.{AreAllMapped, AreNamed, record_at};
 
 use crate::group::{group_end, group_pairs};
 use crate::mapped::{Mapped, mapped_in_order};
-use kt_runs::RunEntry;
 use crate::span::span_of;
-use kt_runs::zeros;
 use kt_rec::Perspective;
+use kt_runs::{RunEntry, zeros};
 use kt_stream::{LossRecord, Placed, Records, SummaryRecord};
 use kt_tables::Portfolio;
 use std::alloc::{AllocError, Global};

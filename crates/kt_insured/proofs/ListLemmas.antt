@@ -1,0 +1,131 @@
+-- Lists that are looked up, and lists behind each other.
+use Rattle.std.proofs.Common.{◌≡◌, ℕ, zero, suc, ◌+◌, ◌-◌, ◌<◌, ◌≤◌, ◌&&◌, ◌||◌, Bool, true, false, cond, nat_eq, List, [], ◌∷◌, ◌++◌, Option, Some, None, length, map, slice_index, refl, sym, ap, subst, ◌∙◌, arith}
+use Rattle.std.specs.Prelude.{unwrap_or}
+use Rattle.std.specs.List.{AllByRecursion, cons_option, filter, filter_map, list_any, range_with_len, sum, sum_by, zip}
+use Rattle.std.specs.Map.{lookup}
+use Rattle.std.specs.Option.{option_or}
+use Rattle.std.proofs.lemmas.Bool.{eqb-true}
+use Rattle.std.proofs.lemmas.List.Sums.{sum_by-cons}
+use Rattle.kt_keys.specs.Keys.{same_pair}
+
+-- ---- lookups
+
+-- a lookup in two lists behind each other
+pub lookup-append : {K X : Type 0} (test : K → Bool) (xs ys : List (K × X)) → lookup test (xs ++ ys) ≡ option_or (lookup test xs) (lookup test ys)
+lookup-append test [] ys = refl
+lookup-append test (x ∷ xs) ys = by (test x.0) (lookup-append test xs ys)
+  where
+    by : (b : Bool) → lookup test (xs ++ ys) ≡ option_or (lookup test xs) (lookup test ys) → cond b (Some x.1) (lookup test (xs ++ ys)) ≡ option_or (cond b (Some x.1) (lookup test xs)) (lookup test ys)
+    by true rest = refl
+    by false rest = rest
+
+-- lists behind each other, paired
+pub zip-append : {K X : Type 0} (ks ls : List K) (xs ys : List X) → length ks ≡ length xs → zip (ks ++ ls) (xs ++ ys) ≡ zip ks xs ++ zip ls ys
+zip-append [] ls [] ys same = refl
+zip-append [] ls (x ∷ xs) ys same = absurd (omega arith)
+zip-append (k ∷ ks) ls [] ys same = absurd (omega arith)
+zip-append (k ∷ ks) ls (x ∷ xs) ys same = ap (λ rest. (k, x) ∷ rest) (zip-append ks ls xs ys (omega arith))
+
+-- an id that is not among ids is not found
+pub lookup-none : (id : ℕ) (ids values : List ℕ) → list_any (nat_eq id) ids ≡ false → lookup (nat_eq id) (zip ids values) ≡ None
+lookup-none id [] values none = refl
+lookup-none id (other ∷ ids) [] none = refl
+lookup-none id (other ∷ ids) (value ∷ values) none = by (nat_eq id other) none (lookup-none id ids values)
+  where
+    by : (b : Bool) → (b || list_any (nat_eq id) ids) ≡ false → (list_any (nat_eq id) ids ≡ false → lookup (nat_eq id) (zip ids values) ≡ None) → cond b (Some value) (lookup (nat_eq id) (zip ids values)) ≡ None
+    by true none rest = let clash : true ≡ false = none in cc
+    by false none rest = rest none
+
+-- what is found is not more than all
+pub lookup-few : {K : Type 0} (test : K → Bool) (keys : List K) (values : List ℕ) → unwrap_or (lookup test (zip keys values)) 0 ≤ sum values
+lookup-few test [] values = omega arith
+lookup-few test (key ∷ keys) [] = omega arith
+lookup-few test (key ∷ keys) (value ∷ values) = by (test key) (lookup-few test keys values)
+  where
+    by : (b : Bool) → unwrap_or (lookup test (zip keys values)) 0 ≤ sum values → unwrap_or (cond b (Some value) (lookup test (zip keys values))) 0 ≤ sum (value ∷ values)
+    by true rest = omega (arith, sum_by-cons (λ (n : ℕ). n) value values)
+    by false rest = omega (arith, rest, sum_by-cons (λ (n : ℕ). n) value values)
+
+-- what stands at the first place of a key: no place, and nothing is found
+pub place-none : {K : Type 0} (test : K → Bool) (a : ℕ) (keys : List K) (values : List ℕ) → lookup test (zip keys (range_with_len a (length keys))) ≡ None → lookup test (zip keys values) ≡ None
+place-none test a [] values none = refl
+place-none test a (key ∷ keys) [] none = refl
+place-none test a (key ∷ keys) (value ∷ values) none = by (test key) none (place-none test (a + 1) keys values)
+  where
+    by : (b : Bool) → cond b (Some a) (lookup test (zip keys (range_with_len (a + 1) (length keys)))) ≡ None → (lookup test (zip keys (range_with_len (a + 1) (length keys))) ≡ None → lookup test (zip keys values) ≡ None) → cond b (Some value) (lookup test (zip keys values)) ≡ None
+    by true none rest = cc
+    by false none rest = rest none
+
+-- a place, and the value in it is found
+pub record IsFoundAt (values : List ℕ) (a many place : ℕ) (found : Option ℕ) : Type 0 where
+  pub low : a ≤ place
+  pub high : place < a + many
+  pub found_is : found ≡ Some (slice_index values (place - a))
+
+pub place-some : {K : Type 0} (test : K → Bool) (a : ℕ) (keys : List K) (values : List ℕ) (place : ℕ) → length values ≡ length keys → lookup test (zip keys (range_with_len a (length keys))) ≡ Some place → IsFoundAt values a (length keys) place (lookup test (zip keys values))
+place-some test a [] values place same some = cc
+place-some test a (key ∷ keys) [] place same some = absurd (omega arith)
+place-some test a (key ∷ keys) (value ∷ values) place same some = by (test key) some (place-some test (a + 1) keys values place (omega arith))
+  where
+    some-is : (one other : ℕ) → Some one ≡ Some other → one ≡ other
+    some-is one other is = ap (λ (found : Option ℕ). unwrap_or found 0) is
+
+    by : (b : Bool) → cond b (Some a) (lookup test (zip keys (range_with_len (a + 1) (length keys)))) ≡ Some place → (lookup test (zip keys (range_with_len (a + 1) (length keys))) ≡ Some place → IsFoundAt values (a + 1) (length keys) place (lookup test (zip keys values))) → IsFoundAt (value ∷ values) a (length (key ∷ keys)) place (cond b (Some value) (lookup test (zip keys values)))
+    by true some rest =
+        let here : a ≡ place = some-is a place some in
+        record {
+          low = omega arith;
+          high = omega arith;
+          found_is = let none : place - a ≡ 0 = omega arith in ap (λ n. Some (slice_index (value ∷ values) n)) (sym none);
+        }
+    by false some rest =
+        let later = rest some in
+        let low = later.low in
+        let high = later.high in
+        let next : place - a ≡ suc (place - (a + 1)) = omega arith in
+        record {
+          low = omega arith;
+          high = omega arith;
+          found_is = later.found_is ∙ ap (λ n. Some (slice_index (value ∷ values) n)) (sym next);
+        }
+
+-- ---- filters
+
+-- what follows from a value that may be absent
+abbrev pub followed : {X Y : Type 0} → Option X → (X → Option Y) → Option Y
+followed None follow = None
+followed (Some x) follow = follow x
+
+-- what one makes of what another made
+pub filter_map-twice : {X Y Z : Type 0} (f : Y → Option Z) (g : X → Option Y) (xs : List X) → filter_map f (filter_map g xs) ≡ filter_map (λ x. followed (g x) f) xs
+filter_map-twice f g [] = refl
+filter_map-twice {Y = Y} f g (x ∷ xs) = by (g x) (filter_map-twice f g xs)
+  where
+    by : (found : Option Y) → filter_map f (filter_map g xs) ≡ filter_map (λ x. followed (g x) f) xs → filter_map f (cons_option found (filter_map g xs)) ≡ cons_option (followed found f) (filter_map (λ x. followed (g x) f) xs)
+    by None rest = rest
+    by (Some y) rest = ap (cons_option (f y)) rest
+
+-- what agrees for each makes the same
+pub filter_map-agree : {X Y : Type 0} (f g : X → Option Y) (xs : List X) → AllByRecursion (λ x. f x ≡ g x) xs → filter_map f xs ≡ filter_map g xs
+filter_map-agree f g [] same = refl
+filter_map-agree f g (x ∷ xs) same = ap (λ one. cons_option one (filter_map f xs)) same.0 ∙ ap (cons_option (g x)) (filter_map-agree f g xs same.1)
+
+-- what is made of what each becomes
+pub filter_map-map : {X Y Z : Type 0} (f : Y → Option Z) (g : X → Y) (xs : List X) → filter_map f (map g xs) ≡ filter_map (λ x. f (g x)) xs
+filter_map-map f g [] = refl
+filter_map-map f g (x ∷ xs) = ap (cons_option (f (g x))) (filter_map-map f g xs)
+
+-- what holds of each number of a range
+pub each-range : (P : ℕ → Type 0) (a n : ℕ) → ((k : ℕ) → a ≤ k → k < a + n → P k) → AllByRecursion P (range_with_len a n)
+each-range P a zero all = tt
+each-range P a (suc n) all = (all a (omega arith) (omega arith), each-range P (a + 1) n (λ k low high. all k (omega arith) (omega arith)))
+
+-- an id is not among those that pass a test which it fails
+pub filter-absent : (test : ℕ → Bool) (id : ℕ) (ids : List ℕ) → test id ≡ false → list_any (nat_eq id) (filter test ids) ≡ false
+filter-absent test id [] fails = refl
+filter-absent test id (other ∷ ids) fails = by (nat_eq id other) refl (test other) refl (filter-absent test id ids fails)
+  where
+    by : (a : Bool) → nat_eq id other ≡ a → (b : Bool) → test other ≡ b → list_any (nat_eq id) (filter test ids) ≡ false → list_any (nat_eq id) (cond b (other ∷ filter test ids) (filter test ids)) ≡ false
+    by a same false no rest = rest
+    by true same true yes rest = let clash : true ≡ false = sym yes ∙ (ap test (sym (eqb-true id other same)) ∙ fails) in cc
+    by false same true yes rest = ap (λ c. c || list_any (nat_eq id) (filter test ids)) same ∙ rest
