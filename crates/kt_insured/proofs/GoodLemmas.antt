@@ -181,7 +181,7 @@ insured-good tree is rule samples outputs records ids are within =
 
     some : IsId (event_of records) → (outs : List FmXref) → AllByRecursion IsFmXref outs → AllByRecursion (IsLoss samples) (filter_map (output_record tree rule samples records) outs)
     some event [] all = tt
-    some event (output ∷ outs) all = record-good samples (loss_for tree rule records output) (few output) (event_of records) output.output_id event all.0.output_id (filter_map (output_record tree rule samples records) outs) (some event outs all.1)
+    some event (output ∷ outs) all = record-good samples (loss_for tree rule records output) (few output) (event_of records) output.output_id event (all.0.output_id.least, all.0.output_id.most) (filter_map (output_record tree rule samples records) outs) (some event outs all.1)
 
     none : ((sidx : ℤ) → run_loss sidx records ≡ 0) → (outs : List FmXref) → filter_map (output_record tree rule samples records) outs ≡ []
     none nothing [] = refl

@@ -35,19 +35,18 @@ abbrev later_pairs : List (ℕ × ℕ) → ℕ → List ((ℕ × ℕ) × ℕ)
 later_pairs keys place = zip (drop (place + 1) keys) (range_with_len (place + 1) (length keys - (place + 1)))
 
 -- one more key with its place
-pub placed-step : (keys : List (ℕ × ℕ)) (placed now : List ((ℕ × ℕ) × ℕ)) (place : ℕ) (key : ℕ × ℕ) → place < length keys → key ≡ slice_index_or keys place key → placed ++ zip (drop place keys) (range_with_len place (length keys - place)) ≡ zip keys (range_with_len 0 (length keys)) → now ≡ placed ++ (key, place) ∷ [] → now ++ zip (drop (place + 1) keys) (range_with_len (place + 1) (length keys - (place + 1))) ≡ zip keys (range_with_len 0 (length keys))
-placed-step keys placed now place key below key_is so_far now_is =
+pub placed-step : (keys : List (ℕ × ℕ)) (placed now : List ((ℕ × ℕ) × ℕ)) (place : ℕ) (d : ℕ × ℕ) → place < length keys → placed ++ zip (drop place keys) (range_with_len place (length keys - place)) ≡ zip keys (range_with_len 0 (length keys)) → now ≡ placed ++ (slice_index_or keys place d, place) ∷ [] → now ++ zip (drop (place + 1) keys) (range_with_len (place + 1) (length keys - (place + 1))) ≡ zip keys (range_with_len 0 (length keys))
+placed-step keys placed now place d below so_far now_is =
     ap (λ made. made ++ later_pairs keys place) now_is
-    ∙ (append_assoc placed ((key, place) ∷ []) (later_pairs keys place)
-    ∙ (ap (λ one. placed ++ ((one, place) ∷ later_pairs keys place)) key_is
-    ∙ (ap (λ more. placed ++ more) (sym next) ∙ so_far)))
+    ∙ (append_assoc placed ((slice_index_or keys place d, place) ∷ []) (later_pairs keys place)
+    ∙ (ap (λ more. placed ++ more) (sym next) ∙ so_far))
   where
-    next : zip (drop place keys) (range_with_len place (length keys - place)) ≡ (slice_index_or keys place key, place) ∷ later_pairs keys place
+    next : zip (drop place keys) (range_with_len place (length keys - place)) ≡ (slice_index_or keys place d, place) ∷ later_pairs keys place
     next =
-        let first : drop place keys ≡ slice_index_or keys place key ∷ drop (place + 1) keys = rw (add-one, drop-cons keys place key) refl in
+        let first : drop place keys ≡ slice_index_or keys place d ∷ drop (place + 1) keys = rw (add-one, drop-cons keys place d) refl in
         let many : length keys - place ≡ suc (length keys - (place + 1)) = omega arith in
         ap (λ ks. zip ks (range_with_len place (length keys - place))) first
-        ∙ ap (λ n. zip (slice_index_or keys place key ∷ drop (place + 1) keys) (range_with_len place n)) many
+        ∙ ap (λ n. zip (slice_index_or keys place d ∷ drop (place + 1) keys) (range_with_len place n)) many
 
 -- all keys are placed
 pub placed-end : (keys : List (ℕ × ℕ)) (placed : List ((ℕ × ℕ) × ℕ)) (place : ℕ) → length keys ≤ place → placed ++ zip (drop place keys) (range_with_len place (length keys - place)) ≡ zip keys (range_with_len 0 (length keys)) → placed ≡ zip keys (range_with_len 0 (length keys))

@@ -75,7 +75,7 @@ module _ (parts : Parts) where
 pub programme-layers : (tree : Tree) (parts : Parts) → IsProgramme tree parts → (layers : List TopLayer) → layers ≡ layers_from parts.layers 0 parts.tops → map key_of layers ≡ layers_of tree
 programme-layers tree parts is layers are =
     ap (map key_of) are
-    ∙ (layers-keys parts.layers tree.layers 0 parts.tops (λ k below. ap (λ all. slice_index_or all k []) is.layers_are ∙ (get_or-map tree.layers tree.tops k 0 [] (subst (λ tops. k < length tops) is.tops_are below) ∙ ap (λ tops. tree.layers (slice_index tops k)) (sym is.tops_are)))
+    ∙ (layers-keys parts.layers tree.layers 0 parts.tops (λ k below. let e : 0 + k ≡ k = omega arith in ap (λ n. slice_index_or parts.layers n []) e ∙ (ap (λ all. slice_index_or all k []) is.layers_are ∙ (get_or-map tree.layers tree.tops k 0 [] (subst (λ tops. k < length tops) is.tops_are below) ∙ ap (λ tops. tree.layers (slice_index tops k)) (sym is.tops_are))))
     ∙ ap (flat_map (λ top. map (λ layer. (top, layer)) (tree.layers top))) is.tops_are)
 
 pub programme-within : (parts : Parts) (layers : List TopLayer) → layers ≡ layers_from parts.layers 0 parts.tops → AllByRecursion (IsTopLayer parts) layers

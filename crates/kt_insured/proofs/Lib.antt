@@ -6,3 +6,4 @@ pub mod TakenLemmas
 pub mod RowLemmas
 pub mod GoodLemmas
 pub mod TableLemmas
+pub mod RunLemmas

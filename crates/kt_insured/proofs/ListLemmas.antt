@@ -1,10 +1,13 @@
 -- Lists that are looked up, and lists behind each other.
-use Rattle.std.proofs.Common.{◌≡◌, ℕ, zero, suc, ◌+◌, ◌-◌, ◌<◌, ◌≤◌, ◌&&◌, ◌||◌, Bool, true, false, cond, nat_eq, List, [], ◌∷◌, ◌++◌, Option, Some, None, length, map, slice_index, refl, sym, ap, subst, ◌∙◌, arith}
+use Rattle.std.proofs.Common.{◌≡◌, ℕ, zero, suc, ◌+◌, ◌-◌, ◌<◌, ◌≤◌, ◌&&◌, ◌||◌, Bool, true, false, cond, nat_eq, List, [], ◌∷◌, ◌++◌, Option, Some, None, length, map, take, drop, slice_index, slice_index_or, refl, sym, ap, subst, ◌∙◌, arith, add-one, append_assoc, append-nil, drop-cons, ◌*◌}
 use Rattle.std.specs.Prelude.{unwrap_or}
 use Rattle.std.specs.List.{AllByRecursion, cons_option, filter, filter_map, list_any, range_with_len, sum, sum_by, zip}
 use Rattle.std.specs.Map.{lookup}
+use Rattle.std.specs.Cmp.{nat_eq_equiv}
 use Rattle.std.specs.Option.{option_or}
 use Rattle.std.proofs.lemmas.Bool.{eqb-true}
+use Rattle.std.proofs.lemmas.List.{map-append, take_more}
+use Rattle.std.proofs.lemmas.List.Elements.{filter_map-append}
 use Rattle.std.proofs.lemmas.List.Sums.{sum_by-cons}
 use Rattle.kt_keys.specs.Keys.{same_pair}
 
@@ -126,6 +129,75 @@ filter-absent test id [] fails = refl
 filter-absent test id (other ∷ ids) fails = by (nat_eq id other) refl (test other) refl (filter-absent test id ids fails)
   where
     by : (a : Bool) → nat_eq id other ≡ a → (b : Bool) → test other ≡ b → list_any (nat_eq id) (filter test ids) ≡ false → list_any (nat_eq id) (cond b (other ∷ filter test ids) (filter test ids)) ≡ false
-    by a same false no rest = rest
-    by true same true yes rest = let clash : true ≡ false = sym yes ∙ (ap test (sym (eqb-true id other same)) ∙ fails) in cc
-    by false same true yes rest = ap (λ c. c || list_any (nat_eq id) (filter test ids)) same ∙ rest
+    by a same false other_fails rest = rest
+    by true same true passes rest = let clash : true ≡ false = sym passes ∙ (ap test (sym (eqb-true id other same)) ∙ fails) in cc
+    by false same true passes rest = ap (λ c. c || list_any (nat_eq id) (filter test ids)) same ∙ rest
+
+-- ---- one more of a list
+
+-- what each becomes, behind others
+pub pushed-more : {X Y : Type 0} (f : X → Y) (xs : List X) (old now next : List Y) (i : ℕ) (d : X) → i < length xs → now ≡ old ++ map f (take i xs) → next ≡ now ++ f (slice_index_or xs i d) ∷ [] → next ≡ old ++ map f (take (i + 1) xs)
+pushed-more f xs old now next i d below now_is next_is =
+    next_is
+    ∙ (ap (λ front. front ++ f (slice_index_or xs i d) ∷ []) now_is
+    ∙ (append_assoc old (map f (take i xs)) (f (slice_index_or xs i d) ∷ [])
+    ∙ ap (λ made. old ++ made) (sym (ap (map f) (take_more xs i d below) ∙ map-append f (take i xs) (slice_index_or xs i d ∷ [])))))
+
+-- what is made of each
+pub made-more : {X Y : Type 0} (f : X → Option Y) (xs : List X) (now next : List Y) (i : ℕ) (d : X) → i < length xs → now ≡ filter_map f (take i xs) → next ≡ now ++ cons_option (f (slice_index_or xs i d)) [] → next ≡ filter_map f (take (i + 1) xs)
+made-more f xs now next i d below now_is next_is =
+    next_is
+    ∙ (ap (λ front. front ++ cons_option (f (slice_index_or xs i d)) []) now_is
+    ∙ sym (ap (filter_map f) (take_more xs i d below) ∙ filter_map-append f (take i xs) (slice_index_or xs i d ∷ [])))
+
+-- and of each number of a range
+pub counted-more : {Y : Type 0} (f : ℕ → Option Y) (n : ℕ) (now next : List Y) → now ≡ filter_map f (range_with_len 0 n) → next ≡ now ++ cons_option (f n) [] → next ≡ filter_map f (range_with_len 0 (n + 1))
+counted-more f n now next now_is next_is =
+    next_is
+    ∙ (ap (λ front. front ++ cons_option (f n) []) now_is
+    ∙ sym (ap (filter_map f) (ap (range_with_len 0) (add-one n) ∙ last 0 n n (omega arith)) ∙ filter_map-append f (range_with_len 0 n) (n ∷ [])))
+  where
+    last : (a n j : ℕ) → a + n ≡ j → range_with_len a (suc n) ≡ range_with_len a n ++ j ∷ []
+    last a zero j e = let same : a ≡ j = omega arith in ap (λ k. k ∷ []) same
+    last a (suc n) j e = ap (λ l. a ∷ l) (last (a + 1) n j (omega arith))
+
+-- numbers of a range, added
+pub summed-more : (f : ℕ → ℕ) (a n : ℕ) → sum_by f (range_with_len a (n + 1)) ≡ sum_by f (range_with_len a n) + f (a + n)
+summed-more f a n = ap (λ m. sum_by f (range_with_len a m)) (add-one n) ∙ from a n
+  where
+    from : (a n : ℕ) → sum_by f (range_with_len a (suc n)) ≡ sum_by f (range_with_len a n) + f (a + n)
+    from a zero = let e : a + 0 ≡ a = omega arith in omega (arith, sum_by-cons f a [], ap f e)
+    from a (suc n) = let e : a + 1 + n ≡ a + suc n = omega arith in omega (arith, sum_by-cons f a (range_with_len (a + 1) (suc n)), sum_by-cons f a (range_with_len (a + 1) n), from (a + 1) n, ap f e)
+
+-- what is left of a list at a place in it
+pub left-at : {X : Type 0} (xs : List X) (place : ℕ) (d : X) → place < length xs → drop place xs ≡ slice_index_or xs place d ∷ drop (place + 1) xs
+left-at xs place d below = rw (add-one, drop-cons xs place d) refl
+
+-- nothing is left behind the last
+pub left-none : {X : Type 0} (xs : List X) (n : ℕ) → length xs ≤ n → drop n xs ≡ []
+left-none [] zero past = refl
+left-none [] (suc n) past = refl
+left-none (x ∷ xs) zero past = absurd (omega arith)
+left-none (x ∷ xs) (suc n) past = left-none xs n (omega arith)
+
+-- with one that is made, and with one that is not
+pub made-push : {X Y : Type 0} (f : X → Option Y) (xs : List X) (now next : List Y) (i : ℕ) (d : X) (y : Y) → i < length xs → now ≡ filter_map f (take i xs) → f (slice_index_or xs i d) ≡ Some y → next ≡ now ++ y ∷ [] → next ≡ filter_map f (take (i + 1) xs)
+made-push f xs now next i d y below now_is found next_is = made-more f xs now next i d below now_is (next_is ∙ ap (λ one. now ++ cons_option one []) (sym found))
+
+pub made-skip : {X Y : Type 0} (f : X → Option Y) (xs : List X) (now : List Y) (i : ℕ) (d : X) → i < length xs → now ≡ filter_map f (take i xs) → f (slice_index_or xs i d) ≡ None → now ≡ filter_map f (take (i + 1) xs)
+made-skip f xs now i d below now_is none = made-more f xs now now i d below now_is (sym (append-nil now) ∙ ap (λ one. now ++ cons_option one []) (sym none))
+
+-- numbers of a range that are each at most 10^16
+pub summed-few : (f : ℕ → ℕ) (a n : ℕ) → ((k : ℕ) → a ≤ k → k < a + n → f k ≤ 10000000000000000) → sum_by f (range_with_len a n) ≤ n * 10000000000000000
+summed-few f a zero few = omega arith
+summed-few f a (suc n) few = omega (arith, sum_by-cons f a (range_with_len (a + 1) n), few a (omega arith) (omega arith), summed-few f (a + 1) n (λ k low high. few k (omega arith) (omega arith)))
+
+-- the id in a place is one of the ids
+pub member-at : (ids : List ℕ) (place : ℕ) → place < length ids → list_any (nat_eq (slice_index ids place)) ids ≡ true
+member-at [] place below = absurd (omega arith)
+member-at (id ∷ ids) zero below = ap (λ b. b || list_any (nat_eq id) ids) (nat_eq_equiv.refl id)
+member-at (id ∷ ids) (suc place) below = by (nat_eq (slice_index ids place) id) (member-at ids place (omega arith))
+  where
+    by : (b : Bool) → list_any (nat_eq (slice_index ids place)) ids ≡ true → (b || list_any (nat_eq (slice_index ids place)) ids) ≡ true
+    by true rest = refl
+    by false rest = rest

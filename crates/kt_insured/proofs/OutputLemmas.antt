@@ -38,6 +38,10 @@ length-shares tree losses rule top layer = by (nat_eq rule 0)
     by true = refl
     by false = sym (length-allocated tree losses rule top layer)
 
+-- an owner with a layer
+abbrev with_layer : ℕ → ℕ → ℕ × ℕ
+with_layer layer owner = (owner, layer)
+
 module _ (tree : Tree) (losses : ℕ → ℕ) (rule : ℕ) where
   -- the owners of the shares of a layer, with it
   abbrev owned : ℕ × ℕ → List (ℕ × ℕ)
@@ -52,14 +56,14 @@ module _ (tree : Tree) (losses : ℕ → ℕ) (rule : ℕ) where
   length-row [] = refl
   length-row (key ∷ layers) =
       length-append (shares tree losses rule key.0 key.1) (row_for tree losses rule layers).shares
-      ∙ (omega (arith, length-shares tree losses rule key.0 key.1, length-map (owners tree rule key.0) (λ owner. (owner, key.1)), length-row layers)
+      ∙ (omega (arith, length-shares tree losses rule key.0 key.1, length-map (owners tree rule key.0) (with_layer key.1), length-row layers)
       ∙ sym (length-append (owned key) (keys_for tree rule layers)))
 
   -- the keys with the shares of a row, layer by layer
   blocks : (layers : List (ℕ × ℕ)) → zip (keys_for tree rule layers) (row_for tree losses rule layers).shares ≡ flat_map block layers
   blocks [] = refl
   blocks (key ∷ layers) =
-      zip-append (owned key) (keys_for tree rule layers) (shares tree losses rule key.0 key.1) (row_for tree losses rule layers).shares (length-map (owners tree rule key.0) (λ owner. (owner, key.1)) ∙ length-shares tree losses rule key.0 key.1)
+      zip-append (owned key) (keys_for tree rule layers) (shares tree losses rule key.0 key.1) (row_for tree losses rule layers).shares (length-map (owners tree rule key.0) (with_layer key.1) ∙ length-shares tree losses rule key.0 key.1)
       ∙ ap (λ rest. block key ++ rest) (blocks layers)
 
   module _ (agg layer : ℕ) where

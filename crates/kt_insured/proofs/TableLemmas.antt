@@ -1,7 +1,6 @@
 -- The rows of all sidx, and what they give for outputs and layers.
 use Rattle.std.proofs.Common.{◌≡◌, ◌≢◌, ℕ, zero, suc, ◌+◌, ◌-◌, ◌<◌, ◌≤◌, ◌^◌, ◌||◌, Bool, true, false, cond, nat_eq, nat_lt, ℤ, pos, negsuc, List, [], ◌∷◌, ◌++◌, Option, Some, None, length, map, take, drop, slice_index, slice_index_or, refl, sym, ap, subst, ◌∙◌, arith, add-one}
 use Rattle.std.specs.Prelude.{All, option_map, unwrap_or}
-use Rattle.std.specs.Cmp.{nat_eq_equiv}
 use Rattle.std.specs.List.{AllByRecursion, cons_option, filter_map, list_any, range_with_len, sum, sum_by, zip}
 use Rattle.std.specs.Map.{lookup}
 use Rattle.std.proofs.lemmas.Bool.Decides.{nat_tests}
@@ -28,7 +27,7 @@ use Rattle.kt_insured.specs.declared.layout.Outlet.{Outlet}
 use Rattle.kt_insured.specs.declared.losses.PlacedLosses.{PlacedLosses}
 use Rattle.kt_insured.specs.declared.sums.LayerSum.{LayerSum}
 use Rattle.kt_insured.proofs.GoodLemmas.{pairs-none, taken-few}
-use Rattle.kt_insured.proofs.ListLemmas.{each-range, filter_map-agree, filter_map-map, filter_map-twice, place-none, place-some, followed}
+use Rattle.kt_insured.proofs.ListLemmas.{each-range, filter_map-agree, filter_map-map, filter_map-twice, member-at, place-none, place-some, followed, summed-few, summed-more}
 use Rattle.kt_insured.proofs.OutputLemmas.{length-row, output-is}
 use Rattle.kt_insured.proofs.RowLemmas.{policy-le, shares-sum}
 
@@ -62,16 +61,6 @@ range-is samples = sym (ap (λ n. map (λ row. sidx_at (row_place row)) (range_w
 
 -- ---- the losses of a row
 
--- the id in a place is one of the ids
-member-at : (ids : List ℕ) (place : ℕ) → place < length ids → list_any (nat_eq (slice_index ids place)) ids ≡ true
-member-at [] place below = absurd (omega arith)
-member-at (id ∷ ids) zero below = ap (λ b. b || list_any (nat_eq id) ids) (nat_eq_equiv.refl id)
-member-at (id ∷ ids) (suc place) below = by (nat_eq (slice_index ids place) id) (member-at ids place (omega arith))
-  where
-    by : (b : Bool) → list_any (nat_eq (slice_index ids place)) ids ≡ true → (b || list_any (nat_eq (slice_index ids place)) ids) ≡ true
-    by true rest = refl
-    by false rest = rest
-
 module _ (tree : Tree) (ids : List ℕ) (ids_are : ids ≡ tree.ids) (samples : ℕ) (records : List LossRecord) (placed : List PlacedLosses) (are : ArePlaced ids samples records placed) (row at : ℕ) (most : row ≤ samples) (at_is : at ≡ row_place row - 2147483646) where
   abbrev sidx : ℤ
   sidx = sidx_at (row_place row)
@@ -96,6 +85,25 @@ module _ (tree : Tree) (ids : List ℕ) (ids_are : ids ≡ tree.ids) (samples : 
   -- the losses are not too much
   pub placed-few : AreWithin records → placed_sum placed at ≤ 10000000000000000
   placed-few within = omega (arith, are.few at at-inside, within (sidx_at (2147483646 + at)))
+
+-- ---- amounts of the samples, added row by row
+
+module _ (amount : Shared → ℕ) (table : List Shared) (row sum more : ℕ) (some : 1 ≤ row) (so_far : sum ≡ sum_by (λ k. amount (row_at table k)) (range_with_len 1 (row - 1))) (more_is : more ≡ amount (row_at table row)) where
+  -- one more row
+  pub sampled-more : sum + more ≡ sum_by (λ k. amount (row_at table k)) (range_with_len 1 (row + 1 - 1))
+  sampled-more =
+      let here : row + 1 - 1 ≡ row - 1 + 1 = omega arith in
+      let last : 1 + (row - 1) ≡ row = omega arith in
+      omega (arith, so_far, more_is, ap (λ n. sum_by (λ k. amount (row_at table k)) (range_with_len 1 n)) here, summed-more (λ k. amount (row_at table k)) 1 (row - 1), ap (λ n. amount (row_at table n)) last)
+
+  -- it fits
+  pub sampled-fits : length table ≤ 1001 → row < length table → ((k : ℕ) → k < length table → amount (row_at table k) ≤ 10000000000000000) → sum + more < 2 ^ 64
+  sampled-fits rows below few =
+      omega (arith, so_far, more_is, few row below, summed-few (λ k. amount (row_at table k)) 1 (row - 1) (λ k low high. few k (omega arith)))
+
+-- all rows of the samples
+pub sampled-all : (amount : Shared → ℕ) (table : List Shared) (row sum : ℕ) → 1 ≤ length table → row ≤ length table → length table ≤ row → sum ≡ sum_by (λ k. amount (row_at table k)) (range_with_len 1 (row - 1)) → sum ≡ sampled_sum amount table
+sampled-all amount table row sum some most least so_far = let same : row ≡ length table = omega arith in so_far ∙ ap (λ n. sum_by (λ k. amount (row_at table k)) (range_with_len 1 (n - 1))) same
 
 -- ---- the table of a run
 
@@ -158,7 +166,8 @@ module _ (tree : Tree) (is : IsTree tree) (rule samples : ℕ) (records : List L
           stands : (row : ℕ) → slice_index (full row).shares place ≡ loss_of_output output (sidx_at (row_place row))
           stands row =
               let found = place-some (same_pair (output.agg_id, output.layer_id)) 0 (keys tree rule) (full row).shares place (length-row tree (losses row) rule (layers_of tree)) some in
-              sym (ap (λ found. unwrap_or found 0) found.found_is) ∙ output-is tree (losses row) rule output.agg_id output.layer_id
+              let same : place ≡ place - 0 = omega arith in
+              ap (slice_index (full row).shares) same ∙ (sym (ap (λ (found : Option ℕ). unwrap_or found 0) found.found_is) ∙ output-is tree (losses row) rule output.agg_id output.layer_id)
 
   -- the records of outputs that have places are those of all
   pub records-are : (outputs : List FmXref) (outlets : List Outlet) → outlets ≡ filter_map (outlet_of (keys tree rule)) (in_order outputs) → filter_map (record_in (event_of records) table) outlets ≡ insured_records tree rule samples outputs records
@@ -224,7 +233,9 @@ module _ (tree : Tree) (is : IsTree tree) (rule samples : ℕ) (records : List L
     -- amounts of the samples, added
     sampled-is : (amount : Shared → ℕ) (f : ℤ → ℕ) → ((row : ℕ) → amount (full row) ≡ f (sidx_at (row_place row))) → sampled_sum amount table ≡ sum_by f (sample_range samples)
     sampled-is amount f same =
-        ap (λ n. sum_by (λ row. amount (row_at table row)) (range_with_len 1 n)) (let long = table-length in omega arith)
+        let long = table-length in
+        let fewer : length table - 1 ≡ samples = omega arith in
+        ap (λ n. sum_by (λ row. amount (row_at table row)) (range_with_len 1 n)) fewer
         ∙ (sum_by-agree (λ row. amount (row_at table row)) (λ row. f (pos row)) (range_with_len 1 samples)
         (each-range (λ row. amount (row_at table row) ≡ f (pos row)) 1 samples (λ row low high. ap amount (row-is row (omega arith)) ∙ (same row ∙ ap f (sample-place row low))))
         ∙ sym (sum_by-map f pos (range_with_len 1 samples)))

@@ -1,6 +1,9 @@
 -- The losses of a run by the places of their ids.
 use Rattle.std.proofs.Common.{◌≡◌, ◌≢◌, ◌⊎◌, inl, inr, ℕ, zero, suc, ◌+◌, ◌-◌, ◌<◌, ◌≤◌, ◌^◌, ◌||◌, Bool, true, false, cond, nat_eq, ℤ, List, [], ◌∷◌, ◌++◌, Option, Some, None, length, map, take, slice_index, slice_index_or, slice_set, refl, sym, ap, subst, ◌∙◌, arith}
+use Rattle.std.specs.Prelude.{Err}
 use Rattle.std.specs.Cmp.{nat_eq_equiv}
+use Rattle.std.specs.List.Sorted.{IsBinarySearchResult}
+use Rattle.std.specs.Ordering.{nat_cmp}
 use Rattle.std.specs.List.{AllByRecursion, list_any, range_with_len, sum, sum_by}
 use Rattle.std.proofs.lemmas.Bool.{cases_eq, cases_lt, eqb-true, eqb-false}
 use Rattle.std.proofs.lemmas.Bool.Decides.{nat_tests}
@@ -16,10 +19,11 @@ use Rattle.kt_runs.specs.Sidx.{sidx_at}
 use Rattle.kt_tree.specs.Rising.{IsRising}
 use Rattle.kt_tree.specs.Sums.{each_append, sum_by-agree, sum_by-below, sum_by-none, sum_by-swap}
 use Rattle.kt_fmtree.specs.Carried.{loss_by}
-use Rattle.kt_fmtree.specs.RisingLaws.{rising-order}
+use Rattle.kt_fmtree.specs.RisingLaws.{not-missed}
 use Rattle.kt_insured.specs.Insured.{id_loss}
 use Rattle.kt_insured.specs.Taken.{ArePlaced, IsPlacedAt, IsWithin, placed_loss, placed_sum}
 use Rattle.kt_insured.specs.declared.losses.PlacedLosses.{PlacedLosses}
+use Rattle.kt_insured.proofs.ListLemmas.{member-at}
 
 -- ---- the losses of one record
 
@@ -63,6 +67,14 @@ same-place ids rises one other below inside = by (nat_eq one other) refl
       | inl less ↦ sym (apart (slice_index ids one) (slice_index ids other) (later-above ids rises one other less inside)).0
       | inr most ↦ sym (apart (slice_index ids other) (slice_index ids one) (later-above ids rises other one (omega arith) below)).1
     ]
+
+-- an id that a search misses is at no place
+pub missed-none : (ids : List ℕ) (id at : ℕ) → IsRising ids → IsBinarySearchResult (λ other. nat_cmp other id) ids (Err at) → (place : ℕ) → place < length ids → nat_eq id (slice_index ids place) ≡ false
+missed-none ids id at rises missed place below = by (nat_eq id (slice_index ids place)) refl
+  where
+    by : (b : Bool) → nat_eq id (slice_index ids place) ≡ b → b ≡ false
+    by true is = absurd (not-missed ids id at rises (ap (λ n. list_any (nat_eq n) ids) (eqb-true id (slice_index ids place) is) ∙ member-at ids place below) missed)
+    by false is = refl
 
 -- ---- record by record
 

@@ -1,6 +1,6 @@
 //! The records of outputs, from the rows of all sidx.
 //! The rule: docs/FINANCIAL_MODULE.md, "Insured losses".
-ghost use Rattle.std.specs.Prelude.{◌≡◌, ◌<◌, ◌≤◌, ◌++◌, [], ◌∷◌, length, All, IfOk, OnOk};
+ghost use Rattle.std.specs.Prelude.{◌≡◌, ◌<◌, ◌≤◌, ◌++◌, [], ◌∷◌, length, slice_index, All, IfOk, OnOk};
 ghost use Rattle.std.specs.List.{AllByRecursion, filter_map};
 ghost use Rattle.kt_runs.specs.Sidx.{sidx_at};
 ghost use Rattle.kt_insured.specs.Table.{pairs_in, record_in, row_place};

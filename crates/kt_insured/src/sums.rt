@@ -43,6 +43,7 @@ fn total_in(row: &Row, place: usize) -> u64
 
 /// The policy losses of the samples in a place, added.
 fn policy_sum(table: &[Row], place: usize) -> u64
+    requires some { 1 ≤ length table.now }
     requires rows { length table.now ≤ 1001 }
     requires place { All (HasAmounts place) table.now }
     ensures value { result ≡ sampled_sum (λ row. slice_index row.policies place) table.now }
@@ -56,6 +57,7 @@ fn policy_sum(table: &[Row], place: usize) -> u64
 
 /// The totals of the samples in a place, added.
 fn total_sum(table: &[Row], place: usize) -> u64
+    requires some { 1 ≤ length table.now }
     requires rows { length table.now ≤ 1001 }
     requires place { All (HasAmounts place) table.now }
     ensures value { result ≡ sampled_sum (λ row. slice_index row.totals place) table.now }
@@ -75,6 +77,7 @@ fn push_sum(
     place: usize,
     made: &mut Vec<LayerSum>,
 ) -> Result<(), AllocError>
+    requires some { 1 ≤ length table.now }
     requires rows { length table.now ≤ 1001 }
     requires place { All (HasAmounts place) table.now }
     ensures ok { OnOk result (made.new.items ≡ made.old.items ++ cons_option (sum_in event table.now one place) []) }
@@ -99,6 +102,7 @@ pub(crate) fn sums_of(
     table: &[Row],
     layers: &[TopLayer],
 ) -> Result<Records<LayerSum>, AllocError>
+    requires some { 1 ≤ length table.now }
     requires rows { length table.now ≤ 1001 }
     requires places { (place : ℕ) → place < length layers.now → All (HasAmounts place) table.now }
     ensures value { IfOk result (λ made. made ≡ sums_in event table.now 0 layers.now) }

@@ -1,0 +1,10 @@
+use Rattle.std.proofs.Common.{ap, ◌∙◌}
+use Rattle.kt_tree.specs.Programme.{tree_of}
+use Rattle.kt_insured.specs.Insured.{insured_records, layer_sums}
+use Rattle.kt_insured.proofs.run.insured.Goals as goal
+
+pub returns-clause-records : goal.returns-clause-records
+returns-clause-records c = c.in_ok-made.ensures.records ∙ ap (λ rule. insured_records (tree_of c.args.portfolio.now.rows 0) rule c.args.samples c.args.portfolio.now.rows.fm_xref c.args.records.now) c.in_ok-layout.ensures.rule
+
+pub returns-clause-layers : goal.returns-clause-layers
+returns-clause-layers c = c.in_ok-made.ensures.layers ∙ ap (λ rule. layer_sums (tree_of c.args.portfolio.now.rows 0) rule c.args.samples c.args.records.now) c.in_ok-layout.ensures.rule
