@@ -1,8 +1,8 @@
 -- What stands at the place of an output in a row of shares is its loss.
-use Rattle.std.proofs.Common.{◌≡◌, ℕ, zero, suc, ◌+◌, ◌<◌, ◌≤◌, ◌&&◌, ◌||◌, Bool, true, false, cond, nat_eq, List, [], ◌∷◌, ◌++◌, Option, Some, None, length, map, slice_index, refl, sym, ap, subst, ◌∙◌, arith, append-nil}
+use Rattle.std.proofs.Common.{◌≡◌, ℕ, suc, ◌+◌, ◌&&◌, ◌||◌, Bool, true, false, cond, nat_eq, List, [], ◌∷◌, ◌++◌, Option, Some, None, length, map, refl, sym, ap, ◌∙◌, arith}
 use Rattle.std.specs.Prelude.{unwrap_or}
 use Rattle.std.specs.Cmp.{nat_eq_equiv}
-use Rattle.std.specs.List.{filter, flat_map, list_any, sum, zip}
+use Rattle.std.specs.List.{flat_map, list_any, zip}
 use Rattle.std.specs.Map.{lookup}
 use Rattle.std.specs.Option.{option_or}
 use Rattle.std.proofs.lemmas.Bool.{eqb-true}
@@ -13,7 +13,7 @@ use Rattle.kt_keys.specs.Keys.{same_pair}
 use Rattle.kt_checks.specs.OutputChecks.{climbed}
 use Rattle.kt_tree.specs.Sharing.{allocated, part_of, policy_parts}
 use Rattle.kt_tree.specs.Tree.{Tree, beneath, comes_to, is_unit, policy_loss}
-use Rattle.kt_insured.specs.Insured.{layers_of, of_layer, output_loss, part_above, part_of_id, shares}
+use Rattle.kt_insured.specs.Insured.{layers_of, of_layer, output_loss, part_above, shares}
 use Rattle.kt_insured.specs.Layout.{keys, keys_for, owners}
 use Rattle.kt_insured.specs.Row.{row_for}
 use Rattle.kt_insured.proofs.ListLemmas.{filter-absent, lookup-append, lookup-none, zip-append}

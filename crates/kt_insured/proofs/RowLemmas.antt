@@ -1,6 +1,6 @@
 -- What layers have at one sidx.
 use Rattle.std.proofs.Common.{◌≡◌, ℕ, zero, suc, ◌+◌, ◌<◌, ◌≤◌, ◌^◌, Bool, true, false, cond, nat_eq, List, [], ◌∷◌, ◌++◌, length, map, take, slice_index, slice_index_or, refl, sym, ap, subst, ◌∙◌, arith, append-nil}
-use Rattle.std.specs.List.{AllByRecursion, flat_map, list_any, sum}
+use Rattle.std.specs.List.{flat_map, list_any, sum}
 use Rattle.std.proofs.Math.Path.{fun_ext}
 use Rattle.std.proofs.lemmas.Grind.{flat_map-append}
 use Rattle.std.proofs.lemmas.List.{map-append, take_more}
@@ -14,7 +14,7 @@ use Rattle.kt_fmtree.specs.Carried.{AreCarried, Carried, IsCarriedBy, loss_by}
 use Rattle.kt_fmtree.specs.Parts.{Parts, IsProgramme}
 use Rattle.kt_insured.specs.Insured.{shares}
 use Rattle.kt_insured.specs.Layout.{IsTopLayer, key_of}
-use Rattle.kt_insured.specs.Row.{Shared, row_for}
+use Rattle.kt_insured.specs.Row.{row_for}
 use Rattle.kt_insured.specs.Taken.{placed_loss}
 use Rattle.kt_insured.specs.declared.layers.TopLayer.{TopLayer}
 use Rattle.kt_insured.specs.declared.losses.PlacedLosses.{PlacedLosses}

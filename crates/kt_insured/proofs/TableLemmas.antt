@@ -1,8 +1,7 @@
 -- The rows of all sidx, and what they give for outputs and layers.
-use Rattle.std.proofs.Common.{◌≡◌, ◌≢◌, ℕ, zero, suc, ◌+◌, ◌-◌, ◌<◌, ◌≤◌, ◌^◌, ◌||◌, Bool, true, false, cond, nat_eq, nat_lt, ℤ, pos, negsuc, List, [], ◌∷◌, ◌++◌, Option, Some, None, length, map, take, drop, slice_index, slice_index_or, refl, sym, ap, subst, ◌∙◌, arith, add-one}
+use Rattle.std.proofs.Common.{◌≡◌, ℕ, zero, suc, ◌+◌, ◌-◌, ◌<◌, ◌≤◌, ◌^◌, Bool, true, false, cond, nat_eq, nat_lt, ℤ, pos, negsuc, List, [], ◌∷◌, ◌++◌, Option, Some, None, length, map, slice_index, slice_index_or, refl, sym, ap, subst, ◌∙◌, arith, add-one, append-nil}
 use Rattle.std.specs.Prelude.{All, option_map, unwrap_or}
-use Rattle.std.specs.List.{AllByRecursion, cons_option, filter_map, list_any, range_with_len, sum, sum_by, zip}
-use Rattle.std.specs.Map.{lookup}
+use Rattle.std.specs.List.{AllByRecursion, cons_option, filter_map, list_any, range_with_len, sum, sum_by}
 use Rattle.std.proofs.lemmas.Bool.Decides.{nat_tests}
 use Rattle.std.proofs.lemmas.List.{get_or-map, length-map}
 use Rattle.std.proofs.lemmas.List.Elements.{All-from_recursion}
@@ -12,7 +11,7 @@ use Rattle.kt_keys.specs.Keys.{same_pair}
 use Rattle.kt_rec.specs.declared.financial.FmXref.{FmXref}
 use Rattle.kt_stream.specs.declared.entry.LossRecord.{LossRecord}
 use Rattle.kt_stream.specs.declared.entry.Pair.{Pair}
-use Rattle.kt_runs.specs.RunLosses.{AreWithin, event_of, run_loss}
+use Rattle.kt_runs.specs.RunLosses.{AreWithin, event_of}
 use Rattle.kt_runs.specs.Sidx.{pair_of, pairs_of, sidx_at}
 use Rattle.kt_tree.specs.Sums.{sum_by-agree}
 use Rattle.kt_tree.specs.Tree.{Tree, IsTree, policy_loss}
@@ -25,9 +24,8 @@ use Rattle.kt_insured.specs.Taken.{ArePlaced, placed_loss, placed_sum}
 use Rattle.kt_insured.specs.declared.layers.TopLayer.{TopLayer}
 use Rattle.kt_insured.specs.declared.layout.Outlet.{Outlet}
 use Rattle.kt_insured.specs.declared.losses.PlacedLosses.{PlacedLosses}
-use Rattle.kt_insured.specs.declared.sums.LayerSum.{LayerSum}
 use Rattle.kt_insured.proofs.GoodLemmas.{pairs-none, taken-few}
-use Rattle.kt_insured.proofs.ListLemmas.{each-range, filter_map-agree, filter_map-map, filter_map-twice, member-at, place-none, place-some, followed, summed-few, summed-more}
+use Rattle.kt_insured.proofs.ListLemmas.{counted-more, each-range, filter_map-agree, filter_map-map, filter_map-twice, member-at, place-none, place-some, followed, summed-few, summed-more}
 use Rattle.kt_insured.proofs.OutputLemmas.{length-row, output-is}
 use Rattle.kt_insured.proofs.RowLemmas.{policy-le, shares-sum}
 
@@ -85,6 +83,25 @@ module _ (tree : Tree) (ids : List ℕ) (ids_are : ids ≡ tree.ids) (samples : 
   -- the losses are not too much
   pub placed-few : AreWithin records → placed_sum placed at ≤ 10000000000000000
   placed-few within = omega (arith, are.few at at-inside, within (sidx_at (2147483646 + at)))
+
+-- ---- the pairs of a place, row by row
+
+module _ (table : List Shared) (place row loss : ℕ) (pairs : List Pair) (so_far : pairs ≡ filter_map (λ row. pair_of (sidx_at (row_place row)) (slice_index (row_at table row).shares place)) (range_with_len 0 row)) (loss_is : loss ≡ slice_index (row_at table row).shares place) where
+  -- a loss above 0 gives a pair
+  pub pairs-push : (longer : List Pair) → 0 < loss → longer ≡ pairs ++ record { sidx = sidx_at (row_place row); loss = loss } ∷ [] → longer ≡ filter_map (λ row. pair_of (sidx_at (row_place row)) (slice_index (row_at table row).shares place)) (range_with_len 0 (row + 1))
+  pairs-push longer some longer_is =
+      counted-more (λ row. pair_of (sidx_at (row_place row)) (slice_index (row_at table row).shares place)) row pairs longer so_far
+      (longer_is ∙ ap (λ made. pairs ++ made) (sym (one loss some) ∙ ap (λ loss. cons_option (pair_of (sidx_at (row_place row)) loss) []) loss_is))
+    where
+      one : (loss : ℕ) → 0 < loss → cons_option (pair_of (sidx_at (row_place row)) loss) [] ≡ record { sidx = sidx_at (row_place row); loss = loss } ∷ []
+      one zero some = absurd (omega arith)
+      one (suc less) some = refl
+
+  -- a loss of 0 gives none
+  pub pairs-skip : loss ≡ 0 → pairs ≡ filter_map (λ row. pair_of (sidx_at (row_place row)) (slice_index (row_at table row).shares place)) (range_with_len 0 (row + 1))
+  pairs-skip none =
+      counted-more (λ row. pair_of (sidx_at (row_place row)) (slice_index (row_at table row).shares place)) row pairs pairs so_far
+      (sym (append-nil pairs) ∙ ap (λ loss. pairs ++ cons_option (pair_of (sidx_at (row_place row)) loss) []) (sym none ∙ loss_is))
 
 -- ---- amounts of the samples, added row by row
 

@@ -1,6 +1,6 @@
 -- Where the loss of each output stands in a row of shares.
 -- The rule: docs/FINANCIAL_MODULE.md, "Insured losses".
-use Rattle.std.specs.Prelude.{◌≡◌, ℕ, ◌+◌, ◌<◌, true, cond, nat_eq, List, [], ◌∷◌, ◌++◌, length, map, option_map, Option, Some, None, slice_index, slice_index_or}
+use Rattle.std.specs.Prelude.{◌≡◌, ℕ, ◌+◌, ◌<◌, true, cond, nat_eq, List, [], ◌∷◌, ◌++◌, length, map, option_map, Option, slice_index, slice_index_or}
 use Rattle.std.specs.List.{AllByRecursion, filter_map, flat_map, list_any, range_with_len, zip}
 use Rattle.std.specs.Map.{lookup}
 use Rattle.kt_rec.specs.declared.financial.FmXref.{FmXref}

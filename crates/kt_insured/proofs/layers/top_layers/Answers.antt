@@ -1,4 +1,4 @@
-use Rattle.std.proofs.Common.{◌≡◌, ◌++◌, ◌∙◌, ℕ, List, map, ap, sym, subst, arith, refl, slice_index_or}
+use Rattle.std.proofs.Common.{◌++◌, ◌∙◌, ℕ, List, map, ap, sym, subst, arith, refl, slice_index_or}
 use Rattle.kt_tree.specs.Rising.{IsRising}
 use Rattle.kt_insured.proofs.LayerLemmas.{layer_at, layers-step, place-le}
 use Rattle.kt_insured.proofs.layers.top_layers.Goals as goal

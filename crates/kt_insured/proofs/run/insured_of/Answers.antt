@@ -1,4 +1,4 @@
-use Rattle.std.proofs.Common.{◌≡◌, List, map, sym, subst, ◌∙◌}
+use Rattle.std.proofs.Common.{◌≡◌, List, map, sym, subst}
 use Rattle.std.specs.Prelude.{All}
 use Rattle.kt_stream.specs.Losses.{IsLoss}
 use Rattle.kt_stream.specs.declared.entry.LossRecord.{LossRecord}

@@ -1,4 +1,4 @@
-use Rattle.std.proofs.Common.{ℕ, List, length, ap, sym, subst, ◌∙◌}
+use Rattle.std.proofs.Common.{ℕ, List, length, sym, subst}
 use Rattle.kt_runs.specs.Adding.{Holds}
 use Rattle.kt_insured.specs.Taken.{placed_loss}
 use Rattle.kt_insured.proofs.RowLemmas.{carried-for}
