@@ -71,7 +71,6 @@ impl<'a, T: LossTool> RunStage<Head, LossRecord, ()> for JudgedLosses<'a, T> {
     ghost use Rattle.kt_stream.specs.Reader.{IsPlaced};
     ghost use Rattle.kt_stream.specs.declared.entry.LossRecord.{LossRecord};
     ghost use Rattle.kt_stream.specs.declared.kind.StreamKind.TheVariants.{Gul};
-
     ghost use Rattle.kt_tables.specs.Portfolio.{PortfolioRows};
 
     ghost Kept = { T × PortfolioRows };
