@@ -1,3 +1,4 @@
 mod Finding
 mod OneByOne
 mod Ending
+mod Streams

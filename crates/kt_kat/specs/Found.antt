@@ -3,6 +3,8 @@
 use Rattle.std.specs.Prelude.{◌≡◌, ℕ, List, length, map, Option, IfSome, Result, Ok, Err}
 use Rattle.kt_out.specs.InputFiles.{InputsState, CountsFault, CountsMiss}
 use Rattle.kt_out.specs.NamedFiles.{FileMap}
+use Rattle.kt_out.specs.declared.fault.Fault.{Fault}
+use Rattle.kt_out.specs.declared.fault.Fault.TheVariants as fault
 use Rattle.kt_ends.specs.declared.status.Refusal.{Refusal}
 use Rattle.kt_ends.specs.declared.status.Refusal.TheVariants as refusal
 use Rattle.kt_ends.specs.declared.tool_stop.ToolStop.{ToolStop}
@@ -36,3 +38,9 @@ Looked before after (Err (stop.Refused other)) = after ≡ before
 Looked before after (Err stop.ReadFault) = CountsFault before after
 Looked before after (Err stop.WriteFault) = ⊥
 Looked before after (Err stop.NoMemory) = after ≡ before
+
+-- what a look into a file leaves of the input files: a fault was counted exactly where it is answered
+abbrev pub LooksInto : {T : Type 0} → InputsState → InputsState → Result T Fault → Type 0
+LooksInto before after (Ok seen) = after ≡ before
+LooksInto before after (Err fault.Failed) = CountsFault before after
+LooksInto before after (Err fault.OutOfMemory) = after ≡ before

@@ -22,16 +22,14 @@ use Rattle.kt_kat.specs.Files.{file_by_file}
 abbrev pub same_head : Head → Head → Bool
 same_head one other = (one.samples == other.samples) && (one.set == other.set)
 
--- a good header differs from that of the first file
-abbrev pub differs : Option Head → Option Head → Bool
+-- a header differs from that of the first file
+abbrev pub differs : Option Head → Head → Bool
 differs None head = false
-differs (Some first) None = false
-differs (Some first) (Some head) = not (same_head first head)
+differs (Some first) head = not (same_head first head)
 
 -- the header is written once
-abbrev pub heading_of : StreamKind → Option Head → Option Head → List ℕ
-heading_of kind None None = []
-heading_of kind None (Some head) = header_bytes kind head
+abbrev pub heading_of : StreamKind → Option Head → Head → List ℕ
+heading_of kind None head = header_bytes kind head
 heading_of kind (Some first) head = []
 
 -- the bytes of records
@@ -43,11 +41,19 @@ abbrev pub file_status : ℕ → Option StreamStop → Status
 file_status number None = Done
 file_status number (Some stop) = Refused (File number stop)
 
+-- what a file gives that has this header: it is refused where the header differs from that of the files before, else there are its records
+abbrev pub joined_from : {E : Type 0} → Form E → StreamKind → Option Head → ℕ → Head → List (Placed E) → Option StreamStop → Outcome
+joined_from form kind first number head entries fault =
+    if differs first head then gives (Refused (HeaderDiffers number)) []
+    else gives (file_status number fault) (heading_of kind first head ++ records_text form entries)
+
+abbrev pub joined_by : {E : Type 0} → Form E → StreamKind → Option Head → ℕ → Option Head → List (Placed E) → Option StreamStop → Outcome
+joined_by form kind first number None entries fault = gives (file_status number fault) []
+joined_by form kind first number (Some head) entries fault = joined_from form kind first number head entries fault
+
 -- what a file of this number gives that holds this, behind files with this header, if there were any
 abbrev pub joined : {E : Type 0} → Form E → StreamKind → Option Head → ℕ → Contents Head E → Outcome
-joined form kind first number contents =
-    if differs first contents.head then gives (Refused (HeaderDiffers number)) []
-    else gives (file_status number contents.fault) (heading_of kind first contents.head ++ records_text form contents.entries)
+joined form kind first number contents = joined_by form kind first number contents.head contents.entries contents.fault
 
 -- the header of the first file, once it was read
 abbrev pub or_head : Option Head → Option Head → Option Head

@@ -1,4 +1,5 @@
 pub mod Files
 pub mod Found
 pub mod Joining
+pub mod Stage
 pub mod Outcome

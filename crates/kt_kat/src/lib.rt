@@ -3,8 +3,11 @@
 
 mod each_file;
 mod file_step;
+mod front;
+mod kinds;
 mod plain;
 mod sizes;
+mod streams;
 mod tool;
 
 pub use tool::kat;

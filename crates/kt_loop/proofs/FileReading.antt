@@ -1,17 +1,21 @@
 -- Pieces of a named input file, and what is counted while it is read.
-use Rattle.std.proofs.Common.{◌≡◌, ℕ, ◌+◌, ◌-◌, ◌≤◌, ◌<◌, List, [], ◌++◌, length, take, drop, Option, Some, None, Result, Ok, Err, refl, sym, ap, ◌∙◌, append_assoc, subst, arith}
-use Rattle.std.specs.Prelude.{IfSome, IsSomeAnd}
+use Rattle.std.proofs.Common.{◌≡◌, ℕ, ◌+◌, ◌-◌, ◌≤◌, ◌<◌, List, [], ◌++◌, length, take, drop, Option, Some, None, Result, Ok, Err, refl, sym, ap, ◌∙◌, append_assoc, append-nil, subst, arith, drop-drop}
+use Rattle.std.specs.Prelude.{IfSome, IsSomeAnd, OnOk}
 use Rattle.std.proofs.lemmas.List.{take-append-drop, drop-append-le, length-drop, length-take-le, drop_all}
 use Rattle.kt_out.specs.InputFiles.{InputsState, GivesFrom, ReadsFrom, ReadsAt, CountsFault}
 use Rattle.kt_out.specs.NamedFiles.{FileMap}
 use Rattle.kt_out.specs.Reading.{Gives, GivesKnown}
 use Rattle.kt_out.specs.declared.fault.Fault.{Fault}
+use Rattle.kt_stream.specs.declared.entry.Placed.{Placed}
+use Rattle.kt_ends.specs.declared.status.Refusal.{Refusal}
 use Rattle.kt_ends.specs.declared.status.Refusal.TheVariants as refusal
 use Rattle.kt_ends.specs.declared.tool_stop.ToolStop.{ToolStop}
 use Rattle.kt_ends.specs.declared.tool_stop.ToolStop.TheVariants as stop
 use Rattle.kt_loop.specs.Counts.{InputsCounted, SinkCounted, Counts, CountsRead}
 use Rattle.kt_loop.specs.InputFile.{IsSized, file_bytes, left_from}
-use Rattle.kt_loop.proofs.Going.{HasRead}
+use Rattle.kt_loop.specs.Calculation.{Calculation}
+use Rattle.kt_loop.specs.Contents.{Contents}
+use Rattle.kt_loop.proofs.Going.{HasRead, Going}
 use Rattle.kt_loop.proofs.Stepping.{no_inputs}
 
 -- ---- a piece
@@ -91,3 +95,19 @@ read_as T U inputs inputs_now reads reads_now faults faults_now (stop.Refused wh
 read_as T U inputs inputs_now reads reads_now faults faults_now stop.ReadFault by = by
 read_as T U inputs inputs_now reads reads_now faults faults_now stop.WriteFault by = by
 read_as T U inputs inputs_now reads reads_now faults faults_now stop.NoMemory by = by
+
+-- ---- where the calculation came
+
+module _ {T H E S : Type 0} (calculation : Calculation H E S Refusal) (represents : (List ℕ → Contents H E) → List ℕ → List (Placed E) → T → Type 0) (fresh : (List ℕ → Contents H E) → Type 0) (stood stands : S → Type 0) (left : Option (List ℕ)) (taken taken_now : Option (List ℕ)) (reader : T) (out : List ℕ) where
+  -- at the front of the file
+  pub going_front : Going calculation represents fresh stood stands left left taken taken_now reader out 0 → Going calculation represents fresh stood stands left (left_from left 0) taken taken_now reader out 0
+  going_front going = record { fed = going.fed; represented = going.represented; read = subst (λ (now : Option (List ℕ)). HasRead left now going.fed) (sym (left_first left)) going.read; turned = going.turned; within = going.within; course = going.course }
+
+  -- blocks need not be counted
+  pub going_uncounted : (left_now : Option (List ℕ)) (turns : ℕ) → Going calculation represents fresh stood stands left left_now taken taken_now reader out turns → Going calculation represents fresh stood stands left left_now taken taken_now reader out 0
+  going_uncounted left_now turns going = record { fed = going.fed; represented = going.represented; read = going.read; turned = omega arith; within = going.within; course = going.course }
+
+-- what holds whatever is answered holds where that is Ok
+pub on_ok : {A B : Type 0} (result : Result A B) (P : Type 0) → P → OnOk result P
+on_ok (Ok done) P holds = holds
+on_ok (Err why) P holds = tt
