@@ -38,7 +38,7 @@ impl FileStep for PlainBytes {
             return Err(ToolStop::NoMemory);
         };
         let mut at = 0;
-        'blocks: while at < size {
+        'pieces: while at < size {
             let read = match read_piece(inputs, name, size, at, block.as_mut_slice()) {
                 Ok(read) => read,
                 Err(Fault::Failed) => return Err(ToolStop::ReadFault),

@@ -1,7 +1,7 @@
 -- Pieces of a named input file, and what is counted while it is read.
-use Rattle.std.proofs.Common.{◌≡◌, ℕ, ◌+◌, ◌-◌, ◌≤◌, ◌<◌, List, [], ◌++◌, length, take, drop, Option, Some, None, Result, Ok, Err, refl, sym, ap, ◌∙◌, append_assoc, append-nil, subst, arith, drop-drop}
-use Rattle.std.specs.Prelude.{IfSome, IsSomeAnd, OnOk}
-use Rattle.std.proofs.lemmas.List.{take-append-drop, drop-append-le, length-drop, length-take-le, drop_all}
+use Rattle.std.proofs.Common.{◌≡◌, ℕ, ◌+◌, ◌-◌, ◌≤◌, ◌<◌, List, [], ◌++◌, length, take, drop, Option, Some, None, Result, Ok, Err, refl, sym, ap, ◌∙◌, append_assoc, append-nil, subst, arith}
+use Rattle.std.specs.Prelude.{IfSome, IsSomeAnd, IfOk, OnOk}
+use Rattle.std.proofs.lemmas.List.{take-append-drop, drop-append-le, drop-drop, length-drop, length-take-le, drop_all}
 use Rattle.kt_out.specs.InputFiles.{InputsState, GivesFrom, ReadsFrom, ReadsAt, CountsFault}
 use Rattle.kt_out.specs.NamedFiles.{FileMap}
 use Rattle.kt_out.specs.Reading.{Gives, GivesKnown}
@@ -27,10 +27,12 @@ module _ (bytes block filled : List ℕ) (at room n : ℕ) where
       let in_room : n ≤ room = omega (arith, gives.fits, length-take-le room block fits) in
       let behind : drop n (take room block) ++ drop room block ≡ drop n block =
       sym (drop-append-le n (take room block) (drop room block) gives.fits) ∙ ap (drop n) (take-append-drop room block) in
+      let some_read : n ≡ 0 → ⊥ = λ none. omega (arith, none, gives.some) in
+      let some_left : drop at bytes ≡ [] → ⊥ = λ none. omega (arith, ap length none, length-drop at bytes, within) in
       record {
         fits = omega (arith, in_room, fits);
         was_left = rw length-drop gives.was_there;
-        at_end = (λ none. omega (arith, none, gives.some), λ none. omega (arith, gives.some, gives.was_there, ap length none, length-drop at bytes, within));
+        at_end = (λ none. absurd (some_read none), λ none. absurd (some_left none));
         rest = ap (λ (xs : List ℕ). Some xs) (rw drop-drop refl);
         bytes = ap (λ (xs : List ℕ). xs ++ drop room block) gives.filled_by ∙ append_assoc (take n (drop at bytes)) (drop n (take room block)) (drop room block) ∙ ap (λ (xs : List ℕ). take n (drop at bytes) ++ xs) behind;
       }
@@ -40,9 +42,13 @@ module _ (name block filled : List ℕ) (size at room n : ℕ) where
   left_of_file None sized within fits reads = absurd sized
   left_of_file (Some bytes) sized within fits reads = gives_left bytes block filled at room n (subst (λ (s : ℕ). at < s) sized within) fits reads
 
-  pub piece_given : (held : Option FileMap) → IsSized held name size → at < size → room ≤ length block → ReadsAt {E = Fault} held name at (take room block) filled (Ok n) → GivesKnown (left_from (file_bytes held name) at) (left_from (file_bytes held name) (at + n)) block (filled ++ drop room block) n
+  piece_given : (held : Option FileMap) → IsSized held name size → at < size → room ≤ length block → ReadsAt {E = Fault} held name at (take room block) filled (Ok n) → GivesKnown (left_from (file_bytes held name) at) (left_from (file_bytes held name) (at + n)) block (filled ++ drop room block) n
   piece_given None sized within fits reads = refl
   piece_given (Some files) sized within fits reads = left_of_file (files name) sized within fits reads
+
+pub piece_read : (name block filled : List ℕ) (size at room : ℕ) (held : Option FileMap) (result : Result ℕ Fault) → IsSized held name size → at < size → room ≤ length block → ReadsAt held name at (take room block) filled result → IfOk result (λ n. GivesKnown (left_from (file_bytes held name) at) (left_from (file_bytes held name) (at + n)) block (filled ++ drop room block) n)
+piece_read name block filled size at room held (Ok n) sized within fits reads = piece_given name block filled size at room n held sized within fits reads
+piece_read name block filled size at room held (Err fault) sized within fits reads = tt
 
 -- at its front all of a file is left
 pub left_first : (left : Option (List ℕ)) → left_from left 0 ≡ left

@@ -78,7 +78,7 @@ fn read_file<R: StreamReader, W, T: Stage<R::Head, R::Entry, W>, I: Inputs, K: S
         return Err(why);
     }
     let mut at = 0;
-    'blocks: while at < size {
+    'pieces: while at < size {
         let read = match read_piece(inputs, name, size, at, block.as_mut_slice()) {
             Ok(read) => read,
             Err(Fault::Failed) => return Err(ToolStop::ReadFault),
