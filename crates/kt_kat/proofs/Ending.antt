@@ -8,8 +8,8 @@ use Rattle.kt_out.specs.NamedFiles.{File, FileMap}
 use Rattle.kt_out.specs.OutputFiles.{OutputsState}
 use Rattle.kt_out.specs.Reading.{SourceState}
 use Rattle.kt_out.specs.Writing.{SinkState}
-use Rattle.kt_stream.specs.declared.kind.StreamKind.{StreamKind}
-use Rattle.kt_stream.specs.declared.kind.StreamKind.TheVariants.{Cdf, Gul, Loss, Summary, Events}
+use Rattle.kt_stream.specs.declared.kind.Shape.{Shape}
+use Rattle.kt_stream.specs.Stream.{Form}
 use Rattle.kt_ends.specs.Ending.{Made, PartlyMade, NoFault, NoCount, CountedMiss, CountedRead, CountedWrite, Counted, Ended, IsMissing}
 use Rattle.kt_ends.specs.Endings.{UnderWay, nothing, ends_for_memory, ends_missing, ends_refused, ends_unread_files}
 use Rattle.kt_ends.specs.Outcome.{Outcome}
@@ -21,11 +21,16 @@ use Rattle.kt_ends.specs.declared.status.Status.{Status}
 use Rattle.kt_ends.specs.declared.status.Status.TheVariants as status
 use Rattle.kt_ends.specs.declared.tool_stop.ToolStop.{ToolStop}
 use Rattle.kt_ends.specs.declared.tool_stop.ToolStop.TheVariants as stop
+use Rattle.kt_loop.specs.InputFile.{file_bytes}
 use Rattle.kt_loop.specs.Settling.{IsEnd}
 use Rattle.kt_kat.specs.Files.{files_of, file_by_file}
-use Rattle.kt_kat.specs.Found.{TellsRefusal, Looked}
-use Rattle.kt_kat.specs.Outcome.{kind_at_front, kind_of_files, together, by_files, kat_outcome, kat_uses}
-use Rattle.kt_kat.proofs.OneByOne.{NextFile, next_file, no_files}
+use Rattle.kt_kat.specs.Found.{AreFound, TellsRefusal, Looked}
+use Rattle.kt_kat.specs.FileKinds.{kind_at_front, kind_of_files}
+use Rattle.kt_kat.specs.Joining.{joined_files}
+use Rattle.kt_kat.specs.declared.front.FileKind.{FileKind}
+use Rattle.kt_kat.specs.declared.front.FileKind.TheVariants.{Plain, Cdf, Gul, Loss, Summary}
+use Rattle.kt_kat.specs.Outcome.{together, by_files, kat_outcome, kat_uses}
+use Rattle.kt_kat.proofs.OneByOne.{NextFile, next_file}
 
 -- ---- counts
 
@@ -99,13 +104,16 @@ files_as_before (Some files) status.ReadFault = none_partly files
 files_as_before (Some files) status.WriteFault = none_partly files
 files_as_before (Some files) status.NoMemory = none_partly files
 
-together_none : (kind : Option StreamKind) (contents : List (List ℕ)) → (together kind contents).files ≡ []
-together_none None contents = refl
-together_none (Some Cdf) contents = no_files _ _ _ 1 contents
-together_none (Some Gul) contents = no_files _ _ _ 1 contents
-together_none (Some Loss) contents = no_files _ _ _ 1 contents
-together_none (Some Summary) contents = no_files _ _ _ 1 contents
-together_none (Some Events) contents = refl
+joined_none : {E : Type 0} (form : Form E) (shape : Shape) (contents : List (List ℕ)) → (joined_files form shape contents).files ≡ []
+joined_none form shape [] = refl
+joined_none form shape (bytes ∷ rest) = refl
+
+together_none : (kind : FileKind) (contents : List (List ℕ)) → (together kind contents).files ≡ []
+together_none Plain contents = refl
+together_none Cdf contents = joined_none _ _ contents
+together_none Gul contents = joined_none _ _ contents
+together_none Loss contents = joined_none _ _ contents
+together_none Summary contents = joined_none _ _ contents
 
 outcome_none : (found : Result (List (List ℕ)) Refusal) → (by_files found).files ≡ []
 outcome_none (Ok contents) = together_none (kind_of_files contents) contents
@@ -114,11 +122,19 @@ outcome_none (Err why) = refl
 -- ---- the kind of all files
 
 -- that of the first is that of all
-pub kind_is : (kind : Option StreamKind) (files : FileMap) (name : List ℕ) (later contents : List (List ℕ)) → files_of (name ∷ later) files ≡ Ok contents → IfSome (files name) (λ bytes. kind ≡ kind_at_front bytes) → kind ≡ kind_of_files contents
+pub kind_is : (kind : FileKind) (files : FileMap) (name : List ℕ) (later contents : List (List ℕ)) → files_of (name ∷ later) files ≡ Ok contents → IfSome (files name) (λ bytes. kind ≡ kind_at_front bytes) → kind ≡ kind_of_files contents
 kind_is kind files name later contents found is =
     let one = next_file files name later contents found in
     let told : IfSome (Some one.bytes) (λ bytes. kind ≡ kind_at_front bytes) = subst (λ (held : Option (List ℕ)). IfSome held (λ bytes. kind ≡ kind_at_front bytes)) one.held is in
     told ∙ ap kind_of_files (sym one.is)
+
+-- what is made of files that were found is the outcome
+pub ended_found : (held : Option FileMap) (names : List (List ℕ)) (name : List ℕ) (later : List (List ℕ)) (sizes : List ℕ) (kind : FileKind) (before now : Option (List ℕ)) (end : Status) → names ≡ name ∷ later → IfSome held (λ files. AreFound names files sizes) → IfSome (file_bytes held name) (λ bytes. kind ≡ kind_at_front bytes) → IfSome held (λ files. (contents : List (List ℕ)) → files_of names files ≡ Ok contents → IsEnd (together kind contents) before now end) → IfSome held (λ files. IsEnd (kat_outcome names files) before now end)
+ended_found None names name later sizes kind before now end named all is ended = tt
+ended_found (Some files) names name later sizes kind before now end named all is ended =
+    let own : kind ≡ kind_of_files all.contents = kind_is kind files name later all.contents (subst (λ (n : List (List ℕ)). files_of n files ≡ Ok all.contents) named all.found) is in
+    subst (λ (found : Result (List (List ℕ)) Refusal). IsEnd (by_files found) before now end) (sym all.found)
+    (subst (λ (k : FileKind). IsEnd (together k all.contents) before now end) own (ended all.contents all.found))
 
 -- ---- the end as a whole
 

@@ -80,11 +80,11 @@ all_found (Some files) names later sizes none so = whole (subst (λ (rest : List
 
 -- a stop counted the same whatever else could have been answered, behind calls that counted nothing
 pub looked_on : (T U : Type 0) (first before after : InputsState) (why : ToolStop) → before ≡ first → Looked {T = T} before after (Err why) → Looked {T = U} first after (Err why)
-looked_on T U first before after why same looked = subst (λ (state : InputsState). Looked {T = U} state after (Err why)) same (as why looked)
+looked_on T U first before after why same looked = subst (λ (state : InputsState). Looked {T = U} state after (Err why)) same (stop_as why looked)
   where
-    as : (why : ToolStop) → Looked {T = T} before after (Err why) → Looked {T = U} before after (Err why)
-    as (stop.Refused (refusal.Missing name)) looked = looked
-    as (stop.Refused why) looked = looked
-    as stop.ReadFault looked = looked
-    as stop.WriteFault looked = absurd looked
-    as stop.NoMemory looked = looked
+    stop_as : (why : ToolStop) → Looked {T = T} before after (Err why) → Looked {T = U} before after (Err why)
+    stop_as (stop.Refused (refusal.Missing name)) looked = looked
+    stop_as (stop.Refused why) looked = looked
+    stop_as stop.ReadFault looked = looked
+    stop_as stop.WriteFault looked = absurd looked
+    stop_as stop.NoMemory looked = looked

@@ -1,4 +1,5 @@
 mod Finding
 mod OneByOne
 mod Ending
-mod Streams
+mod StreamOutcome
+mod Copying

@@ -1,6 +1,7 @@
 -- What comes of files one after the other.
-use Rattle.std.proofs.Common.{◌≡◌, ℕ, ◌+◌, ◌≤◌, ◌<◌, Bool, true, false, List, [], ◌∷◌, ◌++◌, length, drop, Option, Some, None, Result, Ok, Err, refl, sym, ap, ◌∙◌, append_assoc, append-nil, subst}
+use Rattle.std.proofs.Common.{◌≡◌, ℕ, ◌+◌, ◌≤◌, ◌<◌, Bool, true, false, List, [], ◌∷◌, ◌++◌, length, drop, Option, Some, None, Result, Ok, Err, refl, sym, ap, ◌∙◌, append_assoc, append-nil, subst, get_or, add-one, drop-cons, arith}
 use Rattle.std.specs.Prelude.{IfSome, IsSomeAnd, map, nat_le, if◌then◌else◌}
+use Rattle.std.specs.List.{flat_map}
 use Rattle.kt_out.specs.NamedFiles.{File, FileMap}
 use Rattle.kt_ends.specs.Ending.{Verdict, Gained, GainedFront, IsFront}
 use Rattle.kt_ends.specs.Outcome.{Outcome}
@@ -12,6 +13,7 @@ use Rattle.kt_ends.specs.declared.status.Status.TheVariants as status
 use Rattle.kt_ends.specs.declared.tool_stop.ToolStop.{ToolStop}
 use Rattle.kt_ends.specs.declared.tool_stop.ToolStop.TheVariants as stop
 use Rattle.kt_loop.specs.InputFile.{IsSized, file_bytes}
+use Rattle.kt_loop.specs.Outcome.{gives}
 use Rattle.kt_loop.specs.Settling.{IsEnd}
 use Rattle.kt_kat.specs.Files.{found_file, and_files, files_of, file_limit, then_status, then_text, one_then, file_by_file}
 use Rattle.kt_kat.specs.Found.{AreFound}
@@ -29,7 +31,7 @@ pub record NextFile (files : FileMap) (name : List ℕ) (later rest : List (List
 found_is : (one other : List (List ℕ)) → ◌≡◌ {A = Result (List (List ℕ)) Refusal} (Ok one) (Ok other) → one ≡ other
 found_is one other is = cc
 
-next_file : (files : FileMap) (name : List ℕ) (later rest : List (List ℕ)) → files_of (name ∷ later) files ≡ Ok rest → NextFile files name later rest
+pub next_file : (files : FileMap) (name : List ℕ) (later rest : List (List ℕ)) → files_of (name ∷ later) files ≡ Ok rest → NextFile files name later rest
 next_file files name later rest is = by_held (files name) (files_of later files) refl refl is
   where
     by_found : (bytes : List ℕ) (held : files name ≡ Some bytes) (r : Result (List (List ℕ)) Refusal) → files_of later files ≡ r → and_files (Ok bytes) r ≡ Ok rest → NextFile files name later rest
@@ -51,11 +53,11 @@ first_sized files name later size sizes all =
     let same : size ∷ sizes ≡ length one.bytes ∷ map length one.more = all.sized ∙ ap (map length) one.is in
     (subst (λ (held : Option (List ℕ)). IsSomeAnd held (λ bytes. size ≡ length bytes)) (sym one.held) (head_is size (length one.bytes) sizes (map length one.more) same), record { contents = one.more; found = one.found; sized = tail_is size (length one.bytes) sizes (map length one.more) same })
   where
-    head_is : (a b : ℕ) (as bs : List ℕ) → a ∷ as ≡ b ∷ bs → a ≡ b
-    head_is a b as bs is = cc
+    head_is : (a b : ℕ) (more rest : List ℕ) → a ∷ more ≡ b ∷ rest → a ≡ b
+    head_is a b more rest is = cc
 
-    tail_is : (a b : ℕ) (as bs : List ℕ) → a ∷ as ≡ b ∷ bs → as ≡ bs
-    tail_is a b as bs is = cc
+    tail_is : (a b : ℕ) (more rest : List ℕ) → a ∷ more ≡ b ∷ rest → more ≡ rest
+    tail_is a b more rest is = cc
 
 pub sized_first : (held : Option FileMap) (name : List ℕ) (names later : List (List ℕ)) (size : ℕ) (sizes rest : List ℕ) → names ≡ name ∷ later → sizes ≡ size ∷ rest → IfSome held (λ files. AreFound names files sizes) → IsSized held name size
 sized_first None name names later size sizes rest named sized all = tt
@@ -89,7 +91,7 @@ front_on (Some taken) mid now text more rest had gains =
     }
 
 -- the output of one outcome and another behind it begins with that of the one
-rest_of : Status → List ℕ → List ℕ
+abbrev rest_of : Status → List ℕ → List ℕ
 rest_of status.Done next = next
 rest_of end next = []
 
@@ -209,3 +211,25 @@ module _ {S : Type 0} (made : S → ℕ → List ℕ → Outcome) (next : S → 
   pub joined_all : (stands : S → Type 0) (held : Option FileMap) (start : S) (names later : List (List ℕ)) (number : ℕ) (before now : Option (List ℕ)) → later ≡ [] → AreJoined stands held start names later number before now → IfSome held (λ files. (whole : List (List ℕ)) → files_of names files ≡ Ok whole → IsEnd (file_by_file made next start 1 whole) before now status.Done)
   joined_all stands None start names later number before now none joined = tt
   joined_all stands (Some files) start names later number before now none joined = λ whole found. all_done stands files start whole number before now (subst (λ (n : List (List ℕ)). Joined stands files start whole n number before now) none (joined whole found))
+
+-- the number at a place, and the numbers behind it
+pub size_at : (sizes : List ℕ) (n : ℕ) → n < length sizes → drop n sizes ≡ get_or sizes n 0 ∷ drop (n + 1) sizes
+size_at sizes n here = rw add-one (drop-cons sizes n 0 here)
+
+-- bytes one after the other
+pub plain_all : (number : ℕ) (contents : List (List ℕ)) → file_by_file {S = Unit {0}} (λ state number bytes. gives status.Done bytes) (λ state bytes. state) tt number contents ≡ gives status.Done (flat_map (λ bytes. bytes) contents)
+plain_all number [] = refl
+plain_all number (bytes ∷ rest) = ap (one_then (gives status.Done bytes)) (plain_all (number + 1) rest)
+
+-- the first of some numbers
+pub first_size : (sizes : List ℕ) (first : ℕ) → 0 < length sizes → first ≡ get_or sizes 0 first → sizes ≡ first ∷ drop 1 sizes
+first_size [] first some is = absurd (none some)
+  where
+    none : 0 < 0 → ⊥
+    none some = omega (arith, some)
+first_size (size ∷ sizes) first some is = ap (λ (n : ℕ). n ∷ sizes) (sym is)
+
+-- where files are written as they are, all bytes are written
+pub plain_ended : (held : Option FileMap) (names : List (List ℕ)) (before now : Option (List ℕ)) (end : Status) → IfSome held (λ files. (contents : List (List ℕ)) → files_of names files ≡ Ok contents → IsEnd (file_by_file {S = Unit {0}} (λ state number bytes. gives status.Done bytes) (λ state bytes. state) tt 1 contents) before now end) → IfSome held (λ files. (contents : List (List ℕ)) → files_of names files ≡ Ok contents → IsEnd (gives status.Done (flat_map (λ bytes. bytes) contents)) before now end)
+plain_ended None names before now end ended = tt
+plain_ended (Some files) names before now end ended = λ contents found. subst (λ (made : Outcome). IsEnd made before now end) (plain_all 1 contents) (ended contents found)

@@ -2,4 +2,5 @@ pub mod Files
 pub mod Found
 pub mod Joining
 pub mod Stage
+pub mod FileKinds
 pub mod Outcome

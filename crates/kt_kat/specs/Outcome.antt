@@ -1,10 +1,9 @@
 -- What `kat` makes of the named files.
 -- The rules: docs/COMMANDS.md, "kat".
-use Rattle.std.specs.Prelude.{ℕ, List, [], ◌∷◌, true, false, Option, Some, None, Result, Ok, Err}
+use Rattle.std.specs.Prelude.{ℕ, List, [], ◌∷◌, true, false, Option, Some, None, Result, Ok, Err, ◌==◌, if◌then◌else◌}
 use Rattle.std.specs.List.{flat_map}
 use Rattle.kt_out.specs.NamedFiles.{FileMap}
-use Rattle.kt_stream.specs.declared.kind.StreamKind.{StreamKind}
-use Rattle.kt_stream.specs.declared.kind.StreamKind.TheVariants.{Cdf, Gul, Loss, Summary, Events}
+use Rattle.kt_stream.specs.declared.kind.StreamKind.TheVariants.{Gul, Loss}
 use Rattle.kt_stream.specs.Bins.{cdf_form, cdf_shape}
 use Rattle.kt_stream.specs.Losses.{loss_form, loss_shape}
 use Rattle.kt_stream.specs.Summary.{summary_form, summary_shape}
@@ -15,34 +14,18 @@ use Rattle.kt_ends.specs.declared.status.Refusal.{Refusal}
 use Rattle.kt_ends.specs.declared.status.Status.TheVariants.{Done, Refused}
 use Rattle.kt_loop.specs.Outcome.{gives}
 use Rattle.kt_kat.specs.Files.{files_of}
+use Rattle.kt_kat.specs.FileKinds.{kind_of_files}
 use Rattle.kt_kat.specs.Joining.{joined_files}
-
--- the kind of stream whose first byte this is
-abbrev pub kind_by : ℕ → Option StreamKind
-kind_by 0 = Some Cdf
-kind_by 1 = Some Gul
-kind_by 2 = Some Loss
-kind_by 3 = Some Summary
-kind_by byte = None
-
--- the kind of a file by its first byte: none where it is empty
-abbrev pub kind_at_front : List ℕ → Option StreamKind
-kind_at_front [] = None
-kind_at_front (byte ∷ bytes) = kind_by byte
-
--- the kind of all files: that of the first
-abbrev pub kind_of_files : List (List ℕ) → Option StreamKind
-kind_of_files [] = None
-kind_of_files (first ∷ files) = kind_at_front first
+use Rattle.kt_kat.specs.declared.front.FileKind.{FileKind}
+use Rattle.kt_kat.specs.declared.front.FileKind.TheVariants as file_kind
 
 -- all files one after the other: where they are streams of a kind as one stream, else their bytes
-abbrev pub together : Option StreamKind → List (List ℕ) → Outcome
-together None files = gives Done (flat_map (λ bytes. bytes) files)
-together (Some Cdf) files = joined_files cdf_form (cdf_shape 1000) files
-together (Some Gul) files = joined_files loss_form (loss_shape Gul) files
-together (Some Loss) files = joined_files loss_form (loss_shape Loss) files
-together (Some Summary) files = joined_files summary_form summary_shape files
-together (Some Events) files = gives Done (flat_map (λ bytes. bytes) files)
+abbrev pub together : FileKind → List (List ℕ) → Outcome
+together file_kind.Plain files = gives Done (flat_map (λ bytes. bytes) files)
+together file_kind.Cdf files = joined_files cdf_form (cdf_shape 1000) files
+together file_kind.Gul files = joined_files loss_form (loss_shape Gul) files
+together file_kind.Loss files = joined_files loss_form (loss_shape Loss) files
+together file_kind.Summary files = joined_files summary_form summary_shape files
 
 abbrev pub by_files : Result (List (List ℕ)) Refusal → Outcome
 by_files (Ok files) = together (kind_of_files files) files

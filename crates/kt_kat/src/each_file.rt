@@ -32,6 +32,8 @@ pub(crate) fn each_file<F: FileStep, I: Inputs, K: Sink>(
     ensures files { (I.state inputs.new).held ≡ (I.state inputs.old).held }
     ensures counted { (outputs : OutputsState) (source : SourceState) → Counted (world (I.state inputs.old) outputs source (K.state sink.old)) (world (I.state inputs.new) outputs source (K.state sink.new)) (end_status result) }
 {
+    // The number of a word is a `u32`.
+    let _count = words.len();
     'files: for n in 0..sizes.len() {
         let name = words.word(n + 1);
         if let Err(stop) = step.step(alloc, n as u32 + 1, name, sizes[n], inputs, sink) {

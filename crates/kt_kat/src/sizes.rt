@@ -65,7 +65,7 @@ pub(crate) fn find_sizes<I: Inputs>(
             Ok(size) => size,
             Err(stop) => return Err(stop),
         };
-        if sizes.push(size).is_err() {
+        if let Err(_) = sizes.push(size) {
             return Err(ToolStop::NoMemory);
         }
     }

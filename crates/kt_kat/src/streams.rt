@@ -1,7 +1,7 @@
 //! The streams in files as one stream.
 //! The rules: docs/COMMANDS.md, "kat".
 ghost use Rattle.std.specs.Prelude.{◌≡◌, ◌≤◌, None, OnOk, OnErr};
-ghost use Rattle.kt_kat.specs.Joining.{same_head};
+ghost use Rattle.kt_kat.specs.Joining.{same_head, or_head};
 ghost use Rattle.kt_kat.specs.Stage.{file_stop};
 
 use crate::file_step::FileStep;
@@ -88,6 +88,16 @@ fn in_file(number: u32, stop: ToolStop) -> ToolStop
     }
 }
 
+/// The header of the first file, where there was one, else that of this file.
+fn first_of(first: Option<Head>, head: Option<Head>) -> Option<Head>
+    ensures { result ≡ or_head first head }
+{
+    match first {
+        Some(first) => Some(first),
+        None => head,
+    }
+}
+
 /// Writes the streams of files as one stream of their kind.
 #[derive(Clone, Copy)]
 pub(crate) struct StreamFiles<M> {
@@ -138,9 +148,7 @@ impl<M: JoinedKind> FileStep for StreamFiles<M> {
         ) {
             return Err(in_file(number, stop));
         }
-        if self.first.is_none() {
-            self.first = reader.head();
-        }
+        self.first = first_of(self.first, reader.head());
         Ok(())
     }
 }

@@ -1,6 +1,6 @@
 //! The tool `kat`.
 //! The rules: docs/COMMANDS.md, "kat".
-ghost use Rattle.std.specs.Prelude.{◌≡◌, ◌<◌, ◌+◌, ℕ, List, Option, length, Ok, IfSome};
+ghost use Rattle.std.specs.Prelude.{◌≡◌, ◌<◌, ◌+◌, ℕ, List, length, Ok, IfSome};
 ghost use Rattle.kt_out.specs.OutputFiles.{OutputsState};
 ghost use Rattle.kt_out.specs.Reading.{SourceState};
 ghost use Rattle.kt_ends.specs.Ending.{Counted, Ended};
@@ -13,21 +13,20 @@ ghost use Rattle.kt_kat.specs.Found.{AreFound};
 ghost use Rattle.kt_kat.specs.Outcome.{kat_outcome, kat_uses, together};
 
 use crate::each_file::each_file;
-use crate::front::kind_of_file;
+use crate::front::{FileKind, kind_of_file};
 use crate::kinds::{CdfStreams, GulStreams, LossStreams, SummaryStreams};
 use crate::plain::PlainBytes;
 use crate::sizes::find_sizes;
 use crate::streams::StreamFiles;
 use kt_ends::ToolStop;
 use kt_out::{Fault, Inputs, Sink};
-use kt_stream::StreamKind;
 use kt_words::Words;
 use std::alloc::Global;
 
 /// Writes the files of all words but the first as one stream of their kind, or their bytes one after the other.
 fn write_together<I: Inputs, K: Sink>(
     alloc: Global,
-    kind: Option<StreamKind>,
+    kind: FileKind,
     words: &Words,
     sizes: &[u64],
     inputs: &mut I,
@@ -41,19 +40,19 @@ fn write_together<I: Inputs, K: Sink>(
     ensures counted { (outputs : OutputsState) (source : SourceState) → Counted (world (I.state inputs.old) outputs source (K.state sink.old)) (world (I.state inputs.new) outputs source (K.state sink.new)) (end_status result) }
 {
     match kind {
-        Some(StreamKind::Cdf) => {
+        FileKind::Cdf => {
             each_file(alloc, &mut StreamFiles::new(CdfStreams), words, sizes, inputs, sink)
         }
-        Some(StreamKind::Gul) => {
+        FileKind::Gul => {
             each_file(alloc, &mut StreamFiles::new(GulStreams), words, sizes, inputs, sink)
         }
-        Some(StreamKind::Loss) => {
+        FileKind::Loss => {
             each_file(alloc, &mut StreamFiles::new(LossStreams), words, sizes, inputs, sink)
         }
-        Some(StreamKind::Summary) => {
+        FileKind::Summary => {
             each_file(alloc, &mut StreamFiles::new(SummaryStreams), words, sizes, inputs, sink)
         }
-        _ => each_file(alloc, &mut PlainBytes, words, sizes, inputs, sink),
+        FileKind::Plain => each_file(alloc, &mut PlainBytes, words, sizes, inputs, sink),
     }
 }
 

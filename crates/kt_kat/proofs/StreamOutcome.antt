@@ -6,7 +6,11 @@ use Rattle.kt_stream.specs.declared.entry.Placed.{Placed}
 use Rattle.kt_stream.specs.declared.kind.Head.{Head}
 use Rattle.kt_stream.specs.declared.kind.StreamKind.{StreamKind}
 use Rattle.kt_stream.specs.declared.stop.StreamStop.{StreamStop}
+use Rattle.kt_stream.specs.declared.kind.Shape.{Shape}
+use Rattle.kt_stream.specs.Reader.{Reading}
 use Rattle.kt_stream.specs.Stream.{Form}
+use Rattle.kt_ends.specs.Ending.{Counted}
+use Rattle.kt_ends.specs.World.{World}
 use Rattle.kt_ends.specs.Outcome.{Outcome}
 use Rattle.kt_ends.specs.Stops.{stop_status, end_status}
 use Rattle.kt_ends.specs.declared.status.Refusal.{Refusal}
@@ -19,8 +23,9 @@ use Rattle.kt_loop.specs.Calculation.{Course, Step, took_all, behind}
 use Rattle.kt_loop.specs.Contents.{Contents}
 use Rattle.kt_loop.specs.Outcome.{gives, ended_by, outcome}
 use Rattle.kt_loop.specs.Reading.{AreGood}
+use Rattle.kt_loop.specs.RecordStreams.{contents_of, StandsFor}
 use Rattle.kt_loop.specs.Settling.{IsEnd}
-use Rattle.kt_kat.specs.Joining.{differs, heading_of, records_text, file_status, joined, joined_by, joined_from}
+use Rattle.kt_kat.specs.Joining.{differs, heading_of, records_text, file_status, joined, joined_by, joined_from, or_head}
 use Rattle.kt_kat.specs.Stage.{Place, opened_file, file_calculation, refused_file, file_stop}
 
 -- a status at the file of this number
@@ -51,7 +56,7 @@ module _ {E : Type 0} (form : Form E) (kind : StreamKind) (place : Place) where
   from_header : (head : Head) (entries : List (Placed E)) (fault : Option StreamStop) → in_file place.number (outcome (file_calculation form kind) place (record { head = Some head; entries = entries; fault = fault })) ≡ joined_from form kind place.first place.number head entries fault
   from_header head entries fault = by_test (differs place.first head)
     where
-      abbrev course_by : Bool → Course Place Refusal
+      course_by : Bool → Course Place Refusal
       course_by different = took_all (file_calculation form kind) head (behind [] (if different then record { text = []; next = Err (refusal.HeaderDiffers place.number) } else record { text = heading_of kind place.first head; next = Ok place })) entries
 
       by_test : (different : Bool) → in_file place.number (ended_by (file_calculation form kind) (Some head) fault (course_by different).text (course_by different).reached) ≡ (if different then gives (status.Refused (refusal.HeaderDiffers place.number)) [] else gives (file_status place.number fault) (heading_of kind place.first head ++ records_text form entries))
@@ -99,3 +104,39 @@ all_taken (placed ∷ entries) = (tt, all_taken entries)
 pub each_good : {E : Type 0} (head : Option Head) (entries : List (Placed E)) → AreGood (λ (head : Head). Unit {0}) (λ (head : Head) (placed : Placed E). Unit {0}) head entries
 each_good None entries = tt
 each_good (Some head) entries = (tt, all_taken entries)
+
+-- ---- what is said of a file, where its bytes are known
+
+map_known : {A : Type 0} (known : Option A) (P Q : A → Type 0) → ((x : A) → P x → Q x) → IfSome known P → IfSome known Q
+map_known None P Q each all = tt
+map_known (Some x) P Q each all = each x all
+
+module _ {E : Type 0} (form : Form E) (shape : Shape) (first state : Option Head) (number : ℕ) (known : Option (List ℕ)) (same : first ≡ state) where
+  pub stopped_at_file : (before now : Option (List ℕ)) (why result : ToolStop) → result ≡ file_stop number why → IfSome known (λ bytes. IsEnd (outcome (file_calculation form shape.kind) (record { first = first; number = number }) (contents_of form shape bytes)) before now (stop_status why)) → IfSome known (λ bytes. IsEnd (joined form shape.kind state number (contents_of form shape bytes)) before now (stop_status result))
+  stopped_at_file before now why result is ended =
+      map_known known _ _ (λ bytes end. subst (λ (stopped : ToolStop). IsEnd (joined form shape.kind state number (contents_of form shape bytes)) before now (stop_status stopped)) (sym is)
+      (subst (λ (head : Option Head). IsEnd (joined form shape.kind head number (contents_of form shape bytes)) before now (stop_status (file_stop number why))) same
+      (stopped_file form shape.kind (record { first = first; number = number }) (contents_of form shape bytes) before now why end))) ended
+
+  pub done_at_file : (before now : Option (List ℕ)) → IfSome known (λ bytes. IsEnd (outcome (file_calculation form shape.kind) (record { first = first; number = number }) (contents_of form shape bytes)) before now status.Done) → IfSome known (λ bytes. IsEnd (joined form shape.kind state number (contents_of form shape bytes)) before now status.Done)
+  done_at_file before now ended =
+      map_known known _ _ (λ bytes end.
+      subst (λ (head : Option Head). IsEnd (joined form shape.kind head number (contents_of form shape bytes)) before now status.Done) same
+      (done_file form shape.kind (record { first = first; number = number }) (contents_of form shape bytes) before now end)) ended
+
+  -- the header that the reader read is that of the file
+  pub header_known : (reading : Reading E) (kept : Option Head) → kept ≡ or_head first reading.head → IfSome known (λ bytes. StandsFor E form (contents_of form shape) bytes (contents_of form shape bytes).entries reading) → IfSome known (λ bytes. kept ≡ or_head state (contents_of form shape bytes).head)
+  header_known reading kept is stands =
+      map_known known _ _ (λ bytes stood. is ∙ ap (λ (head : Option Head). or_head head reading.head) same ∙ ap (or_head state) (stood.represents.head ∙ sym (ap (λ (contents : List ℕ → Contents Head E). (contents bytes).head) stood.is))) stands
+
+-- a refusal of the stream of a file counts what one of the file counts
+pub counted_in_file : (before after : World) (number : ℕ) (why result : ToolStop) → result ≡ file_stop number why → Counted before after (stop_status why) → Counted before after (stop_status result)
+counted_in_file before after number why result is counted = subst (λ (stopped : ToolStop). Counted before after (stop_status stopped)) (sym is) (by_stop why counted)
+  where
+    by_stop : (why : ToolStop) → Counted before after (stop_status why) → Counted before after (stop_status (file_stop number why))
+    by_stop (stop.Refused (refusal.Stream why)) counted = counted
+    by_stop (stop.Refused (refusal.Missing name)) counted = counted
+    by_stop (stop.Refused why) counted = counted
+    by_stop stop.ReadFault counted = counted
+    by_stop stop.WriteFault counted = counted
+    by_stop stop.NoMemory counted = counted
