@@ -1,9 +1,8 @@
 -- The bytes of a file are written block by block.
-use Rattle.std.proofs.Common.{◌≡◌, ℕ, ◌+◌, ◌≤◌, ◌<◌, List, [], ◌++◌, length, take, drop, Option, Some, None, Result, Ok, Err, refl, sym, ap, ◌∙◌, append_assoc, append-nil, subst, arith}
+use Rattle.std.proofs.Common.{◌≡◌, ℕ, ◌+◌, ◌≤◌, List, ◌++◌, length, take, drop, Option, Some, None, Err, refl, sym, ap, ◌∙◌, append_assoc, append-nil, subst}
 use Rattle.std.specs.Prelude.{IfSome, IsSomeAnd}
-use Rattle.std.proofs.lemmas.List.{take-append-drop, take_at, take_all, length-take-le, drop-drop}
+use Rattle.std.proofs.lemmas.List.{take-append-drop, take_at, take_all, length-take-le}
 use Rattle.std.proofs.Math.Seq.{take-add}
-use Rattle.kt_out.specs.InputFiles.{InputsState}
 use Rattle.kt_out.specs.NamedFiles.{FileMap}
 use Rattle.kt_out.specs.Reading.{Gives, GivesKnown}
 use Rattle.kt_out.specs.Writing.{SinkState, Gains, GainsFront, WritesAll}

@@ -1,5 +1,5 @@
 -- How `kat` ends.
-use Rattle.std.proofs.Common.{◌≡◌, ◌⊎◌, ℕ, Bool, true, false, List, [], ◌∷◌, Option, Some, None, Result, Ok, Err, refl, sym, ap, ◌∙◌, subst, inl, inr}
+use Rattle.std.proofs.Common.{◌≡◌, ◌⊎◌, ℕ, List, [], ◌∷◌, Option, Some, None, Result, Ok, Err, refl, sym, ap, ◌∙◌, subst, inl, inr}
 use Rattle.std.specs.Prelude.{IfSome, IsSomeAnd}
 use Rattle.std.proofs.lemmas.Bool.{false≢true}
 use Rattle.kt_out.specs.Counts.{Rose}
@@ -10,11 +10,11 @@ use Rattle.kt_out.specs.Reading.{SourceState}
 use Rattle.kt_out.specs.Writing.{SinkState}
 use Rattle.kt_stream.specs.declared.kind.Shape.{Shape}
 use Rattle.kt_stream.specs.Stream.{Form}
-use Rattle.kt_ends.specs.Ending.{Made, PartlyMade, NoFault, NoCount, CountedMiss, CountedRead, CountedWrite, Counted, Ended, IsMissing}
+use Rattle.kt_ends.specs.Ending.{Made, PartlyMade, NoFault, NoCount, Counted, Ended}
 use Rattle.kt_ends.specs.Endings.{UnderWay, nothing, ends_for_memory, ends_missing, ends_refused, ends_unread_files}
 use Rattle.kt_ends.specs.Outcome.{Outcome}
 use Rattle.kt_ends.specs.Stops.{stop_status}
-use Rattle.kt_ends.specs.World.{World, Finds, world}
+use Rattle.kt_ends.specs.World.{Finds, world}
 use Rattle.kt_ends.specs.declared.status.Refusal.{Refusal}
 use Rattle.kt_ends.specs.declared.status.Refusal.TheVariants as refusal
 use Rattle.kt_ends.specs.declared.status.Status.{Status}
@@ -23,14 +23,14 @@ use Rattle.kt_ends.specs.declared.tool_stop.ToolStop.{ToolStop}
 use Rattle.kt_ends.specs.declared.tool_stop.ToolStop.TheVariants as stop
 use Rattle.kt_loop.specs.InputFile.{file_bytes}
 use Rattle.kt_loop.specs.Settling.{IsEnd}
-use Rattle.kt_kat.specs.Files.{files_of, file_by_file}
+use Rattle.kt_kat.specs.Files.{files_of}
 use Rattle.kt_kat.specs.Found.{AreFound, TellsRefusal, Looked}
 use Rattle.kt_kat.specs.FileKinds.{kind_at_front, kind_of_files}
 use Rattle.kt_kat.specs.Joining.{joined_files}
 use Rattle.kt_kat.specs.declared.front.FileKind.{FileKind}
 use Rattle.kt_kat.specs.declared.front.FileKind.TheVariants.{Plain, Cdf, Gul, Loss, Summary}
 use Rattle.kt_kat.specs.Outcome.{together, by_files, kat_outcome, kat_uses}
-use Rattle.kt_kat.proofs.OneByOne.{NextFile, next_file}
+use Rattle.kt_kat.proofs.OneByOne.{next_file}
 
 -- ---- counts
 

@@ -1,9 +1,9 @@
 -- What comes of files one after the other.
-use Rattle.std.proofs.Common.{◌≡◌, ℕ, ◌+◌, ◌≤◌, ◌<◌, Bool, true, false, List, [], ◌∷◌, ◌++◌, length, drop, Option, Some, None, Result, Ok, Err, refl, sym, ap, ◌∙◌, append_assoc, append-nil, subst, get_or, add-one, drop-cons, arith}
+use Rattle.std.proofs.Common.{◌≡◌, ℕ, ◌+◌, ◌<◌, Bool, true, false, List, [], ◌∷◌, ◌++◌, length, drop, Option, Some, None, Result, Ok, Err, refl, sym, ap, ◌∙◌, append_assoc, append-nil, subst, get_or, add-one, drop-cons, arith}
 use Rattle.std.specs.Prelude.{IfSome, IsSomeAnd, map, nat_le, if◌then◌else◌}
 use Rattle.std.specs.List.{flat_map}
 use Rattle.kt_out.specs.NamedFiles.{File, FileMap}
-use Rattle.kt_ends.specs.Ending.{Verdict, Gained, GainedFront, IsFront}
+use Rattle.kt_ends.specs.Ending.{GainedFront}
 use Rattle.kt_ends.specs.Outcome.{Outcome}
 use Rattle.kt_ends.specs.Stops.{stop_status}
 use Rattle.kt_ends.specs.declared.status.Refusal.{Refusal}

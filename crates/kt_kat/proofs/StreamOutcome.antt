@@ -1,5 +1,5 @@
 -- What the calculation over the stream of a file comes to.
-use Rattle.std.proofs.Common.{◌≡◌, ℕ, Bool, true, false, List, [], ◌∷◌, ◌++◌, Option, Some, None, Result, Ok, Err, refl, sym, ap, ◌∙◌, append_assoc, append-nil, subst}
+use Rattle.std.proofs.Common.{◌≡◌, ℕ, Bool, true, false, List, [], ◌∷◌, ◌++◌, Option, Some, None, Ok, Err, refl, sym, ap, ◌∙◌, append_assoc, append-nil, subst}
 use Rattle.std.specs.Prelude.{IfSome, if◌then◌else◌}
 use Rattle.std.specs.List.{AllByRecursion}
 use Rattle.kt_stream.specs.declared.entry.Placed.{Placed}
@@ -12,21 +12,21 @@ use Rattle.kt_stream.specs.Stream.{Form}
 use Rattle.kt_ends.specs.Ending.{Counted}
 use Rattle.kt_ends.specs.World.{World}
 use Rattle.kt_ends.specs.Outcome.{Outcome}
-use Rattle.kt_ends.specs.Stops.{stop_status, end_status}
+use Rattle.kt_ends.specs.Stops.{stop_status}
 use Rattle.kt_ends.specs.declared.status.Refusal.{Refusal}
 use Rattle.kt_ends.specs.declared.status.Refusal.TheVariants as refusal
 use Rattle.kt_ends.specs.declared.status.Status.{Status}
 use Rattle.kt_ends.specs.declared.status.Status.TheVariants as status
 use Rattle.kt_ends.specs.declared.tool_stop.ToolStop.{ToolStop}
 use Rattle.kt_ends.specs.declared.tool_stop.ToolStop.TheVariants as stop
-use Rattle.kt_loop.specs.Calculation.{Course, Step, took_all, behind}
+use Rattle.kt_loop.specs.Calculation.{Course, took_all, behind}
 use Rattle.kt_loop.specs.Contents.{Contents}
 use Rattle.kt_loop.specs.Outcome.{gives, ended_by, outcome}
 use Rattle.kt_loop.specs.Reading.{AreGood}
 use Rattle.kt_loop.specs.RecordStreams.{contents_of, StandsFor}
 use Rattle.kt_loop.specs.Settling.{IsEnd}
 use Rattle.kt_kat.specs.Joining.{differs, heading_of, records_text, file_status, joined, joined_by, joined_from, or_head}
-use Rattle.kt_kat.specs.Stage.{Place, opened_file, file_calculation, refused_file, file_stop}
+use Rattle.kt_kat.specs.Stage.{Place, file_calculation, refused_file, file_stop}
 
 -- a status at the file of this number
 abbrev status_in_file : ℕ → Status → Status

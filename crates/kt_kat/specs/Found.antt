@@ -1,6 +1,6 @@
 -- What was found of named files before their bytes are read.
 -- The rules: docs/COMMANDS.md, "kat".
-use Rattle.std.specs.Prelude.{◌≡◌, ℕ, List, length, map, Option, IfSome, Result, Ok, Err}
+use Rattle.std.specs.Prelude.{◌≡◌, ℕ, List, length, map, Option, Result, Ok, Err}
 use Rattle.kt_out.specs.InputFiles.{InputsState, CountsFault, CountsMiss}
 use Rattle.kt_out.specs.NamedFiles.{FileMap}
 use Rattle.kt_out.specs.declared.fault.Fault.{Fault}

@@ -4,3 +4,4 @@ pub mod Joining
 pub mod Stage
 pub mod FileKinds
 pub mod Outcome
+pub mod Examples

@@ -1,6 +1,6 @@
 -- What `kat` makes of the named files.
 -- The rules: docs/COMMANDS.md, "kat".
-use Rattle.std.specs.Prelude.{ℕ, List, [], ◌∷◌, true, false, Option, Some, None, Result, Ok, Err, ◌==◌, if◌then◌else◌}
+use Rattle.std.specs.Prelude.{ℕ, List, true, false, Result, Ok, Err}
 use Rattle.std.specs.List.{flat_map}
 use Rattle.kt_out.specs.NamedFiles.{FileMap}
 use Rattle.kt_stream.specs.declared.kind.StreamKind.TheVariants.{Gul, Loss}

@@ -1,11 +1,10 @@
 -- What is written of one of several streams, as a calculation over its records.
 -- The rules: docs/COMMANDS.md, "kat".
-use Rattle.std.specs.Prelude.{ℕ, [], Option, Some, Result, Ok, Err, if◌then◌else◌}
+use Rattle.std.specs.Prelude.{ℕ, [], Option, Ok, Err, if◌then◌else◌}
 use Rattle.kt_stream.specs.declared.kind.Head.{Head}
 use Rattle.kt_stream.specs.declared.kind.StreamKind.{StreamKind}
 use Rattle.kt_stream.specs.Stream.{Form}
 use Rattle.kt_ends.specs.declared.status.Refusal.{Refusal}
-use Rattle.kt_ends.specs.declared.status.Refusal.TheVariants as refusal
 use Rattle.kt_ends.specs.declared.status.Refusal.TheVariants.{HeaderDiffers, Stream, File}
 use Rattle.kt_ends.specs.declared.tool_stop.ToolStop.{ToolStop}
 use Rattle.kt_ends.specs.declared.tool_stop.ToolStop.TheVariants as stop

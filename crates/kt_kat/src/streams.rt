@@ -144,7 +144,14 @@ impl<M: JoinedKind> FileStep for StreamFiles<M> {
             number,
         };
         if let Err(stop) = run_over_file(
-            alloc, &mut reader, &mut stage, &mut (), name, size, inputs, sink,
+            alloc,
+            &mut reader,
+            &mut stage,
+            &mut (),
+            name,
+            size,
+            inputs,
+            sink,
         ) {
             return Err(in_file(number, stop));
         }

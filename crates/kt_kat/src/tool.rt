@@ -41,16 +41,44 @@ fn write_together<I: Inputs, K: Sink>(
 {
     match kind {
         FileKind::Cdf => {
-            each_file(alloc, &mut StreamFiles::new(CdfStreams), words, sizes, inputs, sink)
+            each_file(
+                alloc,
+                &mut StreamFiles::new(CdfStreams),
+                words,
+                sizes,
+                inputs,
+                sink,
+            )
         }
         FileKind::Gul => {
-            each_file(alloc, &mut StreamFiles::new(GulStreams), words, sizes, inputs, sink)
+            each_file(
+                alloc,
+                &mut StreamFiles::new(GulStreams),
+                words,
+                sizes,
+                inputs,
+                sink,
+            )
         }
         FileKind::Loss => {
-            each_file(alloc, &mut StreamFiles::new(LossStreams), words, sizes, inputs, sink)
+            each_file(
+                alloc,
+                &mut StreamFiles::new(LossStreams),
+                words,
+                sizes,
+                inputs,
+                sink,
+            )
         }
         FileKind::Summary => {
-            each_file(alloc, &mut StreamFiles::new(SummaryStreams), words, sizes, inputs, sink)
+            each_file(
+                alloc,
+                &mut StreamFiles::new(SummaryStreams),
+                words,
+                sizes,
+                inputs,
+                sink,
+            )
         }
         FileKind::Plain => each_file(alloc, &mut PlainBytes, words, sizes, inputs, sink),
     }

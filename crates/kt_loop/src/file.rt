@@ -99,13 +99,7 @@ fn read_file<R: StreamReader, W, T: Stage<R::Head, R::Entry, W>, I: Inputs, K: S
 /// Reads a named input file of so many bytes to its end as a stream, and carries out the calculation of a stage over it, as
 /// `run_stage` does over a source. The stage asks no input files of its own. The reader has read the whole file where nothing
 /// is refused and nothing fails.
-pub fn run_over_file<
-    R: StreamReader,
-    W,
-    T: Stage<R::Head, R::Entry, W>,
-    I: Inputs,
-    K: Sink,
->(
+pub fn run_over_file<R: StreamReader, W, T: Stage<R::Head, R::Entry, W>, I: Inputs, K: Sink>(
     alloc: Global,
     reader: &mut R,
     stage: &mut T,

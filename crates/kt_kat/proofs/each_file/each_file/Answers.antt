@@ -1,4 +1,4 @@
-use Rattle.std.proofs.Common.{◌≡◌, ◌+◌, ◌∙◌, drop, get_or, subst, refl, sym, ap, arith}
+use Rattle.std.proofs.Common.{◌+◌, drop, get_or, subst, sym, arith}
 use Rattle.std.specs.Prelude.{IfSome}
 use Rattle.kt_out.specs.InputFiles.{InputsState}
 use Rattle.kt_ends.specs.Stops.{stop_status}

@@ -1,4 +1,4 @@
-use Rattle.std.proofs.Common.{◌≡◌, ℕ, ◌+◌, List, Err, refl, sym, ap, subst, ◌∙◌, take, length, arith}
+use Rattle.std.proofs.Common.{◌+◌, sym, ap, subst, ◌∙◌, take, length}
 use Rattle.std.specs.Prelude.{IfSome}
 use Rattle.kt_out.specs.InputFiles.{InputsState}
 use Rattle.kt_out.specs.Reading.{GivesKnown}
@@ -8,7 +8,7 @@ use Rattle.kt_ends.specs.declared.tool_stop.ToolStop.{ToolStop}
 use Rattle.kt_loop.specs.InputFile.{file_bytes, left_from}
 use Rattle.kt_loop.specs.Outcome.{gives}
 use Rattle.kt_loop.specs.Settling.{IsEnd}
-use Rattle.kt_kat.proofs.Copying.{copied_first, copied_more, copied_so_far, copied_until, copied_all, read_failed, memory_wanting, filled_block}
+use Rattle.kt_kat.proofs.Copying.{copied_more, copied_so_far, copied_until, read_failed, memory_wanting, filled_block}
 use Rattle.kt_kat.proofs.plain.PlainBytesFileStep.step.Goals as goal
 
 pub returns-in-Err-Failed-clause-ended : goal.returns-in-Err-Failed-clause-ended

@@ -1,5 +1,4 @@
-use Rattle.std.proofs.Common.{◌≡◌, ◌≤◌, ◌-◌, ◌++◌, Some, length, take}
-use Rattle.std.specs.Prelude.{IfSome}
+use Rattle.std.proofs.Common.{◌≡◌, ◌≤◌, ◌-◌, length}
 use Rattle.kt_loop.specs.InputFile.{file_bytes}
 use Rattle.kt_kat.proofs.Copying.{HasCopied}
 use Rattle.kt_kat.proofs.plain.PlainBytesFileStep.step.Given as goal

@@ -1,4 +1,4 @@
-use Rattle.std.proofs.Common.{◌≡◌, refl, sym, ap, ◌∙◌}
+use Rattle.std.proofs.Common.{refl, sym, ap, ◌∙◌}
 use Rattle.kt_loop.specs.InputFile.{file_bytes}
 use Rattle.kt_loop.specs.RecordStreams.{contents_of}
 use Rattle.kt_kat.specs.Joining.{or_head}
