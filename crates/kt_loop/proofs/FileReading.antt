@@ -1,5 +1,5 @@
 -- Pieces of a named input file, and what is counted while it is read.
-use Rattle.std.proofs.Common.{◌≡◌, ℕ, ◌+◌, ◌-◌, ◌≤◌, ◌<◌, List, [], ◌++◌, length, take, drop, Option, Some, None, Result, Ok, Err, refl, sym, ap, ◌∙◌, append_assoc, append-nil, subst, arith}
+use Rattle.std.proofs.Common.{◌≡◌, ℕ, ◌+◌, ◌≤◌, ◌<◌, List, [], ◌++◌, length, take, drop, Option, Some, None, Result, Ok, Err, refl, sym, ap, ◌∙◌, append_assoc, append-nil, subst, arith}
 use Rattle.std.specs.Prelude.{IfSome, IsSomeAnd, IfOk, OnOk}
 use Rattle.std.proofs.lemmas.List.{take-append-drop, drop-append-le, drop-drop, length-drop, length-take-le, drop_all}
 use Rattle.kt_out.specs.InputFiles.{InputsState, GivesFrom, ReadsFrom, ReadsAt, CountsFault}
@@ -11,7 +11,7 @@ use Rattle.kt_ends.specs.declared.status.Refusal.{Refusal}
 use Rattle.kt_ends.specs.declared.status.Refusal.TheVariants as refusal
 use Rattle.kt_ends.specs.declared.tool_stop.ToolStop.{ToolStop}
 use Rattle.kt_ends.specs.declared.tool_stop.ToolStop.TheVariants as stop
-use Rattle.kt_loop.specs.Counts.{InputsCounted, SinkCounted, Counts, CountsRead}
+use Rattle.kt_loop.specs.Counts.{Counts, CountsRead}
 use Rattle.kt_loop.specs.InputFile.{IsSized, file_bytes, left_from}
 use Rattle.kt_loop.specs.Calculation.{Calculation}
 use Rattle.kt_loop.specs.Contents.{Contents}

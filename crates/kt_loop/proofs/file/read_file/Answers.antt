@@ -1,5 +1,5 @@
-use Rattle.std.proofs.Common.{ℕ, ◌+◌, List, [], ◌++◌, Option, Some, Err, refl, sym, ap, subst, ◌∙◌, take, length, arith}
-use Rattle.kt_out.specs.InputFiles.{InputsState, CountsFault}
+use Rattle.std.proofs.Common.{◌+◌, [], ◌++◌, Option, Err, refl, sym, ap, subst, ◌∙◌, take, length, arith}
+use Rattle.kt_out.specs.InputFiles.{InputsState}
 use Rattle.kt_out.specs.Reading.{GivesKnown}
 use Rattle.kt_stream.specs.declared.stop.StreamStop.{StreamStop}
 use Rattle.kt_loop.specs.InputFile.{file_bytes, left_from}
