@@ -5,7 +5,6 @@ pub mod ModelOutcome
 pub mod ModelStage
 pub mod GulOutcome
 pub mod FmOutcome
-pub mod KatOutcome
 pub mod PeriodOutcome
 pub mod Outcome
 pub mod Uses

@@ -25,7 +25,7 @@ use Rattle.kt_tools.specs.ModelOutcome.{model_need, model_rows_outcome}
 use Rattle.kt_tools.specs.GulOutcome.{gul_need, gul_rows_outcome}
 use Rattle.kt_periods.specs.PeriodTables.{aal_rows_outcome, lec_rows_outcome}
 use Rattle.kt_tools.specs.FmOutcome.{fm_need, fm_rows_outcome}
-use Rattle.kt_tools.specs.KatOutcome.{kat_outcome}
+use Rattle.kt_kat.specs.Outcome.{kat_outcome}
 use Rattle.kt_tools.specs.PeriodOutcome.{curve_need, curve_of}
 use Rattle.kt_words.specs.FileNames.{file_names}
 use Rattle.kt_words.specs.declared.command.Conversion.{Conversion}

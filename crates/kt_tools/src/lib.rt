@@ -8,7 +8,6 @@ mod fmcalc;
 mod footprint;
 mod getmodel;
 mod gulcalc;
-mod kat;
 mod period_tables;
 mod pltcalc;
 mod summarycalc;

@@ -1,5 +1,5 @@
 -- The words of a call of `kat` are names of files.
-use Rattle.std.proofs.Common.{◌≡◌, ◌≤◌, ◌<◌, ◌+◌, ℕ, Bool, true, false, List, [], ◌∷◌, length, drop, Option, Some, None, Result, Ok, Err, refl, sym, ap, ◌∙◌, subst, arith}
+use Rattle.std.proofs.Common.{◌≡◌, ◌+◌, ℕ, Bool, true, false, List, [], ◌∷◌, length, drop, Option, Some, None, Result, Ok, Err, refl, subst, arith}
 use Rattle.std.specs.Prelude.{nat_lt, not, ◌==◌, ◌||◌, IfSome, if◌then◌else◌, slice_index, All}
 use Rattle.std.proofs.lemmas.Bool.{eqb-true, ltb-false}
 use Rattle.std.proofs.lemmas.List.Elements.{All-cons}
@@ -8,8 +8,8 @@ use Rattle.kt_words.specs.FileNames.{BeginsWithDash, IsFileName, AreFileNames}
 use Rattle.kt_words.specs.Fits.{FitsTable}
 use Rattle.kt_words.specs.Given.{none_given, option_named, with_own, with_next, with_plain, with_option, with_word}
 use Rattle.kt_eve.specs.Parts.{has_part}
-use Rattle.kt_words.specs.Judging.{finished, refused_word}
-use Rattle.kt_words.specs.Reading.{read_from, and_on, finish_read, unless_wrong, given_by}
+use Rattle.kt_words.specs.Judging.{refused_word}
+use Rattle.kt_words.specs.Reading.{read_from, and_on, finish_read, given_by}
 use Rattle.kt_words.specs.Rows.{letter_of}
 use Rattle.kt_words.specs.Tools.{known_tool}
 use Rattle.kt_words.specs.declared.command.Command.{Command}

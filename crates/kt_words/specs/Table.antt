@@ -3,8 +3,8 @@
 use Rattle.std.specs.Prelude.{List, [], ◌∷◌}
 use Rattle.kt_words.specs.declared.tool.Tool.{Tool}
 use Rattle.kt_words.specs.declared.tool.Tool.TheVariants.{Eve, Getmodel, Gulcalc, Fmcalc, Summarycalc, Eltcalc, Pltcalc, Aalcalc, Leccalc, Kat, Tobin, Tocsv, Chain, Gen}
-use Rattle.kt_words.specs.declared.rows.Condition.TheVariants.{Always, Absent, Zero, Net, NotNet, Periods, NoPeriods}
-use Rattle.kt_words.specs.declared.rows.Form.TheVariants.{Flag, Number, Dash, Losses, Stage, TableName, FileName}
+use Rattle.kt_words.specs.declared.rows.Condition.TheVariants.{Always, Zero, Net, NotNet, Periods, NoPeriods}
+use Rattle.kt_words.specs.declared.rows.Form.TheVariants.{Flag, Number, Dash, Losses, TableName, FileName}
 use Rattle.kt_words.specs.declared.rows.OptionRow.{OptionRow}
 use Rattle.kt_words.specs.declared.rows.OptionRow.TheVariants.{Free, Needed, OneOf}
 use Rattle.kt_words.specs.declared.rows.PlainRow.{PlainRow}

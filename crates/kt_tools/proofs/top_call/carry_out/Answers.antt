@@ -22,6 +22,9 @@ returns-in-Ok-Aalcalc-clause-ends g c outputs = by_command c.args.words.now Aalc
 pub returns-in-Ok-Leccalc-clause-ends : goal.returns-in-Ok-Leccalc-clause-ends
 returns-in-Ok-Leccalc-clause-ends g c outputs = by_command c.args.words.now (Leccalc c.in-Ok-Leccalc.curve) _ _ (end_status c.leccalc.result) _ (sym c.read_command.ensures.value ∙ c.in-Ok-Leccalc.is ∙ ap command_is c.in-Ok-Leccalc.field-0-is) c.status_of-in-Ok-Leccalc.ensures (c.leccalc.ensures outputs)
 
+pub kat-requires : goal.kat-requires
+kat-requires g c = (c.read_command.ensures.names (c.in-Ok-Kat.is ∙ ap command_is c.in-Ok-Kat.field-0-is)).0
+
 pub returns-in-Ok-Kat-clause-ends : goal.returns-in-Ok-Kat-clause-ends
 returns-in-Ok-Kat-clause-ends g c outputs = by_command c.args.words.now Kat _ _ (end_status c.kat.result) _ (sym c.read_command.ensures.value ∙ c.in-Ok-Kat.is ∙ ap command_is c.in-Ok-Kat.field-0-is) c.status_of-in-Ok-Kat.ensures (c.kat.ensures outputs (g.S.Source.state c.args.source.now))
 
