@@ -4,7 +4,6 @@ use Rattle.std.specs.Prelude.{◌≡◌, ◌⊎◌, ◌≤◌, ◌<◌, ◌^◌,
 use Rattle.kt_out.specs.Counts.{Rose}
 use Rattle.kt_out.specs.Reading.{SourceState}
 use Rattle.kt_cells.specs.declared.stop.TableStop.{TableStop}
-use Rattle.kt_cells.specs.declared.stop.TableStop.TheVariants as stop
 use Rattle.kt_schema.specs.Conversions.{csv_bin, bin_csv}
 use Rattle.kt_words.specs.declared.command.Conversion.{Conversion}
 use Rattle.kt_words.specs.declared.command.Conversion.TheVariants.{ToFile, ToText}
@@ -16,6 +15,7 @@ use Rattle.kt_ends.specs.Stops.{stop_status}
 use Rattle.kt_ends.specs.declared.status.Status.TheVariants as status
 use Rattle.kt_ends.specs.declared.tool_stop.ToolStop.{ToolStop}
 use Rattle.kt_ends.specs.declared.tool_stop.ToolStop.TheVariants.{Refused, ReadFault, WriteFault, NoMemory}
+use Rattle.kt_loading.specs.Loading.{table_stop}
 
 -- a source has at most so many bytes
 abbrev pub source_limit : ℕ

@@ -4,7 +4,6 @@ use Rattle.std.specs.Prelude.{ℕ, Bool, List, length, nat_le, Option, Some, Non
 use Rattle.std.specs.List.{flat_map}
 use Rattle.byteorder.specs.Endian.{little_bytes}
 use Rattle.kt_out.specs.NamedFiles.{FileMap}
-use Rattle.kt_rec.specs.Rows.{Rows}
 use Rattle.kt_rec.specs.declared.hazard.FootprintIdx.{FootprintIdx}
 use Rattle.kt_rec.specs.declared.table.Table.TheVariants as table
 use Rattle.kt_keys.specs.FirstRow.{first_where}
@@ -12,7 +11,6 @@ use Rattle.kt_checks.specs.TableChecks.{is_misplaced}
 use Rattle.kt_eve.specs.Parts.{part_of}
 use Rattle.kt_load.specs.FileNames.{file_name_of, table_at}
 use Rattle.kt_load.specs.Loaded.{loaded}
-use Rattle.kt_load.specs.declared.stop.LoadStop.{LoadStop}
 use Rattle.kt_schema.specs.Footprint.{footprint_csv}
 use Rattle.kt_tables.specs.Lookups.{event_ids}
 use Rattle.kt_loading.specs.Loading.{need_of, with_tables}
@@ -37,7 +35,6 @@ use Rattle.kt_words.specs.Command.{command_of}
 use Rattle.kt_tools.specs.Converting.{source_limit, source_name, other_form, converted}
 use Rattle.kt_ends.specs.Endings.{nothing, writes_text}
 use Rattle.kt_ends.specs.Outcome.{Outcome}
-use Rattle.kt_ends.specs.Stops.{stop_status}
 
 -- what is made of the source: one that is too large is refused, whatever else is wrong with it
 abbrev pub within_limit : (List ℕ → Outcome) → List ℕ → Outcome

@@ -1,12 +1,10 @@
-use Rattle.std.proofs.Common.{◌≡◌, ℕ, List, Ok, Err, ap, refl, subst, ◌∙◌}
+use Rattle.std.proofs.Common.{ℕ, List, Ok, Err, ap, refl, subst, ◌∙◌}
 use Rattle.kt_ends.specs.Endings.{ends_for_memory, ends_written, writes_text}
 use Rattle.kt_ends.specs.Outcome.{Outcome}
 use Rattle.kt_out.specs.Writing.{WritesAll}
 use Rattle.std.proofs.lemmas.Bool.{false≢true}
 use Rattle.kt_out.specs.NamedFiles.{FileMap}
 use Rattle.kt_rec.specs.Rows.{Rows}
-use Rattle.kt_rec.specs.declared.table.Table.TheVariants as table
-use Rattle.kt_loading.specs.Loading.{need_of}
 use Rattle.kt_tools.proofs.EveLemmas.{eve_uses, part_bytes, bytes_are}
 use Rattle.kt_loading.specs.Loaded.{EndsUnloaded, IsMadeOf}
 use Rattle.kt_tools.proofs.eve.eve.Goals as goal

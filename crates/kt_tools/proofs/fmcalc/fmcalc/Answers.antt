@@ -1,4 +1,4 @@
-use Rattle.std.proofs.Common.{◌∙◌, refl, subst}
+use Rattle.std.proofs.Common.{refl, subst}
 use Rattle.kt_loading.specs.Loaded.{EndsLoaded, EndsUnloaded}
 use Rattle.kt_tools.specs.FmOutcome.{fm_rows_outcome}
 use Rattle.kt_tools.specs.Uses.{command_uses}

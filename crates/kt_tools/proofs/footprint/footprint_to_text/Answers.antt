@@ -1,4 +1,4 @@
-use Rattle.std.proofs.Common.{◌≡◌, ℕ, List, Some, Ok, ap, refl, subst, sym, ◌∙◌}
+use Rattle.std.proofs.Common.{◌≡◌, ℕ, List, Some, ap, refl, subst, sym, ◌∙◌}
 use Rattle.kt_ends.specs.Ending.{Ended}
 use Rattle.kt_ends.specs.Endings.{ends_as}
 use Rattle.kt_ends.specs.Outcome.{Outcome}
@@ -7,8 +7,6 @@ use Rattle.kt_ends.specs.World.{world}
 use Rattle.kt_out.specs.InputFiles.{InputsState}
 use Rattle.kt_out.specs.NamedFiles.{FileMap}
 use Rattle.kt_rec.specs.Rows.{Rows}
-use Rattle.kt_rec.specs.declared.table.Table.TheVariants as table
-use Rattle.kt_loading.specs.Loading.{need_of}
 use Rattle.kt_tools.specs.Outcome.{footprint_text, footprint_outcome}
 use Rattle.kt_tools.specs.Uses.{command_uses}
 use Rattle.kt_words.specs.declared.command.Command.TheVariants.{FootprintText}

@@ -1,9 +1,5 @@
 use Rattle.std.proofs.Common.{refl, subst}
-use Rattle.kt_ends.specs.Stops.{end_status}
-use Rattle.kt_ends.specs.World.{world}
 use Rattle.kt_loading.specs.Loaded.{EndsLoaded, EndsUnloaded}
-use Rattle.kt_loading.specs.Loading.{need_of}
-use Rattle.kt_rec.specs.declared.table.Table.TheVariants as table
 use Rattle.kt_tools.specs.PltOutcome.{plt_rows_outcome}
 use Rattle.kt_tools.specs.Uses.{command_uses}
 use Rattle.kt_words.specs.declared.command.Command.TheVariants.{Pltcalc}
