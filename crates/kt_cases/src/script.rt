@@ -8,7 +8,7 @@ use std::alloc::{AllocError, AllocGlobal, Global};
 use std::thread::Threads;
 
 /// The names of the files of a run.
-const NAMES: [&str; 13] = [
+const NAMES: [&str; 19] = [
     "input/events.bin",
     "input/items.bin",
     "input/coverages.bin",
@@ -18,10 +18,16 @@ const NAMES: [&str; 13] = [
     "static/damage_bin_dict.bin",
     "static/random.bin",
     "input/fm_programme.bin",
+    "input/fm_policytc.bin",
+    "input/fm_profile.bin",
     "input/fm_xref.bin",
     "input/gulsummaryxref.bin",
     "input/fmsummaryxref.bin",
     "input/occurrence.bin",
+    "input/returnperiods.bin",
+    "first",
+    "second",
+    "third",
 ];
 
 /// The state between two lines.

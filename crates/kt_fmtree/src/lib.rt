@@ -9,16 +9,17 @@ mod levels;
 mod links;
 mod lookups;
 mod node;
+mod order;
 mod outline;
 mod plan;
 mod policy;
 mod programme;
-mod rising;
 mod shared;
 mod sums;
 mod terms;
 
 pub use levels::Levels;
 pub use node::Node;
+pub use order::rising;
 pub use programme::Programme;
 pub use sums::added;

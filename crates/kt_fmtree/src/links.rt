@@ -5,7 +5,7 @@ ghost use Rattle.std.specs.List.{filter};
 ghost use Rattle.kt_tree.specs.Rising.{rising};
 ghost use Rattle.kt_fmtree.specs.Plan.{link_of, link_key};
 
-use crate::rising::rising;
+use crate::order::rising;
 use kt_index::{ByKey, Keyed, pair_key};
 use kt_rec::FmProgramme;
 use std::alloc::{AllocError, Global};

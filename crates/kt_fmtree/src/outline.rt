@@ -12,7 +12,7 @@ ghost use Rattle.kt_tree.specs.Tree.{is_unit};
 ghost use Rattle.kt_keys.specs.Units.{top_targets};
 
 use crate::links::{Link, children};
-use crate::rising::rising;
+use crate::order::rising;
 use crate::terms::Terms;
 use kt_checks::climbed;
 use kt_index::ByKey;

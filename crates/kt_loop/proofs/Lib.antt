@@ -15,3 +15,4 @@ pub mod RecordReading
 pub mod RecordsGood
 pub mod RunLists
 pub mod KnownReading
+mod FileReading

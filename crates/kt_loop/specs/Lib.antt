@@ -14,3 +14,4 @@ pub mod ByRun
 pub mod RunSteps
 pub mod RecordStreams
 pub mod KnownStreams
+pub mod InputFile

@@ -4,6 +4,7 @@
 mod block;
 mod by_run;
 mod carry;
+mod file;
 mod known_reader;
 pub mod laws;
 mod reader;
@@ -16,6 +17,7 @@ mod turn;
 
 pub use block::{BLOCK, zeros};
 pub use by_run::{RunStage, run_by_run};
+pub use file::{read_piece, run_over_file};
 pub use known_reader::{KnownHead, KnownReader};
 pub use reader::StreamReader;
 pub use run::run_stage;

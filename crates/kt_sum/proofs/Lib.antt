@@ -1,5 +1,3 @@
-pub mod SidxLemmas
-pub mod AddLemmas
 pub mod PairLemmas
 pub mod RisingLemmas
 pub mod GroupLemmas
@@ -7,5 +5,3 @@ pub mod SpanLemmas
 pub mod GoodLemmas
 pub mod MapLemmas
 pub mod RunLemmas
-pub mod HeldLemmas
-pub mod RunSumLemmas

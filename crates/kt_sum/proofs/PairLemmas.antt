@@ -5,7 +5,7 @@ use Rattle.std.proofs.lemmas.Bool.{cases_eq}
 use Rattle.std.proofs.lemmas.List.{get_or-set_same, get_or-set_other, length-set}
 use Rattle.std.proofs.lemmas.List.Elements.{filter_map-append}
 use Rattle.kt_stream.specs.declared.entry.Pair.{Pair}
-use Rattle.kt_sum.specs.Summaries.{pair_of, sidx_at}
+use Rattle.kt_runs.specs.Sidx.{pair_of, sidx_at}
 use Rattle.kt_sum.specs.Adding.{IsTaking}
 
 -- one more number of a range

@@ -5,8 +5,10 @@ use Rattle.kt_stream.specs.declared.entry.LossRecord.{LossRecord}
 use Rattle.kt_stream.specs.declared.entry.Pair.{Pair}
 use Rattle.kt_stream.specs.declared.entry.SummaryRecord.{SummaryRecord}
 use Rattle.kt_sum.specs.declared.mapped.Mapped.{Mapped}
-use Rattle.kt_sum.specs.RunLosses.{AreWithin, run_loss}
-use Rattle.kt_sum.specs.Summaries.{event_of, members, pairs_of, record_with, sidx_at, sidx_range, summary_of_run}
+use Rattle.kt_runs.specs.RunLosses.{AreWithin, run_loss}
+use Rattle.kt_runs.specs.RunLosses.{event_of}
+use Rattle.kt_sum.specs.Summaries.{members, record_with, sidx_range, summary_of_run}
+use Rattle.kt_runs.specs.Sidx.{pairs_of, sidx_at}
 use Rattle.kt_sum.specs.Mapping.{record_at}
 use Rattle.kt_sum.proofs.GroupLemmas.{members_within}
 

@@ -9,8 +9,10 @@ use Rattle.std.proofs.lemmas.List.Elements.{All-from_recursion}
 use Rattle.std.proofs.lemmas.List.Sums.{fold-append}
 use Rattle.kt_stream.specs.declared.entry.LossRecord.{LossRecord}
 use Rattle.kt_stream.specs.declared.entry.Pair.{Pair}
-use Rattle.kt_sum.specs.Summaries.{end_place, least_place, pair_places, place_of, places}
-use Rattle.kt_sum.specs.Adding.{AreInside, Holds, IsInside, IsSpan}
+use Rattle.kt_sum.specs.Summaries.{end_place, least_place, pair_places, places}
+use Rattle.kt_runs.specs.Sidx.{place_of}
+use Rattle.kt_runs.specs.Adding.{AreInside, Holds, IsInside}
+use Rattle.kt_sum.specs.Adding.{IsSpan}
 
 -- the least is at most where it began
 pub least_le : (a : ℕ) (list : List ℕ) → fold min a list ≤ a

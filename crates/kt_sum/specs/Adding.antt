@@ -1,28 +1,10 @@
--- Sums sidx by sidx, in one scratch for a run.
+-- The sums of a run, in one scratch from the least sidx to the greatest.
 use Rattle.std.specs.Prelude.{◌≡◌, ℕ, ◌+◌, ◌<◌, ◌≤◌, ◌^◌, List, length, map, All, slice_index}
 use Rattle.std.specs.List.{range_with_len}
 use Rattle.kt_stream.specs.declared.entry.LossRecord.{LossRecord}
-use Rattle.kt_stream.specs.declared.entry.Pair.{Pair}
-use Rattle.kt_sum.specs.RunLosses.{loss_of}
-use Rattle.kt_sum.specs.Summaries.{place_of, sidx_at, sidx_range}
-
--- sums have so many places, and hold a loss for each
-pub record Holds (width : ℕ) (loss : ℕ → ℕ) (sums : List ℕ) : Type 0 where
-  pub width_is : length sums ≡ width
-  pub each : (k : ℕ) → k < width → slice_index sums k ≡ loss k
-
--- a place is one of the sums
-pub record IsInside (least width place : ℕ) : Type 0 where
-  pub low : least ≤ place
-  pub high : place < least + width
-
--- the places of pairs are among those of the sums
-abbrev pub AreInside : ℕ → ℕ → List Pair → Type 0
-AreInside least width pairs = All (λ pair. IsInside least width (place_of pair.sidx)) pairs
-
--- the losses of pairs are added to sums
-abbrev pub IsAdded : ℕ → List ℕ → List Pair → List ℕ → Type 0
-IsAdded least before pairs now = Holds (length before) (λ k. slice_index before k + loss_of (sidx_at (least + k)) pairs) now
+use Rattle.kt_runs.specs.Adding.{AreInside}
+use Rattle.kt_runs.specs.Sidx.{sidx_at}
+use Rattle.kt_sum.specs.Summaries.{sidx_range}
 
 -- the sums of a run begin at its least place and end behind its greatest
 pub record IsSpan (records : List LossRecord) (least width : ℕ) : Type 0 where

@@ -1,8 +1,7 @@
 -- The worked examples of docs/CALCULATION.md and docs/EXAMPLES.md, by computing.
-use Rattle.std.specs.Prelude.{◌≡◌, ℕ, true, false, cond, nat_lt, pos, negsuc, List, [], ◌∷◌, Some}
+use Rattle.std.specs.Prelude.{◌≡◌, ℕ, cond, nat_lt, pos, negsuc, List, [], ◌∷◌, Some}
 use Rattle.std.proofs.Common.{refl}
 use Rattle.kt_stream.specs.declared.entry.LossRecord.{LossRecord}
-use Rattle.kt_sum.specs.RunLosses.{goes_past}
 use Rattle.kt_sum.specs.Summaries.{summaries_by}
 
 -- a sample of an output in event 4
@@ -26,12 +25,3 @@ items =
 two_summaries : summaries_by (λ id. Some (cond (nat_lt id 3) 5 3)) (λ summary. 0) items ≡ record { event = 1; summary = 3; exposure = 0; pairs = record { sidx = pos 1; loss = 900 } ∷ [] } ∷ record { event = 1; summary = 5; exposure = 0; pairs = record { sidx = negsuc 0; loss = 300 } ∷ record { sidx = pos 2; loss = 300 } ∷ [] } ∷ []
 unfolding items
 two_summaries = refl
-
--- losses of a run at the limit, and one cent more
-at_limit : goes_past (sampled 1 5000000000000000 ∷ []) (sampled 2 5000000000000000) ≡ false
-unfolding sampled
-at_limit = refl
-
-past_limit : goes_past (sampled 1 5000000000000000 ∷ []) (sampled 2 5000000000000001) ≡ true
-unfolding sampled
-past_limit = refl

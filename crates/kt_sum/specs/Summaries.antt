@@ -1,6 +1,6 @@
 -- The summaries of a run: what the losses of its records come to in each summary of a set.
 -- The rules: docs/CALCULATION.md, "Summaries"; docs/STREAMS.md, "Records".
-use Rattle.std.specs.Prelude.{ℕ, zero, suc, ◌+◌, ◌-◌, Bool, false, cond, nat_eq, nat_lt, min, max, ℤ, pos, negsuc, List, [], ◌∷◌, map, Option, None, Some}
+use Rattle.std.specs.Prelude.{ℕ, ◌+◌, ◌-◌, Bool, false, cond, nat_eq, nat_lt, min, max, ℤ, List, [], ◌∷◌, map, Option, None, Some}
 use Rattle.std.specs.List.{filter, filter_map, flat_map, fold, range_with_len}
 use Rattle.kt_rec.specs.Rows.{Rows}
 use Rattle.kt_rec.specs.declared.perspective.Perspective.{Perspective}
@@ -8,18 +8,10 @@ use Rattle.kt_stream.specs.declared.entry.LossRecord.{LossRecord}
 use Rattle.kt_stream.specs.declared.entry.Pair.{Pair}
 use Rattle.kt_stream.specs.declared.entry.SummaryRecord.{SummaryRecord}
 use Rattle.kt_tables.specs.Lookups.{exposure_of, summary_in}
-use Rattle.kt_sum.specs.RunLosses.{run_loss}
+use Rattle.kt_runs.specs.RunLosses.{event_of, run_loss}
+use Rattle.kt_runs.specs.Sidx.{pairs_of, place_of, sidx_at}
 
 -- ---- the sidx of records
-
--- the place of a sidx among the whole numbers of 32 bits, from the least up
-abbrev pub place_of : ℤ → ℕ
-place_of (pos n) = 2147483648 + n
-place_of (negsuc n) = 2147483647 - n
-
--- the sidx at a place
-abbrev pub sidx_at : ℕ → ℤ
-sidx_at place = cond (nat_lt place 2147483648) (negsuc (2147483647 - place)) (pos (place - 2147483648))
 
 -- the places of the sidx that pairs have
 abbrev pub pair_places : List Pair → List ℕ
@@ -40,15 +32,6 @@ end_place list = fold (λ last place. max last (place + 1)) 0 list
 -- the sidx from the least that records have to the greatest, rising
 abbrev pub sidx_range : List LossRecord → List ℤ
 sidx_range records = map sidx_at (range_with_len (least_place (places records)) (end_place (places records) - least_place (places records)))
-
--- the pair of a sidx, where its loss is above 0
-abbrev pub pair_of : ℤ → ℕ → Option Pair
-pair_of sidx zero = None
-pair_of sidx (suc less) = Some (record { sidx = sidx; loss = suc less })
-
--- the pairs of sidx, in their order, where their losses are above 0
-abbrev pub pairs_of : (ℤ → ℕ) → List ℤ → List Pair
-pairs_of loss range = filter_map (λ sidx. pair_of sidx (loss sidx)) range
 
 -- ---- the records of summaries
 
@@ -79,11 +62,6 @@ rising (id ∷ ids) = insert_id id (rising ids)
 abbrev pub record_with : ℕ → ℕ → ℕ → List Pair → Option SummaryRecord
 record_with event summary exposure [] = None
 record_with event summary exposure (pair ∷ pairs) = Some (record { event = event; summary = summary; exposure = exposure; pairs = pair ∷ pairs })
-
--- the event of the records of a run
-abbrev pub event_of : List LossRecord → ℕ
-event_of [] = 0
-event_of (entry ∷ later) = entry.event
 
 -- the record of a summary: at each sidx the losses of the records that come to it, added
 abbrev pub summary_of_run : (ℕ → Option ℕ) → (ℕ → ℕ) → List LossRecord → ℕ → Option SummaryRecord

@@ -3,14 +3,14 @@
 ghost use Rattle.std.specs.Prelude.{◌≡◌, ℕ, ◌+◌, ◌<◌, ◌≤◌, ◌^◌, length, map, All, IfOk, slice_index, slice_index_or};
 ghost use Rattle.std.specs.List.{range_with_len};
 ghost use Rattle.kt_sum.specs.declared.mapped.Mapped.{Mapped};
-ghost use Rattle.kt_sum.specs.RunLosses.{run_loss};
-ghost use Rattle.kt_sum.specs.Summaries.{sidx_at, pairs_of};
-ghost use Rattle.kt_sum.specs.Adding.{Holds, AreInside};
+ghost use Rattle.kt_runs.specs.RunLosses.{run_loss};
+ghost use Rattle.kt_runs.specs.Sidx.{sidx_at, pairs_of};
+ghost use Rattle.kt_runs.specs.Adding.{Holds, AreInside};
 ghost use Rattle.kt_sum.specs.Mapping.{AreNamed, IsGroupEnd, record_at};
 
 use crate::mapped::Mapped;
-use crate::run_entry::RunEntry;
-use crate::sums::{add_pairs, take_pairs};
+use crate::sums::take_pairs;
+use kt_runs::{RunEntry, add_pairs};
 use kt_stream::Pairs;
 use std::alloc::{AllocError, Global};
 

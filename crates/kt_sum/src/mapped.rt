@@ -4,9 +4,9 @@ ghost use Rattle.std.specs.Prelude.{map, IfOk};
 ghost use Rattle.kt_tables.specs.Lookups.{summary_in};
 ghost use Rattle.kt_sum.specs.Mapping.{AreMapped, AreAllMapped};
 
-use crate::run_entry::RunEntry;
 use kt_index::{ByKey, Keyed};
 use kt_rec::Perspective;
+use kt_runs::RunEntry;
 use kt_tables::Portfolio;
 use std::alloc::{AllocError, Global};
 

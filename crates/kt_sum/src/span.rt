@@ -5,8 +5,7 @@ ghost use Rattle.std.specs.List.{fold};
 ghost use Rattle.kt_sum.specs.Summaries.{least_place, end_place, pair_places, places};
 ghost use Rattle.kt_sum.specs.Adding.{IsSpan};
 
-use crate::run_entry::RunEntry;
-use crate::sidx::place_of;
+use kt_runs::{RunEntry, place_of};
 use kt_stream::Pair;
 
 /// The least place so far, and the place behind the greatest.

@@ -3,8 +3,8 @@ pub mod Reading
 pub mod Converting
 pub mod EveLemmas
 pub mod FootprintLemmas
-pub mod Loaded
 pub mod Running
 pub mod SummaryLemmas
+mod FmLemmas
 mod GulLemmas
 mod ModelLemmas

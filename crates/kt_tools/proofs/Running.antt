@@ -42,8 +42,8 @@ reported_words read wanted status.WriteFault before after answers reported = sub
 reported_words read wanted status.NoMemory before after answers reported = memory_answers read
 
 -- the end of a tool is that of the run, where the words are its command
-pub by_command : (words : List (List ℕ)) (command : Command) (before after : World) (end answer : Status) → command_of words ≡ Ok command → answer ≡ end → ToolEnds (command_uses command) (tool_outcome command) before after end → ToolEnds (words_use (command_of words)) (outcome words) before after answer
-by_command words command before after end answer is same ends = subst (λ (read : Result Command WordStop). Ended (Finds (words_use read) before) (words_use read) (words_outcome read) before after answer) (sym is) (subst (λ (status : Status). Ended (Finds (command_uses command) before) (command_uses command) (tool_outcome command) before after status) (sym same) ends)
+pub by_command : (words : List (List ℕ)) (command : Command) (before after : World) (end answer : Status) → command_of words ≡ Ok command → answer ≡ end → ToolEnds (command_uses command) (tool_outcome words command) before after end → ToolEnds (words_use (command_of words)) (outcome words) before after answer
+by_command words command before after end answer is same ends = subst (λ (read : Result Command WordStop). Ended (Finds (words_use read) before) (words_use read) (words_outcome words read) before after answer) (sym is) (subst (λ (status : Status). Ended (Finds (command_uses command) before) (command_uses command) (tool_outcome words command) before after status) (sym same) ends)
 
 -- a command that was read
 abbrev pub command_is : Command → Result Command WordStop

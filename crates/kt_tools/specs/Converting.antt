@@ -4,7 +4,6 @@ use Rattle.std.specs.Prelude.{◌≡◌, ◌⊎◌, ◌≤◌, ◌<◌, ◌^◌,
 use Rattle.kt_out.specs.Counts.{Rose}
 use Rattle.kt_out.specs.Reading.{SourceState}
 use Rattle.kt_cells.specs.declared.stop.TableStop.{TableStop}
-use Rattle.kt_cells.specs.declared.stop.TableStop.TheVariants as stop
 use Rattle.kt_schema.specs.Conversions.{csv_bin, bin_csv}
 use Rattle.kt_words.specs.declared.command.Conversion.{Conversion}
 use Rattle.kt_words.specs.declared.command.Conversion.TheVariants.{ToFile, ToText}
@@ -16,6 +15,7 @@ use Rattle.kt_ends.specs.Stops.{stop_status}
 use Rattle.kt_ends.specs.declared.status.Status.TheVariants as status
 use Rattle.kt_ends.specs.declared.tool_stop.ToolStop.{ToolStop}
 use Rattle.kt_ends.specs.declared.tool_stop.ToolStop.TheVariants.{Refused, ReadFault, WriteFault, NoMemory}
+use Rattle.kt_loading.specs.Loading.{table_stop}
 
 -- a source has at most so many bytes
 abbrev pub source_limit : ℕ
@@ -24,15 +24,6 @@ source_limit = 2 ^ 30
 -- the name of the source in a refusal
 abbrev pub source_name : List ℕ
 source_name = codes "source"
-
--- how a table's refusal ends a tool, by the name of its file
-abbrev pub table_stop : List ℕ → TableStop → ToolStop
-table_stop name stop.NotProfile = Refused (refusal.NotProfile name)
-table_stop name (stop.WrongTable found) = Refused (refusal.WrongTable name found)
-table_stop name (stop.WrongVersion found) = Refused (refusal.WrongVersion name found)
-table_stop name (stop.CutRecord row) = Refused (refusal.CutRecord name row)
-table_stop name (stop.Bad row column cause) = Refused (refusal.Bad name row column cause)
-table_stop name stop.OutOfMemory = NoMemory
 
 -- the other form of these bytes, or the first that is wrong in them
 abbrev pub other_form : Conversion → List ℕ → Result (List ℕ) TableStop

@@ -1,12 +1,12 @@
 pub mod EltOutcome
 pub mod PltOutcome
 pub mod SummaryOutcome
-pub mod SummaryStage
 pub mod ModelOutcome
 pub mod ModelStage
 pub mod GulOutcome
+pub mod FmOutcome
+pub mod PeriodOutcome
 pub mod Outcome
 pub mod Uses
-pub mod Loading
 pub mod Converting
 pub mod FootprintText

@@ -13,7 +13,7 @@ use Rattle.kt_rec.specs.Rows.{Rows}
 use Rattle.kt_rec.specs.declared.table.Table.TheVariants as table
 use Rattle.kt_tables.specs.Lookups.{occurrences_of}
 use Rattle.kt_tables.specs.Portfolio.{PortfolioRows}
-use Rattle.kt_tools.specs.Loading.{need_of}
+use Rattle.kt_loading.specs.Loading.{need_of}
 use Rattle.kt_tools.specs.EltOutcome.{summary_contents}
 
 -- what the table is made with: whether it begins with the names of its columns, and the portfolio

@@ -6,7 +6,7 @@ ghost use Rattle.kt_ends.specs.Stops.{end_status};
 ghost use Rattle.kt_ends.specs.World.{world};
 ghost use Rattle.kt_out.specs.InputFiles.{InputsState};
 ghost use Rattle.kt_out.specs.OutputFiles.{OutputsState};
-ghost use Rattle.kt_tools.specs.Converting.{IsTableStop, MakesText, StopsText, converted, other_form, table_stop as stop_of_table};
+ghost use Rattle.kt_tools.specs.Converting.{IsTableStop, MakesText, StopsText, converted, other_form};
 ghost use Rattle.kt_tools.specs.Outcome.{convert_outcome};
 ghost use Rattle.kt_tools.specs.Uses.{ToolEnds, command_uses};
 ghost use Rattle.kt_words.specs.Command.{IsConversion};
@@ -14,10 +14,10 @@ ghost use Rattle.kt_words.specs.declared.command.Command.TheVariants as Command;
 
 use crate::whole_source::{read_whole, source_label};
 use kt_cells::TableStop;
-use kt_ends::{Refusal, ToolStop, write_stop};
+use kt_ends::{ToolStop, write_stop};
+use kt_loading::table_stop;
 use kt_money::Bytes;
 use kt_out::{Sink, Source, write_all};
-use kt_rec::Name;
 use kt_schema::{bin_to_csv, csv_to_bin};
 use kt_words::Conversion;
 use std::alloc::Global;
@@ -32,27 +32,6 @@ fn other_form_of(alloc: Global, conversion: Conversion, bytes: &[u8]) -> Result<
     match conversion {
         Conversion::ToFile { table, periods } => csv_to_bin(alloc, table, periods, bytes),
         Conversion::ToText { table } => bin_to_csv(alloc, table, bytes),
-    }
-}
-
-/// How the refusal of a table ends a tool, by the name of its file.
-pub fn table_stop(name: Name, stop: TableStop) -> ToolStop
-    ensures { result ≡ stop_of_table name stop }
-{
-    match stop {
-        TableStop::NotProfile => ToolStop::Refused(Refusal::NotProfile { name }),
-        TableStop::WrongTable { found } => ToolStop::Refused(Refusal::WrongTable { name, found }),
-        TableStop::WrongVersion { found } => {
-            ToolStop::Refused(Refusal::WrongVersion { name, found })
-        }
-        TableStop::CutRecord { row } => ToolStop::Refused(Refusal::CutRecord { name, row }),
-        TableStop::Bad { row, column, cause } => ToolStop::Refused(Refusal::Bad {
-            name,
-            row,
-            column,
-            cause,
-        }),
-        TableStop::OutOfMemory => ToolStop::NoMemory,
     }
 }
 

@@ -10,10 +10,9 @@ ghost use Rattle.kt_tools.specs.Outcome.{event_bytes as bytes_of_events, eve_out
 ghost use Rattle.kt_tools.specs.Uses.{ToolEnds, command_uses};
 ghost use Rattle.kt_words.specs.declared.command.Command.TheVariants as Command;
 
-use crate::tables::{load_stop, need_of};
 use kt_ends::{ToolStop, write_stop};
 use kt_eve::part as events_of_part;
-use kt_load::load;
+use kt_loading::{load_tables, need_of};
 use kt_money::Bytes;
 use kt_out::{Inputs, Sink, write_all};
 use kt_rec::Table;
@@ -42,9 +41,9 @@ pub fn eve<I: Inputs, K: Sink>(
     // The source and the output files are none of its objects: whatever they hold and have counted stays so.
     ensures { (outputs : OutputsState) (source : SourceState) → ToolEnds (command_uses (Command.Eve part parts)) (λ files _. eve_outcome part parts files) (world (I.state inputs.old) outputs source (K.state sink.old)) (world (I.state inputs.new) outputs source (K.state sink.new)) (end_status result) }
 {
-    let portfolio = match load(alloc, inputs, need_of(Table::Events)) {
+    let portfolio = match load_tables(alloc, inputs, need_of(Table::Events)) {
         Ok(portfolio) => portfolio,
-        Err(stop) => return Err(load_stop(stop)),
+        Err(stop) => return Err(stop),
     };
     let Ok(events) = events_of_part(portfolio.events(), part, parts) else {
         unreachable!()

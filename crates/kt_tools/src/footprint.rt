@@ -13,11 +13,11 @@ ghost use Rattle.kt_tools.specs.Uses.{ToolEnds, command_uses};
 ghost use Rattle.kt_words.specs.declared.command.Command.TheVariants as Command;
 
 use crate::convert::source_stop;
-use crate::tables::{load_stop, need_of};
 use crate::whole_source::read_whole;
 use kt_checks::first_misplaced;
 use kt_ends::{Refusal, ToolStop, write_stop};
-use kt_load::{file_name, load};
+use kt_load::file_name;
+use kt_loading::{load_tables, need_of};
 use kt_money::Bytes;
 use kt_out::{Inputs, Sink, Source, write_all};
 use kt_rec::{FootprintIdx, Table, TableId};
@@ -94,9 +94,9 @@ pub fn footprint_to_text<I: Inputs, S: Source, K: Sink>(
     // The output files are none of its objects.
     ensures { (outputs : OutputsState) → ToolEnds (command_uses Command.FootprintText) footprint_outcome (world (I.state inputs.old) outputs (S.state source.old) (K.state sink.old)) (world (I.state inputs.new) outputs (S.state source.new) (K.state sink.new)) (end_status result) }
 {
-    let portfolio = match load(alloc, inputs, need_of(Table::FootprintIdx)) {
+    let portfolio = match load_tables(alloc, inputs, need_of(Table::FootprintIdx)) {
         Ok(portfolio) => portfolio,
-        Err(stop) => return Err(load_stop(stop)),
+        Err(stop) => return Err(stop),
     };
     write_text(
         alloc,

@@ -16,10 +16,10 @@ ghost use Rattle.kt_tools.specs.Outcome.{model_outcome};
 ghost use Rattle.kt_tools.specs.Uses.{ToolEnds, command_uses};
 ghost use Rattle.kt_words.specs.declared.command.Command.TheVariants as Command;
 
-use crate::tables::{load_stop, with_table};
 use kt_checks::Need;
 use kt_ends::{Refusal, ToolStop};
-use kt_load::{foot_rows, load};
+use kt_load::foot_rows;
+use kt_loading::{load_stop, load_tables, with_table};
 use kt_loop::laws::what_is_read_can_be_taken;
 use kt_loop::{Stage, run_stage};
 use kt_model::{ModelStop, distributions};
@@ -172,9 +172,9 @@ pub fn getmodel<I: Inputs, S: Source, K: Sink>(
     // The output files are none of its objects.
     ensures { (outputs : OutputsState) → ToolEnds (command_uses Command.Getmodel) model_outcome (world (I.state inputs.old) outputs (S.state source.old) (K.state sink.old)) (world (I.state inputs.new) outputs (S.state source.new) (K.state sink.new)) (end_status result) }
 {
-    let portfolio = match load(alloc, inputs, model_need()) {
+    let portfolio = match load_tables(alloc, inputs, model_need()) {
         Ok(portfolio) => portfolio,
-        Err(stop) => return Err(load_stop(stop)),
+        Err(stop) => return Err(stop),
     };
     write_distributions(alloc, &portfolio, inputs, source, sink)
 }

@@ -16,11 +16,10 @@ ghost use Rattle.kt_tools.specs.Outcome.{gul_outcome};
 ghost use Rattle.kt_tools.specs.Uses.{ToolEnds, command_uses};
 ghost use Rattle.kt_words.specs.declared.command.Command.TheVariants as Command;
 
-use crate::tables::{load_stop, with_table};
 use kt_checks::Need;
 use kt_ends::ToolStop;
 use kt_gul::ground_up;
-use kt_load::load;
+use kt_loading::{load_tables, with_table};
 use kt_loop::laws::{runs_give_their_text, what_is_read_with_more_known_can_be_taken};
 use kt_loop::{KnownHead, KnownReader, RunStage, run_by_run};
 use kt_money::{Bytes, OutOfMemory};
@@ -47,7 +46,7 @@ fn gul_need(samples: u32) -> Need
 }
 
 /// Appends records of losses, one after the other.
-fn put_losses(out: &mut Bytes, records: &[LossRecord]) -> Result<(), OutOfMemory>
+pub(crate) fn put_losses(out: &mut Bytes, records: &[LossRecord]) -> Result<(), OutOfMemory>
     ensures { OnOk result (out.new ≡ out.old ++ flat_map loss_bytes records.now) }
 {
     for record in records {
@@ -217,9 +216,9 @@ pub fn gulcalc<I: Inputs, S: Source, K: Sink>(
     // The output files are none of its objects.
     ensures { (outputs : OutputsState) → ToolEnds (command_uses (Command.Gulcalc samples cut)) (gul_outcome samples cut) (world (I.state inputs.old) outputs (S.state source.old) (K.state sink.old)) (world (I.state inputs.new) outputs (S.state source.new) (K.state sink.new)) (end_status result) }
 {
-    let portfolio = match load(alloc, inputs, gul_need(samples)) {
+    let portfolio = match load_tables(alloc, inputs, gul_need(samples)) {
         Ok(portfolio) => portfolio,
-        Err(stop) => return Err(load_stop(stop)),
+        Err(stop) => return Err(stop),
     };
     write_losses(alloc, samples, cut, &portfolio, source, sink)
 }

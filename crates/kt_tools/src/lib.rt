@@ -4,12 +4,13 @@
 mod convert;
 mod eltcalc;
 mod eve;
+mod fmcalc;
 mod footprint;
 mod getmodel;
 mod gulcalc;
+mod period_tables;
 mod pltcalc;
 mod summarycalc;
-mod tables;
 mod top_call;
 mod whole_source;
 

@@ -10,10 +10,9 @@ ghost use Rattle.kt_tools.specs.PltOutcome.{plt_rows_outcome};
 ghost use Rattle.kt_tools.specs.Uses.{ToolEnds, command_uses};
 ghost use Rattle.kt_words.specs.declared.command.Command.TheVariants as Command;
 
-use crate::tables::{load_stop, need_of};
 use kt_elt::{plt_heading, plt_record_text};
 use kt_ends::ToolStop;
-use kt_load::load;
+use kt_loading::{load_tables, need_of};
 use kt_loop::laws::{records_give_their_rows, what_is_read_can_be_taken};
 use kt_loop::{Stage, run_stage};
 use kt_money::Bytes;
@@ -107,9 +106,9 @@ pub fn pltcalc<I: Inputs, S: Source, K: Sink>(
     // The output files are none of its objects.
     ensures { (outputs : OutputsState) → ToolEnds (command_uses (Command.Pltcalc heading)) (plt_outcome heading) (world (I.state inputs.old) outputs (S.state source.old) (K.state sink.old)) (world (I.state inputs.new) outputs (S.state source.new) (K.state sink.new)) (end_status result) }
 {
-    let portfolio = match load(alloc, inputs, need_of(Table::Occurrence)) {
+    let portfolio = match load_tables(alloc, inputs, need_of(Table::Occurrence)) {
         Ok(portfolio) => portfolio,
-        Err(stop) => return Err(load_stop(stop)),
+        Err(stop) => return Err(stop),
     };
     write_table(alloc, heading, &portfolio, source, sink)
 }

@@ -13,12 +13,15 @@ ghost use Rattle.kt_words.specs.Command.{command_of};
 use crate::convert::convert;
 use crate::eltcalc::eltcalc;
 use crate::eve::eve;
+use crate::fmcalc::fmcalc;
 use crate::footprint::footprint_to_text;
 use crate::getmodel::getmodel;
 use crate::gulcalc::gulcalc;
+use crate::period_tables::{aalcalc, leccalc};
 use crate::pltcalc::pltcalc;
 use crate::summarycalc::summarycalc;
 use kt_ends::{Status, report, status_of};
+use kt_kat::kat;
 use kt_out::{Gate, Inputs, Outputs, Sink, Source};
 use kt_words::{Command, Words, read_command};
 use std::alloc::Global;
@@ -38,6 +41,7 @@ fn carry_out<I: Inputs, S: Source, K: Sink>(
 {
     match read_command(words) {
         Err(stop) => Status::Words(stop),
+        Ok(Command::Fmcalc { rule }) => status_of(fmcalc(alloc, rule, inputs, source, sink)),
         Ok(Command::Summarycalc { items, set, rule }) => {
             status_of(summarycalc(alloc, items, set, rule, inputs, source, sink))
         }
@@ -45,6 +49,9 @@ fn carry_out<I: Inputs, S: Source, K: Sink>(
         Ok(Command::Pltcalc { heading }) => {
             status_of(pltcalc(alloc, heading, inputs, source, sink))
         }
+        Ok(Command::Aalcalc) => status_of(aalcalc(alloc, inputs, source, sink)),
+        Ok(Command::Leccalc { curve }) => status_of(leccalc(alloc, curve, inputs, source, sink)),
+        Ok(Command::Kat) => status_of(kat(alloc, words, inputs, sink)),
         Ok(Command::Getmodel) => status_of(getmodel(alloc, inputs, source, sink)),
         Ok(Command::Gulcalc { samples, cut }) => {
             status_of(gulcalc(alloc, samples, cut, inputs, source, sink))

@@ -23,7 +23,7 @@ use Rattle.kt_words.specs.declared.stop.WordCause.{WordCause}
 use Rattle.kt_words.specs.declared.stop.WordCause.TheVariants.{UnknownOption, Repeated, BadValue, Missing}
 use Rattle.kt_words.specs.declared.stop.WordStop.{WordStop}
 use Rattle.kt_words.specs.declared.tool.Tool.{Tool}
-use Rattle.kt_words.specs.declared.tool.Tool.TheVariants.{Gulcalc}
+use Rattle.kt_words.specs.declared.tool.Tool.TheVariants.{Fmcalc, Gulcalc}
 use Rattle.kt_words.specs.declared.value.Value.{Value}
 use Rattle.kt_words.specs.declared.value.Value.TheVariants as value
 
@@ -153,7 +153,7 @@ module _ (tool : Tool) (given : Given) (fits : FitsTable tool given) where
   next_kept (Some one) word text next named is = text_kept one.option one.word text next named is
   next_kept None word text next named is = own_kept word text next is
 
-  word_kept : (word : ℕ) (text : List ℕ) (next : Given) → with_word given tool word text ≡ Ok next → FitsTable tool next
+  pub word_kept : (word : ℕ) (text : List ℕ) (next : Given) → with_word given tool word text ≡ Ok next → FitsTable tool next
   word_kept word text next is = by_test (nat_lt 255 (length text)) is
     where
       by_test : (long : Bool) → (if long then Err BadValue else with_next given.awaited given tool word text) ≡ Ok next → FitsTable tool next
@@ -167,7 +167,7 @@ abbrev no_word : Option GivenWord
 no_word = None
 
 -- before the first word nothing was given
-none_fits : (tool : Tool) → FitsTable tool none_given
+pub none_fits : (tool : Tool) → FitsTable tool none_given
 none_fits tool = record {
   options = λ letter row found. subst (FitsWord (form_of row)) (sym (nothing letter)) tt;
   awaited = tt;
@@ -204,7 +204,7 @@ read_whole tool words given is = by_read (read_from tool none_given 2 (drop 1 wo
 -- ---- options with a number that are needed
 
 -- no needed option is missing
-nothing_missing : (tool : Tool) (given : Given) (count : ℕ) → finished given tool count ≡ Ok tt → is_missing given tool ≡ false
+pub nothing_missing : (tool : Tool) (given : Given) (count : ℕ) → finished given tool count ≡ Ok tt → is_missing given tool ≡ false
 nothing_missing tool given count is = by_awaited given.awaited is
   where
     by_test : (missing : Bool) → is_missing given tool ≡ missing → (if missing then refused_word (count + 1) Missing else unless_clash (clash given tool)) ≡ Ok tt → is_missing given tool ≡ false
@@ -224,13 +224,21 @@ number_said least most (Some given) there fits = by_value given.value fits
     by_value (value.Number number) is = is
     by_value said is = absurd is
 
-either : (a b : Bool) → (a || b) ≡ false → (a ≡ false) × (b ≡ false)
+pub either : (a b : Bool) → (a || b) ≡ false → (a ≡ false) × (b ≡ false)
 either true b is = cc
 either false b is = (refl, is)
 
 negated : (a : Bool) → not a ≡ false → a ≡ true
 negated true is = refl
 negated false is = cc
+
+-- the allocation rule of `fmcalc`
+pub fmcalc_rule : (given : Given) → IsRead Fmcalc given → number_or_0 (given_at given 97) ≤ 2
+fmcalc_rule given read =
+    let complete = either (wants_at (plain_of Fmcalc) (place_of given)) (lacks_some given Fmcalc || lacks_by_some_rule given Fmcalc) (nothing_missing Fmcalc given read.count read.finished) in
+    let options = either (lacks_some given Fmcalc) (lacks_by_some_rule given Fmcalc) complete.1 in
+    let rule = either (not (is_given given 97)) _ options.0 in
+    (number_said 0 2 (given_at given 97) (negated (is_given given 97) rule.0) (read.fits.options 97 (Needed 97 (form.Number 0 2)) refl)).1
 
 -- the samples of `gulcalc`
 pub gulcalc_samples : (given : Given) → IsRead Gulcalc given → (1 ≤ number_or_0 (given_at given 83)) × (number_or_0 (given_at given 83) ≤ 1000)

@@ -10,6 +10,8 @@ use Rattle.kt_words.specs.Reading.{given_by}
 use Rattle.kt_words.specs.Tools.{known_tool}
 use Rattle.kt_words.specs.declared.command.Command.{Command}
 use Rattle.kt_words.specs.declared.command.Command.TheVariants as command
+use Rattle.kt_words.specs.declared.command.CurveLetter.{CurveLetter}
+use Rattle.kt_words.specs.declared.command.CurveLetter.TheVariants.{FullAep, FullOep, SampleAep, SampleOep, WheatAep, WheatOep, WheatmeanAep, WheatmeanOep}
 use Rattle.kt_words.specs.declared.command.Conversion.{Conversion}
 use Rattle.kt_words.specs.declared.command.Conversion.TheVariants.{ToFile, ToText}
 use Rattle.kt_words.specs.declared.given.Given.{Given}
@@ -31,11 +33,15 @@ IsConversion (ToText t) = t ≡ table.Footprint → ⊥
 abbrev pub IsSet : ℕ → Type 0
 IsSet set = (1 ≤ set) × (set ≤ 9)
 
--- what every command keeps: a summary set, a conversion and a part that there is, and 1 to 1,000 samples
+-- what every command keeps: an allocation rule, a summary set, a conversion and a part that there is, and 1 to 1,000 samples
 abbrev pub IsCommand : Command → Type 0
+IsCommand (command.Fmcalc rule) = rule ≤ 2
 IsCommand (command.Summarycalc items set rule) = IsSet set
 IsCommand (command.Eltcalc heading) = Unit {0}
 IsCommand (command.Pltcalc heading) = Unit {0}
+IsCommand command.Aalcalc = Unit {0}
+IsCommand (command.Leccalc curve) = Unit {0}
+IsCommand command.Kat = Unit {0}
 IsCommand command.Getmodel = Unit {0}
 IsCommand (command.Gulcalc samples cut) = (1 ≤ samples) × (samples ≤ 1000)
 IsCommand (command.Convert conversion) = IsConversion conversion
@@ -61,6 +67,12 @@ abbrev pub set_given : Given → ℕ
 set_given given =
     if is_given given 49 then 1 else (if is_given given 50 then 2 else (if is_given given 51 then 3 else (if is_given given 52 then 4
     else (if is_given given 53 then 5 else (if is_given given 54 then 6 else (if is_given given 55 then 7 else (if is_given given 56 then 8 else 9)))))))
+
+-- the curve whose letter was given: of F f S s W w M m one was, and m is left where it is none of the others
+abbrev pub curve_given : Given → CurveLetter
+curve_given given =
+    if is_given given 70 then FullAep else (if is_given given 102 then FullOep else (if is_given given 83 then SampleAep else (if is_given given 115 then SampleOep
+    else (if is_given given 87 then WheatAep else (if is_given given 119 then WheatOep else (if is_given given 77 then WheatmeanAep else WheatmeanOep))))))
 
 abbrev pub table_in : Value → Table
 table_in (value.Table t) = t
@@ -93,12 +105,16 @@ eve_command given = part_command (number_or_0 given.first) (number_or_0 given.se
 abbrev pub summary_command : Given → Command
 summary_command given = command.Summarycalc (is_given given 105) (set_given given) (number_or (given_at given 97) 2)
 
--- the command of a tool by what its words said: of `eltcalc` and `pltcalc` whether -s was left out, of `gulcalc` the values of -S and
+-- the command of a tool by what its words said: of `fmcalc` the value of -a, of `eltcalc` and `pltcalc` whether -s was left out, of `gulcalc` the values of -S and
 -- of -a, of `tobin` the value of -P
 abbrev pub command_from : Tool → Given → Result Command WordStop
+command_from tool.Fmcalc given = Ok (command.Fmcalc (number_or_0 (given_at given 97)))
 command_from tool.Summarycalc given = Ok (summary_command given)
 command_from tool.Eltcalc given = Ok (command.Eltcalc (not (is_given given 115)))
 command_from tool.Pltcalc given = Ok (command.Pltcalc (not (is_given given 115)))
+command_from tool.Aalcalc given = Ok command.Aalcalc
+command_from tool.Leccalc given = Ok (command.Leccalc (curve_given given))
+command_from tool.Kat given = Ok command.Kat
 command_from tool.Getmodel given = Ok command.Getmodel
 command_from tool.Gulcalc given = Ok (command.Gulcalc (number_or_0 (given_at given 83)) (number_or_0 (given_at given 97) == 1))
 command_from tool.Tobin given = Ok (command.Convert (ToFile (table_or_first given.first) (number_or_0 (given_at given 80))))

@@ -7,4 +7,5 @@ pub mod Given
 pub mod Judging
 pub mod Reading
 pub mod Fits
+pub mod FileNames
 pub mod Command

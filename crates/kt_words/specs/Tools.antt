@@ -26,10 +26,6 @@ tool_name Gen = codes "gen"
 
 -- the tools that are built: all but these
 abbrev pub is_built : Tool → Bool
-is_built Fmcalc = false
-is_built Aalcalc = false
-is_built Leccalc = false
-is_built Kat = false
 is_built Chain = false
 is_built Gen = false
 is_built tool = true

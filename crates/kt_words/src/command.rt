@@ -1,9 +1,11 @@
 //! What the words of a call ask for.
 //! The rules: docs/COMMANDS.md, "Words".
-ghost use Rattle.std.specs.Prelude.{◌≡◌, IfOk};
+ghost use Rattle.std.specs.Prelude.{◌≡◌, Ok, IfOk};
 ghost use Rattle.kt_eve.specs.Parts.{has_part};
+ghost use Rattle.kt_words.specs.FileNames.{file_names, AreFileNames};
 ghost use Rattle.kt_words.specs.Fits.{IsRead};
-ghost use Rattle.kt_words.specs.Command.{number_or_0, number_or, table_or_first, word_or_0, set_given, summary_command, to_text, eve_command, command_from, command_of, IsSet, IsCommand};
+ghost use Rattle.kt_words.specs.Command.{number_or_0, number_or, table_or_first, word_or_0, set_given, curve_given, summary_command, to_text, eve_command, command_from, command_of, IsSet, IsCommand};
+ghost use Rattle.kt_words.specs.declared.command.Command.TheVariants.{Kat};
 
 use crate::given::{Given, GivenWord};
 use crate::judging::refused;
@@ -31,9 +33,36 @@ pub enum Conversion {
     },
 }
 
+/// The letter of a loss exceedance curve. In upper case it ranks the totals of the periods (aep), in lower case their greatest
+/// losses (oep).
+#[derive(Clone, Copy, Debug, PartialEq, Eq)]
+pub enum CurveLetter {
+    /// `F`: full, by totals.
+    FullAep,
+    /// `f`: full, by greatest losses.
+    FullOep,
+    /// `S`: the mean of the samples of each period, by totals.
+    SampleAep,
+    /// `s`: the mean of the samples of each period, by greatest losses.
+    SampleOep,
+    /// `W`: each sample by itself, by totals.
+    WheatAep,
+    /// `w`: each sample by itself, by greatest losses.
+    WheatOep,
+    /// `M`: the mean of the samples at each rank, by totals.
+    WheatmeanAep,
+    /// `m`: the mean of the samples at each rank, by greatest losses.
+    WheatmeanOep,
+}
+
 /// What the words ask for.
 #[derive(Clone, Copy, Debug, PartialEq, Eq)]
 pub enum Command {
+    /// Insured losses.
+    Fmcalc {
+        /// The allocation rule, from 0 to 2.
+        rule: u32,
+    },
     /// The losses of the summaries of a set.
     Summarycalc {
         /// Whether the losses are those of items, else of outputs of a programme.
@@ -53,6 +82,15 @@ pub enum Command {
         /// Whether the table begins with the names of its columns.
         heading: bool,
     },
+    /// The average annual losses of a summary stream.
+    Aalcalc,
+    /// A loss exceedance curve of a summary stream.
+    Leccalc {
+        /// Which curve.
+        curve: CurveLetter,
+    },
+    /// The streams of some files as one. The names of the files are all words behind the first.
+    Kat,
     /// The damage distributions of events.
     Getmodel,
     /// The ground-up losses of a stream of damage distributions.
@@ -154,6 +192,35 @@ fn set_given(given: &Given) -> u32
     if given.has(b'8') { 8 } else { 9 }
 }
 
+/// The first curve whose letter was given, in the order of the letters F f S s W w M; `m` where none of these was.
+fn curve_given(given: &Given) -> CurveLetter
+    ensures { result ≡ curve_given given.now }
+{
+    if given.has(b'F') {
+        return CurveLetter::FullAep;
+    }
+    if given.has(b'f') {
+        return CurveLetter::FullOep;
+    }
+    if given.has(b'S') {
+        return CurveLetter::SampleAep;
+    }
+    if given.has(b's') {
+        return CurveLetter::SampleOep;
+    }
+    if given.has(b'W') {
+        return CurveLetter::WheatAep;
+    }
+    if given.has(b'w') {
+        return CurveLetter::WheatOep;
+    }
+    if given.has(b'M') {
+        CurveLetter::WheatmeanAep
+    } else {
+        CurveLetter::WheatmeanOep
+    }
+}
+
 /// The summaries of the set that the words named.
 fn summary_command(given: &Given) -> Command
     ensures value { result ≡ summary_command given.now }
@@ -204,6 +271,9 @@ fn tool_command(tool: Tool, given: &Given) -> Result<Command, WordStop>
     ensures keeps { IfOk result (λ command. IsCommand command) }
 {
     match tool {
+        Tool::Fmcalc => Ok(Command::Fmcalc {
+            rule: number(given.option(b'a')),
+        }),
         Tool::Summarycalc => Ok(summary_command(given)),
         Tool::Eltcalc => Ok(Command::Eltcalc {
             heading: !given.has(b's'),
@@ -211,6 +281,11 @@ fn tool_command(tool: Tool, given: &Given) -> Result<Command, WordStop>
         Tool::Pltcalc => Ok(Command::Pltcalc {
             heading: !given.has(b's'),
         }),
+        Tool::Aalcalc => Ok(Command::Aalcalc),
+        Tool::Leccalc => Ok(Command::Leccalc {
+            curve: curve_given(given),
+        }),
+        Tool::Kat => Ok(Command::Kat),
         Tool::Getmodel => Ok(Command::Getmodel),
         Tool::Gulcalc => Ok(Command::Gulcalc {
             samples: number(given.option(b'S')),
@@ -228,10 +303,12 @@ fn tool_command(tool: Tool, given: &Given) -> Result<Command, WordStop>
 
 /// The command that the words are, or the first faulty word. No words have a first that is missing. A first word that is
 /// no built tool is an unknown tool. Behind it each word is judged by itself, from left to right; then come the words
-/// that are missing, those that do not go together, and a part that there is not.
+/// that are missing, those that do not go together, and a part that there is not. Where it is `Kat`, the words behind the first are
+/// one or more names of files.
 pub fn read_command(words: &Words) -> Result<Command, WordStop>
     ensures value { result ≡ command_of words.now }
     ensures keeps { IfOk result (λ command. IsCommand command) }
+    ensures names { result ≡ Ok Kat → AreFileNames (file_names words.now) }
 {
     if words.len() == 0 {
         return refused(1, WordCause::Missing);

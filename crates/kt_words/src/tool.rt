@@ -87,8 +87,7 @@ impl Tool {
         ensures { result ≡ built_one self }
     {
         match self {
-            Tool::Fmcalc | Tool::Aalcalc | Tool::Leccalc | Tool::Kat | Tool::Chain | Tool::Gen =>
-                false,
+            Tool::Chain | Tool::Gen => false,
             _ => true,
         }
     }

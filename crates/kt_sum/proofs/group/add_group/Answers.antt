@@ -3,12 +3,12 @@ use Rattle.std.proofs.lemmas.List.{length-map}
 use Rattle.kt_stream.specs.declared.entry.LossRecord.{LossRecord}
 use Rattle.kt_stream.specs.declared.entry.Pair.{Pair}
 use Rattle.kt_sum.specs.declared.mapped.Mapped.{Mapped}
-use Rattle.kt_sum.specs.RunLosses.{loss_of}
-use Rattle.kt_sum.specs.Summaries.{sidx_at}
-use Rattle.kt_sum.specs.Adding.{AreInside}
+use Rattle.kt_runs.specs.RunLosses.{loss_of}
+use Rattle.kt_runs.specs.Sidx.{sidx_at}
+use Rattle.kt_runs.specs.Adding.{AreInside}
 use Rattle.kt_sum.specs.Mapping.{no_record}
 use Rattle.kt_sum.proofs.GroupLemmas.{named_within}
-use Rattle.kt_sum.proofs.HeldLemmas.{entry_at}
+use Rattle.kt_runs.specs.HeldLaws.{entry_at}
 use Rattle.kt_sum.proofs.group.add_group.Goals as goal
 
 pub add_pairs-requires-clause-inside : goal.add_pairs-requires-clause-inside

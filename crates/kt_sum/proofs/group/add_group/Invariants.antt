@@ -1,8 +1,8 @@
 -- The losses of the records so far are added.
 use Rattle.std.proofs.Common.{◌+◌, length, map, slice_index, take}
-use Rattle.kt_sum.specs.RunLosses.{run_loss}
-use Rattle.kt_sum.specs.Summaries.{sidx_at}
-use Rattle.kt_sum.specs.Adding.{Holds}
+use Rattle.kt_runs.specs.RunLosses.{run_loss}
+use Rattle.kt_runs.specs.Sidx.{sidx_at}
+use Rattle.kt_runs.specs.Adding.{Holds}
 use Rattle.kt_sum.specs.Mapping.{record_at}
 use Rattle.kt_sum.proofs.group.add_group.Given as goal
 

@@ -1,8 +1,8 @@
 use Rattle.std.proofs.Common.{◌≡◌, length, map, ◌∙◌}
 use Rattle.std.specs.List.{range_with_len}
 use Rattle.std.proofs.lemmas.Result.{IfOk-weaker}
-use Rattle.kt_sum.specs.RunLosses.{run_loss}
-use Rattle.kt_sum.specs.Summaries.{pairs_of, sidx_at}
+use Rattle.kt_runs.specs.RunLosses.{run_loss}
+use Rattle.kt_runs.specs.Sidx.{pairs_of, sidx_at}
 use Rattle.kt_sum.specs.Mapping.{record_at}
 use Rattle.kt_sum.proofs.GroupLemmas.{pairs_are}
 use Rattle.kt_sum.proofs.group.group_pairs.Goals as goal

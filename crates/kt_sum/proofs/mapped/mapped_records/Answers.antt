@@ -2,7 +2,7 @@ use Rattle.std.proofs.Common.{◌<◌, length, map, sym, ap, arith, ◌∙◌}
 use Rattle.std.proofs.lemmas.List.{length-map}
 use Rattle.kt_stream.specs.declared.entry.LossRecord.{LossRecord}
 use Rattle.kt_tables.specs.Lookups.{summary_in}
-use Rattle.kt_sum.proofs.HeldLemmas.{entry_at}
+use Rattle.kt_runs.specs.HeldLaws.{entry_at}
 use Rattle.kt_sum.proofs.MapLemmas.{mapped_none, mapped_some}
 use Rattle.kt_sum.proofs.mapped.mapped_records.Goals as goal
 use Rattle.kt_sum.proofs.mapped.mapped_records.Goals.{in-Some+in_ok-push, in_default}

@@ -1,6 +1,6 @@
 use Rattle.std.proofs.Common.{map, ap, subst, ◌∙◌}
 use Rattle.kt_tables.specs.Lookups.{exposure_of, summary_in}
-use Rattle.kt_sum.specs.Adding.{Holds}
+use Rattle.kt_runs.specs.Adding.{Holds}
 use Rattle.kt_sum.specs.Mapping.{record_at}
 use Rattle.kt_sum.proofs.GroupLemmas.{group_members, left_later}
 use Rattle.kt_sum.proofs.MapLemmas.{left_all}

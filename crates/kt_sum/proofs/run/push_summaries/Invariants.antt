@@ -1,7 +1,7 @@
 -- The summaries of the mapped records before the rest are made, and the sums are 0.
 use Rattle.std.proofs.Common.{length, map}
 use Rattle.kt_tables.specs.Lookups.{exposure_of, summary_in}
-use Rattle.kt_sum.specs.Adding.{Holds}
+use Rattle.kt_runs.specs.Adding.{Holds}
 use Rattle.kt_sum.specs.Mapping.{IsLeft}
 use Rattle.kt_sum.proofs.run.push_summaries.Given as goal
 

@@ -1,6 +1,6 @@
 use Rattle.std.proofs.Common.{◌+◌, ◌<◌, length, map, min, max, arith}
 use Rattle.std.proofs.lemmas.List.{length-map}
-use Rattle.kt_sum.proofs.HeldLemmas.{entry_at}
+use Rattle.kt_runs.specs.HeldLaws.{entry_at}
 use Rattle.kt_sum.proofs.SpanLemmas.{end_more}
 use Rattle.kt_sum.proofs.span.ends_of.Goals as goal
 

@@ -1,7 +1,7 @@
 -- The sums so far are taken.
 use Rattle.std.proofs.Common.{◌≡◌, ◌+◌, slice_index}
 use Rattle.std.specs.List.{filter_map, range_with_len}
-use Rattle.kt_sum.specs.Summaries.{pair_of, sidx_at}
+use Rattle.kt_runs.specs.Sidx.{pair_of, sidx_at}
 use Rattle.kt_sum.specs.Adding.{IsTaking}
 use Rattle.kt_sum.proofs.sums.take_pairs.Given as goal
 

@@ -1,35 +1,16 @@
-use Rattle.std.proofs.Common.{◌≡◌, ℕ, List, Ok, ap, refl, subst, sym, ◌∙◌}
-use Rattle.std.specs.Prelude.{IfSome, Bool}
-use Rattle.kt_ends.specs.Ending.{Ended}
-use Rattle.kt_ends.specs.Endings.{ends_as}
-use Rattle.kt_ends.specs.Outcome.{Outcome}
-use Rattle.kt_ends.specs.Stops.{end_status}
-use Rattle.kt_ends.specs.World.{Finds, Uses, World, world}
-use Rattle.kt_load.specs.Ends.{TellsLoad}
-use Rattle.kt_load.specs.Loaded.{loaded}
-use Rattle.kt_out.specs.InputFiles.{InputsState}
-use Rattle.kt_out.specs.NamedFiles.{FileMap}
-use Rattle.kt_rec.specs.Rows.{Rows}
-use Rattle.kt_rec.specs.declared.table.Table.TheVariants as table
-use Rattle.kt_tools.specs.Loading.{need_of}
-use Rattle.kt_tools.specs.Outcome.{plt_outcome}
+use Rattle.std.proofs.Common.{refl, subst}
+use Rattle.kt_loading.specs.Loaded.{EndsLoaded, EndsUnloaded}
 use Rattle.kt_tools.specs.PltOutcome.{plt_rows_outcome}
 use Rattle.kt_tools.specs.Uses.{command_uses}
 use Rattle.kt_words.specs.declared.command.Command.TheVariants.{Pltcalc}
-use Rattle.kt_tools.proofs.Loaded.{ends_unloaded, is_loaded}
 use Rattle.kt_tools.proofs.pltcalc.pltcalc.Goals as goal
 
 pub returns-in-Err : goal.returns-in-Err
 returns-in-Err g c outputs =
-    let told = subst (λ n. IfSome (g.I.Inputs.state c.args.inputs.now).held (λ files. TellsLoad (loaded files n) c.in-Err.stop)) c.need_of.ensures c.in-Err.ensures.exact in
-    rw c.load_stop.ensures (ends_unloaded (command_uses (Pltcalc c.args.heading)) (need_of table.Occurrence) (plt_rows_outcome c.args.heading) _ _ outputs _ _ refl c.in-Err.stop told c.in-Err.ensures.inputs)
+    subst (λ need. EndsUnloaded (g.I.Inputs.state c.args.inputs.now) (g.I.Inputs.state c.load_tables.new.inputs) need c.in-Err.stop) c.need_of.ensures c.in-Err.ensures.unloaded
+    (command_uses (Pltcalc c.args.heading)) (λ files. plt_rows_outcome c.args.heading) outputs _ _ refl
 
 pub returns : goal.returns
 returns g c outputs =
-    let are = subst (λ n. IfSome (g.I.Inputs.state c.args.inputs.now).held (λ files. loaded files n ≡ Ok c.in-Ok.portfolio.rows)) c.need_of.ensures c.in-Ok.ensures.exact in
-    let uses : Uses = command_uses (Pltcalc c.args.heading) in
-    let at : InputsState → World = λ state. world state outputs (g.S.Source.state c.args.source.now) (g.K.Sink.state c.args.sink.now) in
-    let after : World = world (g.I.Inputs.state c.load.new.inputs) outputs (g.S.Source.state c.write_table.new.source) (g.K.Sink.state c.write_table.new.sink) in
-    let made : FileMap → List ℕ → Outcome = λ files bytes. plt_rows_outcome c.args.heading c.in-Ok.portfolio.rows bytes in
-    let ends = subst (λ (state : InputsState). Ended (Finds uses (at state)) uses made (at state) after (end_status c.write_table.result)) c.in-Ok.ensures.inputs (c.write_table.ensures (g.I.Inputs.state c.load.new.inputs) outputs) in
-    ends_as (Finds uses (at (g.I.Inputs.state c.args.inputs.now))) _ uses made (plt_outcome c.args.heading) _ _ (end_status c.write_table.result) (λ files bytes finds. (finds, sym (is_loaded uses (need_of table.Occurrence) (plt_rows_outcome c.args.heading) _ (g.I.Inputs.state c.load.new.inputs) outputs _ _ refl c.in-Ok.portfolio.rows are files bytes finds))) ends
+    subst (λ need. EndsLoaded (g.I.Inputs.state c.args.inputs.now) (g.I.Inputs.state c.load_tables.new.inputs) need c.in-Ok.portfolio.rows) c.need_of.ensures c.in-Ok.ensures.loaded
+    (command_uses (Pltcalc c.args.heading)) (λ files. plt_rows_outcome c.args.heading) outputs _ _ _ _ refl (c.write_table.ensures (g.I.Inputs.state c.load_tables.new.inputs) outputs)

@@ -1,0 +1,15 @@
+//! Ids by rising number, each once.
+ghost use Rattle.std.specs.Prelude.{◌≡◌, IfOk};
+ghost use Rattle.kt_tree.specs.Rising.{rising};
+
+use std::alloc::AllocError;
+
+/// The ids by rising number, each once. An error is want of memory.
+pub fn rising(ids: Vec<u32>) -> Result<Vec<u32>, AllocError>
+    ensures value { IfOk result (λ sorted. sorted.items ≡ rising ids.items) }
+{
+    let mut ids = ids;
+    ids.sort()?;
+    ids.dedup();
+    Ok(ids)
+}

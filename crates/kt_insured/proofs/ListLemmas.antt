@@ -1,0 +1,202 @@
+-- Lists that are looked up, and lists behind each other.
+use Rattle.std.proofs.Common.{◌≡◌, ℕ, zero, suc, ◌+◌, ◌-◌, ◌<◌, ◌≤◌, ◌||◌, Bool, true, false, cond, nat_eq, List, [], ◌∷◌, ◌++◌, Option, Some, None, length, map, take, drop, slice_index, slice_index_or, refl, sym, ap, ◌∙◌, arith, add-one, append_assoc, append-nil, drop-cons, ◌*◌}
+use Rattle.std.specs.Prelude.{unwrap_or}
+use Rattle.std.specs.List.{AllByRecursion, cons_option, filter, filter_map, list_any, range_with_len, sum, sum_by, zip}
+use Rattle.std.specs.Map.{lookup}
+use Rattle.std.specs.Cmp.{nat_eq_equiv}
+use Rattle.std.specs.Option.{option_or}
+use Rattle.std.proofs.lemmas.Bool.{eqb-true}
+use Rattle.std.proofs.lemmas.List.{map-append, take_more}
+use Rattle.std.proofs.lemmas.List.Elements.{filter_map-append}
+use Rattle.std.proofs.lemmas.List.Sums.{sum_by-cons}
+
+-- ---- lookups
+
+-- a lookup in two lists behind each other
+pub lookup-append : {K X : Type 0} (test : K → Bool) (xs ys : List (K × X)) → lookup test (xs ++ ys) ≡ option_or (lookup test xs) (lookup test ys)
+lookup-append test [] ys = refl
+lookup-append test (x ∷ xs) ys = by (test x.0) (lookup-append test xs ys)
+  where
+    by : (b : Bool) → lookup test (xs ++ ys) ≡ option_or (lookup test xs) (lookup test ys) → cond b (Some x.1) (lookup test (xs ++ ys)) ≡ option_or (cond b (Some x.1) (lookup test xs)) (lookup test ys)
+    by true rest = refl
+    by false rest = rest
+
+-- lists behind each other, paired
+pub zip-append : {K X : Type 0} (ks ls : List K) (xs ys : List X) → length ks ≡ length xs → zip (ks ++ ls) (xs ++ ys) ≡ zip ks xs ++ zip ls ys
+zip-append [] ls [] ys same = refl
+zip-append [] ls (x ∷ xs) ys same = absurd (omega arith)
+zip-append (k ∷ ks) ls [] ys same = absurd (omega arith)
+zip-append (k ∷ ks) ls (x ∷ xs) ys same = ap (λ rest. (k, x) ∷ rest) (zip-append ks ls xs ys (omega arith))
+
+-- an id that is not among ids is not found
+pub lookup-none : (id : ℕ) (ids values : List ℕ) → list_any (nat_eq id) ids ≡ false → lookup (nat_eq id) (zip ids values) ≡ None
+lookup-none id [] values none = refl
+lookup-none id (other ∷ ids) [] none = refl
+lookup-none id (other ∷ ids) (value ∷ values) none = by (nat_eq id other) none (lookup-none id ids values)
+  where
+    by : (b : Bool) → (b || list_any (nat_eq id) ids) ≡ false → (list_any (nat_eq id) ids ≡ false → lookup (nat_eq id) (zip ids values) ≡ None) → cond b (Some value) (lookup (nat_eq id) (zip ids values)) ≡ None
+    by true none rest = let clash : true ≡ false = none in cc
+    by false none rest = rest none
+
+-- what is found is not more than all
+pub lookup-few : {K : Type 0} (test : K → Bool) (keys : List K) (values : List ℕ) → unwrap_or (lookup test (zip keys values)) 0 ≤ sum values
+lookup-few test [] values = omega arith
+lookup-few test (key ∷ keys) [] = omega arith
+lookup-few test (key ∷ keys) (value ∷ values) = by (test key) (lookup-few test keys values)
+  where
+    by : (b : Bool) → unwrap_or (lookup test (zip keys values)) 0 ≤ sum values → unwrap_or (cond b (Some value) (lookup test (zip keys values))) 0 ≤ sum (value ∷ values)
+    by true rest = omega (arith, sum_by-cons (λ (n : ℕ). n) value values)
+    by false rest = omega (arith, rest, sum_by-cons (λ (n : ℕ). n) value values)
+
+-- what stands at the first place of a key: no place, and nothing is found
+pub place-none : {K : Type 0} (test : K → Bool) (a : ℕ) (keys : List K) (values : List ℕ) → lookup test (zip keys (range_with_len a (length keys))) ≡ None → lookup test (zip keys values) ≡ None
+place-none test a [] values none = refl
+place-none test a (key ∷ keys) [] none = refl
+place-none test a (key ∷ keys) (value ∷ values) none = by (test key) none (place-none test (a + 1) keys values)
+  where
+    by : (b : Bool) → cond b (Some a) (lookup test (zip keys (range_with_len (a + 1) (length keys)))) ≡ None → (lookup test (zip keys (range_with_len (a + 1) (length keys))) ≡ None → lookup test (zip keys values) ≡ None) → cond b (Some value) (lookup test (zip keys values)) ≡ None
+    by true none rest = cc
+    by false none rest = rest none
+
+-- a place, and the value in it is found
+pub record IsFoundAt (values : List ℕ) (a many place : ℕ) (found : Option ℕ) : Type 0 where
+  pub low : a ≤ place
+  pub high : place < a + many
+  pub found_is : found ≡ Some (slice_index values (place - a))
+
+pub place-some : {K : Type 0} (test : K → Bool) (a : ℕ) (keys : List K) (values : List ℕ) (place : ℕ) → length values ≡ length keys → lookup test (zip keys (range_with_len a (length keys))) ≡ Some place → IsFoundAt values a (length keys) place (lookup test (zip keys values))
+place-some test a [] values place same some = cc
+place-some test a (key ∷ keys) [] place same some = absurd (omega arith)
+place-some test a (key ∷ keys) (value ∷ values) place same some = by (test key) some (place-some test (a + 1) keys values place (omega arith))
+  where
+    some-is : (one other : ℕ) → Some one ≡ Some other → one ≡ other
+    some-is one other is = ap (λ (found : Option ℕ). unwrap_or found 0) is
+
+    by : (b : Bool) → cond b (Some a) (lookup test (zip keys (range_with_len (a + 1) (length keys)))) ≡ Some place → (lookup test (zip keys (range_with_len (a + 1) (length keys))) ≡ Some place → IsFoundAt values (a + 1) (length keys) place (lookup test (zip keys values))) → IsFoundAt (value ∷ values) a (length (key ∷ keys)) place (cond b (Some value) (lookup test (zip keys values)))
+    by true some rest =
+        let here : a ≡ place = some-is a place some in
+        record {
+          low = omega arith;
+          high = omega arith;
+          found_is = let none : place - a ≡ 0 = omega arith in ap (λ n. Some (slice_index (value ∷ values) n)) (sym none);
+        }
+    by false some rest =
+        let later = rest some in
+        let low = later.low in
+        let high = later.high in
+        let next : place - a ≡ suc (place - (a + 1)) = omega arith in
+        record {
+          low = omega arith;
+          high = omega arith;
+          found_is = later.found_is ∙ ap (λ n. Some (slice_index (value ∷ values) n)) (sym next);
+        }
+
+-- ---- filters
+
+-- what follows from a value that may be absent
+abbrev pub followed : {X Y : Type 0} → Option X → (X → Option Y) → Option Y
+followed None follow = None
+followed (Some x) follow = follow x
+
+-- what one makes of what another made
+pub filter_map-twice : {X Y Z : Type 0} (f : Y → Option Z) (g : X → Option Y) (xs : List X) → filter_map f (filter_map g xs) ≡ filter_map (λ x. followed (g x) f) xs
+filter_map-twice f g [] = refl
+filter_map-twice {Y = Y} f g (x ∷ xs) = by (g x) (filter_map-twice f g xs)
+  where
+    by : (found : Option Y) → filter_map f (filter_map g xs) ≡ filter_map (λ x. followed (g x) f) xs → filter_map f (cons_option found (filter_map g xs)) ≡ cons_option (followed found f) (filter_map (λ x. followed (g x) f) xs)
+    by None rest = rest
+    by (Some y) rest = ap (cons_option (f y)) rest
+
+-- what agrees for each makes the same
+pub filter_map-agree : {X Y : Type 0} (f g : X → Option Y) (xs : List X) → AllByRecursion (λ x. f x ≡ g x) xs → filter_map f xs ≡ filter_map g xs
+filter_map-agree f g [] same = refl
+filter_map-agree f g (x ∷ xs) same = ap (λ one. cons_option one (filter_map f xs)) same.0 ∙ ap (cons_option (g x)) (filter_map-agree f g xs same.1)
+
+-- what is made of what each becomes
+pub filter_map-map : {X Y Z : Type 0} (f : Y → Option Z) (g : X → Y) (xs : List X) → filter_map f (map g xs) ≡ filter_map (λ x. f (g x)) xs
+filter_map-map f g [] = refl
+filter_map-map f g (x ∷ xs) = ap (cons_option (f (g x))) (filter_map-map f g xs)
+
+-- what holds of each number of a range
+pub each-range : (P : ℕ → Type 0) (a n : ℕ) → ((k : ℕ) → a ≤ k → k < a + n → P k) → AllByRecursion P (range_with_len a n)
+each-range P a zero all = tt
+each-range P a (suc n) all = (all a (omega arith) (omega arith), each-range P (a + 1) n (λ k low high. all k (omega arith) (omega arith)))
+
+-- an id is not among those that pass a test which it fails
+pub filter-absent : (test : ℕ → Bool) (id : ℕ) (ids : List ℕ) → test id ≡ false → list_any (nat_eq id) (filter test ids) ≡ false
+filter-absent test id [] fails = refl
+filter-absent test id (other ∷ ids) fails = by (nat_eq id other) refl (test other) refl (filter-absent test id ids fails)
+  where
+    by : (a : Bool) → nat_eq id other ≡ a → (b : Bool) → test other ≡ b → list_any (nat_eq id) (filter test ids) ≡ false → list_any (nat_eq id) (cond b (other ∷ filter test ids) (filter test ids)) ≡ false
+    by a same false other_fails rest = rest
+    by true same true passes rest = let clash : true ≡ false = sym passes ∙ (ap test (sym (eqb-true id other same)) ∙ fails) in cc
+    by false same true passes rest = ap (λ c. c || list_any (nat_eq id) (filter test ids)) same ∙ rest
+
+-- ---- one more of a list
+
+-- what each becomes, behind others
+pub pushed-more : {X Y : Type 0} (f : X → Y) (xs : List X) (old now next : List Y) (i : ℕ) (d : X) → i < length xs → now ≡ old ++ map f (take i xs) → next ≡ now ++ f (slice_index_or xs i d) ∷ [] → next ≡ old ++ map f (take (i + 1) xs)
+pushed-more f xs old now next i d below now_is next_is =
+    next_is
+    ∙ (ap (λ front. front ++ f (slice_index_or xs i d) ∷ []) now_is
+    ∙ (append_assoc old (map f (take i xs)) (f (slice_index_or xs i d) ∷ [])
+    ∙ ap (λ made. old ++ made) (sym (ap (map f) (take_more xs i d below) ∙ map-append f (take i xs) (slice_index_or xs i d ∷ [])))))
+
+-- what is made of each
+pub made-more : {X Y : Type 0} (f : X → Option Y) (xs : List X) (now next : List Y) (i : ℕ) (d : X) → i < length xs → now ≡ filter_map f (take i xs) → next ≡ now ++ cons_option (f (slice_index_or xs i d)) [] → next ≡ filter_map f (take (i + 1) xs)
+made-more f xs now next i d below now_is next_is =
+    next_is
+    ∙ (ap (λ front. front ++ cons_option (f (slice_index_or xs i d)) []) now_is
+    ∙ sym (ap (filter_map f) (take_more xs i d below) ∙ filter_map-append f (take i xs) (slice_index_or xs i d ∷ [])))
+
+-- and of each number of a range
+pub counted-more : {Y : Type 0} (f : ℕ → Option Y) (n : ℕ) (now next : List Y) → now ≡ filter_map f (range_with_len 0 n) → next ≡ now ++ cons_option (f n) [] → next ≡ filter_map f (range_with_len 0 (n + 1))
+counted-more f n now next now_is next_is =
+    next_is
+    ∙ (ap (λ front. front ++ cons_option (f n) []) now_is
+    ∙ sym (ap (filter_map f) (ap (range_with_len 0) (add-one n) ∙ last 0 n n (omega arith)) ∙ filter_map-append f (range_with_len 0 n) (n ∷ [])))
+  where
+    last : (a n j : ℕ) → a + n ≡ j → range_with_len a (suc n) ≡ range_with_len a n ++ j ∷ []
+    last a zero j e = let same : a ≡ j = omega arith in ap (λ k. k ∷ []) same
+    last a (suc n) j e = ap (λ l. a ∷ l) (last (a + 1) n j (omega arith))
+
+-- numbers of a range, added
+pub summed-more : (f : ℕ → ℕ) (a n : ℕ) → sum_by f (range_with_len a (n + 1)) ≡ sum_by f (range_with_len a n) + f (a + n)
+summed-more f a n = ap (λ m. sum_by f (range_with_len a m)) (add-one n) ∙ from a n
+  where
+    from : (a n : ℕ) → sum_by f (range_with_len a (suc n)) ≡ sum_by f (range_with_len a n) + f (a + n)
+    from a zero = let e : a + 0 ≡ a = omega arith in omega (arith, sum_by-cons f a [], ap f e)
+    from a (suc n) = let e : a + 1 + n ≡ a + suc n = omega arith in omega (arith, sum_by-cons f a (range_with_len (a + 1) (suc n)), sum_by-cons f a (range_with_len (a + 1) n), from (a + 1) n, ap f e)
+
+-- what is left of a list at a place in it
+pub left-at : {X : Type 0} (xs : List X) (place : ℕ) (d : X) → place < length xs → drop place xs ≡ slice_index_or xs place d ∷ drop (place + 1) xs
+left-at xs place d below = rw (add-one, drop-cons xs place d) refl
+
+-- nothing is left behind the last
+pub left-none : {X : Type 0} (xs : List X) (n : ℕ) → length xs ≤ n → drop n xs ≡ []
+left-none [] zero past = refl
+left-none [] (suc n) past = refl
+left-none (x ∷ xs) zero past = absurd (omega arith)
+left-none (x ∷ xs) (suc n) past = left-none xs n (omega arith)
+
+-- with one that is made, and with one that is not
+pub made-push : {X Y : Type 0} (f : X → Option Y) (xs : List X) (now next : List Y) (i : ℕ) (d : X) (y : Y) → i < length xs → now ≡ filter_map f (take i xs) → f (slice_index_or xs i d) ≡ Some y → next ≡ now ++ y ∷ [] → next ≡ filter_map f (take (i + 1) xs)
+made-push f xs now next i d y below now_is found next_is = made-more f xs now next i d below now_is (next_is ∙ ap (λ one. now ++ cons_option one []) (sym found))
+
+pub made-skip : {X Y : Type 0} (f : X → Option Y) (xs : List X) (now : List Y) (i : ℕ) (d : X) → i < length xs → now ≡ filter_map f (take i xs) → f (slice_index_or xs i d) ≡ None → now ≡ filter_map f (take (i + 1) xs)
+made-skip f xs now i d below now_is none = made-more f xs now now i d below now_is (sym (append-nil now) ∙ ap (λ one. now ++ cons_option one []) (sym none))
+
+-- numbers of a range that are each at most 10^16
+pub summed-few : (f : ℕ → ℕ) (a n : ℕ) → ((k : ℕ) → a ≤ k → k < a + n → f k ≤ 10000000000000000) → sum_by f (range_with_len a n) ≤ n * 10000000000000000
+summed-few f a zero few = omega arith
+summed-few f a (suc n) few = omega (arith, sum_by-cons f a (range_with_len (a + 1) n), few a (omega arith) (omega arith), summed-few f (a + 1) n (λ k low high. few k (omega arith) (omega arith)))
+
+-- the id in a place is one of the ids
+pub member-at : (ids : List ℕ) (place : ℕ) → place < length ids → list_any (nat_eq (slice_index ids place)) ids ≡ true
+member-at [] place below = absurd (omega arith)
+member-at (id ∷ ids) zero below = ap (λ b. b || list_any (nat_eq id) ids) (nat_eq_equiv.refl id)
+member-at (id ∷ ids) (suc place) below = by (nat_eq (slice_index ids place) id) (member-at ids place (omega arith))
+  where
+    by : (b : Bool) → list_any (nat_eq (slice_index ids place)) ids ≡ true → (b || list_any (nat_eq (slice_index ids place)) ids) ≡ true
+    by true rest = refl
+    by false rest = rest

@@ -1,0 +1,9 @@
+use Rattle.kt_insured.specs.Table.{record_in}
+use Rattle.kt_insured.specs.declared.layout.Outlet.{Outlet}
+use Rattle.kt_insured.proofs.ListLemmas.{made-more}
+use Rattle.kt_insured.proofs.outputs.records_of.Goals as goal
+
+pub loop-outlet-preserved : goal.loop-outlet-preserved
+loop-outlet-preserved c =
+    let none : Outlet = record { id = 0; place = 0 } in
+    made-more (record_in c.args.event c.args.table.now) c.args.outlets.now c.loop-outlet.made.items c.push_record.new.made.items c.loop-outlet.outlet-index none c.loop-outlet-test.true c.loop-outlet.invariant c.in_ok-push_record.ensures.ok

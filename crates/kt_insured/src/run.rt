@@ -1,0 +1,113 @@
+//! The insured losses of a run, and the sums of its layers.
+//! The rule: docs/FINANCIAL_MODULE.md, "Insured losses".
+ghost use Rattle.std.specs.Prelude.{◌≡◌, ◌≤◌, map, All, IfOk};
+ghost use Rattle.kt_stream.specs.Losses.{IsLoss};
+ghost use Rattle.kt_runs.specs.RunLosses.{AreWithin, event_of};
+ghost use Rattle.kt_tree.specs.Programme.{tree_of};
+ghost use Rattle.kt_fmtree.specs.Parts.{IsProgramme};
+ghost use Rattle.kt_insured.specs.Insured.{insured_records, layer_sums};
+ghost use Rattle.kt_insured.specs.Layout.{IsLayout};
+
+use crate::layout::Layout;
+use crate::made::Insured;
+use crate::outputs::records_of;
+use crate::sums::sums_of;
+use crate::table::table_of;
+use kt_fmtree::Programme;
+use kt_runs::RunEntry;
+use kt_stream::{LossRecord, Placed};
+use kt_tables::Portfolio;
+use std::alloc::{AllocError, Global};
+
+/// The event of the records of a run, 0 where there is none.
+fn event_of<T: RunEntry>(records: &[T]) -> u32
+    ensures value { result ≡ event_of (map T.entry_of records.now) }
+{
+    match records {
+        [] => 0,
+        [first, ..] => first.entry().event,
+    }
+}
+
+/// The insured losses of the records of a run.
+fn insured_of<T: RunEntry>(
+    alloc: Global,
+    portfolio: &Portfolio,
+    programme: &Programme,
+    layout: &Layout,
+    samples: u32,
+    records: &[T],
+) -> Result<Insured, AllocError>
+    requires samples { samples ≤ 1000 }
+    requires rule { layout.now.rule ≤ 2 }
+    requires programme { IsProgramme (tree_of portfolio.now.rows 0) programme.now }
+    requires layout { IsLayout (tree_of portfolio.now.rows 0) portfolio.now.rows.fm_xref programme.now layout.now }
+    requires records { All (IsLoss samples) (map T.entry_of records.now) }
+    requires within { AreWithin (map T.entry_of records.now) }
+    ensures records { IfOk result (λ made. made.records ≡ insured_records (tree_of portfolio.now.rows 0) layout.now.rule samples portfolio.now.rows.fm_xref (map T.entry_of records.now)) }
+    ensures layers { IfOk result (λ made. made.layers ≡ layer_sums (tree_of portfolio.now.rows 0) layout.now.rule samples (map T.entry_of records.now)) }
+    ensures conserved { IfOk result (λ made. All (λ entry. entry.allocated ≡ entry.policy) made.layers) }
+    ensures good { IfOk result (λ made. All (IsLoss samples) made.records) }
+{
+    portfolio.is_valid();
+    let event = event_of(records);
+    let layers = layout.layers();
+    let table = table_of(alloc, programme, samples, layout.rule(), layers, records)?;
+    let made = records_of(alloc, event, &table, layout.outlets())?;
+    let sums = sums_of(alloc, event, &table, layers)?;
+    Ok(Insured {
+        records: made,
+        layers: sums,
+    })
+}
+
+/// The insured losses of the records of one run, by an allocation rule from 0 to 2, and the sums of the layers over the samples.
+/// The records of the outputs stand by rising output; an output without a loss at the mean and at each sample has none. An id
+/// that the programme does not name takes no part, and neither does sidx -2. The programme is that of the portfolio's base, and
+/// the losses of the run add to at most 10^16 cents at each sidx. An error is want of memory.
+pub fn insured(
+    alloc: Global,
+    portfolio: &Portfolio,
+    programme: &Programme,
+    samples: u32,
+    rule: u32,
+    records: &[LossRecord],
+) -> Result<Insured, AllocError>
+    requires samples { samples ≤ 1000 }
+    requires rule { rule ≤ 2 }
+    requires programme { IsProgramme (tree_of portfolio.now.rows 0) programme.now }
+    requires records { All (IsLoss samples) records.now }
+    requires within { AreWithin records.now }
+    ensures records { IfOk result (λ made. made.records ≡ insured_records (tree_of portfolio.now.rows 0) rule samples portfolio.now.rows.fm_xref records.now) }
+    ensures layers { IfOk result (λ made. made.layers ≡ layer_sums (tree_of portfolio.now.rows 0) rule samples records.now) }
+    ensures conserved { IfOk result (λ made. All (λ entry. entry.allocated ≡ entry.policy) made.layers) }
+    ensures good { IfOk result (λ made. All (IsLoss samples) made.records) }
+{
+    let layout = Layout::new(alloc, portfolio, programme, rule)?;
+    let made = insured_of(alloc, portfolio, programme, &layout, samples, records)?;
+    Ok(made)
+}
+
+/// As `insured`, for records with their places in a stream, by a layout that was made once for all runs.
+pub fn insured_placed(
+    alloc: Global,
+    portfolio: &Portfolio,
+    programme: &Programme,
+    layout: &Layout,
+    samples: u32,
+    records: &[Placed<LossRecord>],
+) -> Result<Insured, AllocError>
+    requires samples { samples ≤ 1000 }
+    requires rule { layout.now.rule ≤ 2 }
+    requires programme { IsProgramme (tree_of portfolio.now.rows 0) programme.now }
+    requires layout { IsLayout (tree_of portfolio.now.rows 0) portfolio.now.rows.fm_xref programme.now layout.now }
+    requires records { All (IsLoss samples) (map (λ placed. placed.entry) records.now) }
+    requires within { AreWithin (map (λ placed. placed.entry) records.now) }
+    ensures records { IfOk result (λ made. made.records ≡ insured_records (tree_of portfolio.now.rows 0) layout.now.rule samples portfolio.now.rows.fm_xref (map (λ placed. placed.entry) records.now)) }
+    ensures layers { IfOk result (λ made. made.layers ≡ layer_sums (tree_of portfolio.now.rows 0) layout.now.rule samples (map (λ placed. placed.entry) records.now)) }
+    ensures conserved { IfOk result (λ made. All (λ entry. entry.allocated ≡ entry.policy) made.layers) }
+    ensures good { IfOk result (λ made. All (IsLoss samples) made.records) }
+{
+    let made = insured_of(alloc, portfolio, programme, layout, samples, records)?;
+    Ok(made)
+}

@@ -1,0 +1,14 @@
+//! The types of this crate may be sent to threads and shared by them.
+use crate::layout::Layout;
+use crate::made::Insured;
+use crate::sums::LayerSum;
+
+/// Takes what may be sent to threads and shared by them.
+fn is_shared<T: Send + Sync>(_: &T) {}
+
+/// Each type once.
+pub(crate) fn are_shared(layout: &Layout, made: &Insured, sum: &LayerSum) {
+    is_shared(layout);
+    is_shared(made);
+    is_shared(sum);
+}

@@ -1,0 +1,5 @@
+mod Finding
+mod OneByOne
+mod Ending
+mod StreamOutcome
+mod Copying

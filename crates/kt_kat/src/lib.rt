@@ -1,0 +1,13 @@
+//! The tool that makes one stream of the streams in some files, or writes their bytes one after the other.
+#![tactic(auto)]
+
+mod each_file;
+mod file_step;
+mod front;
+mod kinds;
+mod plain;
+mod sizes;
+mod streams;
+mod tool;
+
+pub use tool::kat;

@@ -1,0 +1,3 @@
+pub mod WholeTables
+pub mod Fitting
+pub mod Stepping

@@ -1,0 +1,4 @@
+pub mod Adding
+pub mod PeriodTables
+pub mod Standing
+pub mod Examples

@@ -1,0 +1,43 @@
+//! The tables over all periods, and their texts.
+//! The rules: docs/OUTPUTS.md, "Average annual loss table" and "Exceedance curve tables".
+ghost use Rattle.std.specs.Prelude.{◌≡◌, ◌≤◌, ◌++◌, List, All, OnOk};
+ghost use Rattle.kt_curve.specs.Losses.{Added, all_losses};
+ghost use Rattle.kt_curve.specs.Standing.{StandsFor};
+ghost use Rattle.kt_periods.specs.PeriodTables.{table_text};
+
+use kt_curve::{Cells, Curve, aal_heading, aal_text, lec_heading, lec_text};
+use kt_money::{Bytes, OutOfMemory};
+use kt_rec::Perspective;
+
+/// A table of a summary stream over all periods.
+#[derive(Clone, Copy, Debug, PartialEq)]
+pub(crate) enum PeriodTable {
+    /// The average annual loss of each summary.
+    AverageAnnualLoss,
+    /// An exceedance curve of each summary.
+    ExceedanceCurve(Curve),
+}
+
+/// Appends the names of a table's columns, and then its rows of a set: those of the cells, at these return periods where it
+/// is a curve. An error is want of memory.
+pub(crate) fn append_table(
+    out: &mut Bytes,
+    kind: PeriodTable,
+    cells: &Cells,
+    set: u32,
+    returns: &[u32],
+) -> Result<(), OutOfMemory>
+    requires { All (λ period. 1 ≤ period) returns.now }
+    ensures ok { (history : List Added) → StandsFor history cells.now → OnOk result (out.new ≡ out.old ++ table_text kind set cells.now.periods cells.now.samples returns.now (all_losses history)) }
+{
+    match kind {
+        PeriodTable::AverageAnnualLoss => {
+            out.append(aal_heading())?;
+            aal_text(out, cells, Perspective::Gul, set)
+        }
+        PeriodTable::ExceedanceCurve(curve) => {
+            out.append(lec_heading(curve))?;
+            lec_text(out, cells, Perspective::Gul, set, curve, returns)
+        }
+    }
+}
