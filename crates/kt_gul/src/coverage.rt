@@ -8,6 +8,7 @@ ghost use Rattle.kt_checks.specs.TableChecks.{tiv_of};
 ghost use Rattle.kt_gul.specs.GroundUp.{raw_loss, record_with, item_record};
 ghost use Rattle.kt_gul.specs.Coverage.{IsRow, IsStruck, IsGroup, group_total};
 
+use crate::guide::Guide;
 use crate::item::item_losses;
 use crate::pairs::item_pairs;
 use crate::struck::StruckItem;
@@ -23,11 +24,13 @@ fn struck_losses(
     samples: u32,
     event: u32,
     cdfs: &[Cdf],
+    guides: &[Guide],
     struck: &StruckItem,
 ) -> Result<Vec<u64>, AllocError>
     requires loaded { is_loaded portfolio.now.need 0 table.Random ≡ true }
     requires samples { samples ≤ 1000 }
     requires struck { IsStruck portfolio.now.rows cdfs.now struck.now }
+    requires guides { length guides.now ≡ length cdfs.now }
     ensures value { IfOk result (λ losses. losses.items ≡ map (raw_loss portfolio.now.rows event cdfs.now struck.now.item) (range_with_len 0 (samples + 2))) }
     ensures most { IfOk result (λ losses. All (λ loss. loss ≤ 100200100000000) losses.items) }
 {
@@ -38,6 +41,7 @@ fn struck_losses(
         samples,
         event,
         bins,
+        &guides[struck.cdf],
         struck.moments,
         struck.item,
     )
@@ -50,12 +54,14 @@ fn group_losses(
     samples: u32,
     event: u32,
     cdfs: &[Cdf],
+    guides: &[Guide],
     group: &[StruckItem],
     totals: &mut [u64],
 ) -> Result<Vec<u64>, AllocError>
     requires loaded { is_loaded portfolio.now.need 0 table.Random ≡ true }
     requires samples { samples ≤ 1000 }
     requires struck { All (IsStruck portfolio.now.rows cdfs.now) group.now }
+    requires guides { length guides.now ≡ length cdfs.now }
     requires few { length group.now ≤ 100000 }
     requires zeros { IsRow (λ place. 0) (samples + 2) totals.old }
     ensures value { IfOk result (λ losses. losses.items ≡ flat_map (λ struck. map (raw_loss portfolio.now.rows event cdfs.now struck.item) (range_with_len 0 (samples + 2))) group.now) }
@@ -64,7 +70,7 @@ fn group_losses(
 {
     let mut losses = Vec::new(alloc);
     for struck in group {
-        let row = struck_losses(alloc, portfolio, samples, event, cdfs, struck)?;
+        let row = struck_losses(alloc, portfolio, samples, event, cdfs, guides, struck)?;
         add_to(totals, &row);
         losses.extend_from_slice(&row)?;
     }
@@ -133,6 +139,7 @@ pub(crate) fn push_coverage(
     event: u32,
     coverage: u32,
     cdfs: &[Cdf],
+    guides: &[Guide],
     group: &[StruckItem],
     records: &mut Vec<LossRecord>,
 ) -> Result<(), AllocError>
@@ -140,10 +147,20 @@ pub(crate) fn push_coverage(
     requires value { tiv_of portfolio.now.rows.coverages coverage ≤ 10 ^ 14 }
     requires samples { samples ≤ 1000 }
     requires group { IsGroup portfolio.now.rows event cdfs.now coverage group.now }
+    requires guides { length guides.now ≡ length cdfs.now }
     ensures ok { OnOk result (records.new.items ≡ records.old.items ++ filter_map (item_record portfolio.now.rows samples cut event cdfs.now) (map (λ struck. struck.item) group.now)) }
 {
     let mut totals = zeros(alloc, samples as usize + 2)?;
-    let losses = group_losses(alloc, portfolio, samples, event, cdfs, group, &mut totals)?;
+    let losses = group_losses(
+        alloc,
+        portfolio,
+        samples,
+        event,
+        cdfs,
+        guides,
+        group,
+        &mut totals,
+    )?;
     let mut before = zeros(alloc, samples as usize + 2)?;
     push_records(
         alloc,

@@ -14,6 +14,7 @@ ghost use Rattle.kt_gul.specs.StruckItems.{AreCdfs, AreInOrder, item_of};
 ghost use Rattle.kt_gul.specs.Groups.{IsGroupEnd};
 
 use crate::coverage::push_coverage;
+use crate::guide::{Guide, guides_of};
 use crate::struck::{StruckItem, struck_items};
 use kt_index::ByKey;
 use kt_stream::{Cdf, LossRecord, Records};
@@ -51,11 +52,13 @@ fn records_of(
     cut: bool,
     event: u32,
     cdfs: &[Cdf],
+    guides: &[Guide],
     struck: &[StruckItem],
 ) -> Result<Vec<LossRecord>, AllocError>
     requires loaded { is_loaded portfolio.now.need 0 table.Random ≡ true }
     requires samples { samples ≤ 1000 }
     requires order { AreInOrder portfolio.now.rows cdfs.now struck.now }
+    requires guides { length guides.now ≡ length cdfs.now }
     ensures value { IfOk result (λ records. records.items ≡ filter_map (item_record portfolio.now.rows samples cut event cdfs.now) (map item_of struck.now)) }
 {
     portfolio.is_valid();
@@ -73,6 +76,7 @@ fn records_of(
             event,
             coverage,
             cdfs,
+            guides,
             group,
             &mut records,
         )?;
@@ -110,6 +114,7 @@ pub fn ground_up(
     ensures good { IfOk result (λ records. All (IsLoss samples) records) }
 {
     portfolio.is_valid();
+    let guides = guides_of(alloc, portfolio.damage_bins(), cdfs)?;
     let struck = struck_items(alloc, portfolio, cdfs)?;
     let struck = ByKey::new(alloc, &struck)?;
     let mut records = records_of(
@@ -119,6 +124,7 @@ pub fn ground_up(
         cut,
         event,
         cdfs,
+        &guides,
         struck.as_slice(),
     )?;
     sort_by_id(&mut records)?;

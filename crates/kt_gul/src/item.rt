@@ -8,6 +8,7 @@ ghost use Rattle.kt_gul.specs.GroundUp.{item_tiv, loss_by};
 ghost use Rattle.kt_gul.specs.ItemLosses.{AreMoments};
 ghost use Rattle.kt_gul.specs.Sampled.{CanSample};
 
+use crate::guide::Guide;
 use crate::moments::DamageMoments;
 use crate::random::{first_place, next_place, random_at};
 use crate::sampling::sampled_loss;
@@ -15,9 +16,7 @@ use kt_rec::{Item, Random};
 use kt_stream::Bin;
 use kt_tables::Portfolio;
 use std::alloc::{AllocError, Global};
-
-/// Parts per million in a whole.
-const PPM: u64 = 1_000_000;
+use std::num::nearest_u64_to_f64;
 
 /// The random numbers of a portfolio.
 fn numbers_of(portfolio: &Portfolio) -> &[Random]
@@ -36,6 +35,7 @@ pub(crate) fn item_losses(
     samples: u32,
     event: u32,
     bins: &[Bin],
+    guide: &Guide,
     moments: DamageMoments,
     item: Item,
 ) -> Result<Vec<u64>, AllocError>
@@ -49,13 +49,14 @@ pub(crate) fn item_losses(
     let tiv = portfolio.tiv(item.coverage_id);
     let dictionary = portfolio.damage_bins();
     let numbers = numbers_of(portfolio);
+    let value = nearest_u64_to_f64(tiv);
     let mut losses = Vec::with_capacity(alloc, samples as usize + 2)?;
     losses.push(moments.loss_deviation(tiv))?;
     losses.push(moments.mean_loss(tiv))?;
     let mut place = first_place(numbers.len() as u64, event, item.group_id);
     for _sample in 0..samples {
-        let number = u64::from(random_at(numbers, place)) * PPM;
-        losses.push(sampled_loss(tiv, dictionary, bins, number))?;
+        let random = random_at(numbers, place);
+        losses.push(sampled_loss(tiv, value, guide, dictionary, bins, random))?;
         place = next_place(numbers.len() as u64, place);
     }
     Ok(losses)

@@ -4,6 +4,7 @@
 mod coverage;
 mod cut;
 mod event;
+mod guide;
 mod item;
 pub mod laws;
 mod moments;

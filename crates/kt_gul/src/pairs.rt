@@ -51,12 +51,12 @@ pub(crate) fn item_pairs(
     requires within { (place : ℕ) → place < samples + 2 → slice_index before.now place + slice_index losses.now place ≤ slice_index totals.now place }
     ensures value { IfOk result (λ pairs. pairs ≡ pairs_of (λ place. final_loss cut tiv (slice_index totals.now place) (slice_index before.now place) (slice_index losses.now place) place) samples) }
 {
-    let mut pairs = Pairs::new(alloc);
+    let mut pairs = Vec::with_capacity(alloc, samples as usize + 2)?;
     for place in 0..samples as usize + 2 {
         let loss = final_loss(cut, tiv, totals[place], before[place], losses[place], place);
         if loss > 0 {
             pairs.push(pair_at(place, loss))?;
         }
     }
-    Ok(pairs)
+    Ok(Pairs::from_vec(pairs))
 }

@@ -1,4 +1,4 @@
-use Rattle.std.proofs.Common.{◌<◌, length, arith}
+use Rattle.std.proofs.Common.{◌*◌, ◌<◌, length, arith}
 use Rattle.kt_rec.specs.declared.hazard.DamageBin.{DamageBin}
 use Rattle.kt_stream.specs.declared.entry.Bin.{Bin}
 use Rattle.kt_gul.proofs.SampleLemmas.{loss_behind-at, loss_behind-past, passed-from, found-from, damage_before-le, falls, ppm_part-le}
@@ -15,9 +15,10 @@ returns-then-place-bins-clause-value c =
     let none : DamageBin = record { bin_index = 0; bin_from = 0; bin_to = 0; interpolation = 0; interval_type = 0 } in
     let no_bin : Bin = record { prob_to = 0; mean = 0 } in
     let at_last = c.if-place-bins.true in
-    let past = loss_behind-past c.args.tiv c.args.number c.max.result 0 0 c.args.dictionary.now c.args.bins.now none no_bin c.max.ensures c.requires.few
+    let past = loss_behind-past c.args.tiv (c.from-number.result * 1000000) c.max.result 0 0 c.args.dictionary.now c.args.bins.now none no_bin c.max.ensures c.requires.few
     (λ j under. passed-from c.args.bins.now c.max.result c.place_of-place.result c.place_of-place.ensures.value no_bin j (omega arith)) in
     let part = c.ppm_of.ensures.value in
+    let same = c.from-number.ensures in
     let damage = c.damage_before.ensures.value none in
     cc
 
@@ -36,7 +37,7 @@ loss_in_bin-requires c =
     let other = c.if-place-bins.false in
     let below : c.place_of-place.result < length c.args.bins.now = omega arith in
     rw (c.end_before-before.ensures.value no_bin)
-    (falls c.args.tiv c.args.number c.max.result c.args.dictionary.now c.args.bins.now c.place_of-place.result none no_bin c.requires c.max.ensures below
+    (falls c.args.tiv (c.from-number.result * 1000000) c.max.result c.args.dictionary.now c.args.bins.now c.place_of-place.result none no_bin c.requires c.max.ensures below
     (passed-from c.args.bins.now c.max.result c.place_of-place.result c.place_of-place.ensures.value no_bin)
     (found-from c.args.bins.now c.max.result c.place_of-place.result c.place_of-place.ensures.value no_bin below))
 
@@ -47,9 +48,10 @@ returns-clause-value c =
     let within = c.place_of-place.ensures.within in
     let other = c.if-place-bins.false in
     let below : c.place_of-place.result < length c.args.bins.now = omega arith in
-    let found = loss_behind-at c.args.tiv c.args.number c.max.result 0 0 c.args.dictionary.now c.args.bins.now c.place_of-place.result none no_bin c.max.ensures (omega (arith, c.max.ensures)) c.requires.few below
+    let found = loss_behind-at c.args.tiv (c.from-number.result * 1000000) c.max.result 0 0 c.args.dictionary.now c.args.bins.now c.place_of-place.result none no_bin c.max.ensures (omega (arith, c.max.ensures)) c.requires.few below
     (passed-from c.args.bins.now c.max.result c.place_of-place.result c.place_of-place.ensures.value no_bin)
     (found-from c.args.bins.now c.max.result c.place_of-place.result c.place_of-place.ensures.value no_bin below) in
     let loss = c.loss_in_bin.ensures.value in
+    let same = c.from-number.ensures in
     let end = c.end_before-before.ensures.value no_bin in
     cc
