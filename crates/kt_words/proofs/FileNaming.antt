@@ -3,10 +3,10 @@ use Rattle.std.proofs.Common.{◌≡◌, ◌+◌, ℕ, Bool, true, false, List, 
 use Rattle.std.specs.Prelude.{nat_lt, not, ◌==◌, ◌||◌, IfSome, if◌then◌else◌, slice_index, All}
 use Rattle.std.proofs.lemmas.Bool.{eqb-true, ltb-false}
 use Rattle.std.proofs.lemmas.List.Elements.{All-cons}
-use Rattle.kt_words.specs.Command.{command_of, by_tool, command_by, command_from, to_text, part_command, table_or_first, number_or_0, word_or_0}
+use Rattle.kt_words.specs.Command.{command_of, financial_command, by_tool, command_by, command_from, to_text, part_command, table_or_first, number_or_0, word_or_0}
 use Rattle.kt_words.specs.FileNames.{BeginsWithDash, IsFileName, AreFileNames}
 use Rattle.kt_words.specs.Fits.{FitsTable}
-use Rattle.kt_words.specs.Given.{none_given, option_named, with_own, with_next, with_plain, with_option, with_word}
+use Rattle.kt_words.specs.Given.{given_at, is_given, none_given, option_named, with_own, with_next, with_plain, with_option, with_word}
 use Rattle.kt_eve.specs.Parts.{has_part}
 use Rattle.kt_words.specs.Judging.{refused_word}
 use Rattle.kt_words.specs.Reading.{read_from, and_on, finish_read, given_by}
@@ -85,6 +85,13 @@ text_is_other : (t : Table) → ◌≡◌ {A = Result Command WordStop} (Ok (to_
 text_is_other table.Footprint is = cc
 text_is_other t is = cc
 
+losses_are_other : (given : Given) → ◌≡◌ {A = Result Command WordStop} (Ok (financial_command given)) (Ok command.Kat) → ⊥
+losses_are_other given is = by_test (is_given given 110) is
+  where
+    by_test : (net : Bool) → ◌≡◌ {A = Result Command WordStop} (Ok (if net then command.FmcalcNet (number_or_0 (given_at given 97)) (number_or_0 (given_at given 112)) else command.Fmcalc (number_or_0 (given_at given 97)))) (Ok command.Kat) → ⊥
+    by_test true h = cc
+    by_test false h = cc
+
 part_is_other : (part parts word : ℕ) → part_command part parts word ≡ Ok command.Kat → ⊥
 part_is_other part parts word is = by_test (has_part part parts) is
   where
@@ -99,6 +106,7 @@ kat_names (word ∷ names) is = by_known (known_tool word) is
     by_given : (t : Tool) (given : Given) → given_by t (word ∷ names) ≡ Ok given → command_from t given ≡ Ok command.Kat → AreFileNames names
     by_given tool.Kat given e h = read_names word names given e
     by_given tool.Eve given e h = absurd (part_is_other (number_or_0 given.first) (number_or_0 given.second) (word_or_0 given.first) h)
+    by_given tool.Fmcalc given e h = absurd (losses_are_other given h)
     by_given tool.Tocsv given e h = absurd (text_is_other (table_or_first given.first) h)
     by_given t given e h = cc
 

@@ -1,24 +1,27 @@
 -- What was read of the words of a tool fits its table.
 use Rattle.std.proofs.Common.{◌≡◌, ◌≤◌, ℕ, ◌+◌, Bool, true, false, List, [], ◌∷◌, length, drop, Option, Some, None, Result, Ok, Err, refl, sym, ap, ◌∙◌, subst, arith, nat_eq, cond}
-use Rattle.std.specs.Prelude.{find, nat_le, nat_lt, replicate, slice_index_or, slice_set, IfOk, not, ◌==◌, ◌&&◌, ◌||◌, IfSome, is_some, if◌then◌else◌, slice_index}
+use Rattle.std.specs.Prelude.{find, nat_le, nat_lt, codes, ◌-◌, take, replicate, slice_index_or, slice_set, IfOk, not, ◌==◌, ◌&&◌, ◌||◌, IfSome, is_some, if◌then◌else◌, slice_index}
+use Rattle.std.specs.Str.{bytes_eq}
 use Rattle.std.proofs.lemmas.Bool.{eqb-true, eqb-false, leb-true, ltb-true, ltb-false}
 use Rattle.std.proofs.lemmas.List.{get_or-set_other, get_or_past, get_or-replicate, length-set, length-replicate}
 use Rattle.std.proofs.lemmas.Grind.{get_or-set_at}
-use Rattle.kt_words.specs.Command.{number_or_0}
+use Rattle.kt_words.specs.Command.{number_in, number_or_0}
 use Rattle.kt_words.specs.Fits.{IsNumber, Fits, FitsWord, FitsTable, IsRead}
-use Rattle.kt_words.specs.Given.{none_given, given_at, is_given, option_named, with_value, value_or_bad, with_text, with_flag, with_valued, by_form, row_or_unknown, with_option, with_place, place_of, place_or_bad, plain_by, with_plain, with_own, with_next, with_word}
-use Rattle.kt_words.specs.Judging.{finished, unless_awaited, is_missing, lacks_some, lacks_by_some_rule, refused_word, unless_clash, clash}
+use Rattle.kt_words.specs.Given.{none_given, given_at, is_given, word_of, option_named, with_value, value_or_bad, with_text, with_flag, with_valued, by_form, row_or_unknown, with_option, with_place, place_of, place_or_bad, plain_by, with_plain, with_own, with_next, with_word}
+use Rattle.kt_words.specs.Judging.{finished, unless_awaited, is_missing, is_nought, is_zero, lacks_some, lacks_by_some_rule, refused_word, refuses, broken_rule, word_by_rule, or_else, unless_clash, clash}
 use Rattle.kt_words.specs.Reading.{read_from, and_on, finish_read, unless_wrong, given_by}
 use Rattle.kt_words.specs.Rows.{letter_of, form_of, form_at, wants_at}
 use Rattle.kt_words.specs.Table.{options_of, plain_of}
-use Rattle.kt_words.specs.Values.{value_of, in_range, number_of_word}
+use Rattle.kt_words.specs.Values.{value_of, in_range, number_of_word, stage_digit, stage_named}
+use Rattle.kt_words.specs.declared.rows.Condition.TheVariants.{Always, Absent, Zero}
 use Rattle.kt_words.specs.declared.given.Awaited.{Awaited}
 use Rattle.kt_words.specs.declared.given.Given.{Given}
 use Rattle.kt_words.specs.declared.given.GivenWord.{GivenWord}
 use Rattle.kt_words.specs.declared.rows.Form.{Form}
 use Rattle.kt_words.specs.declared.rows.Form.TheVariants as form
 use Rattle.kt_words.specs.declared.rows.OptionRow.{OptionRow}
-use Rattle.kt_words.specs.declared.rows.OptionRow.TheVariants.{Needed}
+use Rattle.kt_words.specs.declared.rows.OptionRow.TheVariants.{Free, Needed}
+use Rattle.kt_words.specs.declared.rows.Rule.TheVariants.{RefusedWhere}
 use Rattle.kt_words.specs.declared.stop.WordCause.{WordCause}
 use Rattle.kt_words.specs.declared.stop.WordCause.TheVariants.{UnknownOption, Repeated, BadValue, Missing}
 use Rattle.kt_words.specs.declared.stop.WordStop.{WordStop}
@@ -39,8 +42,22 @@ number_fits least most (Some number) said is = by_tests (nat_le least number) (n
     by_tests true false l h e = cc
     by_tests false high l h e = cc
 
+-- the stage that a word of its form says is from 1 to 9
+stage_fits : (word : List ℕ) (said : Value) → stage_named word ≡ Some said → IsNumber 1 9 said
+stage_fits word said is = by_form (length word == 4 && bytes_eq (take 3 word) (codes "RI_")) is
+  where
+    by_digit : (digit : ℕ) (low high : Bool) → nat_le 49 digit ≡ low → nat_le digit 57 ≡ high → (if (low && high) then Some (value.Number (digit - 48)) else None) ≡ Some said → IsNumber 1 9 said
+    by_digit digit true true l h e = subst (λ found. IfSome found (IsNumber 1 9)) e (omega (arith, leb-true 49 digit l), omega (arith, leb-true digit 57 h))
+    by_digit digit true false l h e = cc
+    by_digit digit false high l h e = cc
+
+    by_form : (formed : Bool) → (if formed then stage_digit (slice_index word 3) else None) ≡ Some said → IsNumber 1 9 said
+    by_form true e = by_digit (slice_index word 3) (nat_le 49 (slice_index word 3)) (nat_le (slice_index word 3) 57) refl refl e
+    by_form false e = cc
+
 value_fits : (f : Form) (word : List ℕ) (said : Value) → value_of f word ≡ Some said → Fits f said
 value_fits (form.Number least most) word said is = number_fits least most (number_of_word word) said is
+value_fits form.Stage word said is = stage_fits word said is
 value_fits f word said is = tt
 
 -- ---- options
@@ -232,6 +249,56 @@ negated : (a : Bool) → not a ≡ false → a ≡ true
 negated true is = refl
 negated false is = cc
 
+-- nothing clashes
+pub nothing_clashes : (tool : Tool) (given : Given) (count : ℕ) → finished given tool count ≡ Ok tt → clash given tool ≡ None
+nothing_clashes tool given count is = by_awaited given.awaited is
+  where
+    by_clash : (found : Option ℕ) → clash given tool ≡ found → unless_clash found ≡ Ok tt → clash given tool ≡ None
+    by_clash None e h = e
+    by_clash (Some word) e h = cc
+
+    by_test : (missing : Bool) → (if missing then refused_word (count + 1) Missing else unless_clash (clash given tool)) ≡ Ok tt → clash given tool ≡ None
+    by_test true h = cc
+    by_test false h = by_clash (clash given tool) refl h
+
+    by_awaited : (awaited : Option Awaited) → unless_awaited awaited given tool count ≡ Ok tt → clash given tool ≡ None
+    by_awaited (Some one) h = cc
+    by_awaited None h = by_test (is_missing given tool) h
+
+-- a number of an option that was given, and is not 0, is 1 or more
+not_zero : (least most : ℕ) (found : Option GivenWord) → is_some found ≡ true → FitsWord (form.Number least most) found → is_zero found ≡ false → 1 ≤ number_or_0 found
+not_zero least most None there fits more = cc
+not_zero least most (Some given) there fits more = by_value given.value fits more
+  where
+    by_value : (said : Value) → IsNumber least most said → is_nought said ≡ false → 1 ≤ number_in said
+    by_value (value.Number number) is other = omega (arith, eqb-false number 0 other)
+    by_value said is other = absurd is
+
+-- a stage that was given is at most 9
+stage_said : (found : Option GivenWord) → FitsWord form.Stage found → number_or_0 found ≤ 9
+stage_said None fits = omega arith
+stage_said (Some given) fits = by_value given.value fits
+  where
+    by_value : (said : Value) → IsNumber 1 9 said → number_in said ≤ 9
+    by_value (value.Number number) is = is.1
+    by_value said is = absurd is
+
+-- where -n was given, -a 0 was not
+net_rule : (given : Given) → is_given given 110 ≡ true → clash given Fmcalc ≡ None → is_zero (given_at given 97) ≡ false
+net_rule given net none = by_test (is_zero (given_at given 97)) refl
+  where
+    named : (found : Option GivenWord) (doubled : Option ℕ) → is_some found ≡ true → or_else doubled (word_of found) ≡ None → ⊥
+    named None doubled is h = cc
+    named (Some one) None is h = cc
+    named (Some one) (Some word) is h = cc
+
+    broken : is_zero (given_at given 97) ≡ true → broken_rule given Fmcalc ≡ Some (RefusedWhere 110 Always (Zero 97))
+    broken zero = subst (λ b. cond b (Some (RefusedWhere 110 Always (Zero 97))) (find (λ rule. refuses given rule) (RefusedWhere 112 Always (Absent 110) ∷ [])) ≡ Some (RefusedWhere 110 Always (Zero 97))) (sym (subst (λ a. (a && (true && is_zero (given_at given 97))) ≡ true) (sym net) zero)) refl
+
+    by_test : (zero : Bool) → is_zero (given_at given 97) ≡ zero → is_zero (given_at given 97) ≡ false
+    by_test false e = e
+    by_test true e = absurd (named (given_at given 110) given.doubled net (subst (λ rule. or_else given.doubled (word_by_rule given rule) ≡ None) (broken e) none))
+
 -- the allocation rule of `fmcalc`
 pub fmcalc_rule : (given : Given) → IsRead Fmcalc given → number_or_0 (given_at given 97) ≤ 2
 fmcalc_rule given read =
@@ -239,6 +306,18 @@ fmcalc_rule given read =
     let options = either (lacks_some given Fmcalc) (lacks_by_some_rule given Fmcalc) complete.1 in
     let rule = either (not (is_given given 97)) _ options.0 in
     (number_said 0 2 (given_at given 97) (negated (is_given given 97) rule.0) (read.fits.options 97 (Needed 97 (form.Number 0 2)) refl)).1
+
+-- with -n the allocation rule is 1 or 2
+pub net_rule_kept : (given : Given) → IsRead Fmcalc given → is_given given 110 ≡ true → 1 ≤ number_or_0 (given_at given 97)
+net_rule_kept given read net =
+    let complete = either (wants_at (plain_of Fmcalc) (place_of given)) (lacks_some given Fmcalc || lacks_by_some_rule given Fmcalc) (nothing_missing Fmcalc given read.count read.finished) in
+    let options = either (lacks_some given Fmcalc) (lacks_by_some_rule given Fmcalc) complete.1 in
+    let rule = either (not (is_given given 97)) _ options.0 in
+    not_zero 0 2 (given_at given 97) (negated (is_given given 97) rule.0) (read.fits.options 97 (Needed 97 (form.Number 0 2)) refl) (net_rule given net (nothing_clashes Fmcalc given read.count read.finished))
+
+-- the stage of `fmcalc`
+pub stage_kept : (given : Given) → IsRead Fmcalc given → number_or_0 (given_at given 112) ≤ 9
+stage_kept given read = stage_said (given_at given 112) (read.fits.options 112 (Free 112 form.Stage) refl)
 
 -- the samples of `gulcalc`
 pub gulcalc_samples : (given : Given) → IsRead Gulcalc given → (1 ≤ number_or_0 (given_at given 83)) × (number_or_0 (given_at given 83) ≤ 1000)

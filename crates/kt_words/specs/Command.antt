@@ -33,9 +33,10 @@ IsConversion (ToText t) = t ≡ table.Footprint → ⊥
 abbrev pub IsSet : ℕ → Type 0
 IsSet set = (1 ≤ set) × (set ≤ 9)
 
--- what every command keeps: an allocation rule, a summary set, a conversion and a part that there is, and 1 to 1,000 samples
+-- what every command keeps: an allocation rule, of net losses 1 or 2, and a stage, a summary set, a conversion and a part that there is, and 1 to 1,000 samples
 abbrev pub IsCommand : Command → Type 0
 IsCommand (command.Fmcalc rule) = rule ≤ 2
+IsCommand (command.FmcalcNet rule stage) = (1 ≤ rule) × (rule ≤ 2) × (stage ≤ 9)
 IsCommand (command.Summarycalc items set rule) = IsSet set
 IsCommand (command.Eltcalc heading) = Unit {0}
 IsCommand (command.Pltcalc heading) = Unit {0}
@@ -101,14 +102,20 @@ part_command part parts word = if has_part part parts then Ok (command.Eve part 
 abbrev pub eve_command : Given → Result Command WordStop
 eve_command given = part_command (number_or_0 given.first) (number_or_0 given.second) (word_or_0 given.first)
 
+-- insured losses by the value of -a, or with -n losses net of the base, or with -p too net of the stage that it names
+abbrev pub financial_command : Given → Command
+financial_command given =
+    if is_given given 110 then command.FmcalcNet (number_or_0 (given_at given 97)) (number_or_0 (given_at given 112))
+    else command.Fmcalc (number_or_0 (given_at given 97))
+
 -- the summaries of a set: of items where -i was given, by rule 2 where -a was left out
 abbrev pub summary_command : Given → Command
 summary_command given = command.Summarycalc (is_given given 105) (set_given given) (number_or (given_at given 97) 2)
 
--- the command of a tool by what its words said: of `fmcalc` the value of -a, of `eltcalc` and `pltcalc` whether -s was left out, of `gulcalc` the values of -S and
+-- the command of a tool by what its words said: of `eltcalc` and `pltcalc` whether -s was left out, of `gulcalc` the values of -S and
 -- of -a, of `tobin` the value of -P
 abbrev pub command_from : Tool → Given → Result Command WordStop
-command_from tool.Fmcalc given = Ok (command.Fmcalc (number_or_0 (given_at given 97)))
+command_from tool.Fmcalc given = Ok (financial_command given)
 command_from tool.Summarycalc given = Ok (summary_command given)
 command_from tool.Eltcalc given = Ok (command.Eltcalc (not (is_given given 115)))
 command_from tool.Pltcalc given = Ok (command.Pltcalc (not (is_given given 115)))

@@ -18,9 +18,10 @@ abbrev pub IsNumber : ℕ → ℕ → Value → Type 0
 IsNumber least most (value.Number number) = (least ≤ number) × (number ≤ most)
 IsNumber least most other = ⊥
 
--- a value is one of its form: a number is within its bounds
+-- a value is one of its form: a number is within its bounds, and a stage is from 1 to 9
 abbrev pub Fits : Form → Value → Type 0
 Fits (form.Number least most) said = IsNumber least most said
+Fits form.Stage said = IsNumber 1 9 said
 Fits other said = Unit {0}
 
 -- a word that gave an option fits its form

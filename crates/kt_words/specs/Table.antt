@@ -3,8 +3,8 @@
 use Rattle.std.specs.Prelude.{List, [], ◌∷◌}
 use Rattle.kt_words.specs.declared.tool.Tool.{Tool}
 use Rattle.kt_words.specs.declared.tool.Tool.TheVariants.{Eve, Getmodel, Gulcalc, Fmcalc, Summarycalc, Eltcalc, Pltcalc, Aalcalc, Leccalc, Kat, Tobin, Tocsv, Chain, Gen}
-use Rattle.kt_words.specs.declared.rows.Condition.TheVariants.{Always, Zero, Net, NotNet, Periods, NoPeriods}
-use Rattle.kt_words.specs.declared.rows.Form.TheVariants.{Flag, Number, Dash, Losses, TableName, FileName}
+use Rattle.kt_words.specs.declared.rows.Condition.TheVariants.{Always, Absent, Zero, Net, NotNet, Periods, NoPeriods}
+use Rattle.kt_words.specs.declared.rows.Form.TheVariants.{Flag, Number, Dash, Losses, Stage, TableName, FileName}
 use Rattle.kt_words.specs.declared.rows.OptionRow.{OptionRow}
 use Rattle.kt_words.specs.declared.rows.OptionRow.TheVariants.{Free, Needed, OneOf}
 use Rattle.kt_words.specs.declared.rows.PlainRow.{PlainRow}
@@ -16,8 +16,8 @@ use Rattle.kt_words.specs.declared.rows.Rule.TheVariants.{NeededWhere, RefusedWh
 abbrev pub options_of : Tool → List OptionRow
 -- -S -a -r -i
 options_of Gulcalc = Needed 83 (Number 1 1000) ∷ Needed 97 (Number 0 1) ∷ Needed 114 Flag ∷ Needed 105 Dash ∷ []
--- -a; of reinsurance there is no option, so that -n and -p are unknown as any other
-options_of Fmcalc = Needed 97 (Number 0 2) ∷ []
+-- -a -n -p
+options_of Fmcalc = Needed 97 (Number 0 2) ∷ Free 110 Flag ∷ Free 112 Stage ∷ []
 -- -i or -f, one of -1 to -9, -a
 options_of Summarycalc =
     OneOf 105 105 Flag ∷ OneOf 105 102 Flag
@@ -56,6 +56,8 @@ plain_of tool = Nothing
 
 -- how the options of a tool go with its other words
 abbrev pub rules_of : Tool → List Rule
+-- -n not with -a 0; -p only with -n
+rules_of Fmcalc = RefusedWhere 110 Always (Zero 97) ∷ RefusedWhere 112 Always (Absent 110) ∷ []
 -- -P for occurrence, and for no other table
 rules_of Tobin = NeededWhere 80 Periods ∷ RefusedWhere 80 Always NoPeriods ∷ []
 -- -r with -l ri, and not else; -a 0 not with -l ri

@@ -4,8 +4,9 @@ ghost use Rattle.std.specs.Prelude.{◌≡◌, Ok, IfOk};
 ghost use Rattle.kt_eve.specs.Parts.{has_part};
 ghost use Rattle.kt_words.specs.FileNames.{file_names, AreFileNames};
 ghost use Rattle.kt_words.specs.Fits.{IsRead};
-ghost use Rattle.kt_words.specs.Command.{number_or_0, number_or, table_or_first, word_or_0, set_given, curve_given, summary_command, to_text, eve_command, command_from, command_of, IsSet, IsCommand};
+ghost use Rattle.kt_words.specs.Command.{number_or_0, number_or, table_or_first, word_or_0, set_given, curve_given, financial_command, summary_command, to_text, eve_command, command_from, command_of, IsSet, IsCommand};
 ghost use Rattle.kt_words.specs.declared.command.Command.TheVariants.{Kat};
+ghost use Rattle.kt_words.specs.declared.tool.Tool.TheVariants.{Fmcalc};
 
 use crate::given::{Given, GivenWord};
 use crate::judging::refused;
@@ -62,6 +63,13 @@ pub enum Command {
     Fmcalc {
         /// The allocation rule, from 0 to 2.
         rule: u32,
+    },
+    /// Losses net of what the layers of a programme take.
+    FmcalcNet {
+        /// The allocation rule, 1 or 2.
+        rule: u32,
+        /// The reinsurance stage, from 1 to 9; 0 for the base.
+        stage: u32,
     },
     /// The losses of the summaries of a set.
     Summarycalc {
@@ -221,6 +229,21 @@ fn curve_given(given: &Given) -> CurveLetter
     }
 }
 
+/// The insured losses, or with `-n` those net of the base, or with `-p` too those net of a stage.
+fn financial_command(given: &Given) -> Command
+    requires read { IsRead Fmcalc given.now }
+    ensures value { result ≡ financial_command given.now }
+    ensures keeps { IsCommand result }
+{
+    let rule = number(given.option(b'a'));
+    if given.has(b'n') {
+        let stage = number(given.option(b'p'));
+        Command::FmcalcNet { rule, stage }
+    } else {
+        Command::Fmcalc { rule }
+    }
+}
+
 /// The summaries of the set that the words named.
 fn summary_command(given: &Given) -> Command
     ensures value { result ≡ summary_command given.now }
@@ -271,9 +294,7 @@ fn tool_command(tool: Tool, given: &Given) -> Result<Command, WordStop>
     ensures keeps { IfOk result (λ command. IsCommand command) }
 {
     match tool {
-        Tool::Fmcalc => Ok(Command::Fmcalc {
-            rule: number(given.option(b'a')),
-        }),
+        Tool::Fmcalc => Ok(financial_command(given)),
         Tool::Summarycalc => Ok(summary_command(given)),
         Tool::Eltcalc => Ok(Command::Eltcalc {
             heading: !given.has(b's'),

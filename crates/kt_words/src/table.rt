@@ -3,8 +3,8 @@
 ghost use Rattle.std.specs.Prelude.{◌≡◌};
 ghost use Rattle.kt_words.specs.Table.{options_of, plain_of, rules_of};
 
-use crate::rows::Condition::{Always, Net, NoPeriods, NotNet, Periods, Zero};
-use crate::rows::Form::{Dash, FileName, Flag, Losses, Number, TableName};
+use crate::rows::Condition::{Absent, Always, Net, NoPeriods, NotNet, Periods, Zero};
+use crate::rows::Form::{Dash, FileName, Flag, Losses, Number, Stage, TableName};
 use crate::rows::OptionRow::{Free, Needed, OneOf};
 use crate::rows::Rule::{NeededWhere, RefusedWhere};
 use crate::rows::{OptionRow, PlainRow, Rule};
@@ -17,8 +17,16 @@ const GULCALC: [OptionRow; 4] = [
     Needed(b'i', Dash),
 ];
 
-// Of reinsurance `fmcalc` has no option: `-n` and `-p` are unknown options as any other.
-const FMCALC: [OptionRow; 1] = [Needed(b'a', Number(0, 2))];
+const FMCALC: [OptionRow; 3] = [
+    Needed(b'a', Number(0, 2)),
+    Free(b'n', Flag),
+    Free(b'p', Stage),
+];
+
+const FMCALC_RULES: [Rule; 2] = [
+    RefusedWhere(b'n', Always, Zero(b'a')),
+    RefusedWhere(b'p', Always, Absent(b'n')),
+];
 
 const SUMMARYCALC: [OptionRow; 12] = [
     OneOf(b'i', b'i', Flag),
@@ -117,6 +125,7 @@ pub(crate) fn rules(tool: Tool) -> &'static [Rule]
     ensures { result.now ≡ rules_of tool }
 {
     match tool {
+        Tool::Fmcalc => &FMCALC_RULES,
         Tool::Tobin => &TOBIN_RULES,
         Tool::Chain => &CHAIN_RULES,
         _ => &NO_RULES,
