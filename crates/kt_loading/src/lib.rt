@@ -6,5 +6,5 @@ mod needs;
 mod stops;
 
 pub use loading::load_tables;
-pub use needs::{need_of, with_table};
+pub use needs::{need_of, with_table, with_table_at};
 pub use stops::{load_stop, table_stop};

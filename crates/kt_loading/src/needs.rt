@@ -3,6 +3,7 @@
 ghost use Rattle.std.specs.Prelude.{◌≡◌};
 ghost use Rattle.kt_load.specs.FileNames.{table_at};
 ghost use Rattle.kt_loading.specs.Loading.{need_of as needs};
+ghost use Rattle.kt_rec.specs.TableNames.{IsTableId};
 ghost use Rattle.kt_rec.specs.TableSet.{with_table as set_with};
 
 use kt_checks::Need;
@@ -23,9 +24,17 @@ pub fn need_of(table: Table) -> Need
 }
 
 /// A set with one more table of the base.
-pub fn with_table(mut set: TableSet, table: Table) -> TableSet
+pub fn with_table(set: TableSet, table: Table) -> TableSet
     ensures { result ≡ set_with set (table_at 0 table) }
 {
-    set.add(TableId { stage: 0, table });
+    with_table_at(set, 0, table)
+}
+
+/// A set with one more table: of the base, at 0, or one of the three of a reinsurance stage, 1 to 9.
+pub fn with_table_at(mut set: TableSet, stage: u32, table: Table) -> TableSet
+    requires { IsTableId (table_at stage table) }
+    ensures { result ≡ set_with set (table_at stage table) }
+{
+    set.add(TableId { stage, table });
     set
 }

@@ -4,7 +4,9 @@
 
 mod judging;
 mod known;
+mod putting;
 mod table;
 
 pub use judging::write_losses;
+pub use putting::put_losses;
 pub use table::LossTool;

@@ -5,6 +5,6 @@ pub mod EveLemmas
 pub mod FootprintLemmas
 pub mod Running
 pub mod SummaryLemmas
-mod FmLemmas
+mod PeriodLemmas
 mod GulLemmas
 mod ModelLemmas

@@ -4,7 +4,6 @@ pub mod SummaryOutcome
 pub mod ModelOutcome
 pub mod ModelStage
 pub mod GulOutcome
-pub mod FmOutcome
 pub mod PeriodOutcome
 pub mod Outcome
 pub mod Uses

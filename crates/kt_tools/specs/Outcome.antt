@@ -18,11 +18,12 @@ use Rattle.kt_tools.specs.EltOutcome.{elt_outcome}
 use Rattle.kt_tools.specs.PltOutcome.{plt_rows_outcome}
 use Rattle.kt_tools.specs.SummaryOutcome.{summary_need, summary_rows_outcome}
 use Rattle.kt_words.specs.declared.command.Command.{Command}
-use Rattle.kt_words.specs.declared.command.Command.TheVariants.{Fmcalc, Summarycalc, Eltcalc, Pltcalc, Aalcalc, Leccalc, Kat, Convert, FootprintText, Eve, Getmodel, Gulcalc}
+use Rattle.kt_words.specs.declared.command.Command.TheVariants.{Fmcalc, FmcalcNet, Summarycalc, Eltcalc, Pltcalc, Aalcalc, Leccalc, Kat, Convert, FootprintText, Eve, Getmodel, Gulcalc}
 use Rattle.kt_tools.specs.ModelOutcome.{model_need, model_rows_outcome}
 use Rattle.kt_tools.specs.GulOutcome.{gul_need, gul_rows_outcome}
 use Rattle.kt_periods.specs.PeriodTables.{aal_rows_outcome, lec_rows_outcome}
-use Rattle.kt_tools.specs.FmOutcome.{fm_need, fm_rows_outcome}
+use Rattle.kt_fmcalc.specs.Losses.{insured_rows_outcome, net_rows_outcome}
+use Rattle.kt_fmcalc.specs.Needs.{insured_need, net_need}
 use Rattle.kt_kat.specs.Outcome.{kat_outcome}
 use Rattle.kt_tools.specs.PeriodOutcome.{curve_need, curve_of}
 use Rattle.kt_words.specs.FileNames.{file_names}
@@ -74,8 +75,12 @@ abbrev pub summary_outcome : Bool → ℕ → ℕ → FileMap → List ℕ → O
 summary_outcome items set rule files source = with_tables (loaded files (summary_need items rule)) (λ rows. summary_rows_outcome items set rule rows source)
 
 -- the insured losses by an allocation rule, by the programme among the tables
-abbrev pub fm_outcome : ℕ → FileMap → List ℕ → Outcome
-fm_outcome rule files source = with_tables (loaded files (fm_need rule)) (λ rows. fm_rows_outcome rule rows source)
+abbrev pub insured_outcome : ℕ → FileMap → List ℕ → Outcome
+insured_outcome rule files source = with_tables (loaded files (insured_need rule)) (λ rows. insured_rows_outcome rule rows source)
+
+-- the losses net of what the layers of the base, at 0, or of a stage take, by an allocation rule
+abbrev pub net_outcome : ℕ → ℕ → FileMap → List ℕ → Outcome
+net_outcome rule stage files source = with_tables (loaded files (net_need rule stage)) (λ rows. net_rows_outcome rule stage rows source)
 
 -- the average annual losses of a summary stream, by the occurrences among the tables
 abbrev pub aal_outcome : FileMap → List ℕ → Outcome
@@ -95,7 +100,8 @@ gul_outcome samples cut files source = with_tables (loaded files (gul_need sampl
 
 -- the outcome of each tool, over its words, the named files and the source
 abbrev pub tool_outcome : List (List ℕ) → Command → FileMap → List ℕ → Outcome
-tool_outcome words (Fmcalc rule) files source = fm_outcome rule files source
+tool_outcome words (Fmcalc rule) files source = insured_outcome rule files source
+tool_outcome words (FmcalcNet rule stage) files source = net_outcome rule stage files source
 tool_outcome words (Summarycalc items set rule) files source = summary_outcome items set rule files source
 tool_outcome words (Eltcalc heading) files source = elt_outcome heading source
 tool_outcome words (Pltcalc heading) files source = plt_outcome heading files source

@@ -8,11 +8,12 @@ use Rattle.kt_ends.specs.declared.status.Status.{Status}
 use Rattle.kt_ends.specs.declared.status.Status.TheVariants as status
 use Rattle.kt_out.specs.NamedFiles.{FileMap}
 use Rattle.kt_words.specs.declared.command.Command.{Command}
-use Rattle.kt_words.specs.declared.command.Command.TheVariants.{Fmcalc, Summarycalc, Eltcalc, Pltcalc, Aalcalc, Leccalc, Kat, Convert, FootprintText, Eve, Getmodel, Gulcalc}
+use Rattle.kt_words.specs.declared.command.Command.TheVariants.{Fmcalc, FmcalcNet, Summarycalc, Eltcalc, Pltcalc, Aalcalc, Leccalc, Kat, Convert, FootprintText, Eve, Getmodel, Gulcalc}
 use Rattle.kt_words.specs.declared.stop.WordStop.{WordStop}
 
 abbrev pub command_uses : Command → Uses
 command_uses (Fmcalc rule) = record { inputs = true; outputs = false; source = true; sink = true }
+command_uses (FmcalcNet rule stage) = record { inputs = true; outputs = false; source = true; sink = true }
 command_uses (Summarycalc items set rule) = record { inputs = true; outputs = false; source = true; sink = true }
 command_uses (Eltcalc heading) = record { inputs = false; outputs = false; source = true; sink = true }
 command_uses (Pltcalc heading) = record { inputs = true; outputs = false; source = true; sink = true }

@@ -1,7 +1,6 @@
 //! The tool that makes the ground-up losses of a stream of damage distributions.
 //! The rules: docs/COMMANDS.md, "gulcalc".
 ghost use Rattle.std.specs.Prelude.{◌≡◌, ◌++◌, ◌≤◌, true, length, OnOk, IfOk};
-ghost use Rattle.std.specs.List.{flat_map};
 ghost use Rattle.kt_ends.specs.Ending.{Ended};
 ghost use Rattle.kt_ends.specs.Stops.{end_status};
 ghost use Rattle.kt_ends.specs.World.{Finds, world};
@@ -10,7 +9,6 @@ ghost use Rattle.kt_loop.specs.Runs.{bare};
 ghost use Rattle.kt_out.specs.InputFiles.{InputsState};
 ghost use Rattle.kt_out.specs.OutputFiles.{OutputsState};
 ghost use Rattle.kt_rec.specs.declared.table.Table.TheVariants as table;
-ghost use Rattle.kt_stream.specs.Losses.{loss_bytes};
 ghost use Rattle.kt_tools.specs.GulOutcome.{gul_need as needs, gul_rows_outcome};
 ghost use Rattle.kt_tools.specs.Outcome.{gul_outcome};
 ghost use Rattle.kt_tools.specs.Uses.{ToolEnds, command_uses};
@@ -22,12 +20,11 @@ use kt_gul::ground_up;
 use kt_loading::{load_tables, with_table};
 use kt_loop::laws::{runs_give_their_text, what_is_read_with_more_known_can_be_taken};
 use kt_loop::{KnownHead, KnownReader, RunStage, run_by_run};
-use kt_money::{Bytes, OutOfMemory};
+use kt_losses::put_losses;
+use kt_money::Bytes;
 use kt_out::{Inputs, Sink, Source};
 use kt_rec::{Table, TableSet};
-use kt_stream::{
-    Bin, Bins, Cdf, CdfReader, Head, LossRecord, Placed, StreamKind, put_head, put_loss,
-};
+use kt_stream::{Bin, Bins, Cdf, CdfReader, Head, Placed, StreamKind, put_head};
 use kt_tables::Portfolio;
 use std::alloc::{AllocError, Global};
 
@@ -43,16 +40,6 @@ fn gul_need(samples: u32) -> Need
         rule: 0,
         net: false,
     }
-}
-
-/// Appends records of losses, one after the other.
-pub(crate) fn put_losses(out: &mut Bytes, records: &[LossRecord]) -> Result<(), OutOfMemory>
-    ensures { OnOk result (out.new ≡ out.old ++ flat_map loss_bytes records.now) }
-{
-    for record in records {
-        put_loss(out, record)?;
-    }
-    Ok(())
 }
 
 /// The same bins.

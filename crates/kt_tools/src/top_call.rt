@@ -13,7 +13,7 @@ ghost use Rattle.kt_words.specs.Command.{command_of};
 use crate::convert::convert;
 use crate::eltcalc::eltcalc;
 use crate::eve::eve;
-use crate::fmcalc::fmcalc;
+use crate::fmcalc::{fmcalc, fmcalc_net};
 use crate::footprint::footprint_to_text;
 use crate::getmodel::getmodel;
 use crate::gulcalc::gulcalc;
@@ -42,6 +42,9 @@ fn carry_out<I: Inputs, S: Source, K: Sink>(
     match read_command(words) {
         Err(stop) => Status::Words(stop),
         Ok(Command::Fmcalc { rule }) => status_of(fmcalc(alloc, rule, inputs, source, sink)),
+        Ok(Command::FmcalcNet { rule, stage }) => {
+            status_of(fmcalc_net(alloc, rule, stage, inputs, source, sink))
+        }
         Ok(Command::Summarycalc { items, set, rule }) => {
             status_of(summarycalc(alloc, items, set, rule, inputs, source, sink))
         }

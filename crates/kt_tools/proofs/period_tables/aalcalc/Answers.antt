@@ -3,7 +3,7 @@ use Rattle.kt_loading.specs.Loaded.{EndsLoaded, EndsUnloaded}
 use Rattle.kt_periods.specs.PeriodTables.{aal_rows_outcome}
 use Rattle.kt_tools.specs.Uses.{command_uses}
 use Rattle.kt_words.specs.declared.command.Command.TheVariants.{Aalcalc}
-use Rattle.kt_tools.proofs.FmLemmas.{aal_loaded}
+use Rattle.kt_tools.proofs.PeriodLemmas.{aal_loaded}
 use Rattle.kt_tools.proofs.period_tables.aalcalc.Goals as goal
 
 pub returns-in-Err : goal.returns-in-Err

@@ -4,7 +4,7 @@ use Rattle.kt_periods.specs.PeriodTables.{lec_rows_outcome}
 use Rattle.kt_tools.specs.PeriodOutcome.{curve_of}
 use Rattle.kt_tools.specs.Uses.{command_uses}
 use Rattle.kt_words.specs.declared.command.Command.TheVariants.{Leccalc}
-use Rattle.kt_tools.proofs.FmLemmas.{lec_loaded}
+use Rattle.kt_tools.proofs.PeriodLemmas.{lec_loaded}
 use Rattle.kt_tools.proofs.period_tables.leccalc.Goals as goal
 
 pub returns-in-Err : goal.returns-in-Err

@@ -1,11 +1,14 @@
 use Rattle.std.proofs.Common.{◌∙◌, ap, sym}
 use Rattle.kt_ends.specs.Stops.{end_status}
-use Rattle.kt_words.specs.declared.command.Command.TheVariants.{Fmcalc, Summarycalc, Eltcalc, Pltcalc, Aalcalc, Leccalc, Kat, Convert, FootprintText, Eve, Getmodel, Gulcalc}
+use Rattle.kt_words.specs.declared.command.Command.TheVariants.{Fmcalc, FmcalcNet, Summarycalc, Eltcalc, Pltcalc, Aalcalc, Leccalc, Kat, Convert, FootprintText, Eve, Getmodel, Gulcalc}
 use Rattle.kt_tools.proofs.Running.{by_command, command_is}
 use Rattle.kt_tools.proofs.top_call.carry_out.Goals as goal
 
 pub returns-in-Ok-Fmcalc-clause-ends : goal.returns-in-Ok-Fmcalc-clause-ends
 returns-in-Ok-Fmcalc-clause-ends g c outputs = by_command c.args.words.now (Fmcalc c.in-Ok-Fmcalc.rule) _ _ (end_status c.fmcalc.result) _ (sym c.read_command.ensures.value ∙ c.in-Ok-Fmcalc.is ∙ ap command_is c.in-Ok-Fmcalc.field-0-is) c.status_of.ensures (c.fmcalc.ensures outputs)
+
+pub returns-in-Ok-FmcalcNet-clause-ends : goal.returns-in-Ok-FmcalcNet-clause-ends
+returns-in-Ok-FmcalcNet-clause-ends g c outputs = by_command c.args.words.now (FmcalcNet c.in-Ok-FmcalcNet.rule c.in-Ok-FmcalcNet.stage) _ _ (end_status c.fmcalc_net.result) _ (sym c.read_command.ensures.value ∙ c.in-Ok-FmcalcNet.is ∙ ap command_is c.in-Ok-FmcalcNet.field-0-is) c.status_of.ensures (c.fmcalc_net.ensures outputs)
 
 pub returns-in-Ok-Summarycalc-clause-ends : goal.returns-in-Ok-Summarycalc-clause-ends
 returns-in-Ok-Summarycalc-clause-ends g c outputs = by_command c.args.words.now (Summarycalc c.in-Ok-Summarycalc.items c.in-Ok-Summarycalc.set c.in-Ok-Summarycalc.rule) _ _ (end_status c.summarycalc.result) _ (sym c.read_command.ensures.value ∙ c.in-Ok-Summarycalc.is ∙ ap command_is c.in-Ok-Summarycalc.field-0-is) c.status_of-in-Ok-Summarycalc.ensures (c.summarycalc.ensures outputs)

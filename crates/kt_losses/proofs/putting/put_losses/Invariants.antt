@@ -1,7 +1,7 @@
 use Rattle.std.proofs.Common.{◌≡◌, ◌++◌, take}
 use Rattle.std.specs.List.{flat_map}
 use Rattle.kt_stream.specs.Losses.{loss_bytes}
-use Rattle.kt_tools.proofs.gulcalc.put_losses.Given as goal
+use Rattle.kt_losses.proofs.putting.put_losses.Given as goal
 
 -- the records so far
 abbrev pub invariant-loop-record : goal.invariant-loop-record

@@ -1,0 +1,19 @@
+//! Records of losses as they are written.
+//! The rules: docs/STREAMS.md, "Records".
+ghost use Rattle.std.specs.Prelude.{◌≡◌, ◌++◌, All, OnOk};
+ghost use Rattle.std.specs.List.{flat_map};
+ghost use Rattle.kt_stream.specs.Losses.{loss_bytes};
+
+use kt_money::Bytes;
+use kt_stream::{LossRecord, put_loss};
+use std::alloc::AllocError;
+
+/// Appends records of losses, one after the other. An error is want of memory.
+pub fn put_losses(out: &mut Bytes, records: &[LossRecord]) -> Result<(), AllocError>
+    ensures { OnOk result (out.new ≡ out.old ++ flat_map loss_bytes records.now) }
+{
+    for record in records {
+        put_loss(out, record)?;
+    }
+    Ok(())
+}
