@@ -21,17 +21,14 @@ use Rattle.kt_tree.specs.SharingLaws.{allocated-sum}
 use Rattle.kt_tree.specs.Sums.{sum_by-agree, sum_by-below, sum_by-one, sum_by-swap}
 use Rattle.kt_tree.specs.Tree.{Tree, IsTree, beneath, policy_loss}
 use Rattle.kt_tree.specs.TreeLaws.{each}
-use Rattle.kt_insured.specs.Insured.{id_loss, in_order, insured_range, insured_records, layer_sum, layer_sums, layers_of, of_layer, output_loss, output_record, part_above, part_of_id, record_with, sample_range, shares, sum_with, taken_loss}
+use Rattle.kt_shares.specs.Shares.{id_loss, insured_range, layers_of, part_of_id, record_with, sample_range, shares, taken_loss}
+use Rattle.kt_shares.specs.LookupLaws.{lookup-few}
+use Rattle.kt_shares.specs.RecordLaws.{pairs-none, record-good}
+use Rattle.kt_shares.specs.SharesLaws.{cond-le, policy-le, shares-sum, taken-few}
+use Rattle.kt_insured.specs.Insured.{in_order, insured_records, layer_sum, layer_sums, of_layer, output_loss, output_record, part_above, sum_with}
 use Rattle.kt_insured.specs.declared.sums.LayerSum.{LayerSum}
-use Rattle.kt_insured.proofs.ListLemmas.{lookup-few}
-use Rattle.kt_insured.proofs.RowLemmas.{policy-le, shares-sum}
 
 -- ---- how much an output can have
-
--- an amount or nothing
-cond-le : (b : Bool) (n : ℕ) → cond b n 0 ≤ n
-cond-le true n = omega arith
-cond-le false n = omega arith
 
 -- the loss of an output is not more than those of all ids
 pub output-le : (tree : Tree) → IsTree tree → (losses : ℕ → ℕ) (rule agg layer : ℕ) → output_loss tree losses rule agg layer ≤ sum (map losses tree.ids)
@@ -55,94 +52,9 @@ output-le tree is losses rule agg layer = by (nat_eq rule 0)
     by true = omega (arith, in_layer agg (policy_loss tree losses agg layer), policy-le tree is losses agg layer)
     by false = above (climbed tree.next tree.top_level 1 agg)
 
--- the losses that a tree takes are not more than those of the run
-pub taken-few : (tree : Tree) → IsTree tree → (records : List LossRecord) (sidx : ℤ) → sum (map (taken_loss tree records sidx) tree.ids) ≤ run_loss sidx records
-taken-few tree is records sidx =
-    omega (
-      arith,
-      sum-map (taken_loss tree records sidx) tree.ids,
-      sum_by-below (taken_loss tree records sidx) (id_loss records sidx) tree.ids (λ id. cond-le (list_any (nat_eq id) tree.ids) (id_loss records sidx id)),
-      sum_by-swap (λ id (entry : LossRecord). cond (nat_eq entry.id id) (loss_of sidx entry.pairs) 0) tree.ids records,
-      sum_by-below (λ (entry : LossRecord). sum_by (λ id. cond (nat_eq entry.id id) (loss_of sidx entry.pairs) 0) tree.ids) (λ (entry : LossRecord). loss_of sidx entry.pairs) records (λ entry. once entry),
-    )
-  where
-    once : (entry : LossRecord) → sum_by (λ id. cond (nat_eq entry.id id) (loss_of sidx entry.pairs) 0) tree.ids ≤ loss_of sidx entry.pairs
-    once entry = omega (arith, sum_by-one (loss_of sidx entry.pairs) entry.id tree.ids is.ids_once, cond-le (list_any (nat_eq entry.id) tree.ids) (loss_of sidx entry.pairs))
-
 -- so an output has no more than that
 pub output-few : (tree : Tree) → IsTree tree → (records : List LossRecord) (sidx : ℤ) (rule agg layer : ℕ) → output_loss tree (taken_loss tree records sidx) rule agg layer ≤ run_loss sidx records
 output-few tree is records sidx rule agg layer = omega (arith, output-le tree is (taken_loss tree records sidx) rule agg layer, taken-few tree is records sidx)
-
--- ---- its pairs
-
--- no loss gives no pair
-pub pairs-none : (loss : ℤ → ℕ) → ((sidx : ℤ) → loss sidx ≡ 0) → (range : List ℤ) → pairs_of loss range ≡ []
-pairs-none loss none [] = refl
-pairs-none loss none (sidx ∷ range) = ap (λ n. cons_option (pair_of sidx n) (pairs_of loss range)) (none sidx) ∙ pairs-none loss none range
-
-module _ (samples : ℕ) (loss : ℤ → ℕ) (few : (sidx : ℤ) → loss sidx ≤ 10000000000000000) where
-  -- each pair is in its ranges where each sidx is
-  pairs-each : (range : List ℤ) → AllByRecursion (IsSidx samples) range → AllByRecursion (IsPair samples) (pairs_of loss range)
-  pairs-each [] are = tt
-  pairs-each (sidx ∷ range) are = by (loss sidx) (few sidx) (pairs-each range are.1)
-    where
-      by : (amount : ℕ) → amount ≤ 10000000000000000 → AllByRecursion (IsPair samples) (pairs_of loss range) → AllByRecursion (IsPair samples) (cons_option (pair_of sidx amount) (pairs_of loss range))
-      by zero most rest = rest
-      by (suc less) most rest = (record { sidx = are.0; some = omega arith; most = most }, rest)
-
-  -- those of samples begin above what each sample is above
-  pairs-above : (sidx : ℤ) (a n : ℕ) → ((k : ℕ) → a ≤ k → sidx <ℤ pos k) → BeginsAbove sidx (pairs_of loss (map pos (range_with_len a n)))
-  pairs-above sidx a zero above = tt
-  pairs-above sidx a (suc n) above = by (loss (pos a)) (pairs-above sidx (a + 1) n (λ k low. above k (omega arith)))
-    where
-      by : (amount : ℕ) → BeginsAbove sidx (pairs_of loss (map pos (range_with_len (a + 1) n))) → BeginsAbove sidx (cons_option (pair_of (pos a) amount) (pairs_of loss (map pos (range_with_len (a + 1) n))))
-      by zero rest = rest
-      by (suc less) rest = above a (omega arith)
-
-  -- and rise
-  pairs-rise : (a n : ℕ) → RisingSidx (pairs_of loss (map pos (range_with_len a n)))
-  pairs-rise a zero = tt
-  pairs-rise a (suc n) = by (loss (pos a)) (pairs-rise (a + 1) n)
-    where
-      higher : (one other : ℕ) → one < other → pos one <ℤ pos other
-      higher one other less = omega (arith, ints)
-
-      by : (amount : ℕ) → RisingSidx (pairs_of loss (map pos (range_with_len (a + 1) n))) → RisingSidx (cons_option (pair_of (pos a) amount) (pairs_of loss (map pos (range_with_len (a + 1) n))))
-      by zero rest = rest
-      by (suc less) rest = (pairs-above (pos a) (a + 1) n (λ k low. higher a k (omega arith)), rest)
-
-  -- with the mean in front
-  all-rise : RisingSidx (pairs_of loss (insured_range samples))
-  all-rise = by (loss (negsuc 0))
-    where
-      below : (k : ℕ) → negsuc 0 <ℤ pos k
-      below k = omega (arith, ints)
-
-      by : (amount : ℕ) → RisingSidx (cons_option (pair_of (negsuc 0) amount) (pairs_of loss (sample_range samples)))
-      by zero = pairs-rise 1 samples
-      by (suc less) = (pairs-above (negsuc 0) 1 samples (λ k low. below k), pairs-rise 1 samples)
-
-  -- the sidx are in their ranges
-  range-sidx : AllByRecursion (IsSidx samples) (insured_range samples)
-  range-sidx = (mean, from 1 samples (omega arith) (omega arith))
-    where
-      mean : IsSidx samples (negsuc 0)
-      mean = record { lowest = omega (arith, ints); highest = omega (arith, ints); other = λ same. omega (arith, ints, same) }
-
-      one : (k : ℕ) → 1 ≤ k → k ≤ samples → IsSidx samples (pos k)
-      one k low high = record { lowest = omega (arith, ints); highest = omega (arith, ints); other = λ same. omega (arith, ints, same) }
-
-      from : (a n : ℕ) → 1 ≤ a → a + n ≤ samples + 1 → AllByRecursion (IsSidx samples) (map pos (range_with_len a n))
-      from a zero low high = tt
-      from a (suc n) low high = (one a low (omega arith), from (a + 1) n (omega arith) (omega arith))
-
-  -- a record of them is one of a stream
-  pub record-good : (event id : ℕ) → IsId event → IsId id → (later : List LossRecord) → AllByRecursion (IsLoss samples) later → AllByRecursion (IsLoss samples) (cons_option (record_with event id (pairs_of loss (insured_range samples))) later)
-  record-good event id event_is id_is later good = by (pairs_of loss (insured_range samples)) (pairs-each (insured_range samples) range-sidx) all-rise
-    where
-      by : (pairs : List Pair) → AllByRecursion (IsPair samples) pairs → RisingSidx pairs → AllByRecursion (IsLoss samples) (cons_option (record_with event id pairs) later)
-      by [] each rise = good
-      by (pair ∷ pairs) each rise = (record { event = event_is; id = id_is; pairs = record { some = omega arith; each = each; rising = rise } }, good)
 
 -- ---- the records
 

@@ -21,33 +21,6 @@ lookup-append test (x ∷ xs) ys = by (test x.0) (lookup-append test xs ys)
     by true rest = refl
     by false rest = rest
 
--- lists behind each other, paired
-pub zip-append : {K X : Type 0} (ks ls : List K) (xs ys : List X) → length ks ≡ length xs → zip (ks ++ ls) (xs ++ ys) ≡ zip ks xs ++ zip ls ys
-zip-append [] ls [] ys same = refl
-zip-append [] ls (x ∷ xs) ys same = absurd (omega arith)
-zip-append (k ∷ ks) ls [] ys same = absurd (omega arith)
-zip-append (k ∷ ks) ls (x ∷ xs) ys same = ap (λ rest. (k, x) ∷ rest) (zip-append ks ls xs ys (omega arith))
-
--- an id that is not among ids is not found
-pub lookup-none : (id : ℕ) (ids values : List ℕ) → list_any (nat_eq id) ids ≡ false → lookup (nat_eq id) (zip ids values) ≡ None
-lookup-none id [] values none = refl
-lookup-none id (other ∷ ids) [] none = refl
-lookup-none id (other ∷ ids) (value ∷ values) none = by (nat_eq id other) none (lookup-none id ids values)
-  where
-    by : (b : Bool) → (b || list_any (nat_eq id) ids) ≡ false → (list_any (nat_eq id) ids ≡ false → lookup (nat_eq id) (zip ids values) ≡ None) → cond b (Some value) (lookup (nat_eq id) (zip ids values)) ≡ None
-    by true none rest = let clash : true ≡ false = none in cc
-    by false none rest = rest none
-
--- what is found is not more than all
-pub lookup-few : {K : Type 0} (test : K → Bool) (keys : List K) (values : List ℕ) → unwrap_or (lookup test (zip keys values)) 0 ≤ sum values
-lookup-few test [] values = omega arith
-lookup-few test (key ∷ keys) [] = omega arith
-lookup-few test (key ∷ keys) (value ∷ values) = by (test key) (lookup-few test keys values)
-  where
-    by : (b : Bool) → unwrap_or (lookup test (zip keys values)) 0 ≤ sum values → unwrap_or (cond b (Some value) (lookup test (zip keys values))) 0 ≤ sum (value ∷ values)
-    by true rest = omega (arith, sum_by-cons (λ (n : ℕ). n) value values)
-    by false rest = omega (arith, rest, sum_by-cons (λ (n : ℕ). n) value values)
-
 -- what stands at the first place of a key: no place, and nothing is found
 pub place-none : {K : Type 0} (test : K → Bool) (a : ℕ) (keys : List K) (values : List ℕ) → lookup test (zip keys (range_with_len a (length keys))) ≡ None → lookup test (zip keys values) ≡ None
 place-none test a [] values none = refl
@@ -107,31 +80,6 @@ filter_map-twice {Y = Y} f g (x ∷ xs) = by (g x) (filter_map-twice f g xs)
     by None rest = rest
     by (Some y) rest = ap (cons_option (f y)) rest
 
--- what agrees for each makes the same
-pub filter_map-agree : {X Y : Type 0} (f g : X → Option Y) (xs : List X) → AllByRecursion (λ x. f x ≡ g x) xs → filter_map f xs ≡ filter_map g xs
-filter_map-agree f g [] same = refl
-filter_map-agree f g (x ∷ xs) same = ap (λ one. cons_option one (filter_map f xs)) same.0 ∙ ap (cons_option (g x)) (filter_map-agree f g xs same.1)
-
--- what is made of what each becomes
-pub filter_map-map : {X Y Z : Type 0} (f : Y → Option Z) (g : X → Y) (xs : List X) → filter_map f (map g xs) ≡ filter_map (λ x. f (g x)) xs
-filter_map-map f g [] = refl
-filter_map-map f g (x ∷ xs) = ap (cons_option (f (g x))) (filter_map-map f g xs)
-
--- what holds of each number of a range
-pub each-range : (P : ℕ → Type 0) (a n : ℕ) → ((k : ℕ) → a ≤ k → k < a + n → P k) → AllByRecursion P (range_with_len a n)
-each-range P a zero all = tt
-each-range P a (suc n) all = (all a (omega arith) (omega arith), each-range P (a + 1) n (λ k low high. all k (omega arith) (omega arith)))
-
--- an id is not among those that pass a test which it fails
-pub filter-absent : (test : ℕ → Bool) (id : ℕ) (ids : List ℕ) → test id ≡ false → list_any (nat_eq id) (filter test ids) ≡ false
-filter-absent test id [] fails = refl
-filter-absent test id (other ∷ ids) fails = by (nat_eq id other) refl (test other) refl (filter-absent test id ids fails)
-  where
-    by : (a : Bool) → nat_eq id other ≡ a → (b : Bool) → test other ≡ b → list_any (nat_eq id) (filter test ids) ≡ false → list_any (nat_eq id) (cond b (other ∷ filter test ids) (filter test ids)) ≡ false
-    by a same false other_fails rest = rest
-    by true same true passes rest = let clash : true ≡ false = sym passes ∙ (ap test (sym (eqb-true id other same)) ∙ fails) in cc
-    by false same true passes rest = ap (λ c. c || list_any (nat_eq id) (filter test ids)) same ∙ rest
-
 -- ---- one more of a list
 
 -- what each becomes, behind others
@@ -148,17 +96,6 @@ made-more f xs now next i d below now_is next_is =
     next_is
     ∙ (ap (λ front. front ++ cons_option (f (slice_index_or xs i d)) []) now_is
     ∙ sym (ap (filter_map f) (take_more xs i d below) ∙ filter_map-append f (take i xs) (slice_index_or xs i d ∷ [])))
-
--- and of each number of a range
-pub counted-more : {Y : Type 0} (f : ℕ → Option Y) (n : ℕ) (now next : List Y) → now ≡ filter_map f (range_with_len 0 n) → next ≡ now ++ cons_option (f n) [] → next ≡ filter_map f (range_with_len 0 (n + 1))
-counted-more f n now next now_is next_is =
-    next_is
-    ∙ (ap (λ front. front ++ cons_option (f n) []) now_is
-    ∙ sym (ap (filter_map f) (ap (range_with_len 0) (add-one n) ∙ last 0 n n (omega arith)) ∙ filter_map-append f (range_with_len 0 n) (n ∷ [])))
-  where
-    last : (a n j : ℕ) → a + n ≡ j → range_with_len a (suc n) ≡ range_with_len a n ++ j ∷ []
-    last a zero j e = let same : a ≡ j = omega arith in ap (λ k. k ∷ []) same
-    last a (suc n) j e = ap (λ l. a ∷ l) (last (a + 1) n j (omega arith))
 
 -- numbers of a range, added
 pub summed-more : (f : ℕ → ℕ) (a n : ℕ) → sum_by f (range_with_len a (n + 1)) ≡ sum_by f (range_with_len a n) + f (a + n)
@@ -190,13 +127,3 @@ made-skip f xs now i d below now_is none = made-more f xs now now i d below now_
 pub summed-few : (f : ℕ → ℕ) (a n : ℕ) → ((k : ℕ) → a ≤ k → k < a + n → f k ≤ 10000000000000000) → sum_by f (range_with_len a n) ≤ n * 10000000000000000
 summed-few f a zero few = omega arith
 summed-few f a (suc n) few = omega (arith, sum_by-cons f a (range_with_len (a + 1) n), few a (omega arith) (omega arith), summed-few f (a + 1) n (λ k low high. few k (omega arith) (omega arith)))
-
--- the id in a place is one of the ids
-pub member-at : (ids : List ℕ) (place : ℕ) → place < length ids → list_any (nat_eq (slice_index ids place)) ids ≡ true
-member-at [] place below = absurd (omega arith)
-member-at (id ∷ ids) zero below = ap (λ b. b || list_any (nat_eq id) ids) (nat_eq_equiv.refl id)
-member-at (id ∷ ids) (suc place) below = by (nat_eq (slice_index ids place) id) (member-at ids place (omega arith))
-  where
-    by : (b : Bool) → list_any (nat_eq (slice_index ids place)) ids ≡ true → (b || list_any (nat_eq (slice_index ids place)) ids) ≡ true
-    by true rest = refl
-    by false rest = rest

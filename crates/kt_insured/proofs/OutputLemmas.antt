@@ -13,24 +13,15 @@ use Rattle.kt_keys.specs.Keys.{same_pair}
 use Rattle.kt_checks.specs.OutputChecks.{climbed}
 use Rattle.kt_tree.specs.Sharing.{allocated, part_of, policy_parts}
 use Rattle.kt_tree.specs.Tree.{Tree, beneath, comes_to, is_unit, policy_loss}
-use Rattle.kt_insured.specs.Insured.{layers_of, of_layer, output_loss, part_above, shares}
+use Rattle.kt_shares.specs.LookupLaws.{filter-absent, lookup-none, zip-append}
+use Rattle.kt_shares.specs.Row.{row_for}
+use Rattle.kt_shares.specs.Shares.{layers_of, shares}
+use Rattle.kt_shares.specs.SharesLaws.{length-allocated}
+use Rattle.kt_insured.specs.Insured.{of_layer, output_loss, part_above}
 use Rattle.kt_insured.specs.Layout.{keys, keys_for, owners}
-use Rattle.kt_insured.specs.Row.{row_for}
-use Rattle.kt_insured.proofs.ListLemmas.{filter-absent, lookup-append, lookup-none, zip-append}
+use Rattle.kt_insured.proofs.ListLemmas.{lookup-append}
 
--- ---- as many shares as owners
-
-length-shares_after : (total weights given : ℕ) (rest : List ℕ) → length (shares_after total weights given rest) ≡ length rest
-length-shares_after total weights given [] = refl
-length-shares_after total weights given (w ∷ rest) = ap suc (length-shares_after total weights (given + w) rest)
-
-length-allocated : (tree : Tree) (losses : ℕ → ℕ) (rule top layer : ℕ) → length (allocated tree losses rule top layer) ≡ length (beneath tree top)
-length-allocated tree losses rule top layer = by (nat_eq rule 1)
-  where
-    by : (b : Bool) → length (cond b (share_out (policy_loss tree losses top layer) (map losses (beneath tree top))) (map (part_of (policy_parts tree losses top layer)) (beneath tree top))) ≡ length (beneath tree top)
-    by true = length-shares_after _ _ 0 (map losses (beneath tree top)) ∙ length-map (beneath tree top) losses
-    by false = length-map (beneath tree top) (part_of (policy_parts tree losses top layer))
-
+-- as many shares as owners
 pub length-shares : (tree : Tree) (losses : ℕ → ℕ) (rule top layer : ℕ) → length (owners tree rule top) ≡ length (shares tree losses rule top layer)
 length-shares tree losses rule top layer = by (nat_eq rule 0)
   where

@@ -7,15 +7,19 @@ use Rattle.kt_runs.specs.RunLosses.{AreWithin, event_of}
 use Rattle.kt_tree.specs.Tree.{Tree}
 use Rattle.kt_rec.specs.declared.financial.FmXref.{FmXref}
 use Rattle.kt_fmtree.specs.Parts.{Parts, IsProgramme}
+use Rattle.kt_shares.specs.Layers.{key_of}
+use Rattle.kt_shares.specs.Row.{Shared}
+use Rattle.kt_shares.specs.Shares.{layers_of}
+use Rattle.kt_shares.specs.Table.{table_for}
+use Rattle.kt_shares.specs.TableLaws.{table-length}
 use Rattle.kt_insured.specs.Bounds.{HasAmounts}
-use Rattle.kt_insured.specs.Insured.{insured_records, layer_sums, layers_of}
-use Rattle.kt_insured.specs.Layout.{IsLayout, Laid, key_of}
-use Rattle.kt_insured.specs.Row.{Shared}
-use Rattle.kt_insured.specs.Table.{record_in, sums_in, table_for}
-use Rattle.kt_insured.specs.declared.layers.TopLayer.{TopLayer}
+use Rattle.kt_insured.specs.Insured.{insured_records, layer_sums}
+use Rattle.kt_insured.specs.Layout.{IsLayout, Laid}
+use Rattle.kt_insured.specs.Table.{record_in, sums_in}
+use Rattle.kt_shares.specs.declared.layers.TopLayer.{TopLayer}
 use Rattle.kt_insured.specs.declared.layout.Outlet.{Outlet}
 use Rattle.kt_insured.specs.declared.sums.LayerSum.{LayerSum}
-use Rattle.kt_insured.proofs.TableLemmas.{amounts-within, places-within, records-are, sums-are, table-length}
+use Rattle.kt_insured.proofs.TableLemmas.{amounts-within, places-within, records-are, sums-are}
 
 -- records that are held in themselves
 pub map-same : (records : List LossRecord) → map (λ (entry : LossRecord). entry) records ≡ records
@@ -31,7 +35,7 @@ module _ (tree : Tree) (parts : Parts) (is : IsProgramme tree parts) (outputs : 
 
   -- there is a row for the mean and one for each sample
   pub run-rows : samples ≤ 1000 → (1 ≤ length table) × (length table ≤ 1001)
-  run-rows few = let long = table-length tree is.is layout.rule samples records within table full in (omega arith, omega arith)
+  run-rows few = let long = table-length tree layout.rule samples records (layers_of tree) table full in (omega arith, omega arith)
 
   -- each output has its place in each row
   pub run-places : (outlets : List Outlet) → outlets ≡ layout.outlets → AllByRecursion (λ outlet. All (λ row. outlet.place < length row.shares) table) outlets

@@ -15,93 +15,22 @@ use Rattle.kt_runs.specs.RunLosses.{AreWithin, event_of}
 use Rattle.kt_runs.specs.Sidx.{pair_of, pairs_of, sidx_at}
 use Rattle.kt_tree.specs.Sums.{sum_by-agree}
 use Rattle.kt_tree.specs.Tree.{Tree, IsTree, policy_loss}
+use Rattle.kt_shares.specs.Layers.{key_of}
+use Rattle.kt_shares.specs.RecordLaws.{pairs-none}
+use Rattle.kt_shares.specs.Row.{Shared, no_shares, row_for}
+use Rattle.kt_shares.specs.RowLaws.{each-range, filter_map-agree, rows-are, sample-place}
+use Rattle.kt_shares.specs.Shares.{id_loss, insured_range, layers_of, record_with, sample_range, shares, taken_loss}
+use Rattle.kt_shares.specs.SharesLaws.{policy-le, shares-sum, taken-few}
+use Rattle.kt_shares.specs.Table.{pairs_by_row, row_at, row_place, table_for}
+use Rattle.kt_shares.specs.TableLaws.{each-row, row-is, table-length}
 use Rattle.kt_insured.specs.Bounds.{HasAmounts}
-use Rattle.kt_insured.specs.Insured.{in_order, insured_range, insured_records, id_loss, layer_sum, layer_sums, layers_of, output_loss, output_record, record_with, sample_range, shares, sum_with, taken_loss}
-use Rattle.kt_insured.specs.Layout.{key_of, keys, outlet_of, place_in}
-use Rattle.kt_insured.specs.Row.{Shared, no_shares, row_for}
-use Rattle.kt_insured.specs.Table.{pairs_in, record_in, row_at, row_place, sampled_sum, sum_in, sums_in, table_for}
-use Rattle.kt_insured.specs.Taken.{ArePlaced, placed_loss, placed_sum}
-use Rattle.kt_insured.specs.declared.layers.TopLayer.{TopLayer}
+use Rattle.kt_insured.specs.Insured.{in_order, insured_records, layer_sum, layer_sums, output_loss, output_record, sum_with}
+use Rattle.kt_insured.specs.Layout.{keys, outlet_of, place_in}
+use Rattle.kt_insured.specs.Table.{pairs_in, record_in, sampled_sum, sum_in, sums_in}
+use Rattle.kt_shares.specs.declared.layers.TopLayer.{TopLayer}
 use Rattle.kt_insured.specs.declared.layout.Outlet.{Outlet}
-use Rattle.kt_insured.specs.declared.losses.PlacedLosses.{PlacedLosses}
-use Rattle.kt_insured.proofs.GoodLemmas.{pairs-none, taken-few}
-use Rattle.kt_insured.proofs.ListLemmas.{counted-more, each-range, filter_map-agree, filter_map-map, filter_map-twice, member-at, place-none, place-some, followed, summed-few, summed-more}
+use Rattle.kt_insured.proofs.ListLemmas.{filter_map-twice, place-none, place-some, followed, summed-few, summed-more}
 use Rattle.kt_insured.proofs.OutputLemmas.{length-row, output-is}
-use Rattle.kt_insured.proofs.RowLemmas.{policy-le, shares-sum}
-
--- ---- the sidx of rows
-
--- a row behind the first is that of a sample
-sample-place : (row : ℕ) → 1 ≤ row → sidx_at (row_place row) ≡ pos row
-sample-place row some = ap (λ b. sidx_at (cond b 2147483647 (2147483648 + row))) (other row some) ∙ (ap (λ b. cond b (negsuc (2147483647 - (2147483648 + row))) (pos (2147483648 + row - 2147483648))) (above row) ∙ ap pos (omega arith))
-  where
-    other : (n : ℕ) → 1 ≤ n → nat_eq n 0 ≡ false
-    other n some = grind (arith, nat_tests)
-
-    above : (n : ℕ) → nat_lt (2147483648 + n) 2147483648 ≡ false
-    above n = grind (arith, nat_tests)
-
--- the place of a row from that of sidx -2
-pub place-in : (row samples : ℕ) → row ≤ samples → (row_place row - 2147483646 < samples + 3) × (2147483646 + (row_place row - 2147483646) ≡ row_place row)
-place-in row samples most = by (nat_eq row 0)
-  where
-    by : (b : Bool) → (cond b 2147483647 (2147483648 + row) - 2147483646 < samples + 3) × (2147483646 + (cond b 2147483647 (2147483648 + row) - 2147483646) ≡ cond b 2147483647 (2147483648 + row))
-    by true = (omega arith, omega arith)
-    by false = (omega arith, omega arith)
-
-map-each : {X Y : Type 0} (f g : X → Y) (xs : List X) → AllByRecursion (λ x. f x ≡ g x) xs → map f xs ≡ map g xs
-map-each f g [] same = refl
-map-each f g (x ∷ xs) same = ap (λ y. y ∷ map f xs) same.0 ∙ ap (λ ys. g x ∷ ys) (map-each f g xs same.1)
-
--- the sidx of all rows
-range-is : (samples : ℕ) → insured_range samples ≡ map (λ row. sidx_at (row_place row)) (range_with_len 0 (samples + 1))
-range-is samples = sym (ap (λ n. map (λ row. sidx_at (row_place row)) (range_with_len 0 n)) (add-one samples) ∙ ap (λ rest. negsuc 0 ∷ rest) (map-each (λ row. sidx_at (row_place row)) pos (range_with_len 1 samples) (each-range (λ row. sidx_at (row_place row) ≡ pos row) 1 samples (λ row low high. sample-place row low))))
-
--- ---- the losses of a row
-
-module _ (tree : Tree) (ids : List ℕ) (ids_are : ids ≡ tree.ids) (samples : ℕ) (records : List LossRecord) (placed : List PlacedLosses) (are : ArePlaced ids samples records placed) (row at : ℕ) (most : row ≤ samples) (at_is : at ≡ row_place row - 2147483646) where
-  abbrev sidx : ℤ
-  sidx = sidx_at (row_place row)
-
-  same-sidx : sidx_at (2147483646 + at) ≡ sidx
-  same-sidx = ap sidx_at (ap (λ n. 2147483646 + n) at_is ∙ (place-in row samples most).1)
-
-  at-inside : at < samples + 3
-  at-inside = subst (λ n. n < samples + 3) (sym at_is) (place-in row samples most).0
-
-  -- the loss in the place of an id is what the tree takes
-  pub taken-at : (place : ℕ) → place < length ids → placed_loss placed at place ≡ taken_loss tree records (sidx_at (row_place row)) (slice_index ids place)
-  taken-at place below =
-      are.losses_are at place at-inside below
-      ∙ (ap (λ sidx. id_loss records sidx (slice_index ids place)) same-sidx
-      ∙ sym (ap (λ b. cond b (id_loss records sidx (slice_index ids place)) 0) (ap (λ all. list_any (nat_eq (slice_index ids place)) all) (sym ids_are) ∙ member-at ids place below)))
-
-  -- another id has none
-  pub taken-none : (id : ℕ) → list_any (nat_eq id) tree.ids ≡ false → taken_loss tree records (sidx_at (row_place row)) id ≡ 0
-  taken-none id none = ap (λ b. cond b (id_loss records sidx id) 0) none
-
-  -- the losses are not too much
-  pub placed-few : AreWithin records → placed_sum placed at ≤ 10000000000000000
-  placed-few within = omega (arith, are.few at at-inside, within (sidx_at (2147483646 + at)))
-
--- ---- the pairs of a place, row by row
-
-module _ (table : List Shared) (place row loss : ℕ) (pairs : List Pair) (so_far : pairs ≡ filter_map (λ row. pair_of (sidx_at (row_place row)) (slice_index (row_at table row).shares place)) (range_with_len 0 row)) (loss_is : loss ≡ slice_index (row_at table row).shares place) where
-  -- a loss above 0 gives a pair
-  pub pairs-push : (longer : List Pair) → 0 < loss → longer ≡ pairs ++ record { sidx = sidx_at (row_place row); loss = loss } ∷ [] → longer ≡ filter_map (λ row. pair_of (sidx_at (row_place row)) (slice_index (row_at table row).shares place)) (range_with_len 0 (row + 1))
-  pairs-push longer some longer_is =
-      counted-more (λ row. pair_of (sidx_at (row_place row)) (slice_index (row_at table row).shares place)) row pairs longer so_far
-      (longer_is ∙ ap (λ made. pairs ++ made) (sym (one loss some) ∙ ap (λ loss. cons_option (pair_of (sidx_at (row_place row)) loss) []) loss_is))
-    where
-      one : (loss : ℕ) → 0 < loss → cons_option (pair_of (sidx_at (row_place row)) loss) [] ≡ record { sidx = sidx_at (row_place row); loss = loss } ∷ []
-      one zero some = absurd (omega arith)
-      one (suc less) some = refl
-
-  -- a loss of 0 gives none
-  pub pairs-skip : loss ≡ 0 → pairs ≡ filter_map (λ row. pair_of (sidx_at (row_place row)) (slice_index (row_at table row).shares place)) (range_with_len 0 (row + 1))
-  pairs-skip none =
-      counted-more (λ row. pair_of (sidx_at (row_place row)) (slice_index (row_at table row).shares place)) row pairs pairs so_far
-      (sym (append-nil pairs) ∙ ap (λ loss. pairs ++ cons_option (pair_of (sidx_at (row_place row)) loss) []) (sym none ∙ loss_is))
 
 -- ---- amounts of the samples, added row by row
 
@@ -133,31 +62,13 @@ module _ (tree : Tree) (is : IsTree tree) (rule samples : ℕ) (records : List L
   abbrev full : ℕ → Shared
   full row = row_for tree (losses row) rule (layers_of tree)
 
-  pub table-length : length table ≡ samples + 1
-  table-length = ap length table_is ∙ length-map-range_with_len full 0 (samples + 1)
-
-  row-is : (row : ℕ) → row < samples + 1 → row_at table row ≡ full row
-  row-is row below = ap (λ all. row_at all row) table_is ∙ get_or-map-range_with_len full 0 (samples + 1) row row no_shares below (omega arith)
-
-  -- what holds of each row
-  each-row : (P : Shared → Type 0) → ((row : ℕ) → P (full row)) → All P table
-  each-row P all = subst (All P) (sym table_is) (All-from_recursion P (map full (range_with_len 0 (samples + 1))) (over (range_with_len 0 (samples + 1))))
-    where
-      over : (rows : List ℕ) → AllByRecursion P (map full rows)
-      over [] = tt
-      over (row ∷ rows) = (all row, over rows)
-
   -- ---- outputs
 
   -- the pairs in a place are those of the losses that stand there
   pairs-are : (place : ℕ) (loss : ℤ → ℕ) → ((row : ℕ) → slice_index (full row).shares place ≡ loss (sidx_at (row_place row))) → pairs_in table place ≡ pairs_of loss (insured_range samples)
   pairs-are place loss same =
-      ap (λ n. filter_map (λ row. pair_of (sidx_at (row_place row)) (slice_index (row_at table row).shares place)) (range_with_len 0 n)) table-length
-      ∙ (filter_map-agree (λ row. pair_of (sidx_at (row_place row)) (slice_index (row_at table row).shares place)) (λ row. pair_of (sidx_at (row_place row)) (loss (sidx_at (row_place row)))) (range_with_len 0 (samples + 1))
-      (each-range (λ row. pair_of (sidx_at (row_place row)) (slice_index (row_at table row).shares place) ≡ pair_of (sidx_at (row_place row)) (loss (sidx_at (row_place row)))) 0 (samples + 1)
-      (λ row low high. ap (pair_of (sidx_at (row_place row))) (ap (λ (one : Shared). slice_index one.shares place) (row-is row (omega arith)) ∙ same row)))
-      ∙ (sym (filter_map-map (λ sidx. pair_of sidx (loss sidx)) (λ row. sidx_at (row_place row)) (range_with_len 0 (samples + 1)))
-      ∙ ap (filter_map (λ sidx. pair_of sidx (loss sidx))) (sym (range-is samples))))
+      ap (pairs_by_row (λ row. slice_index (row_at table row).shares place)) (table-length tree rule samples records (layers_of tree) table table_is)
+      ∙ rows-are samples (λ row. slice_index (row_at table row).shares place) loss (λ row below. ap (λ (one : Shared). slice_index one.shares place) (row-is tree rule samples records (layers_of tree) table table_is row below) ∙ same row)
 
   -- the loss of an output at a sidx
   abbrev loss_of_output : FmXref → ℤ → ℕ
@@ -204,7 +115,7 @@ module _ (tree : Tree) (is : IsTree tree) (rule samples : ℕ) (records : List L
       one : (output : FmXref) (found : Option ℕ) → place_in (keys tree rule) (output.agg_id, output.layer_id) ≡ found → (later : List Outlet) → AllByRecursion (λ outlet. All (λ row. outlet.place < length row.shares) table) later → AllByRecursion (λ outlet. All (λ row. outlet.place < length row.shares) table) (cons_option (option_map (λ place. record { id = output.output_id; place = place }) found) later)
       one output None none later rest = rest
       one output (Some place) some later rest = (
-        each-row (λ row. place < length row.shares) (λ row.
+        each-row tree rule samples records (layers_of tree) table table_is (λ row. place < length row.shares) (λ row.
             let same = length-row tree (losses row) rule (layers_of tree) in
             let found = place-some (same_pair (output.agg_id, output.layer_id)) 0 (keys tree rule) (full row).shares place same some in
             omega (arith, found.high, same)),
@@ -229,7 +140,7 @@ module _ (tree : Tree) (is : IsTree tree) (rule samples : ℕ) (records : List L
 
     -- a row has amounts for each layer
     pub amounts-within : (place : ℕ) → place < length layers → All (HasAmounts place) table
-    amounts-within place below = each-row (HasAmounts place) (λ row.
+    amounts-within place below = each-row tree rule samples records (layers_of tree) table table_is (HasAmounts place) (λ row.
         let inside : place < length (layers_of tree) = omega (arith, as-many) in
         let key = slice_index_or (layers_of tree) place no_key in
         let policy = get_or-map (λ (key : ℕ × ℕ). policy_loss tree (losses row) key.0 key.1) (layers_of tree) place no_key 0 inside in
@@ -250,11 +161,11 @@ module _ (tree : Tree) (is : IsTree tree) (rule samples : ℕ) (records : List L
     -- amounts of the samples, added
     sampled-is : (amount : Shared → ℕ) (f : ℤ → ℕ) → ((row : ℕ) → amount (full row) ≡ f (sidx_at (row_place row))) → sampled_sum amount table ≡ sum_by f (sample_range samples)
     sampled-is amount f same =
-        let long = table-length in
+        let long = table-length tree rule samples records (layers_of tree) table table_is in
         let fewer : length table - 1 ≡ samples = omega arith in
         ap (λ n. sum_by (λ row. amount (row_at table row)) (range_with_len 1 n)) fewer
         ∙ (sum_by-agree (λ row. amount (row_at table row)) (λ row. f (pos row)) (range_with_len 1 samples)
-        (each-range (λ row. amount (row_at table row) ≡ f (pos row)) 1 samples (λ row low high. ap amount (row-is row (omega arith)) ∙ (same row ∙ ap f (sample-place row low))))
+        (each-range (λ row. amount (row_at table row) ≡ f (pos row)) 1 samples (λ row low high. ap amount (row-is tree rule samples records (layers_of tree) table table_is row (omega arith)) ∙ (same row ∙ ap f (sample-place row low))))
         ∙ sym (sum_by-map f pos (range_with_len 1 samples)))
 
     -- the sum of the layer in a place

@@ -1,35 +1,18 @@
 -- Where the loss of each output stands in a row of shares.
 -- The rule: docs/FINANCIAL_MODULE.md, "Insured losses".
-use Rattle.std.specs.Prelude.{◌≡◌, ℕ, ◌+◌, ◌<◌, true, cond, nat_eq, List, [], ◌∷◌, ◌++◌, length, map, option_map, Option, slice_index, slice_index_or}
-use Rattle.std.specs.List.{AllByRecursion, filter_map, flat_map, list_any, range_with_len, zip}
+use Rattle.std.specs.Prelude.{◌≡◌, ℕ, cond, nat_eq, List, [], ◌∷◌, length, map, option_map, Option}
+use Rattle.std.specs.List.{AllByRecursion, filter_map, flat_map, range_with_len, zip}
 use Rattle.std.specs.Map.{lookup}
 use Rattle.kt_rec.specs.declared.financial.FmXref.{FmXref}
 use Rattle.kt_keys.specs.Keys.{same_pair}
 use Rattle.kt_tree.specs.Tree.{Tree, beneath}
 use Rattle.kt_fmtree.specs.Parts.{Parts}
-use Rattle.kt_insured.specs.Insured.{in_order, layers_of}
-use Rattle.kt_insured.specs.declared.layers.TopLayer.{TopLayer}
+use Rattle.kt_shares.specs.Layers.{IsTopLayer, key_of}
+use Rattle.kt_shares.specs.Shares.{layers_of}
+use Rattle.kt_shares.specs.declared.layers.TopLayer.{TopLayer}
+use Rattle.kt_insured.specs.Insured.{in_order}
 use Rattle.kt_insured.specs.declared.layout.Outlet.{Outlet}
 use Rattle.kt_insured.specs.declared.layout.Layout.TheInside.{Inside}
-
--- ---- layers
-
--- the layers of tops whose places begin at one
-abbrev pub layers_from : List (List ℕ) → ℕ → List ℕ → List TopLayer
-layers_from layers node [] = []
-layers_from layers node (top ∷ tops) = map (λ layer. record { node = node; top = top; layer = layer }) (slice_index_or layers node []) ++ layers_from layers (node + 1) tops
-
--- the top and the layer
-abbrev pub key_of : TopLayer → ℕ × ℕ
-key_of one = (one.top, one.layer)
-
--- a layer is one of its top
-pub record IsTopLayer (parts : Parts) (one : TopLayer) : Type 0 where
-  pub node : one.node < length parts.tops
-  pub top_is : slice_index parts.tops one.node ≡ one.top
-  pub layer : list_any (nat_eq one.layer) (slice_index_or parts.layers one.node []) ≡ true
-
--- ---- outputs
 
 -- who has shares of the policy losses of a top: by rule 0 the top, by rules 1 and 2 the ids beneath it
 abbrev pub owners : Tree → ℕ → ℕ → List ℕ

@@ -1,32 +1,20 @@
--- The rows of all sidx.
+-- What outputs and layers have in the rows of all sidx.
 -- The rule: docs/FINANCIAL_MODULE.md, "Insured losses".
-use Rattle.std.specs.Prelude.{ℕ, ◌+◌, ◌-◌, cond, nat_eq, List, [], ◌∷◌, length, map, Option, slice_index, slice_index_or}
-use Rattle.std.specs.List.{cons_option, filter_map, range_with_len, sum_by}
+use Rattle.std.specs.Prelude.{ℕ, ◌+◌, ◌-◌, List, [], ◌∷◌, length, Option, slice_index}
+use Rattle.std.specs.List.{cons_option, range_with_len, sum_by}
 use Rattle.kt_stream.specs.declared.entry.LossRecord.{LossRecord}
 use Rattle.kt_stream.specs.declared.entry.Pair.{Pair}
-use Rattle.kt_runs.specs.Sidx.{pair_of, sidx_at}
-use Rattle.kt_tree.specs.Tree.{Tree}
-use Rattle.kt_insured.specs.Insured.{record_with, sum_with, taken_loss}
-use Rattle.kt_insured.specs.Row.{Shared, no_shares, row_for}
-use Rattle.kt_insured.specs.declared.layers.TopLayer.{TopLayer}
+use Rattle.kt_shares.specs.Row.{Shared}
+use Rattle.kt_shares.specs.Shares.{record_with}
+use Rattle.kt_shares.specs.Table.{pairs_by_row, row_at}
+use Rattle.kt_shares.specs.declared.layers.TopLayer.{TopLayer}
+use Rattle.kt_insured.specs.Insured.{sum_with}
 use Rattle.kt_insured.specs.declared.layout.Outlet.{Outlet}
 use Rattle.kt_insured.specs.declared.sums.LayerSum.{LayerSum}
 
--- the place of the sidx of a row among the whole numbers of 32 bits: the first row is that of the mean, and then come the samples
-abbrev pub row_place : ℕ → ℕ
-row_place row = cond (nat_eq row 0) 2147483647 (2147483648 + row)
-
--- the rows of the mean and of so many samples
-abbrev pub table_for : Tree → ℕ → ℕ → List LossRecord → List (ℕ × ℕ) → List Shared
-table_for tree rule samples records layers = map (λ row. row_for tree (taken_loss tree records (sidx_at (row_place row))) rule layers) (range_with_len 0 (samples + 1))
-
--- the row in a place
-abbrev pub row_at : List Shared → ℕ → Shared
-row_at table row = slice_index_or table row no_shares
-
 -- the pairs of the shares in a place
 abbrev pub pairs_in : List Shared → ℕ → List Pair
-pairs_in table place = filter_map (λ row. pair_of (sidx_at (row_place row)) (slice_index (row_at table row).shares place)) (range_with_len 0 (length table))
+pairs_in table place = pairs_by_row (λ row. slice_index (row_at table row).shares place) (length table)
 
 -- the record of an output in a table
 abbrev pub record_in : ℕ → List Shared → Outlet → Option LossRecord

@@ -9,12 +9,13 @@ ghost use Rattle.kt_tree.specs.Programme.{tree_of};
 ghost use Rattle.kt_tree.specs.Tree.{Tree};
 ghost use Rattle.kt_fmtree.specs.Parts.{IsProgramme};
 ghost use Rattle.kt_insured.specs.Insured.{in_order};
-ghost use Rattle.kt_insured.specs.Layout.{IsLayout, IsTopLayer, key_of, keys_for, outlet_of, place_in};
+ghost use Rattle.kt_insured.specs.Layout.{IsLayout, keys_for, outlet_of, place_in};
+ghost use Rattle.kt_shares.specs.Layers.{IsTopLayer, key_of};
 
-use crate::layers::{TopLayer, top_layers};
 use kt_fmtree::{Programme, rising};
 use kt_keys::{first_values, output_ids};
 use kt_rec::FmXref;
+use kt_shares::{TopLayer, top_layers};
 use kt_tables::Portfolio;
 use std::alloc::{AllocError, Global};
 use std::collections::HashMap;

@@ -1,38 +1,20 @@
 //! The records of outputs, from the rows of all sidx.
 //! The rule: docs/FINANCIAL_MODULE.md, "Insured losses".
-ghost use Rattle.std.specs.Prelude.{◌≡◌, ◌<◌, ◌≤◌, ◌++◌, [], ◌∷◌, length, slice_index, All, IfOk, OnOk};
+ghost use Rattle.std.specs.Prelude.{◌≡◌, ◌<◌, ◌≤◌, length, slice_index, All, IfOk};
 ghost use Rattle.std.specs.List.{AllByRecursion, filter_map};
-ghost use Rattle.kt_runs.specs.Sidx.{sidx_at};
-ghost use Rattle.kt_insured.specs.Table.{pairs_in, record_in, row_place};
+ghost use Rattle.kt_insured.specs.Table.{pairs_in, record_in};
 
 use crate::layout::Outlet;
-use crate::row::Row;
-use kt_runs::sidx_at;
-use kt_stream::{LossRecord, Pair, Pairs, Records};
+use kt_shares::{Row, push_loss, push_record};
+use kt_stream::{LossRecord, Pairs, Records};
 use std::alloc::{AllocError, Global};
-
-/// The pair of a row.
-fn pair_at(row: u32, loss: u64) -> Pair
-    requires { row ≤ 1000 }
-    ensures value { result ≡ record { sidx = sidx_at (row_place row); loss = loss } }
-{
-    let place = if row == 0 {
-        2_147_483_647
-    } else {
-        2_147_483_648 + row
-    };
-    Pair {
-        sidx: sidx_at(place),
-        loss,
-    }
-}
 
 /// The share in a place of a row.
 fn share_in(row: &Row, place: usize) -> u64
     requires { place < length row.now.shares }
     ensures value { result ≡ slice_index row.now.shares place }
 {
-    row.shares[place]
+    row.shares()[place]
 }
 
 /// The pairs of the shares in a place.
@@ -43,35 +25,9 @@ fn pairs_in(alloc: Global, table: &[Row], place: usize) -> Result<Pairs, AllocEr
 {
     let mut pairs = Pairs::new(alloc);
     for row in 0..table.len() {
-        let loss = share_in(&table[row], place);
-        if loss > 0 {
-            pairs.push(pair_at(row as u32, loss))?;
-        }
+        push_loss(&mut pairs, row as u32, share_in(&table[row], place))?;
     }
     Ok(pairs)
-}
-
-/// Appends the record of an output, where it has pairs.
-fn push_record(
-    alloc: Global,
-    event: u32,
-    table: &[Row],
-    outlet: Outlet,
-    made: &mut Vec<LossRecord>,
-) -> Result<(), AllocError>
-    requires rows { length table.now ≤ 1001 }
-    requires place { All (λ row. outlet.place < length row.shares) table.now }
-    ensures ok { OnOk result (made.new.items ≡ made.old.items ++ filter_map (record_in event table.now) (outlet ∷ [])) }
-{
-    let pairs = pairs_in(alloc, table, outlet.place)?;
-    if !pairs.as_slice().is_empty() {
-        made.push(LossRecord {
-            event,
-            id: outlet.id,
-            pairs,
-        })?;
-    }
-    Ok(())
 }
 
 /// The records of outputs, in their order.
@@ -87,7 +43,8 @@ pub(crate) fn records_of(
 {
     let mut made = Vec::new(alloc);
     for outlet in outlets {
-        push_record(alloc, event, table, *outlet, &mut made)?;
+        let pairs = pairs_in(alloc, table, outlet.place)?;
+        push_record(&mut made, event, outlet.id, pairs)?;
     }
     Ok(Records::from_vec(made))
 }

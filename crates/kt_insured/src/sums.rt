@@ -5,8 +5,7 @@ ghost use Rattle.std.specs.List.{cons_option};
 ghost use Rattle.kt_insured.specs.Bounds.{HasAmounts};
 ghost use Rattle.kt_insured.specs.Table.{sampled_sum, sum_in, sums_in};
 
-use crate::layers::TopLayer;
-use crate::row::Row;
+use kt_shares::{Row, TopLayer};
 use kt_stream::Records;
 use std::alloc::{AllocError, Global};
 
@@ -30,7 +29,7 @@ fn policy_in(row: &Row, place: usize) -> u64
     requires { place < length row.now.policies }
     ensures value { result ≡ slice_index row.now.policies place }
 {
-    row.policies[place]
+    row.policies()[place]
 }
 
 /// The total in a place of a row.
@@ -38,7 +37,7 @@ fn total_in(row: &Row, place: usize) -> u64
     requires { place < length row.now.totals }
     ensures value { result ≡ slice_index row.now.totals place }
 {
-    row.totals[place]
+    row.totals()[place]
 }
 
 /// The policy losses of the samples in a place, added.

@@ -1,7 +1,8 @@
 use Rattle.std.proofs.Common.{◌≡◌, map, take}
 use Rattle.kt_tree.specs.Tree.{Tree}
 use Rattle.kt_fmtree.specs.Parts.{IsProgramme}
-use Rattle.kt_insured.specs.Layout.{key_of, keys_for}
+use Rattle.kt_shares.specs.Layers.{key_of}
+use Rattle.kt_insured.specs.Layout.{keys_for}
 use Rattle.kt_insured.proofs.layout.keys_of.Given as goal
 
 abbrev pub invariant-loop-one : goal.invariant-loop-one

@@ -1,6 +1,6 @@
 use Rattle.std.proofs.Common.{ap, slice_index, ◌∙◌}
 use Rattle.std.proofs.lemmas.List.{get_or_read}
-use Rattle.kt_insured.specs.Row.{Shared, no_shares}
+use Rattle.kt_shares.specs.Row.{Shared, no_shares}
 use Rattle.kt_insured.proofs.TableLemmas.{sampled-all, sampled-fits, sampled-more}
 use Rattle.kt_insured.proofs.sums.policy_sum.Goals as goal
 

@@ -1,6 +1,6 @@
 use Rattle.std.proofs.Common.{◌≡◌, ◌-◌, slice_index}
 use Rattle.std.specs.List.{range_with_len, sum_by}
-use Rattle.kt_insured.specs.Table.{row_at}
+use Rattle.kt_shares.specs.Table.{row_at}
 use Rattle.kt_insured.proofs.sums.policy_sum.Given as goal
 
 abbrev pub invariant-loop-row : goal.invariant-loop-row

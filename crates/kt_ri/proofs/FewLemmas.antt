@@ -1,0 +1,148 @@
+-- The tops of the tables' programmes have at most 50 layers each, so what an id cedes fits its type.
+use Rattle.std.proofs.Common.{◌≡◌, ℕ, zero, suc, ◌+◌, ◌*◌, ◌<◌, ◌≤◌, ◌^◌, ◌&&◌, Bool, true, false, cond, nat_eq, nat_lt, List, [], ◌∷◌, Option, Some, None, length, map, slice_index_or, refl, sym, ap, subst, ◌∙◌, arith}
+use Rattle.std.specs.Prelude.{All, unwrap_or}
+use Rattle.std.specs.List.{AllByRecursion, IsDistinct, filter, flat_map, list_any, sum, sum_by, zip}
+use Rattle.std.specs.Map.{lookup}
+use Rattle.std.proofs.lemmas.List.Elements.{recursion_from_All}
+use Rattle.std.proofs.lemmas.List.Sums.{sum_by-cons}
+use Rattle.kt_rec.specs.Ranges.{AreFinancial, AreInRange, IsFmPolicytc, IsLayer}
+use Rattle.kt_rec.specs.Rows.{FinancialRows, Rows}
+use Rattle.kt_rec.specs.declared.financial.FmPolicytc.{FmPolicytc}
+use Rattle.kt_keys.specs.Keys.{financial_of, no_financial, policytc_of, programme_of}
+use Rattle.kt_keys.specs.Units.{top_level, top_targets}
+use Rattle.kt_checks.specs.OutputChecks.{climbed}
+use Rattle.kt_tree.specs.Programme.{layers_in, or_first, tree_of}
+use Rattle.kt_tree.specs.Rising.{IsRising, distinct-from_rising, put, rising, rising-rises}
+use Rattle.kt_tree.specs.Sharing.{allocated}
+use Rattle.kt_tree.specs.Sums.{each_then, sum_by-below, sum_by-flat_map, sum_by-none, sum_by-one}
+use Rattle.kt_tree.specs.Tree.{Tree, IsTree, beneath, comes_to, is_unit}
+use Rattle.kt_fmtree.specs.Parts.{Parts, IsProgramme}
+use Rattle.kt_shares.specs.LookupLaws.{filter-absent, lookup-none}
+use Rattle.kt_shares.specs.Shares.{layers_of, part_of_id}
+use Rattle.kt_shares.specs.SharesLaws.{cond-le, part-le}
+use Rattle.kt_ri.specs.Ceding.{HasFewLayers}
+use Rattle.kt_ri.specs.Reinsurance.{ceded_loss}
+
+-- ---- the layers of a top
+
+-- rising layers from a least one up are not more than there are numbers to 50
+rising-few : (low : ℕ) (layers : List ℕ) → IsRising layers → AllByRecursion (λ layer. low ≤ layer) layers → AllByRecursion IsLayer layers → low ≤ 51 → length layers + low ≤ 51
+unfolding IsRising
+rising-few low [] rises least are most = omega arith
+rising-few low (layer ∷ layers) rises least are most =
+    let first = least.0 in
+    let here = are.0.most in
+    let rest = rising-few (layer + 1) layers rises.1 (each_then (λ other. layer < other) (λ other. layer + 1 ≤ other) (λ other less. omega arith) layers rises.0) are.1 (omega arith) in
+    omega arith
+
+-- what holds of each of some ids holds of them by rising number
+each-put : (P : ℕ → Type 0) (id : ℕ) (ids : List ℕ) → P id → AllByRecursion P ids → AllByRecursion P (put id ids)
+each-put P id [] here all = (here, tt)
+each-put P id (first ∷ ids) here all = by (nat_lt id first) (nat_eq id first) (each-put P id ids here all.1)
+  where
+    by : (below same : Bool) → AllByRecursion P (put id ids) → AllByRecursion P (cond below (id ∷ (first ∷ ids)) (cond same (first ∷ ids) (first ∷ put id ids)))
+    by true same rest = (here, all)
+    by false true rest = all
+    by false false rest = (all.0, rest)
+
+each-rising : (P : ℕ → Type 0) (ids : List ℕ) → AllByRecursion P ids → AllByRecursion P (rising ids)
+each-rising P [] all = tt
+each-rising P (id ∷ ids) all = each-put P id (rising ids) all.0 (each-rising P ids all.1)
+
+-- the layers of rows are layers
+layers-each : (test : FmPolicytc → Bool) (rows : List FmPolicytc) → AllByRecursion IsFmPolicytc rows → AllByRecursion IsLayer (map (λ row. row.layer_id) (filter test rows))
+layers-each test [] all = tt
+layers-each test (row ∷ rows) all = by (test row) (layers-each test rows all.1)
+  where
+    by : (b : Bool) → AllByRecursion IsLayer (map (λ row. row.layer_id) (filter test rows)) → AllByRecursion IsLayer (map (λ row. row.layer_id) (cond b (row ∷ filter test rows) (filter test rows)))
+    by true rest = (all.0.layer_id, rest)
+    by false rest = rest
+
+-- a top has at most 50 layers
+layers-few : (rows : List FmPolicytc) → AllByRecursion IsFmPolicytc rows → (level unit : ℕ) → length (layers_in rows level unit) ≤ 50
+layers-few rows all level unit = by (rising (map (λ row. row.layer_id) (filter test rows))) many
+  where
+    test : FmPolicytc → Bool
+    test row = nat_eq row.level_id level && nat_eq row.agg_id unit
+
+    are : AllByRecursion IsLayer (rising (map (λ row. row.layer_id) (filter test rows)))
+    are = each-rising IsLayer (map (λ row. row.layer_id) (filter test rows)) (layers-each test rows all)
+
+    many : length (rising (map (λ row. row.layer_id) (filter test rows))) ≤ 50
+    many =
+        let all = rising-few 1 (rising (map (λ row. row.layer_id) (filter test rows))) (rising-rises (map (λ row. row.layer_id) (filter test rows))) (each_then IsLayer (λ layer. 1 ≤ layer) (λ layer is. is.least) _ are) are (omega arith) in
+        omega arith
+
+    by : (layers : List ℕ) → length layers ≤ 50 → length (or_first layers) ≤ 50
+    by [] few = omega arith
+    by (layer ∷ layers) few = few
+
+-- the terms of a stage are in their ranges
+terms-each : (rows : Rows) → AreInRange rows → (stage : ℕ) → AllByRecursion IsFmPolicytc (policytc_of rows stage)
+terms-each rows are stage = from rows.financial (recursion_from_All AreFinancial rows.financial are.financial) stage
+  where
+    from : (all : List FinancialRows) → AllByRecursion AreFinancial all → (stage : ℕ) → AllByRecursion IsFmPolicytc (slice_index_or all stage no_financial).policytc
+    from [] are stage = tt
+    from (one ∷ all) are zero = recursion_from_All IsFmPolicytc one.policytc are.0.policytc
+    from (one ∷ all) are (suc stage) = from all are.1 stage
+
+-- the programme of a stage of the tables has few layers
+pub tables-few : (rows : Rows) → AreInRange rows → (stage : ℕ) (parts : Parts) → IsProgramme (tree_of rows stage) parts → HasFewLayers parts
+tables-few rows are stage parts is = record {
+  tops_rise = subst IsRising (sym is.tops_are) (rising-rises (top_targets (programme_of rows stage)));
+  layers_few = subst (AllByRecursion (λ layers. length layers ≤ 50)) (sym is.layers_are) (each (rising (top_targets (programme_of rows stage))));
+}
+  where
+    each : (tops : List ℕ) → AllByRecursion (λ layers. length layers ≤ 50) (map (tree_of rows stage).layers tops)
+    each [] = tt
+    each (top ∷ tops) = (layers-few (policytc_of rows stage) (terms-each rows are stage) (top_level (programme_of rows stage)) top, each tops)
+
+-- ---- what an id cedes
+
+-- an id that does not come to a top has nothing of its policy losses
+part-none : (tree : Tree) (losses : ℕ → ℕ) (rule top layer id : ℕ) → comes_to tree tree.top_level top id ≡ false → part_of_id tree losses rule top layer id ≡ 0
+part-none tree losses rule top layer id apart = ap (λ found. unwrap_or found 0) (lookup-none id (beneath tree top) (allocated tree losses rule top layer) (filter-absent (comes_to tree tree.top_level top) id tree.ids apart))
+
+module _ (tree : Tree) (is : IsTree tree) (losses : ℕ → ℕ) (few : sum (map losses tree.ids) ≤ 10 ^ 16) (rule id : ℕ) where
+  -- what it has of the layers of a top
+  abbrev of_top : ℕ → ℕ
+  of_top top = sum_by (λ (key : ℕ × ℕ). part_of_id tree losses rule key.0 key.1 id) (map (λ layer. (top, layer)) (tree.layers top))
+
+  top-le : (top : ℕ) (layers : List ℕ) → sum_by (λ (key : ℕ × ℕ). part_of_id tree losses rule key.0 key.1 id) (map (λ layer. (top, layer)) layers) ≤ length layers * 10000000000000000
+  top-le top [] = omega arith
+  top-le top (layer ∷ layers) =
+      omega (arith, sum_by-cons (λ (key : ℕ × ℕ). part_of_id tree losses rule key.0 key.1 id) (top, layer) (map (λ layer. (top, layer)) layers), part-le tree is losses rule top layer id, few, top-le top layers)
+
+  top-none : (top : ℕ) → comes_to tree tree.top_level top id ≡ false → (layers : List ℕ) → sum_by (λ (key : ℕ × ℕ). part_of_id tree losses rule key.0 key.1 id) (map (λ layer. (top, layer)) layers) ≡ 0
+  top-none top apart [] = refl
+  top-none top apart (layer ∷ layers) =
+      omega (arith, sum_by-cons (λ (key : ℕ × ℕ). part_of_id tree losses rule key.0 key.1 id) (top, layer) (map (λ layer. (top, layer)) layers), part-none tree losses rule top layer id apart, top-none top apart layers)
+
+  -- it comes to one top at the most
+  tops-le : IsDistinct nat_eq tree.tops → AllByRecursion (λ layers. length layers ≤ 50) (map tree.layers tree.tops) → sum_by of_top tree.tops ≤ 500000000000000000
+  tops-le once layers = over (climbed tree.next tree.top_level 1 id) refl
+    where
+      over : (up : Option ℕ) → climbed tree.next tree.top_level 1 id ≡ up → sum_by of_top tree.tops ≤ 500000000000000000
+      over None up = omega (arith, none tree.tops)
+        where
+          none : (tops : List ℕ) → sum_by of_top tops ≡ 0
+          none [] = refl
+          none (top ∷ tops) = omega (arith, sum_by-cons of_top top tops, top-none top (ap (is_unit top) up) (tree.layers top), none tops)
+      over (Some unit) up = omega (arith, below tree.tops layers, sum_by-one 500000000000000000 unit tree.tops once, cond-le (list_any (nat_eq unit) tree.tops) 500000000000000000)
+        where
+          one : (top : ℕ) → length (tree.layers top) ≤ 50 → (b : Bool) → nat_eq unit top ≡ b → of_top top ≤ cond b 500000000000000000 0
+          one top some true is_here = omega (arith, top-le top (tree.layers top), some)
+          one top some false apart = omega (arith, top-none top (ap (is_unit top) up ∙ apart) (tree.layers top))
+
+          below : (tops : List ℕ) → AllByRecursion (λ layers. length layers ≤ 50) (map tree.layers tops) → sum_by of_top tops ≤ sum_by (λ top. cond (nat_eq unit top) 500000000000000000 0) tops
+          below [] all = omega arith
+          below (top ∷ tops) all = omega (arith, sum_by-cons of_top top tops, sum_by-cons (λ top. cond (nat_eq unit top) 500000000000000000 0) top tops, one top all.0 (nat_eq unit top) refl, below tops all.1)
+
+-- what an id cedes is at most 50 times 10^16 cents
+pub ceded-le : (tree : Tree) (parts : Parts) → IsProgramme tree parts → HasFewLayers parts → (losses : ℕ → ℕ) → sum (map losses tree.ids) ≤ 10 ^ 16 → (rule id : ℕ) → ceded_loss tree losses rule id ≤ 500000000000000000
+ceded-le tree parts is few losses most rule id =
+    omega (
+      arith,
+      sum_by-flat_map (λ (key : ℕ × ℕ). part_of_id tree losses rule key.0 key.1 id) (λ top. map (λ layer. (top, layer)) (tree.layers top)) tree.tops,
+      tops-le tree is.is losses most rule id (distinct-from_rising tree.tops (subst IsRising is.tops_are few.tops_rise)) (subst (AllByRecursion (λ layers. length layers ≤ 50)) is.layers_are few.layers_few),
+    )

@@ -1,0 +1,50 @@
+-- What the ids of a programme cede of the losses of a run, row by row.
+-- The rule: docs/FINANCIAL_MODULE.md, "Reinsurance".
+use Rattle.std.specs.Prelude.{◌≡◌, ℕ, ◌+◌, ◌-◌, ◌<◌, ◌^◌, cond, nat_eq, List, [], ◌∷◌, length, All, Option, Some, None, slice_index, slice_index_or}
+use Rattle.std.specs.List.{sum_by, zip}
+use Rattle.kt_stream.specs.declared.entry.LossRecord.{LossRecord}
+use Rattle.kt_stream.specs.declared.entry.Pair.{Pair}
+use Rattle.kt_runs.specs.RunLosses.{loss_of}
+use Rattle.kt_runs.specs.Sidx.{sidx_at}
+use Rattle.kt_tree.specs.Tree.{Tree}
+use Rattle.kt_fmtree.specs.Parts.{Parts, IsProgramme}
+use Rattle.kt_shares.specs.Table.{pairs_by_row, row_place}
+use Rattle.kt_ri.specs.Reinsurance.{ceded_at}
+
+-- what a place has of shares whose places are these
+abbrev pub share_at : List ℕ → List ℕ → ℕ → ℕ
+share_at places shares place = sum_by (λ pair. cond (nat_eq pair.0 place) pair.1 0) (zip places shares)
+
+-- there is a place below a width for each of some shares, and what a place has of them fits its type
+pub record HasShares (width : ℕ) (places shares : List ℕ) : Type 0 where
+  pub many : length shares ≡ length places
+  pub within : All (λ place. place < width) places
+  pub few : (place : ℕ) → place < width → share_at places shares place < 2 ^ 64
+
+-- amounts for the mean and for each sample, so many in each row
+pub record AreRows (width samples : ℕ) (rows : List (List ℕ)) : Type 0 where
+  pub many : length rows ≡ samples + 1
+  pub each : (row : ℕ) → row < samples + 1 → length (slice_index_or rows row []) ≡ width
+
+-- the amounts that the ids of a programme cede of the losses of a run
+abbrev pub AreCeded : Parts → ℕ → ℕ → List LossRecord → List (List ℕ) → Type 0
+AreCeded parts rule samples records rows =
+    (tree : Tree) → IsProgramme tree parts → (row place : ℕ) → row < samples + 1 → place < length parts.ids → slice_index (slice_index_or rows row []) place ≡ ceded_at tree rule records (slice_index parts.ids place) (sidx_at (row_place row))
+
+-- what the id in a place that may be absent cedes in a row
+abbrev pub ceded_in : List (List ℕ) → Option ℕ → ℕ → ℕ
+ceded_in rows None row = 0
+ceded_in rows (Some place) row = slice_index (slice_index_or rows row []) place
+
+-- a place that may be absent is in a row
+abbrev pub IsPlaceIn : List (List ℕ) → Option ℕ → ℕ → Type 0
+IsPlaceIn rows None row = Unit {0}
+IsPlaceIn rows (Some place) row = (row < length rows) × (place < length (slice_index_or rows row []))
+
+-- what is left of a record row by row
+abbrev pub net_pairs : List (List ℕ) → ℕ → Option ℕ → List Pair → List Pair
+net_pairs rows samples place pairs = pairs_by_row (λ row. loss_of (sidx_at (row_place row)) pairs - ceded_in rows place row) (samples + 1)
+
+-- what its id cedes row by row
+abbrev pub ceded_pairs : List (List ℕ) → ℕ → Option ℕ → List Pair
+ceded_pairs rows samples place = pairs_by_row (ceded_in rows place) (samples + 1)

@@ -1,0 +1,5 @@
+pub mod Reinsurance
+pub mod Ceding
+pub mod Ceded
+pub mod Stages
+pub mod Examples

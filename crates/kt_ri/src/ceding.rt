@@ -1,0 +1,90 @@
+//! A programme that cedes losses, as it serves all runs.
+//! The rule: docs/FINANCIAL_MODULE.md, "Reinsurance".
+ghost use Rattle.std.specs.Prelude.{◌≡◌, ◌<◌, true, IfOk};
+ghost use Rattle.kt_keys.specs.Refusals.{is_loaded};
+ghost use Rattle.kt_rec.specs.declared.table.Table.TheVariants as table;
+ghost use Rattle.kt_tree.specs.Programme.{tree_of};
+ghost use Rattle.kt_fmtree.specs.Parts.{IsProgramme};
+ghost use Rattle.kt_ri.specs.Ceding.{AreLayers, ArePlaces, HasFewLayers};
+
+use crate::places::owner_places;
+use kt_fmtree::Programme;
+use kt_shares::{TopLayer, top_layers};
+use kt_tables::Portfolio;
+use std::alloc::{AllocError, Global};
+use std::marker::Model;
+
+/// A programme that cedes losses, with the layers of its tops and the places of the ids that have the shares of their policy
+/// losses. It depends on the tables alone, so that one serves all runs. Contracts see the lists of the programme.
+#[derive(Debug, Drop)]
+pub struct CedingProgramme {
+    programme: Programme,
+    layers: Vec<TopLayer>,
+    places: Vec<usize>,
+}
+
+impl Model for CedingProgramme {
+    ghost use Rattle.kt_fmtree.specs.Parts.{Parts};
+    ghost use Rattle.kt_ri.specs.Ceding.{IsKept, programme_in};
+
+    ghost Value = { Parts };
+
+    ghost view = { programme_in };
+
+    ghost invariant = { IsKept };
+}
+
+/// A programme with what its layers cede to.
+fn ceding_of(alloc: Global, programme: Programme) -> Result<CedingProgramme, AllocError>
+    requires few { HasFewLayers programme }
+    ensures value { IfOk result (λ made. made ≡ programme) }
+{
+    let layers = top_layers(alloc, &programme)?;
+    let places = owner_places(alloc, &programme, &layers)?;
+    Ok(CedingProgramme {
+        programme,
+        layers,
+        places,
+    })
+}
+
+impl CedingProgramme {
+    /// The programme of the base, at 0, or of a reinsurance stage, 1 to 9, whose `fm_programme` must be loaded, as it cedes losses.
+    /// An error is want of memory.
+    pub fn new(
+        alloc: Global,
+        portfolio: &Portfolio,
+        stage: u32,
+    ) -> Result<CedingProgramme, AllocError>
+        requires stage { stage < 10 }
+        requires loaded { is_loaded portfolio.now.need stage table.FmProgramme ≡ true }
+        ensures value { IfOk result (IsProgramme (tree_of portfolio.now.rows stage)) }
+    {
+        portfolio.is_valid();
+        let programme = Programme::new(alloc, portfolio, stage)?;
+        let made = ceding_of(alloc, programme)?;
+        Ok(made)
+    }
+
+    /// The programme.
+    pub(crate) fn programme(&self) -> &Programme
+        ensures value { result.now ≡ self.now }
+        ensures few { HasFewLayers self.now }
+    {
+        &self.programme
+    }
+
+    /// The layers of its tops, by top and then by layer.
+    pub(crate) fn layers(&self) -> &[TopLayer]
+        ensures layers { AreLayers self.now result.now }
+    {
+        &self.layers
+    }
+
+    /// The places of the ids that have the shares in a row of its layers.
+    pub(crate) fn places(&self) -> &[usize]
+        ensures places { ArePlaces self.now result.now }
+    {
+        &self.places
+    }
+}

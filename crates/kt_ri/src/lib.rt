@@ -1,0 +1,14 @@
+//! Reinsurance: what a stage cedes of the losses of a run, and what is left, stage after stage.
+#![tactic(auto)]
+
+mod ceded;
+mod ceding;
+mod net;
+mod places;
+mod reinsured;
+mod shared;
+mod stages;
+
+pub use ceding::CedingProgramme;
+pub use reinsured::{Reinsured, one_stage};
+pub use stages::reinsure;

@@ -1,0 +1,78 @@
+//! The places of ids among those of a programme.
+//! The rule: docs/FINANCIAL_MODULE.md, "Reinsurance".
+ghost use Rattle.std.specs.Prelude.{◌≡◌, ◌<◌, ◌++◌, nat_eq, true, length, map, All, IfOk, OnOk, slice_index, slice_index_or, []};
+ghost use Rattle.std.specs.List.{AllByRecursion, list_any, flat_map};
+ghost use Rattle.kt_tree.specs.Rising.{IsRising};
+ghost use Rattle.kt_fmtree.specs.Parts.{HasProgramme};
+ghost use Rattle.kt_shares.specs.Layers.{IsTopLayer};
+ghost use Rattle.kt_ri.specs.Ceding.{AreLayers, ArePlaces, IsPlaceOf};
+
+use kt_fmtree::Programme;
+use kt_shares::TopLayer;
+use std::alloc::{AllocError, Global};
+
+/// The place of an id among rising ids, where it is one of them.
+pub(crate) fn place_of(ids: &[u32], id: u32) -> Option<usize>
+    requires rising { IsRising ids.now }
+    ensures value { IsPlaceOf ids.now id result }
+{
+    ids.binary_search(&id).ok()
+}
+
+/// The ids beneath the tops of layers, layer by layer.
+fn owners_of(
+    alloc: Global,
+    programme: &Programme,
+    layers: &[TopLayer],
+) -> Result<Vec<u32>, AllocError>
+    requires layers { AllByRecursion (IsTopLayer programme.now) layers.now }
+    ensures value { IfOk result (λ owners. owners.items ≡ flat_map (λ one. slice_index_or programme.now.beneath one.node []) layers.now) }
+{
+    let mut owners = Vec::new(alloc);
+    for one in layers {
+        owners.extend_from_slice(programme.beneath(one.node))?;
+    }
+    Ok(owners)
+}
+
+/// The place of an id among rising ids that have it.
+fn known_place(ids: &[u32], id: u32) -> usize
+    requires rising { IsRising ids.now }
+    requires member { list_any (nat_eq id) ids.now ≡ true }
+    ensures within { result < length ids.now }
+    ensures value { slice_index ids.now result ≡ id }
+{
+    match ids.binary_search(&id) {
+        Ok(place) => place,
+        Err(_) => unreachable!(),
+    }
+}
+
+/// The places of ids among rising ids that have them.
+fn places_of(alloc: Global, ids: &[u32], owners: &[u32]) -> Result<Vec<usize>, AllocError>
+    requires rising { IsRising ids.now }
+    requires members { AllByRecursion (λ id. list_any (nat_eq id) ids.now ≡ true) owners.now }
+    ensures within { IfOk result (λ places. All (λ place. place < length ids.now) places.items) }
+    ensures value { IfOk result (λ places. map (slice_index ids.now) places.items ≡ owners.now) }
+{
+    let mut places = Vec::with_capacity(alloc, owners.len())?;
+    for id in owners {
+        places.push(known_place(ids, *id))?;
+    }
+    Ok(places)
+}
+
+/// The places of the ids that have the shares in a row of layers.
+pub(crate) fn owner_places(
+    alloc: Global,
+    programme: &Programme,
+    layers: &[TopLayer],
+) -> Result<Vec<usize>, AllocError>
+    requires layers { AreLayers programme.now layers.now }
+    ensures value { IfOk result (λ places. ArePlaces programme.now places.items) }
+{
+    programme.is_of_a_tree();
+    let owners = owners_of(alloc, programme, layers)?;
+    let places = places_of(alloc, programme.ids(), &owners)?;
+    Ok(places)
+}

@@ -1,0 +1,50 @@
+//! The losses of a run behind one stage.
+//! The rule: docs/FINANCIAL_MODULE.md, "Reinsurance".
+ghost use Rattle.std.specs.Prelude.{◌≡◌, ◌⊎◌, ◌≤◌, map, All, IfOk};
+ghost use Rattle.kt_stream.specs.Losses.{IsLoss};
+ghost use Rattle.kt_runs.specs.RunLosses.{AreWithin};
+ghost use Rattle.kt_tree.specs.Tree.{Tree};
+ghost use Rattle.kt_fmtree.specs.Parts.{IsProgramme};
+ghost use Rattle.kt_ri.specs.Reinsurance.{ceded_records, net_records};
+
+use crate::ceded::ceded_of;
+use crate::ceding::CedingProgramme;
+use crate::net::{ceded_records, net_of};
+use kt_runs::RunEntry;
+use kt_stream::{LossRecord, Records};
+use std::alloc::{AllocError, Global};
+
+/// The losses of a run behind a stage.
+#[derive(Debug, Drop)]
+pub struct Reinsured {
+    /// What is left of the records, in their order.
+    pub net: Records<LossRecord>,
+    /// What their ids cede, in the same order. These losses may pass the 10^16 cents of a stream's loss: they are not written.
+    pub ceded: Records<LossRecord>,
+}
+
+/// What a programme cedes of the losses of one run by allocation rule 1 or 2, and what is left of them, at the mean and at each
+/// sample. Sidx -2 is dropped, and a record without a loss is left out. An id that the programme does not name cedes nothing. The
+/// losses of the run add to at most 10^16 cents at each sidx. An error is want of memory.
+pub fn one_stage<T: RunEntry>(
+    alloc: Global,
+    stage: &CedingProgramme,
+    samples: u32,
+    rule: u32,
+    records: &[T],
+) -> Result<Reinsured, AllocError>
+    requires samples { samples ≤ 1000 }
+    requires rule { (rule ≡ 1) ⊎ (rule ≡ 2) }
+    requires records { All (IsLoss samples) (map T.entry_of records.now) }
+    requires within { AreWithin (map T.entry_of records.now) }
+    ensures net { IfOk result (λ made. (tree : Tree) → IsProgramme tree stage.now → made.net ≡ net_records tree rule samples (map T.entry_of records.now)) }
+    ensures ceded { IfOk result (λ made. (tree : Tree) → IsProgramme tree stage.now → made.ceded ≡ ceded_records tree rule samples (map T.entry_of records.now)) }
+    ensures good { IfOk result (λ made. All (IsLoss samples) made.net) }
+    ensures within { IfOk result (λ made. AreWithin made.net) }
+{
+    stage.programme().is_of_a_tree();
+    let rows = ceded_of(alloc, stage, samples, rule, records)?;
+    let net = net_of(alloc, stage, samples, &rows, records)?;
+    let ceded = ceded_records(alloc, stage, samples, &rows, records)?;
+    Ok(Reinsured { net, ceded })
+}

@@ -1,0 +1,91 @@
+//! The net losses of a run behind stages, one after the other.
+//! The rule: docs/FINANCIAL_MODULE.md, "Reinsurance".
+ghost use Rattle.std.specs.Prelude.{◌≡◌, ◌≤◌, ◌++◌, ◌∷◌, [], List, map, All, IfOk, OnOk};
+ghost use Rattle.kt_stream.specs.Losses.{IsLoss};
+ghost use Rattle.kt_runs.specs.RunLosses.{AreWithin};
+ghost use Rattle.kt_tree.specs.Tree.{Tree};
+ghost use Rattle.kt_fmtree.specs.Parts.{IsProgramme};
+ghost use Rattle.kt_ri.specs.Reinsurance.{net_records, reinsured};
+ghost use Rattle.kt_ri.specs.Stages.{AreProgrammes};
+
+use crate::ceded::ceded_of;
+use crate::ceding::CedingProgramme;
+use crate::net::net_of;
+use kt_stream::{LossRecord, Pairs, Records};
+use std::alloc::{AllocError, Global};
+
+/// A copy of pairs.
+fn pairs_of(alloc: Global, pairs: &Pairs) -> Result<Pairs, AllocError>
+    ensures value { IfOk result (λ copy. copy ≡ pairs.now) }
+{
+    let mut copy = Pairs::new(alloc);
+    for pair in pairs.as_slice() {
+        copy.push(*pair)?;
+    }
+    Ok(copy)
+}
+
+/// A copy of a record.
+fn record_of(alloc: Global, entry: &LossRecord) -> Result<LossRecord, AllocError>
+    ensures value { IfOk result (λ copy. copy ≡ entry.now) }
+{
+    let pairs = pairs_of(alloc, &entry.pairs)?;
+    Ok(LossRecord {
+        event: entry.event,
+        id: entry.id,
+        pairs,
+    })
+}
+
+/// A copy of records.
+fn copy_of(alloc: Global, records: &[LossRecord]) -> Result<Records<LossRecord>, AllocError>
+    ensures value { IfOk result (λ copy. copy ≡ records.now) }
+{
+    let mut copy = Records::new(alloc);
+    for entry in records {
+        copy.push(record_of(alloc, entry)?)?;
+    }
+    Ok(copy)
+}
+
+/// What a stage leaves of the losses of a run, by allocation rule 2.
+fn left_by(
+    alloc: Global,
+    stage: &CedingProgramme,
+    samples: u32,
+    records: &[LossRecord],
+) -> Result<Records<LossRecord>, AllocError>
+    requires samples { samples ≤ 1000 }
+    requires records { All (IsLoss samples) records.now }
+    requires within { AreWithin records.now }
+    ensures net { IfOk result (λ net. (tree : Tree) → IsProgramme tree stage.now → net ≡ net_records tree 2 samples records.now) }
+    ensures good { IfOk result (λ net. All (IsLoss samples) net) }
+    ensures within { IfOk result (λ net. AreWithin net) }
+{
+    stage.programme().is_of_a_tree();
+    let rows = ceded_of(alloc, stage, samples, 2, records)?;
+    let net = net_of(alloc, stage, samples, &rows, records)?;
+    Ok(net)
+}
+
+/// What stages leave of the losses of one run, by allocation rule 2, each stage on what the one before leaves. Without a stage the
+/// records stay as they are. The losses of the run add to at most 10^16 cents at each sidx. An error is want of memory.
+pub fn reinsure(
+    alloc: Global,
+    stages: &[CedingProgramme],
+    samples: u32,
+    records: &[LossRecord],
+) -> Result<Records<LossRecord>, AllocError>
+    requires samples { samples ≤ 1000 }
+    requires records { All (IsLoss samples) records.now }
+    requires within { AreWithin records.now }
+    ensures net { IfOk result (λ net. (trees : List Tree) → AreProgrammes trees stages.now → net ≡ reinsured trees samples records.now) }
+    ensures good { IfOk result (λ net. All (IsLoss samples) net) }
+    ensures within { IfOk result (λ net. AreWithin net) }
+{
+    let mut net = copy_of(alloc, records)?;
+    for stage in stages {
+        net = left_by(alloc, stage, samples, net.as_slice())?;
+    }
+    Ok(net)
+}

@@ -1,0 +1,4 @@
+pub mod LayerLemmas
+pub mod TakenLemmas
+pub mod RowLemmas
+pub mod TableLemmas

@@ -1,0 +1,11 @@
+pub mod Shares
+pub mod Layers
+pub mod Taken
+pub mod Row
+pub mod Table
+pub mod HoldsLaws
+pub mod LookupLaws
+pub mod SharesLaws
+pub mod RowLaws
+pub mod RecordLaws
+pub mod TableLaws

@@ -1,0 +1,15 @@
+//! What the layers of a programme have at each sidx of a run of losses: policy losses and the shares of them.
+#![tactic(auto)]
+
+mod layers;
+mod losses;
+mod pairs;
+mod row;
+mod shared;
+mod table;
+
+pub use layers::{TopLayer, top_layers};
+pub use losses::losses_of;
+pub use pairs::{push_loss, push_record};
+pub use row::Row;
+pub use table::{loss_in_row, table_of};

@@ -1,0 +1,123 @@
+//! The policy losses of the layers at one sidx, and what they are shared out to.
+//! The rule: docs/FINANCIAL_MODULE.md, "Insured losses".
+ghost use Rattle.std.specs.Prelude.{◌≡◌, ◌≤◌, ◌^◌, ℕ, map, IfOk};
+ghost use Rattle.std.specs.List.{AllByRecursion, sum};
+ghost use Rattle.kt_tree.specs.Tree.{Tree};
+ghost use Rattle.kt_fmtree.specs.Carried.{AreCarried, IsCarriedBy};
+ghost use Rattle.kt_fmtree.specs.Parts.{IsProgramme};
+ghost use Rattle.kt_shares.specs.Shares.{shares};
+ghost use Rattle.kt_shares.specs.Layers.{IsTopLayer, key_of};
+ghost use Rattle.kt_shares.specs.Row.{row_for};
+
+use crate::layers::TopLayer;
+use kt_alloc::allocate;
+use kt_fmtree::{Levels, Programme};
+use std::alloc::{AllocError, Global};
+use std::marker::Model;
+
+/// What layers have at one sidx.
+#[derive(Debug, Drop)]
+pub struct Row {
+    /// The shares of their policy losses, one behind the other.
+    shares: Vec<u64>,
+    /// Their policy losses.
+    policies: Vec<u64>,
+    /// What the shares of each add to.
+    totals: Vec<u64>,
+}
+
+impl Model for Row {
+    ghost use Rattle.kt_shares.specs.Row.{Shared, shared_out};
+
+    ghost Value = { Shared };
+
+    ghost view = { shared_out };
+}
+
+impl Row {
+    /// The shares of the policy losses of the layers in cents, one behind the other.
+    pub fn shares(&self) -> &[u64]
+        ensures value { result.now ≡ self.now.shares }
+    {
+        &self.shares
+    }
+
+    /// The policy losses of the layers in cents.
+    pub fn policies(&self) -> &[u64]
+        ensures value { result.now ≡ self.now.policies }
+    {
+        &self.policies
+    }
+
+    /// What the shares of each layer add to in cents.
+    pub fn totals(&self) -> &[u64]
+        ensures value { result.now ≡ self.now.totals }
+    {
+        &self.totals
+    }
+}
+
+/// What the policy loss of a layer is shared out to.
+fn shares_of(
+    alloc: Global,
+    programme: &Programme,
+    levels: &Levels,
+    rule: u32,
+    one: TopLayer,
+) -> Result<Vec<u64>, AllocError>
+    requires rule { rule ≤ 2 }
+    requires layer { IsTopLayer programme.now one }
+    requires levels { IsCarriedBy programme.now levels.now }
+    ensures value { IfOk result (λ made. (tree : Tree) (loss : ℕ → ℕ) → IsProgramme tree programme.now → AreCarried tree loss programme.now levels.now → made.items ≡ shares tree loss rule one.top one.layer) }
+    ensures few { IfOk result (λ made. sum made.items ≤ 10 ^ 16) }
+{
+    if rule == 0 {
+        let policy = programme.policy(levels, one.node, one.layer);
+        let mut made = Vec::new(alloc);
+        made.push(policy)?;
+        return Ok(made);
+    }
+    let made = allocate(alloc, programme, levels, one.node, one.layer, rule)?;
+    Ok(made)
+}
+
+/// Amounts added, which add to at most 10^16.
+fn total_of(amounts: &[u64]) -> u64
+    requires { sum amounts.now ≤ 10 ^ 16 }
+    ensures value { result ≡ sum amounts.now }
+{
+    let mut all = 0;
+    for amount in amounts {
+        all += *amount;
+    }
+    all
+}
+
+/// What layers have, from what is carried up to their tops.
+pub(crate) fn row_of(
+    alloc: Global,
+    programme: &Programme,
+    levels: &Levels,
+    rule: u32,
+    layers: &[TopLayer],
+) -> Result<Row, AllocError>
+    requires rule { rule ≤ 2 }
+    requires layers { AllByRecursion (IsTopLayer programme.now) layers.now }
+    requires levels { IsCarriedBy programme.now levels.now }
+    ensures value { IfOk result (λ row. (tree : Tree) (loss : ℕ → ℕ) → IsProgramme tree programme.now → AreCarried tree loss programme.now levels.now → row ≡ row_for tree loss rule (map key_of layers.now)) }
+{
+    let mut shares = Vec::new(alloc);
+    let mut policies = Vec::with_capacity(alloc, layers.len())?;
+    let mut totals = Vec::with_capacity(alloc, layers.len())?;
+    for one in layers {
+        let made = shares_of(alloc, programme, levels, rule, *one)?;
+        policies.push(programme.policy(levels, one.node, one.layer))?;
+        totals.push(total_of(&made))?;
+        shares.extend_from_slice(&made)?;
+    }
+    Ok(Row {
+        shares,
+        policies,
+        totals,
+    })
+}
