@@ -28,7 +28,7 @@ fn leaf_parts(
     requires most { amount ≤ 10 ^ 16 }
     ensures value { IfOk result (λ parts. parts.items ≡ levels_down whole programme.now.levels levels.now.rows (length programme.now.levels) (record { place = node; amount = amount } ∷ [])) }
 {
-    let mut top = Vec::new(alloc);
+    let mut top = Vec::with_capacity(alloc, 1)?;
     top.push(PlacedPart {
         place: node as usize,
         amount,

@@ -30,15 +30,32 @@ fn id_at(programme: &Programme, place: usize) -> u32
     programme.ids()[programme.leaves()[place]]
 }
 
-/// Adds an amount to that of an id, if it is among these.
-fn add_to(ids: &[u32], amounts: &mut Vec<u64>, id: u32, amount: u64)
+/// Adds an amount to that of an id, which stands in this place.
+fn add_at(ids: &[u32], amounts: &mut Vec<u64>, place: usize, id: u32, amount: u64)
+    requires rising { IsRising ids.now }
+    requires same { length amounts.old.items ≡ length ids.now }
+    requires few { (place : ℕ) → place < length ids.now → slice_index amounts.old.items place + amount ≤ 10 ^ 17 }
+    requires within { place < length ids.now }
+    requires here { slice_index ids.now place ≡ id }
+    ensures value { amounts.new.items ≡ with_more ids.now amounts.old.items id amount }
+{
+    amounts[place] += amount;
+}
+
+/// Adds an amount to that of an id, if it is among these. It is looked for in a place first: ids stand in the order of the tree
+/// mostly.
+fn add_to(ids: &[u32], amounts: &mut Vec<u64>, near: usize, id: u32, amount: u64)
     requires rising { IsRising ids.now }
     requires same { length amounts.old.items ≡ length ids.now }
     requires few { (place : ℕ) → place < length ids.now → slice_index amounts.old.items place + amount ≤ 10 ^ 17 }
     ensures value { amounts.new.items ≡ with_more ids.now amounts.old.items id amount }
 {
+    if near < ids.len() && ids[near] == id {
+        add_at(ids, amounts, near, id, amount);
+        return;
+    }
     if let Ok(place) = ids.binary_search(&id) {
-        amounts[place] += amount;
+        add_at(ids, amounts, place, id, amount);
     }
 }
 
@@ -55,8 +72,14 @@ pub(crate) fn parts_by_id(
     ensures value { IfOk result (λ amounts. amounts.items ≡ map (part_of (unit_parts (units_at programme.now 0) parts.now)) ids.now) }
 {
     let mut amounts = zeros(alloc, ids.len())?;
-    for part in parts {
-        add_to(ids, &mut amounts, id_at(programme, part.place), part.amount);
+    for (near, part) in parts.iter().enumerate() {
+        add_to(
+            ids,
+            &mut amounts,
+            near,
+            id_at(programme, part.place),
+            part.amount,
+        );
     }
     Ok(amounts)
 }

@@ -11,6 +11,17 @@ use kt_fmtree::{Levels, Node, Programme};
 use kt_rules::Carry;
 use std::alloc::{AllocError, Global};
 
+/// How many children the units of parts have together, as far as it is counted.
+fn children_of(nodes: &[Node], parts: &[PlacedPart]) -> usize
+    requires places { AllByRecursion (λ part. part.place < length nodes.now) parts.now }
+{
+    let mut count: usize = 0;
+    for part in parts {
+        count = count.saturating_add(nodes[part.place].width);
+    }
+    count
+}
+
 /// What parts of the units of a level give to those of the level below.
 fn level_down(
     alloc: Global,
@@ -24,7 +35,7 @@ fn level_down(
     requires few { whole ≡ false → sum_by (λ part. part.amount) parts.now ≤ 10 ^ 17 }
     ensures value { IfOk result (λ given. given.items ≡ level_down whole nodes.now below.now parts.now) }
 {
-    let mut given = Vec::with_capacity(alloc, parts.len())?;
+    let mut given = Vec::with_capacity(alloc, children_of(nodes, parts))?;
     for part in parts {
         push_children(&nodes[part.place], below, whole, part.amount, &mut given)?;
     }

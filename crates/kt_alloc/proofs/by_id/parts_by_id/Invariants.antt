@@ -4,5 +4,5 @@ use Rattle.kt_fmtree.specs.Parts.{units_at}
 use Rattle.kt_alloc.specs.Placed.{unit_parts}
 use Rattle.kt_alloc.proofs.by_id.parts_by_id.Given as goal
 
-abbrev pub invariant-loop-part : goal.invariant-loop-part
-invariant-loop-part l = l.amounts.items ≡ map (part_of (unit_parts (units_at l.programme 0) (take l.part-index l.parts))) l.ids
+abbrev pub invariant-loop-near : goal.invariant-loop-near
+invariant-loop-near l = l.amounts.items ≡ map (part_of (unit_parts (units_at l.programme 0) (take l.near l.parts))) l.ids
