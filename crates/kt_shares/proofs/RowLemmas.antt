@@ -1,5 +1,5 @@
 -- What layers have at one sidx.
-use Rattle.std.proofs.Common.{◌≡◌, ℕ, zero, suc, ◌+◌, ◌<◌, ◌≤◌, ◌^◌, Bool, true, false, cond, nat_eq, List, [], ◌∷◌, ◌++◌, length, map, take, slice_index, slice_index_or, refl, sym, ap, subst, ◌∙◌, arith, append-nil}
+use Rattle.std.proofs.Common.{◌≡◌, ℕ, zero, suc, ◌+◌, ◌<◌, ◌≤◌, ◌^◌, Bool, true, false, cond, nat_eq, List, [], ◌∷◌, ◌++◌, length, map, take, replicate, slice_index, slice_index_or, refl, sym, ap, subst, ◌∙◌, arith, append-nil}
 use Rattle.std.specs.List.{flat_map, list_any, sum}
 use Rattle.std.proofs.Math.Path.{fun_ext}
 use Rattle.std.proofs.lemmas.Grind.{flat_map-append}
@@ -7,11 +7,12 @@ use Rattle.std.proofs.lemmas.List.{map-append, take_more}
 use Rattle.std.proofs.lemmas.List.Sums.{sum_by-cons}
 use Rattle.kt_runs.specs.Adding.{Holds}
 use Rattle.kt_tree.specs.Sharing.{allocated}
-use Rattle.kt_tree.specs.Tree.{Tree, policy_loss}
+use Rattle.kt_tree.specs.SharingLaws.{allocated-sum}
+use Rattle.kt_tree.specs.Tree.{Tree, IsTree, beneath, policy_loss}
 use Rattle.kt_fmtree.specs.Carried.{AreCarried, Carried, IsCarriedBy, loss_by}
 use Rattle.kt_fmtree.specs.Parts.{Parts, IsProgramme}
 use Rattle.kt_shares.specs.Shares.{shares}
-use Rattle.kt_shares.specs.SharesLaws.{policy-le, shares-sum}
+use Rattle.kt_shares.specs.SharesLaws.{length-allocated, policy-le, shares-sum}
 use Rattle.kt_shares.specs.Layers.{IsTopLayer, key_of}
 use Rattle.kt_shares.specs.Row.{row_for}
 use Rattle.kt_shares.specs.Taken.{placed_loss}
@@ -30,6 +31,28 @@ shares-whole tree losses rule top layer is = ap (λ rule. shares tree losses rul
 -- by another it is allocated
 pub shares-back : (tree : Tree) (losses : ℕ → ℕ) (rule top layer : ℕ) → nat_eq rule 0 ≡ false → shares tree losses rule top layer ≡ allocated tree losses rule top layer
 shares-back tree losses rule top layer is = ap (λ b. cond b (policy_loss tree losses top layer ∷ []) (allocated tree losses rule top layer)) is
+
+-- amounts that add to nothing are nothing
+zeros-from_sum : (amounts : List ℕ) → sum amounts ≡ 0 → replicate (length amounts) 0 ≡ amounts
+zeros-from_sum [] none = refl
+zeros-from_sum (amount ∷ amounts) none =
+    let all = sum_by-cons (λ (n : ℕ). n) amount amounts in
+    ap (λ front. front ∷ replicate (length amounts) 0) (first (omega (arith, all, none))) ∙ ap (λ rest. amount ∷ rest) (zeros-from_sum amounts (omega (arith, all, none)))
+  where
+    first : amount ≡ 0 → 0 ≡ amount
+    first is = sym is
+
+-- nothing is shared out of no policy loss
+pub nothing-shared : (tree : Tree) → IsTree tree → (losses : ℕ → ℕ) (rule top layer : ℕ) → nat_eq rule 0 ≡ false → policy_loss tree losses top layer ≡ 0 → replicate (length (beneath tree top)) 0 ≡ shares tree losses rule top layer
+nothing-shared tree is losses rule top layer other none =
+    ap (λ n. replicate n 0) (sym (length-allocated tree losses rule top layer))
+    ∙ (zeros-from_sum (allocated tree losses rule top layer) (allocated-sum tree is losses top layer rule ∙ none)
+    ∙ sym (shares-back tree losses rule top layer other))
+
+-- zeros add to nothing
+pub zeros-sum : (width : ℕ) → sum (replicate width 0) ≡ 0
+zeros-sum zero = refl
+zeros-sum (suc width) = omega (arith, sum_by-cons (λ (n : ℕ). n) 0 (replicate width 0), zeros-sum width)
 
 -- shares of a layer add to at most 10^16
 pub shares-few : (parts : Parts) (carried : Carried) (of : IsCarriedBy parts carried) (rule top layer : ℕ) (made : List ℕ) → made ≡ shares of.tree of.loss rule top layer → sum made ≤ 10 ^ 16

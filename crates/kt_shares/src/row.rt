@@ -1,6 +1,6 @@
 //! The policy losses of the layers at one sidx, and what they are shared out to.
 //! The rule: docs/FINANCIAL_MODULE.md, "Insured losses".
-ghost use Rattle.std.specs.Prelude.{◌≡◌, ◌≤◌, ◌^◌, ℕ, map, IfOk};
+ghost use Rattle.std.specs.Prelude.{◌≡◌, ◌≤◌, ◌^◌, ℕ, length, map, replicate, IfOk};
 ghost use Rattle.std.specs.List.{AllByRecursion, sum};
 ghost use Rattle.kt_tree.specs.Tree.{Tree};
 ghost use Rattle.kt_fmtree.specs.Carried.{AreCarried, IsCarriedBy};
@@ -57,6 +57,13 @@ impl Row {
     }
 }
 
+/// What ids have of no policy loss.
+fn no_shares(alloc: Global, ids: &[u32]) -> Result<Vec<u64>, AllocError>
+    ensures value { IfOk result (λ made. made.items ≡ replicate (length ids.now) 0) }
+{
+    vec![in alloc; 0; ids.len()]
+}
+
 /// What the policy loss of a layer is shared out to.
 fn shares_of(
     alloc: Global,
@@ -71,11 +78,15 @@ fn shares_of(
     ensures value { IfOk result (λ made. (tree : Tree) (loss : ℕ → ℕ) → IsProgramme tree programme.now → AreCarried tree loss programme.now levels.now → made.items ≡ shares tree loss rule one.top one.layer) }
     ensures few { IfOk result (λ made. sum made.items ≤ 10 ^ 16) }
 {
+    let policy = programme.policy(levels, one.node, one.layer);
     if rule == 0 {
-        let policy = programme.policy(levels, one.node, one.layer);
         let mut made = Vec::new(alloc);
         made.push(policy)?;
         return Ok(made);
+    }
+    if policy == 0 {
+        let none = no_shares(alloc, programme.beneath(one.node))?;
+        return Ok(none);
     }
     let made = allocate(alloc, programme, levels, one.node, one.layer, rule)?;
     Ok(made)

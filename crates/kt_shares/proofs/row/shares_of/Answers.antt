@@ -1,7 +1,10 @@
-use Rattle.std.proofs.Common.{◌≡◌, ◌++◌, ◌∷◌, [], ◌∙◌, ℕ, List, ap, arith, slice_index}
+use Rattle.std.proofs.Common.{◌≡◌, ◌++◌, ◌∷◌, [], ◌∙◌, ℕ, List, ap, length, replicate, sym, arith, slice_index}
 use Rattle.std.specs.List.{sum}
+use Rattle.std.proofs.lemmas.Bool.{ne_eqb}
 use Rattle.std.proofs.lemmas.List.Sums.{sum_by-cons}
+use Rattle.kt_tree.specs.Tree.{beneath, policy_loss}
 use Rattle.kt_shares.specs.SharesLaws.{policy-le}
+use Rattle.kt_shares.proofs.RowLemmas.{nothing-shared, top-is, zeros-sum}
 use Rattle.kt_shares.proofs.row.shares_of.Goals as goal
 
 pub returns-then-rule-eq0-clause-few : goal.returns-then-rule-eq0-clause-few
@@ -17,6 +20,17 @@ returns-then-rule-eq0-clause-few c =
       policy-le of.tree of.is.is of.loss (slice_index of.tree.tops c.args.one.node) c.args.one.layer,
       of.few,
     )
+
+pub returns-then-policy-eq0-clause-value : goal.returns-then-policy-eq0-clause-value
+returns-then-policy-eq0-clause-value c tree loss is carried =
+    let top = top-is tree c.args.programme.now is c.args.one c.requires.layer in
+    let width : length c.beneath.result.now ≡ length (beneath tree c.args.one.top) = ap length (c.beneath.ensures.tree tree is ∙ ap (beneath tree) top) in
+    let none : policy_loss tree loss c.args.one.top c.args.one.layer ≡ 0 =
+        ap (λ n. policy_loss tree loss n c.args.one.layer) (sym top) ∙ (sym (c.policy-policy.ensures.value tree loss is carried) ∙ c.if-policy-eq0.true) in
+    c.in_ok-none.ensures.value ∙ (ap (λ n. replicate n 0) width ∙ nothing-shared tree is.is loss c.args.rule c.args.one.top c.args.one.layer (ne_eqb c.args.rule 0 c.if-rule-eq0.false) none)
+
+pub returns-then-policy-eq0-clause-few : goal.returns-then-policy-eq0-clause-few
+returns-then-policy-eq0-clause-few c = omega (arith, ap sum c.in_ok-none.ensures.value, zeros-sum (length c.beneath.result.now))
 
 pub returns-clause-few : goal.returns-clause-few
 returns-clause-few c =
