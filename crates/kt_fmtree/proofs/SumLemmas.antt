@@ -3,8 +3,13 @@ use Rattle.std.proofs.Common.{◌≡◌, ℕ, ◌+◌, ◌<◌, List, [], ◌∷
 use Rattle.std.specs.List.{sum_by}
 use Rattle.std.proofs.lemmas.List.Sums.{sum_by-cons}
 use Rattle.kt_rules.specs.Amounts.{total}
+use Rattle.kt_rules.specs.Profiles.{IsProfile}
+use Rattle.kt_rules.specs.RuleLaws.{keeps-rule_of}
+use Rattle.kt_rules.specs.Rules.{applied}
 use Rattle.kt_rules.specs.declared.carry.Carry.{Carry}
+use Rattle.kt_rules.specs.declared.profile.Profile.{Profile}
 use Rattle.kt_tree.specs.Tree.{whole_loss, add_carries}
+use Rattle.kt_tree.specs.TreeLaws.{shares_of}
 use Rattle.kt_fmtree.specs.Carried.{added}
 
 pub none-add : (carry : Carry) → add_carries (whole_loss 0) carry ≡ carry
@@ -53,3 +58,15 @@ adding-ends carries all so_far = sym (add-none all) ∙ (ap (λ rest. add_carrie
     none : (carries : List Carry) → drop (length carries) carries ≡ []
     none [] = refl
     none (carry ∷ carries) = none carries
+
+-- of nothing the terms of a profile make nothing
+pub nothing-applied : (profile : Profile) → IsProfile profile → (tiv : ℕ) (carry : Carry) → total carry ≡ 0 → carry ≡ applied profile tiv carry
+nothing-applied profile is tiv carry none = same carry (applied profile tiv carry) none (keeps-rule_of profile.rule profile tiv carry (shares_of profile is) ∙ none)
+  where
+    same : (one other : Carry) → total one ≡ 0 → total other ≡ 0 → one ≡ other
+    same one other first second =
+        let loss : one.loss ≡ other.loss = omega (arith, first, second) in
+        let ded : one.ded ≡ other.ded = omega (arith, first, second) in
+        let over : one.over ≡ other.over = omega (arith, first, second) in
+        let kept : one.kept ≡ other.kept = omega (arith, first, second) in
+        λ i. record { loss = loss i; ded = ded i; over = over i; kept = kept i }

@@ -23,12 +23,16 @@ fn child_sum(node: &Node, below: &[Carry]) -> Carry
     added(&below[node.start..node.start + node.width])
 }
 
-/// What a unit carries: its terms applied to what comes to it.
+/// What a unit carries: its terms applied to what comes to it. Of nothing they make nothing.
 fn node_carry(node: &Node, below: &[Carry]) -> Carry
     requires { CanCarry below.now node.now }
     ensures value { result ≡ node_carry below.now node.now }
 {
-    apply(&node.profile, node.tiv, child_sum(node, below))
+    let carry = child_sum(node, below);
+    if carry.loss + carry.ded + carry.over + carry.kept == 0 {
+        return carry;
+    }
+    apply(&node.profile, node.tiv, carry)
 }
 
 /// What the units of a level carry, from what those of the level below do.
