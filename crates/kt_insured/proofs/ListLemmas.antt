@@ -9,6 +9,7 @@ use Rattle.std.proofs.lemmas.Bool.{eqb-true}
 use Rattle.std.proofs.lemmas.List.{map-append, take_more}
 use Rattle.std.proofs.lemmas.List.Elements.{filter_map-append}
 use Rattle.std.proofs.lemmas.List.Sums.{sum_by-cons}
+use Rattle.kt_shares.specs.RowLaws.{made-more}
 
 -- ---- lookups
 
@@ -89,13 +90,6 @@ pushed-more f xs old now next i d below now_is next_is =
     ∙ (ap (λ front. front ++ f (slice_index_or xs i d) ∷ []) now_is
     ∙ (append_assoc old (map f (take i xs)) (f (slice_index_or xs i d) ∷ [])
     ∙ ap (λ made. old ++ made) (sym (ap (map f) (take_more xs i d below) ∙ map-append f (take i xs) (slice_index_or xs i d ∷ [])))))
-
--- what is made of each
-pub made-more : {X Y : Type 0} (f : X → Option Y) (xs : List X) (now next : List Y) (i : ℕ) (d : X) → i < length xs → now ≡ filter_map f (take i xs) → next ≡ now ++ cons_option (f (slice_index_or xs i d)) [] → next ≡ filter_map f (take (i + 1) xs)
-made-more f xs now next i d below now_is next_is =
-    next_is
-    ∙ (ap (λ front. front ++ cons_option (f (slice_index_or xs i d)) []) now_is
-    ∙ sym (ap (filter_map f) (take_more xs i d below) ∙ filter_map-append f (take i xs) (slice_index_or xs i d ∷ [])))
 
 -- numbers of a range, added
 pub summed-more : (f : ℕ → ℕ) (a n : ℕ) → sum_by f (range_with_len a (n + 1)) ≡ sum_by f (range_with_len a n) + f (a + n)
