@@ -1,5 +1,5 @@
 -- What the places of ids have of a row of shares is what the ids cede.
-use Rattle.std.proofs.Common.{◌≡◌, ℕ, zero, suc, ◌+◌, ◌<◌, ◌≤◌, ◌^◌, ◌||◌, Bool, true, false, cond, nat_eq, List, [], ◌∷◌, ◌++◌, ◌⊎◌, inl, inr, length, map, slice_index, slice_index_or, slice_set, take, refl, sym, ap, subst, ◌∙◌, arith}
+use Rattle.std.proofs.Common.{◌≡◌, ℕ, suc, ◌+◌, ◌<◌, ◌≤◌, ◌^◌, Bool, true, false, cond, nat_eq, List, [], ◌∷◌, ◌++◌, ◌⊎◌, inl, inr, length, map, slice_index, slice_index_or, slice_set, take, refl, sym, ap, subst, ◌∙◌, arith}
 use Rattle.std.specs.Prelude.{All, unwrap_or, Some}
 use Rattle.std.specs.Cmp.{nat_eq_equiv}
 use Rattle.std.specs.List.{AllByRecursion, IsDistinct, flat_map, filter, list_any, sum, sum_by, zip}
@@ -15,13 +15,13 @@ use Rattle.kt_runs.specs.RunLosses.{AreWithin}
 use Rattle.kt_runs.specs.Sidx.{sidx_at}
 use Rattle.kt_tree.specs.Rising.{IsRising}
 use Rattle.kt_tree.specs.Sharing.{allocated}
-use Rattle.kt_tree.specs.Sums.{distinct_filter, each_flat_map, each_member, each_then}
+use Rattle.kt_tree.specs.Sums.{distinct_filter, each_flat_map, each_member}
 use Rattle.kt_tree.specs.Tree.{Tree, IsTree, beneath, comes_to, policy_loss}
 use Rattle.kt_fmtree.specs.Parts.{Parts, IsProgramme}
 use Rattle.kt_fmtree.specs.PartsLaws.{beneath-are}
 use Rattle.kt_shares.specs.Layers.{IsTopLayer, key_of}
 use Rattle.kt_shares.specs.HoldsLaws.{holds-more}
-use Rattle.kt_shares.specs.LookupLaws.{filter-absent, lookup-none, same-place, zip-append}
+use Rattle.kt_shares.specs.LookupLaws.{same-place, zip-append}
 use Rattle.kt_shares.specs.Row.{Shared, row_for}
 use Rattle.kt_shares.specs.Shares.{layers_of, part_of_id, shares, taken_loss}
 use Rattle.kt_shares.specs.SharesLaws.{length-allocated, taken-few}
@@ -232,4 +232,3 @@ module _ (tree : Tree) (parts : Parts) (is : IsProgramme tree parts) (few : HasF
       many = many ∙ table-length tree rule samples records (layers_of tree) table table_is;
       each = λ row below. (held row (inside row below)).width_is;
     }
-

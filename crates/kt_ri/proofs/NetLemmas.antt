@@ -1,8 +1,7 @@
 -- What is left of the records of a run, record by record.
-use Rattle.std.proofs.Common.{◌≡◌, ℕ, zero, suc, ◌+◌, ◌-◌, ◌<◌, ◌≤◌, ◌||◌, ◌<ℤ◌, Bool, true, false, cond, nat_eq, ℤ, pos, negsuc, List, [], ◌∷◌, ◌++◌, Option, Some, None, length, map, slice_index, slice_index_or, refl, sym, ap, subst, ◌∙◌, arith}
+use Rattle.std.proofs.Common.{◌≡◌, ℕ, zero, suc, ◌+◌, ◌-◌, ◌<◌, ◌≤◌, ◌||◌, Bool, true, false, cond, nat_eq, ℤ, pos, negsuc, List, [], ◌∷◌, Option, Some, None, length, map, refl, sym, ap, subst, ◌∙◌, arith}
 use Rattle.std.specs.Prelude.{All, unwrap_or}
-use Rattle.std.specs.List.{AllByRecursion, cons_option, filter, filter_map, list_any, range_with_len, sum_by, zip}
-use Rattle.std.specs.Map.{lookup}
+use Rattle.std.specs.List.{AllByRecursion, cons_option, filter, filter_map, list_any, range_with_len, sum_by}
 use Rattle.std.specs.Ordering.{int_eq}
 use Rattle.std.proofs.lemmas.Bool.Decides.{Decides-int_eq}
 use Rattle.std.proofs.lemmas.Int.{ints}
@@ -83,7 +82,7 @@ module _ (loss : ℤ → ℕ) where
     where
       by : (amount : ℕ) → loss_of sidx (pairs_of loss (map pos (range_with_len (a + 1) n))) ≡ 0 → loss_of sidx (cons_option (pair_of (pos a) amount) (pairs_of loss (map pos (range_with_len (a + 1) n)))) ≡ 0
       by zero rest = rest
-      by (suc less) rest = 
+      by (suc less) rest =
           omega (
             arith,
             sum_by-cons (λ (pair : Pair). cond (int_eq pair.sidx sidx) pair.loss 0) (record { sidx = pos a; loss = suc less }) (pairs_of loss (map pos (range_with_len (a + 1) n))),

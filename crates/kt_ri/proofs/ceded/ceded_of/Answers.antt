@@ -1,10 +1,8 @@
-use Rattle.std.proofs.Common.{◌≡◌, ◌∙◌, ◌<◌, ℕ, List, [], length, map, slice_index_or, ap, sym, subst}
+use Rattle.std.proofs.Common.{◌∙◌, ◌<◌, ℕ, [], length, map, slice_index_or, ap, sym, subst}
 use Rattle.std.specs.Prelude.{All}
 use Rattle.std.proofs.lemmas.List.{length-map}
 use Rattle.kt_runs.specs.Adding.{Holds}
 use Rattle.kt_fmtree.specs.Parts.{IsProgramme, Parts}
-use Rattle.kt_shares.specs.Row.{Shared}
-use Rattle.kt_shares.specs.Shares.{layers_of}
 use Rattle.kt_shares.specs.Table.{row_at, table_for}
 use Rattle.kt_ri.specs.Ceded.{HasShares, share_at}
 use Rattle.kt_ri.proofs.CededLemmas.{run-ceded, run-fits, run-rows}

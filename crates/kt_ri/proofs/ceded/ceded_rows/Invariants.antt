@@ -1,5 +1,5 @@
 use Rattle.kt_ri.proofs.CededLemmas.{AreCededRows}
-use Rattle.std.proofs.Common.{map, length}
+use Rattle.std.proofs.Common.{map}
 use Rattle.kt_ri.proofs.ceded.ceded_rows.Given as goal
 
 abbrev pub invariant-loop-row : goal.invariant-loop-row

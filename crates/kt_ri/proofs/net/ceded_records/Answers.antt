@@ -1,10 +1,8 @@
-use Rattle.std.proofs.Common.{◌≡◌, ◌≤◌, ◌<◌, ◌++◌, ◌∙◌, [], List, length, map, take, ap, sym, subst, arith}
+use Rattle.std.proofs.Common.{◌≤◌, ◌<◌, ◌++◌, ◌∙◌, [], length, map, ap, arith}
 use Rattle.std.specs.List.{cons_option, filter_map}
 use Rattle.std.proofs.lemmas.List.{length-map, take_all}
 use Rattle.kt_runs.specs.HeldLaws.{entry_at}
-use Rattle.kt_stream.specs.Losses.{IsLoss}
 use Rattle.kt_stream.specs.declared.entry.LossRecord.{LossRecord}
-use Rattle.kt_shares.specs.RecordLaws.{one-few}
 use Rattle.kt_shares.specs.RowLaws.{made-more}
 use Rattle.kt_ri.specs.Reinsurance.{ceded_record}
 use Rattle.kt_ri.proofs.net.ceded_records.Goals as goal

@@ -1,4 +1,4 @@
-use Rattle.std.proofs.Common.{◌≡◌, ◌∙◌, List, ap, map, sym, subst}
+use Rattle.std.proofs.Common.{◌∙◌, List, ap, map, sym, subst}
 use Rattle.std.specs.Prelude.{All}
 use Rattle.kt_runs.specs.RunLosses.{AreWithin}
 use Rattle.kt_stream.specs.Losses.{IsLoss}
