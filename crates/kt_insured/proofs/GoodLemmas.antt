@@ -1,27 +1,23 @@
 -- Insured losses are records of a stream, and each policy loss is shared out whole.
-use Rattle.std.proofs.Common.{◌≡◌, ℕ, zero, suc, ◌+◌, ◌<◌, ◌≤◌, ◌<ℤ◌, ◌&&◌, Bool, true, false, cond, nat_eq, ℤ, pos, negsuc, List, [], ◌∷◌, Option, Some, None, map, refl, sym, ap, subst, ◌∙◌, arith}
+use Rattle.std.proofs.Common.{◌≡◌, ℕ, zero, suc, ◌≤◌, ◌&&◌, Bool, true, false, cond, nat_eq, ℤ, List, [], ◌∷◌, Option, Some, None, map, refl, sym, ap, subst, ◌∙◌, arith}
 use Rattle.std.specs.Prelude.{All}
-use Rattle.std.specs.List.{AllByRecursion, cons_option, filter_map, list_any, range_with_len, sum, sum_by}
+use Rattle.std.specs.List.{AllByRecursion, cons_option, filter_map, list_any, sum, sum_by}
 use Rattle.std.specs.Map.{lookup}
-use Rattle.std.proofs.lemmas.Int.{ints}
 use Rattle.std.proofs.lemmas.List.Elements.{All-from_recursion, recursion_from_All}
-use Rattle.std.proofs.lemmas.List.Sums.{sum-map}
 use Rattle.kt_rec.specs.Ranges.{IsFmXref}
 use Rattle.kt_rec.specs.declared.financial.FmXref.{FmXref}
 use Rattle.kt_checks.specs.OutputChecks.{climbed}
 use Rattle.kt_stream.specs.declared.entry.LossRecord.{LossRecord}
-use Rattle.kt_stream.specs.declared.entry.Pair.{Pair}
 use Rattle.kt_stream.specs.Losses.{IsLoss}
-use Rattle.kt_stream.specs.Pairs.{BeginsAbove, IsId, IsPair, IsSidx, RisingSidx}
-use Rattle.kt_runs.specs.RunLosses.{AreWithin, event_of, loss_of, run_loss}
-use Rattle.kt_runs.specs.Sidx.{pair_of, pairs_of}
+use Rattle.kt_stream.specs.Pairs.{IsId}
+use Rattle.kt_runs.specs.RunLosses.{AreWithin, event_of, run_loss}
 use Rattle.kt_tree.specs.Rising.{rising}
 use Rattle.kt_tree.specs.Sharing.{allocated}
 use Rattle.kt_tree.specs.SharingLaws.{allocated-sum}
-use Rattle.kt_tree.specs.Sums.{sum_by-agree, sum_by-below, sum_by-one, sum_by-swap}
+use Rattle.kt_tree.specs.Sums.{sum_by-agree}
 use Rattle.kt_tree.specs.Tree.{Tree, IsTree, beneath, policy_loss}
 use Rattle.kt_tree.specs.TreeLaws.{each}
-use Rattle.kt_shares.specs.Shares.{id_loss, insured_range, layers_of, part_of_id, record_with, sample_range, shares, taken_loss}
+use Rattle.kt_shares.specs.Shares.{insured_range, layers_of, part_of_id, record_with, sample_range, shares, taken_loss}
 use Rattle.kt_shares.specs.LookupLaws.{lookup-few}
 use Rattle.kt_shares.specs.RecordLaws.{pairs-none, record-good}
 use Rattle.kt_shares.specs.SharesLaws.{cond-le, policy-le, shares-sum, taken-few}

@@ -1,14 +1,12 @@
 -- Lists that are looked up, and lists behind each other.
-use Rattle.std.proofs.Common.{◌≡◌, ℕ, zero, suc, ◌+◌, ◌-◌, ◌<◌, ◌≤◌, ◌||◌, Bool, true, false, cond, nat_eq, List, [], ◌∷◌, ◌++◌, Option, Some, None, length, map, take, drop, slice_index, slice_index_or, refl, sym, ap, ◌∙◌, arith, add-one, append_assoc, append-nil, drop-cons, ◌*◌}
+use Rattle.std.proofs.Common.{◌≡◌, ℕ, zero, suc, ◌+◌, ◌-◌, ◌<◌, ◌≤◌, Bool, true, false, cond, List, [], ◌∷◌, ◌++◌, Option, Some, None, length, map, take, drop, slice_index, slice_index_or, refl, sym, ap, ◌∙◌, arith, add-one, append_assoc, append-nil, drop-cons, ◌*◌}
 use Rattle.std.specs.Prelude.{unwrap_or}
-use Rattle.std.specs.List.{AllByRecursion, cons_option, filter, filter_map, list_any, range_with_len, sum, sum_by, zip}
+use Rattle.std.specs.List.{cons_option, filter_map, range_with_len, sum_by, zip}
 use Rattle.std.specs.Map.{lookup}
-use Rattle.std.specs.Cmp.{nat_eq_equiv}
 use Rattle.std.specs.Option.{option_or}
-use Rattle.std.proofs.lemmas.Bool.{eqb-true}
 use Rattle.std.proofs.lemmas.List.{map-append, take_more}
-use Rattle.std.proofs.lemmas.List.Elements.{filter_map-append}
 use Rattle.std.proofs.lemmas.List.Sums.{sum_by-cons}
+use Rattle.kt_shares.specs.RowLaws.{made-more}
 
 -- ---- lookups
 
@@ -89,13 +87,6 @@ pushed-more f xs old now next i d below now_is next_is =
     ∙ (ap (λ front. front ++ f (slice_index_or xs i d) ∷ []) now_is
     ∙ (append_assoc old (map f (take i xs)) (f (slice_index_or xs i d) ∷ [])
     ∙ ap (λ made. old ++ made) (sym (ap (map f) (take_more xs i d below) ∙ map-append f (take i xs) (slice_index_or xs i d ∷ [])))))
-
--- what is made of each
-pub made-more : {X Y : Type 0} (f : X → Option Y) (xs : List X) (now next : List Y) (i : ℕ) (d : X) → i < length xs → now ≡ filter_map f (take i xs) → next ≡ now ++ cons_option (f (slice_index_or xs i d)) [] → next ≡ filter_map f (take (i + 1) xs)
-made-more f xs now next i d below now_is next_is =
-    next_is
-    ∙ (ap (λ front. front ++ cons_option (f (slice_index_or xs i d)) []) now_is
-    ∙ sym (ap (filter_map f) (take_more xs i d below) ∙ filter_map-append f (take i xs) (slice_index_or xs i d ∷ [])))
 
 -- numbers of a range, added
 pub summed-more : (f : ℕ → ℕ) (a n : ℕ) → sum_by f (range_with_len a (n + 1)) ≡ sum_by f (range_with_len a n) + f (a + n)

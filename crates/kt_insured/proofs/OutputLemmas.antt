@@ -1,5 +1,5 @@
 -- What stands at the place of an output in a row of shares is its loss.
-use Rattle.std.proofs.Common.{◌≡◌, ℕ, suc, ◌+◌, ◌&&◌, ◌||◌, Bool, true, false, cond, nat_eq, List, [], ◌∷◌, ◌++◌, Option, Some, None, length, map, refl, sym, ap, ◌∙◌, arith}
+use Rattle.std.proofs.Common.{◌≡◌, ℕ, ◌&&◌, ◌||◌, Bool, true, false, cond, nat_eq, List, [], ◌∷◌, ◌++◌, Option, Some, None, length, map, refl, sym, ap, ◌∙◌, arith}
 use Rattle.std.specs.Prelude.{unwrap_or}
 use Rattle.std.specs.Cmp.{nat_eq_equiv}
 use Rattle.std.specs.List.{flat_map, list_any, zip}
@@ -8,10 +8,9 @@ use Rattle.std.specs.Option.{option_or}
 use Rattle.std.proofs.lemmas.Bool.{eqb-true}
 use Rattle.std.proofs.lemmas.Grind.{flat_map-append}
 use Rattle.std.proofs.lemmas.List.{length-append, length-map}
-use Rattle.kt_money.specs.Sharing.{shares_after, share_out}
 use Rattle.kt_keys.specs.Keys.{same_pair}
 use Rattle.kt_checks.specs.OutputChecks.{climbed}
-use Rattle.kt_tree.specs.Sharing.{allocated, part_of, policy_parts}
+use Rattle.kt_tree.specs.Sharing.{allocated}
 use Rattle.kt_tree.specs.Tree.{Tree, beneath, comes_to, is_unit, policy_loss}
 use Rattle.kt_shares.specs.LookupLaws.{filter-absent, lookup-none, zip-append}
 use Rattle.kt_shares.specs.Row.{row_for}

@@ -1,5 +1,5 @@
 -- The insured losses of a run, from its table.
-use Rattle.std.proofs.Common.{◌≡◌, ℕ, ◌<◌, ◌≤◌, List, [], ◌∷◌, length, map, refl, ap, ◌∙◌, arith}
+use Rattle.std.proofs.Common.{◌≡◌, ℕ, ◌<◌, ◌≤◌, List, length, map, ap, ◌∙◌, arith}
 use Rattle.std.specs.Prelude.{All}
 use Rattle.std.specs.List.{AllByRecursion, filter_map}
 use Rattle.kt_stream.specs.declared.entry.LossRecord.{LossRecord}
@@ -20,11 +20,6 @@ use Rattle.kt_shares.specs.declared.layers.TopLayer.{TopLayer}
 use Rattle.kt_insured.specs.declared.layout.Outlet.{Outlet}
 use Rattle.kt_insured.specs.declared.sums.LayerSum.{LayerSum}
 use Rattle.kt_insured.proofs.TableLemmas.{amounts-within, places-within, records-are, sums-are}
-
--- records that are held in themselves
-pub map-same : (records : List LossRecord) → map (λ (entry : LossRecord). entry) records ≡ records
-map-same [] = refl
-map-same (entry ∷ records) = ap (λ later. entry ∷ later) (map-same records)
 
 module _ (tree : Tree) (parts : Parts) (is : IsProgramme tree parts) (outputs : List FmXref) (layout : Laid) (laid : IsLayout tree outputs parts layout) (samples : ℕ) (records : List LossRecord) (within : AreWithin records) (rule : ℕ) (rule_is : rule ≡ layout.rule) (layers : List TopLayer) (layers_are : layers ≡ layout.layers) (items table : List Shared) (items_are : items ≡ table_for tree rule samples records (map key_of layers)) (table_is : table ≡ items) where
   keys-are : map key_of layers ≡ layers_of tree

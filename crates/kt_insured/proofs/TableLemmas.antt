@@ -1,25 +1,21 @@
 -- The rows of all sidx, and what they give for outputs and layers.
-use Rattle.std.proofs.Common.{◌≡◌, ℕ, zero, suc, ◌+◌, ◌-◌, ◌<◌, ◌≤◌, ◌^◌, Bool, true, false, cond, nat_eq, nat_lt, ℤ, pos, negsuc, List, [], ◌∷◌, ◌++◌, Option, Some, None, length, map, slice_index, slice_index_or, refl, sym, ap, subst, ◌∙◌, arith, add-one, append-nil}
+use Rattle.std.proofs.Common.{◌≡◌, ℕ, suc, ◌+◌, ◌-◌, ◌<◌, ◌≤◌, ◌^◌, ℤ, pos, List, [], ◌∷◌, Option, Some, None, length, map, slice_index, slice_index_or, refl, sym, ap, subst, ◌∙◌, arith}
 use Rattle.std.specs.Prelude.{All, option_map, unwrap_or}
-use Rattle.std.specs.List.{AllByRecursion, cons_option, filter_map, list_any, range_with_len, sum, sum_by}
-use Rattle.std.proofs.lemmas.Bool.Decides.{nat_tests}
+use Rattle.std.specs.List.{AllByRecursion, cons_option, filter_map, range_with_len, sum, sum_by}
 use Rattle.std.proofs.lemmas.List.{get_or-map, length-map}
-use Rattle.std.proofs.lemmas.List.Elements.{All-from_recursion}
-use Rattle.std.proofs.lemmas.List.FromFn.{get_or-map-range_with_len, length-map-range_with_len}
 use Rattle.std.proofs.lemmas.List.Sums.{sum_by-cons}
 use Rattle.kt_keys.specs.Keys.{same_pair}
 use Rattle.kt_rec.specs.declared.financial.FmXref.{FmXref}
 use Rattle.kt_stream.specs.declared.entry.LossRecord.{LossRecord}
-use Rattle.kt_stream.specs.declared.entry.Pair.{Pair}
 use Rattle.kt_runs.specs.RunLosses.{AreWithin, event_of}
-use Rattle.kt_runs.specs.Sidx.{pair_of, pairs_of, sidx_at}
+use Rattle.kt_runs.specs.Sidx.{pairs_of, sidx_at}
 use Rattle.kt_tree.specs.Sums.{sum_by-agree}
 use Rattle.kt_tree.specs.Tree.{Tree, IsTree, policy_loss}
 use Rattle.kt_shares.specs.Layers.{key_of}
 use Rattle.kt_shares.specs.RecordLaws.{pairs-none}
-use Rattle.kt_shares.specs.Row.{Shared, no_shares, row_for}
+use Rattle.kt_shares.specs.Row.{Shared, row_for}
 use Rattle.kt_shares.specs.RowLaws.{each-range, filter_map-agree, rows-are, sample-place}
-use Rattle.kt_shares.specs.Shares.{id_loss, insured_range, layers_of, record_with, sample_range, shares, taken_loss}
+use Rattle.kt_shares.specs.Shares.{insured_range, layers_of, record_with, sample_range, shares, taken_loss}
 use Rattle.kt_shares.specs.SharesLaws.{policy-le, shares-sum, taken-few}
 use Rattle.kt_shares.specs.Table.{pairs_by_row, row_at, row_place, table_for}
 use Rattle.kt_shares.specs.TableLaws.{each-row, row-is, table-length}

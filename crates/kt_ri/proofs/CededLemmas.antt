@@ -1,31 +1,34 @@
 -- What the places of ids have of a row of shares is what the ids cede.
-use Rattle.std.proofs.Common.{◌≡◌, ℕ, zero, suc, ◌+◌, ◌<◌, ◌≤◌, ◌^◌, ◌||◌, Bool, true, false, cond, nat_eq, List, [], ◌∷◌, ◌++◌, length, map, slice_index, slice_index_or, refl, sym, ap, subst, ◌∙◌, arith}
+use Rattle.std.proofs.Common.{◌≡◌, ℕ, suc, ◌+◌, ◌<◌, ◌≤◌, ◌^◌, Bool, true, false, cond, nat_eq, List, [], ◌∷◌, ◌++◌, ◌⊎◌, inl, inr, length, map, slice_index, slice_index_or, slice_set, take, refl, sym, ap, subst, ◌∙◌, arith}
 use Rattle.std.specs.Prelude.{All, unwrap_or, Some}
 use Rattle.std.specs.Cmp.{nat_eq_equiv}
 use Rattle.std.specs.List.{AllByRecursion, IsDistinct, flat_map, filter, list_any, sum, sum_by, zip}
 use Rattle.std.specs.Map.{lookup}
 use Rattle.std.proofs.lemmas.Bool.{eqb-true}
-use Rattle.std.proofs.lemmas.List.{length-append, length-map}
+use Rattle.std.proofs.lemmas.List.{length-append, length-map, take_all}
 use Rattle.std.proofs.lemmas.List.Elements.{recursion_from_All}
-use Rattle.std.proofs.lemmas.List.Sums.{sum_by-append, sum_by-cons}
+use Rattle.std.proofs.lemmas.List.Sums.{sum_by-append, sum_by-cons, sum_by-take-le, sum_by_more}
+use Rattle.std.proofs.lemmas.Slice.Zip.{get_or-zip}
 use Rattle.kt_stream.specs.declared.entry.LossRecord.{LossRecord}
+use Rattle.kt_runs.specs.Adding.{Holds}
 use Rattle.kt_runs.specs.RunLosses.{AreWithin}
 use Rattle.kt_runs.specs.Sidx.{sidx_at}
 use Rattle.kt_tree.specs.Rising.{IsRising}
 use Rattle.kt_tree.specs.Sharing.{allocated}
-use Rattle.kt_tree.specs.Sums.{distinct_filter, each_flat_map, each_member, each_then}
+use Rattle.kt_tree.specs.Sums.{distinct_filter, each_flat_map, each_member}
 use Rattle.kt_tree.specs.Tree.{Tree, IsTree, beneath, comes_to, policy_loss}
 use Rattle.kt_fmtree.specs.Parts.{Parts, IsProgramme}
 use Rattle.kt_fmtree.specs.PartsLaws.{beneath-are}
 use Rattle.kt_shares.specs.Layers.{IsTopLayer, key_of}
-use Rattle.kt_shares.specs.LookupLaws.{filter-absent, lookup-none, same-place, zip-append}
+use Rattle.kt_shares.specs.HoldsLaws.{holds-more}
+use Rattle.kt_shares.specs.LookupLaws.{same-place, zip-append}
 use Rattle.kt_shares.specs.Row.{Shared, row_for}
 use Rattle.kt_shares.specs.Shares.{layers_of, part_of_id, shares, taken_loss}
 use Rattle.kt_shares.specs.SharesLaws.{length-allocated, taken-few}
-use Rattle.kt_shares.specs.Table.{row_place}
-use Rattle.kt_shares.specs.TableLaws.{full_row}
+use Rattle.kt_shares.specs.Table.{row_at, row_place, table_for}
+use Rattle.kt_shares.specs.TableLaws.{each-row, row-is, table-length}
 use Rattle.kt_shares.specs.declared.layers.TopLayer.{TopLayer}
-use Rattle.kt_ri.specs.Ceded.{HasShares, share_at}
+use Rattle.kt_ri.specs.Ceded.{AreRows, HasShares, share_at}
 use Rattle.kt_ri.specs.Ceding.{AreLayers, ArePlaces, HasFewLayers, owners_of}
 use Rattle.kt_ri.specs.Reinsurance.{ceded_at, ceded_loss}
 use Rattle.kt_ri.proofs.FewLemmas.{ceded-le}
@@ -148,3 +151,84 @@ module _ (tree : Tree) (parts : Parts) (is : IsProgramme tree parts) (places : L
     within = are.within;
     few = λ place below. omega (arith, ceded-is place below, ceded-le tree parts is few losses most rule (slice_index parts.ids place));
   }
+
+-- ---- the amounts of a row, share by share
+
+-- as many pairs as keys
+length-paired : (keys amounts : List ℕ) → length amounts ≡ length keys → length (zip keys amounts) ≡ length keys
+length-paired [] amounts same = refl
+length-paired (key ∷ keys) [] same = absurd (omega arith)
+length-paired (key ∷ keys) (amount ∷ amounts) same = ap suc (length-paired keys amounts (omega arith))
+
+module _ (width : ℕ) (places shares : List ℕ) (has : HasShares width places shares) where
+  -- what a place has of so many shares
+  abbrev so_far : ℕ → ℕ → ℕ
+  so_far k place = sum_by (λ (pair : ℕ × ℕ). cond (nat_eq pair.0 place) pair.1 0) (take k (zip places shares))
+
+  module _ (k : ℕ) (below : k < length places) (ceded : List ℕ) (held : Holds width (so_far k) ceded) where
+    -- with one more
+    share-more : (place : ℕ) → so_far (k + 1) place ≡ so_far k place + cond (nat_eq (slice_index places k) place) (slice_index shares k) 0
+    share-more place =
+        sum_by_more (λ (pair : ℕ × ℕ). cond (nat_eq pair.0 place) pair.1 0) (zip places shares) k (0, 0) (omega (arith, length-paired places shares has.many))
+        ∙ ap (λ (pair : ℕ × ℕ). so_far k place + cond (nat_eq pair.0 place) pair.1 0) (get_or-zip places shares k (0, 0) below (omega (arith, has.many)))
+
+    pub ceded-set : Holds width (so_far (k + 1)) (slice_set ceded (slice_index places k) (slice_index_or ceded (slice_index places k) 0 + slice_index shares k))
+    ceded-set = holds-more width (so_far k) (so_far (k + 1)) ceded held (slice_index places k) (slice_index shares k) (has.within k 0 below) share-more
+
+    -- it fits
+    pub ceded-fits : slice_index_or ceded (slice_index places k) 0 + slice_index shares k < 2 ^ 64
+    ceded-fits =
+        let place = slice_index places k in
+        omega (
+          arith,
+          held.each place (has.within k 0 below),
+          share-more place,
+          ap (λ b. cond b (slice_index shares k) 0) (nat_eq_equiv.refl place),
+          sum_by-take-le (λ (pair : ℕ × ℕ). cond (nat_eq pair.0 place) pair.1 0) (zip places shares) (k + 1),
+          has.few place (has.within k 0 below),
+        )
+
+  -- all of them
+  pub ceded-all : (k : ℕ) → length places ≤ k → (ceded : List ℕ) → Holds width (so_far k) ceded → Holds width (share_at places shares) ceded
+  ceded-all k past ceded held = record {
+    width_is = held.width_is;
+    each = λ place inside. held.each place inside ∙ ap (sum_by (λ (pair : ℕ × ℕ). cond (nat_eq pair.0 place) pair.1 0)) (take_all k (zip places shares) (omega (arith, length-paired places shares has.many)));
+  }
+
+-- ---- the rows of a run
+
+-- how far the rows have come
+pub record AreCededRows (width : ℕ) (places : List ℕ) (table : List Shared) (count : ℕ) (rows : List (List ℕ)) : Type 0 where
+  pub many : length rows ≡ count
+  pub each : (row : ℕ) → row < count → Holds width (share_at places (row_at table row).shares) (slice_index_or rows row [])
+
+module _ (tree : Tree) (parts : Parts) (is : IsProgramme tree parts) (few : HasFewLayers parts) (places : List ℕ) (are : ArePlaces parts places) (rule samples : ℕ) (rule_is : (rule ≡ 1) ⊎ (rule ≡ 2)) (records : List LossRecord) (within : AreWithin records) (table : List Shared) (table_is : table ≡ table_for tree rule samples records (layers_of tree)) where
+  shared : nat_eq rule 0 ≡ false
+  shared = elim rule_is [
+    | inl one ↦ ap (λ n. nat_eq n 0) one
+    | inr two ↦ ap (λ n. nat_eq n 0) two
+  ]
+
+  -- the shares of each row have places and fit
+  pub run-fits : All (λ row. HasShares (length parts.ids) places row.shares) table
+  run-fits =
+      each-row tree rule samples records (layers_of tree) table table_is (λ row. HasShares (length parts.ids) places row.shares)
+      (λ row. row-fits tree parts is places are (taken_loss tree records (sidx_at (row_place row))) rule shared few (omega (arith, taken-few tree is.is records (sidx_at (row_place row)), within (sidx_at (row_place row)))))
+
+  module _ (rows : List (List ℕ)) (held : (row : ℕ) → row < length table → Holds (length parts.ids) (share_at places (row_at table row).shares) (slice_index_or rows row [])) where
+    inside : (row : ℕ) → row < samples + 1 → row < length table
+    inside row below = omega (arith, below, table-length tree rule samples records (layers_of tree) table table_is)
+
+    -- the sums of the rows are what the ids cede
+    pub run-ceded : (row place : ℕ) → row < samples + 1 → place < length parts.ids → slice_index (slice_index_or rows row []) place ≡ ceded_at tree rule records (slice_index parts.ids place) (sidx_at (row_place row))
+    run-ceded row place below here =
+        (held row (inside row below)).each place here
+        ∙ (ap (λ (one : Shared). share_at places one.shares place) (row-is tree rule samples records (layers_of tree) table table_is row below)
+        ∙ ceded-is tree parts is places are (taken_loss tree records (sidx_at (row_place row))) rule shared place here)
+
+    -- so many of them
+    pub run-rows : length rows ≡ length table → AreRows (length parts.ids) samples rows
+    run-rows many = record {
+      many = many ∙ table-length tree rule samples records (layers_of tree) table table_is;
+      each = λ row below. (held row (inside row below)).width_is;
+    }

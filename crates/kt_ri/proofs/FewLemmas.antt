@@ -1,24 +1,23 @@
 -- The tops of the tables' programmes have at most 50 layers each, so what an id cedes fits its type.
 use Rattle.std.proofs.Common.{◌≡◌, ℕ, zero, suc, ◌+◌, ◌*◌, ◌<◌, ◌≤◌, ◌^◌, ◌&&◌, Bool, true, false, cond, nat_eq, nat_lt, List, [], ◌∷◌, Option, Some, None, length, map, slice_index_or, refl, sym, ap, subst, ◌∙◌, arith}
-use Rattle.std.specs.Prelude.{All, unwrap_or}
-use Rattle.std.specs.List.{AllByRecursion, IsDistinct, filter, flat_map, list_any, sum, sum_by, zip}
-use Rattle.std.specs.Map.{lookup}
+use Rattle.std.specs.Prelude.{unwrap_or}
+use Rattle.std.specs.List.{AllByRecursion, IsDistinct, filter, list_any, sum, sum_by}
 use Rattle.std.proofs.lemmas.List.Elements.{recursion_from_All}
 use Rattle.std.proofs.lemmas.List.Sums.{sum_by-cons}
 use Rattle.kt_rec.specs.Ranges.{AreFinancial, AreInRange, IsFmPolicytc, IsLayer}
 use Rattle.kt_rec.specs.Rows.{FinancialRows, Rows}
 use Rattle.kt_rec.specs.declared.financial.FmPolicytc.{FmPolicytc}
-use Rattle.kt_keys.specs.Keys.{financial_of, no_financial, policytc_of, programme_of}
+use Rattle.kt_keys.specs.Keys.{no_financial, policytc_of, programme_of}
 use Rattle.kt_keys.specs.Units.{top_level, top_targets}
 use Rattle.kt_checks.specs.OutputChecks.{climbed}
 use Rattle.kt_tree.specs.Programme.{layers_in, or_first, tree_of}
 use Rattle.kt_tree.specs.Rising.{IsRising, distinct-from_rising, put, rising, rising-rises}
 use Rattle.kt_tree.specs.Sharing.{allocated}
-use Rattle.kt_tree.specs.Sums.{each_then, sum_by-below, sum_by-flat_map, sum_by-none, sum_by-one}
+use Rattle.kt_tree.specs.Sums.{each_then, sum_by-flat_map, sum_by-one}
 use Rattle.kt_tree.specs.Tree.{Tree, IsTree, beneath, comes_to, is_unit}
 use Rattle.kt_fmtree.specs.Parts.{Parts, IsProgramme}
 use Rattle.kt_shares.specs.LookupLaws.{filter-absent, lookup-none}
-use Rattle.kt_shares.specs.Shares.{layers_of, part_of_id}
+use Rattle.kt_shares.specs.Shares.{part_of_id}
 use Rattle.kt_shares.specs.SharesLaws.{cond-le, part-le}
 use Rattle.kt_ri.specs.Ceding.{HasFewLayers}
 use Rattle.kt_ri.specs.Reinsurance.{ceded_loss}

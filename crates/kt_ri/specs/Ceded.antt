@@ -1,6 +1,6 @@
 -- What the ids of a programme cede of the losses of a run, row by row.
 -- The rule: docs/FINANCIAL_MODULE.md, "Reinsurance".
-use Rattle.std.specs.Prelude.{◌≡◌, ℕ, ◌+◌, ◌-◌, ◌<◌, ◌^◌, cond, nat_eq, List, [], ◌∷◌, length, All, Option, Some, None, slice_index, slice_index_or}
+use Rattle.std.specs.Prelude.{◌≡◌, ℕ, ◌+◌, ◌-◌, ◌<◌, ◌^◌, cond, nat_eq, List, [], length, All, Option, Some, None, slice_index, slice_index_or}
 use Rattle.std.specs.List.{sum_by, zip}
 use Rattle.kt_stream.specs.declared.entry.LossRecord.{LossRecord}
 use Rattle.kt_stream.specs.declared.entry.Pair.{Pair}

@@ -64,6 +64,7 @@ pub(crate) fn ceded_of<T: RunEntry>(
     ensures value { IfOk result (λ rows. AreCeded stage.now rule samples (map T.entry_of records.now) (map (λ row. row.items) rows.items)) }
 {
     let programme = stage.programme();
+    programme.is_of_a_tree();
     let layers = stage.layers();
     let places = stage.places();
     let table = table_of(alloc, programme, samples, rule, layers, records)?;

@@ -89,7 +89,8 @@ fn push_net(
     programme.is_of_a_tree();
     let place = place_of(programme.ids(), entry.id);
     let pairs = net_pairs(alloc, samples, rows, place, entry)?;
-    push_record(made, entry.event, entry.id, pairs)
+    push_record(made, entry.event, entry.id, pairs)?;
+    Ok(())
 }
 
 /// Appends what the id of a record cedes, where it cedes something.
@@ -109,7 +110,8 @@ fn push_ceded(
     programme.is_of_a_tree();
     let place = place_of(programme.ids(), entry.id);
     let pairs = ceded_pairs(alloc, samples, rows, place)?;
-    push_record(made, entry.event, entry.id, pairs)
+    push_record(made, entry.event, entry.id, pairs)?;
+    Ok(())
 }
 
 /// What is left of the records of a run.

@@ -16,7 +16,10 @@ pub(crate) fn place_of(ids: &[u32], id: u32) -> Option<usize>
     requires rising { IsRising ids.now }
     ensures value { IsPlaceOf ids.now id result }
 {
-    ids.binary_search(&id).ok()
+    match ids.binary_search(&id) {
+        Ok(place) => Some(place),
+        Err(_) => None,
+    }
 }
 
 /// The ids beneath the tops of layers, layer by layer.

@@ -13,6 +13,11 @@ use Rattle.kt_runs.specs.RunLosses.{AreWithin, loss_of}
 use Rattle.kt_runs.specs.Sidx.{pair_of, pairs_of}
 use Rattle.kt_shares.specs.Shares.{insured_range, record_with, sample_range}
 
+-- records that are held in themselves
+pub map-same : (records : List LossRecord) → map (λ (entry : LossRecord). entry) records ≡ records
+map-same [] = refl
+map-same (entry ∷ records) = ap (λ later. entry ∷ later) (map-same records)
+
 -- the losses of one record are not more than those of all
 pub one-few : (records : List LossRecord) → AreWithin records → (i : ℕ) (d : LossRecord) → i < length records → (entry : LossRecord) → entry ≡ slice_index_or records i d → (sidx : ℤ) → loss_of sidx entry.pairs ≤ 10000000000000000
 one-few records within i d below entry is sidx =

@@ -1,9 +1,10 @@
 -- The sidx of rows, and the pairs that rows make.
 -- The rule: docs/FINANCIAL_MODULE.md, "Insured losses".
-use Rattle.std.specs.Prelude.{◌≡◌, ℕ, zero, suc, ◌+◌, ◌-◌, ◌<◌, ◌≤◌, Bool, true, false, cond, nat_eq, nat_lt, ℤ, pos, negsuc, List, [], ◌∷◌, ◌++◌, Option, map}
+use Rattle.std.specs.Prelude.{◌≡◌, ℕ, zero, suc, ◌+◌, ◌-◌, ◌<◌, ◌≤◌, Bool, true, false, cond, nat_eq, nat_lt, ℤ, pos, negsuc, List, [], ◌∷◌, ◌++◌, Option, length, map, slice_index_or, take}
 use Rattle.std.specs.List.{AllByRecursion, cons_option, filter_map, range_with_len}
 use Rattle.std.proofs.Common.{refl, sym, ap, ◌∙◌, arith, add-one}
 use Rattle.std.proofs.lemmas.Bool.Decides.{nat_tests}
+use Rattle.std.proofs.lemmas.List.{take_more}
 use Rattle.std.proofs.lemmas.List.Elements.{filter_map-append}
 use Rattle.kt_stream.specs.declared.entry.Pair.{Pair}
 use Rattle.kt_runs.specs.Sidx.{pair_of, pairs_of, sidx_at}
@@ -26,6 +27,13 @@ filter_map-agree f g (x ∷ xs) same = ap (λ one. cons_option one (filter_map f
 pub filter_map-map : {X Y Z : Type 0} (f : Y → Option Z) (g : X → Y) (xs : List X) → filter_map f (map g xs) ≡ filter_map (λ x. f (g x)) xs
 filter_map-map f g [] = refl
 filter_map-map f g (x ∷ xs) = ap (cons_option (f (g x))) (filter_map-map f g xs)
+
+-- what is made of each
+pub made-more : {X Y : Type 0} (f : X → Option Y) (xs : List X) (now next : List Y) (i : ℕ) (d : X) → i < length xs → now ≡ filter_map f (take i xs) → next ≡ now ++ cons_option (f (slice_index_or xs i d)) [] → next ≡ filter_map f (take (i + 1) xs)
+made-more f xs now next i d below now_is next_is =
+    next_is
+    ∙ (ap (λ front. front ++ cons_option (f (slice_index_or xs i d)) []) now_is
+    ∙ sym (ap (filter_map f) (take_more xs i d below) ∙ filter_map-append f (take i xs) (slice_index_or xs i d ∷ [])))
 
 -- what is made of each number of a range and of one more
 counted-more : {Y : Type 0} (f : ℕ → Option Y) (n : ℕ) (now next : List Y) → now ≡ filter_map f (range_with_len 0 n) → next ≡ now ++ cons_option (f n) [] → next ≡ filter_map f (range_with_len 0 (n + 1))

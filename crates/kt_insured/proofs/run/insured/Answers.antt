@@ -1,8 +1,8 @@
 use Rattle.std.proofs.Common.{ap, ◌∙◌, List, map}
 use Rattle.kt_stream.specs.declared.entry.LossRecord.{LossRecord}
 use Rattle.kt_tree.specs.Programme.{tree_of}
+use Rattle.kt_shares.specs.RecordLaws.{map-same}
 use Rattle.kt_insured.specs.Insured.{insured_records, layer_sums}
-use Rattle.kt_insured.proofs.RunLemmas.{map-same}
 use Rattle.kt_insured.proofs.run.insured.Goals as goal
 
 pub returns-clause-records : goal.returns-clause-records

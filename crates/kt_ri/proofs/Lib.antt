@@ -1,0 +1,5 @@
+pub mod PlaceLemmas
+pub mod FewLemmas
+pub mod CededLemmas
+pub mod NetLemmas
+pub mod StageLemmas

@@ -1,0 +1,151 @@
+-- What is left of the records of a run, record by record.
+use Rattle.std.proofs.Common.{◌≡◌, ℕ, zero, suc, ◌+◌, ◌-◌, ◌<◌, ◌≤◌, ◌||◌, Bool, true, false, cond, nat_eq, ℤ, pos, negsuc, List, [], ◌∷◌, Option, Some, None, length, map, refl, sym, ap, subst, ◌∙◌, arith}
+use Rattle.std.specs.Prelude.{All, unwrap_or}
+use Rattle.std.specs.List.{AllByRecursion, cons_option, filter, filter_map, list_any, range_with_len, sum_by}
+use Rattle.std.specs.Ordering.{int_eq}
+use Rattle.std.proofs.lemmas.Bool.Decides.{Decides-int_eq}
+use Rattle.std.proofs.lemmas.Int.{ints}
+use Rattle.std.proofs.lemmas.List.Elements.{All-from_recursion, recursion_from_All}
+use Rattle.std.proofs.lemmas.List.Sums.{sum_by-cons}
+use Rattle.kt_stream.specs.declared.entry.LossRecord.{LossRecord}
+use Rattle.kt_stream.specs.declared.entry.Pair.{Pair}
+use Rattle.kt_stream.specs.Losses.{IsLoss}
+use Rattle.kt_runs.specs.RunLosses.{AreWithin, loss_of, run_loss}
+use Rattle.kt_runs.specs.Sidx.{pair_of, pairs_of, sidx_at}
+use Rattle.kt_tree.specs.Sharing.{allocated}
+use Rattle.kt_tree.specs.Tree.{Tree, beneath, comes_to}
+use Rattle.kt_fmtree.specs.Parts.{Parts, IsProgramme}
+use Rattle.kt_shares.specs.LookupLaws.{lookup-none}
+use Rattle.kt_shares.specs.RecordLaws.{record-good}
+use Rattle.kt_shares.specs.RowLaws.{rows-are}
+use Rattle.kt_shares.specs.Shares.{insured_range, layers_of, part_of_id, record_with, sample_range}
+use Rattle.kt_shares.specs.Table.{row_place}
+use Rattle.kt_ri.specs.Ceded.{AreCeded, AreRows, IsPlaceIn, ceded_in, ceded_pairs, net_pairs}
+use Rattle.kt_ri.specs.Ceding.{IsPlaceOf}
+use Rattle.kt_ri.specs.Reinsurance.{ceded_at, ceded_loss, net_record, net_records}
+
+-- ---- places
+
+-- the place of an id is in each row
+pub place-inside : (ids : List ℕ) (id samples : ℕ) (rows : List (List ℕ)) → AreRows (length ids) samples rows → (place : Option ℕ) → IsPlaceOf ids id place → (row : ℕ) → row < samples + 1 → IsPlaceIn rows place row
+place-inside ids id samples rows are None is row below = tt
+place-inside ids id samples rows are (Some place) is row below = (omega (arith, are.many), subst (λ n. place < n) (sym (are.each row below)) is.0)
+
+-- an id that is not one of the programme's is beneath no top
+filter-none : (test : ℕ → Bool) (id : ℕ) (ids : List ℕ) → list_any (nat_eq id) ids ≡ false → list_any (nat_eq id) (filter test ids) ≡ false
+filter-none test id [] none = refl
+filter-none test id (other ∷ ids) none = by (nat_eq id other) refl none (test other) (filter-none test id ids)
+  where
+    by : (a : Bool) → nat_eq id other ≡ a → (a || list_any (nat_eq id) ids) ≡ false → (b : Bool) → (list_any (nat_eq id) ids ≡ false → list_any (nat_eq id) (filter test ids) ≡ false) → list_any (nat_eq id) (cond b (other ∷ filter test ids) (filter test ids)) ≡ false
+    by true other_is none b rest = let clash : true ≡ false = none in cc
+    by false other_is none true rest = ap (λ c. c || list_any (nat_eq id) (filter test ids)) other_is ∙ rest none
+    by false other_is none false rest = rest none
+
+-- it cedes nothing
+ceded-none : (tree : Tree) (losses : ℕ → ℕ) (rule id : ℕ) → list_any (nat_eq id) tree.ids ≡ false → ceded_loss tree losses rule id ≡ 0
+ceded-none tree losses rule id none = over (layers_of tree)
+  where
+    over : (layers : List (ℕ × ℕ)) → sum_by (λ key. part_of_id tree losses rule key.0 key.1 id) layers ≡ 0
+    over [] = refl
+    over (key ∷ layers) =
+        omega (
+          arith,
+          sum_by-cons (λ (key : ℕ × ℕ). part_of_id tree losses rule key.0 key.1 id) key layers,
+          ap (λ found. unwrap_or found 0) (lookup-none id (beneath tree key.0) (allocated tree losses rule key.0 key.1) (filter-none (comes_to tree tree.top_level key.0) id tree.ids none)),
+          over layers,
+        )
+
+-- what stands at the place of an id is what it cedes
+module _ (tree : Tree) (parts : Parts) (is : IsProgramme tree parts) (rule samples : ℕ) (records : List LossRecord) (rows : List (List ℕ)) (are : AreCeded parts rule samples records rows) (id : ℕ) where
+  ceded-at : (place : Option ℕ) → IsPlaceOf parts.ids id place → (row : ℕ) → row < samples + 1 → ceded_in rows place row ≡ ceded_at tree rule records id (sidx_at (row_place row))
+  ceded-at None none row below = sym (ceded-none tree _ rule id (subst (λ ids. list_any (nat_eq id) ids ≡ false) is.ids_are none))
+  ceded-at (Some place) found row below = are tree is row place below found.0 ∙ ap (λ id. ceded_at tree rule records id (sidx_at (row_place row))) found.1
+
+  -- the pairs of a record are those of its net losses
+  pub net-are : (place : Option ℕ) → IsPlaceOf parts.ids id place → (pairs : List Pair) → net_pairs rows samples place pairs ≡ pairs_of (λ sidx. loss_of sidx pairs - ceded_at tree rule records id sidx) (insured_range samples)
+  net-are place found pairs =
+      rows-are samples (λ row. loss_of (sidx_at (row_place row)) pairs - ceded_in rows place row) (λ sidx. loss_of sidx pairs - ceded_at tree rule records id sidx)
+      (λ row below. ap (λ n. loss_of (sidx_at (row_place row)) pairs - n) (ceded-at place found row below))
+
+  -- and of its ceded losses
+  pub ceded-are : (place : Option ℕ) → IsPlaceOf parts.ids id place → ceded_pairs rows samples place ≡ pairs_of (ceded_at tree rule records id) (insured_range samples)
+  ceded-are place found = rows-are samples (ceded_in rows place) (ceded_at tree rule records id) (ceded-at place found)
+
+-- ---- net losses are records of a stream
+
+-- a record of net losses has at no sidx more than the record had
+module _ (loss : ℤ → ℕ) where
+  -- at a sidx below those of samples there is nothing
+  samples-none : (sidx : ℤ) (a n : ℕ) → ((k : ℕ) → a ≤ k → int_eq (pos k) sidx ≡ false) → loss_of sidx (pairs_of loss (map pos (range_with_len a n))) ≡ 0
+  samples-none sidx a zero apart = refl
+  samples-none sidx a (suc n) apart = by (loss (pos a)) (samples-none sidx (a + 1) n (λ k low. apart k (omega arith)))
+    where
+      by : (amount : ℕ) → loss_of sidx (pairs_of loss (map pos (range_with_len (a + 1) n))) ≡ 0 → loss_of sidx (cons_option (pair_of (pos a) amount) (pairs_of loss (map pos (range_with_len (a + 1) n)))) ≡ 0
+      by zero rest = rest
+      by (suc less) rest =
+          omega (
+            arith,
+            sum_by-cons (λ (pair : Pair). cond (int_eq pair.sidx sidx) pair.loss 0) (record { sidx = pos a; loss = suc less }) (pairs_of loss (map pos (range_with_len (a + 1) n))),
+            rest,
+            ap (λ b. cond b (suc less) 0) (apart a (omega arith)),
+          )
+
+  other-sidx : (one other : ℤ) → (one ≡ other → ⊥) → int_eq one other ≡ false
+  other-sidx one other differ = by (int_eq one other) refl
+    where
+      by : (b : Bool) → int_eq one other ≡ b → b ≡ false
+      by true is = absurd (differ ((Decides-int_eq one other).0 is))
+      by false is = refl
+
+  -- one pair in front of pairs that have at most that, or nothing at its sidx
+  front-le : (sidx one : ℤ) (pairs : List Pair) → loss_of sidx pairs ≤ loss sidx → (one ≡ sidx → loss_of sidx pairs ≡ 0) → loss_of sidx (cons_option (pair_of one (loss one)) pairs) ≤ loss sidx
+  front-le sidx one pairs rest none = by (loss one) refl
+    where
+      here : (less : ℕ) → loss one ≡ suc less → (b : Bool) → int_eq one sidx ≡ b → cond b (suc less) 0 + loss_of sidx pairs ≤ loss sidx
+      here less is true same = let e = (Decides-int_eq one sidx).0 same in omega (arith, none e, is, ap loss e)
+      here less is false apart = omega (arith, rest)
+
+      by : (amount : ℕ) → loss one ≡ amount → loss_of sidx (cons_option (pair_of one amount) pairs) ≤ loss sidx
+      by zero is = rest
+      by (suc less) is = omega (arith, sum_by-cons (λ (pair : Pair). cond (int_eq pair.sidx sidx) pair.loss 0) (record { sidx = one; loss = suc less }) pairs, here less is (int_eq one sidx) refl)
+
+  samples-le : (sidx : ℤ) (a n : ℕ) → loss_of sidx (pairs_of loss (map pos (range_with_len a n))) ≤ loss sidx
+  samples-le sidx a zero = omega arith
+  samples-le sidx a (suc n) = front-le sidx (pos a) (pairs_of loss (map pos (range_with_len (a + 1) n))) (samples-le sidx (a + 1) n) (λ same. samples-none sidx (a + 1) n (λ k low. other-sidx (pos k) sidx (λ also. omega (arith, ints, also, same, low))))
+
+  pub pairs-le : (sidx : ℤ) (samples : ℕ) → loss_of sidx (pairs_of loss (insured_range samples)) ≤ loss sidx
+  pairs-le sidx samples = front-le sidx (negsuc 0) (pairs_of loss (sample_range samples)) (samples-le sidx 1 samples) (λ same. samples-none sidx 1 samples (λ k low. other-sidx (pos k) sidx (λ also. omega (arith, ints, also, same))))
+
+module _ (tree : Tree) (rule samples : ℕ) (records : List LossRecord) where
+  -- what a record keeps at a sidx
+  abbrev kept : LossRecord → ℤ → ℕ
+  kept entry sidx = loss_of sidx entry.pairs - ceded_at tree rule records entry.id sidx
+
+  with-le : (sidx : ℤ) (event id : ℕ) (pairs : List Pair) (later : List LossRecord) → run_loss sidx (cons_option (record_with event id pairs) later) ≡ loss_of sidx pairs + run_loss sidx later
+  with-le sidx event id [] later = omega arith
+  with-le sidx event id (pair ∷ pairs) later = sum_by-cons (λ (entry : LossRecord). loss_of sidx entry.pairs) (record { event = event; id = id; pairs = pair ∷ pairs }) later
+
+  -- net losses add to no more than the losses
+  pub net-within : AreWithin records → AreWithin (net_records tree rule samples records)
+  net-within within sidx = omega (arith, over records, within sidx)
+    where
+      over : (entries : List LossRecord) → run_loss sidx (filter_map (net_record tree rule samples records) entries) ≤ run_loss sidx entries
+      over [] = omega arith
+      over (entry ∷ entries) =
+          omega (
+            arith,
+            with-le sidx entry.event entry.id (pairs_of (kept entry) (insured_range samples)) (filter_map (net_record tree rule samples records) entries),
+            pairs-le (kept entry) sidx samples,
+            sum_by-cons (λ (entry : LossRecord). loss_of sidx entry.pairs) entry entries,
+            over entries,
+          )
+
+  -- and are records of a stream
+  pub net-good : All (IsLoss samples) records → AreWithin records → All (IsLoss samples) (net_records tree rule samples records)
+  net-good are within = All-from_recursion (IsLoss samples) (net_records tree rule samples records) (over records (recursion_from_All (IsLoss samples) records are) (λ sidx. within sidx))
+    where
+      over : (entries : List LossRecord) → AllByRecursion (IsLoss samples) entries → AreWithin entries → AllByRecursion (IsLoss samples) (filter_map (net_record tree rule samples records) entries)
+      over [] all few = tt
+      over (entry ∷ entries) all few =
+          record-good samples (kept entry) (λ sidx. omega (arith, few sidx, sum_by-cons (λ (entry : LossRecord). loss_of sidx entry.pairs) entry entries)) entry.event entry.id all.0.event all.0.id (filter_map (net_record tree rule samples records) entries)
+          (over entries all.1 (λ sidx. omega (arith, few sidx, sum_by-cons (λ (entry : LossRecord). loss_of sidx entry.pairs) entry entries)))

@@ -1,0 +1,28 @@
+use Rattle.std.proofs.Common.{◌≤◌, ◌<◌, ◌++◌, ◌∙◌, [], length, map, ap, arith}
+use Rattle.std.specs.List.{cons_option, filter_map}
+use Rattle.std.proofs.lemmas.List.{length-map, take_all}
+use Rattle.kt_runs.specs.HeldLaws.{entry_at}
+use Rattle.kt_stream.specs.declared.entry.LossRecord.{LossRecord}
+use Rattle.kt_shares.specs.RowLaws.{made-more}
+use Rattle.kt_ri.specs.Reinsurance.{ceded_record}
+use Rattle.kt_ri.proofs.net.ceded_records.Goals as goal
+
+pub loop-held-preserved : goal.loop-held-preserved
+loop-held-preserved g c = λ tree rule is are.
+    let entry_of = g.T.RunEntry.entry_of in
+    let records = map entry_of c.args.records.now in
+    let entry = c.entry.result.now in
+    let i = c.loop-held.held-index in
+    let below : i < length records = omega (arith, c.loop-held-test.true, length-map c.args.records.now entry_of) in
+    let here = entry_at entry_of c.args.records.now i c.held-item.result entry c.loop-held-test.true c.held-item.is c.entry.ensures entry in
+    made-more (ceded_record tree rule c.args.samples records) records c.loop-held.made.items c.push_ceded.new.made.items i entry below (c.loop-held.invariant tree rule is are)
+    (c.in_ok-push_ceded.ensures.ok tree rule records is are ∙ ap (λ (entry : LossRecord). c.loop-held.made.items ++ cons_option (ceded_record tree rule c.args.samples records entry) []) here)
+
+pub returns : goal.returns
+returns g c = record {
+  value = λ tree rule is are.
+      let entry_of = g.T.RunEntry.entry_of in
+      let records = map entry_of c.args.records.now in
+      let past : length records ≤ c.loop-held.held-index = omega (arith, c.loop-held-test.false, length-map c.args.records.now entry_of) in
+      c.from_vec.ensures.value ∙ (c.loop-held.invariant tree rule is are ∙ ap (filter_map (ceded_record tree rule c.args.samples records)) (take_all c.loop-held.held-index records past));
+}
