@@ -18,23 +18,23 @@ insured_loads rule = refl
 -- each of the ten programmes
 net_loads : (rule stage : ℕ) → stage < 10 → is_loaded (net_need rule stage) stage table.FmProgramme ≡ true
 unfolding is_loaded
-net_loads rule 0 below = refl
-net_loads rule 1 below = refl
-net_loads rule 2 below = refl
-net_loads rule 3 below = refl
-net_loads rule 4 below = refl
-net_loads rule 5 below = refl
-net_loads rule 6 below = refl
-net_loads rule 7 below = refl
-net_loads rule 8 below = refl
-net_loads rule 9 below = refl
+net_loads rule zero below = refl
+net_loads rule (suc zero) below = refl
+net_loads rule (suc (suc zero)) below = refl
+net_loads rule (suc (suc (suc zero))) below = refl
+net_loads rule (suc (suc (suc (suc zero)))) below = refl
+net_loads rule (suc (suc (suc (suc (suc zero))))) below = refl
+net_loads rule (suc (suc (suc (suc (suc (suc zero)))))) below = refl
+net_loads rule (suc (suc (suc (suc (suc (suc (suc zero))))))) below = refl
+net_loads rule (suc (suc (suc (suc (suc (suc (suc (suc zero)))))))) below = refl
+net_loads rule (suc (suc (suc (suc (suc (suc (suc (suc (suc zero))))))))) below = refl
 net_loads rule (suc (suc (suc (suc (suc (suc (suc (suc (suc (suc stage)))))))))) below = absurd (omega arith)
 
 -- the allocation rules of net losses
 pub one_or_two : (rule : ℕ) → 1 ≤ rule → rule ≤ 2 → (rule ≡ 1) ⊎ (rule ≡ 2)
-one_or_two 0 some few = absurd (omega some)
-one_or_two 1 some few = inl refl
-one_or_two 2 some few = inr refl
+one_or_two zero some few = absurd (omega (arith, some))
+one_or_two (suc zero) some few = inl refl
+one_or_two (suc (suc zero)) some few = inr refl
 one_or_two (suc (suc (suc rule))) some few = absurd (omega (arith, few))
 
 -- insured losses have their programme
