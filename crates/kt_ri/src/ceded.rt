@@ -25,7 +25,9 @@ fn ceded_row(
 {
     let mut ceded = zeros(alloc, width)?;
     for k in 0..places.len() {
-        ceded[places[k]] += shares[k];
+        let place = places[k];
+        let sum = ceded[place] + shares[k];
+        ceded[place] = sum;
     }
     Ok(ceded)
 }
