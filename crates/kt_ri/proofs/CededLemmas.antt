@@ -202,7 +202,7 @@ pub record AreCededRows (width : ℕ) (places : List ℕ) (table : List Shared) 
   pub many : length rows ≡ count
   pub each : (row : ℕ) → row < count → Holds width (share_at places (row_at table row).shares) (slice_index_or rows row [])
 
-module _ (tree : Tree) (parts : Parts) (is : IsProgramme tree parts) (few : HasFewLayers parts) (places : List ℕ) (are : ArePlaces parts places) (rule samples : ℕ) (rule_is : (rule ≡ 1) ⊎ (rule ≡ 2)) (records : List LossRecord) (within : AreWithin records) (table : List Shared) (table_is : table ≡ table_for tree rule samples records (layers_of tree)) where
+module _ (tree : Tree) (parts : Parts) (is : IsProgramme tree parts) (few : HasFewLayers parts) (ids : List ℕ) (ids_are : ids ≡ parts.ids) (places : List ℕ) (are : ArePlaces parts places) (rule samples : ℕ) (rule_is : (rule ≡ 1) ⊎ (rule ≡ 2)) (records : List LossRecord) (within : AreWithin records) (table : List Shared) (table_is : table ≡ table_for tree rule samples records (layers_of tree)) where
   shared : nat_eq rule 0 ≡ false
   shared = elim rule_is [
     | inl one ↦ ap (λ n. nat_eq n 0) one
@@ -210,19 +210,19 @@ module _ (tree : Tree) (parts : Parts) (is : IsProgramme tree parts) (few : HasF
   ]
 
   -- the shares of each row have places and fit
-  pub run-fits : All (λ row. HasShares (length parts.ids) places row.shares) table
+  pub run-fits : All (λ row. HasShares (length ids) places row.shares) table
   run-fits =
-      each-row tree rule samples records (layers_of tree) table table_is (λ row. HasShares (length parts.ids) places row.shares)
-      (λ row. row-fits tree parts is places are (taken_loss tree records (sidx_at (row_place row))) rule shared few (omega (arith, taken-few tree is.is records (sidx_at (row_place row)), within (sidx_at (row_place row)))))
+      subst (λ n. All (λ row. HasShares n places row.shares) table) (ap length (sym ids_are)) (each-row tree rule samples records (layers_of tree) table table_is (λ row. HasShares (length parts.ids) places row.shares)
+      (λ row. row-fits tree parts is places are (taken_loss tree records (sidx_at (row_place row))) rule shared few (omega (arith, taken-few tree is.is records (sidx_at (row_place row)), within (sidx_at (row_place row))))))
 
-  module _ (rows : List (List ℕ)) (held : (row : ℕ) → row < length table → Holds (length parts.ids) (share_at places (row_at table row).shares) (slice_index_or rows row [])) where
+  module _ (rows : List (List ℕ)) (held : (row : ℕ) → row < length table → Holds (length ids) (share_at places (row_at table row).shares) (slice_index_or rows row [])) where
     inside : (row : ℕ) → row < samples + 1 → row < length table
     inside row below = omega (arith, below, table-length tree rule samples records (layers_of tree) table table_is)
 
     -- the sums of the rows are what the ids cede
     pub run-ceded : (row place : ℕ) → row < samples + 1 → place < length parts.ids → slice_index (slice_index_or rows row []) place ≡ ceded_at tree rule records (slice_index parts.ids place) (sidx_at (row_place row))
     run-ceded row place below here =
-        (held row (inside row below)).each place here
+        (held row (inside row below)).each place (subst (λ ids. place < length ids) (sym ids_are) here)
         ∙ (ap (λ (one : Shared). share_at places one.shares place) (row-is tree rule samples records (layers_of tree) table table_is row below)
         ∙ ceded-is tree parts is places are (taken_loss tree records (sidx_at (row_place row))) rule shared place here)
 
@@ -230,5 +230,5 @@ module _ (tree : Tree) (parts : Parts) (is : IsProgramme tree parts) (few : HasF
     pub run-rows : length rows ≡ length table → AreRows (length parts.ids) samples rows
     run-rows many = record {
       many = many ∙ table-length tree rule samples records (layers_of tree) table table_is;
-      each = λ row below. (held row (inside row below)).width_is;
+      each = λ row below. (held row (inside row below)).width_is ∙ ap length ids_are;
     }

@@ -10,7 +10,7 @@ ghost use Rattle.kt_ri.specs.Ceded.{AreCeded, AreRows, HasShares, share_at};
 
 use crate::ceding::CedingProgramme;
 use kt_runs::{RunEntry, zeros};
-use kt_shares::{Row, table_of};
+use kt_shares::Row;
 use std::alloc::{AllocError, Global};
 
 /// The shares of a row, added by the places of their ids.
@@ -25,7 +25,9 @@ fn ceded_row(
 {
     let mut ceded = zeros(alloc, width)?;
     for k in 0..places.len() {
-        ceded[places[k]] += shares[k];
+        let place = places[k];
+        let sum = ceded[place] + shares[k];
+        ceded[place] = sum;
     }
     Ok(ceded)
 }
@@ -63,11 +65,8 @@ pub(crate) fn ceded_of<T: RunEntry>(
     ensures rows { IfOk result (λ rows. AreRows (length stage.now.ids) samples (map (λ row. row.items) rows.items)) }
     ensures value { IfOk result (λ rows. AreCeded stage.now rule samples (map T.entry_of records.now) (map (λ row. row.items) rows.items)) }
 {
-    let programme = stage.programme();
-    programme.is_of_a_tree();
-    let layers = stage.layers();
-    let places = stage.places();
-    let table = table_of(alloc, programme, samples, rule, layers, records)?;
-    let rows = ceded_rows(alloc, programme.ids().len(), places, &table)?;
+    stage.is_ceding();
+    let table = stage.table(alloc, samples, rule, records)?;
+    let rows = ceded_rows(alloc, stage.ids().len(), stage.places(), &table)?;
     Ok(rows)
 }

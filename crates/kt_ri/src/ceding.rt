@@ -1,15 +1,21 @@
 //! A programme that cedes losses, as it serves all runs.
 //! The rule: docs/FINANCIAL_MODULE.md, "Reinsurance".
-ghost use Rattle.std.specs.Prelude.{◌≡◌, ◌<◌, true, IfOk};
+ghost use Rattle.std.specs.Prelude.{◌≡◌, ◌≤◌, ◌<◌, true, map, All, IfOk};
 ghost use Rattle.kt_keys.specs.Refusals.{is_loaded};
 ghost use Rattle.kt_rec.specs.declared.table.Table.TheVariants as table;
+ghost use Rattle.kt_stream.specs.Losses.{IsLoss};
+ghost use Rattle.kt_runs.specs.RunLosses.{AreWithin};
 ghost use Rattle.kt_tree.specs.Programme.{tree_of};
-ghost use Rattle.kt_fmtree.specs.Parts.{IsProgramme};
+ghost use Rattle.kt_tree.specs.Tree.{Tree};
+ghost use Rattle.kt_fmtree.specs.Parts.{HasProgramme, IsProgramme};
+ghost use Rattle.kt_shares.specs.Shares.{layers_of};
+ghost use Rattle.kt_shares.specs.Table.{table_for};
 ghost use Rattle.kt_ri.specs.Ceding.{AreLayers, ArePlaces, HasFewLayers};
 
 use crate::places::owner_places;
 use kt_fmtree::Programme;
-use kt_shares::{TopLayer, top_layers};
+use kt_runs::RunEntry;
+use kt_shares::{Row, TopLayer, table_of, top_layers};
 use kt_tables::Portfolio;
 use std::alloc::{AllocError, Global};
 use std::marker::Model;
@@ -66,19 +72,20 @@ impl CedingProgramme {
         Ok(made)
     }
 
-    /// The programme.
-    pub(crate) fn programme(&self) -> &Programme
-        ensures value { result.now ≡ self.now }
+    /// Says what it keeps: its programme is of a tree, and a top has few layers.
+    pub(crate) fn is_ceding(&self)
+        ensures tree { HasProgramme self.now }
         ensures few { HasFewLayers self.now }
     {
-        &self.programme
+        self.programme.is_of_a_tree();
+        let _ = &self.layers;
     }
 
-    /// The layers of its tops, by top and then by layer.
-    pub(crate) fn layers(&self) -> &[TopLayer]
-        ensures layers { AreLayers self.now result.now }
+    /// The ids whose losses the programme takes, rising.
+    pub(crate) fn ids(&self) -> &[u32]
+        ensures value { result.now ≡ self.now.ids }
     {
-        &self.layers
+        self.programme.ids()
     }
 
     /// The places of the ids that have the shares in a row of its layers.
@@ -86,5 +93,31 @@ impl CedingProgramme {
         ensures places { ArePlaces self.now result.now }
     {
         &self.places
+    }
+
+    /// What its layers have of the losses of a run at the mean and at each sample.
+    pub(crate) fn table<T: RunEntry>(
+        &self,
+        alloc: Global,
+        samples: u32,
+        rule: u32,
+        records: &[T],
+    ) -> Result<Vec<Row>, AllocError>
+        requires samples { samples ≤ 1000 }
+        requires rule { rule ≤ 2 }
+        requires records { All (IsLoss samples) (map T.entry_of records.now) }
+        requires within { AreWithin (map T.entry_of records.now) }
+        ensures value { IfOk result (λ table. (tree : Tree) → IsProgramme tree self.now → table.items ≡ table_for tree rule samples (map T.entry_of records.now) (layers_of tree)) }
+    {
+        let layers = self.layers();
+        let table = table_of(alloc, &self.programme, samples, rule, layers, records)?;
+        Ok(table)
+    }
+
+    /// The layers of its tops, by top and then by layer.
+    fn layers(&self) -> &[TopLayer]
+        ensures layers { AreLayers self.now result.now }
+    {
+        &self.layers
     }
 }

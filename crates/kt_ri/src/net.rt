@@ -85,9 +85,8 @@ fn push_net(
     requires few { (sidx : ℤ) → loss_of sidx entry.now.pairs ≤ 10000000000000000 }
     ensures ok { OnOk result ((tree : Tree) (rule : ℕ) (records : List LossRecord) → IsProgramme tree stage.now → AreCeded stage.now rule samples records (map (λ row. row.items) rows.now) → made.new.items ≡ made.old.items ++ cons_option (net_record tree rule samples records entry.now) []) }
 {
-    let programme = stage.programme();
-    programme.is_of_a_tree();
-    let place = place_of(programme.ids(), entry.id);
+    stage.is_ceding();
+    let place = place_of(stage.ids(), entry.id);
     let pairs = net_pairs(alloc, samples, rows, place, entry)?;
     push_record(made, entry.event, entry.id, pairs)?;
     Ok(())
@@ -106,9 +105,8 @@ fn push_ceded(
     requires rows { AreRows (length stage.now.ids) samples (map (λ row. row.items) rows.now) }
     ensures ok { OnOk result ((tree : Tree) (rule : ℕ) (records : List LossRecord) → IsProgramme tree stage.now → AreCeded stage.now rule samples records (map (λ row. row.items) rows.now) → made.new.items ≡ made.old.items ++ cons_option (ceded_record tree rule samples records entry.now) []) }
 {
-    let programme = stage.programme();
-    programme.is_of_a_tree();
-    let place = place_of(programme.ids(), entry.id);
+    stage.is_ceding();
+    let place = place_of(stage.ids(), entry.id);
     let pairs = ceded_pairs(alloc, samples, rows, place)?;
     push_record(made, entry.event, entry.id, pairs)?;
     Ok(())

@@ -38,19 +38,6 @@ fn owners_of(
     Ok(owners)
 }
 
-/// The place of an id among rising ids that have it.
-fn known_place(ids: &[u32], id: u32) -> usize
-    requires rising { IsRising ids.now }
-    requires member { list_any (nat_eq id) ids.now ≡ true }
-    ensures within { result < length ids.now }
-    ensures value { slice_index ids.now result ≡ id }
-{
-    match ids.binary_search(&id) {
-        Ok(place) => place,
-        Err(_) => unreachable!(),
-    }
-}
-
 /// The places of ids among rising ids that have them.
 fn places_of(alloc: Global, ids: &[u32], owners: &[u32]) -> Result<Vec<usize>, AllocError>
     requires rising { IsRising ids.now }
@@ -60,7 +47,10 @@ fn places_of(alloc: Global, ids: &[u32], owners: &[u32]) -> Result<Vec<usize>, A
 {
     let mut places = Vec::with_capacity(alloc, owners.len())?;
     for id in owners {
-        places.push(known_place(ids, *id))?;
+        match place_of(ids, *id) {
+            Some(place) => places.push(place)?,
+            None => unreachable!(),
+        }
     }
     Ok(places)
 }

@@ -42,7 +42,7 @@ pub fn one_stage<T: RunEntry>(
     ensures good { IfOk result (λ made. All (IsLoss samples) made.net) }
     ensures within { IfOk result (λ made. AreWithin made.net) }
 {
-    stage.programme().is_of_a_tree();
+    stage.is_ceding();
     let rows = ceded_of(alloc, stage, samples, rule, records)?;
     let net = net_of(alloc, stage, samples, &rows, records)?;
     let ceded = ceded_records(alloc, stage, samples, &rows, records)?;

@@ -62,7 +62,7 @@ fn left_by(
     ensures good { IfOk result (λ net. All (IsLoss samples) net) }
     ensures within { IfOk result (λ net. AreWithin net) }
 {
-    stage.programme().is_of_a_tree();
+    stage.is_ceding();
     let rows = ceded_of(alloc, stage, samples, 2, records)?;
     let net = net_of(alloc, stage, samples, &rows, records)?;
     Ok(net)

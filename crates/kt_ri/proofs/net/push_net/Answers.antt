@@ -1,7 +1,6 @@
 use Rattle.std.proofs.Common.{◌++◌, ◌∙◌, ℕ, List, [], ap, map, subst}
 use Rattle.std.specs.List.{cons_option}
 use Rattle.kt_stream.specs.declared.entry.Pair.{Pair}
-use Rattle.kt_fmtree.specs.Parts.{Parts}
 use Rattle.kt_shares.specs.Shares.{record_with}
 use Rattle.kt_ri.specs.Ceding.{IsPlaceOf}
 use Rattle.kt_ri.proofs.NetLemmas.{net-are}
@@ -12,7 +11,7 @@ returns c = record {
   ok = λ tree rule records is are.
       let entry = c.args.entry.now in
       let place = c.place_of-place.result in
-      let found = subst (λ (ids : List ℕ). IsPlaceOf ids entry.id place) (c.ids.ensures.value ∙ ap (λ (parts : Parts). parts.ids) c.programme-programme.ensures.value) c.place_of-place.ensures.value in
+      let found = subst (λ (ids : List ℕ). IsPlaceOf ids entry.id place) c.ids.ensures.value c.place_of-place.ensures.value in
       c.in_ok-push_record.ensures.ok
       ∙ ap (λ (pairs : List Pair). c.args.made.now.items ++ cons_option (record_with entry.event entry.id pairs) []) (c.in_ok-pairs.ensures.value ∙ net-are tree c.args.stage.now is rule c.args.samples records (map (λ row. row.items) c.args.rows.now) are entry.id place found c.args.entry.now.pairs);
 }

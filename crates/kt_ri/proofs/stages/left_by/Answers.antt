@@ -3,7 +3,6 @@ use Rattle.std.specs.Prelude.{All}
 use Rattle.kt_runs.specs.RunLosses.{AreWithin}
 use Rattle.kt_stream.specs.Losses.{IsLoss}
 use Rattle.kt_stream.specs.declared.entry.LossRecord.{LossRecord}
-use Rattle.kt_fmtree.specs.Parts.{IsProgramme}
 use Rattle.kt_shares.specs.RecordLaws.{map-same}
 use Rattle.kt_ri.specs.Ceded.{AreCeded}
 use Rattle.kt_ri.specs.Reinsurance.{net_records}
@@ -17,12 +16,10 @@ returns-clause-net c = λ tree is.
 
 pub returns-clause-good : goal.returns-clause-good
 returns-clause-good c =
-    let kept = c.is_of_a_tree.ensures.kept in
-    let is = subst (IsProgramme kept.tree) c.programme.ensures.value kept.is in
-    subst (λ (net : List LossRecord). All (IsLoss c.args.samples) net) (sym (returns-clause-net c kept.tree is)) (net-good kept.tree 2 c.args.samples c.args.records.now c.requires.records c.requires.within)
+    let kept = c.is_ceding.ensures.tree in
+    subst (λ (net : List LossRecord). All (IsLoss c.args.samples) net) (sym (returns-clause-net c kept.tree kept.is)) (net-good kept.tree 2 c.args.samples c.args.records.now c.requires.records c.requires.within)
 
 pub returns-clause-within : goal.returns-clause-within
 returns-clause-within c =
-    let kept = c.is_of_a_tree.ensures.kept in
-    let is = subst (IsProgramme kept.tree) c.programme.ensures.value kept.is in
-    subst AreWithin (sym (returns-clause-net c kept.tree is)) (net-within kept.tree 2 c.args.samples c.args.records.now c.requires.within)
+    let kept = c.is_ceding.ensures.tree in
+    subst AreWithin (sym (returns-clause-net c kept.tree kept.is)) (net-within kept.tree 2 c.args.samples c.args.records.now c.requires.within)
