@@ -8,7 +8,7 @@ pub returns-in-Ok-Fmcalc-clause-ends : goal.returns-in-Ok-Fmcalc-clause-ends
 returns-in-Ok-Fmcalc-clause-ends g c outputs = by_command c.args.words.now (Fmcalc c.in-Ok-Fmcalc.rule) _ _ (end_status c.fmcalc.result) _ (sym c.read_command.ensures.value ∙ c.in-Ok-Fmcalc.is ∙ ap command_is c.in-Ok-Fmcalc.field-0-is) c.status_of.ensures (c.fmcalc.ensures outputs)
 
 pub returns-in-Ok-FmcalcNet-clause-ends : goal.returns-in-Ok-FmcalcNet-clause-ends
-returns-in-Ok-FmcalcNet-clause-ends g c outputs = by_command c.args.words.now (FmcalcNet c.in-Ok-FmcalcNet.rule c.in-Ok-FmcalcNet.stage) _ _ (end_status c.fmcalc_net.result) _ (sym c.read_command.ensures.value ∙ c.in-Ok-FmcalcNet.is ∙ ap command_is c.in-Ok-FmcalcNet.field-0-is) c.status_of.ensures (c.fmcalc_net.ensures outputs)
+returns-in-Ok-FmcalcNet-clause-ends g c outputs = by_command c.args.words.now (FmcalcNet c.in-Ok-FmcalcNet.rule c.in-Ok-FmcalcNet.stage) _ _ (end_status c.fmcalc_net.result) _ (sym c.read_command.ensures.value ∙ c.in-Ok-FmcalcNet.is ∙ ap command_is c.in-Ok-FmcalcNet.field-0-is) c.status_of-in-Ok-FmcalcNet.ensures (c.fmcalc_net.ensures outputs)
 
 pub returns-in-Ok-Summarycalc-clause-ends : goal.returns-in-Ok-Summarycalc-clause-ends
 returns-in-Ok-Summarycalc-clause-ends g c outputs = by_command c.args.words.now (Summarycalc c.in-Ok-Summarycalc.items c.in-Ok-Summarycalc.set c.in-Ok-Summarycalc.rule) _ _ (end_status c.summarycalc.result) _ (sym c.read_command.ensures.value ∙ c.in-Ok-Summarycalc.is ∙ ap command_is c.in-Ok-Summarycalc.field-0-is) c.status_of-in-Ok-Summarycalc.ensures (c.summarycalc.ensures outputs)
