@@ -2,7 +2,7 @@
 //! The rule: docs/FINANCIAL_MODULE.md, "Allocation".
 ghost use Rattle.std.specs.Prelude.{◌≡◌, ◌+◌, ◌≤◌, ◌<◌, ◌^◌, ◌++◌, length, map, false, OnOk};
 ghost use Rattle.std.specs.List.{sum_by};
-ghost use Rattle.kt_money.specs.Sharing.{share_out};
+ghost use Rattle.kt_money.specs.Sharing.{share_of, share_out};
 ghost use Rattle.kt_rules.specs.Amounts.{total};
 ghost use Rattle.kt_fmtree.specs.Carried.{CanCarry};
 ghost use Rattle.kt_alloc.specs.Placed.{due, weight, weights, parts_from, amounts_for, children_of};
@@ -40,6 +40,18 @@ fn due(amount: u64, weights: u64) -> u64
     if weights == 0 { 0 } else { amount }
 }
 
+/// The share of the next weight; a weight of 0 has none.
+fn next_share(sharing: &mut ShareOut, weight: u64) -> u64
+    requires { sharing.old.given + weight ≤ sharing.old.weights }
+    ensures value { result ≡ share_of sharing.old.total sharing.old.weights sharing.old.given weight }
+    ensures given { sharing.new ≡ record sharing.old { given = sharing.old.given + weight } }
+{
+    if weight == 0 {
+        return 0;
+    }
+    sharing.next(weight)
+}
+
 /// Puts the shares of children, whose places begin at one, of an amount behind other parts.
 fn push_shares(
     children: &[Carry],
@@ -56,7 +68,7 @@ fn push_shares(
     let weights = weight(all.loss, all);
     let mut sharing = ShareOut::new(due(amount, weights), u128::from(weights));
     for (at, carry) in children.iter().enumerate() {
-        let share = sharing.next(weight(all.loss, *carry));
+        let share = next_share(&mut sharing, weight(all.loss, *carry));
         parts.push(PlacedPart {
             place: start + at,
             amount: share,
