@@ -5,6 +5,11 @@ pub mod SummaryChecks
 pub mod Checks
 pub mod CheckLaws
 pub mod KeptChecks
+pub mod KeptTables
+pub mod KeptNames
+pub mod KeptProgrammes
+pub mod KeptOutputs
+pub mod FinancialRanges
 pub use Rattle.kt_keys.specs.FirstRow
 pub use Rattle.kt_keys.specs.Refusals
 pub use Rattle.kt_keys.specs.Keys

@@ -8,8 +8,6 @@ use Rattle.byteorder.specs.Endian.{little_number}
 use Rattle.byteorder.specs.Numbers.{little_from-take}
 use Rattle.std.proofs.lemmas.List.Elements.{recursion_from_All}
 use Rattle.kt_checks.specs.TableChecks.{IsPlaced}
-use Rattle.kt_checks.specs.CheckLaws.{keeps-from_valid}
-use Rattle.kt_checks.specs.KeptChecks.{placed_events}
 use Rattle.kt_keys.specs.Refusals.{is_loaded}
 use Rattle.kt_out.specs.NamedFiles.{FileMap}
 use Rattle.kt_rec.specs.Rows.{Rows}
@@ -17,6 +15,7 @@ use Rattle.kt_rec.specs.declared.hazard.FootprintIdx.{FootprintIdx}
 use Rattle.kt_rec.specs.declared.table.Table.TheVariants as table
 use Rattle.kt_tables.specs.Lookups.{place_in}
 use Rattle.kt_tables.specs.Portfolio.{IsPortfolio, PortfolioRows}
+use Rattle.kt_tables.specs.PortfolioLaws.{names_kept}
 use Rattle.kt_tables.specs.declared.place.Place.{Place}
 use Rattle.kt_rec.specs.declared.hazard.FootRow.{FootRow}
 use Rattle.kt_load.specs.Ends.{HasPart, IsPart}
@@ -60,8 +59,7 @@ found_place size (row ∷ rows) event place all is = here (nat_eq event row.even
 -- an event that the index has lies in the file
 pub lies_within : (portfolio : PortfolioRows) (event : ℕ) (place : Place) → IsPortfolio portfolio → is_loaded portfolio.need 0 table.Footprint ≡ true → is_loaded portfolio.need 0 table.FootprintIdx ≡ true → place_in portfolio.rows event ≡ Some place → LiesWithin portfolio.rows.footprint_size place
 lies_within portfolio event place valid footprint index is =
-    let placed = placed_events portfolio.rows portfolio.need (keeps-from_valid 9 portfolio.rows portfolio.need valid.valid) index footprint in
-    found_place portfolio.rows.footprint_size portfolio.rows.footprint_idx event place (recursion_from_All (IsPlaced portfolio.rows.footprint_size) portfolio.rows.footprint_idx placed) is
+    found_place portfolio.rows.footprint_size portfolio.rows.footprint_idx event place (recursion_from_All (IsPlaced portfolio.rows.footprint_size) portfolio.rows.footprint_idx ((names_kept portfolio valid).places footprint)) is
 
 -- so the file has its bytes
 pub has_part : (held : Option FileMap) (size : ℕ) (place : Place) → HasFootprint held size → LiesWithin size place → HasPart held footprint_name place.at place.size

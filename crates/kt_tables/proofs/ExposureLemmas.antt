@@ -17,7 +17,7 @@ use Rattle.kt_index.specs.declared.exposure.UnitCoverage.{UnitCoverage}
 use Rattle.kt_index.specs.Exposure.{unit_covers, summary_covers, IsTotalOf, AddsUp}
 use Rattle.kt_rec.specs.Ranges.{IsCoverage}
 use Rattle.kt_tables.specs.Portfolio.{PortfolioRows, IsPortfolio}
-use Rattle.kt_tables.specs.PortfolioLaws.{coverages_distinct, outputs_distinct, coverages_within}
+use Rattle.kt_tables.specs.PortfolioLaws.{coverages_distinct, keys_kept, coverages_within}
 use Rattle.kt_tables.specs.Kept.{AreAddable}
 use Rattle.kt_tables.specs.declared.summaries.SummaryRow.{SummaryRow}
 use Rattle.kt_rec.specs.Rows.{Rows}
@@ -106,7 +106,7 @@ adds_up coverages apart ranges few = λ ids distinct.
 pub addable : (portfolio : PortfolioRows) → IsPortfolio portfolio → AreAddable portfolio.rows
 addable portfolio valid = record {
   coverages = coverages_distinct portfolio valid;
-  outputs = outputs_distinct portfolio valid;
+  outputs = (keys_kept portfolio valid).outputs;
   values = adds_up portfolio.rows.coverages (coverages_distinct portfolio valid) valid.in_range.coverages (coverages_within portfolio valid);
 }
 

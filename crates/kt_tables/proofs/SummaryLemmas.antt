@@ -20,13 +20,12 @@ use Rattle.kt_rec.specs.declared.perspective.Perspective.TheVariants.{Gul, Il, R
 use Rattle.kt_rec.specs.declared.table.Table.TheVariants.{Coverages, Items}
 use Rattle.kt_keys.specs.Refusals.{at_stage, is_loaded}
 use Rattle.kt_checks.specs.CheckLaws.{keeps-from_valid}
-use Rattle.kt_checks.specs.KeptChecks.{values_within}
 use Rattle.kt_checks.specs.TableChecks.{tiv_of}
 use Rattle.kt_tables.specs.SummaryLaws.{KeepsSummaries}
 use Rattle.kt_tables.specs.declared.summaries.SummaryRow.{SummaryRow}
 use Rattle.kt_tables.specs.Lookups.{exposure_of, id_has, is_unit, item_has, item_summary_rows, lies_beneath, output_has, output_summary_rows, summary_has, summary_in, summary_rows, top_unit, unit_has}
 use Rattle.kt_tables.specs.Portfolio.{PortfolioRows, IsPortfolio}
-use Rattle.kt_tables.specs.PortfolioLaws.{coverages_distinct, no_rows}
+use Rattle.kt_tables.specs.PortfolioLaws.{coverages_distinct, sizes_kept}
 
 -- ---- summaries are ids
 
@@ -201,20 +200,6 @@ module _ (portfolio : PortfolioRows) (valid : IsPortfolio portfolio) where
         covered_le rows.coverages (coverages_distinct portfolio valid) rows.items,
       )
 
-  -- without items, or without coverages, that is nothing
-  tiv_of-none : (coverages : List Coverage) (items : List Item) → length coverages ≡ 0 → sum_by (λ row. tiv_of coverages row.coverage_id) items ≡ 0
-  tiv_of-none [] items none = sum_none items
-  tiv_of-none (row ∷ coverages) items none = absurd (omega arith)
-
-  -- it is at most 10^14 cents
-  worth_within : (a b : Bool) → is_loaded portfolio.need 0 Items ≡ a → is_loaded portfolio.need 0 Coverages ≡ b → worth ≤ 100000000000000
-  worth_within true true items coverages = values_within portfolio.rows portfolio.need (keeps-from_valid 5 portfolio.rows portfolio.need valid.valid) items coverages
-  worth_within false b items coverages =
-      let none = nil_from_length portfolio.rows.items (no_rows portfolio valid (at_stage 0 Items) (record { stages = omega arith; financial = inl refl }) items) in
-      omega (arith, ap (λ (rows : List Item). sum_by (λ row. tiv_of portfolio.rows.coverages row.coverage_id) rows) none)
-  worth_within true false items coverages =
-      omega (arith, tiv_of-none portfolio.rows.coverages portfolio.rows.items (no_rows portfolio valid (at_stage 0 Coverages) (record { stages = omega arith; financial = inl refl }) coverages))
-
   -- a summary that a set has for an id is an id itself
   known : (perspective : Perspective) (set id summary : ℕ) → summary_in perspective portfolio.rows set id ≡ Some summary → IsId summary
   known Gul set id summary is = found_each (item_summary_rows portfolio.rows) (item_each portfolio.rows.gulsummaryxref (recursion_from_All IsGulSummaryXref portfolio.rows.gulsummaryxref valid.in_range.gulsummaryxref)) (id, set) summary is
@@ -225,5 +210,5 @@ module _ (portfolio : PortfolioRows) (valid : IsPortfolio portfolio) where
   pub summaries_kept : KeepsSummaries portfolio
   summaries_kept = record {
     known = known;
-    exposures = λ perspective set summary. omega (arith, exposure_le perspective set summary, worth_within (is_loaded portfolio.need 0 Items) (is_loaded portfolio.need 0 Coverages) refl refl);
+    exposures = λ perspective set summary. omega (arith, exposure_le perspective set summary, (sizes_kept portfolio valid).values);
   }
