@@ -4,6 +4,7 @@ pub mod OutputChecks
 pub mod SummaryChecks
 pub mod Checks
 pub mod CheckLaws
+pub mod Worth
 pub mod KeptChecks
 pub mod KeptTables
 pub mod KeptNames

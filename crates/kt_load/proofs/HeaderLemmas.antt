@@ -3,8 +3,10 @@ use Rattle.std.proofs.Common.{◌≡◌, ◌≤◌, ◌<◌, ◌+◌, ℕ, List,
 use Rattle.std.specs.Prelude.{nat_lt, slice_index, not, ◌==◌, if◌then◌else◌, Result, Ok, Err, ◌*◌}
 use Rattle.std.proofs.lemmas.Bool.{ltb-true, ltb-false, lt-ltb, le-ltb}
 use Rattle.std.proofs.Math.Seq.{take-length}
-use Rattle.std.proofs.lemmas.List.{length-take, take_all}
-use Rattle.byteorder.specs.Endian.{little_number, little_from}
+use Rattle.std.proofs.lemmas.Bool.Decides.{nat_tests}
+use Rattle.std.proofs.lemmas.List.{drop-take, length-take, take_all}
+use Rattle.byteorder.specs.Endian.{little_number}
+use Rattle.byteorder.specs.Numbers.{little_from-take}
 use Rattle.kt_rec.specs.declared.table.Table.{Table}
 use Rattle.kt_rec.specs.declared.table.Table.TheVariants as table
 use Rattle.kt_cells.specs.Header.{header_extra, mark, version}
@@ -15,39 +17,18 @@ use Rattle.kt_cells.specs.declared.stop.TableStop.TheVariants.{NotProfile, Wrong
 use Rattle.kt_schema.specs.Loading.{loaded_rows}
 use Rattle.kt_load.specs.Ends.{bytes_wanted}
 
--- a byte of the front is that of the whole
-front_byte : (bytes : List ℕ) (size place : ℕ) → place < size → slice_index (take size bytes) place ≡ slice_index bytes place
-front_byte [] zero place below = refl
-front_byte [] (suc size) place below = refl
-front_byte (byte ∷ bytes) zero place below = absurd (omega arith)
-front_byte (byte ∷ bytes) (suc size) zero below = refl
-front_byte (byte ∷ bytes) (suc size) (suc place) below = front_byte bytes size place (omega arith)
-
--- so is a number
-front_number : (bytes : List ℕ) (size place width : ℕ) → place + width ≤ size → little_from place width (take size bytes) ≡ little_from place width bytes
-front_number bytes size place zero fits = refl
-front_number bytes size place (suc width) fits = (λ i. front_byte bytes size place (omega arith) i + 256 * front_number bytes size (suc place) width (omega arith) i)
-
--- and one behind some bytes
-front_number_at : (bytes : List ℕ) (size place width : ℕ) → place + width ≤ size → little_number width (drop place (take size bytes)) ≡ little_number width (drop place bytes)
-front_number_at bytes size zero width fits = front_number bytes size 0 width fits
-front_number_at [] zero (suc place) width fits = refl
-front_number_at [] (suc size) (suc place) width fits = refl
-front_number_at (byte ∷ bytes) zero (suc place) width fits = absurd (omega arith)
-front_number_at (byte ∷ bytes) (suc size) (suc place) width fits = front_number_at bytes size place width (omega arith)
+-- a number of four bytes behind some of the first bytes is that of the whole
+front_number : (bytes : List ℕ) (place rest : ℕ) → 4 ≤ rest → little_number 4 (drop place (take (place + rest) bytes)) ≡ little_number 4 (drop place bytes)
+front_number bytes place rest fits = ap (little_number 4) (drop-take place rest bytes) ∙ little_from-take 0 4 rest (drop place bytes) fits
 
 -- the first bytes are too few for a header where all are
 as_few : (size : ℕ) → nat_lt (min 16 size) 16 ≡ nat_lt size 16
-as_few size = by_test (nat_lt size 16) refl
-  where
-    by_test : (few : Bool) → nat_lt size 16 ≡ few → nat_lt (min 16 size) 16 ≡ few
-    by_test true is = lt-ltb (min 16 size) 16 (omega (arith, ltb-true size 16 is))
-    by_test false is = le-ltb (min 16 size) 16 (omega (arith, ltb-false size 16 is))
+as_few size = grind (arith, nat_tests)
 
 -- the header of the first 16 bytes
 front_header : (bytes : List ℕ) → header_extra 4 0 0 (take 16 bytes) ≡ header_extra 4 0 0 bytes
 unfolding header_extra
-front_header bytes = λ i. header_by (few i) (front_number bytes 16 0 4 (omega arith) i) (front_number_at bytes 16 4 4 (omega arith) i) (front_number_at bytes 16 8 4 (omega arith) i) (front_number_at bytes 16 12 4 (omega arith) i)
+front_header bytes = λ i. header_by (few i) (little_from-take 0 4 16 bytes (omega arith) i) (front_number bytes 4 12 (omega arith) i) (front_number bytes 8 8 (omega arith) i) (front_number bytes 12 4 (omega arith) i)
   where
     header_by : Bool → ℕ → ℕ → ℕ → ℕ → Result ℕ TableStop
     header_by short first second third fourth =
