@@ -2,11 +2,10 @@
 use Rattle.std.proofs.Common.{◌≡◌, ◌≤◌, ◌<◌, ◌+◌, ℕ, List, [], ◌∷◌, length, take, drop, min, refl, ap, sym, ◌∙◌, zero, suc, arith, Bool, true, false}
 use Rattle.std.specs.Prelude.{nat_lt, slice_index, not, ◌==◌, if◌then◌else◌, Result, Ok, Err, ◌*◌}
 use Rattle.std.proofs.lemmas.Bool.{ltb-true, ltb-false, lt-ltb, le-ltb}
-use Rattle.std.proofs.Math.Seq.{take-length}
 use Rattle.std.proofs.lemmas.Bool.Decides.{nat_tests}
-use Rattle.std.proofs.lemmas.List.{drop-take, length-take, take_all}
+use Rattle.std.proofs.Math.Seq.{take-length}
+use Rattle.std.proofs.lemmas.List.{length-take, take_min}
 use Rattle.byteorder.specs.Endian.{little_number}
-use Rattle.byteorder.specs.Numbers.{little_from-take}
 use Rattle.kt_rec.specs.declared.table.Table.{Table}
 use Rattle.kt_rec.specs.declared.table.Table.TheVariants as table
 use Rattle.kt_cells.specs.Header.{header_extra, mark, version}
@@ -16,10 +15,7 @@ use Rattle.kt_cells.specs.declared.stop.TableStop.{TableStop}
 use Rattle.kt_cells.specs.declared.stop.TableStop.TheVariants.{NotProfile, WrongTable, WrongVersion}
 use Rattle.kt_schema.specs.Loading.{loaded_rows}
 use Rattle.kt_load.specs.Ends.{bytes_wanted}
-
--- a number of four bytes behind some of the first bytes is that of the whole
-front_number : (bytes : List ℕ) (place rest : ℕ) → 4 ≤ rest → little_number 4 (drop place (take (place + rest) bytes)) ≡ little_number 4 (drop place bytes)
-front_number bytes place rest fits = ap (little_number 4) (drop-take place rest bytes) ∙ little_from-take 0 4 rest (drop place bytes) fits
+use Rattle.kt_load.proofs.FrontLemmas.{number_of_front}
 
 -- the first bytes are too few for a header where all are
 as_few : (size : ℕ) → nat_lt (min 16 size) 16 ≡ nat_lt size 16
@@ -28,7 +24,7 @@ as_few size = grind (arith, nat_tests)
 -- the header of the first 16 bytes
 front_header : (bytes : List ℕ) → header_extra 4 0 0 (take 16 bytes) ≡ header_extra 4 0 0 bytes
 unfolding header_extra
-front_header bytes = λ i. header_by (few i) (little_from-take 0 4 16 bytes (omega arith) i) (front_number bytes 4 12 (omega arith) i) (front_number bytes 8 8 (omega arith) i) (front_number bytes 12 4 (omega arith) i)
+front_header bytes = λ i. header_by (few i) (number_of_front 16 0 bytes (omega arith) i) (number_of_front 16 4 bytes (omega arith) i) (number_of_front 16 8 bytes (omega arith) i) (number_of_front 16 12 bytes (omega arith) i)
   where
     header_by : Bool → ℕ → ℕ → ℕ → ℕ → Result ℕ TableStop
     header_by short first second third fourth =
@@ -43,11 +39,7 @@ front_header bytes = λ i. header_by (few i) (little_from-take 0 4 16 bytes (ome
 
 -- the first bytes, as many as there are
 front_of : (size : ℕ) (bytes : List ℕ) → take (min (length bytes) size) bytes ≡ take size bytes
-front_of size bytes = by_test (nat_lt size (length bytes)) refl
-  where
-    by_test : (more : Bool) → nat_lt size (length bytes) ≡ more → take (min (length bytes) size) bytes ≡ take size bytes
-    by_test true is = ap (λ n. take n bytes) (omega (arith, ltb-true size (length bytes) is))
-    by_test false is = ap (λ n. take n bytes) (omega (arith, ltb-false size (length bytes) is)) ∙ take-length bytes ∙ sym (take_all size bytes (ltb-false size (length bytes) is))
+front_of size bytes = let flip : min (length bytes) size ≡ min size (length bytes) = omega arith in ap (λ n. take n bytes) flip ∙ take_min size bytes
 
 -- what is loaded of the bytes that are read is what is loaded of all
 pub front-loads : (t : Table) (bytes : List ℕ) → loaded_rows t (take (bytes_wanted t (length bytes)) bytes) ≡ loaded_rows t bytes

@@ -98,11 +98,7 @@ tells_nothing (Some files) rows id answer is = subst (TellsLoad (with_file rows 
 -- how a table that is refused ends the reading
 pub refuses-table : (held : Option FileMap) (rows : Rows) (id : TableId) (name : List ℕ) (size : ℕ) (front : List ℕ) (why : TableStop) (answer : LoadStop) → name ≡ file_name_of id → size ≤ file_limit → FindsSize held name (Ok size) → IsFront held name (bytes_wanted id.table size) front → Tells (loaded_rows id.table front) why → IsTableEnd name why answer → IfSome held (λ files. TellsLoad (with_file rows id (files (file_name_of id))) answer)
 refuses-table held rows id name size front stop.OutOfMemory answer named small found is tells ends = tells_nothing held rows id answer ends
-refuses-table held rows id name size front stop.NotProfile answer named small found is tells ends = tells_end held rows id name stop.NotProfile answer ends (is_refused held rows id name size front stop.NotProfile named small found is tells)
-refuses-table held rows id name size front (stop.WrongTable other) answer named small found is tells ends = tells_end held rows id name (stop.WrongTable other) answer ends (is_refused held rows id name size front (stop.WrongTable other) named small found is tells)
-refuses-table held rows id name size front (stop.WrongVersion other) answer named small found is tells ends = tells_end held rows id name (stop.WrongVersion other) answer ends (is_refused held rows id name size front (stop.WrongVersion other) named small found is tells)
-refuses-table held rows id name size front (stop.CutRecord row) answer named small found is tells ends = tells_end held rows id name (stop.CutRecord row) answer ends (is_refused held rows id name size front (stop.CutRecord row) named small found is tells)
-refuses-table held rows id name size front (stop.Bad row column cause) answer named small found is tells ends = tells_end held rows id name (stop.Bad row column cause) answer ends (is_refused held rows id name size front (stop.Bad row column cause) named small found is tells)
+refuses-table held rows id name size front why answer named small found is tells ends = tells_end held rows id name why answer ends (is_refused held rows id name size front why named small found is tells)
 
 -- the front that was read, of the file that was meant
 pub same-front : {held now : Option FileMap} {name given : List ℕ} {wanted asked : ℕ} {front : List ℕ} → now ≡ held → given ≡ name → asked ≡ wanted → IsFront now given asked front → IsFront held name wanted front
