@@ -1,11 +1,10 @@
 -- In valid tables what rows name is there: the checks 4, 7, 9, 14, 15 and 17.
-use Rattle.std.specs.Prelude.{◌≡◌, ℕ, ◌<◌, nat_eq, true, cond, List, [], ◌∷◌, map, All, Option, None, slice_index_or}
+use Rattle.std.specs.Prelude.{◌≡◌, ℕ, ◌<◌, nat_eq, true, cond, [], ◌∷◌, map, All, None, slice_index_or}
 use Rattle.std.specs.List.{list_any}
 use Rattle.std.proofs.Common.{arith}
 use Rattle.kt_rec.specs.declared.table.Table.TheVariants as table
 use Rattle.kt_rec.specs.Rows.{Rows}
 use Rattle.kt_keys.specs.declared.need.Need.{Need}
-use Rattle.kt_keys.specs.declared.need.Refusal.{Refusal}
 use Rattle.kt_keys.specs.Keys.{policytc_of, profile_of}
 use Rattle.kt_keys.specs.NameChecks.{item_summary_check, output_summary_check, output_units, profile_check}
 use Rattle.kt_keys.specs.Refusals.{at_stage, is_loaded}

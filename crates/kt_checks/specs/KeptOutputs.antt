@@ -1,7 +1,7 @@
 -- In valid tables an output stands for each layer: check 16.
-use Rattle.std.specs.Prelude.{◌≡◌, ℕ, zero, suc, ◌≤◌, ◌+◌, ◌&&◌, ◌||◌, nat_eq, not, Bool, true, false, cond, List, [], ◌∷◌, map, refl, Option, Some, All}
+use Rattle.std.specs.Prelude.{◌≡◌, ℕ, zero, suc, ◌≤◌, ◌+◌, ◌&&◌, ◌||◌, nat_eq, not, Bool, true, false, cond, List, [], ◌∷◌, map, refl, All}
 use Rattle.std.specs.List.{filter, list_any}
-use Rattle.std.proofs.Common.{sym, subst, ap, arith, inl, inr}
+use Rattle.std.proofs.Common.{sym, subst, arith, inl, inr}
 use Rattle.std.proofs.lemmas.Bool.{cases_eq, eqb-true, or_parts}
 use Rattle.std.proofs.lemmas.List.Elements.{All-head, All-tail}
 use Rattle.kt_rec.specs.declared.financial.FmPolicytc.{FmPolicytc}
@@ -12,10 +12,10 @@ use Rattle.kt_rec.specs.Rows.{Rows}
 use Rattle.kt_keys.specs.declared.need.Need.{Need}
 use Rattle.kt_keys.specs.Keys.{policytc_of, programme_of, same_pair}
 use Rattle.kt_keys.specs.Refusals.{at_stage, is_loaded}
-use Rattle.kt_keys.specs.Units.{top_level, top_layers, top_targets}
+use Rattle.kt_keys.specs.Units.{top_level, top_layers}
 use Rattle.kt_checks.specs.CheckLaws.{both, keeps-from_valid, no_row, none_passes, second_fails}
 use Rattle.kt_checks.specs.Checks.{IsValid, KeepsCheck, table_checks, programme_checks}
-use Rattle.kt_checks.specs.KeptChecks.{KeepsOutputs, taken_ids}
+use Rattle.kt_checks.specs.KeptChecks.{KeepsOutputs}
 use Rattle.kt_checks.specs.OutputChecks.{climbed, has_output, has_top_layer, lacks_at, lacks_output, next_unit, owes_output, owing_at, some_layer}
 
 -- where no layer up to a last one passes a test, each of them fails it

@@ -1,11 +1,9 @@
 -- In valid tables a programme is a tree: the checks 11 to 13.
-use Rattle.std.specs.Prelude.{◌≡◌, ℕ, zero, suc, ◌≤◌, ◌<◌, ◌+◌, ◌-◌, ◌&&◌, ◌||◌, nat_eq, nat_lt, not, Bool, true, false, cond, List, [], ◌∷◌, map, max, refl, Option, Some, None, All, slice_index_or}
+use Rattle.std.specs.Prelude.{◌≡◌, ℕ, zero, suc, ◌≤◌, ◌<◌, ◌+◌, ◌&&◌, ◌||◌, nat_eq, nat_lt, not, Bool, true, false, cond, List, [], ◌∷◌, map, max, refl, Some, All, slice_index_or}
 use Rattle.std.specs.List.{filter, fold, list_any}
 use Rattle.std.specs.Cmp.{nat_eq_equiv}
-use Rattle.std.specs.Map.{lookup}
 use Rattle.std.proofs.Common.{sym, subst, ap, ◌∙◌, arith}
 use Rattle.std.proofs.lemmas.Bool.{eq-eqb, eqb-true, lt-ltb, ltb-false, or_left, or_right, or_parts}
-use Rattle.std.proofs.lemmas.Bool.Decides.{nat_tests}
 use Rattle.std.proofs.lemmas.List.Elements.{All-head, All-tail}
 use Rattle.kt_rec.specs.declared.financial.FmPolicytc.{FmPolicytc}
 use Rattle.kt_rec.specs.declared.financial.FmProgramme.{FmProgramme}
@@ -18,7 +16,7 @@ use Rattle.kt_keys.specs.Units.{is_source, is_target, top_level, top_targets}
 use Rattle.kt_checks.specs.CheckLaws.{all_loaded, both, keeps-from_valid, no_row, none_passes, second_fails, stage_none, unnot}
 use Rattle.kt_checks.specs.Checks.{HasOnlyNeeded, IsValid, KeepsCheck, table_checks, programme_checks}
 use Rattle.kt_checks.specs.KeptChecks.{ComesToTop, GoesOn, HasPlace, KeepsProgramme, taken_ids}
-use Rattle.kt_checks.specs.KeptTables.{base_empty, stage_empty}
+use Rattle.kt_checks.specs.KeptTables.{stage_empty}
 use Rattle.kt_checks.specs.OutputChecks.{after, climbed, next_unit}
 use Rattle.kt_checks.specs.ProgrammeChecks.{inputs_of, is_dead_end, is_rootless, is_unplaced, source_check, target_check, terms_check}
 

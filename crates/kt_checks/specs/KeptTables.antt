@@ -1,8 +1,8 @@
 -- Valid tables keep their sizes and keys: the checks 1 to 3, 5, 10, 18, 19 and 21.
-use Rattle.std.specs.Prelude.{◌≡◌, ℕ, ◌≤◌, ◌+◌, ◌*◌, ◌<◌, ◌||◌, Bool, true, false, cond, nat_eq, nat_lt, List, [], ◌∷◌, length, map, refl, Option, Some, None, slice_index_or, zero, suc}
+use Rattle.std.specs.Prelude.{◌≡◌, ℕ, ◌≤◌, ◌+◌, ◌*◌, ◌<◌, ◌||◌, Bool, true, false, cond, nat_lt, List, [], ◌∷◌, length, refl, Option, None, slice_index_or, zero, suc}
 use Rattle.std.specs.List.{sum_by}
 use Rattle.std.specs.Cmp.{nat_eq_equiv}
-use Rattle.std.proofs.Common.{sym, subst, ap, add-one, arith, inl, inr}
+use Rattle.std.proofs.Common.{sym, subst, add-one, arith, inl, inr}
 use Rattle.std.proofs.lemmas.Bool.{lt-ltb}
 use Rattle.std.proofs.lemmas.List.{nil_from_length}
 use Rattle.std.proofs.lemmas.List.Sums.{sum_by-cons}
@@ -10,16 +10,15 @@ use Rattle.kt_rec.specs.declared.exposure.Coverage.{Coverage}
 use Rattle.kt_rec.specs.declared.exposure.Item.{Item}
 use Rattle.kt_rec.specs.declared.table.Table.{Table}
 use Rattle.kt_rec.specs.declared.table.Table.TheVariants as table
-use Rattle.kt_rec.specs.declared.table.TableId.{TableId}
 use Rattle.kt_rec.specs.Rows.{Rows, count_in, row_count}
 use Rattle.kt_rec.specs.TableNames.{number_of}
 use Rattle.kt_keys.specs.declared.need.Need.{Need}
 use Rattle.kt_keys.specs.declared.need.Refusal.{Refusal}
 use Rattle.kt_keys.specs.KeyChecks.{key_refusals, output_check, programme_key_refusals, programme_keys}
 use Rattle.kt_keys.specs.Keys.{programme_of, financial_of}
-use Rattle.kt_keys.specs.Refusals.{at_stage, is_loaded, over_stages, refusal}
+use Rattle.kt_keys.specs.Refusals.{at_stage, is_loaded, over_stages}
 use Rattle.kt_checks.specs.CheckLaws.{each_none, keeps-from_valid, no_row, both, stage_none, not_above, not_empty, sum_within, apart_loaded, same_pair_equiv, same_triple_equiv}
-use Rattle.kt_checks.specs.Checks.{HasOnlyNeeded, IsValid, KeepsCheck, table_checks, programme_checks, size_checks, known_samples, samples_refusal}
+use Rattle.kt_checks.specs.Checks.{HasOnlyNeeded, IsValid, KeepsCheck, table_checks, programme_checks, size_checks}
 use Rattle.kt_checks.specs.KeptChecks.{AreFinancialKeys, FitsSamples, KeepsKeys, KeepsSizes}
 use Rattle.kt_checks.specs.SummaryChecks.{item_summaries, output_summaries, sample_checks, sample_refusals, summary_size_check, summaries_of}
 use Rattle.kt_checks.specs.TableChecks.{empty_programme, empty_refusals, limit_check, limit_refusals, programme_limits, programme_limit_refusals, row_limit, tiv_of}

@@ -1,6 +1,6 @@
 -- What coverages are worth: those of distinct ids, and those of items one by one.
 -- The rules: docs/CALCULATION.md, "Summary".
-use Rattle.std.specs.Prelude.{◌≡◌, ℕ, ◌+◌, ◌*◌, ◌≤◌, ◌<◌, ◌^◌, ◌||◌, nat_eq, Bool, true, false, cond, List, [], ◌∷◌, length, map, refl, Option, None, Some, All, unwrap_or}
+use Rattle.std.specs.Prelude.{◌≡◌, ℕ, ◌+◌, ◌≤◌, ◌<◌, ◌^◌, ◌||◌, nat_eq, Bool, true, false, cond, List, [], ◌∷◌, length, map, refl, Option, Some, All, unwrap_or}
 use Rattle.std.specs.Cmp.{nat_eq_equiv}
 use Rattle.std.specs.List.{AllByRecursion, IsDistinct, list_any, sum_by}
 use Rattle.std.specs.Map.{lookup}

@@ -1,21 +1,17 @@
 -- What the coverages beneath a unit are worth is the sum over the distinct coverages beneath it.
-use Rattle.std.proofs.Common.{◌≡◌, ℕ, zero, suc, ◌+◌, ◌≤◌, ◌<◌, Bool, true, false, cond, List, [], ◌∷◌, ◌++◌, length, map, refl, ap, sym, subst, ◌∙◌, nat_eq, Option, None, Some, unwrap_or, arith, zero-add, append-nil, append_assoc, ◌-◌}
+use Rattle.std.proofs.Common.{◌≡◌, ℕ, zero, suc, ◌+◌, ◌≤◌, ◌<◌, Bool, true, false, cond, List, [], ◌∷◌, ◌++◌, map, refl, ap, sym, subst, ◌∙◌, nat_eq, Option, None, Some, arith, append-nil, append_assoc, ◌-◌}
 use Rattle.std.proofs.Math.Path.{fun_ext}
-use Rattle.std.specs.Prelude.{◌&&◌, ◌||◌, All}
+use Rattle.std.specs.Prelude.{◌&&◌, ◌||◌}
 use Rattle.std.specs.List.{IsDistinct, AllByRecursion, flat_map, list_any, sum_by}
-use Rattle.std.specs.Map.{lookup}
 use Rattle.std.proofs.lemmas.Bool.{eqb-true}
 use Rattle.std.proofs.lemmas.Bool.Decides.{nat_tests}
 use Rattle.std.proofs.lemmas.List.Folds.{list_any-append}
-use Rattle.std.proofs.lemmas.List.Sums.{sum_by-cons, sum_by-le, sum_by-le-sum_by}
-use Rattle.std.proofs.lemmas.Map.Keys.{IsDistinct-head, IsDistinct-tail}
 use Rattle.kt_rec.specs.declared.exposure.Coverage.{Coverage}
-use Rattle.kt_rec.specs.Ranges.{IsCoverage}
 use Rattle.kt_checks.specs.OutputChecks.{climbed, after}
 use Rattle.kt_checks.specs.TableChecks.{tiv_of}
 use Rattle.kt_checks.specs.Worth.{total_is}
 use Rattle.kt_index.specs.declared.exposure.SummaryUnit.{SummaryUnit}
-use Rattle.kt_index.specs.Exposure.{unit_covers, summary_covers, IsTotalOf, AddsUp}
+use Rattle.kt_index.specs.Exposure.{unit_covers, summary_covers, IsTotalOf}
 use Rattle.kt_tree.specs.Sums.{sum_by-agree, each_member}
 use Rattle.kt_tree.specs.Tree.{is_unit}
 use Rattle.kt_tree.specs.Programme.{has_coverage}

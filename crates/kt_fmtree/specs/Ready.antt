@@ -1,17 +1,13 @@
 -- What the tables of a programme keep, so that it can be made.
-use Rattle.std.specs.Prelude.{◌≡◌, ℕ, zero, suc, ◌≤◌, ◌<◌, nat_eq, Bool, true, false, cond, max, List, [], ◌∷◌, length, All, Option, Some, None, slice_index_or, refl}
-use Rattle.std.specs.List.{AllByRecursion, fold, sum_by}
-use Rattle.std.proofs.Common.{sym, ap, subst, arith, inl, inr}
-use Rattle.std.proofs.lemmas.Bool.{eqb-false, cases_lt}
-use Rattle.std.proofs.lemmas.List.{nil_from_length}
-use Rattle.std.proofs.lemmas.List.Sums.{sum_by-cons}
-use Rattle.kt_rec.specs.Ranges.{IsCoverage, IsFmProgramme, IsFmPolicytc, IsFmProfile, AreFinancial}
-use Rattle.kt_rec.specs.Rows.{Rows, FinancialRows}
-use Rattle.kt_rec.specs.declared.exposure.Item.{Item}
+use Rattle.std.specs.Prelude.{◌≡◌, ℕ, suc, ◌≤◌, ◌<◌, true, max, List, [], ◌∷◌, length, All, slice_index_or}
+use Rattle.std.specs.List.{AllByRecursion, fold}
+use Rattle.std.proofs.Common.{arith}
+use Rattle.kt_rec.specs.Ranges.{IsCoverage, IsFmProgramme, IsFmPolicytc, IsFmProfile}
+use Rattle.kt_rec.specs.Rows.{Rows}
 use Rattle.kt_rec.specs.declared.financial.FmProgramme.{FmProgramme}
 use Rattle.kt_rec.specs.declared.table.Table.TheVariants as table
-use Rattle.kt_keys.specs.Keys.{financial_of, no_financial, programme_of, policytc_of, profile_of as profiles_of}
-use Rattle.kt_keys.specs.Refusals.{at_stage, is_loaded, over_stages, refusal}
+use Rattle.kt_keys.specs.Keys.{programme_of, policytc_of, profile_of as profiles_of}
+use Rattle.kt_keys.specs.Refusals.{is_loaded}
 use Rattle.kt_keys.specs.Units.{top_level}
 use Rattle.kt_checks.specs.FinancialRanges.{financial_ranges}
 use Rattle.kt_rules.specs.Profiles.{IsProfile, profile_of}

@@ -21,7 +21,7 @@ use Rattle.kt_schema.specs.Tables.{kinds_of}
 use Rattle.kt_footprint.specs.RoundTrip.{FootprintsGoRound}
 use Rattle.kt_load.specs.FileNames.{file_name_of, table_at}
 use Rattle.kt_load.specs.Loaded.{loaded}
-use Rattle.kt_load.specs.Reading.{file_limit, with_files}
+use Rattle.kt_load.specs.Reading.{file_limit, with_table_files}
 use Rattle.kt_load.specs.Typed.{footprint_idx_of}
 use Rattle.kt_footprint_files.specs.GoRound.{FootprintFilesGoRound, index_need}
 use Rattle.kt_footprint_files.proofs.CheckLemmas.{none-misplaced, none-refused}
@@ -36,7 +36,7 @@ same-bytes one other is = cc
 
 -- a file of an index that is read to these rows, of few bytes, loads as they are
 loads-index : (files : FileMap) (bytes : List ℕ) (values : List (List ℕ)) → files (file_name_of (table_at 0 table.FootprintIdx)) ≡ Some bytes → length bytes ≤ file_limit → bin_rows table.FootprintIdx bytes ≡ Ok (0, values) → first_refusal (record no_rows { footprint_idx = map footprint_idx_of values }) index_need ≡ None → loaded files index_need ≡ Ok (record no_rows { footprint_idx = map footprint_idx_of values })
-unfolding with_files
+unfolding with_table_files
 loads-index files bytes values holds few read none = rw (holds, le-ltb file_limit (length bytes) few, read, none) refl
 
 -- the index is another table than the footprint

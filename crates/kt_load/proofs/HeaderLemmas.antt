@@ -1,11 +1,9 @@
 -- The header of the footprint's file is read from its first bytes.
-use Rattle.std.proofs.Common.{◌≡◌, ◌≤◌, ◌<◌, ◌+◌, ℕ, List, [], ◌∷◌, length, take, drop, min, refl, ap, sym, ◌∙◌, zero, suc, arith, Bool, true, false}
-use Rattle.std.specs.Prelude.{nat_lt, slice_index, not, ◌==◌, if◌then◌else◌, Result, Ok, Err, ◌*◌}
-use Rattle.std.proofs.lemmas.Bool.{ltb-true, ltb-false, lt-ltb, le-ltb}
+use Rattle.std.proofs.Common.{◌≡◌, ℕ, List, [], length, take, min, ap, ◌∙◌, arith, Bool}
+use Rattle.std.specs.Prelude.{nat_lt, not, ◌==◌, if◌then◌else◌, Result, Ok, Err}
 use Rattle.std.proofs.lemmas.Bool.Decides.{nat_tests}
 use Rattle.std.proofs.Math.Seq.{take-length}
 use Rattle.std.proofs.lemmas.List.{length-take, take_min}
-use Rattle.byteorder.specs.Endian.{little_number}
 use Rattle.kt_rec.specs.declared.table.Table.{Table}
 use Rattle.kt_rec.specs.declared.table.Table.TheVariants as table
 use Rattle.kt_cells.specs.Header.{header_extra, mark, version}

@@ -19,7 +19,7 @@ use Rattle.kt_keys.specs.Refusals.{is_loaded}
 use Rattle.kt_load.specs.FileNames.{load_order, table_at}
 use Rattle.kt_load.specs.Steps.{has_periods}
 use Rattle.kt_load.specs.Loaded.{TellsLoaded, loaded, unless_refused}
-use Rattle.kt_load.specs.Reading.{with_files, go_on}
+use Rattle.kt_load.specs.Reading.{with_table_files, go_on}
 
 -- a test for a table of the base, or a financial table of a stage
 is_table : TableId → Bool
@@ -70,11 +70,11 @@ unfolding is_loaded
 has_periods-from_all need order now ordered read loaded = read (ap (list_any has_periods) ordered) loaded
 
 -- what was read makes a portfolio where no check refuses it
-pub loads_portfolio : (held : Option FileMap) (need : Need) (order : List TableId) (empty now : Rows) (portfolio : PortfolioRows) → order ≡ load_order → empty ≡ no_rows → IfSome held (λ files. with_files files (filter (is_in need.loaded) order) empty ≡ Ok now) → first_refusal now need ≡ None → portfolio ≡ record { rows = now; need = need } → IfSome held (λ files. TellsLoaded (loaded files need) (Ok portfolio))
+pub loads_portfolio : (held : Option FileMap) (need : Need) (order : List TableId) (empty now : Rows) (portfolio : PortfolioRows) → order ≡ load_order → empty ≡ no_rows → IfSome held (λ files. with_table_files files (filter (is_in need.loaded) order) empty ≡ Ok now) → first_refusal now need ≡ None → portfolio ≡ record { rows = now; need = need } → IfSome held (λ files. TellsLoaded (loaded files need) (Ok portfolio))
 loads_portfolio None need order empty now portfolio ordered none read valid is = tt
 loads_portfolio (Some files) need order empty now portfolio ordered none read valid is =
-    ap (λ o. go_on (with_files files (filter (is_in need.loaded) o) no_rows) (λ rows. unless_refused rows (first_refusal rows need))) (sym ordered)
-    ∙ ap (λ e. go_on (with_files files (filter (is_in need.loaded) order) e) (λ rows. unless_refused rows (first_refusal rows need))) (sym none)
+    ap (λ o. go_on (with_table_files files (filter (is_in need.loaded) o) no_rows) (λ rows. unless_refused rows (first_refusal rows need))) (sym ordered)
+    ∙ ap (λ e. go_on (with_table_files files (filter (is_in need.loaded) order) e) (λ rows. unless_refused rows (first_refusal rows need))) (sym none)
     ∙ ap (λ r. go_on r (λ rows. unless_refused rows (first_refusal rows need))) read
     ∙ ap (unless_refused now) valid
     ∙ ap (λ p. Ok p.rows) (sym is)

@@ -8,7 +8,6 @@ use Rattle.kt_cells.specs.Ranges.{IsRow, AreRows}
 use Rattle.kt_cells.specs.Reading.{rule_after}
 use Rattle.kt_cells.specs.declared.kind.Kind.{Kind}
 use Rattle.kt_cells.specs.declared.kind.Kind.TheVariants as kind
-use Rattle.kt_cells.specs.declared.kind.Term.{Term}
 use Rattle.kt_cells.specs.declared.stop.Cause.TheVariants as cause
 use Rattle.kt_load.specs.Typed.{column}
 

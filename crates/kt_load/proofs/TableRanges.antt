@@ -1,20 +1,17 @@
 -- The rows of each table are in range, and stay so with those of one more table.
-use Rattle.std.proofs.Common.{◌≡◌, ◌≤◌, ◌<◌, ℕ, List, [], ◌∷◌, length, refl, Ok, Err, arith, subst, sym, Bool, true, false}
-use Rattle.std.specs.Prelude.{slice_index_or, All, IfOk, nat_lt, not, ◌==◌, if◌then◌else◌, drop, Result}
+use Rattle.std.proofs.Common.{◌≡◌, ℕ, List, length, refl, Ok, Err, arith, subst, Bool, true, false}
+use Rattle.std.specs.Prelude.{IfOk, nat_lt, not, ◌==◌, if◌then◌else◌, drop, Result}
 use Rattle.byteorder.specs.Endian.{little_number}
-use Rattle.std.proofs.lemmas.Bool.{ltb-true, ltb-false}
+use Rattle.std.proofs.lemmas.Bool.{ltb-false}
 use Rattle.std.proofs.lemmas.List.Elements.{All-set}
-use Rattle.kt_rec.specs.Ranges.{AreInRange, IsId, IsPart, IsItem, IsCoverage, IsFootprintIdx, IsVulnerability, IsDamageBin, IsFmProgramme, IsFmPolicytc, IsFmProfile, IsFmXref, IsGulSummaryXref, IsFmSummaryXref, IsOccurrence, IsTerm, AreFinancial, ArePeriods}
-use Rattle.kt_rec.specs.Rows.{Rows, FinancialRows, financial_at, no_financial_rows}
+use Rattle.kt_rec.specs.Ranges.{AreInRange, IsId, IsPart, IsItem, IsCoverage, IsFootprintIdx, IsVulnerability, IsDamageBin, IsFmProgramme, IsFmPolicytc, IsFmProfile, IsFmXref, IsGulSummaryXref, IsFmSummaryXref, IsOccurrence, AreFinancial, ArePeriods}
+use Rattle.kt_rec.specs.Rows.{Rows, FinancialRows}
 use Rattle.kt_rec.specs.declared.table.Table.{Table}
 use Rattle.kt_rec.specs.declared.table.Table.TheVariants as table
 use Rattle.kt_rec.specs.TableNames.{number_of}
 use Rattle.kt_cells.specs.Header.{header_extra, header_width, mark, number_at, version}
-use Rattle.kt_cells.specs.Kinds.{is_ppm, within}
+use Rattle.kt_cells.specs.Kinds.{within}
 use Rattle.kt_cells.specs.Ranges.{IsRow}
-use Rattle.kt_cells.specs.declared.kind.Kind.{Kind}
-use Rattle.kt_cells.specs.declared.kind.Kind.TheVariants as kind
-use Rattle.kt_cells.specs.declared.kind.Term.TheVariants as term
 use Rattle.kt_cells.specs.Reading.{and_then, at_place}
 use Rattle.kt_cells.specs.Records.{record_rows}
 use Rattle.kt_cells.specs.declared.stop.Cause.TheVariants as cause
@@ -24,7 +21,7 @@ use Rattle.kt_checks.specs.FinancialRanges.{financial_ranges}
 use Rattle.kt_schema.specs.Loading.{RowsInRange, loaded_rows}
 use Rattle.kt_schema.specs.Tables.{kinds_of}
 use Rattle.kt_load.specs.Reading.{with_size}
-use Rattle.kt_load.specs.Typed.{column, event_of, item_of, coverage_of, footprint_idx_of, vulnerability_of, damage_bin_of, random_of, fm_programme_of, fm_policytc_of, fm_profile_of, fm_xref_of, gul_summary_xref_of, fm_summary_xref_of, occurrence_of, return_period_of, with_financial, with_rows}
+use Rattle.kt_load.specs.Typed.{event_of, item_of, coverage_of, footprint_idx_of, vulnerability_of, damage_bin_of, random_of, fm_programme_of, fm_policytc_of, fm_profile_of, fm_xref_of, gul_summary_xref_of, fm_summary_xref_of, occurrence_of, return_period_of, with_financial, with_rows}
 use Rattle.kt_load.proofs.RangeLemmas.{AreBounds, columns, all_made}
 
 -- an item

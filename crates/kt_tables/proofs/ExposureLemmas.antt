@@ -1,13 +1,11 @@
 -- The exposures of summaries: sums over distinct coverages, and the units of items and outputs.
-use Rattle.std.proofs.Common.{◌≡◌, ℕ, ◌+◌, ◌≤◌, Bool, true, false, cond, List, [], ◌∷◌, length, map, refl, ap, sym, subst, ◌∙◌, nat_eq, Option, None, Some, unwrap_or, arith, zero-add}
+use Rattle.std.proofs.Common.{◌≡◌, ℕ, Bool, true, false, cond, List, [], ◌∷◌, map, refl, ap, sym, subst, ◌∙◌, nat_eq, Option, None, Some}
 use Rattle.std.proofs.Math.Path.{fun_ext}
-use Rattle.std.specs.Prelude.{◌&&◌, ◌||◌, option_map, All}
+use Rattle.std.specs.Prelude.{◌&&◌, ◌||◌, option_map}
 use Rattle.std.specs.Cmp.{nat_eq_equiv}
-use Rattle.std.specs.List.{IsDistinct, AllByRecursion, cons_option, filter_map, list_any, sum_by}
+use Rattle.std.specs.List.{IsDistinct, cons_option, filter_map, list_any, sum_by}
 use Rattle.std.specs.Map.{lookup}
 use Rattle.std.proofs.lemmas.Bool.{eqb-true}
-use Rattle.std.proofs.lemmas.Bool.Decides.{nat_tests}
-use Rattle.std.proofs.lemmas.List.Sums.{sum_by-cons, sum_by-le, sum_by-le-sum_by}
 use Rattle.std.proofs.lemmas.Map.Keys.{IsDistinct-head, IsDistinct-tail}
 use Rattle.kt_rec.specs.declared.exposure.Coverage.{Coverage}
 use Rattle.kt_rec.specs.declared.exposure.Item.{Item}
@@ -16,8 +14,7 @@ use Rattle.kt_checks.specs.TableChecks.{tiv_of}
 use Rattle.kt_checks.specs.Worth.{absent, total_is, values-few}
 use Rattle.kt_index.specs.declared.exposure.SummaryUnit.{SummaryUnit}
 use Rattle.kt_index.specs.declared.exposure.UnitCoverage.{UnitCoverage}
-use Rattle.kt_index.specs.Exposure.{unit_covers, summary_covers, IsTotalOf, AddsUp}
-use Rattle.kt_rec.specs.Ranges.{IsCoverage}
+use Rattle.kt_index.specs.Exposure.{unit_covers, summary_covers, IsTotalOf}
 use Rattle.kt_tables.specs.Portfolio.{PortfolioRows, IsPortfolio}
 use Rattle.kt_tables.specs.PortfolioLaws.{coverages_distinct, keys_kept, coverages_within}
 use Rattle.kt_tables.specs.Kept.{AreAddable}

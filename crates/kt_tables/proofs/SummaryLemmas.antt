@@ -1,7 +1,7 @@
 -- The summaries of a portfolio: they are ids, and an exposure is at most what the coverages of all items are worth, one for each item.
-use Rattle.std.proofs.Common.{◌≡◌, ℕ, ◌+◌, ◌≤◌, Bool, true, false, cond, List, [], ◌∷◌, length, map, refl, ap, ◌∙◌, subst, nat_eq, Option, Some, arith}
-use Rattle.std.specs.Prelude.{◌&&◌, ◌||◌}
-use Rattle.std.specs.List.{IsDistinct, AllByRecursion, list_any, sum_by}
+use Rattle.std.proofs.Common.{◌≡◌, ℕ, ◌≤◌, Bool, true, false, cond, List, [], ◌∷◌, map, refl, ap, ◌∙◌, subst, nat_eq, Some, arith}
+use Rattle.std.specs.Prelude.{◌&&◌}
+use Rattle.std.specs.List.{AllByRecursion, list_any, sum_by}
 use Rattle.std.specs.Map.{lookup}
 use Rattle.std.proofs.lemmas.Bool.{and_parts}
 use Rattle.std.proofs.lemmas.List.Elements.{recursion_from_All}
@@ -16,9 +16,6 @@ use Rattle.kt_rec.specs.declared.exposure.Coverage.{Coverage}
 use Rattle.kt_rec.specs.declared.exposure.Item.{Item}
 use Rattle.kt_rec.specs.declared.perspective.Perspective.{Perspective}
 use Rattle.kt_rec.specs.declared.perspective.Perspective.TheVariants.{Gul, Il, Ri}
-use Rattle.kt_rec.specs.declared.table.Table.TheVariants.{Coverages, Items}
-use Rattle.kt_keys.specs.Refusals.{at_stage, is_loaded}
-use Rattle.kt_checks.specs.CheckLaws.{keeps-from_valid}
 use Rattle.kt_checks.specs.TableChecks.{tiv_of}
 use Rattle.kt_checks.specs.Worth.{covered_le}
 use Rattle.kt_tables.specs.SummaryLaws.{KeepsSummaries}

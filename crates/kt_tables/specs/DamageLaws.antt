@@ -1,17 +1,17 @@
 -- What the damage bins and the vulnerabilities of every portfolio keep, where damage bins are loaded.
 -- The rules: docs/CHECKS.md.
-use Rattle.std.specs.Prelude.{◌≡◌, ℕ, ◌≤◌, ◌<◌, ◌+◌, ◌&&◌, ◌||◌, ◌∷◌, ◌++◌, Bool, true, false, not, cond, nat_eq, nat_lt, List, [], length, take, map, refl, Option, None, Some, All, slice_index_or, zero, suc}
+use Rattle.std.specs.Prelude.{◌≡◌, ℕ, ◌≤◌, ◌<◌, ◌+◌, ◌&&◌, ◌||◌, ◌∷◌, Bool, true, false, not, cond, nat_eq, nat_lt, List, [], length, take, map, refl, None, All, slice_index_or, suc}
 use Rattle.std.specs.List.{filter, list_any, sum_by}
-use Rattle.std.proofs.Common.{sym, subst, ap, ◌∙◌, arith, inl, append-nil, append_assoc, zero-add}
+use Rattle.std.proofs.Common.{sym, subst, ap, ◌∙◌, arith, inl, zero-add}
 use Rattle.std.proofs.lemmas.Bool.{eqb-true, ltb-false, not-false, or_parts}
 use Rattle.std.proofs.lemmas.Bool.Decides.{nat_tests}
-use Rattle.std.proofs.lemmas.List.{nil_from_length, length-take-le, length-map, get_or-map}
+use Rattle.std.proofs.lemmas.List.{nil_from_length, length-take-le}
 use Rattle.std.proofs.lemmas.List.Sums.{sum_by-cons}
 use Rattle.kt_rec.specs.Rows.{Rows}
 use Rattle.kt_rec.specs.declared.hazard.DamageBin.{DamageBin}
 use Rattle.kt_rec.specs.declared.hazard.Vulnerability.{Vulnerability as Damage}
 use Rattle.kt_rec.specs.declared.table.Table.TheVariants.{DamageBinDict, Vulnerability}
-use Rattle.kt_keys.specs.FirstRow.{first_refused_after, total_of}
+use Rattle.kt_keys.specs.FirstRow.{total_of}
 use Rattle.kt_keys.specs.Keys.{same_pair}
 use Rattle.kt_keys.specs.Refusals.{at_stage, is_loaded}
 use Rattle.kt_keys.specs.TotalLaws.{total_within}

@@ -3,8 +3,6 @@
 use Rattle.std.specs.Prelude.{◌≡◌, ℕ, ◌≤◌, ◌<◌, [], ◌∷◌, true, nat_eq, length, map, refl, Option, None, Some, Result, Ok, Err, IfOk}
 use Rattle.std.specs.List.{IsDistinct}
 use Rattle.std.proofs.Common.{arith, inl}
-use Rattle.kt_rec.specs.TableNames.{IsTableId}
-use Rattle.kt_rec.specs.declared.table.Table.{Table}
 use Rattle.kt_rec.specs.declared.table.Table.TheVariants as table
 use Rattle.kt_keys.specs.Refusals.{at_stage, is_loaded}
 use Rattle.kt_keys.specs.declared.need.CheckStop.{CheckStop}

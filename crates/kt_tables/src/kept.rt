@@ -48,7 +48,7 @@ impl Portfolio {
         requires loaded { is_loaded self.now.need 0 table.DamageBinDict ≡ true }
         ensures kept { KeepsDamage self.now.rows }
     {
-        let _ = &self.need;
+        self.is_valid();
     }
 
     /// Says that the programme of the base, at 0, and of each stage is a tree: losses come from what has some (check 11),
@@ -74,7 +74,7 @@ impl Portfolio {
     pub fn keeps_summaries(&self)
         ensures kept { KeepsSummaries self.now }
     {
-        let _ = &self.need;
+        self.is_valid();
     }
 
     /// Says of periods where the occurrences are loaded: there are 1 to 100,000, and each occurrence is in one of them
@@ -83,6 +83,6 @@ impl Portfolio {
         requires loaded { is_loaded self.now.need 0 table.Occurrence ≡ true }
         ensures kept { KeepsPeriods self.now.rows }
     {
-        let _ = &self.need;
+        self.is_valid();
     }
 }
