@@ -5,7 +5,7 @@ use Rattle.std.specs.Prelude.{◌&&◌, ◌||◌, option_map}
 use Rattle.std.specs.Cmp.{nat_eq_equiv}
 use Rattle.std.specs.List.{IsDistinct, cons_option, filter_map, list_any, sum_by}
 use Rattle.std.specs.Map.{lookup}
-use Rattle.std.proofs.lemmas.Bool.{eqb-true}
+use Rattle.std.proofs.lemmas.Bool.{eqb-true, or_parts}
 use Rattle.std.proofs.lemmas.Map.Keys.{IsDistinct-head, IsDistinct-tail}
 use Rattle.kt_rec.specs.declared.exposure.Coverage.{Coverage}
 use Rattle.kt_rec.specs.declared.exposure.Item.{Item}
@@ -77,11 +77,9 @@ module _ (has : ℕ → ℕ → Bool) (coverage : ℕ) where
   -- an output that is absent has nothing
   xref-none : (rows : List FmXref) (output : ℕ) → list_any (nat_eq output) (map (λ row. row.output_id) rows) ≡ false → list_any (λ row. nat_eq row.output_id output && has row.agg_id coverage) rows ≡ false
   xref-none [] output none = refl
-  xref-none (row ∷ rows) output none = ap (λ b. (b && has row.agg_id coverage) || list_any (λ x. nat_eq x.output_id output && has x.agg_id coverage) rows) (nat_eq_equiv.symm row.output_id output) ∙ by (nat_eq output row.output_id) (xref-none rows output) none
-    where
-      by : (b : Bool) → (list_any (nat_eq output) (map (λ x. x.output_id) rows) ≡ false → list_any (λ x. nat_eq x.output_id output && has x.agg_id coverage) rows ≡ false) → (b || list_any (nat_eq output) (map (λ x. x.output_id) rows)) ≡ false → ((b && has row.agg_id coverage) || list_any (λ x. nat_eq x.output_id output && has x.agg_id coverage) rows) ≡ false
-      by true rest e = cc
-      by false rest e = rest e
+  xref-none (row ∷ rows) output none =
+      let parts = or_parts (nat_eq output row.output_id) (list_any (nat_eq output) (map (λ x. x.output_id) rows)) none in
+      rw (nat_eq_equiv.symm row.output_id output, parts.0, xref-none rows output parts.1) refl
 
   -- where outputs are distinct, an output has what its only row has
   xref-has : (rows : List FmXref) (output : ℕ) → IsDistinct nat_eq (map (λ row. row.output_id) rows) → list_any (λ row. nat_eq row.output_id output && has row.agg_id coverage) rows ≡ found_has has coverage (lookup (nat_eq output) (map (λ row. (row.output_id, row.agg_id)) rows))
