@@ -1,5 +1,5 @@
 -- Loading begins with no rows, and reads the tables that are needed.
-use Rattle.std.proofs.Common.{◌≡◌, ◌⊎◌, ◌≤◌, List, [], refl, ap, sym, ◌∙◌, Option, Some, None, Ok, arith, true, false, Bool, inl, inr}
+use Rattle.std.proofs.Common.{◌≡◌, ◌⊎◌, ◌≤◌, List, refl, ap, sym, ◌∙◌, Option, Some, None, Ok, true, false, Bool, inl, inr}
 use Rattle.std.proofs.lemmas.List.Elements.{All-nil, All-replicate}
 use Rattle.std.specs.Prelude.{All, IfSome, slice_index_or, nat_le, ◌==◌, ◌&&◌, ◌||◌}
 use Rattle.std.specs.List.{filter, list_any}
