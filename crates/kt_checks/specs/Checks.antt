@@ -1,6 +1,9 @@
 -- All checks in their order, and the first refusal.
-use Rattle.std.specs.Prelude.{◌≡◌, ℕ, ◌-◌, ◌++◌, nat_lt, cond, List, [], ◌∷◌, slice_index_or, Option, Some, None, Result, Ok, Err}
-use Rattle.kt_rec.specs.Rows.{Rows}
+use Rattle.std.specs.Prelude.{◌≡◌, ℕ, ◌-◌, ◌++◌, nat_lt, cond, false, List, [], ◌∷◌, slice_index_or, Option, Some, None, Result, Ok, Err}
+use Rattle.kt_rec.specs.Rows.{Rows, row_count}
+use Rattle.kt_rec.specs.TableNames.{IsTableId}
+use Rattle.kt_rec.specs.TableSet.{is_in}
+use Rattle.kt_rec.specs.declared.table.TableId.{TableId}
 pub use Rattle.kt_keys.specs.declared.need.Need.{Need}
 pub use Rattle.kt_keys.specs.declared.need.Refusal.{Refusal}
 pub use Rattle.kt_keys.specs.declared.need.CheckStop.{CheckStop}
@@ -73,6 +76,10 @@ answer_of (Some refusal) = Err (Check refusal.number refusal.table refusal.row)
 -- no check refuses the tables
 pub record IsValid (rows : Rows) (need : Need) : Type 0 where
   pub none : first_refusal rows need ≡ None
+
+-- a table that is not needed has no row
+abbrev pub HasOnlyNeeded : Rows → Need → Type 0
+HasOnlyNeeded rows need = (id : TableId) → IsTableId id → is_in need.loaded id ≡ false → row_count rows id ≡ 0
 
 -- the check with a number refuses no table
 pub record KeepsCheck (number : ℕ) (rows : Rows) (need : Need) : Type 0 where

@@ -1,115 +1,116 @@
--- What the rows of loaded tables keep where a check refuses nothing.
-use Rattle.std.specs.Prelude.{◌≡◌, ℕ, ◌≤◌, ◌+◌, ◌<◌, ◌&&◌, nat_eq, Bool, true, false, map, refl, Option, None, Some, All}
-use Rattle.std.specs.List.{AllPass, IsDistinct, list_any, sum_by}
-use Rattle.std.specs.Cmp.{IsEquivalence, nat_eq_equiv, and_equiv, on_equiv}
-use Rattle.std.specs.Option.{option_or}
-use Rattle.std.proofs.Common.{sym, subst, add-one, arith, inl, inr, zero, suc}
-use Rattle.std.proofs.lemmas.Bool.{cases_eq}
-use Rattle.kt_rec.specs.declared.table.Table.TheVariants.{Events, Items, Coverages, Footprint, FootprintIdx, Vulnerability, FmProgramme, FmPolicytc, FmProfile, FmXref}
-use Rattle.kt_rec.specs.Rows.{Rows}
+-- What each check says of the rows that it does not refuse, in the words in which it is used. A table that is not needed has
+-- no row, so a fact of all its rows needs no premise that it is loaded.
+-- The rules: docs/CHECKS.md.
+use Rattle.std.specs.Prelude.{◌≡◌, ℕ, ◌≤◌, ◌<◌, ◌+◌, ◌-◌, ◌*◌, nat_eq, true, false, cond, List, map, length, Some, All}
+use Rattle.std.specs.List.{IsDistinct, filter, list_any, sum_by}
+use Rattle.kt_rec.specs.declared.financial.FmPolicytc.{FmPolicytc}
+use Rattle.kt_rec.specs.declared.financial.FmProgramme.{FmProgramme}
+use Rattle.kt_rec.specs.declared.table.Table.TheVariants as table
+use Rattle.kt_rec.specs.declared.table.TableId.{TableId}
+use Rattle.kt_rec.specs.Rows.{FinancialRows, Rows, row_count}
+use Rattle.kt_rec.specs.TableNames.{IsTableId}
 use Rattle.kt_keys.specs.declared.need.Need.{Need}
-use Rattle.kt_keys.specs.declared.need.Refusal.{Refusal}
-use Rattle.kt_keys.specs.Refusals.{at_stage, is_loaded, over_stages}
-use Rattle.kt_keys.specs.Keys.{programme_of, policytc_of, profile_of, same_pair, same_triple}
-use Rattle.kt_keys.specs.KeyChecks.{key_refusals, programme_key_refusals, programme_keys}
-use Rattle.kt_checks.specs.TableChecks.{tiv_of, IsPlaced}
-use Rattle.kt_checks.specs.ProgrammeChecks.{is_dead_end, target_check}
-use Rattle.kt_checks.specs.Checks.{KeepsCheck, table_checks, programme_checks}
-use Rattle.kt_keys.specs.FirstRow.{total_of}
-use Rattle.kt_keys.specs.TotalLaws.{total_within}
-use Rattle.kt_keys.specs.Units.{top_level, is_source}
-use Rattle.kt_keys.specs.NameChecks.{profile_check, output_units, has_units}
-use Rattle.kt_checks.specs.CheckLaws.{each_none, no_row, none_passes, each_placed, each_known, distinct-from_keys, sum_within}
+use Rattle.kt_keys.specs.Keys.{financial_of, programme_of, policytc_of, profile_of, same_pair, same_triple}
+use Rattle.kt_keys.specs.NameChecks.{output_units}
+use Rattle.kt_keys.specs.Refusals.{is_loaded}
+use Rattle.kt_keys.specs.Units.{top_level, top_targets, is_source, is_target}
+use Rattle.kt_checks.specs.OutputChecks.{climbed, has_output, has_top_layer, next_unit}
+use Rattle.kt_checks.specs.ProgrammeChecks.{inputs_of}
+use Rattle.kt_checks.specs.SummaryChecks.{summaries_of}
+use Rattle.kt_checks.specs.TableChecks.{IsPlaced, row_limit, tiv_of}
 
--- both of two tables are loaded
-both : (a b : Bool) → a ≡ true → b ≡ true → (a && b) ≡ true
-both true b is also = also
-both false b is also = is
+-- ---- sizes
 
--- of two refusals where the first of them is none, both are none
-or_none : (one other : Option Refusal) → option_or one other ≡ None → (one ≡ None) × (other ≡ None)
-or_none None other none = (refl, none)
-or_none (Some found) other none = cc
+-- 18 and 19: so many samples make at most 2,000,000 losses of an event of items, and as many of outputs, and at most 1,000,000
+-- of summaries
+pub record FitsSamples (rows : Rows) (need : Need) (samples : ℕ) : Type 0 where
+  pub items : length rows.items * (samples + 2) ≤ 2000000
+  pub outputs : length rows.fm_xref * (samples + 2) ≤ 2000000
+  pub summaries : summaries_of rows need * (samples + 2) ≤ 1000000
 
--- where nothing is refused over the stages, nothing is at each stage
-pub stage_none : (check : ℕ → Option Refusal) (stages stage : ℕ) → over_stages check stages ≡ None → stage < stages → check stage ≡ None
-unfolding over_stages
-stage_none check zero stage none below = absurd (omega arith)
-stage_none check (suc stages) stage none below =
-    let split = or_none (over_stages check stages) (check stages) none in
-    elim (cases_eq stage stages) [
-      | inl same ↦ subst (λ n. check n ≡ None) (sym same) split.1
-      | inr other ↦ stage_none check stages stage split.0 (omega arith)
-    ]
+-- 1: no table has more rows than its limit; 5: the values of the items' coverages, one for each item, add to at most 10^14
+-- cents; 10: there are random numbers where they are loaded, and a loaded programme has a row; 18 and 19, where the samples
+-- are known; 21: the damage bins times the items are at most 2,000,000
+pub record KeepsSizes (rows : Rows) (need : Need) : Type 0 where
+  pub limits : (id : TableId) → IsTableId id → row_count rows id ≤ row_limit id.table
+  pub values : sum_by (λ row. tiv_of rows.coverages row.coverage_id) rows.items ≤ 100000000000000
+  pub random : is_loaded need 0 table.Random ≡ true → 1 ≤ length rows.random
+  pub programmes : (stage : ℕ) → stage < 10 → is_loaded need stage table.FmProgramme ≡ true → 1 ≤ length (programme_of rows stage)
+  pub samples : 0 < need.samples → FitsSamples rows need need.samples
+  pub distributions : length rows.damage_bin_dict * length rows.items ≤ 2000000
 
--- having the same parts is an equivalence of pairs
-pub same_pair_equiv : IsEquivalence same_pair
-same_pair_equiv = and_equiv (on_equiv (λ (pair : ℕ × ℕ). pair.0) nat_eq_equiv) (on_equiv (λ (pair : ℕ × ℕ). pair.1) nat_eq_equiv)
+-- ---- keys
 
--- having the same parts is an equivalence of triples
-pub same_triple_equiv : IsEquivalence same_triple
-same_triple_equiv = and_equiv (and_equiv (on_equiv (λ (key : ℕ × ℕ × ℕ). key.0) nat_eq_equiv) (on_equiv (λ (key : ℕ × ℕ × ℕ). key.1) nat_eq_equiv)) (on_equiv (λ (key : ℕ × ℕ × ℕ). key.2) nat_eq_equiv)
+-- 2: a programme takes the losses of a unit at a level once, a layer of a unit at a level has terms once, and profiles are distinct
+pub record AreFinancialKeys (rows : FinancialRows) : Type 0 where
+  pub programme : IsDistinct same_pair (map (λ row. (row.from_agg_id, row.level_id)) rows.programme)
+  pub policytc : IsDistinct same_triple (map (λ row. (row.layer_id, row.level_id, row.agg_id)) rows.policytc)
+  pub profile : IsDistinct nat_eq (map (λ row. row.policytc_id) rows.profile)
 
-module _ (rows : Rows) (need : Need) where
-  -- check 2: the events are distinct
-  pub distinct_events : KeepsCheck 2 rows need → is_loaded need 0 Events ≡ true → IsDistinct nat_eq (map (λ row. row.event_id) rows.events)
-  unfolding table_checks
-  distinct_events keeps loaded = distinct-from_keys nat_eq_equiv _ (no_row 2 (at_stage 0 Events) _ _ (each_none (key_refusals rows need) keeps.none 0) loaded)
+-- 2: the keys of each table are distinct; 3: so are the units and layers of outputs
+pub record KeepsKeys (rows : Rows) : Type 0 where
+  pub events : IsDistinct nat_eq (map (λ row. row.event_id) rows.events)
+  pub items : IsDistinct nat_eq (map (λ row. row.item_id) rows.items)
+  pub coverages : IsDistinct nat_eq (map (λ row. row.coverage_id) rows.coverages)
+  pub footprint_idx : IsDistinct nat_eq (map (λ row. row.event_id) rows.footprint_idx)
+  pub vulnerability : IsDistinct same_triple (map (λ row. (row.vulnerability_id, row.intensity_bin_id, row.damage_bin_id)) rows.vulnerability)
+  pub outputs : IsDistinct nat_eq (map (λ row. row.output_id) rows.fm_xref)
+  pub layers : IsDistinct same_pair (map (λ row. (row.agg_id, row.layer_id)) rows.fm_xref)
+  pub item_summaries : IsDistinct same_pair (map (λ row. (row.item_id, row.summaryset_id)) rows.gulsummaryxref)
+  pub output_summaries : IsDistinct same_pair (map (λ row. (row.output_id, row.summaryset_id)) rows.fmsummaryxref)
+  pub return_periods : IsDistinct nat_eq (map (λ row. row.return_period) rows.returnperiods)
+  pub financial : (stage : ℕ) → stage < 10 → AreFinancialKeys (financial_of rows stage)
 
-  -- check 2: the items are distinct
-  pub distinct_items : KeepsCheck 2 rows need → is_loaded need 0 Items ≡ true → IsDistinct nat_eq (map (λ row. row.item_id) rows.items)
-  unfolding table_checks
-  distinct_items keeps loaded = distinct-from_keys nat_eq_equiv _ (no_row 2 (at_stage 0 Items) _ _ (each_none (key_refusals rows need) keeps.none 1) loaded)
+-- ---- names
 
-  -- check 2: no key is repeated in the financial tables of the base, at 0, or of a stage
-  no_programme_key : KeepsCheck 2 rows need → (stage : ℕ) → stage < 10 → programme_keys rows need stage ≡ None
-  unfolding table_checks
-  no_programme_key keeps zero below = each_none (key_refusals rows need) keeps.none 5
-  no_programme_key keeps (suc stage) below = subst (λ n. programme_keys rows need n ≡ None) (add-one stage) (stage_none (λ later. programme_keys rows need (later + 1)) 9 stage (each_none (key_refusals rows need) keeps.none 10) (omega arith))
+-- what rows name is there, where the table that has it is loaded: 4 the coverage of an item, 7 the damage bin of a row of
+-- vulnerability, 9 the records of an event of the index, 14 the profile of terms, 15 the item that an output is for, or by
+-- rule 0 the unit of the top level, 17 the item or the output of a summary
+pub record KeepsNames (rows : Rows) (need : Need) : Type 0 where
+  pub coverages : is_loaded need 0 table.Coverages ≡ true → All (λ row. list_any (nat_eq row.coverage_id) (map (λ x. x.coverage_id) rows.coverages) ≡ true) rows.items
+  pub damage_bins : is_loaded need 0 table.DamageBinDict ≡ true → All (λ row. list_any (nat_eq row.damage_bin_id) (map (λ x. x.bin_index) rows.damage_bin_dict) ≡ true) rows.vulnerability
+  pub places : is_loaded need 0 table.Footprint ≡ true → All (IsPlaced rows.footprint_size) rows.footprint_idx
+  pub profiles : (stage : ℕ) → stage < 10 → is_loaded need stage table.FmProfile ≡ true → All (λ row. list_any (nat_eq row.policytc_id) (map (λ x. x.policytc_id) (profile_of rows stage)) ≡ true) (policytc_of rows stage)
+  pub output_units : is_loaded need 0 (cond (nat_eq need.rule 0) table.FmProgramme table.Items) ≡ true → All (λ row. list_any (nat_eq row.agg_id) (output_units rows need.rule) ≡ true) rows.fm_xref
+  pub items : is_loaded need 0 table.Items ≡ true → All (λ row. list_any (nat_eq row.item_id) (map (λ x. x.item_id) rows.items) ≡ true) rows.gulsummaryxref
+  pub outputs : is_loaded need 0 table.FmXref ≡ true → All (λ row. list_any (nat_eq row.output_id) (map (λ x. x.output_id) rows.fm_xref) ≡ true) rows.fmsummaryxref
 
-  -- check 2: a programme takes the losses of a unit at a level once
-  pub distinct_sources : KeepsCheck 2 rows need → (stage : ℕ) → stage < 10 → is_loaded need stage FmProgramme ≡ true → IsDistinct same_pair (map (λ row. (row.from_agg_id, row.level_id)) (programme_of rows stage))
-  distinct_sources keeps stage below loaded = distinct-from_keys same_pair_equiv _ (no_row 2 (at_stage stage FmProgramme) _ _ (each_none (programme_key_refusals rows need stage) (no_programme_key keeps stage below) 0) loaded)
+-- ---- programmes
 
-  -- check 2: a layer of a unit at a level has terms once
-  pub distinct_terms : KeepsCheck 2 rows need → (stage : ℕ) → stage < 10 → is_loaded need stage FmPolicytc ≡ true → IsDistinct same_triple (map (λ row. (row.layer_id, row.level_id, row.agg_id)) (policytc_of rows stage))
-  distinct_terms keeps stage below loaded = distinct-from_keys same_triple_equiv _ (no_row 2 (at_stage stage FmPolicytc) _ _ (each_none (programme_key_refusals rows need stage) (no_programme_key keeps stage below) 1) loaded)
+-- the ids whose losses a programme takes
+abbrev pub taken_ids : List FmProgramme → List ℕ
+taken_ids programme = map (λ row. row.from_agg_id) (filter (λ row. nat_eq row.level_id 1) programme)
 
-  -- check 2: the profiles are distinct
-  pub distinct_profiles : KeepsCheck 2 rows need → (stage : ℕ) → stage < 10 → is_loaded need stage FmProfile ≡ true → IsDistinct nat_eq (map (λ row. row.policytc_id) (profile_of rows stage))
-  distinct_profiles keeps stage below loaded = distinct-from_keys nat_eq_equiv _ (no_row 2 (at_stage stage FmProfile) _ _ (each_none (programme_key_refusals rows need stage) (no_programme_key keeps stage below) 2) loaded)
+-- below the top level, what a row puts losses into is taken from at the next level
+abbrev pub GoesOn : List FmProgramme → FmProgramme → Type 0
+GoesOn programme row = row.level_id < top_level programme → is_source programme (row.level_id + 1, row.to_agg_id) ≡ true
 
-  -- check 4: each item's coverage is known
-  pub known_coverages : KeepsCheck 4 rows need → is_loaded need 0 Items ≡ true → is_loaded need 0 Coverages ≡ true → AllPass (λ id. list_any (nat_eq id) (map (λ row. row.coverage_id) rows.coverages)) (map (λ row. row.coverage_id) rows.items)
-  unfolding table_checks
-  known_coverages keeps items coverages = each_known nat_eq _ _ (no_row 4 (at_stage 0 Items) _ _ keeps.none (both _ _ items coverages))
+-- the losses of an id come to a unit of the top level
+pub record ComesToTop (programme : List FmProgramme) (id : ℕ) : Type 0 where
+  pub unit : ℕ
+  pub climbs : climbed (next_unit programme) (top_level programme) 1 id ≡ Some unit
+  pub is_top : list_any (nat_eq unit) (top_targets programme) ≡ true
 
-  -- check 5: the insured values of the items add to at most 10^14 cents
-  pub values_within : KeepsCheck 5 rows need → is_loaded need 0 Items ≡ true → is_loaded need 0 Coverages ≡ true → sum_by (λ row. tiv_of rows.coverages row.coverage_id) rows.items ≤ 100000000000000
-  unfolding table_checks
-  values_within keeps items coverages = sum_within (λ row. tiv_of rows.coverages row.coverage_id) rows.items (no_row 5 (at_stage 0 Items) _ _ keeps.none (both _ _ items coverages))
+-- terms are of a unit of their level, which is at most the top level; below the top level their layer is 1
+pub record HasPlace (programme : List FmProgramme) (row : FmPolicytc) : Type 0 where
+  pub level : row.level_id ≤ top_level programme
+  pub unit : is_target programme (row.level_id, row.agg_id) ≡ true
+  pub layer : row.level_id < top_level programme → row.layer_id ≡ 1
 
-  -- check 8: the probabilities of each vulnerability at each intensity add to at most 1,001,000 ppm
-  pub probabilities_within : KeepsCheck 8 rows need → is_loaded need 0 Vulnerability ≡ true → (key : ℕ × ℕ) → total_of same_pair (map (λ row. ((row.vulnerability_id, row.intensity_bin_id), row.prob)) rows.vulnerability) key ≤ 1001000
-  unfolding table_checks
-  probabilities_within keeps loaded = total_within same_pair_equiv 1001000 (map (λ row. ((row.vulnerability_id, row.intensity_bin_id), row.prob)) rows.vulnerability) (no_row 8 (at_stage 0 Vulnerability) _ _ keeps.none loaded)
+-- the programme of the base, at 0, or of a stage is a tree: 11 at level 1 it takes the losses of items, or in a stage of
+-- outputs, and above it those of units of the level below; 12 below the top level losses go on, so that those of each id come
+-- to the top level; 13 terms have a place
+pub record KeepsProgramme (rows : Rows) (need : Need) (stage : ℕ) : Type 0 where
+  pub first : is_loaded need 0 (cond (nat_eq stage 0) table.Items table.FmXref) ≡ true → All (λ row. row.level_id ≡ 1 → list_any (nat_eq row.from_agg_id) (inputs_of rows stage) ≡ true) (programme_of rows stage)
+  pub above : is_loaded need 0 (cond (nat_eq stage 0) table.Items table.FmXref) ≡ true → All (λ row. nat_eq row.level_id 1 ≡ false → is_target (programme_of rows stage) (row.level_id - 1, row.from_agg_id) ≡ true) (programme_of rows stage)
+  pub further : All (GoesOn (programme_of rows stage)) (programme_of rows stage)
+  pub climbs : (id : ℕ) → list_any (nat_eq id) (taken_ids (programme_of rows stage)) ≡ true → ComesToTop (programme_of rows stage) id
+  pub terms : is_loaded need stage table.FmProgramme ≡ true → All (HasPlace (programme_of rows stage)) (policytc_of rows stage)
 
-  -- check 9: the records of each event lie in the footprint file
-  pub placed_events : KeepsCheck 9 rows need → is_loaded need 0 FootprintIdx ≡ true → is_loaded need 0 Footprint ≡ true → All (IsPlaced rows.footprint_size) rows.footprint_idx
-  unfolding table_checks
-  placed_events keeps index footprint = each_placed rows.footprint_size rows.footprint_idx (no_row 9 (at_stage 0 FootprintIdx) _ _ keeps.none (both _ _ index footprint))
+-- ---- outputs
 
-  -- check 12: below the top level losses go further
-  pub connected_targets : KeepsCheck 12 rows need → (stage : ℕ) → stage < 10 → is_loaded need stage FmProgramme ≡ true → All (λ row. is_dead_end (top_level (programme_of rows stage)) (is_source (programme_of rows stage)) row ≡ false) (programme_of rows stage)
-  unfolding programme_checks table_checks
-  connected_targets keeps stage below loaded = none_passes _ _ (no_row 12 (at_stage stage FmProgramme) _ _ (stage_none (target_check rows need) 10 stage keeps.none below) loaded)
-
-  -- check 14: the profile of each row of policy terms is known
-  pub known_profiles : KeepsCheck 14 rows need → (stage : ℕ) → stage < 10 → is_loaded need stage FmPolicytc ≡ true → is_loaded need stage FmProfile ≡ true → AllPass (λ id. list_any (nat_eq id) (map (λ row. row.policytc_id) (profile_of rows stage))) (map (λ row. row.policytc_id) (policytc_of rows stage))
-  unfolding programme_checks table_checks
-  known_profiles keeps stage below terms profiles = each_known nat_eq _ _ (no_row 14 (at_stage stage FmPolicytc) _ _ (stage_none (profile_check rows need) 10 stage keeps.none below) (both _ _ terms profiles))
-
-  -- check 15: each output is for what it may be for
-  pub known_units : KeepsCheck 15 rows need → has_units need ≡ true → AllPass (λ id. list_any (nat_eq id) (output_units rows need.rule)) (map (λ row. row.agg_id) rows.fm_xref)
-  unfolding programme_checks table_checks
-  known_units keeps loaded = each_known nat_eq _ _ (no_row 15 (at_stage 0 FmXref) _ _ keeps.none loaded)
+-- 16: an output stands for each layer. By rules 1 and 2 each item whose losses the base's programme takes has one for every layer
+-- of the unit of the top level that they come to, by rule 0 each unit of the top level for every layer of its own
+pub record KeepsOutputs (rows : Rows) (rule : ℕ) : Type 0 where
+  pub of_items : nat_eq rule 0 ≡ false → (item unit layer : ℕ) → list_any (nat_eq item) (taken_ids (programme_of rows 0)) ≡ true → climbed (next_unit (programme_of rows 0)) (top_level (programme_of rows 0)) 1 item ≡ Some unit → has_top_layer (programme_of rows 0) (policytc_of rows 0) unit layer ≡ true → has_output rows.fm_xref (item, layer) ≡ true
+  pub of_units : nat_eq rule 0 ≡ true → (unit layer : ℕ) → list_any (nat_eq unit) (top_targets (programme_of rows 0)) ≡ true → has_top_layer (programme_of rows 0) (policytc_of rows 0) unit layer ≡ true → has_output rows.fm_xref (unit, layer) ≡ true

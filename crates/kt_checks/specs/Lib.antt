@@ -4,7 +4,13 @@ pub mod OutputChecks
 pub mod SummaryChecks
 pub mod Checks
 pub mod CheckLaws
+pub mod Worth
 pub mod KeptChecks
+pub mod KeptTables
+pub mod KeptNames
+pub mod KeptProgrammes
+pub mod KeptOutputs
+pub mod FinancialRanges
 pub use Rattle.kt_keys.specs.FirstRow
 pub use Rattle.kt_keys.specs.Refusals
 pub use Rattle.kt_keys.specs.Keys

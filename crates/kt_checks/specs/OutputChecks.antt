@@ -50,13 +50,22 @@ lacks_at lacks (Some unit) item = lacks unit item
 abbrev pub owes_output : ℕ → ℕ → (ℕ × ℕ → Option ℕ) → (ℕ → ℕ → Bool) → FmProgramme → Bool
 owes_output rule top next lacks row = cond (nat_eq rule 0) (nat_eq row.level_id top && lacks row.to_agg_id row.to_agg_id) (nat_eq row.level_id 1 && lacks_at lacks (climbed next top 1 row.from_agg_id) row.from_agg_id)
 
+-- whether a unit of the top level has a layer: that of a row of its terms; one without terms has layer 1
+abbrev pub has_top_layer : List FmProgramme → List FmPolicytc → ℕ → ℕ → Bool
+has_top_layer programme policytc =
+    has_layer (λ unit. list_any (nat_eq unit) (map (λ pair. pair.0) (top_layers programme policytc))) (λ pair. list_any (same_pair pair) (top_layers programme policytc))
+
+-- whether there is an output for a unit, or an item, and a layer
+abbrev pub has_output : List FmXref → ℕ × ℕ → Bool
+has_output outputs pair = list_any (same_pair pair) (map (λ row. (row.agg_id, row.layer_id)) outputs)
+
 -- the first row of a programme that lacks an output, by a rule
 unfoldable pub owing_at : ℕ → List FmProgramme → List FmPolicytc → List FmXref → Option ℕ
 owing_at rule programme policytc outputs =
     first_where (owes_output rule (top_level programme) (next_unit programme) (lacks_output
     (λ unit. list_any (nat_eq unit) (map (λ pair. pair.0) (top_layers programme policytc)))
     (λ pair. list_any (same_pair pair) (top_layers programme policytc))
-    (λ pair. list_any (same_pair pair) (map (λ row. (row.agg_id, row.layer_id)) outputs)))) programme
+    (has_output outputs))) programme
 
 -- check 16: an item, or by rule 0 a unit of the top level, lacks an output for some layer
 abbrev pub missing_output_check : Rows → Need → Option Refusal

@@ -1,5 +1,5 @@
 -- The checks of summaries, and of the number of cells that the samples make.
-use Rattle.std.specs.Prelude.{◌≡◌, ℕ, ◌+◌, ◌*◌, ◌||◌, nat_lt, cond, [], ◌∷◌, map, length, Option, Some, None}
+use Rattle.std.specs.Prelude.{◌≡◌, ℕ, ◌+◌, ◌*◌, ◌||◌, nat_lt, cond, List, [], ◌∷◌, map, length, Option, Some, None}
 use Rattle.std.specs.Set.{distinct_count}
 use Rattle.kt_rec.specs.declared.table.Table.TheVariants.{Items, FmXref, GulSummaryXref, FmSummaryXref}
 use Rattle.kt_rec.specs.Rows.{Rows}
@@ -10,12 +10,16 @@ use Rattle.kt_keys.specs.Refusals.{at_stage, is_loaded, refusal, first_of}
 use Rattle.kt_keys.specs.Keys.{same_pair}
 use Rattle.kt_checks.specs.TableChecks.{rows_above}
 
--- check 18: the items, or the outputs, times the cells of each are above 2,000,000
-abbrev pub sample_checks : Rows → Need → ℕ → Option Refusal
-sample_checks rows need samples = first_of (
+-- what check 18 refuses: the items, or the outputs, times the cells of each are above 2,000,000
+abbrev pub sample_refusals : Rows → Need → ℕ → List (Option Refusal)
+sample_refusals rows need samples =
     refusal 18 (at_stage 0 Items) (is_loaded need 0 Items) (rows_above 2000000 (length rows.items) (samples + 2))
     ∷ refusal 18 (at_stage 0 FmXref) (is_loaded need 0 FmXref) (rows_above 2000000 (length rows.fm_xref) (samples + 2))
-    ∷ [])
+    ∷ []
+
+-- check 18: there are too many cells
+abbrev pub sample_checks : Rows → Need → ℕ → Option Refusal
+sample_checks rows need samples = first_of (sample_refusals rows need samples)
 
 -- the number of distinct summaries of items
 abbrev pub item_summaries : Rows → ℕ

@@ -23,17 +23,21 @@ row_past most rows = cond (nat_lt most rows) (Some (most + 1)) None
 abbrev pub limit_check : Need → ℕ → Table → ℕ → ℕ → Option Refusal
 limit_check need stage table most rows = refusal 1 (at_stage stage table) (is_loaded need stage table) (row_past most rows)
 
--- check 1 of the financial tables of the base or of a stage
-abbrev pub programme_limits : Rows → Need → ℕ → Option Refusal
-programme_limits rows need stage = first_of (
+-- what check 1 refuses in each financial table of the base or of a stage
+abbrev pub programme_limit_refusals : Rows → Need → ℕ → List (Option Refusal)
+programme_limit_refusals rows need stage =
     limit_check need stage FmProgramme 1200000 (length (programme_of rows stage))
     ∷ limit_check need stage FmPolicytc 1200000 (length (policytc_of rows stage))
     ∷ limit_check need stage FmProfile 1000000 (length (profile_of rows stage))
-    ∷ [])
+    ∷ []
 
--- check 1: a table has more rows than its limit
-abbrev pub limit_checks : Rows → Need → Option Refusal
-limit_checks rows need = first_of (
+-- check 1 of the financial tables of the base or of a stage
+abbrev pub programme_limits : Rows → Need → ℕ → Option Refusal
+programme_limits rows need stage = first_of (programme_limit_refusals rows need stage)
+
+-- what check 1 refuses in each table, and in the stages
+abbrev pub limit_refusals : Rows → Need → List (Option Refusal)
+limit_refusals rows need =
     limit_check need 0 Events 1000000 (length rows.events)
     ∷ limit_check need 0 Items 100000 (length rows.items)
     ∷ limit_check need 0 Coverages 100000 (length rows.coverages)
@@ -48,7 +52,30 @@ limit_checks rows need = first_of (
     ∷ limit_check need 0 TheOccurrence 1000000 (length rows.occurrence)
     ∷ limit_check need 0 ReturnPeriods 1000 (length rows.returnperiods)
     ∷ over_stages (λ later. programme_limits rows need (later + 1)) 9
-    ∷ [])
+    ∷ []
+
+-- check 1: a table has more rows than its limit
+abbrev pub limit_checks : Rows → Need → Option Refusal
+limit_checks rows need = first_of (limit_refusals rows need)
+
+-- the most rows that a table may have; of the footprint no row is kept
+abbrev pub row_limit : Table → ℕ
+row_limit Events = 1000000
+row_limit Items = 100000
+row_limit Coverages = 100000
+row_limit Footprint = 0
+row_limit TheFootprintIdx = 1000000
+row_limit TheVulnerability = 10000000
+row_limit DamageBinDict = 1000
+row_limit Random = 10000000
+row_limit FmProgramme = 1200000
+row_limit FmPolicytc = 1200000
+row_limit FmProfile = 1000000
+row_limit FmXref = 100000
+row_limit GulSummaryXref = 900000
+row_limit FmSummaryXref = 900000
+row_limit TheOccurrence = 1000000
+row_limit ReturnPeriods = 1000
 
 -- the total insured value of a coverage in cents, 0 where there is no such coverage
 abbrev pub tiv_of : List Coverage → ℕ → ℕ
@@ -103,12 +130,16 @@ none_at rows = cond (nat_eq rows 0) (Some 0) None
 abbrev pub empty_programme : Rows → Need → ℕ → Option Refusal
 empty_programme rows need stage = refusal 10 (at_stage stage FmProgramme) (is_loaded need stage FmProgramme) (none_at (length (programme_of rows stage)))
 
--- check 10: there is no random number, or a programme has no row
-abbrev pub empty_checks : Rows → Need → Option Refusal
-empty_checks rows need = first_of (
+-- what check 10 refuses: there is no random number, or a programme has no row
+abbrev pub empty_refusals : Rows → Need → List (Option Refusal)
+empty_refusals rows need =
     refusal 10 (at_stage 0 Random) (is_loaded need 0 Random) (none_at (length rows.random))
     ∷ over_stages (empty_programme rows need) 10
-    ∷ [])
+    ∷ []
+
+-- check 10: a table that must have rows has none
+abbrev pub empty_checks : Rows → Need → Option Refusal
+empty_checks rows need = first_of (empty_refusals rows need)
 
 -- check 20: a period is above the number of periods
 abbrev pub period_check : Rows → Need → Option Refusal

@@ -6,6 +6,5 @@ pub mod PairLemmas
 pub mod CoverageLemmas
 pub mod StruckLemmas
 pub mod GroupLemmas
-pub mod PortfolioLemmas
 pub mod FinalLemmas
 pub mod GoodLemmas

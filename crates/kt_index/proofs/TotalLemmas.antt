@@ -5,7 +5,8 @@ use Rattle.std.specs.Prelude.{◌&&◌, ◌||◌, is_some, MatchOption}
 use Rattle.std.specs.List.{IsDistinct, filter, list_any}
 use Rattle.std.specs.List.Sorted.{IsPermutation}
 use Rattle.std.proofs.lemmas.List.Sorted.{list_any-IsPermutation}
-use Rattle.std.proofs.lemmas.Bool.{eqb-true}
+use Rattle.std.proofs.lemmas.Bool.{and_parts, eqb-true, or_parts}
+use Rattle.std.proofs.lemmas.Grind.{common_steps}
 use Rattle.std.proofs.lemmas.Bool.Decides.{nat_tests}
 use Rattle.std.proofs.lemmas.List.Folds.{list_any_more}
 use Rattle.kt_keys.specs.Keys.{same_pair}
@@ -16,21 +17,14 @@ use Rattle.kt_index.proofs.CoverLemmas.{list_any-filter}
 
 -- pairs with the same parts are equal
 same_is : (one other : ℕ × ℕ) → same_pair one other ≡ true → one ≡ other
-same_is (a, b) (c, d) is = by (nat_eq a c) (nat_eq b d) refl refl is
-  where
-    by : (x y : Bool) → nat_eq a c ≡ x → nat_eq b d ≡ y → (x && y) ≡ true → ◌≡◌ {A = ℕ × ℕ} (a, b) (c, d)
-    by true true e f h = ap {B = ℕ × ℕ} (λ n. (n, b)) (eqb-true a c e) ∙ ap {B = ℕ × ℕ} (λ n. (c, n)) (eqb-true b d f)
-    by true false e f h = cc
-    by false y e f h = cc
+same_is (a, b) (c, d) is =
+    let parts = and_parts (nat_eq a c) (nat_eq b d) is in
+    ap {B = ℕ × ℕ} (λ n. (n, b)) (eqb-true a c parts.0) ∙ ap {B = ℕ × ℕ} (λ n. (c, n)) (eqb-true b d parts.1)
 
 -- what fails a test fails it and another
 none-also : {X : Type 0} (one other : X → Bool) (rows : List X) → list_any one rows ≡ false → list_any (λ row. one row && other row) rows ≡ false
 none-also one other [] h = refl
-none-also one other (row ∷ rows) h = by (one row) (none-also one other rows) h
-  where
-    by : (b : Bool) → (list_any one rows ≡ false → list_any (λ x. one x && other x) rows ≡ false) → (b || list_any one rows) ≡ false → ((b && other row) || list_any (λ x. one x && other x) rows) ≡ false
-    by true rest e = cc
-    by false rest e = rest e
+none-also one other (row ∷ rows) h = let parts = or_parts (one row) (list_any one rows) h in rw (parts.0, none-also one other rows parts.1) refl
 
 -- a total by a test is one by a test that agrees
 pub total-agree : (test other : ℕ → Bool) (value : ℕ → ℕ) (total : ℕ) → ((id : ℕ) → test id ≡ other id) → IsTotalOf test value total → IsTotalOf other value total
@@ -41,26 +35,9 @@ total-nothing : (test : ℕ → Bool) (value : ℕ → ℕ) → ((id : ℕ) → 
 unfolding IsDistinct
 total-nothing test value fails = record { ids = []; distinct = tt; passing = λ id. sym (fails id); is = refl }
 
--- a number is equal to itself
-eq_refl : (n : ℕ) → nat_eq n n ≡ true
-eq_refl n = grind (arith, nat_tests)
-
 -- a row of a summary has its key
 absorbs : (a b s m : ℕ) (rest : Bool) → (nat_eq (a * 2 ^ 32 + b) (s * 2 ^ 32 + m) && (nat_eq a s && nat_eq b m && rest)) ≡ (nat_eq a s && nat_eq b m && rest)
-absorbs a b s m rest = by (nat_eq a s) (nat_eq b m) refl refl
-  where
-    kept : (x : Bool) → x ≡ true → (x && rest) ≡ rest
-    kept true e = refl
-    kept false e = cc
-
-    none : (x : Bool) → (x && false) ≡ false
-    none true = refl
-    none false = refl
-
-    by : (x y : Bool) → nat_eq a s ≡ x → nat_eq b m ≡ y → (nat_eq (a * 2 ^ 32 + b) (s * 2 ^ 32 + m) && (x && y && rest)) ≡ (x && y && rest)
-    by true true e f = kept _ (ap (λ n. nat_eq (n * 2 ^ 32 + b) (s * 2 ^ 32 + m)) (eqb-true a s e) ∙ (ap (λ n. nat_eq (s * 2 ^ 32 + n) (s * 2 ^ 32 + m)) (eqb-true b m f) ∙ eq_refl (s * 2 ^ 32 + m)))
-    by true false e f = none _
-    by false y e f = none _
+absorbs a b s m rest = grind (arith, nat_tests, common_steps)
 
 -- the rows of a summary's key have all its coverages
 pub group-covers : (rows : List SummaryUnit) (pairs : List UnitCoverage) (set summary key : ℕ) (coverage : ℕ) → key ≡ set * 2 ^ 32 + summary → summary_covers (filter (λ row. nat_eq (row.set * 2 ^ 32 + row.summary) key) rows) pairs (set, summary) coverage ≡ summary_covers rows pairs (set, summary) coverage

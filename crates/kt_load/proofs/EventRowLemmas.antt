@@ -1,15 +1,13 @@
 -- The footprint rows of an event: one more row, and the place of an event in the index.
 use Rattle.std.proofs.Common.{◌≡◌, ℕ, zero, suc, ◌+◌, ◌-◌, ◌*◌, ◌/◌, ◌≤◌, Bool, cond, List, [], ◌∷◌, ◌++◌, length, take, drop, map, true, false, Option, Some, None, refl, ap, sym, subst, ◌∙◌, arith}
 use Rattle.std.specs.Prelude.{IfSome, IsSomeAnd, nat_eq}
+use Rattle.std.specs.List.{AllByRecursion}
 use Rattle.std.specs.Map.{lookup}
-use Rattle.std.proofs.lemmas.List.{drop-drop, drop-take}
+use Rattle.std.proofs.lemmas.List.{drop-drop}
 use Rattle.std.proofs.Math.Nat.{mul-div-le}
 use Rattle.byteorder.specs.Endian.{little_number}
-use Rattle.byteorder.specs.Numbers.{little_from-take}
 use Rattle.std.proofs.lemmas.List.Elements.{recursion_from_All}
 use Rattle.kt_checks.specs.TableChecks.{IsPlaced}
-use Rattle.kt_checks.specs.CheckLaws.{keeps-from_valid}
-use Rattle.kt_checks.specs.KeptChecks.{placed_events}
 use Rattle.kt_keys.specs.Refusals.{is_loaded}
 use Rattle.kt_out.specs.NamedFiles.{FileMap}
 use Rattle.kt_rec.specs.Rows.{Rows}
@@ -17,8 +15,10 @@ use Rattle.kt_rec.specs.declared.hazard.FootprintIdx.{FootprintIdx}
 use Rattle.kt_rec.specs.declared.table.Table.TheVariants as table
 use Rattle.kt_tables.specs.Lookups.{place_in}
 use Rattle.kt_tables.specs.Portfolio.{IsPortfolio, PortfolioRows}
+use Rattle.kt_tables.specs.PortfolioLaws.{names_kept}
 use Rattle.kt_tables.specs.declared.place.Place.{Place}
 use Rattle.kt_rec.specs.declared.hazard.FootRow.{FootRow}
+use Rattle.kt_load.proofs.FrontLemmas.{behind_front, number_of_front}
 use Rattle.kt_load.specs.Ends.{HasPart, IsPart}
 use Rattle.kt_load.specs.EventRows.{HasFootprint, event_rows, foot_row, foot_rows_in, footprint_name, rows_at}
 
@@ -39,17 +39,13 @@ pub record LiesWithin (size : ℕ) (place : Place) : Type 0 where
 abbrev entry_of : FootprintIdx → ℕ × Place
 entry_of row = (row.event_id, record { at = row.offset; size = row.size })
 
-abbrev AllPlaced : ℕ → List FootprintIdx → Type 0
-AllPlaced size [] = Unit {0}
-AllPlaced size (row ∷ rows) = IsPlaced size row × AllPlaced size rows
-
 abbrev some_place : Place → Option Place
 some_place place = Some place
 
 same_place : (one other : Place) → some_place one ≡ Some other → one ≡ other
 same_place one other is = cc
 
-found_place : (size : ℕ) (rows : List FootprintIdx) (event : ℕ) (place : Place) → AllPlaced size rows → lookup (nat_eq event) (map entry_of rows) ≡ Some place → LiesWithin size place
+found_place : (size : ℕ) (rows : List FootprintIdx) (event : ℕ) (place : Place) → AllByRecursion (IsPlaced size) rows → lookup (nat_eq event) (map entry_of rows) ≡ Some place → LiesWithin size place
 found_place size [] event place all is = cc
 found_place size (row ∷ rows) event place all is = here (nat_eq event row.event_id) is (found_place size rows event place all.1)
   where
@@ -60,8 +56,7 @@ found_place size (row ∷ rows) event place all is = here (nat_eq event row.even
 -- an event that the index has lies in the file
 pub lies_within : (portfolio : PortfolioRows) (event : ℕ) (place : Place) → IsPortfolio portfolio → is_loaded portfolio.need 0 table.Footprint ≡ true → is_loaded portfolio.need 0 table.FootprintIdx ≡ true → place_in portfolio.rows event ≡ Some place → LiesWithin portfolio.rows.footprint_size place
 lies_within portfolio event place valid footprint index is =
-    let placed = placed_events portfolio.rows portfolio.need (keeps-from_valid 9 portfolio.rows portfolio.need valid.valid) index footprint in
-    found_place portfolio.rows.footprint_size portfolio.rows.footprint_idx event place (recursion_from_All (IsPlaced portfolio.rows.footprint_size) portfolio.rows.footprint_idx placed) is
+    found_place portfolio.rows.footprint_size portfolio.rows.footprint_idx event place (recursion_from_All (IsPlaced portfolio.rows.footprint_size) portfolio.rows.footprint_idx ((names_kept portfolio valid).places footprint)) is
 
 -- so the file has its bytes
 pub has_part : (held : Option FileMap) (size : ℕ) (place : Place) → HasFootprint held size → LiesWithin size place → HasPart held footprint_name place.at place.size
@@ -71,20 +66,6 @@ has_part (Some files) size place has lies = of_file (files footprint_name) has
     of_file : (file : Option (List ℕ)) → IsSomeAnd file (λ bytes. length bytes ≡ size) → IsSomeAnd file (λ bytes. place.at + place.size ≤ length bytes)
     of_file None has = has
     of_file (Some bytes) has = omega (arith, has, lies.within)
-
--- whole rows are no more bytes than there are
-whole_rows : (size : ℕ) → 12 * (size / 12) ≤ size
-whole_rows size = mul-div-le size 12
-
--- a front behind its first bytes
-behind_front : (size n : ℕ) (bytes : List ℕ) → n ≤ size → drop n (take size bytes) ≡ take (size - n) (drop n bytes)
-behind_front size n bytes fits =
-    let split : size ≡ n + (size - n) = omega arith in
-    ap (λ m. drop n (take m bytes)) split ∙ drop-take n (size - n) bytes
-
--- a number of four bytes is read of them alone
-number_of_front : (size n : ℕ) (bytes : List ℕ) → n + 4 ≤ size → little_number 4 (drop n (take size bytes)) ≡ little_number 4 (drop n bytes)
-number_of_front size n bytes fits = ap (little_number 4) (behind_front size n bytes (omega arith)) ∙ little_from-take 0 4 (size - n) (drop n bytes) (omega arith)
 
 -- a row is read of its own bytes alone
 row_of_front : (size : ℕ) (bytes : List ℕ) → 12 ≤ size → foot_row (take size bytes) ≡ foot_row bytes
@@ -113,7 +94,7 @@ reads_rows (Some files) rows event place name part found named is read are = of_
     of_file (Some bytes) known =
         are ∙ ap (λ n. foot_rows_in (n / 12) part) read.whole
         ∙ ap (foot_rows_in (place.size / 12)) known
-        ∙ rows_of_front place.size (place.size / 12) (drop place.at bytes) (whole_rows place.size)
+        ∙ rows_of_front place.size (place.size / 12) (drop place.at bytes) (mul-div-le place.size 12)
         ∙ ap (rows_at bytes) (sym is)
 
 -- an event that the index lacks has no rows

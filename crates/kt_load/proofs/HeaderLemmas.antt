@@ -1,10 +1,9 @@
 -- The header of the footprint's file is read from its first bytes.
-use Rattle.std.proofs.Common.{◌≡◌, ◌≤◌, ◌<◌, ◌+◌, ℕ, List, [], ◌∷◌, length, take, drop, min, refl, ap, sym, ◌∙◌, zero, suc, arith, Bool, true, false}
-use Rattle.std.specs.Prelude.{nat_lt, slice_index, not, ◌==◌, if◌then◌else◌, Result, Ok, Err, ◌*◌}
-use Rattle.std.proofs.lemmas.Bool.{ltb-true, ltb-false, lt-ltb, le-ltb}
+use Rattle.std.proofs.Common.{◌≡◌, ℕ, List, [], length, take, min, ap, ◌∙◌, arith, Bool}
+use Rattle.std.specs.Prelude.{nat_lt, not, ◌==◌, if◌then◌else◌, Result, Ok, Err}
+use Rattle.std.proofs.lemmas.Bool.Decides.{nat_tests}
 use Rattle.std.proofs.Math.Seq.{take-length}
-use Rattle.std.proofs.lemmas.List.{length-take, take_all}
-use Rattle.byteorder.specs.Endian.{little_number, little_from}
+use Rattle.std.proofs.lemmas.List.{length-take, take_min}
 use Rattle.kt_rec.specs.declared.table.Table.{Table}
 use Rattle.kt_rec.specs.declared.table.Table.TheVariants as table
 use Rattle.kt_cells.specs.Header.{header_extra, mark, version}
@@ -14,40 +13,16 @@ use Rattle.kt_cells.specs.declared.stop.TableStop.{TableStop}
 use Rattle.kt_cells.specs.declared.stop.TableStop.TheVariants.{NotProfile, WrongTable, WrongVersion}
 use Rattle.kt_schema.specs.Loading.{loaded_rows}
 use Rattle.kt_load.specs.Ends.{bytes_wanted}
-
--- a byte of the front is that of the whole
-front_byte : (bytes : List ℕ) (size place : ℕ) → place < size → slice_index (take size bytes) place ≡ slice_index bytes place
-front_byte [] zero place below = refl
-front_byte [] (suc size) place below = refl
-front_byte (byte ∷ bytes) zero place below = absurd (omega arith)
-front_byte (byte ∷ bytes) (suc size) zero below = refl
-front_byte (byte ∷ bytes) (suc size) (suc place) below = front_byte bytes size place (omega arith)
-
--- so is a number
-front_number : (bytes : List ℕ) (size place width : ℕ) → place + width ≤ size → little_from place width (take size bytes) ≡ little_from place width bytes
-front_number bytes size place zero fits = refl
-front_number bytes size place (suc width) fits = (λ i. front_byte bytes size place (omega arith) i + 256 * front_number bytes size (suc place) width (omega arith) i)
-
--- and one behind some bytes
-front_number_at : (bytes : List ℕ) (size place width : ℕ) → place + width ≤ size → little_number width (drop place (take size bytes)) ≡ little_number width (drop place bytes)
-front_number_at bytes size zero width fits = front_number bytes size 0 width fits
-front_number_at [] zero (suc place) width fits = refl
-front_number_at [] (suc size) (suc place) width fits = refl
-front_number_at (byte ∷ bytes) zero (suc place) width fits = absurd (omega arith)
-front_number_at (byte ∷ bytes) (suc size) (suc place) width fits = front_number_at bytes size place width (omega arith)
+use Rattle.kt_load.proofs.FrontLemmas.{number_of_front}
 
 -- the first bytes are too few for a header where all are
 as_few : (size : ℕ) → nat_lt (min 16 size) 16 ≡ nat_lt size 16
-as_few size = by_test (nat_lt size 16) refl
-  where
-    by_test : (few : Bool) → nat_lt size 16 ≡ few → nat_lt (min 16 size) 16 ≡ few
-    by_test true is = lt-ltb (min 16 size) 16 (omega (arith, ltb-true size 16 is))
-    by_test false is = le-ltb (min 16 size) 16 (omega (arith, ltb-false size 16 is))
+as_few size = grind (arith, nat_tests)
 
 -- the header of the first 16 bytes
 front_header : (bytes : List ℕ) → header_extra 4 0 0 (take 16 bytes) ≡ header_extra 4 0 0 bytes
 unfolding header_extra
-front_header bytes = λ i. header_by (few i) (front_number bytes 16 0 4 (omega arith) i) (front_number_at bytes 16 4 4 (omega arith) i) (front_number_at bytes 16 8 4 (omega arith) i) (front_number_at bytes 16 12 4 (omega arith) i)
+front_header bytes = λ i. header_by (few i) (number_of_front 16 0 bytes (omega arith) i) (number_of_front 16 4 bytes (omega arith) i) (number_of_front 16 8 bytes (omega arith) i) (number_of_front 16 12 bytes (omega arith) i)
   where
     header_by : Bool → ℕ → ℕ → ℕ → ℕ → Result ℕ TableStop
     header_by short first second third fourth =
@@ -62,11 +37,7 @@ front_header bytes = λ i. header_by (few i) (front_number bytes 16 0 4 (omega a
 
 -- the first bytes, as many as there are
 front_of : (size : ℕ) (bytes : List ℕ) → take (min (length bytes) size) bytes ≡ take size bytes
-front_of size bytes = by_test (nat_lt size (length bytes)) refl
-  where
-    by_test : (more : Bool) → nat_lt size (length bytes) ≡ more → take (min (length bytes) size) bytes ≡ take size bytes
-    by_test true is = ap (λ n. take n bytes) (omega (arith, ltb-true size (length bytes) is))
-    by_test false is = ap (λ n. take n bytes) (omega (arith, ltb-false size (length bytes) is)) ∙ take-length bytes ∙ sym (take_all size bytes (ltb-false size (length bytes) is))
+front_of size bytes = let flip : min (length bytes) size ≡ min size (length bytes) = omega arith in ap (λ n. take n bytes) flip ∙ take_min size bytes
 
 -- what is loaded of the bytes that are read is what is loaded of all
 pub front-loads : (t : Table) (bytes : List ℕ) → loaded_rows t (take (bytes_wanted t (length bytes)) bytes) ≡ loaded_rows t bytes

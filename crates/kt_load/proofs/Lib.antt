@@ -3,6 +3,7 @@ mod TypedLemmas
 mod RangeLemmas
 mod TableRanges
 mod OutsideLemmas
+mod FrontLemmas
 mod HeaderLemmas
 mod TableLemmas
 mod TablesLemmas

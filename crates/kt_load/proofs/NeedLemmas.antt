@@ -1,9 +1,9 @@
 -- Loading begins with no rows, and reads the tables that are needed.
-use Rattle.std.proofs.Common.{◌≡◌, List, [], refl, ap, sym, ◌∙◌, Option, Some, None, Ok, arith, true, false, Bool, inl, inr}
-use Rattle.std.proofs.lemmas.List.Elements.{All-replicate}
+use Rattle.std.proofs.Common.{◌≡◌, ◌⊎◌, ◌≤◌, List, refl, ap, sym, ◌∙◌, Option, Some, None, Ok, true, false, Bool, inl, inr}
+use Rattle.std.proofs.lemmas.List.Elements.{All-nil, All-replicate}
 use Rattle.std.specs.Prelude.{All, IfSome, slice_index_or, nat_le, ◌==◌, ◌&&◌, ◌||◌}
 use Rattle.std.specs.List.{filter, list_any}
-use Rattle.std.proofs.lemmas.Bool.{eqb-true, leb-true}
+use Rattle.std.proofs.lemmas.Bool.{and_parts, eqb-true, leb-true}
 use Rattle.std.proofs.lemmas.List.Sums.{AllPass-from_list_all}
 use Rattle.kt_rec.specs.Ranges.{AreInRange, AreFinancial, ArePeriods}
 use Rattle.kt_rec.specs.Rows.{Rows, no_rows, no_financial_rows}
@@ -19,7 +19,7 @@ use Rattle.kt_keys.specs.Refusals.{is_loaded}
 use Rattle.kt_load.specs.FileNames.{load_order, table_at}
 use Rattle.kt_load.specs.Steps.{has_periods}
 use Rattle.kt_load.specs.Loaded.{TellsLoaded, loaded, unless_refused}
-use Rattle.kt_load.specs.Reading.{with_files, go_on}
+use Rattle.kt_load.specs.Reading.{with_table_files, go_on}
 
 -- a test for a table of the base, or a financial table of a stage
 is_table : TableId → Bool
@@ -28,40 +28,35 @@ is_table id = nat_le id.stage 9 && ((id.stage == 0) || (nat_le 9 (number_of id.t
 -- a table that passes the test is one
 passes : (id : TableId) → is_table id ≡ true → IsTableId id
 unfolding is_table
-passes id pass = by_tests (nat_le id.stage 9) (id.stage == 0) (nat_le 9 (number_of id.table)) (nat_le (number_of id.table) 11) refl refl refl refl pass
+passes id pass =
+    let parts = and_parts (nat_le id.stage 9) _ pass in
+    record { stages = leb-true id.stage 9 parts.0; financial = either (id.stage == 0) refl parts.1 }
   where
-    by_tests : (few base least most : Bool) → nat_le id.stage 9 ≡ few → (id.stage == 0) ≡ base → nat_le 9 (number_of id.table) ≡ least → nat_le (number_of id.table) 11 ≡ most → (few && (base || (least && most))) ≡ true → IsTableId id
-    by_tests true true least most f b l m pass = record { stages = leb-true id.stage 9 f; financial = inl (eqb-true id.stage 0 b) }
-    by_tests true false true true f b l m pass = record { stages = leb-true id.stage 9 f; financial = inr (leb-true 9 (number_of id.table) l, leb-true (number_of id.table) 11 m) }
-    by_tests true false true false f b l m pass = cc
-    by_tests true false false most f b l m pass = cc
-    by_tests false base least most f b l m pass = cc
+    either : (base : Bool) → (id.stage == 0) ≡ base → (base || (nat_le 9 (number_of id.table) && nat_le (number_of id.table) 11)) ≡ true → (id.stage ≡ 0) ⊎ ((9 ≤ number_of id.table) × (number_of id.table ≤ 11))
+    either true is h = inl (eqb-true id.stage 0 is)
+    either false is h = let both = and_parts (nat_le 9 (number_of id.table)) _ h in inr (leb-true 9 (number_of id.table) both.0, leb-true (number_of id.table) 11 both.1)
 
 -- each table that is loaded is one
 pub each-is_table : All IsTableId load_order
 unfolding is_table
 each-is_table = λ k d below. passes (slice_index_or load_order k d) (AllPass-from_list_all is_table load_order refl k d below)
 
--- nothing is out of range where there is nothing
-none : {A : Type 0} (P : A → Type 0) → All P []
-none P = λ k d below. absurd (omega arith)
-
 -- no rows are in range
 pub no_rows-in_range : AreInRange no_rows
 no_rows-in_range = record {
-  events = none _;
-  items = none _;
-  coverages = none _;
-  footprint_idx = none _;
-  vulnerability = none _;
-  damage_bin_dict = none _;
-  random = none _;
-  fm_xref = none _;
-  gulsummaryxref = none _;
-  fmsummaryxref = none _;
-  occurrence = none _;
-  returnperiods = none _;
-  financial = All-replicate AreFinancial 10 no_financial_rows (record { programme = none _; policytc = none _; profile = none _ });
+  events = All-nil _;
+  items = All-nil _;
+  coverages = All-nil _;
+  footprint_idx = All-nil _;
+  vulnerability = All-nil _;
+  damage_bin_dict = All-nil _;
+  random = All-nil _;
+  fm_xref = All-nil _;
+  gulsummaryxref = All-nil _;
+  fmsummaryxref = All-nil _;
+  occurrence = All-nil _;
+  returnperiods = All-nil _;
+  financial = All-replicate AreFinancial 10 no_financial_rows (record { programme = All-nil _; policytc = All-nil _; profile = All-nil _ });
 }
 
 -- the number of periods is in range where the occurrences were read
@@ -70,11 +65,11 @@ unfolding is_loaded
 has_periods-from_all need order now ordered read loaded = read (ap (list_any has_periods) ordered) loaded
 
 -- what was read makes a portfolio where no check refuses it
-pub loads_portfolio : (held : Option FileMap) (need : Need) (order : List TableId) (empty now : Rows) (portfolio : PortfolioRows) → order ≡ load_order → empty ≡ no_rows → IfSome held (λ files. with_files files (filter (is_in need.loaded) order) empty ≡ Ok now) → first_refusal now need ≡ None → portfolio ≡ record { rows = now; need = need } → IfSome held (λ files. TellsLoaded (loaded files need) (Ok portfolio))
+pub loads_portfolio : (held : Option FileMap) (need : Need) (order : List TableId) (empty now : Rows) (portfolio : PortfolioRows) → order ≡ load_order → empty ≡ no_rows → IfSome held (λ files. with_table_files files (filter (is_in need.loaded) order) empty ≡ Ok now) → first_refusal now need ≡ None → portfolio ≡ record { rows = now; need = need } → IfSome held (λ files. TellsLoaded (loaded files need) (Ok portfolio))
 loads_portfolio None need order empty now portfolio ordered none read valid is = tt
 loads_portfolio (Some files) need order empty now portfolio ordered none read valid is =
-    ap (λ o. go_on (with_files files (filter (is_in need.loaded) o) no_rows) (λ rows. unless_refused rows (first_refusal rows need))) (sym ordered)
-    ∙ ap (λ e. go_on (with_files files (filter (is_in need.loaded) order) e) (λ rows. unless_refused rows (first_refusal rows need))) (sym none)
+    ap (λ o. go_on (with_table_files files (filter (is_in need.loaded) o) no_rows) (λ rows. unless_refused rows (first_refusal rows need))) (sym ordered)
+    ∙ ap (λ e. go_on (with_table_files files (filter (is_in need.loaded) order) e) (λ rows. unless_refused rows (first_refusal rows need))) (sym none)
     ∙ ap (λ r. go_on r (λ rows. unless_refused rows (first_refusal rows need))) read
     ∙ ap (unless_refused now) valid
     ∙ ap (λ p. Ok p.rows) (sym is)

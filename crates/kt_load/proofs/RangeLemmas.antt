@@ -1,5 +1,5 @@
 -- Rows of numbers that are in the ranges of their kinds are rows in range.
-use Rattle.std.proofs.Common.{◌≡◌, ◌≤◌, ◌<◌, ℕ, List, [], ◌∷◌, map, length, refl, zero, suc, Ok, Err, arith, subst, ◌^◌, Bool, true, false}
+use Rattle.std.proofs.Common.{◌≡◌, ◌≤◌, ◌<◌, ℕ, List, [], ◌∷◌, map, length, refl, zero, suc, Ok, Err, arith, subst, sym, ap, ◌∙◌, ◌+◌, ◌^◌, add-zero, zero-add, Bool, true, false}
 use Rattle.std.specs.Prelude.{slice_index_or, nat_lt, All, if◌then◌else◌}
 use Rattle.std.proofs.lemmas.Bool.{ltb-false}
 use Rattle.kt_rec.specs.Ranges.{IsId, IsPart, IsCount, IsAmount, IsOffset, IsLevel, IsLayer, IsSet, IsTerm, is_rule_number}
@@ -8,7 +8,6 @@ use Rattle.kt_cells.specs.Ranges.{IsRow, AreRows}
 use Rattle.kt_cells.specs.Reading.{rule_after}
 use Rattle.kt_cells.specs.declared.kind.Kind.{Kind}
 use Rattle.kt_cells.specs.declared.kind.Kind.TheVariants as kind
-use Rattle.kt_cells.specs.declared.kind.Term.{Term}
 use Rattle.kt_cells.specs.declared.stop.Cause.TheVariants as cause
 use Rattle.kt_load.specs.Typed.{column}
 
@@ -26,96 +25,69 @@ bounds least most value is = by_tests (nat_lt value least) (nat_lt most value) r
     by_tests false true l h is = cc
     by_tests false false l h is = record { above = ltb-false value least l; below = ltb-false most value h }
 
--- the rule that stands before a column
-abbrev pub rule_at : ℕ → List Kind → List ℕ → ℕ → ℕ
-rule_at rule kinds values zero = rule
-rule_at rule [] values (suc place) = rule
-rule_at rule (first ∷ kinds) [] (suc place) = rule
-rule_at rule (first ∷ kinds) (value ∷ values) (suc place) = rule_at (rule_after rule first value) kinds values place
+-- what a value of a kind is, by the rule that stands before it
+abbrev pub IsOfKind : ℕ → Kind → ℕ → Type 0
+IsOfKind rule kind.Id value = IsId value
+IsOfKind rule kind.Count value = IsCount value
+IsOfKind rule kind.Ppm value = IsPart value
+IsOfKind rule kind.IntensityBin value = AreBounds 1 10000 value
+IsOfKind rule kind.DamageBin value = AreBounds 1 1000 value
+IsOfKind rule kind.Level value = IsLevel value
+IsOfKind rule kind.Layer value = IsLayer value
+IsOfKind rule kind.SummarySet value = IsSet value
+IsOfKind rule kind.Rule value = is_rule_number value ≡ true
+IsOfKind rule kind.Offset value = IsOffset value
+IsOfKind rule kind.Tiv value = value ≤ 100000000000000
+IsOfKind rule kind.Amount value = IsAmount value
+IsOfKind rule (kind.Term t) value = IsTerm (is_ppm t rule) value
 
--- the value in a column of a row that is in range is one of its kind, by the rule before it
-pub in_column_under : (rule : ℕ) (kinds : List Kind) (values : List ℕ) → IsRow rule kinds values → (place : ℕ) (k : Kind) → place < length kinds → slice_index_or kinds place kind.Id ≡ k → in_range (under (rule_at rule kinds values place) k) (column place values) ≡ Ok (column place values)
-unfolding IsRow
-in_column_under rule [] values row place k below is = absurd (omega arith)
-in_column_under rule (first ∷ kinds) [] row place k below is = absurd row
-in_column_under rule (first ∷ kinds) (value ∷ values) row zero k below is = subst (λ x. in_range (under rule x) value ≡ Ok value) is row.0
-in_column_under rule (first ∷ kinds) (value ∷ values) row (suc place) k below is = in_column_under (rule_after rule first value) kinds values row.1 place k (omega arith) is
+-- a calculation rule is known
+is_known : (value : ℕ) (known : Bool) → is_rule_number value ≡ known → (if known then Ok value else Err cause.Rule) ≡ Ok value → is_rule_number value ≡ true
+is_known value true e h = e
+is_known value false e h = cc
 
--- a value of a kind that no rule changes
-pub in_column : (rule : ℕ) (kinds : List Kind) (values : List ℕ) → IsRow rule kinds values → (place : ℕ) (k : Kind) → place < length kinds → slice_index_or kinds place kind.Id ≡ k → ((r : ℕ) → under r k ≡ k) → in_range k (column place values) ≡ Ok (column place values)
-in_column rule kinds values row place k below is fixed = subst (λ x. in_range x (column place values) ≡ Ok (column place values)) (fixed (rule_at rule kinds values place)) (in_column_under rule kinds values row place k below is)
-
--- an id
-pub is_id : (value : ℕ) → in_range kind.Id value ≡ Ok value → IsId value
+-- a value that is in the range of its kind is one
+of_kind : (rule : ℕ) (k : Kind) (value : ℕ) → in_range (under rule k) value ≡ Ok value → IsOfKind rule k value
 unfolding in_range
-is_id value is = let b = bounds 1 2147483647 value is in record { least = b.above; most = b.below }
-
--- a count
-pub is_count : (value : ℕ) → in_range kind.Count value ≡ Ok value → IsCount value
-unfolding in_range
-is_count value is = (bounds 0 2147483647 value is).below
-
--- parts per million
-pub is_part : (value : ℕ) → in_range kind.Ppm value ≡ Ok value → IsPart value
-unfolding in_range
-is_part value is = (bounds 0 1000000 value is).below
-
--- an intensity bin
-pub intensity : (value : ℕ) → in_range kind.IntensityBin value ≡ Ok value → AreBounds 1 10000 value
-unfolding in_range
-intensity value is = bounds 1 10000 value is
-
--- a damage bin
-pub damage : (value : ℕ) → in_range kind.DamageBin value ≡ Ok value → AreBounds 1 1000 value
-unfolding in_range
-damage value is = bounds 1 1000 value is
-
--- an insured value
-pub insured : (value : ℕ) → in_range kind.Tiv value ≡ Ok value → value ≤ 100000000000000
-unfolding in_range
-insured value is = (bounds 0 (10 ^ 14) value is).below
-
--- an amount
-pub is_amount : (value : ℕ) → in_range kind.Amount value ≡ Ok value → IsAmount value
-unfolding in_range
-is_amount value is = (bounds 0 (10 ^ 17) value is).below
-
--- a place or a size in a file
-pub is_offset : (value : ℕ) → in_range kind.Offset value ≡ Ok value → IsOffset value
-unfolding in_range
-is_offset value is = (bounds 0 (2 ^ 40) value is).below
-
--- a level
-pub is_level : (value : ℕ) → in_range kind.Level value ≡ Ok value → IsLevel value
-unfolding in_range
-is_level value is = let b = bounds 1 12 value is in record { least = b.above; most = b.below }
-
--- a layer
-pub is_layer : (value : ℕ) → in_range kind.Layer value ≡ Ok value → IsLayer value
-unfolding in_range
-is_layer value is = let b = bounds 1 50 value is in record { least = b.above; most = b.below }
-
--- a set of summaries
-pub is_set : (value : ℕ) → in_range kind.SummarySet value ≡ Ok value → IsSet value
-unfolding in_range
-is_set value is = let b = bounds 1 9 value is in record { least = b.above; most = b.below }
-
--- a calculation rule
-pub is_known : (value : ℕ) → in_range kind.Rule value ≡ Ok value → is_rule_number value ≡ true
-unfolding in_range
-is_known value is = by_test (is_rule_number value) refl is
-  where
-    by_test : (known : Bool) → is_rule_number value ≡ known → (if known then Ok value else Err cause.Rule) ≡ Ok value → is_rule_number value ≡ true
-    by_test true e h = e
-    by_test false e h = cc
-
--- a term by its rule
-pub is_term : (t : Term) (rule value : ℕ) → in_range (under rule (kind.Term t)) value ≡ Ok value → IsTerm (is_ppm t rule) value
-is_term t rule value is = by_test (is_ppm t rule) is
+of_kind rule kind.Id value is = let b = bounds 1 2147483647 value is in record { least = b.above; most = b.below }
+of_kind rule kind.Level value is = let b = bounds 1 12 value is in record { least = b.above; most = b.below }
+of_kind rule kind.Layer value is = let b = bounds 1 50 value is in record { least = b.above; most = b.below }
+of_kind rule kind.SummarySet value is = let b = bounds 1 9 value is in record { least = b.above; most = b.below }
+of_kind rule kind.Count value is = (bounds 0 2147483647 value is).below
+of_kind rule kind.Ppm value is = (bounds 0 1000000 value is).below
+of_kind rule kind.Offset value is = (bounds 0 (2 ^ 40) value is).below
+of_kind rule kind.Tiv value is = (bounds 0 (10 ^ 14) value is).below
+of_kind rule kind.Amount value is = (bounds 0 (10 ^ 17) value is).below
+of_kind rule kind.IntensityBin value is = bounds 1 10000 value is
+of_kind rule kind.DamageBin value is = bounds 1 1000 value is
+of_kind rule kind.Rule value is = is_known value (is_rule_number value) refl is
+of_kind rule (kind.Term t) value is = by_test (is_ppm t rule) is
   where
     by_test : (part : Bool) → in_range (if part then kind.Ppm else kind.Amount) value ≡ Ok value → IsTerm part value
-    by_test true h = is_part value h
-    by_test false h = is_amount value h
+    by_test true h = (bounds 0 1000000 value h).below
+    by_test false h = (bounds 0 (10 ^ 17) value h).below
+
+-- the values of the columns from a place on are those of their kinds
+abbrev pub AreOfKinds : ℕ → ℕ → List Kind → (ℕ → ℕ) → Type 0
+AreOfKinds rule place [] at = Unit {0}
+AreOfKinds rule place (k ∷ kinds) at = IsOfKind rule k (at place) × AreOfKinds (rule_after rule k (at place)) (place + 1) kinds at
+
+-- so are the values of a row in range
+row_of_kinds : (rule place : ℕ) (kinds : List Kind) (values : List ℕ) (at : ℕ → ℕ) → ((n : ℕ) → at (place + n) ≡ column n values) → IsRow rule kinds values → AreOfKinds rule place kinds at
+unfolding IsRow
+row_of_kinds rule place [] values at same row = tt
+row_of_kinds rule place (k ∷ kinds) [] at same row = absurd row
+row_of_kinds rule place (k ∷ kinds) (value ∷ values) at same row =
+    let here : value ≡ at place = sym (ap at (sym (add-zero place)) ∙ same 0) in
+    subst (λ v. IsOfKind rule k v × AreOfKinds (rule_after rule k v) (place + 1) kinds at) here
+    (of_kind rule k value row.0, row_of_kinds (rule_after rule k value) (place + 1) kinds values at (λ n. ap at (later n) ∙ same (suc n)) row.1)
+  where
+    later : (n : ℕ) → place + 1 + n ≡ place + suc n
+    later n = omega arith
+
+-- the columns of a row in range
+pub columns : (kinds : List Kind) (values : List ℕ) → IsRow 0 kinds values → AreOfKinds 0 0 kinds (λ place. column place values)
+columns kinds values row = row_of_kinds 0 0 kinds values (λ place. column place values) (λ n. ap (λ place. column place values) (zero-add n)) row
 
 -- rows made of rows of numbers in range
 pub all_made : {A : Type 0} (kinds : List Kind) (of : List ℕ → A) (P : A → Type 0) → ((values : List ℕ) → IsRow 0 kinds values → P (of values)) → (rows : List (List ℕ)) → AreRows kinds rows → All P (map of rows)

@@ -18,7 +18,7 @@ use Rattle.kt_load.specs.declared.stop.LoadStop.{LoadStop}
 use Rattle.kt_load.specs.declared.stop.LoadStop.TheVariants as end
 use Rattle.kt_load.specs.Ends.{IsFront, IsTableEnd, TellsLoad, bytes_wanted}
 use Rattle.kt_load.specs.FileNames.{file_name_of}
-use Rattle.kt_load.specs.Reading.{file_limit, go_on, with_read, with_size, with_file}
+use Rattle.kt_load.specs.Reading.{file_limit, go_on, with_read, with_size, with_table_file}
 use Rattle.kt_load.specs.Steps.{KeepsRows, NoneOutside}
 use Rattle.kt_load.proofs.HeaderLemmas.{front-loads}
 use Rattle.kt_load.proofs.OutsideLemmas.{outside-with_rows, outside-with_size}
@@ -45,17 +45,17 @@ bytes_of files name t size front found is = by_file (files name) refl found is.k
     }
 
 -- a file within the limit gives the rows that are loaded of it
-file_gives : (rows : Rows) (id : TableId) (bytes : List ℕ) → length bytes ≤ file_limit → with_file rows id (Some bytes) ≡ go_on (with_read rows id (loaded_rows id.table bytes)) (λ read. Ok (with_size read id.table (length bytes)))
+file_gives : (rows : Rows) (id : TableId) (bytes : List ℕ) → length bytes ≤ file_limit → with_table_file rows id (Some bytes) ≡ go_on (with_read rows id (loaded_rows id.table bytes)) (λ read. Ok (with_size read id.table (length bytes)))
 file_gives rows id bytes small = ap (λ b. if b then Err (end.TooLarge (file_name_of id)) else go_on (with_read rows id (loaded_rows id.table bytes)) (λ read. Ok (with_size read id.table (length bytes)))) (le-ltb file_limit (length bytes) small)
 
 -- the table was read
-pub reads-table : (held : Option FileMap) (id : TableId) (name : List ℕ) (size : ℕ) (front : List ℕ) (old mid new : Tables) → name ≡ file_name_of id → size ≤ file_limit → FindsSize held name (Ok size) → IsFront held name (bytes_wanted id.table size) front → Loads id front old mid → rows_of new ≡ with_size (rows_of mid) id.table size → IfSome held (λ files. with_file (rows_of old) id (files (file_name_of id)) ≡ Ok (rows_of new))
+pub reads-table : (held : Option FileMap) (id : TableId) (name : List ℕ) (size : ℕ) (front : List ℕ) (old mid new : Tables) → name ≡ file_name_of id → size ≤ file_limit → FindsSize held name (Ok size) → IsFront held name (bytes_wanted id.table size) front → Loads id front old mid → rows_of new ≡ with_size (rows_of mid) id.table size → IfSome held (λ files. with_table_file (rows_of old) id (files (file_name_of id)) ≡ Ok (rows_of new))
 reads-table None id name size front old mid new named small found is loads sized = tt
 reads-table (Some files) id name size front old mid new named small found is loads sized =
     let file = bytes_of files name id.table size front found is in
     let has = loads-rows_at id.table id.stage front old mid loads in
-    ap (λ n. with_file (rows_of old) id (files n)) (sym named)
-    ∙ ap (with_file (rows_of old) id) file.holds
+    ap (λ n. with_table_file (rows_of old) id (files n)) (sym named)
+    ∙ ap (with_table_file (rows_of old) id) file.holds
     ∙ file_gives (rows_of old) id file.bytes (subst (λ n. n ≤ file_limit) file.size_is small)
     ∙ ap (λ r. go_on (with_read (rows_of old) id r) (λ read. Ok (with_size read id.table (length file.bytes)))) (sym file.loads ∙ has.read)
     ∙ ap (λ r. Ok (with_size r id.table (length file.bytes))) (sym has.becomes)
@@ -75,34 +75,30 @@ keeps-table id size front old mid new is loads sized =
     }
 
 -- the file is not that of its table
-is_refused : (held : Option FileMap) (rows : Rows) (id : TableId) (name : List ℕ) (size : ℕ) (front : List ℕ) (why : TableStop) → name ≡ file_name_of id → size ≤ file_limit → FindsSize held name (Ok size) → IsFront held name (bytes_wanted id.table size) front → loaded_rows id.table front ≡ Err why → IfSome held (λ files. with_file rows id (files (file_name_of id)) ≡ Err (end.Table name why))
+is_refused : (held : Option FileMap) (rows : Rows) (id : TableId) (name : List ℕ) (size : ℕ) (front : List ℕ) (why : TableStop) → name ≡ file_name_of id → size ≤ file_limit → FindsSize held name (Ok size) → IsFront held name (bytes_wanted id.table size) front → loaded_rows id.table front ≡ Err why → IfSome held (λ files. with_table_file rows id (files (file_name_of id)) ≡ Err (end.Table name why))
 is_refused None rows id name size front why named small found is refused = tt
 is_refused (Some files) rows id name size front why named small found is refused =
     let file = bytes_of files name id.table size front found is in
-    ap (λ n. with_file rows id (files n)) (sym named)
-    ∙ ap (with_file rows id) file.holds
+    ap (λ n. with_table_file rows id (files n)) (sym named)
+    ∙ ap (with_table_file rows id) file.holds
     ∙ file_gives rows id file.bytes (subst (λ n. n ≤ file_limit) file.size_is small)
     ∙ ap (λ r. go_on (with_read rows id r) (λ read. Ok (with_size read id.table (length file.bytes)))) (sym file.loads ∙ refused)
     ∙ ap (λ n. Err (end.Table n why)) (sym named)
 
 -- the reading tells so
-tells_end : (held : Option FileMap) (rows : Rows) (id : TableId) (name : List ℕ) (why : TableStop) (answer : LoadStop) → answer ≡ end.Table name why → IfSome held (λ files. with_file rows id (files (file_name_of id)) ≡ Err (end.Table name why)) → IfSome held (λ files. TellsLoad (with_file rows id (files (file_name_of id))) answer)
+tells_end : (held : Option FileMap) (rows : Rows) (id : TableId) (name : List ℕ) (why : TableStop) (answer : LoadStop) → answer ≡ end.Table name why → IfSome held (λ files. with_table_file rows id (files (file_name_of id)) ≡ Err (end.Table name why)) → IfSome held (λ files. TellsLoad (with_table_file rows id (files (file_name_of id))) answer)
 tells_end None rows id name why answer is refused = tt
-tells_end (Some files) rows id name why answer is refused = subst (TellsLoad (with_file rows id (files (file_name_of id)))) (sym is) refused
+tells_end (Some files) rows id name why answer is refused = subst (TellsLoad (with_table_file rows id (files (file_name_of id)))) (sym is) refused
 
 -- want of memory tells nothing
-tells_nothing : (held : Option FileMap) (rows : Rows) (id : TableId) (answer : LoadStop) → answer ≡ end.OutOfMemory → IfSome held (λ files. TellsLoad (with_file rows id (files (file_name_of id))) answer)
+tells_nothing : (held : Option FileMap) (rows : Rows) (id : TableId) (answer : LoadStop) → answer ≡ end.OutOfMemory → IfSome held (λ files. TellsLoad (with_table_file rows id (files (file_name_of id))) answer)
 tells_nothing None rows id answer is = tt
-tells_nothing (Some files) rows id answer is = subst (TellsLoad (with_file rows id (files (file_name_of id)))) (sym is) tt
+tells_nothing (Some files) rows id answer is = subst (TellsLoad (with_table_file rows id (files (file_name_of id)))) (sym is) tt
 
 -- how a table that is refused ends the reading
-pub refuses-table : (held : Option FileMap) (rows : Rows) (id : TableId) (name : List ℕ) (size : ℕ) (front : List ℕ) (why : TableStop) (answer : LoadStop) → name ≡ file_name_of id → size ≤ file_limit → FindsSize held name (Ok size) → IsFront held name (bytes_wanted id.table size) front → Tells (loaded_rows id.table front) why → IsTableEnd name why answer → IfSome held (λ files. TellsLoad (with_file rows id (files (file_name_of id))) answer)
+pub refuses-table : (held : Option FileMap) (rows : Rows) (id : TableId) (name : List ℕ) (size : ℕ) (front : List ℕ) (why : TableStop) (answer : LoadStop) → name ≡ file_name_of id → size ≤ file_limit → FindsSize held name (Ok size) → IsFront held name (bytes_wanted id.table size) front → Tells (loaded_rows id.table front) why → IsTableEnd name why answer → IfSome held (λ files. TellsLoad (with_table_file rows id (files (file_name_of id))) answer)
 refuses-table held rows id name size front stop.OutOfMemory answer named small found is tells ends = tells_nothing held rows id answer ends
-refuses-table held rows id name size front stop.NotProfile answer named small found is tells ends = tells_end held rows id name stop.NotProfile answer ends (is_refused held rows id name size front stop.NotProfile named small found is tells)
-refuses-table held rows id name size front (stop.WrongTable other) answer named small found is tells ends = tells_end held rows id name (stop.WrongTable other) answer ends (is_refused held rows id name size front (stop.WrongTable other) named small found is tells)
-refuses-table held rows id name size front (stop.WrongVersion other) answer named small found is tells ends = tells_end held rows id name (stop.WrongVersion other) answer ends (is_refused held rows id name size front (stop.WrongVersion other) named small found is tells)
-refuses-table held rows id name size front (stop.CutRecord row) answer named small found is tells ends = tells_end held rows id name (stop.CutRecord row) answer ends (is_refused held rows id name size front (stop.CutRecord row) named small found is tells)
-refuses-table held rows id name size front (stop.Bad row column cause) answer named small found is tells ends = tells_end held rows id name (stop.Bad row column cause) answer ends (is_refused held rows id name size front (stop.Bad row column cause) named small found is tells)
+refuses-table held rows id name size front why answer named small found is tells ends = tells_end held rows id name why answer ends (is_refused held rows id name size front why named small found is tells)
 
 -- the front that was read, of the file that was meant
 pub same-front : {held now : Option FileMap} {name given : List ℕ} {wanted asked : ℕ} {front : List ℕ} → now ≡ held → given ≡ name → asked ≡ wanted → IsFront now given asked front → IsFront held name wanted front

@@ -1,191 +1,76 @@
 -- The rows of each table are in range, and stay so with those of one more table.
-use Rattle.std.proofs.Common.{◌≡◌, ◌≤◌, ◌<◌, ℕ, List, [], ◌∷◌, length, refl, Ok, Err, arith, subst, sym, Bool, true, false}
-use Rattle.std.specs.Prelude.{slice_index_or, All, IfOk, nat_lt, not, ◌==◌, if◌then◌else◌, drop, Result}
+use Rattle.std.proofs.Common.{◌≡◌, ℕ, List, length, refl, Ok, Err, arith, subst, Bool, true, false}
+use Rattle.std.specs.Prelude.{IfOk, nat_lt, not, ◌==◌, if◌then◌else◌, drop, Result}
 use Rattle.byteorder.specs.Endian.{little_number}
-use Rattle.std.proofs.lemmas.Bool.{ltb-true, ltb-false}
-use Rattle.std.proofs.lemmas.List.{get_or_past}
+use Rattle.std.proofs.lemmas.Bool.{ltb-false}
 use Rattle.std.proofs.lemmas.List.Elements.{All-set}
-use Rattle.kt_rec.specs.Ranges.{AreInRange, IsId, IsPart, IsItem, IsCoverage, IsFootprintIdx, IsVulnerability, IsDamageBin, IsFmProgramme, IsFmPolicytc, IsFmProfile, IsFmXref, IsGulSummaryXref, IsFmSummaryXref, IsOccurrence, IsTerm, AreFinancial, ArePeriods}
-use Rattle.kt_rec.specs.Rows.{Rows, FinancialRows, financial_at, no_financial_rows}
+use Rattle.kt_rec.specs.Ranges.{AreInRange, IsId, IsPart, IsItem, IsCoverage, IsFootprintIdx, IsVulnerability, IsDamageBin, IsFmProgramme, IsFmPolicytc, IsFmProfile, IsFmXref, IsGulSummaryXref, IsFmSummaryXref, IsOccurrence, AreFinancial, ArePeriods}
+use Rattle.kt_rec.specs.Rows.{Rows, FinancialRows}
 use Rattle.kt_rec.specs.declared.table.Table.{Table}
 use Rattle.kt_rec.specs.declared.table.Table.TheVariants as table
 use Rattle.kt_rec.specs.TableNames.{number_of}
 use Rattle.kt_cells.specs.Header.{header_extra, header_width, mark, number_at, version}
-use Rattle.kt_cells.specs.Kinds.{is_ppm, within}
+use Rattle.kt_cells.specs.Kinds.{within}
 use Rattle.kt_cells.specs.Ranges.{IsRow}
-use Rattle.kt_cells.specs.declared.kind.Kind.{Kind}
-use Rattle.kt_cells.specs.declared.kind.Kind.TheVariants as kind
-use Rattle.kt_cells.specs.declared.kind.Term.TheVariants as term
 use Rattle.kt_cells.specs.Reading.{and_then, at_place}
 use Rattle.kt_cells.specs.Records.{record_rows}
 use Rattle.kt_cells.specs.declared.stop.Cause.TheVariants as cause
 use Rattle.kt_cells.specs.declared.stop.TableStop.{TableStop}
 use Rattle.kt_cells.specs.declared.stop.TableStop.TheVariants as stop
+use Rattle.kt_checks.specs.FinancialRanges.{financial_ranges}
 use Rattle.kt_schema.specs.Loading.{RowsInRange, loaded_rows}
 use Rattle.kt_schema.specs.Tables.{kinds_of}
 use Rattle.kt_load.specs.Reading.{with_size}
-use Rattle.kt_load.specs.Typed.{column, event_of, item_of, coverage_of, footprint_idx_of, vulnerability_of, damage_bin_of, random_of, fm_programme_of, fm_policytc_of, fm_profile_of, fm_xref_of, gul_summary_xref_of, fm_summary_xref_of, occurrence_of, return_period_of, with_financial, with_rows}
-use Rattle.kt_load.proofs.RangeLemmas.{AreBounds, in_column, in_column_under, is_id, is_count, is_part, intensity, damage, insured, is_amount, is_offset, is_level, is_layer, is_set, is_known, is_term, rule_at, all_made}
-
--- the columns of a row, by their kinds
-module _ (kinds : List Kind) (values : List ℕ) (row : IsRow 0 kinds values) (place : ℕ) (below : place < length kinds) where
-  id_in : slice_index_or kinds place kind.Id ≡ kind.Id → IsId (column place values)
-  id_in is = is_id (column place values) (in_column 0 kinds values row place kind.Id below is (λ r. refl))
-
-  count_in : slice_index_or kinds place kind.Id ≡ kind.Count → column place values ≤ 2147483647
-  count_in is = is_count (column place values) (in_column 0 kinds values row place kind.Count below is (λ r. refl))
-
-  part_in : slice_index_or kinds place kind.Id ≡ kind.Ppm → IsPart (column place values)
-  part_in is = is_part (column place values) (in_column 0 kinds values row place kind.Ppm below is (λ r. refl))
+use Rattle.kt_load.specs.Typed.{event_of, item_of, coverage_of, footprint_idx_of, vulnerability_of, damage_bin_of, random_of, fm_programme_of, fm_policytc_of, fm_profile_of, fm_xref_of, gul_summary_xref_of, fm_summary_xref_of, occurrence_of, return_period_of, with_financial, with_rows}
+use Rattle.kt_load.proofs.RangeLemmas.{AreBounds, columns, all_made}
 
 -- an item
 item_made : (values : List ℕ) → IsRow 0 (kinds_of table.Items) values → IsItem (item_of values)
-item_made values row = record {
-  item_id = id_in (kinds_of table.Items) values row 0 (omega arith) refl;
-  coverage_id = id_in (kinds_of table.Items) values row 1 (omega arith) refl;
-  areaperil_id = id_in (kinds_of table.Items) values row 2 (omega arith) refl;
-  vulnerability_id = id_in (kinds_of table.Items) values row 3 (omega arith) refl;
-  group_id = id_in (kinds_of table.Items) values row 4 (omega arith) refl;
-}
+item_made values row = let c = columns (kinds_of table.Items) values row in record { item_id = c.0; coverage_id = c.1.0; areaperil_id = c.1.1.0; vulnerability_id = c.1.1.1.0; group_id = c.1.1.1.1.0 }
 
 -- a coverage
 coverage_made : (values : List ℕ) → IsRow 0 (kinds_of table.Coverages) values → IsCoverage (coverage_of values)
-coverage_made values row = record {
-  coverage_id = id_in (kinds_of table.Coverages) values row 0 (omega arith) refl;
-  tiv = insured (column 1 values) (in_column 0 (kinds_of table.Coverages) values row 1 kind.Tiv (omega arith) refl (λ r. refl));
-}
+coverage_made values row = let c = columns (kinds_of table.Coverages) values row in record { coverage_id = c.0; tiv = c.1.0 }
 
 -- a row of the index of the footprint
 footprint_idx_made : (values : List ℕ) → IsRow 0 (kinds_of table.FootprintIdx) values → IsFootprintIdx (footprint_idx_of values)
-footprint_idx_made values row = record {
-  event_id = id_in (kinds_of table.FootprintIdx) values row 0 (omega arith) refl;
-  offset = is_offset (column 1 values) (in_column 0 (kinds_of table.FootprintIdx) values row 1 kind.Offset (omega arith) refl (λ r. refl));
-  size = is_offset (column 2 values) (in_column 0 (kinds_of table.FootprintIdx) values row 2 kind.Offset (omega arith) refl (λ r. refl));
-}
+footprint_idx_made values row = let c = columns (kinds_of table.FootprintIdx) values row in record { event_id = c.0; offset = c.1.0; size = c.1.1.0 }
 
 -- a row of vulnerability
 vulnerability_made : (values : List ℕ) → IsRow 0 (kinds_of table.Vulnerability) values → IsVulnerability (vulnerability_of values)
-vulnerability_made values row =
-    let bin = intensity (column 1 values) (in_column 0 (kinds_of table.Vulnerability) values row 1 kind.IntensityBin (omega arith) refl (λ r. refl)) in
-    let hit = damage (column 2 values) (in_column 0 (kinds_of table.Vulnerability) values row 2 kind.DamageBin (omega arith) refl (λ r. refl)) in
-    record {
-      vulnerability_id = id_in (kinds_of table.Vulnerability) values row 0 (omega arith) refl;
-      least_intensity = bin.above;
-      most_intensity = bin.below;
-      least_damage = hit.above;
-      most_damage = hit.below;
-      prob = part_in (kinds_of table.Vulnerability) values row 3 (omega arith) refl;
-    }
+vulnerability_made values row = let c = columns (kinds_of table.Vulnerability) values row in record { vulnerability_id = c.0; least_intensity = c.1.0.above; most_intensity = c.1.0.below; least_damage = c.1.1.0.above; most_damage = c.1.1.0.below; prob = c.1.1.1.0 }
 
 -- a damage bin
 damage_bin_made : (values : List ℕ) → IsRow 0 (kinds_of table.DamageBinDict) values → IsDamageBin (damage_bin_of values)
-damage_bin_made values row =
-    let bin = damage (column 0 values) (in_column 0 (kinds_of table.DamageBinDict) values row 0 kind.DamageBin (omega arith) refl (λ r. refl)) in
-    record {
-      least_index = bin.above;
-      most_index = bin.below;
-      bin_from = part_in (kinds_of table.DamageBinDict) values row 1 (omega arith) refl;
-      bin_to = part_in (kinds_of table.DamageBinDict) values row 2 (omega arith) refl;
-      interpolation = part_in (kinds_of table.DamageBinDict) values row 3 (omega arith) refl;
-      interval_type = count_in (kinds_of table.DamageBinDict) values row 4 (omega arith) refl;
-    }
+damage_bin_made values row = let c = columns (kinds_of table.DamageBinDict) values row in record { least_index = c.0.above; most_index = c.0.below; bin_from = c.1.0; bin_to = c.1.1.0; interpolation = c.1.1.1.0; interval_type = c.1.1.1.1.0 }
 
 -- a row of a programme
 programme_made : (values : List ℕ) → IsRow 0 (kinds_of table.FmProgramme) values → IsFmProgramme (fm_programme_of values)
-programme_made values row = record {
-  from_agg_id = id_in (kinds_of table.FmProgramme) values row 0 (omega arith) refl;
-  level_id = is_level (column 1 values) (in_column 0 (kinds_of table.FmProgramme) values row 1 kind.Level (omega arith) refl (λ r. refl));
-  to_agg_id = id_in (kinds_of table.FmProgramme) values row 2 (omega arith) refl;
-}
+programme_made values row = let c = columns (kinds_of table.FmProgramme) values row in record { from_agg_id = c.0; level_id = c.1.0; to_agg_id = c.1.1.0 }
 
 -- a row that gives a unit its terms
 policytc_made : (values : List ℕ) → IsRow 0 (kinds_of table.FmPolicytc) values → IsFmPolicytc (fm_policytc_of values)
-policytc_made values row = record {
-  layer_id = is_layer (column 0 values) (in_column 0 (kinds_of table.FmPolicytc) values row 0 kind.Layer (omega arith) refl (λ r. refl));
-  level_id = is_level (column 1 values) (in_column 0 (kinds_of table.FmPolicytc) values row 1 kind.Level (omega arith) refl (λ r. refl));
-  agg_id = id_in (kinds_of table.FmPolicytc) values row 2 (omega arith) refl;
-  policytc_id = id_in (kinds_of table.FmPolicytc) values row 3 (omega arith) refl;
-}
-
--- the rule of a row of terms stands before its first deductible
-rule_of_deductible : (values : List ℕ) → rule_at 0 (kinds_of table.FmProfile) values 2 ≡ column 1 values
-rule_of_deductible [] = refl
-rule_of_deductible (policytc ∷ []) = refl
-rule_of_deductible (policytc ∷ (rule ∷ terms)) = refl
-
--- and before its limit
-rule_of_limit : (values : List ℕ) → rule_at 0 (kinds_of table.FmProfile) values 6 ≡ column 1 values
-rule_of_limit [] = refl
-rule_of_limit (policytc ∷ []) = refl
-rule_of_limit (policytc ∷ (rule ∷ [])) = refl
-rule_of_limit (policytc ∷ (rule ∷ (one ∷ []))) = refl
-rule_of_limit (policytc ∷ (rule ∷ (one ∷ (two ∷ [])))) = refl
-rule_of_limit (policytc ∷ (rule ∷ (one ∷ (two ∷ (three ∷ []))))) = refl
-rule_of_limit (policytc ∷ (rule ∷ (one ∷ (two ∷ (three ∷ (attachment ∷ terms)))))) = refl
+policytc_made values row = let c = columns (kinds_of table.FmPolicytc) values row in record { layer_id = c.0; level_id = c.1.0; agg_id = c.1.1.0; policytc_id = c.1.1.1.0 }
 
 -- the terms of a policy
 profile_made : (values : List ℕ) → IsRow 0 (kinds_of table.FmProfile) values → IsFmProfile (fm_profile_of values)
-profile_made values row = record {
-  policytc_id = id_in (kinds_of table.FmProfile) values row 0 (omega arith) refl;
-  calcrule_id = is_known (column 1 values) (in_column 0 (kinds_of table.FmProfile) values row 1 kind.Rule (omega arith) refl (λ r. refl));
-  deductible1 = subst (λ r. IsTerm (is_ppm term.Deductible r) (column 2 values)) (rule_of_deductible values) (is_term term.Deductible (rule_at 0 (kinds_of table.FmProfile) values 2) (column 2 values) (in_column_under 0 (kinds_of table.FmProfile) values row 2 (kind.Term term.Deductible) (omega arith) refl));
-  deductible2 = is_amount (column 3 values) (in_column 0 (kinds_of table.FmProfile) values row 3 kind.Amount (omega arith) refl (λ r. refl));
-  deductible3 = is_amount (column 4 values) (in_column 0 (kinds_of table.FmProfile) values row 4 kind.Amount (omega arith) refl (λ r. refl));
-  attachment1 = is_amount (column 5 values) (in_column 0 (kinds_of table.FmProfile) values row 5 kind.Amount (omega arith) refl (λ r. refl));
-  limit1 = subst (λ r. IsTerm (is_ppm term.Limit r) (column 6 values)) (rule_of_limit values) (is_term term.Limit (rule_at 0 (kinds_of table.FmProfile) values 6) (column 6 values) (in_column_under 0 (kinds_of table.FmProfile) values row 6 (kind.Term term.Limit) (omega arith) refl));
-  share1 = part_in (kinds_of table.FmProfile) values row 7 (omega arith) refl;
-  share2 = part_in (kinds_of table.FmProfile) values row 8 (omega arith) refl;
-  share3 = part_in (kinds_of table.FmProfile) values row 9 (omega arith) refl;
-}
+profile_made values row = let c = columns (kinds_of table.FmProfile) values row in record { policytc_id = c.0; calcrule_id = c.1.0; deductible1 = c.1.1.0; deductible2 = c.1.1.1.0; deductible3 = c.1.1.1.1.0; attachment1 = c.1.1.1.1.1.0; limit1 = c.1.1.1.1.1.1.0; share1 = c.1.1.1.1.1.1.1.0; share2 = c.1.1.1.1.1.1.1.1.0; share3 = c.1.1.1.1.1.1.1.1.1.0 }
 
 -- an output
 xref_made : (values : List ℕ) → IsRow 0 (kinds_of table.FmXref) values → IsFmXref (fm_xref_of values)
-xref_made values row = record {
-  output_id = id_in (kinds_of table.FmXref) values row 0 (omega arith) refl;
-  agg_id = id_in (kinds_of table.FmXref) values row 1 (omega arith) refl;
-  layer_id = is_layer (column 2 values) (in_column 0 (kinds_of table.FmXref) values row 2 kind.Layer (omega arith) refl (λ r. refl));
-}
+xref_made values row = let c = columns (kinds_of table.FmXref) values row in record { output_id = c.0; agg_id = c.1.0; layer_id = c.1.1.0 }
 
 -- the summary of an item
 item_summary_made : (values : List ℕ) → IsRow 0 (kinds_of table.GulSummaryXref) values → IsGulSummaryXref (gul_summary_xref_of values)
-item_summary_made values row = record {
-  item_id = id_in (kinds_of table.GulSummaryXref) values row 0 (omega arith) refl;
-  summary_id = id_in (kinds_of table.GulSummaryXref) values row 1 (omega arith) refl;
-  summaryset_id = is_set (column 2 values) (in_column 0 (kinds_of table.GulSummaryXref) values row 2 kind.SummarySet (omega arith) refl (λ r. refl));
-}
+item_summary_made values row = let c = columns (kinds_of table.GulSummaryXref) values row in record { item_id = c.0; summary_id = c.1.0; summaryset_id = c.1.1.0 }
 
 -- the summary of an output
 output_summary_made : (values : List ℕ) → IsRow 0 (kinds_of table.FmSummaryXref) values → IsFmSummaryXref (fm_summary_xref_of values)
-output_summary_made values row = record {
-  output_id = id_in (kinds_of table.FmSummaryXref) values row 0 (omega arith) refl;
-  summary_id = id_in (kinds_of table.FmSummaryXref) values row 1 (omega arith) refl;
-  summaryset_id = is_set (column 2 values) (in_column 0 (kinds_of table.FmSummaryXref) values row 2 kind.SummarySet (omega arith) refl (λ r. refl));
-}
+output_summary_made values row = let c = columns (kinds_of table.FmSummaryXref) values row in record { output_id = c.0; summary_id = c.1.0; summaryset_id = c.1.1.0 }
 
 -- an occurrence
 occurrence_made : (values : List ℕ) → IsRow 0 (kinds_of table.Occurrence) values → IsOccurrence (occurrence_of values)
-occurrence_made values row = record {
-  event_id = id_in (kinds_of table.Occurrence) values row 0 (omega arith) refl;
-  period_no = id_in (kinds_of table.Occurrence) values row 1 (omega arith) refl;
-  occ_year = count_in (kinds_of table.Occurrence) values row 2 (omega arith) refl;
-  occ_month = count_in (kinds_of table.Occurrence) values row 3 (omega arith) refl;
-  occ_day = count_in (kinds_of table.Occurrence) values row 4 (omega arith) refl;
-}
-
--- nothing is out of range where there is nothing
-none : {A : Type 0} (P : A → Type 0) → All P []
-none P = λ k d below. absurd (omega arith)
-
-no_financial : AreFinancial no_financial_rows
-no_financial = record { programme = none IsFmProgramme; policytc = none IsFmPolicytc; profile = none IsFmProfile }
-
--- the financial rows of the base or of a stage are in range
-financial_in_range : (rows : Rows) (stage : ℕ) → AreInRange rows → AreFinancial (financial_at rows stage)
-financial_in_range rows stage h = by_place (nat_lt stage (length rows.financial)) refl
-  where
-    by_place : (inside : Bool) → nat_lt stage (length rows.financial) ≡ inside → AreFinancial (financial_at rows stage)
-    by_place true is = h.financial stage no_financial_rows (ltb-true stage (length rows.financial) is)
-    by_place false is = subst AreFinancial (sym (get_or_past rows.financial stage no_financial_rows (ltb-false stage (length rows.financial) is))) no_financial
+occurrence_made values row = let c = columns (kinds_of table.Occurrence) values row in record { event_id = c.0; period_no = c.1.0; occ_year = c.1.1.0; occ_month = c.1.1.1.0; occ_day = c.1.1.1.1.0 }
 
 -- rows in range stay so with other financial rows that are
 with_financial-in_range : (rows : Rows) (stage : ℕ) (financial : FinancialRows) → AreFinancial financial → AreInRange rows → AreInRange (with_financial rows stage financial)
@@ -194,21 +79,21 @@ with_financial-in_range rows stage financial are h = record { events = h.events;
 -- rows in range stay so with those of one more table
 pub in_range-with_rows : (t : Table) (rows : Rows) (stage extra : ℕ) (values : List (List ℕ)) → RowsInRange t values → AreInRange rows → AreInRange (with_rows rows stage t extra values)
 in_range-with_rows table.Footprint rows stage extra values are h = h
-in_range-with_rows table.Events rows stage extra values are h = record { events = all_made (kinds_of table.Events) event_of (λ row. IsId row.event_id) (λ each row. id_in (kinds_of table.Events) each row 0 (omega arith) refl) values are; items = h.items; coverages = h.coverages; footprint_idx = h.footprint_idx; vulnerability = h.vulnerability; damage_bin_dict = h.damage_bin_dict; random = h.random; fm_xref = h.fm_xref; gulsummaryxref = h.gulsummaryxref; fmsummaryxref = h.fmsummaryxref; occurrence = h.occurrence; returnperiods = h.returnperiods; financial = h.financial }
+in_range-with_rows table.Events rows stage extra values are h = record { events = all_made (kinds_of table.Events) event_of (λ row. IsId row.event_id) (λ each row. (columns (kinds_of table.Events) each row).0) values are; items = h.items; coverages = h.coverages; footprint_idx = h.footprint_idx; vulnerability = h.vulnerability; damage_bin_dict = h.damage_bin_dict; random = h.random; fm_xref = h.fm_xref; gulsummaryxref = h.gulsummaryxref; fmsummaryxref = h.fmsummaryxref; occurrence = h.occurrence; returnperiods = h.returnperiods; financial = h.financial }
 in_range-with_rows table.Items rows stage extra values are h = record { events = h.events; items = all_made (kinds_of table.Items) item_of IsItem item_made values are; coverages = h.coverages; footprint_idx = h.footprint_idx; vulnerability = h.vulnerability; damage_bin_dict = h.damage_bin_dict; random = h.random; fm_xref = h.fm_xref; gulsummaryxref = h.gulsummaryxref; fmsummaryxref = h.fmsummaryxref; occurrence = h.occurrence; returnperiods = h.returnperiods; financial = h.financial }
 in_range-with_rows table.Coverages rows stage extra values are h = record { events = h.events; items = h.items; coverages = all_made (kinds_of table.Coverages) coverage_of IsCoverage coverage_made values are; footprint_idx = h.footprint_idx; vulnerability = h.vulnerability; damage_bin_dict = h.damage_bin_dict; random = h.random; fm_xref = h.fm_xref; gulsummaryxref = h.gulsummaryxref; fmsummaryxref = h.fmsummaryxref; occurrence = h.occurrence; returnperiods = h.returnperiods; financial = h.financial }
 in_range-with_rows table.FootprintIdx rows stage extra values are h = record { events = h.events; items = h.items; coverages = h.coverages; footprint_idx = all_made (kinds_of table.FootprintIdx) footprint_idx_of IsFootprintIdx footprint_idx_made values are; vulnerability = h.vulnerability; damage_bin_dict = h.damage_bin_dict; random = h.random; fm_xref = h.fm_xref; gulsummaryxref = h.gulsummaryxref; fmsummaryxref = h.fmsummaryxref; occurrence = h.occurrence; returnperiods = h.returnperiods; financial = h.financial }
 in_range-with_rows table.Vulnerability rows stage extra values are h = record { events = h.events; items = h.items; coverages = h.coverages; footprint_idx = h.footprint_idx; vulnerability = all_made (kinds_of table.Vulnerability) vulnerability_of IsVulnerability vulnerability_made values are; damage_bin_dict = h.damage_bin_dict; random = h.random; fm_xref = h.fm_xref; gulsummaryxref = h.gulsummaryxref; fmsummaryxref = h.fmsummaryxref; occurrence = h.occurrence; returnperiods = h.returnperiods; financial = h.financial }
 in_range-with_rows table.DamageBinDict rows stage extra values are h = record { events = h.events; items = h.items; coverages = h.coverages; footprint_idx = h.footprint_idx; vulnerability = h.vulnerability; damage_bin_dict = all_made (kinds_of table.DamageBinDict) damage_bin_of IsDamageBin damage_bin_made values are; random = h.random; fm_xref = h.fm_xref; gulsummaryxref = h.gulsummaryxref; fmsummaryxref = h.fmsummaryxref; occurrence = h.occurrence; returnperiods = h.returnperiods; financial = h.financial }
-in_range-with_rows table.Random rows stage extra values are h = record { events = h.events; items = h.items; coverages = h.coverages; footprint_idx = h.footprint_idx; vulnerability = h.vulnerability; damage_bin_dict = h.damage_bin_dict; random = all_made (kinds_of table.Random) random_of (λ row. IsPart row.random) (λ each row. part_in (kinds_of table.Random) each row 0 (omega arith) refl) values are; fm_xref = h.fm_xref; gulsummaryxref = h.gulsummaryxref; fmsummaryxref = h.fmsummaryxref; occurrence = h.occurrence; returnperiods = h.returnperiods; financial = h.financial }
+in_range-with_rows table.Random rows stage extra values are h = record { events = h.events; items = h.items; coverages = h.coverages; footprint_idx = h.footprint_idx; vulnerability = h.vulnerability; damage_bin_dict = h.damage_bin_dict; random = all_made (kinds_of table.Random) random_of (λ row. IsPart row.random) (λ each row. (columns (kinds_of table.Random) each row).0) values are; fm_xref = h.fm_xref; gulsummaryxref = h.gulsummaryxref; fmsummaryxref = h.fmsummaryxref; occurrence = h.occurrence; returnperiods = h.returnperiods; financial = h.financial }
 in_range-with_rows table.FmXref rows stage extra values are h = record { events = h.events; items = h.items; coverages = h.coverages; footprint_idx = h.footprint_idx; vulnerability = h.vulnerability; damage_bin_dict = h.damage_bin_dict; random = h.random; fm_xref = all_made (kinds_of table.FmXref) fm_xref_of IsFmXref xref_made values are; gulsummaryxref = h.gulsummaryxref; fmsummaryxref = h.fmsummaryxref; occurrence = h.occurrence; returnperiods = h.returnperiods; financial = h.financial }
 in_range-with_rows table.GulSummaryXref rows stage extra values are h = record { events = h.events; items = h.items; coverages = h.coverages; footprint_idx = h.footprint_idx; vulnerability = h.vulnerability; damage_bin_dict = h.damage_bin_dict; random = h.random; fm_xref = h.fm_xref; gulsummaryxref = all_made (kinds_of table.GulSummaryXref) gul_summary_xref_of IsGulSummaryXref item_summary_made values are; fmsummaryxref = h.fmsummaryxref; occurrence = h.occurrence; returnperiods = h.returnperiods; financial = h.financial }
 in_range-with_rows table.FmSummaryXref rows stage extra values are h = record { events = h.events; items = h.items; coverages = h.coverages; footprint_idx = h.footprint_idx; vulnerability = h.vulnerability; damage_bin_dict = h.damage_bin_dict; random = h.random; fm_xref = h.fm_xref; gulsummaryxref = h.gulsummaryxref; fmsummaryxref = all_made (kinds_of table.FmSummaryXref) fm_summary_xref_of IsFmSummaryXref output_summary_made values are; occurrence = h.occurrence; returnperiods = h.returnperiods; financial = h.financial }
 in_range-with_rows table.Occurrence rows stage extra values are h = record { events = h.events; items = h.items; coverages = h.coverages; footprint_idx = h.footprint_idx; vulnerability = h.vulnerability; damage_bin_dict = h.damage_bin_dict; random = h.random; fm_xref = h.fm_xref; gulsummaryxref = h.gulsummaryxref; fmsummaryxref = h.fmsummaryxref; occurrence = all_made (kinds_of table.Occurrence) occurrence_of IsOccurrence occurrence_made values are; returnperiods = h.returnperiods; financial = h.financial }
-in_range-with_rows table.ReturnPeriods rows stage extra values are h = record { events = h.events; items = h.items; coverages = h.coverages; footprint_idx = h.footprint_idx; vulnerability = h.vulnerability; damage_bin_dict = h.damage_bin_dict; random = h.random; fm_xref = h.fm_xref; gulsummaryxref = h.gulsummaryxref; fmsummaryxref = h.fmsummaryxref; occurrence = h.occurrence; returnperiods = all_made (kinds_of table.ReturnPeriods) return_period_of (λ row. IsId row.return_period) (λ each row. id_in (kinds_of table.ReturnPeriods) each row 0 (omega arith) refl) values are; financial = h.financial }
-in_range-with_rows table.FmProgramme rows stage extra values are h = with_financial-in_range rows stage _ (record { programme = all_made (kinds_of table.FmProgramme) fm_programme_of IsFmProgramme programme_made values are; policytc = (financial_in_range rows stage h).policytc; profile = (financial_in_range rows stage h).profile }) h
-in_range-with_rows table.FmPolicytc rows stage extra values are h = with_financial-in_range rows stage _ (record { programme = (financial_in_range rows stage h).programme; policytc = all_made (kinds_of table.FmPolicytc) fm_policytc_of IsFmPolicytc policytc_made values are; profile = (financial_in_range rows stage h).profile }) h
-in_range-with_rows table.FmProfile rows stage extra values are h = with_financial-in_range rows stage _ (record { programme = (financial_in_range rows stage h).programme; policytc = (financial_in_range rows stage h).policytc; profile = all_made (kinds_of table.FmProfile) fm_profile_of IsFmProfile profile_made values are }) h
+in_range-with_rows table.ReturnPeriods rows stage extra values are h = record { events = h.events; items = h.items; coverages = h.coverages; footprint_idx = h.footprint_idx; vulnerability = h.vulnerability; damage_bin_dict = h.damage_bin_dict; random = h.random; fm_xref = h.fm_xref; gulsummaryxref = h.gulsummaryxref; fmsummaryxref = h.fmsummaryxref; occurrence = h.occurrence; returnperiods = all_made (kinds_of table.ReturnPeriods) return_period_of (λ row. IsId row.return_period) (λ each row. (columns (kinds_of table.ReturnPeriods) each row).0) values are; financial = h.financial }
+in_range-with_rows table.FmProgramme rows stage extra values are h = with_financial-in_range rows stage _ (record { programme = all_made (kinds_of table.FmProgramme) fm_programme_of IsFmProgramme programme_made values are; policytc = (financial_ranges rows h.financial stage).policytc; profile = (financial_ranges rows h.financial stage).profile }) h
+in_range-with_rows table.FmPolicytc rows stage extra values are h = with_financial-in_range rows stage _ (record { programme = (financial_ranges rows h.financial stage).programme; policytc = all_made (kinds_of table.FmPolicytc) fm_policytc_of IsFmPolicytc policytc_made values are; profile = (financial_ranges rows h.financial stage).profile }) h
+in_range-with_rows table.FmProfile rows stage extra values are h = with_financial-in_range rows stage _ (record { programme = (financial_ranges rows h.financial stage).programme; policytc = (financial_ranges rows h.financial stage).policytc; profile = all_made (kinds_of table.FmProfile) fm_profile_of IsFmProfile profile_made values are }) h
 
 -- the size of the footprint's file is in no range
 pub in_range-with_size : (t : Table) (rows : Rows) (size : ℕ) → AreInRange rows → AreInRange (with_size rows t size)

@@ -19,7 +19,7 @@ use Rattle.kt_schema.specs.Loading.{loaded_rows}
 use Rattle.kt_load.specs.EventRows.{HasFootprint, footprint_name}
 use Rattle.kt_load.specs.FileNames.{file_name_of, load_order, table_at}
 use Rattle.kt_load.specs.Loaded.{loaded, needed, unless_refused}
-use Rattle.kt_load.specs.Reading.{file_limit, go_on, with_file, with_files, with_read, with_size}
+use Rattle.kt_load.specs.Reading.{file_limit, go_on, with_table_file, with_table_files, with_read, with_size}
 use Rattle.kt_load.specs.Typed.{with_rows}
 use Rattle.kt_load.specs.declared.stop.LoadStop.{LoadStop}
 use Rattle.kt_load.specs.declared.stop.LoadStop.TheVariants as stop
@@ -67,7 +67,7 @@ module _ (files : FileMap) where
   sized stage t rows extra values bytes right holds (inr is) = absurd (omega (arith, eqb-true (number_of t) 4 (both (stage == 0) (number_of t == 4) is).1))
 
   -- one table more was read
-  read_one : (rows new : Rows) (id : TableId) → fine id ≡ true → with_file rows id (files (file_name_of id)) ≡ Ok new → WillBeKnown files (is_footprint id) rows → Known files new
+  read_one : (rows new : Rows) (id : TableId) → fine id ≡ true → with_table_file rows id (files (file_name_of id)) ≡ Ok new → WillBeKnown files (is_footprint id) rows → Known files new
   read_one rows new id right is known = by_file (files (file_name_of id)) refl is
     where
       by_read : (bytes : List ℕ) (read : Result (ℕ × List (List ℕ)) TableStop) → files (file_name_of id) ≡ Some bytes → go_on (with_read rows id read) (λ r. Ok (with_size r id.table (length bytes))) ≡ Ok new → Known files new
@@ -78,29 +78,29 @@ module _ (files : FileMap) where
       by_size bytes true holds h = cc
       by_size bytes false holds h = by_read bytes (loaded_rows id.table bytes) holds h
 
-      by_file : (file : Option (List ℕ)) → files (file_name_of id) ≡ file → with_file rows id file ≡ Ok new → Known files new
+      by_file : (file : Option (List ℕ)) → files (file_name_of id) ≡ file → with_table_file rows id file ≡ Ok new → Known files new
       by_file None holds h = cc
       by_file (Some bytes) holds h = by_size bytes (nat_lt file_limit (length bytes)) holds h
 
   -- the size is known behind the other tables
   abbrev Later : (TableId → Bool) → List TableId → Rows → Type 0
-  Later keep ids now = (r : Rows) → with_files files (filter keep ids) r ≡ Ok now → WillBeKnown files (list_any (λ other. is_footprint other && keep other) ids) r → Known files now
+  Later keep ids now = (r : Rows) → with_table_files files (filter keep ids) r ≡ Ok now → WillBeKnown files (list_any (λ other. is_footprint other && keep other) ids) r → Known files now
 
   -- all were read
-  all_read : (keep : TableId → Bool) (ids : List TableId) (rows now : Rows) → list_all fine ids ≡ true → with_files files (filter keep ids) rows ≡ Ok now → WillBeKnown files (list_any (λ id. is_footprint id && keep id) ids) rows → Known files now
-  unfolding with_files
+  all_read : (keep : TableId → Bool) (ids : List TableId) (rows now : Rows) → list_all fine ids ≡ true → with_table_files files (filter keep ids) rows ≡ Ok now → WillBeKnown files (list_any (λ id. is_footprint id && keep id) ids) rows → Known files now
+  unfolding with_table_files
   all_read keep [] rows now right is (inl known) = subst (λ r. IfOk r (Known files)) is known
   all_read keep [] rows now right is (inr none) = absurd (false_is_true none)
   all_read keep (id ∷ ids) rows now right is known =
       let parts = both (fine id) (list_all fine ids) right in
       by_keep (keep id) (λ r later. all_read keep ids r now parts.1 later) parts.0 is known
     where
-      by_first : (b : Bool) → is_footprint id ≡ b → (new : Rows) → Later keep ids now → fine id ≡ true → with_file rows id (files (file_name_of id)) ≡ Ok new → with_files files (filter keep ids) new ≡ Ok now → WillBeKnown files ((b && true) || list_any (λ other. is_footprint other && keep other) ids) rows → Known files now
+      by_first : (b : Bool) → is_footprint id ≡ b → (new : Rows) → Later keep ids now → fine id ≡ true → with_table_file rows id (files (file_name_of id)) ≡ Ok new → with_table_files files (filter keep ids) new ≡ Ok now → WillBeKnown files ((b && true) || list_any (λ other. is_footprint other && keep other) ids) rows → Known files now
       by_first true e new later fits read h known = later new h (inl (read_one rows new id fits read (inr e)))
       by_first false e new later fits read h (inl known) = later new h (inl (read_one rows new id fits read (inl known)))
       by_first false e new later fits read h (inr any) = later new h (inr any)
 
-      by_read : (read : Result Rows LoadStop) → with_file rows id (files (file_name_of id)) ≡ read → Later keep ids now → fine id ≡ true → go_on read (with_files files (filter keep ids)) ≡ Ok now → WillBeKnown files ((is_footprint id && true) || list_any (λ other. is_footprint other && keep other) ids) rows → Known files now
+      by_read : (read : Result Rows LoadStop) → with_table_file rows id (files (file_name_of id)) ≡ read → Later keep ids now → fine id ≡ true → go_on read (with_table_files files (filter keep ids)) ≡ Ok now → WillBeKnown files ((is_footprint id && true) || list_any (λ other. is_footprint other && keep other) ids) rows → Known files now
       by_read (Ok new) e later fits h known = by_first (is_footprint id) refl new later fits e h known
       by_read (Err why) e later fits h known = cc
 
@@ -108,15 +108,15 @@ module _ (files : FileMap) where
       without true b is = is
       without false b is = is
 
-      by_keep : (b : Bool) → Later keep ids now → fine id ≡ true → with_files files (cond b (id ∷ filter keep ids) (filter keep ids)) rows ≡ Ok now → WillBeKnown files ((is_footprint id && b) || list_any (λ other. is_footprint other && keep other) ids) rows → Known files now
-      by_keep true later fits h known = by_read (with_file rows id (files (file_name_of id))) refl later fits h known
+      by_keep : (b : Bool) → Later keep ids now → fine id ≡ true → with_table_files files (cond b (id ∷ filter keep ids) (filter keep ids)) rows ≡ Ok now → WillBeKnown files ((is_footprint id && b) || list_any (λ other. is_footprint other && keep other) ids) rows → Known files now
+      by_keep true later fits h known = by_read (with_table_file rows id (files (file_name_of id))) refl later fits h known
       by_keep false later fits h (inl known) = later rows h (inl known)
       by_keep false later fits h (inr any) = later rows h (inr (without (is_footprint id) _ any))
 
 -- Where the footprint was loaded, its file is as long as the rows say.
 pub footprint_size-known : (held : Option FileMap) (need : Need) (rows : Rows) → IfSome held (λ files. loaded files need ≡ Ok rows) → is_in need.loaded (table_at 0 table.Footprint) ≡ true → HasFootprint held rows.footprint_size
 footprint_size-known None need rows is there = tt
-footprint_size-known (Some files) need rows is there = by_read (with_files files (needed need) no_rows) refl is
+footprint_size-known (Some files) need rows is there = by_read (with_table_files files (needed need) no_rows) refl is
   where
     among : list_any (λ id. is_footprint id && is_in need.loaded id) load_order ≡ true
     among = ap (λ b. b || list_any (λ id. is_footprint id && is_in need.loaded id) (drop 4 load_order)) there
@@ -125,6 +125,6 @@ footprint_size-known (Some files) need rows is there = by_read (with_files files
     by_check now None known h = subst (λ r. IfOk r (Known files)) h known
     by_check now (Some why) known h = cc
 
-    by_read : (read : Result Rows LoadStop) → with_files files (needed need) no_rows ≡ read → go_on read (λ r. unless_refused r (first_refusal r need)) ≡ Ok rows → Known files rows
+    by_read : (read : Result Rows LoadStop) → with_table_files files (needed need) no_rows ≡ read → go_on read (λ r. unless_refused r (first_refusal r need)) ≡ Ok rows → Known files rows
     by_read (Ok now) e h = by_check now (first_refusal now need) (all_read files (is_in need.loaded) load_order no_rows now refl e (inr among)) h
     by_read (Err why) e h = cc

@@ -14,7 +14,7 @@ use Rattle.kt_load.specs.declared.stop.LoadStop.TheVariants as stop
 use Rattle.kt_tables.specs.Portfolio.{PortfolioRows}
 use Rattle.kt_load.specs.Ends.{TellsLoad}
 use Rattle.kt_load.specs.FileNames.{load_order, file_name_of}
-use Rattle.kt_load.specs.Reading.{with_files, go_on}
+use Rattle.kt_load.specs.Reading.{with_table_files, go_on}
 
 -- the tables that a command needs, in the order of loading
 abbrev pub needed : Need → List TableId
@@ -27,7 +27,7 @@ unless_refused rows (Some refusal) = Err (stop.Check refusal.number (file_name_o
 
 -- the rows of the tables that a command needs: by table what is missing, too large or bad in its file, then the checks
 abbrev pub loaded : FileMap → Need → Result Rows LoadStop
-loaded files need = go_on (with_files files (needed need) no_rows) (λ rows. unless_refused rows (first_refusal rows need))
+loaded files need = go_on (with_table_files files (needed need) no_rows) (λ rows. unless_refused rows (first_refusal rows need))
 
 -- what a call for a portfolio tells: its rows, or why there is none
 abbrev pub TellsLoaded : Result Rows LoadStop → Result PortfolioRows LoadStop → Type 0

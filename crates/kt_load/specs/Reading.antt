@@ -33,13 +33,13 @@ with_size rows table.Footprint size = record rows { footprint_size = size }
 with_size rows t size = rows
 
 -- the rows with those of a table's file: it is missing, too large, or has a first bad place
-abbrev pub with_file : Rows → TableId → Option (List ℕ) → Result Rows LoadStop
-with_file rows id None = Err (stop.Missing (file_name_of id))
-with_file rows id (Some bytes) =
+abbrev pub with_table_file : Rows → TableId → Option (List ℕ) → Result Rows LoadStop
+with_table_file rows id None = Err (stop.Missing (file_name_of id))
+with_table_file rows id (Some bytes) =
     if nat_lt file_limit (length bytes) then Err (stop.TooLarge (file_name_of id))
     else go_on (with_read rows id (loaded_rows id.table bytes)) (λ read. Ok (with_size read id.table (length bytes)))
 
 -- the rows with those of some tables' files, in this order
-unfoldable pub with_files : FileMap → List TableId → Rows → Result Rows LoadStop
-with_files files [] rows = Ok rows
-with_files files (id ∷ ids) rows = go_on (with_file rows id (files (file_name_of id))) (with_files files ids)
+unfoldable pub with_table_files : FileMap → List TableId → Rows → Result Rows LoadStop
+with_table_files files [] rows = Ok rows
+with_table_files files (id ∷ ids) rows = go_on (with_table_file rows id (files (file_name_of id))) (with_table_files files ids)

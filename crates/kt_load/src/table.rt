@@ -7,7 +7,7 @@ ghost use Rattle.kt_rec.specs.TableNames.{IsTableId};
 ghost use Rattle.kt_rec.specs.TableSet.{is_in};
 ghost use Rattle.kt_load.specs.Ends.{TellsLoad, AfterLoad};
 ghost use Rattle.kt_load.specs.FileNames.{file_name_of, table_at};
-ghost use Rattle.kt_load.specs.Reading.{with_file, with_files};
+ghost use Rattle.kt_load.specs.Reading.{with_table_file, with_table_files};
 ghost use Rattle.kt_load.specs.Reading.{file_limit, with_size};
 ghost use Rattle.kt_load.specs.Ends.{bytes_wanted};
 ghost use Rattle.kt_rec.specs.Ranges.{AreInRange, ArePeriods};
@@ -57,10 +57,10 @@ fn read_table<I: Inputs>(
     tables: &mut Tables,
 ) -> Result<(), LoadStop>
     requires { IsTableId id }
-    ensures ok { OnOk result (IfSome (I.state inputs.old).held (λ files. with_file (rows_of tables.old) id (files (file_name_of id)) ≡ Ok (rows_of tables.new))) }
+    ensures ok { OnOk result (IfSome (I.state inputs.old).held (λ files. with_table_file (rows_of tables.old) id (files (file_name_of id)) ≡ Ok (rows_of tables.new))) }
     ensures keeps { OnOk result (KeepsRows id (rows_of tables.old) (rows_of tables.new)) }
 
-    ensures refused { IfErr result (λ stop. IfSome (I.state inputs.old).held (λ files. TellsLoad (with_file (rows_of tables.old) id (files (file_name_of id))) stop)) }
+    ensures refused { IfErr result (λ stop. IfSome (I.state inputs.old).held (λ files. TellsLoad (with_table_file (rows_of tables.old) id (files (file_name_of id))) stop)) }
 
     ensures inputs { AfterLoad (I.state inputs.old) (I.state inputs.new) result }
 {
@@ -92,12 +92,12 @@ pub(crate) fn read_tables<I: Inputs>(
     tables: &mut Tables,
 ) -> Result<(), LoadStop>
     requires { All IsTableId ids.now }
-    ensures ok { OnOk result (IfSome (I.state inputs.old).held (λ files. with_files files (filter (is_in set.now) ids.now) (rows_of tables.old) ≡ Ok (rows_of tables.new))) }
+    ensures ok { OnOk result (IfSome (I.state inputs.old).held (λ files. with_table_files files (filter (is_in set.now) ids.now) (rows_of tables.old) ≡ Ok (rows_of tables.new))) }
     ensures in_range { OnOk result (AreInRange (rows_of tables.old) → AreInRange (rows_of tables.new)) }
     ensures periods { OnOk result (list_any has_periods ids.now ≡ true → is_in set.now (table_at 0 table.Occurrence) ≡ true → ArePeriods (rows_of tables.new).periods) }
     ensures outside { OnOk result (NoneOutside set.now (rows_of tables.old) → NoneOutside set.now (rows_of tables.new)) }
 
-    ensures refused { IfErr result (λ stop. IfSome (I.state inputs.old).held (λ files. TellsLoad (with_files files (filter (is_in set.now) ids.now) (rows_of tables.old)) stop)) }
+    ensures refused { IfErr result (λ stop. IfSome (I.state inputs.old).held (λ files. TellsLoad (with_table_files files (filter (is_in set.now) ids.now) (rows_of tables.old)) stop)) }
 
     ensures inputs { AfterLoad (I.state inputs.old) (I.state inputs.new) result }
 {

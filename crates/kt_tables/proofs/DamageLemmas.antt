@@ -14,25 +14,23 @@ use Rattle.kt_tables.specs.Kept.{damage_key, item_key}
 key_eq : (a b c d : ℕ) → b < 4294967296 → d < 4294967296 → nat_eq (a * 4294967296 + b) (c * 4294967296 + d) ≡ (nat_eq a c && nat_eq b d)
 key_eq a b c d short other = grind (arith, nat_tests)
 
--- the rows of the key are those of the vulnerability at the intensity
-pub damages_by_key : (vulnerability intensity : ℕ) → intensity < 2 ^ 32 → (rows : List Vulnerability) → All IsVulnerability rows → filter (λ row. nat_eq (damage_key row) (vulnerability * 2 ^ 32 + intensity)) rows ≡ filter (λ row. nat_eq row.vulnerability_id vulnerability && nat_eq row.intensity_bin_id intensity) rows
-damages_by_key vulnerability intensity short [] ranges = refl
-damages_by_key vulnerability intensity short (row ∷ rows) ranges =
-    let range = All-head IsVulnerability row rows ranges in
-    let low = range.most_intensity in
-    let rest = damages_by_key vulnerability intensity short rows (All-tail IsVulnerability row rows ranges) in
-    ap (λ b. cond b (row ∷ filter (λ x. nat_eq (damage_key x) (vulnerability * 2 ^ 32 + intensity)) rows) (filter (λ x. nat_eq (damage_key x) (vulnerability * 2 ^ 32 + intensity)) rows)) (key_eq row.vulnerability_id row.intensity_bin_id vulnerability intensity (omega arith) short)
-    ∙ ap (λ later. cond (nat_eq row.vulnerability_id vulnerability && nat_eq row.intensity_bin_id intensity) (row ∷ later) later) rest
+-- the rows of a key that joins two numbers are those of both
+rows_by_key : {X : Type 0} (one other : X → ℕ) (first second : ℕ) → second < 2 ^ 32 → (rows : List X) → All (λ row. other row < 2 ^ 32) rows → filter (λ row. nat_eq (one row * 2 ^ 32 + other row) (first * 2 ^ 32 + second)) rows ≡ filter (λ row. nat_eq (one row) first && nat_eq (other row) second) rows
+rows_by_key one other first second short [] few = refl
+rows_by_key {X} one other first second short (row ∷ rows) few =
+    let rest = rows_by_key one other first second short rows (All-tail (λ (x : X). other x < 2 ^ 32) row rows few) in
+    ap (λ b. cond b (row ∷ filter (λ x. nat_eq (one x * 2 ^ 32 + other x) (first * 2 ^ 32 + second)) rows) (filter (λ x. nat_eq (one x * 2 ^ 32 + other x) (first * 2 ^ 32 + second)) rows)) (key_eq (one row) (other row) first second (All-head (λ (x : X). other x < 2 ^ 32) row rows few) short)
+    ∙ ap (λ later. cond (nat_eq (one row) first && nat_eq (other row) second) (row ∷ later) later) rest
 
--- the items of the key are those of the areaperil and vulnerability
+-- the damage of a vulnerability at an intensity
+pub damages_by_key : (vulnerability intensity : ℕ) → intensity < 2 ^ 32 → (rows : List Vulnerability) → All IsVulnerability rows → filter (λ row. nat_eq (damage_key row) (vulnerability * 2 ^ 32 + intensity)) rows ≡ filter (λ row. nat_eq row.vulnerability_id vulnerability && nat_eq row.intensity_bin_id intensity) rows
+damages_by_key vulnerability intensity short rows ranges =
+    rows_by_key (λ row. row.vulnerability_id) (λ row. row.intensity_bin_id) vulnerability intensity short rows (λ k d below. let low = (ranges k d below).most_intensity in omega arith)
+
+-- the items of an areaperil and a vulnerability
 pub items_by_key : (areaperil vulnerability : ℕ) → vulnerability < 2 ^ 32 → (rows : List Item) → All IsItem rows → filter (λ row. nat_eq (item_key row) (areaperil * 2 ^ 32 + vulnerability)) rows ≡ filter (λ row. nat_eq row.areaperil_id areaperil && nat_eq row.vulnerability_id vulnerability) rows
-items_by_key areaperil vulnerability short [] ranges = refl
-items_by_key areaperil vulnerability short (row ∷ rows) ranges =
-    let range = All-head IsItem row rows ranges in
-    let low = range.vulnerability_id.most in
-    let rest = items_by_key areaperil vulnerability short rows (All-tail IsItem row rows ranges) in
-    ap (λ b. cond b (row ∷ filter (λ x. nat_eq (item_key x) (areaperil * 2 ^ 32 + vulnerability)) rows) (filter (λ x. nat_eq (item_key x) (areaperil * 2 ^ 32 + vulnerability)) rows)) (key_eq row.areaperil_id row.vulnerability_id areaperil vulnerability (omega arith) short)
-    ∙ ap (λ later. cond (nat_eq row.areaperil_id areaperil && nat_eq row.vulnerability_id vulnerability) (row ∷ later) later) rest
+items_by_key areaperil vulnerability short rows ranges =
+    rows_by_key (λ row. row.areaperil_id) (λ row. row.vulnerability_id) areaperil vulnerability short rows (λ k d below. let id = (ranges k d below).vulnerability_id in let low = id.most in omega arith)
 
 -- a filter by what a wider one keeps
 filter_in : {X : Type 0} (test wide : X → Bool) → ((row : X) → test row ≡ true → wide row ≡ true) → (rows : List X) → filter test (filter wide rows) ≡ filter test rows

@@ -1,23 +1,22 @@
 -- The exposures of summaries: sums over distinct coverages, and the units of items and outputs.
-use Rattle.std.proofs.Common.{◌≡◌, ℕ, ◌+◌, ◌≤◌, Bool, true, false, cond, List, [], ◌∷◌, length, map, refl, ap, sym, subst, ◌∙◌, nat_eq, Option, None, Some, unwrap_or, arith, zero-add}
+use Rattle.std.proofs.Common.{◌≡◌, ℕ, Bool, true, false, cond, List, [], ◌∷◌, map, refl, ap, sym, subst, ◌∙◌, nat_eq, Option, None, Some}
 use Rattle.std.proofs.Math.Path.{fun_ext}
-use Rattle.std.specs.Prelude.{◌&&◌, ◌||◌, option_map, All}
-use Rattle.std.specs.List.{IsDistinct, AllByRecursion, cons_option, filter_map, list_any, sum_by}
+use Rattle.std.specs.Prelude.{◌&&◌, ◌||◌, option_map}
+use Rattle.std.specs.Cmp.{nat_eq_equiv}
+use Rattle.std.specs.List.{IsDistinct, cons_option, filter_map, list_any, sum_by}
 use Rattle.std.specs.Map.{lookup}
-use Rattle.std.proofs.lemmas.Bool.{eqb-true}
-use Rattle.std.proofs.lemmas.Bool.Decides.{nat_tests}
-use Rattle.std.proofs.lemmas.List.Sums.{sum_by-cons, sum_by-le, sum_by-le-sum_by}
+use Rattle.std.proofs.lemmas.Bool.{eqb-true, or_parts}
 use Rattle.std.proofs.lemmas.Map.Keys.{IsDistinct-head, IsDistinct-tail}
 use Rattle.kt_rec.specs.declared.exposure.Coverage.{Coverage}
 use Rattle.kt_rec.specs.declared.exposure.Item.{Item}
 use Rattle.kt_rec.specs.declared.financial.FmXref.{FmXref}
 use Rattle.kt_checks.specs.TableChecks.{tiv_of}
+use Rattle.kt_checks.specs.Worth.{absent, total_is, values-few}
 use Rattle.kt_index.specs.declared.exposure.SummaryUnit.{SummaryUnit}
 use Rattle.kt_index.specs.declared.exposure.UnitCoverage.{UnitCoverage}
-use Rattle.kt_index.specs.Exposure.{unit_covers, summary_covers, IsTotalOf, AddsUp}
-use Rattle.kt_rec.specs.Ranges.{IsCoverage}
+use Rattle.kt_index.specs.Exposure.{unit_covers, summary_covers, IsTotalOf}
 use Rattle.kt_tables.specs.Portfolio.{PortfolioRows, IsPortfolio}
-use Rattle.kt_tables.specs.PortfolioLaws.{coverages_distinct, outputs_distinct, coverages_within}
+use Rattle.kt_tables.specs.PortfolioLaws.{coverages_distinct, keys_kept, coverages_within}
 use Rattle.kt_tables.specs.Kept.{AreAddable}
 use Rattle.kt_tables.specs.declared.summaries.SummaryRow.{SummaryRow}
 use Rattle.kt_rec.specs.Rows.{Rows}
@@ -28,86 +27,12 @@ list_any-map : {A B : Type 0} (f : A → B) (test : B → Bool) (rows : List A) 
 list_any-map f test [] = refl
 list_any-map f test (row ∷ rows) = ap (λ b. test (f row) || b) (list_any-map f test rows)
 
--- nothing passes a test and what fails
-and_false : (b : Bool) → (b && false) ≡ false
-and_false true = refl
-and_false false = refl
-
--- a key that differs from all others is not among them
-absent : (key : ℕ) (keys : List ℕ) → AllByRecursion (λ other. nat_eq key other ≡ false) keys → list_any (nat_eq key) keys ≡ false
-absent key [] apart = refl
-absent key (other ∷ keys) apart = ap (λ b. b || list_any (nat_eq key) keys) apart.0 ∙ absent key keys apart.1
-
--- a number is equal to itself
-eq_refl : (n : ℕ) → nat_eq n n ≡ true
-eq_refl n = grind (arith, nat_tests)
-
--- equality of numbers goes both ways
-eq_flip : (m n : ℕ) → nat_eq m n ≡ nat_eq n m
-eq_flip m n = grind (arith, nat_tests)
-
--- the value of a coverage that is absent is 0
-tiv_of-absent : (coverages : List Coverage) (id : ℕ) → list_any (nat_eq id) (map (λ row. row.coverage_id) coverages) ≡ false → tiv_of coverages id ≡ 0
-tiv_of-absent [] id h = refl
-tiv_of-absent (row ∷ coverages) id h = by (nat_eq id row.coverage_id) (tiv_of-absent coverages id) h
-  where
-    by : (b : Bool) → (list_any (nat_eq id) (map (λ x. x.coverage_id) coverages) ≡ false → tiv_of coverages id ≡ 0) → (b || list_any (nat_eq id) (map (λ x. x.coverage_id) coverages)) ≡ false → unwrap_or (cond b (Some row.tiv) (lookup (nat_eq id) (map (λ x. (x.coverage_id, x.tiv)) coverages))) 0 ≡ 0
-    by true rest e = cc
-    by false rest e = rest e
-
--- the sum of values over distinct ids, of which one may have another value in place of 0
-sum-one : (value : ℕ → ℕ) (key amount : ℕ) → value key ≡ 0 → (ids : List ℕ) → IsDistinct nat_eq ids → sum_by (λ id. cond (nat_eq id key) amount (value id)) ids ≡ cond (list_any (nat_eq key) ids) amount 0 + sum_by value ids
-sum-one value key amount zero [] apart = refl
-sum-one value key amount zero (id ∷ ids) apart =
-    sum_by-cons (λ x. cond (nat_eq x key) amount (value x)) id ids
-    ∙ (by (nat_eq id key) refl (sum-one value key amount zero ids (IsDistinct-tail nat_eq id ids apart)) (absent id ids (IsDistinct-head nat_eq id ids apart))
-    ∙ ap (λ n. cond (list_any (nat_eq key) (id ∷ ids)) amount 0 + n) (sym (sum_by-cons value id ids)))
-  where
-    by : (b : Bool) → nat_eq id key ≡ b → sum_by (λ x. cond (nat_eq x key) amount (value x)) ids ≡ cond (list_any (nat_eq key) ids) amount 0 + sum_by value ids → list_any (nat_eq id) ids ≡ false → cond (nat_eq id key) amount (value id) + sum_by (λ x. cond (nat_eq x key) amount (value x)) ids ≡ cond (nat_eq key id || list_any (nat_eq key) ids) amount 0 + (value id + sum_by value ids)
-    by true e rest none =
-        let same : id ≡ key = eqb-true id key e in
-        let gone : list_any (nat_eq key) ids ≡ false = subst (λ n. list_any (nat_eq n) ids ≡ false) same none in
-        let nothing : value id ≡ 0 = ap value same ∙ zero in
-        rw (e, eq_flip key id, e, rest, gone, nothing) refl
-    by false e rest none = rw (e, eq_flip key id, e, rest) (omega arith)
-
--- the values of distinct ids that pass a test are those of the distinct coverages that pass it
-pub total_is : (coverages : List Coverage) → IsDistinct nat_eq (map (λ row. row.coverage_id) coverages) → (test : ℕ → Bool) (ids : List ℕ) → IsDistinct nat_eq ids → ((id : ℕ) → list_any (nat_eq id) ids ≡ test id) → sum_by (tiv_of coverages) ids ≡ sum_by (λ row. cond (test row.coverage_id) row.tiv 0) coverages
-total_is [] apart test ids distinct passing = zeros ids
-  where
-    zeros : (ids : List ℕ) → sum_by (tiv_of []) ids ≡ 0
-    zeros [] = refl
-    zeros (id ∷ ids) = sum_by-cons (tiv_of []) id ids ∙ (zero-add (sum_by (tiv_of []) ids) ∙ zeros ids)
-total_is (row ∷ coverages) apart test ids distinct passing =
-    ap (λ value. sum_by value ids) (fun_ext (λ (id : ℕ). value_is (lookup (nat_eq id) (map (λ x. (x.coverage_id, x.tiv)) coverages)) (nat_eq id row.coverage_id)))
-    ∙ (sum-one (tiv_of coverages) row.coverage_id row.tiv (tiv_of-absent coverages row.coverage_id (absent row.coverage_id _ (IsDistinct-head nat_eq row.coverage_id (map (λ x. x.coverage_id) coverages) apart))) ids distinct
-    ∙ (ap (λ b. cond b row.tiv 0 + sum_by (tiv_of coverages) ids) (passing row.coverage_id)
-    ∙ (ap (λ n. cond (test row.coverage_id) row.tiv 0 + n) (total_is coverages (IsDistinct-tail nat_eq row.coverage_id (map (λ x. x.coverage_id) coverages) apart) test ids distinct passing)
-    ∙ sym (sum_by-cons (λ x. cond (test x.coverage_id) x.tiv 0) row coverages))))
-  where
-    value_is : (found : Option ℕ) (b : Bool) → unwrap_or (cond b (Some row.tiv) found) 0 ≡ cond b row.tiv (unwrap_or found 0)
-    value_is found true = refl
-    value_is found false = refl
-
--- a value that may be left out is at most the value
-cond_at_most : (b : Bool) (n : ℕ) → cond b n 0 ≤ n
-cond_at_most true n = omega arith
-cond_at_most false n = omega arith
-
--- the values of few coverages do not add to 2^64
-pub adds_up : (coverages : List Coverage) → IsDistinct nat_eq (map (λ row. row.coverage_id) coverages) → All IsCoverage coverages → length coverages ≤ 100000 → AddsUp (tiv_of coverages)
-adds_up coverages apart ranges few = λ ids distinct.
-    let same = total_is coverages apart (λ id. list_any (nat_eq id) ids) ids distinct (λ id. refl) in
-    let most = sum_by-le (λ (row : Coverage). row.tiv) 100000000000000 coverages (λ k d below. (ranges k d below).tiv) in
-    let less = sum_by-le-sum_by (λ (row : Coverage). cond (list_any (nat_eq row.coverage_id) ids) row.tiv 0) (λ (row : Coverage). row.tiv) coverages (λ (row : Coverage). cond_at_most (list_any (nat_eq row.coverage_id) ids) row.tiv) in
-    omega (arith, same, most, less)
-
 -- what every portfolio's exposures stand on
 pub addable : (portfolio : PortfolioRows) → IsPortfolio portfolio → AreAddable portfolio.rows
 addable portfolio valid = record {
   coverages = coverages_distinct portfolio valid;
-  outputs = outputs_distinct portfolio valid;
-  values = adds_up portfolio.rows.coverages (coverages_distinct portfolio valid) valid.in_range.coverages (coverages_within portfolio valid);
+  outputs = (keys_kept portfolio valid).outputs;
+  values = values-few portfolio.rows.coverages (coverages_distinct portfolio valid) valid.in_range.coverages (coverages_within portfolio valid);
 }
 
 -- the exposure of a summary is its total
@@ -152,17 +77,15 @@ module _ (has : ℕ → ℕ → Bool) (coverage : ℕ) where
   -- an output that is absent has nothing
   xref-none : (rows : List FmXref) (output : ℕ) → list_any (nat_eq output) (map (λ row. row.output_id) rows) ≡ false → list_any (λ row. nat_eq row.output_id output && has row.agg_id coverage) rows ≡ false
   xref-none [] output none = refl
-  xref-none (row ∷ rows) output none = ap (λ b. (b && has row.agg_id coverage) || list_any (λ x. nat_eq x.output_id output && has x.agg_id coverage) rows) (eq_flip row.output_id output) ∙ by (nat_eq output row.output_id) (xref-none rows output) none
-    where
-      by : (b : Bool) → (list_any (nat_eq output) (map (λ x. x.output_id) rows) ≡ false → list_any (λ x. nat_eq x.output_id output && has x.agg_id coverage) rows ≡ false) → (b || list_any (nat_eq output) (map (λ x. x.output_id) rows)) ≡ false → ((b && has row.agg_id coverage) || list_any (λ x. nat_eq x.output_id output && has x.agg_id coverage) rows) ≡ false
-      by true rest e = cc
-      by false rest e = rest e
+  xref-none (row ∷ rows) output none =
+      let parts = or_parts (nat_eq output row.output_id) (list_any (nat_eq output) (map (λ x. x.output_id) rows)) none in
+      rw (nat_eq_equiv.symm row.output_id output, parts.0, xref-none rows output parts.1) refl
 
   -- where outputs are distinct, an output has what its only row has
   xref-has : (rows : List FmXref) (output : ℕ) → IsDistinct nat_eq (map (λ row. row.output_id) rows) → list_any (λ row. nat_eq row.output_id output && has row.agg_id coverage) rows ≡ found_has has coverage (lookup (nat_eq output) (map (λ row. (row.output_id, row.agg_id)) rows))
   xref-has [] output apart = refl
   xref-has (row ∷ rows) output apart =
-      ap (λ b. (b && has row.agg_id coverage) || list_any (λ x. nat_eq x.output_id output && has x.agg_id coverage) rows) (eq_flip row.output_id output)
+      ap (λ b. (b && has row.agg_id coverage) || list_any (λ x. nat_eq x.output_id output && has x.agg_id coverage) rows) (nat_eq_equiv.symm row.output_id output)
       ∙ by (nat_eq output row.output_id) refl (xref-has rows output (IsDistinct-tail nat_eq row.output_id (map (λ x. x.output_id) rows) apart)) (xref-none rows row.output_id (absent row.output_id _ (IsDistinct-head nat_eq row.output_id (map (λ x. x.output_id) rows) apart)))
     where
       or_false : (b : Bool) → (b || false) ≡ b

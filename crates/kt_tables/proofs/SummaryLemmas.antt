@@ -1,13 +1,12 @@
 -- The summaries of a portfolio: they are ids, and an exposure is at most what the coverages of all items are worth, one for each item.
-use Rattle.std.proofs.Common.{◌≡◌, ℕ, ◌+◌, ◌≤◌, Bool, true, false, cond, List, [], ◌∷◌, length, map, refl, ap, sym, subst, nat_eq, Option, Some, unwrap_or, arith, inl}
-use Rattle.std.specs.Prelude.{◌&&◌, ◌||◌}
-use Rattle.std.specs.List.{IsDistinct, AllByRecursion, list_any, sum_by}
+use Rattle.std.proofs.Common.{◌≡◌, ℕ, ◌≤◌, Bool, true, false, cond, List, [], ◌∷◌, map, refl, ap, ◌∙◌, subst, nat_eq, Some, arith}
+use Rattle.std.specs.Prelude.{◌&&◌}
+use Rattle.std.specs.List.{AllByRecursion, list_any, sum_by}
 use Rattle.std.specs.Map.{lookup}
-use Rattle.std.proofs.lemmas.Bool.{eqb-true}
-use Rattle.std.proofs.lemmas.List.{nil_from_length}
+use Rattle.std.proofs.lemmas.Bool.{and_parts}
 use Rattle.std.proofs.lemmas.List.Elements.{recursion_from_All}
-use Rattle.std.proofs.lemmas.List.Sums.{sum_by-cons}
-use Rattle.std.proofs.lemmas.Map.Keys.{IsDistinct-head, IsDistinct-tail}
+use Rattle.std.proofs.lemmas.List.Folds.{Any-from_list_any, list_any_at}
+use Rattle.std.proofs.lemmas.List.Sums.{sum_by-le-sum_by}
 use Rattle.kt_rec.specs.Ranges.{IsFmSummaryXref, IsGulSummaryXref, IsId}
 use Rattle.kt_rec.specs.Rows.{Rows}
 use Rattle.kt_rec.specs.declared.summary.FmSummaryXref.{FmSummaryXref}
@@ -17,16 +16,13 @@ use Rattle.kt_rec.specs.declared.exposure.Coverage.{Coverage}
 use Rattle.kt_rec.specs.declared.exposure.Item.{Item}
 use Rattle.kt_rec.specs.declared.perspective.Perspective.{Perspective}
 use Rattle.kt_rec.specs.declared.perspective.Perspective.TheVariants.{Gul, Il, Ri}
-use Rattle.kt_rec.specs.declared.table.Table.TheVariants.{Coverages, Items}
-use Rattle.kt_keys.specs.Refusals.{at_stage, is_loaded}
-use Rattle.kt_checks.specs.CheckLaws.{keeps-from_valid}
-use Rattle.kt_checks.specs.KeptChecks.{values_within}
 use Rattle.kt_checks.specs.TableChecks.{tiv_of}
+use Rattle.kt_checks.specs.Worth.{covered_le}
 use Rattle.kt_tables.specs.SummaryLaws.{KeepsSummaries}
 use Rattle.kt_tables.specs.declared.summaries.SummaryRow.{SummaryRow}
 use Rattle.kt_tables.specs.Lookups.{exposure_of, id_has, is_unit, item_has, item_summary_rows, lies_beneath, output_has, output_summary_rows, summary_has, summary_in, summary_rows, top_unit, unit_has}
 use Rattle.kt_tables.specs.Portfolio.{PortfolioRows, IsPortfolio}
-use Rattle.kt_tables.specs.PortfolioLaws.{coverages_distinct, no_rows}
+use Rattle.kt_tables.specs.PortfolioLaws.{coverages_distinct, sizes_kept}
 
 -- ---- summaries are ids
 
@@ -56,34 +52,13 @@ output_each (row ∷ rows) each = (each.0.summary_id, output_each rows each.1)
 
 -- what follows from each row that passes follows from one that does
 any_gives : {X : Type 0} (test : X → Bool) (b : Bool) → ((row : X) → test row ≡ true → b ≡ true) → (rows : List X) → list_any test rows ≡ true → b ≡ true
-any_gives test b implies [] some = cc
-any_gives test b implies (row ∷ rows) some = by (test row) refl (any_gives test b implies rows) some
-  where
-    by : (t : Bool) → test row ≡ t → (list_any test rows ≡ true → b ≡ true) → (t || list_any test rows) ≡ true → b ≡ true
-    by true is rest some = implies row is
-    by false is rest some = rest some
+any_gives test b implies rows some = let found = Any-from_list_any test rows some in implies found.1 found.4
 
 -- a weaker test passes where a stronger one does
 any_weaker : {X : Type 0} (test other : X → Bool) → ((row : X) → test row ≡ true → other row ≡ true) → (rows : List X) → list_any test rows ≡ true → list_any other rows ≡ true
-any_weaker test other implies [] some = cc
-any_weaker test other implies (row ∷ rows) some = by (test row) refl (any_weaker test other implies rows) some
-  where
-    front : (t : Bool) → t ≡ true → (t || list_any other rows) ≡ true
-    front true is = refl
-    front false is = cc
-
-    back : (t : Bool) → list_any other rows ≡ true → (t || list_any other rows) ≡ true
-    back true later = refl
-    back false later = later
-
-    by : (t : Bool) → test row ≡ t → (list_any test rows ≡ true → list_any other rows ≡ true) → (t || list_any test rows) ≡ true → list_any other (row ∷ rows) ≡ true
-    by true is rest some = front (other row) (implies row is)
-    by false is rest some = back (other row) (rest some)
-
--- the second of two that both hold
-second : (a b : Bool) → (a && b) ≡ true → b ≡ true
-second true b both = both
-second false b both = cc
+any_weaker test other implies rows some =
+    let found = Any-from_list_any test rows some in
+    list_any_at other rows found.0 found.1 found.2 (ap other found.3 ∙ implies found.1 found.4)
 
 -- whether some item is of a coverage
 abbrev is_covered : List Item → ℕ → Bool
@@ -91,20 +66,20 @@ is_covered items coverage = list_any (λ row. nat_eq row.coverage_id coverage) i
 
 -- what an item is of, some item is of
 item_covered : (items : List Item) (item coverage : ℕ) → item_has items item coverage ≡ true → is_covered items coverage ≡ true
-item_covered items item coverage has = any_weaker (λ row. nat_eq row.item_id item && nat_eq row.coverage_id coverage) (λ row. nat_eq row.coverage_id coverage) (λ row both. second _ _ both) items has
+item_covered items item coverage has = any_weaker (λ row. nat_eq row.item_id item && nat_eq row.coverage_id coverage) (λ row. nat_eq row.coverage_id coverage) (λ row both. (and_parts _ _ both).1) items has
 
 -- what a unit is of, some item is of
 unit_covered : (rows : Rows) (rule unit coverage : ℕ) → unit_has rows rule unit coverage ≡ true → is_covered rows.items coverage ≡ true
 unit_covered rows rule unit coverage has = by (nat_eq rule 0) has
   where
     by : (b : Bool) → cond b (lies_beneath rows unit coverage) (item_has rows.items unit coverage) ≡ true → is_covered rows.items coverage ≡ true
-    by true has = any_weaker (λ row. is_unit unit (top_unit rows row.item_id) && nat_eq row.coverage_id coverage) (λ row. nat_eq row.coverage_id coverage) (λ row both. second _ _ both) rows.items has
+    by true has = any_weaker (λ row. is_unit unit (top_unit rows row.item_id) && nat_eq row.coverage_id coverage) (λ row. nat_eq row.coverage_id coverage) (λ row both. (and_parts _ _ both).1) rows.items has
     by false has = item_covered rows.items unit coverage has
 
 -- what an output is of, some item is of
 output_covered : (rows : Rows) (rule output coverage : ℕ) → output_has rows rule output coverage ≡ true → is_covered rows.items coverage ≡ true
 output_covered rows rule output coverage has =
-    any_gives (λ row. nat_eq row.output_id output && unit_has rows rule row.agg_id coverage) (is_covered rows.items coverage) (λ row both. unit_covered rows rule row.agg_id coverage (second _ _ both)) rows.fm_xref has
+    any_gives (λ row. nat_eq row.output_id output && unit_has rows rule row.agg_id coverage) (is_covered rows.items coverage) (λ row both. unit_covered rows rule row.agg_id coverage ((and_parts _ _ both).1)) rows.fm_xref has
 
 -- what an id is of, some item is of
 id_covered : (perspective : Perspective) (rows : Rows) (rule id coverage : ℕ) → id_has perspective rows rule id coverage ≡ true → is_covered rows.items coverage ≡ true
@@ -115,67 +90,9 @@ id_covered Ri rows rule id coverage has = output_covered rows rule id coverage h
 -- what a summary is of, some item is of
 summary_covered : (perspective : Perspective) (rows : Rows) (rule set summary coverage : ℕ) → summary_has perspective rows rule set summary coverage ≡ true → is_covered rows.items coverage ≡ true
 summary_covered perspective rows rule set summary coverage has =
-    any_gives (λ row. nat_eq row.set set && nat_eq row.summary summary && id_has perspective rows rule row.id coverage) (is_covered rows.items coverage) (λ row both. id_covered perspective rows rule row.id coverage (second _ _ both)) (summary_rows perspective rows) has
+    any_gives (λ row. nat_eq row.set set && nat_eq row.summary summary && id_has perspective rows rule row.id coverage) (is_covered rows.items coverage) (λ row both. id_covered perspective rows rule row.id coverage ((and_parts _ _ both).1)) (summary_rows perspective rows) has
 
 -- ---- sums of values
-
--- greater terms have a greater sum
-sum_le : {X : Type 0} (f g : X → ℕ) → ((x : X) → f x ≤ g x) → (xs : List X) → sum_by f xs ≤ sum_by g xs
-sum_le f g less [] = omega arith
-sum_le f g less (x ∷ xs) = omega (arith, sum_by-cons f x xs, sum_by-cons g x xs, less x, sum_le f g less xs)
-
--- a sum of sums
-sum_both : {X : Type 0} (f g : X → ℕ) (xs : List X) → sum_by (λ x. f x + g x) xs ≡ sum_by f xs + sum_by g xs
-sum_both f g [] = refl
-sum_both f g (x ∷ xs) = omega (arith, sum_by-cons (λ x. f x + g x) x xs, sum_by-cons f x xs, sum_by-cons g x xs, sum_both f g xs)
-
--- a sum of nothing
-sum_none : {X : Type 0} (xs : List X) → sum_by (λ x. 0) xs ≡ 0
-sum_none [] = refl
-sum_none (x ∷ xs) = omega (arith, sum_by-cons (λ x. 0) x xs, sum_none xs)
-
--- the values of the coverages with an id
-abbrev value_at : ℕ → Coverage → ℕ
-value_at id row = cond (nat_eq id row.coverage_id) row.tiv 0
-
--- a coverage that differs from all others adds nothing with them
-others_none : (id : ℕ) (coverages : List Coverage) → AllByRecursion (λ other. nat_eq id other ≡ false) (map (λ row. row.coverage_id) coverages) → sum_by (value_at id) coverages ≡ 0
-others_none id [] apart = refl
-others_none id (row ∷ coverages) apart = omega (arith, sum_by-cons (value_at id) row coverages, ap (λ b. cond b row.tiv 0) apart.0, others_none id coverages apart.1)
-
--- of distinct coverages one has an id at most
-one_value : (id : ℕ) (coverages : List Coverage) → IsDistinct nat_eq (map (λ row. row.coverage_id) coverages) → sum_by (value_at id) coverages ≤ tiv_of coverages id
-one_value id [] distinct = omega arith
-one_value id (row ∷ coverages) distinct =
-    subst (λ n. n ≤ tiv_of (row ∷ coverages) id) (sym (sum_by-cons (value_at id) row coverages))
-    (by (nat_eq id row.coverage_id) refl (one_value id coverages (IsDistinct-tail nat_eq row.coverage_id (map (λ row. row.coverage_id) coverages) distinct)))
-  where
-    later : Option ℕ
-    later = lookup (nat_eq id) (map (λ row. (row.coverage_id, row.tiv)) coverages)
-
-    by : (b : Bool) → nat_eq id row.coverage_id ≡ b → sum_by (value_at id) coverages ≤ unwrap_or later 0 → cond b row.tiv 0 + sum_by (value_at id) coverages ≤ unwrap_or (cond b (Some row.tiv) later) 0
-    by true is rest =
-        let none = others_none row.coverage_id coverages (IsDistinct-head nat_eq row.coverage_id (map (λ row. row.coverage_id) coverages) distinct) in
-        omega (arith, none, ap (λ id. sum_by (value_at id) coverages) (eqb-true id row.coverage_id is))
-    by false is rest = omega (arith, rest)
-
--- a value of one or the other is at most both
-either_le : (a b : Bool) (n : ℕ) → cond (a || b) n 0 ≤ cond a n 0 + cond b n 0
-either_le true b n = omega arith
-either_le false b n = omega arith
-
--- the coverages of items are worth at most what the items' coverages are, one for each item
-covered_le : (coverages : List Coverage) → IsDistinct nat_eq (map (λ row. row.coverage_id) coverages) → (items : List Item) → sum_by (λ row. cond (is_covered items row.coverage_id) row.tiv 0) coverages ≤ sum_by (λ row. tiv_of coverages row.coverage_id) items
-covered_le coverages distinct [] = omega (arith, sum_none coverages)
-covered_le coverages distinct (item ∷ items) =
-    omega (
-      arith,
-      sum_le (λ (row : Coverage). cond (is_covered (item ∷ items) row.coverage_id) row.tiv 0) (λ row. value_at item.coverage_id row + cond (is_covered items row.coverage_id) row.tiv 0) (λ row. either_le (nat_eq item.coverage_id row.coverage_id) (is_covered items row.coverage_id) row.tiv) coverages,
-      sum_both (value_at item.coverage_id) (λ row. cond (is_covered items row.coverage_id) row.tiv 0) coverages,
-      one_value item.coverage_id coverages distinct,
-      covered_le coverages distinct items,
-      sum_by-cons (λ (row : Item). tiv_of coverages row.coverage_id) item items,
-    )
 
 -- a value that a stronger test lets through is let through by a weaker one
 cond_le : (a b : Bool) (n : ℕ) → (a ≡ true → b ≡ true) → cond a n 0 ≤ cond b n 0
@@ -197,23 +114,9 @@ module _ (portfolio : PortfolioRows) (valid : IsPortfolio portfolio) where
       let rule = portfolio.need.rule in
       omega (
         arith,
-        sum_le (λ (row : Coverage). cond (summary_has perspective rows rule set summary row.coverage_id) row.tiv 0) (λ row. cond (is_covered rows.items row.coverage_id) row.tiv 0) (λ row. cond_le _ _ row.tiv (summary_covered perspective rows rule set summary row.coverage_id)) rows.coverages,
+        sum_by-le-sum_by (λ (row : Coverage). cond (summary_has perspective rows rule set summary row.coverage_id) row.tiv 0) (λ row. cond (is_covered rows.items row.coverage_id) row.tiv 0) rows.coverages (λ row. cond_le _ _ row.tiv (summary_covered perspective rows rule set summary row.coverage_id)),
         covered_le rows.coverages (coverages_distinct portfolio valid) rows.items,
       )
-
-  -- without items, or without coverages, that is nothing
-  tiv_of-none : (coverages : List Coverage) (items : List Item) → length coverages ≡ 0 → sum_by (λ row. tiv_of coverages row.coverage_id) items ≡ 0
-  tiv_of-none [] items none = sum_none items
-  tiv_of-none (row ∷ coverages) items none = absurd (omega arith)
-
-  -- it is at most 10^14 cents
-  worth_within : (a b : Bool) → is_loaded portfolio.need 0 Items ≡ a → is_loaded portfolio.need 0 Coverages ≡ b → worth ≤ 100000000000000
-  worth_within true true items coverages = values_within portfolio.rows portfolio.need (keeps-from_valid 5 portfolio.rows portfolio.need valid.valid) items coverages
-  worth_within false b items coverages =
-      let none = nil_from_length portfolio.rows.items (no_rows portfolio valid (at_stage 0 Items) (record { stages = omega arith; financial = inl refl }) items) in
-      omega (arith, ap (λ (rows : List Item). sum_by (λ row. tiv_of portfolio.rows.coverages row.coverage_id) rows) none)
-  worth_within true false items coverages =
-      omega (arith, tiv_of-none portfolio.rows.coverages portfolio.rows.items (no_rows portfolio valid (at_stage 0 Coverages) (record { stages = omega arith; financial = inl refl }) coverages))
 
   -- a summary that a set has for an id is an id itself
   known : (perspective : Perspective) (set id summary : ℕ) → summary_in perspective portfolio.rows set id ≡ Some summary → IsId summary
@@ -225,5 +128,5 @@ module _ (portfolio : PortfolioRows) (valid : IsPortfolio portfolio) where
   pub summaries_kept : KeepsSummaries portfolio
   summaries_kept = record {
     known = known;
-    exposures = λ perspective set summary. omega (arith, exposure_le perspective set summary, worth_within (is_loaded portfolio.need 0 Items) (is_loaded portfolio.need 0 Coverages) refl refl);
+    exposures = λ perspective set summary. omega (arith, exposure_le perspective set summary, (sizes_kept portfolio valid).values);
   }

@@ -1,60 +1,44 @@
 -- What the damage bins and the vulnerabilities of every portfolio keep, where damage bins are loaded.
 -- The rules: docs/CHECKS.md.
-use Rattle.std.specs.Prelude.{◌≡◌, ℕ, ◌≤◌, ◌<◌, ◌+◌, ◌&&◌, ◌||◌, ◌∷◌, ◌++◌, Bool, true, false, not, cond, nat_eq, nat_lt, List, [], length, take, map, refl, Option, None, Some, All, slice_index_or, zero, suc}
+use Rattle.std.specs.Prelude.{◌≡◌, ℕ, ◌≤◌, ◌<◌, ◌+◌, ◌&&◌, ◌||◌, ◌∷◌, Bool, true, false, not, cond, nat_eq, nat_lt, List, [], length, take, map, refl, None, All, slice_index_or, suc}
 use Rattle.std.specs.List.{filter, list_any, sum_by}
-use Rattle.std.proofs.Common.{sym, subst, ap, ◌∙◌, arith, inl, append-nil, append_assoc, zero-add}
-use Rattle.std.proofs.lemmas.Bool.{eqb-true, not-false, or_parts}
+use Rattle.std.proofs.Common.{sym, subst, ap, ◌∙◌, arith, inl, zero-add}
+use Rattle.std.proofs.lemmas.Bool.{eqb-true, ltb-false, not-false, or_parts}
 use Rattle.std.proofs.lemmas.Bool.Decides.{nat_tests}
-use Rattle.std.proofs.lemmas.List.{nil_from_length, length-take-le, length-map, get_or-map}
+use Rattle.std.proofs.lemmas.List.{nil_from_length, length-take-le}
 use Rattle.std.proofs.lemmas.List.Sums.{sum_by-cons}
 use Rattle.kt_rec.specs.Rows.{Rows}
 use Rattle.kt_rec.specs.declared.hazard.DamageBin.{DamageBin}
 use Rattle.kt_rec.specs.declared.hazard.Vulnerability.{Vulnerability as Damage}
 use Rattle.kt_rec.specs.declared.table.Table.TheVariants.{DamageBinDict, Vulnerability}
-use Rattle.kt_keys.specs.FirstRow.{first_refused_after, total_of}
+use Rattle.kt_keys.specs.FirstRow.{total_of}
 use Rattle.kt_keys.specs.Keys.{same_pair}
 use Rattle.kt_keys.specs.Refusals.{at_stage, is_loaded}
-use Rattle.kt_checks.specs.CheckLaws.{each_none, no_row, each_known, keeps-from_valid}
+use Rattle.kt_keys.specs.TotalLaws.{total_within}
+use Rattle.kt_checks.specs.CheckLaws.{keeps-from_valid, no_row, none_refused, same_pair_equiv}
 use Rattle.kt_checks.specs.Checks.{KeepsCheck, table_checks}
-use Rattle.kt_checks.specs.KeptChecks.{probabilities_within}
+use Rattle.kt_checks.specs.KeptTables.{base_empty}
 use Rattle.kt_checks.specs.TableChecks.{bad_bin_at}
 use Rattle.kt_tables.specs.Lookups.{damages_at}
 use Rattle.kt_tables.specs.Portfolio.{PortfolioRows, IsPortfolio}
-use Rattle.kt_tables.specs.PortfolioLaws.{limit_refusals, no_rows, within_limit}
+use Rattle.kt_tables.specs.PortfolioLaws.{names_kept, sizes_kept}
 
--- damage bins stand in order and are few, each mean is at most the whole, the bin of each damage is among them, and the
--- probabilities of a vulnerability at an intensity add to at most 1,001,000 parts per million
+-- damage bins stand in order and are few (1, 6), none begins above its end (6), each mean is at most the whole, the bin of each
+-- damage is among them (7), and the probabilities of a vulnerability at an intensity add to at most 1,001,000 parts per million (8)
 pub record KeepsDamage (rows : Rows) : Type 0 where
   pub few : length rows.damage_bin_dict ≤ 1000
   pub in_order : (k : ℕ) (d : DamageBin) → k < length rows.damage_bin_dict → (slice_index_or rows.damage_bin_dict k d).bin_index ≡ k + 1
+  pub ends : All (λ row. row.bin_from ≤ row.bin_to) rows.damage_bin_dict
   pub means : All (λ row. row.interpolation ≤ 1000000) rows.damage_bin_dict
   pub bins : All (λ row. (1 ≤ row.damage_bin_id) × (row.damage_bin_id ≤ length rows.damage_bin_dict)) rows.vulnerability
   pub within : (vulnerability intensity : ℕ) → sum_by (λ row. row.prob) (damages_at rows vulnerability intensity) ≤ 1001000
 
--- both of two tables are loaded
-both : (a b : Bool) → a ≡ true → b ≡ true → (a && b) ≡ true
-both true b is also = also
-both false b is also = is
-
--- a row that is not refused behind those before it
-none_refused : {A : Type 0} (refuses : List A → A → Bool) (rows : List A) → first_refused_after refuses [] rows ≡ None → (k : ℕ) (d : A) → k < length rows → refuses (take k rows) (slice_index_or rows k d) ≡ false
-none_refused {A} refuses rows none k d below = from [] rows none k below
-  where
-    step : (b : Bool) (n : ℕ) (found : Option ℕ) → cond b (Some n) found ≡ None → (b ≡ false) × (found ≡ None)
-    step true n found h = cc
-    step false n found h = (refl, h)
-
-    from : (earlier rows : List A) → first_refused_after refuses earlier rows ≡ None → (k : ℕ) → k < length rows → refuses (earlier ++ take k rows) (slice_index_or rows k d) ≡ false
-    from earlier [] h k below = absurd (omega arith)
-    from earlier (row ∷ rows) h zero below = subst (λ before. refuses before row ≡ false) (sym (append-nil earlier)) (step _ _ _ h).0
-    from earlier (row ∷ rows) h (suc k) below = subst (λ before. refuses before (slice_index_or rows k d) ≡ false) (append_assoc earlier (row ∷ []) (take k rows)) (from (earlier ++ row ∷ []) rows (step _ _ _ h).1 k (omega arith))
-
--- where no damage bin is bad, each has its row's number
-in_order-from_none : (bins : List DamageBin) → bad_bin_at bins ≡ None → (k : ℕ) (d : DamageBin) → k < length bins → (slice_index_or bins k d).bin_index ≡ k + 1
-in_order-from_none bins none k d below =
+-- where no damage bin is bad, each has its row's number and does not begin above its end
+fine_bin : (bins : List DamageBin) → bad_bin_at bins ≡ None → (k : ℕ) (d : DamageBin) → k < length bins → ((slice_index_or bins k d).bin_index ≡ k + 1) × ((slice_index_or bins k d).bin_from ≤ (slice_index_or bins k d).bin_to)
+fine_bin bins none k d below =
     let fine = none_refused (λ earlier bin. not (nat_eq bin.bin_index (length earlier + 1)) || nat_lt bin.bin_to bin.bin_from) bins none k d below in
     let parts = or_parts (not (nat_eq (slice_index_or bins k d).bin_index (length (take k bins) + 1))) (nat_lt (slice_index_or bins k d).bin_to (slice_index_or bins k d).bin_from) fine in
-    eqb-true _ _ (not-false _ parts.0) ∙ ap (λ n. n + 1) (length-take-le k bins (omega arith))
+    (eqb-true _ _ (not-false _ parts.0) ∙ ap (λ n. n + 1) (length-take-le k bins (omega arith)), ltb-false _ _ parts.1)
 
 -- a bin that is among bins in order is at most their number
 known_within : (bin before : ℕ) (bins : List DamageBin) → ((k : ℕ) (d : DamageBin) → k < length bins → (slice_index_or bins k d).bin_index ≡ before + k + 1) → list_any (nat_eq bin) (map (λ row. row.bin_index) bins) ≡ true → bin ≤ before + length bins
@@ -88,50 +72,34 @@ total_is_sum vulnerability intensity (row ∷ rows) =
     by false = zero-add _
 
 module _ (portfolio : PortfolioRows) (valid : IsPortfolio portfolio) (loaded : is_loaded portfolio.need 0 DamageBinDict ≡ true) where
-  -- where a table is not loaded, a fact of no rows
-  no_damage : is_loaded portfolio.need 0 Vulnerability ≡ false → portfolio.rows.vulnerability ≡ []
-  no_damage absent = nil_from_length _ (no_rows portfolio valid (at_stage 0 Vulnerability) (record { stages = omega arith; financial = inl refl }) absent)
-
-  -- there are at most 1,000 damage bins
-  bins_few : length portfolio.rows.damage_bin_dict ≤ 1000
+  -- row k is damage bin k, and does not begin above its end
+  bins_fine : (k : ℕ) (d : DamageBin) → k < length portfolio.rows.damage_bin_dict → ((slice_index_or portfolio.rows.damage_bin_dict k d).bin_index ≡ k + 1) × ((slice_index_or portfolio.rows.damage_bin_dict k d).bin_from ≤ (slice_index_or portfolio.rows.damage_bin_dict k d).bin_to)
   unfolding table_checks
-  bins_few =
-      let keeps : KeepsCheck 1 portfolio.rows portfolio.need = keeps-from_valid 1 portfolio.rows portfolio.need valid.valid in
-      within_limit 1000 (length portfolio.rows.damage_bin_dict) (no_row 1 (at_stage 0 DamageBinDict) _ _ (each_none (limit_refusals portfolio.rows portfolio.need) keeps.none 5) loaded)
-
-  -- row k is damage bin k
-  bins_in_order : (k : ℕ) (d : DamageBin) → k < length portfolio.rows.damage_bin_dict → (slice_index_or portfolio.rows.damage_bin_dict k d).bin_index ≡ k + 1
-  unfolding table_checks
-  bins_in_order =
+  bins_fine =
       let keeps : KeepsCheck 6 portfolio.rows portfolio.need = keeps-from_valid 6 portfolio.rows portfolio.need valid.valid in
-      in_order-from_none portfolio.rows.damage_bin_dict (no_row 6 (at_stage 0 DamageBinDict) _ _ keeps.none loaded)
-
-  -- the damage bin of each row of vulnerability is in the dictionary
-  bins_known : (b : Bool) → is_loaded portfolio.need 0 Vulnerability ≡ b → All (λ row. row.damage_bin_id ≤ length portfolio.rows.damage_bin_dict) portfolio.rows.vulnerability
-  unfolding table_checks
-  bins_known true is = λ k d below.
-      let keeps : KeepsCheck 7 portfolio.rows portfolio.need = keeps-from_valid 7 portfolio.rows portfolio.need valid.valid in
-      let rows = portfolio.rows.vulnerability in
-      let known = each_known nat_eq _ _ (no_row 7 (at_stage 0 Vulnerability) _ _ keeps.none (both _ _ is loaded)) in
-      subst (λ n. (slice_index_or rows k d).damage_bin_id ≤ n) (zero-add (length portfolio.rows.damage_bin_dict))
-      (known_within _ 0 portfolio.rows.damage_bin_dict (λ j e within. bins_in_order j e within ∙ omega arith)
-      (subst (λ id. list_any (nat_eq id) (map (λ row. row.bin_index) portfolio.rows.damage_bin_dict) ≡ true) (get_or-map (λ (row : Damage). row.damage_bin_id) rows k d 0 below)
-      (known k 0 (subst (λ n. k < n) (sym (length-map rows (λ row. row.damage_bin_id))) below))))
-  bins_known false is = subst (λ (rows : List Damage). All (λ row. row.damage_bin_id ≤ length portfolio.rows.damage_bin_dict) rows) (sym (no_damage is)) (λ k d below. absurd (omega arith))
+      fine_bin portfolio.rows.damage_bin_dict (no_row 6 (at_stage 0 DamageBinDict) _ _ keeps.none loaded)
 
   -- the probabilities of a vulnerability at an intensity
   sums_within : (b : Bool) → is_loaded portfolio.need 0 Vulnerability ≡ b → (vulnerability intensity : ℕ) → sum_by (λ row. row.prob) (damages_at portfolio.rows vulnerability intensity) ≤ 1001000
+  unfolding table_checks
   sums_within true is vulnerability intensity =
       let keeps : KeepsCheck 8 portfolio.rows portfolio.need = keeps-from_valid 8 portfolio.rows portfolio.need valid.valid in
-      subst (λ n. n ≤ 1001000) (total_is_sum vulnerability intensity portfolio.rows.vulnerability) (probabilities_within portfolio.rows portfolio.need keeps is (vulnerability, intensity))
-  sums_within false is vulnerability intensity = subst (λ (rows : List Damage). sum_by (λ row. row.prob) (filter (λ row. nat_eq row.vulnerability_id vulnerability && nat_eq row.intensity_bin_id intensity) rows) ≤ 1001000) (sym (no_damage is)) (omega arith)
+      subst (λ n. n ≤ 1001000) (total_is_sum vulnerability intensity portfolio.rows.vulnerability)
+      (total_within same_pair_equiv 1001000 (map (λ row. ((row.vulnerability_id, row.intensity_bin_id), row.prob)) portfolio.rows.vulnerability) (no_row 8 (at_stage 0 Vulnerability) _ _ keeps.none is) (vulnerability, intensity))
+  sums_within false is vulnerability intensity =
+      let none = nil_from_length portfolio.rows.vulnerability (base_empty portfolio.rows portfolio.need valid.only_needed Vulnerability is) in
+      subst (λ (rows : List Damage). sum_by (λ row. row.prob) (filter (λ row. nat_eq row.vulnerability_id vulnerability && nat_eq row.intensity_bin_id intensity) rows) ≤ 1001000) (sym none) (omega arith)
 
   -- what every portfolio keeps of damage
   pub keeps_damage : KeepsDamage portfolio.rows
   keeps_damage = record {
-    few = bins_few;
-    in_order = bins_in_order;
+    few = (sizes_kept portfolio valid).limits (at_stage 0 DamageBinDict) (record { stages = omega arith; financial = inl refl });
+    in_order = λ k d below. (bins_fine k d below).0;
+    ends = λ k d below. (bins_fine k d below).1;
     means = λ k d below. (valid.in_range.damage_bin_dict k d below).interpolation;
-    bins = λ k d below. ((valid.in_range.vulnerability k d below).least_damage, bins_known (is_loaded portfolio.need 0 Vulnerability) refl k d below);
+    bins = λ k d below. (
+      (valid.in_range.vulnerability k d below).least_damage,
+      subst (λ n. (slice_index_or portfolio.rows.vulnerability k d).damage_bin_id ≤ n) (zero-add (length portfolio.rows.damage_bin_dict)) (known_within _ 0 portfolio.rows.damage_bin_dict (λ j e within. (bins_fine j e within).0 ∙ omega arith) ((names_kept portfolio valid).damage_bins loaded k d below)),
+    );
     within = sums_within (is_loaded portfolio.need 0 Vulnerability) refl;
   }

@@ -5,3 +5,4 @@ pub mod PortfolioLaws
 pub mod DamageLaws
 pub mod SummaryLaws
 pub mod PeriodLaws
+pub mod PairLaws

@@ -1,13 +1,11 @@
 -- What contracts see of a portfolio: the rows of its tables, and what they are needed for.
 -- The rules: docs/CHECKS.md.
-use Rattle.std.specs.Prelude.{◌≡◌, ◌≤◌, All, true, false}
+use Rattle.std.specs.Prelude.{◌≡◌, ◌≤◌, All, true}
 use Rattle.kt_rec.specs.Ranges.{AreInRange, ArePeriods}
-use Rattle.kt_rec.specs.Rows.{Rows, row_count}
-use Rattle.kt_rec.specs.TableNames.{IsTableId}
-use Rattle.kt_rec.specs.TableSet.{is_in}
+use Rattle.kt_rec.specs.Rows.{Rows}
 use Rattle.kt_rec.specs.declared.table.Table.TheVariants as table
-use Rattle.kt_rec.specs.declared.table.TableId.{TableId}
 use Rattle.kt_checks.specs.Checks.{IsValid}
+pub use Rattle.kt_checks.specs.Checks.{HasOnlyNeeded}
 use Rattle.kt_keys.specs.Refusals.{is_loaded}
 use Rattle.kt_keys.specs.declared.need.Need.{Need}
 
@@ -15,10 +13,6 @@ use Rattle.kt_keys.specs.declared.need.Need.{Need}
 pub record PortfolioRows : Type 0 where
   pub rows : Rows
   pub need : Need
-
--- a table that is not needed has no row
-abbrev pub HasOnlyNeeded : Rows → Need → Type 0
-HasOnlyNeeded rows need = (id : TableId) → IsTableId id → is_in need.loaded id ≡ false → row_count rows id ≡ 0
 
 -- where the occurrences are loaded, the number of periods is in its range
 abbrev pub HasPeriods : Rows → Need → Type 0

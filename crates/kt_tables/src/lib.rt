@@ -3,6 +3,7 @@
 
 mod columns;
 mod exposures;
+mod kept;
 mod lookups;
 mod place;
 mod portfolio;

@@ -1,15 +1,12 @@
 //! A valid portfolio: tables that no check refuses.
 //! The rules: docs/CHECKS.md.
-ghost use Rattle.std.specs.Prelude.{◌≡◌, ◌⊎◌, true, None, IfOk, IfErr};
+ghost use Rattle.std.specs.Prelude.{◌≡◌, ◌⊎◌, None, IfOk, IfErr};
 ghost use Rattle.kt_rec.specs.Ranges.{AreInRange};
 ghost use Rattle.kt_rec.specs.Rows.{rows_of};
 ghost use Rattle.kt_checks.specs.Checks.{first_refusal, samples_refusal, answer_of};
-ghost use Rattle.kt_tables.specs.Portfolio.{HasOnlyNeeded, HasPeriods, IsPortfolio, KeepsPeriods};
+ghost use Rattle.kt_checks.specs.KeptChecks.{FitsSamples};
+ghost use Rattle.kt_tables.specs.Portfolio.{HasOnlyNeeded, HasPeriods};
 ghost use Rattle.kt_tables.specs.Lookups.{event_ids};
-ghost use Rattle.kt_tables.specs.DamageLaws.{KeepsDamage};
-ghost use Rattle.kt_tables.specs.SummaryLaws.{KeepsSummaries};
-ghost use Rattle.kt_keys.specs.Refusals.{is_loaded};
-ghost use Rattle.kt_rec.specs.declared.table.Table.TheVariants as table;
 
 use crate::lookups::Lookups;
 use kt_checks::{CheckStop, Need, SummaryCounts, first_check, samples_check, summary_counts};
@@ -89,40 +86,9 @@ impl Portfolio {
     /// Makes the checks 18 and 19 for a number of samples. Takes no memory.
     pub fn samples_fit(&self, samples: u32) -> Result<(), CheckStop>
         ensures exact { result ≡ answer_of (samples_refusal self.now.rows self.now.need samples) }
+        ensures fits { IfOk result (λ _. FitsSamples self.now.rows self.now.need samples) }
     {
+        self.is_valid();
         samples_check(&self.tables, &self.need, &self.counts, samples)
-    }
-
-    /// Says what every portfolio keeps.
-    pub fn is_valid(&self)
-        ensures valid { IsPortfolio self.now }
-    {
-        let _ = &self.need;
-    }
-
-    /// Says what every portfolio keeps of damage where the damage bins are loaded: they stand in order and are at most 1,000,
-    /// each damage is of one of them, and the probabilities of a vulnerability at an intensity are bounded.
-    pub fn keeps_damage(&self)
-        requires loaded { is_loaded self.now.need 0 table.DamageBinDict ≡ true }
-        ensures kept { KeepsDamage self.now.rows }
-    {
-        let _ = &self.need;
-    }
-
-    /// Says what every portfolio keeps of summaries: what a set has for an id is an id, and no exposure is above 10^14 cents,
-    /// since the coverages of all items, one for each item, are worth no more.
-    pub fn keeps_summaries(&self)
-        ensures kept { KeepsSummaries self.now }
-    {
-        let _ = &self.need;
-    }
-
-    /// Says what every portfolio keeps of periods where the occurrences are loaded: there are 1 to 100,000, and each
-    /// occurrence is in one of them.
-    pub fn keeps_periods(&self)
-        requires loaded { is_loaded self.now.need 0 table.Occurrence ≡ true }
-        ensures kept { KeepsPeriods self.now.rows }
-    {
-        let _ = &self.need;
     }
 }

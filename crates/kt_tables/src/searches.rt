@@ -1,7 +1,7 @@
 //! The lookups in a portfolio. None takes memory.
 //! The rules: docs/TABLES.md, "Tables".
 ghost use Rattle.std.specs.Prelude.{◌≡◌, ◌≤◌, ◌<◌, ◌+◌, ◌*◌, ◌^◌, ℕ, nat_eq, true, map, unwrap_or};
-ghost use Rattle.std.specs.List.{filter};
+ghost use Rattle.std.specs.List.{filter, list_any};
 ghost use Rattle.std.specs.HashMap.{get};
 ghost use Rattle.std.specs.List.Sorted.{IsPermutation, IsNonDecreasingBy, IsStrictlyIncreasing};
 ghost use Rattle.kt_rec.specs.declared.table.Table.TheVariants as table;
@@ -9,7 +9,8 @@ ghost use Rattle.kt_keys.specs.Keys.{same_pair};
 ghost use Rattle.kt_keys.specs.Refusals.{is_loaded};
 ghost use Rattle.kt_checks.specs.TableChecks.{tiv_of};
 ghost use Rattle.kt_tables.specs.Kept.{AreSummaries, AreExposures, damage_key};
-ghost use Rattle.kt_tables.specs.Lookups.{damages_at, item_pairs, items_with, return_periods_of, random_place, random_of, occurrences_of, place_in, summary_rows, has_summary_set, summary_in, exposure_of};
+ghost use Rattle.kt_tables.specs.PairLaws.{ArePairsRising};
+ghost use Rattle.kt_tables.specs.Lookups.{damages_at, item_pairs, items_with, pair_of, return_periods_of, random_place, random_of, occurrences_of, place_in, summary_rows, has_summary_set, summary_in, exposure_of};
 
 use crate::place::Place;
 use crate::portfolio::Portfolio;
@@ -56,6 +57,8 @@ impl Portfolio {
     /// The pairs of areaperil and vulnerability that some item has, each once, by rising areaperil and then vulnerability.
     pub fn pairs(&self) -> &[(u32, u32)]
         ensures value { result.now ≡ item_pairs self.now.rows.items }
+        ensures rising { ArePairsRising result.now }
+        ensures found { (pair : ℕ × ℕ) → list_any (same_pair pair) result.now ≡ list_any (λ row. same_pair pair (pair_of row)) self.now.rows.items }
     {
         &self.lookups.pairs
     }

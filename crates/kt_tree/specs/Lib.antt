@@ -7,3 +7,4 @@ pub mod Rising
 pub mod Programme
 pub mod Examples
 pub mod ProgrammeLaws
+pub mod OutputLaws

@@ -1,13 +1,11 @@
 -- Where the rows are right, the tree of a programme hangs together.
-use Rattle.std.specs.Prelude.{◌≡◌, ℕ, ◌+◌, ◌≤◌, ◌<◌, ◌&&◌, ◌||◌, Bool, true, false, cond, nat_eq, List, [], ◌∷◌, map, Option, Some, None, unwrap_or}
+use Rattle.std.specs.Prelude.{◌≡◌, ℕ, ◌≤◌, ◌<◌, ◌&&◌, ◌||◌, Bool, true, false, cond, nat_eq, List, [], ◌∷◌, map, Option, Some, None}
 use Rattle.std.specs.List.{AllByRecursion, IsDistinct, filter, list_any, sum_by}
 use Rattle.std.specs.Map.{lookup}
 use Rattle.std.specs.Cmp.{nat_eq_equiv}
-use Rattle.std.proofs.Common.{refl, sym, ap, subst, ◌∙◌, arith}
+use Rattle.std.proofs.Common.{refl, sym, subst, ◌∙◌, arith}
 use Rattle.std.proofs.lemmas.Bool.{and_from, or_left, or_right, eqb-true}
-use Rattle.std.proofs.lemmas.List.Sums.{sum_by-cons}
 use Rattle.kt_rec.specs.Rows.{Rows}
-use Rattle.kt_rec.specs.declared.exposure.Coverage.{Coverage}
 use Rattle.kt_rec.specs.declared.exposure.Item.{Item}
 use Rattle.kt_rec.specs.declared.financial.FmProgramme.{FmProgramme}
 use Rattle.kt_rec.specs.declared.financial.FmXref.{FmXref}
@@ -16,8 +14,9 @@ use Rattle.kt_keys.specs.Keys.{programme_of, policytc_of, profile_of as profiles
 use Rattle.kt_keys.specs.Units.{top_level}
 use Rattle.kt_checks.specs.OutputChecks.{climbed, next_unit}
 use Rattle.kt_checks.specs.TableChecks.{tiv_of}
+use Rattle.kt_checks.specs.Worth.{covered_le}
 use Rattle.kt_rules.specs.Profiles.{IsProfile, profile_of}
-use Rattle.kt_tree.specs.Sums.{sum_by-plus, sum_by-none, sum_by-below}
+use Rattle.kt_tree.specs.Sums.{sum_by-below}
 use Rattle.kt_tree.specs.Rising.{rising-member, rising-distinct}
 use Rattle.kt_tree.specs.Tree.{IsTree, is_unit}
 use Rattle.kt_tree.specs.Programme.{no_terms, terms_or_none, profile_with, with_id, terms_in, coverage_of, covered_ids, has_coverage, tiv_beneath, tree_of}
@@ -113,36 +112,6 @@ terms_in-are rows stage all layer level unit =
 
 -- ---- values
 
--- the value of one coverage, over distinct coverages
-value-once : (coverages : List Coverage) (id : ℕ) → IsDistinct nat_eq (map (λ row. row.coverage_id) coverages) → sum_by (λ row. cond (nat_eq id row.coverage_id) row.tiv 0) coverages ≡ tiv_of coverages id
-unfolding IsDistinct
-value-once [] id distinct = refl
-value-once (row ∷ coverages) id distinct =
-    sum_by-cons (λ x. cond (nat_eq id x.coverage_id) x.tiv 0) row coverages ∙ by (nat_eq id row.coverage_id) refl (value-once coverages id distinct.1)
-  where
-    apart : (rest : List Coverage) → AllByRecursion (λ other. nat_eq row.coverage_id other ≡ false) (map (λ x. x.coverage_id) rest) → id ≡ row.coverage_id → sum_by (λ x. cond (nat_eq id x.coverage_id) x.tiv 0) rest ≡ 0
-    apart [] all is = refl
-    apart (other ∷ rest) all is =
-        let none : nat_eq id other.coverage_id ≡ false = rw is all.0 in
-        let value : cond (nat_eq id other.coverage_id) other.tiv 0 ≡ 0 = ap (λ b. cond b other.tiv 0) none in
-        omega (arith, sum_by-cons (λ x. cond (nat_eq id x.coverage_id) x.tiv 0) other rest, value, apart rest all.1 is)
-
-    by : (b : Bool) → nat_eq id row.coverage_id ≡ b → sum_by (λ x. cond (nat_eq id x.coverage_id) x.tiv 0) coverages ≡ tiv_of coverages id → cond b row.tiv 0 + sum_by (λ x. cond (nat_eq id x.coverage_id) x.tiv 0) coverages ≡ unwrap_or (cond b (Some row.tiv) (lookup (nat_eq id) (map (λ x. (x.coverage_id, x.tiv)) coverages))) 0
-    by true is rest = let none = apart coverages distinct.0 (eqb-true id row.coverage_id is) in omega arith
-    by false is rest = omega arith
-
--- the values of the coverages that items are of are not above those of the items' coverages, added item by item
-covered-value : (coverages : List Coverage) → IsDistinct nat_eq (map (λ row. row.coverage_id) coverages) → (items : List Item) → sum_by (λ row. cond (list_any (λ item. nat_eq item.coverage_id row.coverage_id) items) row.tiv 0) coverages ≤ sum_by (λ item. tiv_of coverages item.coverage_id) items
-covered-value coverages distinct [] = omega (arith, sum_by-none {X = Coverage} coverages)
-covered-value coverages distinct (item ∷ items) =
-    let few = sum_by-below (λ row. cond (nat_eq item.coverage_id row.coverage_id || list_any (λ other. nat_eq other.coverage_id row.coverage_id) items) row.tiv 0) (λ row. cond (nat_eq item.coverage_id row.coverage_id) row.tiv 0 + cond (list_any (λ other. nat_eq other.coverage_id row.coverage_id) items) row.tiv 0) coverages (λ row. either (nat_eq item.coverage_id row.coverage_id) (list_any (λ other. nat_eq other.coverage_id row.coverage_id) items) row.tiv) in
-    omega (arith, few, sum_by-plus (λ row. cond (nat_eq item.coverage_id row.coverage_id) row.tiv 0) (λ row. cond (list_any (λ other. nat_eq other.coverage_id row.coverage_id) items) row.tiv 0) coverages, value-once coverages item.coverage_id distinct, covered-value coverages distinct items, sum_by-cons (λ other. tiv_of coverages other.coverage_id) item items)
-  where
-    either : (one other : Bool) (tiv : ℕ) → cond (one || other) tiv 0 ≤ cond one tiv 0 + cond other tiv 0
-    either true true tiv = omega arith
-    either true false tiv = omega arith
-    either false other tiv = omega arith
-
 -- a coverage of an id is one of an item
 coverage_of-item : (items : List Item) (id coverage : ℕ) → is_unit coverage (coverage_of items id) ≡ true → list_any (λ item. nat_eq item.coverage_id coverage) items ≡ true
 coverage_of-item [] id coverage is = cc
@@ -183,7 +152,7 @@ tiv_beneath-few : (rows : Rows) (stage : ℕ) → HasTree rows stage → (level 
 tiv_beneath-few rows stage has level unit =
     let few = sum_by-below (λ row. cond (has_coverage (covered_ids rows stage) (next_unit (programme_of rows stage)) level unit row.coverage_id) row.tiv 0) (λ row. cond (list_any (λ item. nat_eq item.coverage_id row.coverage_id) rows.items) row.tiv 0) rows.coverages
     (λ row. either (has_coverage (covered_ids rows stage) (next_unit (programme_of rows stage)) level unit row.coverage_id) _ row.tiv (beneath-item rows stage level unit row.coverage_id)) in
-    omega (arith, few, covered-value rows.coverages has.coverages rows.items, has.values)
+    omega (arith, few, covered_le rows.coverages has.coverages rows.items, has.values)
   where
     either : (one other : Bool) (tiv : ℕ) → (one ≡ true → other ≡ true) → cond one tiv 0 ≤ cond other tiv 0
     either true other tiv follows = rw (follows refl) (omega arith)

@@ -3,10 +3,12 @@
 ghost use Rattle.std.specs.Prelude.{◌≡◌, ◌≤◌, ℕ, slice_index};
 ghost use Rattle.std.specs.List.{sum};
 ghost use Rattle.kt_rec.specs.Rows.{Rows};
+ghost use Rattle.kt_checks.specs.KeptChecks.{KeepsOutputs};
 ghost use Rattle.kt_rules.specs.Amounts.{total};
 ghost use Rattle.kt_tree.specs.Tree.{Tree, IsTree, carry_of, ground_up, policy_loss, beneath};
 ghost use Rattle.kt_tree.specs.Sharing.{allocated};
 ghost use Rattle.kt_tree.specs.Programme.{tree_of};
+ghost use Rattle.kt_tree.specs.OutputLaws.{HasOutputs};
 ghost use Rattle.kt_tree.specs.ProgrammeLaws.{HasTree};
 
 /// The four amounts of a unit add to the ground-up loss beneath it.
@@ -32,4 +34,9 @@ pub fn an_id_without_a_loss_gets_nothing()
 /// Where the rows of a programme are right, they make a tree that hangs together.
 pub fn right_rows_make_a_tree()
     ensures { (rows : Rows) (stage : ℕ) → HasTree rows stage → IsTree (tree_of rows stage) }
+{}
+
+/// Where an output stands for each layer by the rows of the tables, as check 16 has it, one stands for each layer of the tree.
+pub fn each_layer_has_an_output()
+    ensures { (rows : Rows) (rule : ℕ) → KeepsOutputs rows rule → HasOutputs rows rule }
 {}

@@ -8,11 +8,11 @@ use Rattle.kt_index.specs.Exposure.{AddsUp, IsTotalOf, summary_covers, value_in}
 use Rattle.kt_index.specs.declared.exposure.SummaryUnit.{SummaryUnit}
 use Rattle.kt_index.specs.declared.exposure.UnitCoverage.{UnitCoverage}
 use Rattle.kt_fmtree.specs.Coverages.{rows_for, own_pair}
-use Rattle.kt_fmtree.proofs.CoverageLemmas.{adds_up}
+use Rattle.kt_checks.specs.Worth.{values-few}
 use Rattle.kt_fmtree.proofs.coverage.tivs.Goals as goal
 
 pub exposures-requires : goal.exposures-requires
-exposures-requires c = subst AddsUp (sym (fun_ext c.in_ok-values.ensures.value)) (adds_up c.args.coverages.now c.requires.distinct c.requires.ranges c.requires.few)
+exposures-requires c = subst AddsUp (sym (fun_ext c.in_ok-values.ensures.value)) (values-few c.args.coverages.now c.requires.distinct c.requires.ranges c.requires.few)
 
 pub returns : goal.returns
 returns c = record {

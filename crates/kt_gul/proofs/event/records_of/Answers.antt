@@ -1,12 +1,11 @@
 use Rattle.std.proofs.Common.{List, ◌∙◌, ◌++◌, map, ap, sym, subst, slice_index_or}
 use Rattle.std.specs.List.{filter_map}
-use Rattle.kt_tables.specs.PortfolioLaws.{items_distinct}
+use Rattle.kt_tables.specs.PortfolioLaws.{items_distinct, items_within}
 use Rattle.kt_gul.specs.declared.struck.StruckItem.{StruckItem}
 use Rattle.kt_gul.specs.Coverage.{IsGroup}
 use Rattle.kt_gul.specs.GroundUp.{item_record}
 use Rattle.kt_gul.specs.StruckItems.{item_of}
 use Rattle.kt_gul.proofs.GroupLemmas.{group_is, done_more}
-use Rattle.kt_gul.proofs.PortfolioLemmas.{items_within}
 use Rattle.kt_gul.proofs.event.records_of.Goals as goal
 
 pub push_coverage-requires-clause-group : goal.push_coverage-requires-clause-group

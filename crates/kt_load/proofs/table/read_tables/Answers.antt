@@ -7,7 +7,7 @@ use Rattle.kt_rec.specs.declared.table.Table.TheVariants as table
 use Rattle.kt_load.specs.Ends.{TellsLoad}
 use Rattle.kt_out.specs.InputFiles.{InputsState}
 use Rattle.kt_load.specs.FileNames.{table_at, file_name_of}
-use Rattle.kt_load.specs.Reading.{with_file}
+use Rattle.kt_load.specs.Reading.{with_table_file}
 use Rattle.kt_load.proofs.TablesLemmas.{IsOnTheWay, reads-on, skips-on, stops-on, reads-all, periods-from_all}
 use Rattle.kt_load.proofs.table.read_tables.Goals as goal
 use Rattle.kt_load.proofs.table.read_tables.Goals.{then-has+in-Ok, else-has}
@@ -18,7 +18,7 @@ returns-in-Err-clause-refused g c =
     let held = (g.I.Inputs.state c.args.inputs.now).held in
     let here = slice_index_or c.args.ids.now c.loop-id.id-index (table_at 0 table.Events) in
     let before = subst (λ r. IsOnTheWay held c.args.set.now c.args.ids.now r (rows_of c.args.tables.now) (rows_of c.loop-id.tables)) (drop-cons c.args.ids.now c.loop-id.id-index (table_at 0 table.Events) c.loop-id-test.true) c.loop-id.invariant.0 in
-    let tells = subst (λ (s : InputsState). IfSome s.held (λ files. TellsLoad (with_file (rows_of c.loop-id.tables) here (files (file_name_of here))) c.in-Err.stop)) c.loop-id.invariant.1 c.in-Err.ensures.refused in
+    let tells = subst (λ (s : InputsState). IfSome s.held (λ files. TellsLoad (with_table_file (rows_of c.loop-id.tables) here (files (file_name_of here))) c.in-Err.stop)) c.loop-id.invariant.1 c.in-Err.ensures.refused in
     stops-on held c.args.set.now c.args.ids.now here (drop (suc c.loop-id.id-index) c.args.ids.now) (rows_of c.args.tables.now) (rows_of c.loop-id.tables) c.in-Err.stop before (sym c.has.ensures.value ∙ c.if-has.true) tells
 
 -- src/table.rt:104:5
@@ -31,7 +31,7 @@ loop-id-preserved g c =
     let on_way = λ (now : Rows) (way : IsOnTheWay held c.args.set.now c.args.ids.now rest (rows_of c.args.tables.now) now). subst (λ n. IsOnTheWay held c.args.set.now c.args.ids.now (drop n c.args.ids.now) (rows_of c.args.tables.now) now) (sym (add-one c.loop-id.id-index)) way in
     elim c.if-has.branch [
       | then-has+in-Ok w ↦
-          let read = subst (λ (s : InputsState). IfSome s.held (λ files. with_file (rows_of c.loop-id.tables) here (files (file_name_of here)) ≡ Ok (rows_of w.read_table.new.tables))) c.loop-id.invariant.1 w.in-Ok.ensures.ok in
+          let read = subst (λ (s : InputsState). IfSome s.held (λ files. with_table_file (rows_of c.loop-id.tables) here (files (file_name_of here)) ≡ Ok (rows_of w.read_table.new.tables))) c.loop-id.invariant.1 w.in-Ok.ensures.ok in
           let next = reads-on held c.args.set.now c.args.ids.now here rest (rows_of c.args.tables.now) (rows_of c.loop-id.tables) (rows_of w.read_table.new.tables) before (sym c.has.ensures.value ∙ w.if-has.true) read w.in-Ok.ensures.keeps in
           let kept = w.in-Ok.ensures.inputs ∙ c.loop-id.invariant.1 in (
             subst (λ t. IsOnTheWay held c.args.set.now c.args.ids.now (drop (c.loop-id.id-index + 1) c.args.ids.now) (rows_of c.args.tables.now) (rows_of t)) (sym w.tables-is) (on_way (rows_of w.read_table.new.tables) next),
