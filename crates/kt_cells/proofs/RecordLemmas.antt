@@ -4,7 +4,6 @@ use Rattle.std.proofs.Math.Seq.{drop-length}
 use Rattle.kt_cells.proofs.ReadingLemmas.{drop-step}
 use Rattle.kt_cells.specs.Kinds.{width}
 use Rattle.std.proofs.Math.Nat.{mul-le-mul_right}
-use Rattle.kt_text.specs.Rows.{AreEven}
 use Rattle.kt_cells.specs.Records.{record_width, record_fields, records_in, field_value, record_rows, record_count, whole_records}
 use Rattle.kt_cells.specs.Reading.{table_rows, Tells-and_then}
 use Rattle.kt_cells.specs.Stops.{Tells}
@@ -81,12 +80,6 @@ pub length-records_in : (kinds : List Kind) (count : ℕ) (bytes : List ℕ) →
 unfolding records_in
 length-records_in kinds zero bytes = refl
 length-records_in kinds (suc count) bytes = ap suc (length-records_in kinds count (drop (record_width kinds) bytes))
-
--- each of them has the fields of its columns
-pub records_in-even : (kinds : List Kind) (count : ℕ) (bytes : List ℕ) → AreEven (length kinds) (records_in kinds count bytes)
-unfolding records_in
-records_in-even kinds zero bytes = tt
-records_in-even kinds (suc count) bytes = (length-record_fields kinds bytes, records_in-even kinds count (drop (record_width kinds) bytes))
 
 -- where a field stands in its record
 pub record_fields-field : (kinds : List Kind) (bytes : List ℕ) (column : ℕ) (d : Kind) → column < length kinds
