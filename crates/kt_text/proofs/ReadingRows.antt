@@ -5,8 +5,8 @@ use Rattle.csv.specs.Reading.{records, default_config, strip_bom}
 use Rattle.csv.specs.Records.{Row, fields_of, partial_of}
 use Rattle.csv.specs.declared.reader.Reader.{Reader}
 use Rattle.kt_text.specs.Records.{StandsBetween, TakesRecord, records_left, bytes_left}
-use Rattle.kt_text.specs.Rows.{in_rows, rows_of_width, first_ragged, csv_rows}
-use Rattle.kt_text.proofs.RowLemmas.{length-in_rows, in_rows-even, in_rows-append, rows_of_width-all, first_ragged-none, rows_of_width-before, first_ragged-next}
+use Rattle.kt_text.specs.Rows.{in_rows, first_ragged, csv_rows}
+use Rattle.kt_text.proofs.RowLemmas.{length-in_rows, in_rows-even, in_rows-append, first_ragged-none, first_ragged-next}
 
 -- the rows that were read are those in front of the ones that are left, and each took a byte
 pub record RowsRead (columns : ℕ) (start now : Reader (Bor (List ℕ))) (cells : Row) (rows : ℕ) : Type 0 where
@@ -38,24 +38,19 @@ module _ (columns : ℕ) (start now : Reader (Bor (List ℕ))) (cells : Row) (ro
       }
 
   -- at the end of the text
-  pub rows-end : records_left now ≡ [] → (in_rows columns rows (fields_of cells) ≡ rows_of_width columns (records_left start)) × (None ≡ first_ragged columns (records_left start))
+  pub rows-end : records_left now ≡ [] → (in_rows columns rows (fields_of cells) ≡ records_left start) × (first_ragged columns (records_left start) ≡ None)
   rows-end ended =
       let front = in_rows columns rows (fields_of cells) in
       let all : records_left start ≡ front = so_far.read ∙ ap (λ left. front ++ left) ended ∙ append-nil front in
-      let even = in_rows-even columns rows (fields_of cells) so_far.long in
-      (sym (ap (rows_of_width columns) all ∙ rows_of_width-all columns front even), sym (ap (first_ragged columns) all ∙ first_ragged-none columns front even))
+      (sym all, ap (first_ragged columns) all ∙ first_ragged-none columns front (in_rows-even columns rows (fields_of cells) so_far.long))
 
   -- at a row of another width
-  pub rows-ragged : (next : Reader (Bor (List ℕ))) (fields : List (List ℕ)) → TakesRecord now next fields → (length fields ≡ columns → ⊥)
-      → (in_rows columns rows (fields_of cells) ≡ rows_of_width columns (records_left start)) × (Some (rows + 1) ≡ first_ragged columns (records_left start))
+  pub rows-ragged : (next : Reader (Bor (List ℕ))) (fields : List (List ℕ)) → TakesRecord now next fields → (length fields ≡ columns → ⊥) → first_ragged columns (records_left start) ≡ Some (rows + 1)
   rows-ragged next fields taken other =
       let front = in_rows columns rows (fields_of cells) in
       let more = records_left next in
-      let all : records_left start ≡ front ++ fields ∷ more = so_far.read ∙ ap (λ left. front ++ left) taken.first in
-      let even = in_rows-even columns rows (fields_of cells) so_far.long in (
-        sym (ap (rows_of_width columns) all ∙ rows_of_width-before columns front even fields more other),
-        sym (ap (first_ragged columns) all ∙ first_ragged-next columns front even fields more other ∙ ap (λ n. Some (n + 1)) (length-in_rows columns rows (fields_of cells))),
-      )
+      ap (first_ragged columns) (so_far.read ∙ ap (λ left. front ++ left) taken.first)
+      ∙ first_ragged-next columns front (in_rows-even columns rows (fields_of cells) so_far.long) fields more other ∙ ap (λ n. Some (n + 1)) (length-in_rows columns rows (fields_of cells))
 
   -- a row more is still a count
   pub rows-fit : (next : Reader (Bor (List ℕ))) (fields : List (List ℕ)) → TakesRecord now next fields → rows + 1 ≤ bytes_left start

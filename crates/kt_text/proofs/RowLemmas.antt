@@ -7,7 +7,7 @@ use Rattle.std.specs.Option.{option_map, IsSome}
 use Rattle.std.specs.List.{prefix_len}
 use native.Mathlib.Nat.{mul-le-mul_right}
 use Rattle.csv.specs.Records.{field_at}
-use Rattle.kt_text.specs.Rows.{in_rows, has_width, rows_of_width, first_ragged, AreEven, cell}
+use Rattle.kt_text.specs.Rows.{in_rows, has_width, first_ragged, AreEven, cell}
 
 -- so many rows as were asked for
 pub length-in_rows : (columns rows : ℕ) (cells : List (List ℕ)) → length (in_rows columns rows cells) ≡ rows
@@ -99,10 +99,6 @@ module _ (columns : ℕ) (rows : List (List (List ℕ))) (even : AreEven columns
   all_pass : prefix_len (has_width columns) rows ≡ length rows
   all_pass = rw append-nil at (prefix_len-even columns rows [] even) ∙ add-zero (length rows)
 
-  -- all rows have the width
-  pub rows_of_width-all : rows_of_width columns rows ≡ rows
-  rows_of_width-all = rw all_pass (take_all (length rows) rows (omega arith))
-
   -- none has another width
   pub first_ragged-none : first_ragged columns rows ≡ None
   first_ragged-none = rw (all_pass, le-ltb (length rows) (length rows) (omega arith))
@@ -111,10 +107,6 @@ module _ (columns : ℕ) (rows : List (List (List ℕ))) (even : AreEven columns
   module _ (row : List (List ℕ)) (more : List (List (List ℕ))) (other : length row ≢ columns) where
     stops : prefix_len (has_width columns) (rows ++ row ∷ more) ≡ length rows
     stops = prefix_len-even columns rows (row ∷ more) even ∙ rw (ne_eqb (length row) columns other) (omega arith)
-
-    -- the rows before it are those in front
-    pub rows_of_width-before : rows_of_width columns (rows ++ row ∷ more) ≡ rows
-    rows_of_width-before = rw stops (take_at rows (row ∷ more) (length rows) refl)
 
     -- and its number is one more than theirs
     pub first_ragged-next : first_ragged columns (rows ++ row ∷ more) ≡ Some (length rows + 1)

@@ -10,13 +10,9 @@ pub overflow_add-result : goal.overflow_add-result
 overflow_add-result g c =
     omega (arith, rows-fit g.row.N _ _ _ _ c.loop-cells.invariant _ _ (MatchBool-at_true _ _ c.if-branch.true c.in_ok-next_record.ensures), c.requires.bytes)
 
-pub returns-then-len-clause-value : goal.returns-then-len-clause-value
-returns-then-len-clause-value g c =
-    (rows-ragged g.row.N _ _ _ _ c.loop-cells.invariant _ _ (MatchBool-at_true _ _ c.if-branch.true c.in_ok-next_record.ensures) (λ e. c.if-len.true (c.len.ensures ∙ e))).0
-
-pub returns-then-len-clause-found : goal.returns-then-len-clause-found
-returns-then-len-clause-found g c =
-    (rows-ragged g.row.N _ _ _ _ c.loop-cells.invariant _ _ (MatchBool-at_true _ _ c.if-branch.true c.in_ok-next_record.ensures) (λ e. c.if-len.true (c.len.ensures ∙ e))).1
+pub returns-then-len-clause-refused : goal.returns-then-len-clause-refused
+returns-then-len-clause-refused g c =
+    rows-ragged g.row.N _ _ _ _ c.loop-cells.invariant _ _ (MatchBool-at_true _ _ c.if-branch.true c.in_ok-next_record.ensures) (λ e. c.if-len.true (c.len.ensures ∙ e))
 
 pub overflow_add-rows : goal.overflow_add-rows
 overflow_add-rows g c =
@@ -30,5 +26,5 @@ loop-cells-preserved g c =
 pub returns-clause-value : goal.returns-clause-value
 returns-clause-value g c = (rows-end g.row.N _ _ _ _ c.loop-cells.invariant (MatchBool-at_false _ _ c.if-branch.false c.in_ok-next_record.ensures)).0
 
-pub returns-clause-found : goal.returns-clause-found
-returns-clause-found g c = (rows-end g.row.N _ _ _ _ c.loop-cells.invariant (MatchBool-at_false _ _ c.if-branch.false c.in_ok-next_record.ensures)).1
+pub returns-clause-absent : goal.returns-clause-absent
+returns-clause-absent g c = (rows-end g.row.N _ _ _ _ c.loop-cells.invariant (MatchBool-at_false _ _ c.if-branch.false c.in_ok-next_record.ensures)).1
