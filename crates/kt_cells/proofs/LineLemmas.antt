@@ -1,5 +1,5 @@
 -- Lines of plain fields are read back as their rows.
-use Rattle.std.proofs.Common.{◌≡◌, ℕ, ◌+◌, ◌^◌, ◌/◌, ◌<◌, ◌≤◌, Bool, true, false, List, [], ◌∷◌, ◌++◌, length, refl, sym, ap, ◌∙◌, arith, subst, length-append, append_assoc}
+use Rattle.std.proofs.Common.{◌≡◌, ℕ, ◌+◌, ◌^◌, ◌/◌, ◌<◌, ◌≤◌, Bool, true, false, List, [], ◌∷◌, ◌++◌, length, refl, sym, ap, ◌∙◌, arith, subst, inl, inr, length-append, append_assoc}
 use Rattle.std.specs.Prelude.{Ok, map, ◌==◌, ◌||◌, decimal, if◌then◌else◌}
 use Rattle.std.specs.Char.{digit_value}
 use Rattle.std.specs.List.{AllByRecursion, list_any}
@@ -20,8 +20,7 @@ use Rattle.kt_cells.specs.Ranges.{IsRow, AreRows}
 use Rattle.kt_cells.specs.Reading.{rule_after, table_rows}
 use Rattle.kt_cells.specs.Texts.{text_value, text_rows, row_texts, value_text}
 use Rattle.kt_cells.specs.declared.kind.Kind.{Kind}
-use Rattle.kt_cells.proofs.KindLemmas.{in_range-ok, highest-most, texts-read_back}
-use Rattle.kt_cells.specs.declared.kind.Kind.TheVariants as kind
+use Rattle.kt_cells.proofs.KindLemmas.{in_range-ok, kind-facts, texts-read_back}
 use Rattle.kt_cells.proofs.RangeLemmas.{cells_of, table_rows-written}
 
 -- the text of a plain field is the field
@@ -85,19 +84,10 @@ amount-plain scale value some small =
 
 -- the text of a value calls for no quotes, and is not blank
 value_text-plain : (k : Kind) (value : ℕ) → value ≤ 10 ^ 17 → IsPlain (value_text k value) × (0 < length (value_text k value))
-value_text-plain kind.Rule value small = decimal-plain value (omega arith)
-value_text-plain kind.Id value small = decimal-plain value (omega arith)
-value_text-plain kind.Count value small = decimal-plain value (omega arith)
-value_text-plain kind.IntensityBin value small = decimal-plain value (omega arith)
-value_text-plain kind.DamageBin value small = decimal-plain value (omega arith)
-value_text-plain kind.Level value small = decimal-plain value (omega arith)
-value_text-plain kind.Layer value small = decimal-plain value (omega arith)
-value_text-plain kind.SummarySet value small = decimal-plain value (omega arith)
-value_text-plain kind.Offset value small = decimal-plain value (omega arith)
-value_text-plain kind.Tiv value small = amount-plain 2 value (omega arith) (omega arith)
-value_text-plain kind.Amount value small = amount-plain 2 value (omega arith) (omega arith)
-value_text-plain (kind.Term t) value small = amount-plain 2 value (omega arith) (omega arith)
-value_text-plain kind.Ppm value small = amount-plain 6 value (omega arith) (omega arith)
+value_text-plain k value small = elim (kind-facts 0 k).scale [
+  | inl none ↦ rw none (decimal-plain value (omega arith))
+  | inr some ↦ elim some [ inl two ↦ rw two (amount-plain 2 value (omega arith) (omega arith)) | inr six ↦ rw six (amount-plain 6 value (omega arith) (omega arith)) ]
+]
 
 -- the texts of a row in range are plain
 row_texts-plain : (rule : ℕ) (kinds : List Kind) (values : List ℕ) → IsRow rule kinds values → AllByRecursion IsPlain (row_texts rule kinds values)
@@ -106,7 +96,7 @@ row_texts-plain rule [] [] range = tt
 row_texts-plain rule [] (value ∷ values) range = absurd range
 row_texts-plain rule (kind ∷ kinds) [] range = absurd range
 row_texts-plain rule (kind ∷ kinds) (value ∷ values) range =
-    ((value_text-plain (under rule kind) value (omega (arith, (in_range-ok (under rule kind) value value range.0).1, highest-most (under rule kind)))).0, row_texts-plain (rule_after rule kind value) kinds values range.1)
+    ((value_text-plain (under rule kind) value (omega (arith, (in_range-ok (under rule kind) value value range.0).1, (kind-facts rule (under rule kind)).most))).0, row_texts-plain (rule_after rule kind value) kinds values range.1)
 
 -- csv writes a row in range as a line, and reads it back as it is
 row_text-row : (kinds : List Kind) (values : List ℕ) → 0 < length kinds → IsRow 0 kinds values → (row_text default_writer (row_texts 0 kinds values) ≡ line (row_texts 0 kinds values)) × (read_back (row_texts 0 kinds values) ≡ row_texts 0 kinds values)
@@ -114,7 +104,7 @@ unfolding IsRow row_texts
 row_text-row [] values some range = absurd (omega arith)
 row_text-row (kind ∷ kinds) [] some range = absurd range
 row_text-row (kind ∷ kinds) (value ∷ values) some range =
-    let small : value ≤ 10 ^ 17 = omega (arith, (in_range-ok (under 0 kind) value value range.0).1, highest-most (under 0 kind)) in
+    let small : value ≤ 10 ^ 17 = omega (arith, (in_range-ok (under 0 kind) value value range.0).1, (kind-facts 0 (under 0 kind)).most) in
     let first = value_text-plain (under 0 kind) value small in
     (row_text-line (value_text (under 0 kind) value) (row_texts (rule_after 0 kind value) kinds values) (first.0, row_texts-plain (rule_after 0 kind value) kinds values range.1) first.1, refl)
 

@@ -1,6 +1,7 @@
 -- Records as bytes: their widths, and where a field stands.
 use Rattle.std.proofs.Common.{◌≡◌, ℕ, zero, suc, ◌+◌, ◌*◌, ◌<◌, ◌≤◌, List, [], ◌∷◌, length, take, drop, get_or, refl, ap, ◌∙◌, arith, drop-drop}
 use Rattle.std.proofs.Math.Seq.{drop-length}
+use Rattle.kt_cells.proofs.KindLemmas.{kind-facts}
 use Rattle.kt_cells.proofs.ReadingLemmas.{drop-step}
 use Rattle.kt_cells.specs.Kinds.{width}
 use Rattle.std.proofs.Math.Nat.{mul-le-mul_right}
@@ -12,50 +13,18 @@ use Rattle.kt_cells.specs.declared.stop.TableStop.TheVariants.{CutRecord}
 use Rattle.std.specs.Prelude.{Ok, Err, false, ◌%◌, ◌==◌}
 use Rattle.std.proofs.lemmas.Bool.Decides.{nat_tests}
 use Rattle.kt_cells.specs.declared.kind.Kind.{Kind}
-use Rattle.kt_cells.specs.declared.kind.Kind.TheVariants as kind
-
--- a value takes four or eight bytes
-pub width-least : (k : Kind) → 4 ≤ width k
-width-least kind.Offset = omega arith
-width-least kind.Tiv = omega arith
-width-least kind.Amount = omega arith
-width-least (kind.Term t) = omega arith
-width-least kind.Id = omega arith
-width-least kind.Count = omega arith
-width-least kind.IntensityBin = omega arith
-width-least kind.DamageBin = omega arith
-width-least kind.Level = omega arith
-width-least kind.Layer = omega arith
-width-least kind.SummarySet = omega arith
-width-least kind.Rule = omega arith
-width-least kind.Ppm = omega arith
-
-pub width-most : (k : Kind) → width k ≤ 8
-width-most kind.Offset = omega arith
-width-most kind.Tiv = omega arith
-width-most kind.Amount = omega arith
-width-most (kind.Term t) = omega arith
-width-most kind.Id = omega arith
-width-most kind.Count = omega arith
-width-most kind.IntensityBin = omega arith
-width-most kind.DamageBin = omega arith
-width-most kind.Level = omega arith
-width-most kind.Layer = omega arith
-width-most kind.SummarySet = omega arith
-width-most kind.Rule = omega arith
-width-most kind.Ppm = omega arith
 
 -- a record takes at most eight bytes a column
 pub record_width-most : (kinds : List Kind) → record_width kinds ≤ 8 * length kinds
 unfolding record_width
 record_width-most [] = omega arith
-record_width-most (kind ∷ kinds) = omega (arith, record_width-most kinds, width-most kind)
+record_width-most (kind ∷ kinds) = omega (arith, record_width-most kinds, (kind-facts 0 kind).wide)
 
 -- and one at least
 pub record_width-some : (kinds : List Kind) → 0 < length kinds → 0 < record_width kinds
 unfolding record_width
 record_width-some [] some = omega arith
-record_width-some (kind ∷ kinds) some = omega (arith, width-least kind)
+record_width-some (kind ∷ kinds) some = omega (arith, (kind-facts 0 kind).narrow)
 
 -- a column more
 pub record_width-more : (kinds : List Kind) (done : ℕ) (d : Kind) → done < length kinds → record_width (drop done kinds) ≡ width (get_or kinds done d) + record_width (drop (done + 1) kinds)
