@@ -1,15 +1,14 @@
 //! The fields of a CSV text whose rows have a fixed number of columns.
 
-ghost use Rattle.std.specs.Prelude.{◌≡◌, ◌<◌, ◌^◌, ◌++◌, [], None, List, length, IfOk, IfErr, OnOk};
-ghost use Rattle.csv.specs.Records.{fields_of, partial_of};
+ghost use Rattle.std.specs.Prelude.{◌≡◌, None, IfOk, IfErr};
 ghost use Rattle.kt_text.specs.Rows.{csv_rows, first_ragged};
 ghost use Rattle.kt_text.specs.FieldStop.{Explains};
-ghost use Rattle.kt_text.specs.Records.{StandsBetween, bytes_left, records_left};
+ghost use Rattle.kt_text.specs.Records.{StandsBetween, records_left};
 
 use crate::grid::Grid;
 use crate::records::{next_record, reader_of};
 use csv::{ByteRecord, Reader};
-use std::alloc::{AllocError, Global};
+use std::alloc::{AllocError, AllocFailed, Global};
 
 /// Why the fields of a text are not given.
 #[derive(Clone, Copy, Debug, PartialEq, Eq)]
@@ -21,6 +20,16 @@ pub enum FieldStop {
     },
     /// There is not enough memory.
     OutOfMemory,
+}
+
+impl<T: Drop> From<AllocFailed<T>> for FieldStop {
+    ghost use Rattle.kt_text.specs.declared.columns.FieldStop.TheVariants.{OutOfMemory};
+
+    ghost from_gives = { λ _ stop. stop ≡ OutOfMemory };
+
+    fn from(_error: AllocFailed<T>) -> FieldStop {
+        FieldStop::OutOfMemory
+    }
 }
 
 impl From<AllocError> for FieldStop {
@@ -48,46 +57,33 @@ pub fn fields<const N: usize>(alloc: Global, text: &[u8]) -> Result<Grid<N>, Fie
     let mut row = ByteRecord::new(alloc);
     if !next_record(&mut reader, &mut row)? {
         return Ok(Grid {
-            cells: ByteRecord::new(alloc),
-            rows: 0,
+            records: Vec::new(alloc),
         });
     }
-    rows_left(alloc, &mut reader, &mut row)
+    rows_left(alloc, &mut reader)
 }
 
 // The rows that the reader has left.
 fn rows_left<const N: usize>(
     alloc: Global,
     reader: &mut Reader<&[u8]>,
-    row: &mut ByteRecord,
 ) -> Result<Grid<N>, FieldStop>
-    requires stands { StandsBetween reader.old }
-    requires bytes { bytes_left reader.old < 2 ^ 63 }
+    requires { StandsBetween reader.old }
     ensures value { IfOk result (λ grid. grid ≡ records_left reader.old) }
     ensures absent { IfOk result (λ _. first_ragged N (records_left reader.old) ≡ None) }
 
     ensures refused { IfErr result (Explains N (records_left reader.old)) }
 {
-    let mut cells = ByteRecord::new(alloc);
-    let mut rows = 0;
-    while next_record(reader, row)? {
+    let mut records = Vec::new(alloc);
+    let mut row = ByteRecord::new(alloc);
+    while next_record(reader, &mut row)? {
         if row.len() != N {
-            return Err(FieldStop::Columns { row: rows + 1 });
+            return Err(FieldStop::Columns {
+                row: records.len() as u64 + 1,
+            });
         }
-        push_fields(&mut cells, row)?;
-        rows += 1;
+        records.push(row)?;
+        row = ByteRecord::new(alloc);
     }
-    Ok(Grid { cells, rows })
-}
-
-// Appends the fields of a row.
-fn push_fields(cells: &mut ByteRecord, row: &ByteRecord) -> Result<(), AllocError>
-    requires { partial_of cells.old ≡ [] }
-    ensures fields { OnOk result (fields_of cells.new ≡ fields_of cells.old ++ fields_of row.now) }
-    ensures partial { OnOk result (partial_of cells.new ≡ []) }
-{
-    for field in row {
-        cells.push_field(field)?;
-    }
-    Ok(())
+    Ok(Grid { records })
 }
