@@ -1,11 +1,15 @@
 -- What a sink has taken of the rows of a table that are read.
-use Rattle.std.specs.Prelude.{◌≡◌, ℕ, ◌+◌, Bool, List, ◌∷◌, length, Result, Ok}
+use Rattle.std.specs.Prelude.{◌≡◌, ℕ, ◌+◌, Bool, List, ◌∷◌, ◌++◌, length, Result, Ok}
 use Rattle.kt_text.specs.PlainText.{csv_records}
 use Rattle.kt_cells.specs.Reading.{behind, row_values, table_rows}
 use Rattle.kt_cells.specs.Texts.{text_value}
 use Rattle.kt_cells.specs.declared.kind.Kind.{Kind}
 use Rattle.kt_cells.specs.declared.stop.Cause.{Cause}
 use Rattle.kt_cells.specs.declared.stop.TableStop.{TableStop}
+
+-- what was there stands in front, and maybe more behind it
+abbrev pub HasMore : List ℕ → List ℕ → Type 0
+HasMore old new = (more : List ℕ) × (new ≡ old ++ more)
 
 -- all rows were read, and the sink has taken them
 pub record HandsOver (has_taken : List (List ℕ) → Type 0) (read : Result (List (List ℕ)) TableStop) : Type 0 where
