@@ -50,3 +50,12 @@ returns-clause-ok g c =
     ap (λ result. and_then result (λ rows. Ok (c.args.out.now ++ lines_with c.args.before c.args.kinds.now rows)))
     (record_rows-whole c.args.first c.args.kinds.now c.args.bytes.now all.rows all.are_read (rw c.record_width-width.ensures.value at c.if-bytes-width-ne0.false))
     ∙ ap Ok (sym all.are_taken)
+
+pub returns-in_err-read_record-clause-kept : goal.returns-in_err-read_record-clause-kept
+returns-in_err-read_record-clause-kept g c = let p = err_from_is_err_and c.from_residual.result c.from_residual.ensures.1 in rw p.1 (_, c.loop-row.invariant.are_taken)
+
+pub returns-in_err-append-clause-kept : goal.returns-in_err-append-clause-kept
+returns-in_err-append-clause-kept g c = let p = err_from_is_err_and c.from_residual-in_err-append.result c.from_residual-in_err-append.ensures.1 in rw (p.1, c.in_err-append.ensures.unchanged) (_, c.loop-row.invariant.are_taken)
+
+pub returns-then-bytes-width-ne0-clause-kept : goal.returns-then-bytes-width-ne0-clause-kept
+returns-then-bytes-width-ne0-clause-kept g c = (_, c.loop-row.invariant.are_taken)
