@@ -1,15 +1,13 @@
 -- The records of a slice are a slice of the records.
 use Rattle.std.proofs.Common.{◌≡◌, ℕ, zero, suc, ◌+◌, ◌-◌, ◌*◌, ◌/◌, ◌%◌, ◌<◌, ◌≤◌, List, [], ◌∷◌, length, take, drop, refl, sym, ap, ◌∙◌, arith, length-drop, drop-drop}
-use Rattle.std.specs.Prelude.{Bool, Result, Ok, Err, true, false, ◌==◌, if◌then◌else◌}
+use Rattle.std.specs.Prelude.{Result, Ok, Err, false}
 use Rattle.std.proofs.lemmas.List.{drop-take, length-take-le}
 use Rattle.std.proofs.Math.Nat.{div-mul-le_self, mul-div_cancel, mul-le-mul_right, mul-mod_left}
 use Rattle.kt_cells.specs.Kinds.{under, width}
 use Rattle.kt_cells.specs.Reading.{and_then, and_then-ok, at_place, in_front, value_from, rule_after, row_values, table_rows}
-use Rattle.kt_cells.specs.Records.{record_width, record_fields, record_count, records_in, whole_records, record_rows, field_value}
+use Rattle.kt_cells.specs.Records.{record_width, record_fields, record_count, records_in, whole_records, field_value}
 use Rattle.kt_cells.specs.declared.kind.Kind.{Kind}
 use Rattle.kt_cells.specs.declared.stop.Cause.{Cause}
-use Rattle.kt_cells.specs.declared.stop.TableStop.{TableStop}
-use Rattle.kt_cells.specs.declared.stop.TableStop.TheVariants.{CutRecord}
 use Rattle.kt_cells.specs.Laws.{SlicesGiveSlices}
 use Rattle.kt_cells.proofs.ReadingLemmas.{table_rows-row, table_rows-end, front-read}
 use Rattle.kt_cells.proofs.RecordLemmas.{record_width-some, record_rows-whole}

@@ -12,7 +12,7 @@ use Rattle.kt_cells.specs.declared.stop.TableStop.{TableStop}
 use Rattle.kt_cells.specs.Ranges.{IsRow, FitsBytes}
 use Rattle.kt_cells.specs.Taking.{HasRow}
 use Rattle.kt_cells.proofs.KindLemmas.{IsRow-fits, text_value-range}
-use Rattle.kt_cells.proofs.RangeLemmas.{not_below-above, row_values-range}
+use Rattle.kt_cells.proofs.RangeLemmas.{row_values-range}
 use Rattle.kt_cells.proofs.ReadingLemmas.{RowRead, row-start, row-more, row-end}
 
 -- the values of a row that is read are in range

@@ -15,9 +15,9 @@ loop-column-preserved c =
     let piece = little_bytes (width (get_or c.args.kinds.now c.loop-column.column Id)) (get_or c.args.values.now c.loop-column.column 0) in
     let written = rw c.width.ensures at c.in_ok-push_number.ensures.ok in (
       text-more c.args.out.now c.loop-column.out c.push_number.new.out piece
-      (record_bytes (drop c.loop-column.column c.args.kinds.now) (drop c.loop-column.column c.args.values.now)) (record_bytes (drop (c.loop-column.column + 1) c.args.kinds.now) (drop (c.loop-column.column + 1) c.args.values.now))
-      (record_bytes c.args.kinds.now c.args.values.now) c.loop-column.invariant.0 written
-      (record_bytes-more c.args.kinds.now c.args.values.now c.loop-column.column Id c.loop-column-test.true c.requires),
+          (record_bytes (drop c.loop-column.column c.args.kinds.now) (drop c.loop-column.column c.args.values.now)) (record_bytes (drop (c.loop-column.column + 1) c.args.kinds.now) (drop (c.loop-column.column + 1) c.args.values.now))
+          (record_bytes c.args.kinds.now c.args.values.now) c.loop-column.invariant.0 written
+          (record_bytes-more c.args.kinds.now c.args.values.now c.loop-column.column Id c.loop-column-test.true c.requires),
       more-piece c.args.out.now c.loop-column.out c.push_number.new.out piece c.loop-column.invariant.1 written,
     )
 

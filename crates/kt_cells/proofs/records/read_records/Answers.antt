@@ -1,10 +1,7 @@
-use Rattle.std.proofs.Common.{false, ◌≡◌, ◌+◌, length, ap, sym, subst, arith, ◌∙◌}
+use Rattle.std.proofs.Common.{false, ◌+◌, sym, arith}
 use Rattle.std.proofs.lemmas.List.{take_rest}
 use Rattle.std.proofs.lemmas.Result.{err_from_is_err_and}
-use Rattle.kt_cells.specs.Ranges.{AreRows}
-use Rattle.kt_cells.specs.Reading.{table_rows}
 use Rattle.kt_cells.specs.Records.{field_value, whole_records}
-use Rattle.kt_cells.specs.Taking.{HandsOver}
 use Rattle.kt_cells.proofs.ReadingLemmas.{front-start}
 use Rattle.kt_cells.proofs.RecordLemmas.{record_rows-whole, record_rows-cut}
 use Rattle.kt_cells.proofs.RecordReadLemmas.{record-range, values-fit, records-more, records-stop, records-end, rows-range, rows-count}

@@ -1,4 +1,4 @@
-use Rattle.std.proofs.Common.{◌≡◌, ◌==◌, ◌<◌, false, true, length, replicate, refl, sym, ◌∙◌, arith, length-drop}
+use Rattle.std.proofs.Common.{◌≡◌, ◌==◌, false, true, replicate, sym, ◌∙◌, arith, length-drop}
 use Rattle.std.proofs.lemmas.Bool.{eq-eqb, ne_eqb}
 use Rattle.std.proofs.lemmas.List.{length-replicate, take_rest}
 use Rattle.kt_cells.proofs.RangeLemmas.{not_below-above}
@@ -15,8 +15,8 @@ loop-column-preserved g c =
     let here : (c.loop-column.column == g.row.N) ≡ false = ne_eqb c.loop-column.column g.row.N (λ e. omega (arith, c.loop-column-test.true)) in
     rw c.rule_after-rule.ensures (
       plain-more c.args.kinds.now c.args.floor c.args.text.now c.loop-column.values c.loop-column.column c.loop-column.rule c.loop-column.least c.loop-column.rest.now (rw here at c.loop-column.invariant.0) _ _ c.in_ok-field.field.size c.in_ok-field.field.value c.in_ok-rest-2.rest.now
-      (omega (arith, c.told-kinds, c.loop-column-test.true)) c.in_ok-field.ensures.field (rw c.under.ensures at c.in_ok-field.ensures.value) (not_below-above c.loop-column.least c.in_ok-field.field.value (omega (arith, c.if-field-least.false)))
-      (rw take_rest at c.in_ok-rest-2.ensures.stands),
+          (omega (arith, c.told-kinds, c.loop-column-test.true)) c.in_ok-field.ensures.field (rw c.under.ensures at c.in_ok-field.ensures.value) (not_below-above c.loop-column.least c.in_ok-field.field.value (omega (arith, c.if-field-least.false)))
+          (rw take_rest at c.in_ok-rest-2.ensures.stands),
       omega (arith, c.loop-column.invariant.1, rw take_rest at c.in_ok-rest-2.ensures.shorter, length-drop c.in_ok-field.field.size c.loop-column.rest.now),
     )
 

@@ -1,7 +1,5 @@
-use Rattle.std.proofs.Common.{◌≡◌, ap, arith}
-use Rattle.kt_text.specs.PlainText.{csv_records}
-use Rattle.kt_cells.specs.Reading.{table_rows}
-use Rattle.kt_cells.specs.Texts.{text_rows, text_value}
+use Rattle.std.proofs.Common.{arith}
+use Rattle.kt_cells.specs.Texts.{text_rows}
 use Rattle.kt_cells.proofs.TextLemmas.{ranges-given}
 use Rattle.kt_cells.proofs.text_rows.read_text.Goals as goal
 

@@ -1,4 +1,4 @@
-use Rattle.std.proofs.Common.{◌≡◌, ◌+◌, length, take, drop, arith, sym, ◌∙◌}
+use Rattle.std.proofs.Common.{◌+◌, take, drop, arith, sym, ◌∙◌}
 use Rattle.std.proofs.lemmas.List.{length-take-le, take_rest}
 use native.Mathlib.Nat.{add-mul}
 use Rattle.kt_text.proofs.PlainAmountLemmas.{far_below, plain_whole, plain_fits, plain_point, point-split}
