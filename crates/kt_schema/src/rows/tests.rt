@@ -36,5 +36,9 @@ fn tells_the_first_bad_place_of_a_grid(rt: HostRuntime) {
     };
     assert_eq!(rt; stop, Some(falls), "an event below the one before it");
     let ragged = fields::<2>(alloc, b"coverage_id,tiv\n7,10.5\n8\n").err();
-    assert_eq!(rt; ragged, Some(FieldStop::Columns { row: 2 }), "a row of one field");
+    assert_eq!(rt;
+        ragged,
+        Some(FieldStop::Columns { row: 2 }),
+        "a row of one field"
+    );
 }
