@@ -1,5 +1,5 @@
 -- Values in the range of their kind.
-use Rattle.std.proofs.Common.{◌≡◌, ℕ, zero, suc, ◌^◌, ◌<◌, ◌≤◌, Bool, true, false, List, [], ◌∷◌, length, refl, sym, ap, ◌∙◌, inl, inr, arith, subst}
+use Rattle.std.proofs.Common.{◌≡◌, ℕ, zero, suc, ◌^◌, ◌<◌, ◌≤◌, Bool, true, false, List, [], ◌∷◌, length, refl, sym, ap, ◌∙◌, inl, inr, ◌⊎◌, arith, subst}
 use Rattle.std.specs.Prelude.{Result, Ok, Err, nat_lt, if◌then◌else◌}
 use Rattle.std.proofs.lemmas.Bool.Decides.{nat_tests}
 use Rattle.std.proofs.lemmas.List.{append-nil}
@@ -72,47 +72,39 @@ text_value-range k text value good =
     let found = and_then-ok (or_cause (number_in (decimals k) text)) (in_range k) value good in
     subst (λ (x : ℕ). in_range k x ≡ Ok value) (in_range-ok k found.0 value found.2).0 found.2
 
--- no value is above the greatest amount
-pub highest-most : (k : Kind) → highest k ≤ 10 ^ 17
-highest-most kind.Rule = omega arith
-highest-most kind.Id = omega arith
-highest-most kind.Count = omega arith
-highest-most kind.IntensityBin = omega arith
-highest-most kind.DamageBin = omega arith
-highest-most kind.Level = omega arith
-highest-most kind.Layer = omega arith
-highest-most kind.SummarySet = omega arith
-highest-most kind.Offset = omega arith
-highest-most kind.Tiv = omega arith
-highest-most kind.Amount = omega arith
-highest-most (kind.Term t) = omega arith
-highest-most kind.Ppm = omega arith
-
 -- an amount or parts per million fit eight bytes
 term-fits : (b : Bool) → highest (if b then kind.Ppm else kind.Amount) < 256 ^ 8
 term-fits true = omega arith
 term-fits false = omega arith
 
--- the values of a kind fit its bytes
-highest-fits : (rule : ℕ) (k : Kind) → highest (under rule k) < 256 ^ width k
-highest-fits rule kind.Rule = omega arith
-highest-fits rule kind.Id = omega arith
-highest-fits rule kind.Count = omega arith
-highest-fits rule kind.IntensityBin = omega arith
-highest-fits rule kind.DamageBin = omega arith
-highest-fits rule kind.Level = omega arith
-highest-fits rule kind.Layer = omega arith
-highest-fits rule kind.SummarySet = omega arith
-highest-fits rule kind.Offset = omega arith
-highest-fits rule kind.Tiv = omega arith
-highest-fits rule kind.Amount = omega arith
-highest-fits rule (kind.Term t) = term-fits (is_ppm t rule)
-highest-fits rule kind.Ppm = omega arith
+-- what holds of every kind: its values fit their bytes and are no amount above the limit, it takes four to eight bytes, and it is
+-- written with no, two or six decimals
+pub record KindFacts (rule : ℕ) (k : Kind) : Type 0 where
+  pub fits : highest (under rule k) < 256 ^ width k
+  pub most : highest k ≤ 10 ^ 17
+  pub narrow : 4 ≤ width k
+  pub wide : width k ≤ 8
+  pub scale : (decimals k ≡ 0) ⊎ ((decimals k ≡ 2) ⊎ (decimals k ≡ 6))
+
+pub kind-facts : (rule : ℕ) (k : Kind) → KindFacts rule k
+kind-facts rule kind.Rule = record { fits = omega arith; most = omega arith; narrow = omega arith; wide = omega arith; scale = inl refl }
+kind-facts rule kind.Id = record { fits = omega arith; most = omega arith; narrow = omega arith; wide = omega arith; scale = inl refl }
+kind-facts rule kind.Count = record { fits = omega arith; most = omega arith; narrow = omega arith; wide = omega arith; scale = inl refl }
+kind-facts rule kind.IntensityBin = record { fits = omega arith; most = omega arith; narrow = omega arith; wide = omega arith; scale = inl refl }
+kind-facts rule kind.DamageBin = record { fits = omega arith; most = omega arith; narrow = omega arith; wide = omega arith; scale = inl refl }
+kind-facts rule kind.Level = record { fits = omega arith; most = omega arith; narrow = omega arith; wide = omega arith; scale = inl refl }
+kind-facts rule kind.Layer = record { fits = omega arith; most = omega arith; narrow = omega arith; wide = omega arith; scale = inl refl }
+kind-facts rule kind.SummarySet = record { fits = omega arith; most = omega arith; narrow = omega arith; wide = omega arith; scale = inl refl }
+kind-facts rule kind.Offset = record { fits = omega arith; most = omega arith; narrow = omega arith; wide = omega arith; scale = inl refl }
+kind-facts rule kind.Tiv = record { fits = omega arith; most = omega arith; narrow = omega arith; wide = omega arith; scale = inr (inl refl) }
+kind-facts rule kind.Amount = record { fits = omega arith; most = omega arith; narrow = omega arith; wide = omega arith; scale = inr (inl refl) }
+kind-facts rule (kind.Term t) = record { fits = term-fits (is_ppm t rule); most = omega arith; narrow = omega arith; wide = omega arith; scale = inr (inl refl) }
+kind-facts rule kind.Ppm = record { fits = omega arith; most = omega arith; narrow = omega arith; wide = omega arith; scale = inr (inr refl) }
 
 -- the bytes of a value are read back
 pub numbers-read_back : ReadsBack field_value (λ rule k value. little_bytes (width k) value)
 numbers-read_back rule k value range =
-    let small : value < 256 ^ width k = omega (arith, (in_range-ok (under rule k) value value range).1, highest-fits rule k) in
+    let small : value < 256 ^ width k = omega (arith, (in_range-ok (under rule k) value value range).1, (kind-facts rule k).fits) in
     let long : length (little_bytes (width k) value) ≡ width k = length-bytes_low_first 0 (width k) value in
     let back : little_number (width k) (little_bytes (width k) value) ≡ value =
     ap (little_number (width k)) (sym (append-nil (little_bytes (width k) value))) ∙ little_number-reads_back (width k) value [] small in
@@ -120,25 +112,16 @@ numbers-read_back rule k value range =
 
 -- a count, or an amount in its decimals, is read back
 number_in-text : CountsAreReadBack → AmountsAreReadBack → (k : Kind) (value : ℕ) → value ≤ 10 ^ 17 → number_in (decimals k) (value_text k value) ≡ Ok value
-number_in-text counts amounts kind.Rule value small = counts value (omega arith)
-number_in-text counts amounts kind.Id value small = counts value (omega arith)
-number_in-text counts amounts kind.Count value small = counts value (omega arith)
-number_in-text counts amounts kind.IntensityBin value small = counts value (omega arith)
-number_in-text counts amounts kind.DamageBin value small = counts value (omega arith)
-number_in-text counts amounts kind.Level value small = counts value (omega arith)
-number_in-text counts amounts kind.Layer value small = counts value (omega arith)
-number_in-text counts amounts kind.SummarySet value small = counts value (omega arith)
-number_in-text counts amounts kind.Offset value small = counts value (omega arith)
-number_in-text counts amounts kind.Tiv value small = amounts 2 value (inl refl) small
-number_in-text counts amounts kind.Amount value small = amounts 2 value (inl refl) small
-number_in-text counts amounts (kind.Term t) value small = amounts 2 value (inl refl) small
-number_in-text counts amounts kind.Ppm value small = amounts 6 value (inr refl) small
+number_in-text counts amounts k value small = elim (kind-facts 0 k).scale [
+  | inl none ↦ rw none (counts value (omega arith))
+  | inr some ↦ elim some [ inl two ↦ rw two (amounts 2 value (inl refl) small) | inr six ↦ rw six (amounts 6 value (inr refl) small) ]
+]
 
 -- the text of a value is read back
 pub texts-read_back : CountsAreReadBack → AmountsAreReadBack → ReadsBack text_value (λ rule k value. value_text (under rule k) value)
 unfolding text_value
 texts-read_back counts amounts rule k value range =
-    let small : value ≤ 10 ^ 17 = omega (arith, (in_range-ok (under rule k) value value range).1, highest-most (under rule k)) in
+    let small : value ≤ 10 ^ 17 = omega (arith, (in_range-ok (under rule k) value value range).1, (kind-facts rule (under rule k)).most) in
     ap (λ result. and_then (or_cause result) (in_range (under rule k))) (number_in-text counts amounts (under rule k) value small) ∙ range
 
 -- the values of a row in range fit their bytes
@@ -146,5 +129,5 @@ pub IsRow-fits : (rule : ℕ) (kinds : List Kind) (values : List ℕ) → IsRow 
 unfolding IsRow
 IsRow-fits rule [] values range column within = absurd (omega arith)
 IsRow-fits rule (kind ∷ kinds) [] range column within = absurd range
-IsRow-fits rule (kind ∷ kinds) (value ∷ values) range zero within = omega (arith, (in_range-ok (under rule kind) value value range.0).1, highest-fits rule kind)
+IsRow-fits rule (kind ∷ kinds) (value ∷ values) range zero within = omega (arith, (in_range-ok (under rule kind) value value range.0).1, (kind-facts rule kind).fits)
 IsRow-fits rule (kind ∷ kinds) (value ∷ values) range (suc column) within = IsRow-fits (rule_after rule kind value) kinds values range.1 column (omega arith)

@@ -1,8 +1,8 @@
 -- Lines of plain fields are read back as their rows.
-use Rattle.std.proofs.Common.{◌≡◌, ℕ, suc, ◌+◌, ◌^◌, ◌/◌, ◌<◌, ◌≤◌, Bool, true, false, List, [], ◌∷◌, ◌++◌, length, take, refl, sym, ap, ◌∙◌, arith, subst, length-append, append_assoc}
-use Rattle.std.specs.Prelude.{Some, None, nat_lt, map, ◌==◌, ◌||◌, decimal, if◌then◌else◌}
+use Rattle.std.proofs.Common.{◌≡◌, ℕ, ◌^◌, ◌/◌, ◌<◌, ◌≤◌, Bool, true, false, List, [], ◌∷◌, ◌++◌, length, refl, sym, ap, ◌∙◌, arith, subst, inl, inr, length-append, append_assoc}
+use Rattle.std.specs.Prelude.{map, ◌==◌, ◌||◌, decimal, if◌then◌else◌}
 use Rattle.std.specs.Char.{digit_value}
-use Rattle.std.specs.List.{AllByRecursion, list_any, prefix_len}
+use Rattle.std.specs.List.{AllByRecursion, list_any}
 use Rattle.std.specs.Str.Parse.{AllDigits}
 use Rattle.std.proofs.lemmas.Bool.Decides.{nat_tests}
 use Rattle.std.proofs.lemmas.Fmt.{decimal_is_IsNumeral}
@@ -12,18 +12,15 @@ use Rattle.csv.specs.Writing.{default_writer, needs_quotes, needs_byte, by_style
 use Rattle.kt_money.specs.NumberText.{plain, padded_digits}
 use Rattle.kt_money.specs.NumberTextLaws.{plain-decimals, padded_digits-digits}
 use Rattle.kt_text.specs.Laws.{CountsAreReadBack, AmountsAreReadBack, RowsAreReadBack}
-use Rattle.kt_text.specs.Rows.{csv_rows, rows_of_width, first_ragged, rows_text, has_width}
+use Rattle.kt_text.specs.Rows.{csv_rows, rows_text}
 use Rattle.kt_cells.specs.Kinds.{under}
 use Rattle.kt_cells.specs.Laws.{IsPlain, LinesAreReadBack}
 use Rattle.kt_cells.specs.Lines.{line, fields_behind, rows_lines}
 use Rattle.kt_cells.specs.Ranges.{IsRow, AreRows}
 use Rattle.kt_cells.specs.Reading.{rule_after, table_rows}
-use Rattle.kt_cells.specs.Texts.{text_value, row_texts, value_text}
+use Rattle.kt_cells.specs.Texts.{text_value, text_rows, row_texts, value_text}
 use Rattle.kt_cells.specs.declared.kind.Kind.{Kind}
-use Rattle.kt_cells.proofs.KindLemmas.{in_range-ok, highest-most, texts-read_back}
-use Rattle.kt_cells.proofs.TextLemmas.{text_rows-even}
-use Rattle.kt_cells.specs.declared.kind.Kind.TheVariants as kind
-use Rattle.std.proofs.Math.Seq.{take-length}
+use Rattle.kt_cells.proofs.KindLemmas.{in_range-ok, kind-facts, texts-read_back}
 use Rattle.kt_cells.proofs.RangeLemmas.{cells_of, table_rows-written}
 
 -- the text of a plain field is the field
@@ -61,10 +58,6 @@ row_text-line field fields plain some =
     ∙ append_assoc field (fields_text default_writer fields) (10 ∷ [])
     ∙ ap (λ text. field ++ text) (fields_behind-plain fields plain.1)
 
--- where all rows are even there is no ragged one
-none_ragged : (even all : ℕ) → even ≡ all → (if nat_lt even all then Some (even + 1) else None) ≡ None
-none_ragged even all same = let test : nat_lt even all ≡ false = grind (arith, nat_tests, same) in rw test refl
-
 -- a digit calls for no quotes
 digit-plain : (digit : ℕ) → digit_value digit < 10 → needs_byte default_writer digit ≡ false
 digit-plain digit small = grind (arith, nat_tests)
@@ -91,19 +84,10 @@ amount-plain scale value some small =
 
 -- the text of a value calls for no quotes, and is not blank
 value_text-plain : (k : Kind) (value : ℕ) → value ≤ 10 ^ 17 → IsPlain (value_text k value) × (0 < length (value_text k value))
-value_text-plain kind.Rule value small = decimal-plain value (omega arith)
-value_text-plain kind.Id value small = decimal-plain value (omega arith)
-value_text-plain kind.Count value small = decimal-plain value (omega arith)
-value_text-plain kind.IntensityBin value small = decimal-plain value (omega arith)
-value_text-plain kind.DamageBin value small = decimal-plain value (omega arith)
-value_text-plain kind.Level value small = decimal-plain value (omega arith)
-value_text-plain kind.Layer value small = decimal-plain value (omega arith)
-value_text-plain kind.SummarySet value small = decimal-plain value (omega arith)
-value_text-plain kind.Offset value small = decimal-plain value (omega arith)
-value_text-plain kind.Tiv value small = amount-plain 2 value (omega arith) (omega arith)
-value_text-plain kind.Amount value small = amount-plain 2 value (omega arith) (omega arith)
-value_text-plain (kind.Term t) value small = amount-plain 2 value (omega arith) (omega arith)
-value_text-plain kind.Ppm value small = amount-plain 6 value (omega arith) (omega arith)
+value_text-plain k value small = elim (kind-facts 0 k).scale [
+  | inl none ↦ rw none (decimal-plain value (omega arith))
+  | inr some ↦ elim some [ inl two ↦ rw two (amount-plain 2 value (omega arith) (omega arith)) | inr six ↦ rw six (amount-plain 6 value (omega arith) (omega arith)) ]
+]
 
 -- the texts of a row in range are plain
 row_texts-plain : (rule : ℕ) (kinds : List Kind) (values : List ℕ) → IsRow rule kinds values → AllByRecursion IsPlain (row_texts rule kinds values)
@@ -112,15 +96,7 @@ row_texts-plain rule [] [] range = tt
 row_texts-plain rule [] (value ∷ values) range = absurd range
 row_texts-plain rule (kind ∷ kinds) [] range = absurd range
 row_texts-plain rule (kind ∷ kinds) (value ∷ values) range =
-    ((value_text-plain (under rule kind) value (omega (arith, (in_range-ok (under rule kind) value value range.0).1, highest-most (under rule kind)))).0, row_texts-plain (rule_after rule kind value) kinds values range.1)
-
--- they are as many as the columns
-length-row_texts : (rule : ℕ) (kinds : List Kind) (values : List ℕ) → IsRow rule kinds values → length (row_texts rule kinds values) ≡ length kinds
-unfolding IsRow row_texts
-length-row_texts rule [] [] range = refl
-length-row_texts rule [] (value ∷ values) range = absurd range
-length-row_texts rule (kind ∷ kinds) [] range = absurd range
-length-row_texts rule (kind ∷ kinds) (value ∷ values) range = ap suc (length-row_texts (rule_after rule kind value) kinds values range.1)
+    ((value_text-plain (under rule kind) value (omega (arith, (in_range-ok (under rule kind) value value range.0).1, (kind-facts rule (under rule kind)).most))).0, row_texts-plain (rule_after rule kind value) kinds values range.1)
 
 -- csv writes a row in range as a line, and reads it back as it is
 row_text-row : (kinds : List Kind) (values : List ℕ) → 0 < length kinds → IsRow 0 kinds values → (row_text default_writer (row_texts 0 kinds values) ≡ line (row_texts 0 kinds values)) × (read_back (row_texts 0 kinds values) ≡ row_texts 0 kinds values)
@@ -128,7 +104,7 @@ unfolding IsRow row_texts
 row_text-row [] values some range = absurd (omega arith)
 row_text-row (kind ∷ kinds) [] some range = absurd range
 row_text-row (kind ∷ kinds) (value ∷ values) some range =
-    let small : value ≤ 10 ^ 17 = omega (arith, (in_range-ok (under 0 kind) value value range.0).1, highest-most (under 0 kind)) in
+    let small : value ≤ 10 ^ 17 = omega (arith, (in_range-ok (under 0 kind) value value range.0).1, (kind-facts 0 (under 0 kind)).most) in
     let first = value_text-plain (under 0 kind) value small in
     (row_text-line (value_text (under 0 kind) value) (row_texts (rule_after 0 kind value) kinds values) (first.0, row_texts-plain (rule_after 0 kind value) kinds values range.1) first.1, refl)
 
@@ -143,16 +119,6 @@ rows_text-rows kinds (row ∷ rows) some range =
       ap (λ fields. fields ∷ map read_back (map (row_texts 0 kinds) rows)) here.1 ∙ ap (λ more. row_texts 0 kinds row ∷ more) others.1,
     )
 
--- all of them have the width of the table
-prefix_len-rows : (kinds : List Kind) (rows : List (List ℕ)) → AreRows kinds rows → prefix_len (has_width (length kinds)) (map (row_texts 0 kinds) rows) ≡ length (map (row_texts 0 kinds) rows)
-unfolding AreRows
-prefix_len-rows kinds [] range = refl
-prefix_len-rows kinds (row ∷ rows) range =
-    let long : length (row_texts 0 kinds row) ≡ length kinds = length-row_texts 0 kinds row range.0 in
-    let test : (length (row_texts 0 kinds row) == length kinds) ≡ true = grind (arith, nat_tests, long) in
-    let others = prefix_len-rows kinds rows range.1 in
-    rw test (omega (arith, others))
-
 -- the cells of a row are its texts
 cells_of-texts : (rule : ℕ) (kinds : List Kind) (values : List ℕ) → cells_of (λ rule k value. value_text (under rule k) value) rule kinds values ≡ row_texts rule kinds values
 unfolding cells_of row_texts
@@ -166,7 +132,7 @@ map_cells kinds (row ∷ rows) = ap (λ fields. fields ∷ map (cells_of (λ rul
 
 -- lines are read back as their rows
 pub lines-read_back : CountsAreReadBack → AmountsAreReadBack → RowsAreReadBack → LinesAreReadBack
-unfolding rows_text
+unfolding rows_text text_rows
 lines-read_back counts amounts written ordered kinds name names rows some range order named heading bom =
     let cells : List (List (List ℕ)) = map (row_texts 0 kinds) rows in
     let text : List ℕ = line (name ∷ names) ++ rows_lines kinds rows in
@@ -174,8 +140,5 @@ lines-read_back counts amounts written ordered kinds name names rows some range 
     let same : rows_text ((name ∷ names) ∷ cells) ≡ text = ap (λ head. head ++ rows_text cells) (row_text-line name names heading named) ∙ ap (λ more. line (name ∷ names) ++ more) both.0 in
     let read : csv_rows text ≡ cells =
     ap csv_rows (sym same) ∙ written (name ∷ names) cells (ap strip_bom same ∙ bom ∙ sym same) ∙ both.1 in
-    let all : prefix_len (has_width (length kinds)) cells ≡ length cells = prefix_len-rows kinds rows range in
-    let even : rows_of_width (length kinds) cells ≡ cells = ap (λ n. take n cells) all ∙ take-length cells in
-    let whole : first_ragged (length kinds) cells ≡ None = none_ragged (prefix_len (has_width (length kinds)) cells) (length cells) all in
-    text_rows-even ordered kinds text (length kinds) cells None refl (sym even ∙ ap (rows_of_width (length kinds)) (sym read)) (sym whole ∙ ap (first_ragged (length kinds)) (sym read)) rows
-    (ap (table_rows text_value ordered 1 kinds 0 1) (sym (map_cells kinds rows)) ∙ table_rows-written text_value (λ rule k value. value_text (under rule k) value) (texts-read_back counts amounts) ordered 1 kinds 0 1 rows range order) refl
+    ap (table_rows text_value ordered 1 kinds 0 1) (read ∙ sym (map_cells kinds rows))
+    ∙ table_rows-written text_value (λ rule k value. value_text (under rule k) value) (texts-read_back counts amounts) ordered 1 kinds 0 1 rows range order

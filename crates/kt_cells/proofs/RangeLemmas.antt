@@ -1,9 +1,8 @@
 -- What is read is in range and in order, and what is in range is read back from what it is written as.
 use Rattle.std.proofs.Common.{◌≡◌, ℕ, suc, ◌+◌, ◌<◌, ◌≤◌, Bool, true, false, List, [], ◌∷◌, length, get_or, refl, sym, ap, ◌∙◌, arith, subst}
 use Rattle.std.specs.Prelude.{Result, Ok, Err, nat_lt, map, if◌then◌else◌}
-use Rattle.std.specs.List.{AllByRecursion}
 use Rattle.kt_cells.specs.declared.stop.Cause.TheVariants.{Order}
-use Rattle.kt_cells.proofs.ReadingLemmas.{row_values-value, row_values-end, table_rows-row, table_rows-end}
+use Rattle.kt_cells.proofs.ReadingLemmas.{row_values-value, row_values-end, table_rows-row, table_rows-end, front-read}
 use Rattle.std.proofs.lemmas.Bool.Decides.{nat_tests}
 use Rattle.kt_cells.specs.Kinds.{under, in_range}
 use Rattle.kt_cells.specs.Ranges.{IsRow, AreRows, AreInOrder}
@@ -64,24 +63,29 @@ row_values-range read ranged rule floor row column (kind ∷ kinds) (cell ∷ ce
 
 -- the rows of a table that is read are in range and in order
 pub table_rows-range : {C : Type 0} (read : Kind → C → Result ℕ Cause) → ReadsInRange read → (ordered : Bool) (first : ℕ) (kinds : List Kind) (floor row : ℕ) (cells : List (List C)) (rows : List (List ℕ)) → 0 < length kinds
-    → AllByRecursion (λ row. length row ≡ length kinds) cells → table_rows read ordered first kinds floor row cells ≡ Ok rows → AreRows kinds rows × AreInOrder ordered floor rows
-unfolding table_rows AreRows AreInOrder
-table_rows-range read ranged ordered first kinds floor row [] rows some even good =
-    let same : [] ≡ rows = cc in
+    → table_rows read ordered first kinds floor row cells ≡ Ok rows → AreRows kinds rows × AreInOrder ordered floor rows
+unfolding AreRows AreInOrder
+table_rows-range read ranged ordered first kinds floor row [] rows some good =
+    let same : [] ≡ rows = cc (table_rows-end read ordered first kinds floor row, good) in
     subst (λ (rows : List (List ℕ)). AreRows kinds rows × AreInOrder ordered floor rows) same (tt, tt)
-table_rows-range read ranged ordered first kinds floor row (cells ∷ rest) rows some even good =
-    let front = and_then-ok (row_values read 0 floor row first kinds cells) (λ values. in_front values (table_rows read ordered first kinds (floor_after ordered values) (row + 1) rest)) rows good in
-    let more = and_then-ok (table_rows read ordered first kinds (floor_after ordered front.0) (row + 1) rest) (λ rows. Ok (front.0 ∷ rows)) rows front.2 in
-    let same : front.0 ∷ more.0 ≡ rows = cc (more.2) in
-    let here = row_values-range read ranged 0 floor row first kinds cells front.0 even.0 front.1 in
-    let others = table_rows-range read ranged ordered first kinds (floor_after ordered front.0) (row + 1) rest more.0 some even.1 more.1 in
-    subst (λ (rows : List (List ℕ)). AreRows kinds rows × AreInOrder ordered floor rows) same ((here.0, others.0), (here.1 some, others.1))
+table_rows-range read ranged ordered first kinds floor row (cells ∷ rest) rows some good =
+    let front = front-read read ordered first kinds floor row cells rest rows good in
+    let here = row_values-range read ranged 0 floor row first kinds cells front.values front.width front.here in
+    let others = table_rows-range read ranged ordered first kinds (floor_after ordered front.values) (row + 1) rest front.more some front.behind_it in
+    subst (λ (rows : List (List ℕ)). AreRows kinds rows × AreInOrder ordered floor rows) front.all ((here.0, others.0), (here.1 some, others.1))
 
 -- the cells that the values of a row are written as
 unfoldable pub cells_of : (ℕ → Kind → ℕ → List ℕ) → ℕ → List Kind → List ℕ → List (List ℕ)
 cells_of write rule [] values = []
 cells_of write rule (kind ∷ kinds) [] = []
 cells_of write rule (kind ∷ kinds) (value ∷ values) = write rule kind value ∷ cells_of write (rule_after rule kind value) kinds values
+
+-- they are as many as the columns
+pub length-cells_of : (write : ℕ → Kind → ℕ → List ℕ) (rule : ℕ) (kinds : List Kind) (values : List ℕ) → IsRow rule kinds values → length (cells_of write rule kinds values) ≡ length kinds
+unfolding IsRow cells_of
+length-cells_of write rule [] values range = refl
+length-cells_of write rule (kind ∷ kinds) [] range = absurd range
+length-cells_of write rule (kind ∷ kinds) (value ∷ values) range = ap suc (length-cells_of write (rule_after rule kind value) kinds values range.1)
 
 -- what is written is read back
 abbrev pub ReadsBack : (Kind → List ℕ → Result ℕ Cause) → (ℕ → Kind → ℕ → List ℕ) → Type 0
@@ -107,7 +111,7 @@ pub table_rows-written : (read : Kind → List ℕ → Result ℕ Cause) (write 
 unfolding AreRows AreInOrder
 table_rows-written read write back ordered first kinds floor row [] range order = table_rows-end read ordered first kinds floor row
 table_rows-written read write back ordered first kinds floor row (values ∷ rows) range order =
-    table_rows-row read ordered first kinds floor row values (cells_of write 0 kinds values) (map (cells_of write 0 kinds) rows) (sym (row_values-written read write back 0 floor row first kinds values range.0 (λ some. order.0)))
+    table_rows-row read ordered first kinds floor row values (cells_of write 0 kinds values) (map (cells_of write 0 kinds) rows) (length-cells_of write 0 kinds values range.0) (sym (row_values-written read write back 0 floor row first kinds values range.0 (λ some. order.0)))
     ∙ ap (in_front values) (table_rows-written read write back ordered first kinds (floor_after ordered values) (row + 1) rows range.1 order.1)
 
 -- rows that need not be ordered are in order
@@ -118,12 +122,9 @@ in_order-any (row ∷ rows) = (omega arith, in_order-any rows)
 
 -- as many rows are read as there are
 pub table_rows-length : {C : Type 0} (read : Kind → C → Result ℕ Cause) (ordered : Bool) (first : ℕ) (kinds : List Kind) (floor row : ℕ) (cells : List (List C)) (rows : List (List ℕ)) → table_rows read ordered first kinds floor row cells ≡ Ok rows → length rows ≡ length cells
-unfolding table_rows
 table_rows-length read ordered first kinds floor row [] rows good =
-    let same : [] ≡ rows = cc in
+    let same : [] ≡ rows = cc (table_rows-end read ordered first kinds floor row, good) in
     ap length (sym same)
 table_rows-length read ordered first kinds floor row (cells ∷ rest) rows good =
-    let front = and_then-ok (row_values read 0 floor row first kinds cells) (λ values. in_front values (table_rows read ordered first kinds (floor_after ordered values) (row + 1) rest)) rows good in
-    let more = and_then-ok (table_rows read ordered first kinds (floor_after ordered front.0) (row + 1) rest) (λ rows. Ok (front.0 ∷ rows)) rows front.2 in
-    let same : front.0 ∷ more.0 ≡ rows = cc (more.2) in
-    ap length (sym same) ∙ ap suc (table_rows-length read ordered first kinds (floor_after ordered front.0) (row + 1) rest more.0 more.1)
+    let front = front-read read ordered first kinds floor row cells rest rows good in
+    ap length (sym front.all) ∙ ap suc (table_rows-length read ordered first kinds (floor_after ordered front.values) (row + 1) rest front.more front.behind_it)

@@ -1,15 +1,18 @@
 -- How far a row, and a table, are read.
-use Rattle.std.proofs.Common.{◌≡◌, ℕ, zero, suc, ◌+◌, ◌<◌, Bool, List, [], ◌∷◌, ◌++◌, length, take, drop, get_or, refl, sym, ap, ◌∙◌, arith, append_assoc, drop-cons, add-one}
-use Rattle.std.specs.Prelude.{Result, Ok, Err, slice_set}
+use Rattle.std.proofs.Common.{◌≡◌, ◌≢◌, ℕ, zero, suc, ◌+◌, ◌<◌, Bool, List, [], ◌∷◌, ◌++◌, length, take, drop, get_or, refl, sym, ap, ◌∙◌, arith, append_assoc, drop-cons, add-one, length-append, inl, inr}
+use Rattle.std.specs.Prelude.{Result, Ok, Err, slice_set, ◌==◌}
+use Rattle.std.proofs.lemmas.Bool.{cases_Bool, eq-eqb, ne_eqb, eqb-true}
 use Rattle.std.proofs.lemmas.List.{append-nil, take_all}
 use Rattle.std.proofs.lemmas.Grind.{take-set_at}
 use Rattle.std.proofs.Math.ListN.{length-set}
 use Rattle.std.proofs.Math.Seq.{drop-length}
 use Rattle.kt_text.specs.Rows.{AreEven}
 use Rattle.kt_cells.specs.Kinds.{under}
-use Rattle.kt_cells.specs.Reading.{behind, in_front, rule_after, value_from, row_values, floor_after, table_rows}
+use Rattle.kt_cells.specs.Reading.{and_then-ok, behind, in_front, rule_after, value_from, row_values, floor_after, table_rows}
+use Rattle.kt_cells.specs.Taking.{HandsFront, HandsOver}
 use Rattle.kt_cells.specs.declared.kind.Kind.{Kind}
 use Rattle.kt_cells.specs.declared.stop.Cause.{Cause}
+use Rattle.kt_cells.specs.declared.stop.Cause.TheVariants.{Columns}
 use Rattle.kt_cells.specs.declared.stop.TableStop.{TableStop}
 use Rattle.kt_cells.specs.declared.stop.TableStop.TheVariants.{Bad}
 
@@ -59,12 +62,12 @@ row-start read floor row first kinds cells values width =
 
 module _ (read : Kind → List ℕ → Result ℕ Cause) (floor row first : ℕ) (kinds : List Kind) (cells : List (List ℕ)) (values : List ℕ) (done rule least : ℕ) (now : RowRead read floor row first kinds cells values done rule least) (d : Kind) where
   -- a value more
-  pub row-more : (value : ℕ) → done < length kinds → length cells ≡ length kinds → value_from read least (under rule (get_or kinds done d)) (get_or cells done []) ≡ Ok value
+  pub row-more : (value : ℕ) → done < length kinds → done < length cells → value_from read least (under rule (get_or kinds done d)) (get_or cells done []) ≡ Ok value
       → RowRead read floor row first kinds cells (slice_set values done value) (done + 1) (rule_after rule (get_or kinds done d) value) 0
-  row-more value column width good =
+  row-more value column inside good =
       let room : done < length values = omega (arith, now.width) in
       let here : drop done kinds ≡ get_or kinds done d ∷ drop (done + 1) kinds = drop-step kinds done d column in
-      let cell : drop done cells ≡ get_or cells done [] ∷ drop (done + 1) cells = drop-step cells done [] (omega arith) in
+      let cell : drop done cells ≡ get_or cells done [] ∷ drop (done + 1) cells = drop-step cells done [] inside in
       let rest = row_values read (rule_after rule (get_or kinds done d) value) 0 row (first + done + 1) (drop (done + 1) kinds) (drop (done + 1) cells) in
       let step : row_values read rule least row (first + done) (drop done kinds) (drop done cells) ≡ in_front value rest =
       rw (here, cell) (row_values-value read rule least row (first + done) value (get_or kinds done d) (drop (done + 1) kinds) (get_or cells done []) (drop (done + 1) cells) good) in
@@ -96,56 +99,78 @@ row-end read floor row first kinds cells values rule least now =
     sym (now.so_far ∙ ap (behind (take (length kinds) values)) step ∙ ap Ok (append-nil _ ∙ all))
 
 -- a good row stands in front of the rest of its table
-pub table_rows-row : {C : Type 0} (read : Kind → C → Result ℕ Cause) (ordered : Bool) (first : ℕ) (kinds : List Kind) (floor row : ℕ) (values : List ℕ) (cells : List C) (rest : List (List C)) → Ok values ≡ row_values read 0 floor row first kinds cells
-    → table_rows read ordered first kinds floor row (cells ∷ rest) ≡ in_front values (table_rows read ordered first kinds (floor_after ordered values) (row + 1) rest)
+pub table_rows-row : {C : Type 0} (read : Kind → C → Result ℕ Cause) (ordered : Bool) (first : ℕ) (kinds : List Kind) (floor row : ℕ) (values : List ℕ) (cells : List C) (rest : List (List C)) → length cells ≡ length kinds
+    → Ok values ≡ row_values read 0 floor row first kinds cells → table_rows read ordered first kinds floor row (cells ∷ rest) ≡ in_front values (table_rows read ordered first kinds (floor_after ordered values) (row + 1) rest)
 unfolding table_rows
-table_rows-row read ordered first kinds floor row values cells rest good = rw (sym good) refl
-
--- a bad row is where its table stops
-table_rows-stop : {C : Type 0} (read : Kind → C → Result ℕ Cause) (ordered : Bool) (first : ℕ) (kinds : List Kind) (floor row : ℕ) (stop : TableStop) (cells : List C) (rest : List (List C)) → Err stop ≡ row_values read 0 floor row first kinds cells
-    → table_rows read ordered first kinds floor row (cells ∷ rest) ≡ Err stop
-unfolding table_rows
-table_rows-stop read ordered first kinds floor row stop cells rest bad = rw (sym bad) refl
+table_rows-row read ordered first kinds floor row values cells rest width good = rw (eq-eqb (length cells) (length kinds) width, sym good) refl
 
 -- no row is left
 pub table_rows-end : {C : Type 0} (read : Kind → C → Result ℕ Cause) (ordered : Bool) (first : ℕ) (kinds : List Kind) (floor row : ℕ) → table_rows read ordered first kinds floor row [] ≡ Ok []
 unfolding table_rows
 table_rows-end read ordered first kinds floor row = refl
 
--- a table is read as far as these rows, with this floor for the next
-pub record TableRead (read : Kind → List ℕ → Result ℕ Cause) (ordered : Bool) (first : ℕ) (kinds : List Kind) (cells : List (List (List ℕ))) (rows : List (List ℕ)) (done floor : ℕ) : Type 0 where
-  pub so_far : table_rows read ordered first kinds 0 1 cells ≡ behind rows (table_rows read ordered first kinds floor (done + 1) (drop done cells))
+-- a table that is read, taken apart: its first row, and those behind it
+pub record FrontRead {C : Type 0} (read : Kind → C → Result ℕ Cause) (ordered : Bool) (first : ℕ) (kinds : List Kind) (floor row : ℕ) (cells : List C) (rest : List (List C)) (rows : List (List ℕ)) : Type 0 where
+  pub values : List ℕ
+  pub more : List (List ℕ)
+  pub width : length cells ≡ length kinds
+  pub here : row_values read 0 floor row first kinds cells ≡ Ok values
+  pub behind_it : table_rows read ordered first kinds (floor_after ordered values) (row + 1) rest ≡ Ok more
+  pub all : values ∷ more ≡ rows
+
+pub front-read : {C : Type 0} (read : Kind → C → Result ℕ Cause) (ordered : Bool) (first : ℕ) (kinds : List Kind) (floor row : ℕ) (cells : List C) (rest : List (List C)) (rows : List (List ℕ)) → table_rows read ordered first kinds floor row (cells ∷ rest) ≡ Ok rows
+    → FrontRead read ordered first kinds floor row cells rest rows
+unfolding table_rows
+front-read read ordered first kinds floor row cells rest rows good = elim (cases_Bool (length cells == length kinds)) [
+  | inl e ↦ (
+      let here = and_then-ok (row_values read 0 floor row first kinds cells) (λ values. in_front values (table_rows read ordered first kinds (floor_after ordered values) (row + 1) rest)) rows (rw e at good) in
+      let more = and_then-ok (table_rows read ordered first kinds (floor_after ordered here.0) (row + 1) rest) (λ more. Ok (here.0 ∷ more)) rows here.2 in
+      record { values = here.0; more = more.0; width = eqb-true (length cells) (length kinds) e; here = here.1; behind_it = more.1; all = cc (more.2) })
+  | inr e ↦ absurd (cc (rw e at good))
+]
 
 -- before the first row
-pub table-start : (read : Kind → List ℕ → Result ℕ Cause) (ordered : Bool) (first : ℕ) (kinds : List Kind) (cells : List (List (List ℕ))) → TableRead read ordered first kinds cells [] 0 0
-table-start read ordered first kinds cells = record { so_far = sym (behind-nil _) }
+pub front-start : (read : Kind → List ℕ → Result ℕ Cause) (ordered : Bool) (first : ℕ) (kinds : List Kind) (has_taken : List (List ℕ) → Type 0) (left : List (List (List ℕ))) → has_taken []
+    → HandsFront read ordered first kinds has_taken (table_rows read ordered first kinds 0 1 left) 0 0 left
+front-start read ordered first kinds has_taken left fresh = record { rows = []; counted = refl; are_taken = fresh; so_far = sym (behind-nil _) }
 
-module _ (read : Kind → List ℕ → Result ℕ Cause) (ordered : Bool) (first : ℕ) (kinds : List Kind) (cells : List (List (List ℕ))) (rows : List (List ℕ)) (done floor : ℕ) (now : TableRead read ordered first kinds cells rows done floor) where
-  -- a row more
-  pub table-more : (values : List ℕ) → done < length cells → Ok values ≡ row_values read 0 floor (done + 1) first kinds (get_or cells done []) → TableRead read ordered first kinds cells (rows ++ values ∷ []) (done + 1) (floor_after ordered values)
-  table-more values row good =
-      let here : drop done cells ≡ get_or cells done [] ∷ drop (done + 1) cells = drop-step cells done [] row in
-      let rest = table_rows read ordered first kinds (floor_after ordered values) (done + 1 + 1) (drop (done + 1) cells) in
-      let step : table_rows read ordered first kinds floor (done + 1) (drop done cells) ≡ in_front values rest =
-      rw here (table_rows-row read ordered first kinds floor (done + 1) values (get_or cells done []) (drop (done + 1) cells) good) in
-      record { so_far = now.so_far ∙ ap (behind rows) step ∙ behind-in_front rows values rest }
+module _ (read : Kind → List ℕ → Result ℕ Cause) (ordered : Bool) (first : ℕ) (kinds : List Kind) (has_taken : List (List ℕ) → Type 0) (all : Result (List (List ℕ)) TableStop) (count floor : ℕ) (left : List (List (List ℕ)))
+    (now : HandsFront read ordered first kinds has_taken all count floor left) where
+  -- a row more is handed over
+  pub front-more : (has_taken_more : List (List ℕ) → Type 0) (values : List ℕ) (cells : List (List ℕ)) (rest : List (List (List ℕ))) → left ≡ cells ∷ rest → length cells ≡ length kinds
+      → Ok values ≡ row_values read 0 floor (count + 1) first kinds cells → ((rows : List (List ℕ)) → has_taken rows → has_taken_more (rows ++ values ∷ []))
+      → HandsFront read ordered first kinds has_taken_more all (count + 1) (floor_after ordered values) rest
+  front-more has_taken_more values cells rest split width good take = record {
+    rows = now.rows ++ values ∷ [];
+    counted = omega (arith, now.counted, length-append now.rows (values ∷ []));
+    are_taken = take now.rows now.are_taken;
+    so_far = now.so_far ∙ ap (λ cells. behind now.rows (table_rows read ordered first kinds floor (count + 1) cells)) split
+        ∙ ap (behind now.rows) (table_rows-row read ordered first kinds floor (count + 1) values cells rest width good)
+        ∙ behind-in_front now.rows values (table_rows read ordered first kinds (floor_after ordered values) (count + 1 + 1) rest);
+  }
 
-  -- the row at which the table stops
-  pub table-stops : (stop : TableStop) → done < length cells → Err stop ≡ row_values read 0 floor (done + 1) first kinds (get_or cells done []) → table_rows read ordered first kinds 0 1 cells ≡ Err stop
-  table-stops stop row bad =
-      let here : drop done cells ≡ get_or cells done [] ∷ drop (done + 1) cells = drop-step cells done [] row in
-      let step : table_rows read ordered first kinds floor (done + 1) (drop done cells) ≡ Err stop =
-      rw here (table_rows-stop read ordered first kinds floor (done + 1) stop (get_or cells done []) (drop (done + 1) cells) bad) in
-      now.so_far ∙ ap (behind rows) step
+  -- what stops the rows that are left stops all
+  stops-by : (stop : TableStop) → table_rows read ordered first kinds floor (count + 1) left ≡ Err stop → all ≡ Err stop
+  stops-by stop stopped = now.so_far ∙ ap (behind now.rows) stopped
 
--- all rows are read
-pub table-end : (read : Kind → List ℕ → Result ℕ Cause) (ordered : Bool) (first : ℕ) (kinds : List Kind) (cells : List (List (List ℕ))) (rows : List (List ℕ)) (floor : ℕ) → TableRead read ordered first kinds cells rows (length cells) floor
-    → table_rows read ordered first kinds 0 1 cells ≡ Ok rows
-table-end read ordered first kinds cells rows floor now =
-    let none : drop (length cells) cells ≡ [] = drop-length cells in
-    let step : table_rows read ordered first kinds floor (length cells + 1) (drop (length cells) cells) ≡ Ok [] =
-    rw none (table_rows-end read ordered first kinds floor (length cells + 1)) in
-    now.so_far ∙ ap (behind rows) step ∙ ap Ok (append-nil rows)
+  -- a bad row does
+  pub front-stops : (stop : TableStop) (cells : List (List ℕ)) (rest : List (List (List ℕ))) → left ≡ cells ∷ rest → length cells ≡ length kinds → Err stop ≡ row_values read 0 floor (count + 1) first kinds cells → all ≡ Err stop
+  unfolding table_rows
+  front-stops stop cells rest split width bad = stops-by stop (rw (split, eq-eqb (length cells) (length kinds) width, sym bad) refl)
+
+  -- and so does a ragged one
+  pub front-ragged : (cells : List (List ℕ)) (rest : List (List (List ℕ))) → left ≡ cells ∷ rest → length cells ≢ length kinds → all ≡ Err (Bad (count + 1) 0 Columns)
+  unfolding table_rows
+  front-ragged cells rest split other = stops-by _ (rw (split, ne_eqb (length cells) (length kinds) other) refl)
+
+  -- all rows are handed over
+  pub front-end : left ≡ [] → HandsOver has_taken all
+  front-end none = record {
+    rows = now.rows;
+    are_read = now.so_far ∙ ap (λ cells. behind now.rows (table_rows read ordered first kinds floor (count + 1) cells)) none
+        ∙ ap (behind now.rows) (table_rows-end read ordered first kinds floor (count + 1)) ∙ ap Ok (append-nil now.rows);
+    are_taken = now.are_taken;
+  }
 
 -- each row of an even table has its width
 pub even-row : (columns : ℕ) (rows : List (List (List ℕ))) (row : ℕ) → AreEven columns rows → row < length rows → length (get_or rows row []) ≡ columns

@@ -1,10 +1,10 @@
 -- Records as bytes: their widths, and where a field stands.
 use Rattle.std.proofs.Common.{◌≡◌, ℕ, zero, suc, ◌+◌, ◌*◌, ◌<◌, ◌≤◌, List, [], ◌∷◌, length, take, drop, get_or, refl, ap, ◌∙◌, arith, drop-drop}
 use Rattle.std.proofs.Math.Seq.{drop-length}
+use Rattle.kt_cells.proofs.KindLemmas.{kind-facts}
 use Rattle.kt_cells.proofs.ReadingLemmas.{drop-step}
 use Rattle.kt_cells.specs.Kinds.{width}
 use Rattle.std.proofs.Math.Nat.{mul-le-mul_right}
-use Rattle.kt_text.specs.Rows.{AreEven}
 use Rattle.kt_cells.specs.Records.{record_width, record_fields, records_in, field_value, record_rows, record_count, whole_records}
 use Rattle.kt_cells.specs.Reading.{table_rows, Tells-and_then}
 use Rattle.kt_cells.specs.Stops.{Tells}
@@ -13,50 +13,18 @@ use Rattle.kt_cells.specs.declared.stop.TableStop.TheVariants.{CutRecord}
 use Rattle.std.specs.Prelude.{Ok, Err, false, ◌%◌, ◌==◌}
 use Rattle.std.proofs.lemmas.Bool.Decides.{nat_tests}
 use Rattle.kt_cells.specs.declared.kind.Kind.{Kind}
-use Rattle.kt_cells.specs.declared.kind.Kind.TheVariants as kind
-
--- a value takes four or eight bytes
-pub width-least : (k : Kind) → 4 ≤ width k
-width-least kind.Offset = omega arith
-width-least kind.Tiv = omega arith
-width-least kind.Amount = omega arith
-width-least (kind.Term t) = omega arith
-width-least kind.Id = omega arith
-width-least kind.Count = omega arith
-width-least kind.IntensityBin = omega arith
-width-least kind.DamageBin = omega arith
-width-least kind.Level = omega arith
-width-least kind.Layer = omega arith
-width-least kind.SummarySet = omega arith
-width-least kind.Rule = omega arith
-width-least kind.Ppm = omega arith
-
-pub width-most : (k : Kind) → width k ≤ 8
-width-most kind.Offset = omega arith
-width-most kind.Tiv = omega arith
-width-most kind.Amount = omega arith
-width-most (kind.Term t) = omega arith
-width-most kind.Id = omega arith
-width-most kind.Count = omega arith
-width-most kind.IntensityBin = omega arith
-width-most kind.DamageBin = omega arith
-width-most kind.Level = omega arith
-width-most kind.Layer = omega arith
-width-most kind.SummarySet = omega arith
-width-most kind.Rule = omega arith
-width-most kind.Ppm = omega arith
 
 -- a record takes at most eight bytes a column
 pub record_width-most : (kinds : List Kind) → record_width kinds ≤ 8 * length kinds
 unfolding record_width
 record_width-most [] = omega arith
-record_width-most (kind ∷ kinds) = omega (arith, record_width-most kinds, width-most kind)
+record_width-most (kind ∷ kinds) = omega (arith, record_width-most kinds, (kind-facts 0 kind).wide)
 
 -- and one at least
 pub record_width-some : (kinds : List Kind) → 0 < length kinds → 0 < record_width kinds
 unfolding record_width
 record_width-some [] some = omega arith
-record_width-some (kind ∷ kinds) some = omega (arith, width-least kind)
+record_width-some (kind ∷ kinds) some = omega (arith, (kind-facts 0 kind).narrow)
 
 -- a column more
 pub record_width-more : (kinds : List Kind) (done : ℕ) (d : Kind) → done < length kinds → record_width (drop done kinds) ≡ width (get_or kinds done d) + record_width (drop (done + 1) kinds)
@@ -81,12 +49,6 @@ pub length-records_in : (kinds : List Kind) (count : ℕ) (bytes : List ℕ) →
 unfolding records_in
 length-records_in kinds zero bytes = refl
 length-records_in kinds (suc count) bytes = ap suc (length-records_in kinds count (drop (record_width kinds) bytes))
-
--- each of them has the fields of its columns
-pub records_in-even : (kinds : List Kind) (count : ℕ) (bytes : List ℕ) → AreEven (length kinds) (records_in kinds count bytes)
-unfolding records_in
-records_in-even kinds zero bytes = tt
-records_in-even kinds (suc count) bytes = (length-record_fields kinds bytes, records_in-even kinds count (drop (record_width kinds) bytes))
 
 -- where a field stands in its record
 pub record_fields-field : (kinds : List Kind) (bytes : List ℕ) (column : ℕ) (d : Kind) → column < length kinds

@@ -1,23 +1,25 @@
 -- How far a record, and records, are read.
 use Rattle.std.proofs.Common.{◌≡◌, ℕ, zero, suc, ◌+◌, ◌*◌, ◌/◌, ◌<◌, ◌≤◌, List, [], ◌∷◌, ◌++◌, length, take, drop, get_or, add-one, refl, sym, ap, ◌∙◌, arith, length-drop}
-use Rattle.std.specs.Prelude.{Result, Ok, Err, slice_set, false}
+use Rattle.std.specs.Prelude.{Result, Ok, Err, slice_set, Bool, true, false, ◌==◌, ◌%◌, if◌then◌else◌}
 use Rattle.std.proofs.lemmas.List.{length-take-le}
 use Rattle.std.proofs.Math.Nat.{div-mul-le_self}
 use Rattle.byteorder.specs.Endian.{little_number}
 use Rattle.byteorder.specs.Numbers.{little_from-take}
 use Rattle.kt_cells.specs.Kinds.{under, width, in_range}
-use Rattle.kt_cells.specs.Reading.{and_then, not_below, value_from, rule_after, row_values, table_rows}
+use Rattle.kt_cells.specs.Reading.{and_then, and_then-ok, not_below, value_from, rule_after, row_values, table_rows}
 use Rattle.kt_cells.specs.Records.{record_width, record_fields, record_count, whole_records, record_rows, field_value}
 use Rattle.kt_cells.specs.Stops.{Tells, Tells-refused}
+use Rattle.kt_cells.specs.Taking.{HandsFront, HandsOver}
+use Rattle.std.proofs.Math.Seq.{drop-length}
 use Rattle.kt_cells.specs.declared.kind.Kind.{Kind}
 use Rattle.kt_cells.specs.declared.stop.Cause.{Cause}
 use Rattle.kt_cells.specs.declared.stop.TableStop.{TableStop}
-use Rattle.kt_cells.specs.declared.stop.TableStop.TheVariants.{Bad}
-use Rattle.kt_cells.specs.Ranges.{AreRows, FitsBytes}
+use Rattle.kt_cells.specs.declared.stop.TableStop.TheVariants.{Bad, CutRecord}
+use Rattle.kt_cells.specs.Ranges.{IsRow, AreRows, FitsBytes}
 use Rattle.kt_cells.proofs.KindLemmas.{field_value-range, IsRow-fits}
 use Rattle.kt_cells.proofs.RangeLemmas.{not_below-above, row_values-range, table_rows-range, table_rows-length}
-use Rattle.kt_cells.proofs.ReadingLemmas.{RowRead, row-start, row-more, row-stops, row-end, TableRead, table-more, table-stops, table-end}
-use Rattle.kt_cells.proofs.RecordLemmas.{record_fields-field, length-record_fields, record_width-place, records_in-record, records_in-even, length-records_in, record-room, record_rows-stops}
+use Rattle.kt_cells.proofs.ReadingLemmas.{drop-step, RowRead, row-start, row-more, row-stops, row-end, front-more, front-stops, front-end}
+use Rattle.kt_cells.proofs.RecordLemmas.{record_fields-field, length-record_fields, record_width-place, records_in-record, length-records_in, record-room, record_rows-stops}
 
 -- no value is below a floor of 0
 no_floor : (result : Result ℕ Cause) → and_then result (not_below 0) ≡ result
@@ -74,7 +76,7 @@ module _ (row first : ℕ) (kinds : List Kind) (bytes values : List ℕ) (column
   pub record-more : (value : ℕ) → Ok value ≡ in_range (under rule (get_or kinds column d)) (little_number (width (get_or kinds column d)) (drop place bytes))
       → RecordRead row first kinds bytes (slice_set values column value) (column + 1) (rule_after rule (get_or kinds column d) value) (place + width (get_or kinds column d))
   record-more value found = record {
-    read = row-more field_value 0 row first kinds (record_fields kinds bytes) values column rule 0 now.read d value field (length-record_fields kinds bytes) (number-value (Ok value) found);
+    read = row-more field_value 0 row first kinds (record_fields kinds bytes) values column rule 0 now.read d value field (omega (arith, length-record_fields kinds bytes)) (number-value (Ok value) found);
     at = rw add-one (omega (arith, now.at, place-more kinds column d field));
     within = place-within;
   }
@@ -93,53 +95,62 @@ record-end row first kinds bytes values rule place now = row-end field_value 0 r
 pub record-fits : (all wide row : ℕ) → row < all / wide → row * wide + wide ≤ all
 record-fits all wide row here = omega (arith, record-room wide (all / wide) row here, div-mul-le_self all wide)
 
--- the values of a record fit the bytes of their kinds
-pub values-fit : (row first : ℕ) (kinds : List Kind) (bytes values : List ℕ) → Ok values ≡ row_values field_value 0 0 row first kinds (record_fields kinds bytes) → FitsBytes kinds values
-values-fit row first kinds bytes values read = IsRow-fits 0 kinds values (row_values-range field_value field_value-range 0 0 row first kinds (record_fields kinds bytes) values (length-record_fields kinds bytes) (sym read)).0
+-- the values of a record are in range
+pub record-range : (first row : ℕ) (kinds : List Kind) (bytes values : List ℕ) → Ok values ≡ row_values field_value 0 0 row first kinds (record_fields kinds bytes) → IsRow 0 kinds values
+record-range first row kinds bytes values good =
+    (row_values-range field_value field_value-range 0 0 row first kinds (record_fields kinds bytes) values (length-record_fields kinds bytes) (sym good)).0
 
--- records are read as far as these rows
-abbrev pub RecordsRead : ℕ → List Kind → List ℕ → List (List ℕ) → ℕ → Type 0
-RecordsRead first kinds bytes rows done = TableRead field_value false first kinds (whole_records kinds bytes) rows done 0
+-- so they fit the bytes of their kinds
+pub values-fit : (row first : ℕ) (kinds : List Kind) (bytes values : List ℕ) → Ok values ≡ row_values field_value 0 0 row first kinds (record_fields kinds bytes) → FitsBytes kinds values
+values-fit row first kinds bytes values read = IsRow-fits 0 kinds values (record-range first row kinds bytes values read)
 
 -- records are read so far, and a sink has taken their rows
-pub record RecordsHanded (has_taken : List (List ℕ) → Type 0) (first : ℕ) (kinds : List Kind) (bytes : List ℕ) (done : ℕ) : Type 0 where
-  pub rows : List (List ℕ)
-  pub are_read : RecordsRead first kinds bytes rows done
-  pub are_taken : has_taken rows
+abbrev pub RecordsHanded : (List (List ℕ) → Type 0) → ℕ → List Kind → List ℕ → ℕ → Type 0
+RecordsHanded has_taken first kinds bytes done = HandsFront field_value false first kinds has_taken (table_rows field_value false first kinds 0 1 (whole_records kinds bytes)) done 0 (drop done (whole_records kinds bytes))
 
-module _ (first : ℕ) (kinds : List Kind) (bytes : List ℕ) (rows : List (List ℕ)) (done : ℕ) (now : RecordsRead first kinds bytes rows done) (here : done < record_count kinds bytes) where
-  -- the fields of the next record
-  fields-here : get_or (whole_records kinds bytes) done [] ≡ record_fields kinds (drop (done * record_width kinds) bytes)
-  fields-here = records_in-record kinds (record_count kinds bytes) done bytes here
+-- the next record, and those behind it
+records-split : (kinds : List Kind) (bytes : List ℕ) (done : ℕ) → done < record_count kinds bytes → drop done (whole_records kinds bytes) ≡ record_fields kinds (drop (done * record_width kinds) bytes) ∷ drop (done + 1) (whole_records kinds bytes)
+records-split kinds bytes done here =
+    drop-step (whole_records kinds bytes) done [] (omega (arith, here, length-records_in kinds (record_count kinds bytes) bytes))
+    ∙ ap (λ fields. fields ∷ drop (done + 1) (whole_records kinds bytes)) (records_in-record kinds (record_count kinds bytes) done bytes here)
 
-  within-records : done < length (whole_records kinds bytes)
-  within-records = omega (arith, length-records_in kinds (record_count kinds bytes) bytes)
-
+module _ (has_taken : List (List ℕ) → Type 0) (first : ℕ) (kinds : List Kind) (bytes : List ℕ) (done : ℕ) (now : RecordsHanded has_taken first kinds bytes done) where
   -- a record more
-  pub records-more : (values : List ℕ) → Ok values ≡ row_values field_value 0 0 (done + 1) first kinds (record_fields kinds (drop (done * record_width kinds) bytes))
-      → RecordsRead first kinds bytes (rows ++ values ∷ []) (done + 1)
-  records-more values good = table-more field_value false first kinds (whole_records kinds bytes) rows done 0 now values within-records (good ∙ ap (row_values field_value 0 0 (done + 1) first kinds) (sym fields-here))
+  pub records-more : (has_taken_more : List (List ℕ) → Type 0) (values : List ℕ) → done < record_count kinds bytes → Ok values ≡ row_values field_value 0 0 (done + 1) first kinds (record_fields kinds (drop (done * record_width kinds) bytes))
+      → ((rows : List (List ℕ)) → has_taken rows → has_taken_more (rows ++ values ∷ [])) → RecordsHanded has_taken_more first kinds bytes (done + 1)
+  records-more has_taken_more values here good take =
+      front-more field_value false first kinds has_taken _ done 0 _ now has_taken_more values _ _ (records-split kinds bytes done here) (length-record_fields kinds (drop (done * record_width kinds) bytes)) good take
 
   -- a bad field stops the table
-  pub records-stop : (stop : TableStop) → Err stop ≡ row_values field_value 0 0 (done + 1) first kinds (record_fields kinds (drop (done * record_width kinds) bytes))
+  pub records-stop : (stop : TableStop) → done < record_count kinds bytes → Err stop ≡ row_values field_value 0 0 (done + 1) first kinds (record_fields kinds (drop (done * record_width kinds) bytes))
       → Tells (record_rows first kinds bytes) stop
-  records-stop stop bad =
+  records-stop stop here bad =
       record_rows-stops first kinds bytes stop
       (Tells-refused (table_rows field_value false first kinds 0 1 (whole_records kinds bytes)) stop
-      (table-stops field_value false first kinds (whole_records kinds bytes) rows done 0 now stop within-records (bad ∙ ap (row_values field_value 0 0 (done + 1) first kinds) (sym fields-here))))
+      (front-stops field_value false first kinds has_taken _ done 0 _ now stop _ _ (records-split kinds bytes done here) (length-record_fields kinds (drop (done * record_width kinds) bytes)) bad))
 
--- all records are read
-pub records-end : (first : ℕ) (kinds : List Kind) (bytes : List ℕ) (rows : List (List ℕ)) (wide row : ℕ) → wide ≡ record_width kinds → row ≡ length bytes / wide → RecordsRead first kinds bytes rows row
-    → table_rows field_value false first kinds 0 1 (whole_records kinds bytes) ≡ Ok rows
-records-end first kinds bytes rows wide row wide_is row_is now =
-    let all : length (whole_records kinds bytes) ≡ record_count kinds bytes = length-records_in kinds (record_count kinds bytes) bytes in
-    table-end field_value false first kinds (whole_records kinds bytes) rows 0 (rw all (rw (row_is, wide_is) at now))
+  -- all records are read
+  pub records-end : (wide : ℕ) → wide ≡ record_width kinds → done ≡ length bytes / wide → HandsOver has_taken (table_rows field_value false first kinds 0 1 (whole_records kinds bytes))
+  records-end wide wide_is done_is =
+      let all : length (whole_records kinds bytes) ≡ record_count kinds bytes = length-records_in kinds (record_count kinds bytes) bytes in
+      let last : done ≡ length (whole_records kinds bytes) = done_is ∙ ap (λ w. length bytes / w) wide_is ∙ sym all in
+      front-end field_value false first kinds has_taken _ done 0 _ now (rw last (drop-length (whole_records kinds bytes)))
 
-module _ (first : ℕ) (kinds : List Kind) (bytes : List ℕ) (rows : List (List ℕ)) (some : 0 < length kinds) (read : table_rows field_value false first kinds 0 1 (whole_records kinds bytes) ≡ Ok rows) where
-  -- the rows that are read are in range
-  pub rows-range : AreRows kinds rows
-  rows-range = (table_rows-range field_value field_value-range false first kinds 0 1 (whole_records kinds bytes) rows some (records_in-even kinds (record_count kinds bytes) bytes) read).0
+-- the rows that records give are those of the whole ones
+pub rows-whole : (first : ℕ) (kinds : List Kind) (bytes : List ℕ) (rows : List (List ℕ)) → record_rows first kinds bytes ≡ Ok rows → table_rows field_value false first kinds 0 1 (whole_records kinds bytes) ≡ Ok rows
+unfolding record_rows
+rows-whole first kinds bytes rows good =
+    let found = and_then-ok (table_rows field_value false first kinds 0 1 (whole_records kinds bytes)) (λ rows. if length bytes % record_width kinds == 0 then Ok rows else Err (CutRecord (record_count kinds bytes + 1))) rows good in
+    found.1 ∙ ap Ok (chosen (length bytes % record_width kinds == 0) found.0 rows _ found.2)
+  where
+    chosen : (b : Bool) (x y : List (List ℕ)) (stop : TableStop) → (if b then Ok x else Err stop) ≡ Ok y → x ≡ y
+    chosen true x y stop e = cc (e)
+    chosen false x y stop e = absurd (cc)
 
-  -- they are as many as there are records
-  pub rows-count : length rows ≡ record_count kinds bytes
-  rows-count = table_rows-length field_value false first kinds 0 1 (whole_records kinds bytes) rows read ∙ length-records_in kinds (record_count kinds bytes) bytes
+-- they are in range
+pub rows-range : (first : ℕ) (kinds : List Kind) (bytes : List ℕ) (rows : List (List ℕ)) → 0 < length kinds → record_rows first kinds bytes ≡ Ok rows → AreRows kinds rows
+rows-range first kinds bytes rows some read = (table_rows-range field_value field_value-range false first kinds 0 1 (whole_records kinds bytes) rows some (rows-whole first kinds bytes rows read)).0
+
+-- and as many as there are records
+pub rows-count : (first : ℕ) (kinds : List Kind) (bytes : List ℕ) (rows : List (List ℕ)) → record_rows first kinds bytes ≡ Ok rows → length rows ≡ record_count kinds bytes
+rows-count first kinds bytes rows read = table_rows-length field_value false first kinds 0 1 (whole_records kinds bytes) rows (rows-whole first kinds bytes rows read) ∙ length-records_in kinds (record_count kinds bytes) bytes

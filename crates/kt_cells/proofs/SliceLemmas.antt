@@ -1,18 +1,17 @@
 -- The records of a slice are a slice of the records.
 use Rattle.std.proofs.Common.{◌≡◌, ℕ, zero, suc, ◌+◌, ◌-◌, ◌*◌, ◌/◌, ◌%◌, ◌<◌, ◌≤◌, List, [], ◌∷◌, length, take, drop, refl, sym, ap, ◌∙◌, arith, length-drop, drop-drop}
-use Rattle.std.specs.Prelude.{Bool, Result, Ok, Err, true, false, ◌==◌, if◌then◌else◌}
+use Rattle.std.specs.Prelude.{Result, Ok, Err, false}
 use Rattle.std.proofs.lemmas.List.{drop-take, length-take-le}
 use Rattle.std.proofs.Math.Nat.{div-mul-le_self, mul-div_cancel, mul-le-mul_right, mul-mod_left}
 use Rattle.kt_cells.specs.Kinds.{under, width}
 use Rattle.kt_cells.specs.Reading.{and_then, and_then-ok, at_place, in_front, value_from, rule_after, row_values, table_rows}
-use Rattle.kt_cells.specs.Records.{record_width, record_fields, record_count, records_in, whole_records, record_rows, field_value}
+use Rattle.kt_cells.specs.Records.{record_width, record_fields, record_count, records_in, whole_records, field_value}
 use Rattle.kt_cells.specs.declared.kind.Kind.{Kind}
 use Rattle.kt_cells.specs.declared.stop.Cause.{Cause}
-use Rattle.kt_cells.specs.declared.stop.TableStop.{TableStop}
-use Rattle.kt_cells.specs.declared.stop.TableStop.TheVariants.{CutRecord}
 use Rattle.kt_cells.specs.Laws.{SlicesGiveSlices}
-use Rattle.kt_cells.proofs.RangeLemmas.{table_rows-length}
-use Rattle.kt_cells.proofs.RecordLemmas.{length-records_in, record_width-some, record_rows-whole}
+use Rattle.kt_cells.proofs.ReadingLemmas.{table_rows-row, table_rows-end, front-read}
+use Rattle.kt_cells.proofs.RecordLemmas.{record_width-some, record_rows-whole}
+use Rattle.kt_cells.proofs.RecordReadLemmas.{rows-whole, rows-count}
 
 -- a good value is good at any place
 any_place : {A : Type 0} (row other column : ℕ) (result : Result A Cause) (x : A) → at_place row column result ≡ Ok x → at_place other column result ≡ Ok x
@@ -33,39 +32,22 @@ module _ {C : Type 0} (read : Kind → C → Result ℕ Cause) where
       ∙ more.2
 
   module _ (first : ℕ) (kinds : List Kind) where
-    -- the first row of a table, and those behind it
-    pub record FrontRead (row : ℕ) (cells : List C) (rest : List (List C)) (rows : List (List ℕ)) : Type 0 where
-      pub values : List ℕ
-      pub more : List (List ℕ)
-      pub here : row_values read 0 0 row first kinds cells ≡ Ok values
-      pub behind_it : table_rows read false first kinds 0 (row + 1) rest ≡ Ok more
-      pub all : values ∷ more ≡ rows
-
-    front-read : (row : ℕ) (cells : List C) (rest : List (List C)) (rows : List (List ℕ)) → table_rows read false first kinds 0 row (cells ∷ rest) ≡ Ok rows → FrontRead row cells rest rows
-    unfolding table_rows
-    front-read row cells rest rows good =
-        let here = and_then-ok (row_values read 0 0 row first kinds cells) (λ values. in_front values (table_rows read false first kinds 0 (row + 1) rest)) rows good in
-        let more = and_then-ok (table_rows read false first kinds 0 (row + 1) rest) (λ more. Ok (here.0 ∷ more)) rows here.2 in
-        record { values = here.0; more = more.0; here = here.1; behind_it = more.1; all = cc (more.2) }
-
     -- so many rows at the front, under any number
     pub rows-take : (count row other : ℕ) (cells : List (List C)) (rows : List (List ℕ)) → table_rows read false first kinds 0 row cells ≡ Ok rows → table_rows read false first kinds 0 other (take count cells) ≡ Ok (take count rows)
-    unfolding table_rows
-    rows-take zero row other cells rows good = refl
-    rows-take (suc count) row other [] rows good = let none : [] ≡ rows = cc (good) in ap (λ found. Ok (take (suc count) found)) none
+    rows-take zero row other cells rows good = table_rows-end read false first kinds 0 other
+    rows-take (suc count) row other [] rows good = let none : [] ≡ rows = cc (table_rows-end read false first kinds 0 row, good) in table_rows-end read false first kinds 0 other ∙ ap (λ found. Ok (take (suc count) found)) none
     rows-take (suc count) row other (cells ∷ rest) rows good =
-        let front = front-read row cells rest rows good in
-        ap (λ result. and_then result (λ values. in_front values (table_rows read false first kinds 0 (other + 1) (take count rest)))) (any_number 0 0 row other first kinds cells front.values front.here)
+        let front = front-read read false first kinds 0 row cells rest rows good in
+        table_rows-row read false first kinds 0 other front.values cells (take count rest) front.width (sym (any_number 0 0 row other first kinds cells front.values front.here))
         ∙ ap (in_front front.values) (rows-take count (row + 1) (other + 1) rest front.more front.behind_it)
         ∙ ap (λ found. Ok (take (suc count) found)) front.all
 
     -- and those behind so many
     pub rows-drop : (from row : ℕ) (cells : List (List C)) (rows : List (List ℕ)) → table_rows read false first kinds 0 row cells ≡ Ok rows → table_rows read false first kinds 0 (row + from) (drop from cells) ≡ Ok (drop from rows)
-    unfolding table_rows
     rows-drop zero row cells rows good = let same : row + zero ≡ row = omega arith in rw same good
-    rows-drop (suc from) row [] rows good = let none : [] ≡ rows = cc (good) in ap (λ found. Ok (drop (suc from) found)) none
+    rows-drop (suc from) row [] rows good = let none : [] ≡ rows = cc (table_rows-end read false first kinds 0 row, good) in table_rows-end read false first kinds 0 (row + suc from) ∙ ap (λ found. Ok (drop (suc from) found)) none
     rows-drop (suc from) row (cells ∷ rest) rows good =
-        let front = front-read row cells rest rows good in
+        let front = front-read read false first kinds 0 row cells rest rows good in
         let number : row + suc from ≡ row + 1 + from = omega arith in
         rw number (rows-drop from (row + 1) rest front.more front.behind_it) ∙ ap (λ found. Ok (drop (suc from) found)) front.all
 
@@ -120,18 +102,6 @@ records-drop kinds (suc from) more bytes =
     (records-drop kinds from more (drop (record_width kinds) bytes)
     ∙ ap (records_in kinds more) (rw next (drop-drop (from * record_width kinds) (record_width kinds) bytes)))
 
--- records that are whole
-chosen : (b : Bool) (x y : List (List ℕ)) (stop : TableStop) → (if b then Ok x else Err stop) ≡ Ok y → x ≡ y
-chosen true x y stop e = cc (e)
-chosen false x y stop e = absurd (cc)
-
--- the rows that records give are those of the whole ones
-rows-whole : (first : ℕ) (kinds : List Kind) (bytes : List ℕ) (rows : List (List ℕ)) → record_rows first kinds bytes ≡ Ok rows → table_rows field_value false first kinds 0 1 (whole_records kinds bytes) ≡ Ok rows
-unfolding record_rows
-rows-whole first kinds bytes rows good =
-    let found = and_then-ok (table_rows field_value false first kinds 0 1 (whole_records kinds bytes)) (λ rows. if length bytes % record_width kinds == 0 then Ok rows else Err (CutRecord (record_count kinds bytes + 1))) rows good in
-    found.1 ∙ ap Ok (chosen (length bytes % record_width kinds == 0) found.0 rows _ found.2)
-
 -- the records of a slice give a slice of the rows
 pub slices : SlicesGiveSlices
 slices first kinds bytes rows from count some good within =
@@ -139,7 +109,7 @@ slices first kinds bytes rows from count some good within =
     let wide : 0 < w = record_width-some kinds some in
     let table = rows-whole first kinds bytes rows good in
     let n : ℕ = record_count kinds bytes in
-    let many : length rows ≡ n = table_rows-length field_value false first kinds 0 1 (whole_records kinds bytes) rows table ∙ length-records_in kinds n bytes in
+    let many : length rows ≡ n = rows-count first kinds bytes rows good in
     let more : ℕ = n - (from + count) in
     let parts : n ≡ from + (count + more) = omega (arith, many, within) in
     let fits : (from + count) * w ≤ n * w = mul-le-mul_right w (omega (arith, many, within)) in

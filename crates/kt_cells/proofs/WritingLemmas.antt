@@ -8,6 +8,7 @@ use Rattle.byteorder.specs.Endian.{little_bytes}
 use Rattle.kt_cells.specs.Kinds.{width}
 use Rattle.kt_cells.specs.Lines.{line, fields_behind, separator}
 use Rattle.kt_cells.specs.Records.{record_bytes}
+use Rattle.kt_cells.specs.Taking.{HasMore}
 use Rattle.kt_cells.specs.declared.kind.Kind.{Kind}
 use Rattle.kt_cells.proofs.ReadingLemmas.{drop-step}
 
@@ -33,6 +34,14 @@ text-more start out next piece rest left all now written split =
 -- nothing is left
 pub text-end : (start out rest all : List ℕ) → out ++ rest ≡ start ++ all → rest ≡ [] → out ≡ start ++ all
 text-end start out rest all now none = sym (append-nil out) ∙ ap (λ text. out ++ text) (sym none) ∙ now
+
+-- nothing more stands behind what was there
+pub more-none : (out : List ℕ) → HasMore out out
+more-none out = ([], sym (append-nil out))
+
+-- a piece more does
+pub more-piece : (start out next piece : List ℕ) → HasMore start out → next ≡ out ++ piece → HasMore start next
+more-piece start out next piece now written = (now.0 ++ piece, written ∙ ap (λ text. text ++ piece) now.1 ∙ append_assoc start now.0 piece)
 
 -- four pieces, one after the other
 pub text-four : (start one two three four a b c d : List ℕ) → one ≡ start ++ a → two ≡ one ++ b → three ≡ two ++ c → four ≡ three ++ d → four ≡ start ++ (a ++ (b ++ (c ++ d)))

@@ -1,5 +1,5 @@
 -- The rows of a table, whatever its cells are and however one is read: the values, or the first place that is wrong.
-use Rattle.std.specs.Prelude.{◌≡◌, ℕ, ◌+◌, Bool, List, [], ◌∷◌, ◌++◌, nat_lt, if◌then◌else◌, Result, Ok, Err, refl, slice_index_or}
+use Rattle.std.specs.Prelude.{◌≡◌, ℕ, ◌+◌, ◌==◌, Bool, List, [], ◌∷◌, ◌++◌, length, nat_lt, if◌then◌else◌, Result, Ok, Err, refl, slice_index_or}
 use Rattle.kt_cells.specs.Kinds.{under}
 use Rattle.kt_cells.specs.declared.kind.Kind.{Kind}
 use Rattle.kt_cells.specs.declared.kind.Kind.TheVariants as kind
@@ -63,12 +63,14 @@ row_values read rule floor row column (kind ∷ kinds) (cell ∷ cells) =
 abbrev pub floor_after : Bool → List ℕ → ℕ
 floor_after ordered values = if ordered then slice_index_or values 0 0 else 0
 
--- the rows of a table, from a row on, the first of them not below the floor
+-- the rows of a table, from a row on, the first of them not below the floor. A row with another number of cells than the table
+-- has columns is refused as a whole
 unfoldable pub table_rows : {C : Type 0} → (Kind → C → Result ℕ Cause) → Bool → ℕ → List Kind → ℕ → ℕ → List (List C) → Result (List (List ℕ)) TableStop
 table_rows read ordered first kinds floor row [] = Ok []
 table_rows read ordered first kinds floor row (cells ∷ rest) =
-    and_then (row_values read 0 floor row first kinds cells)
-    (λ values. in_front values (table_rows read ordered first kinds (floor_after ordered values) (row + 1) rest))
+    if length cells == length kinds then
+    and_then (row_values read 0 floor row first kinds cells) (λ values. in_front values (table_rows read ordered first kinds (floor_after ordered values) (row + 1) rest))
+    else Err (Bad row 0 cause.Columns)
 
 -- what stops a call stops what follows it
 pub Tells-and_then : {A B : Type 0} (expected : Result A TableStop) (next : A → Result B TableStop) (stop : TableStop) → Tells expected stop → Tells (and_then expected next) stop

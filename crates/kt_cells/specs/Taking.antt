@@ -1,9 +1,15 @@
 -- What a sink has taken of the rows of a table that are read.
-use Rattle.std.specs.Prelude.{◌≡◌, ℕ, ◌+◌, Bool, List, length, Result, Ok}
-use Rattle.kt_cells.specs.Reading.{behind}
-use Rattle.kt_cells.specs.Texts.{rows_from}
+use Rattle.std.specs.Prelude.{◌≡◌, ℕ, ◌+◌, Bool, List, ◌∷◌, ◌++◌, length, Result, Ok}
+use Rattle.kt_text.specs.PlainText.{csv_records}
+use Rattle.kt_cells.specs.Reading.{behind, row_values, table_rows}
+use Rattle.kt_cells.specs.Texts.{text_value}
 use Rattle.kt_cells.specs.declared.kind.Kind.{Kind}
+use Rattle.kt_cells.specs.declared.stop.Cause.{Cause}
 use Rattle.kt_cells.specs.declared.stop.TableStop.{TableStop}
+
+-- what was there stands in front, and maybe more behind it
+abbrev pub HasMore : List ℕ → List ℕ → Type 0
+HasMore old new = (more : List ℕ) × (new ≡ old ++ more)
 
 -- all rows were read, and the sink has taken them
 pub record HandsOver (has_taken : List (List ℕ) → Type 0) (read : Result (List (List ℕ)) TableStop) : Type 0 where
@@ -12,8 +18,15 @@ pub record HandsOver (has_taken : List (List ℕ) → Type 0) (read : Result (Li
   pub are_taken : has_taken rows
 
 -- so many of all rows were read, and the sink has taken them; the first of those that are left is not below the floor
-pub record HandsFront (has_taken : List (List ℕ) → Type 0) (ordered : Bool) (kinds : List Kind) (all : Result (List (List ℕ)) TableStop) (count floor : ℕ) (left : List (List (List ℕ))) : Type 0 where
+pub record HandsFront (read : Kind → List ℕ → Result ℕ Cause) (ordered : Bool) (first : ℕ) (kinds : List Kind) (has_taken : List (List ℕ) → Type 0) (all : Result (List (List ℕ)) TableStop) (count floor : ℕ) (left : List (List (List ℕ))) : Type 0 where
   pub rows : List (List ℕ)
   pub counted : count ≡ length rows
   pub are_taken : has_taken rows
-  pub so_far : all ≡ behind rows (rows_from ordered kinds floor (count + 1) left)
+  pub so_far : all ≡ behind rows (table_rows read ordered first kinds floor (count + 1) left)
+
+-- the next row of a text has these values, where the first of them is not to be below the floor, and the others stand in the rest
+pub record HasRow (kinds : List Kind) (floor : ℕ) (text values rest : List ℕ) : Type 0 where
+  pub fields : List (List ℕ)
+  pub split : csv_records text ≡ fields ∷ csv_records rest
+  pub width : length fields ≡ length kinds
+  pub read : (number : ℕ) → Ok values ≡ row_values text_value 0 floor number 1 kinds fields

@@ -1,18 +1,16 @@
 -- The texts of fields: how one is read by its kind, and how it is written.
-use Rattle.std.specs.Prelude.{ℕ, ◌+◌, ◌==◌, Bool, List, [], ◌∷◌, length, Result, Ok, Err, Option, Some, None, if◌then◌else◌}
+use Rattle.std.specs.Prelude.{ℕ, ◌==◌, Bool, List, [], ◌∷◌, Result, Ok, Err, if◌then◌else◌}
 use Rattle.kt_money.specs.NumberText.{count_text, plain}
 use Rattle.kt_text.specs.Numbers.{count_value, decimal_value}
 use Rattle.kt_text.specs.declared.bad_text.BadText.{BadText}
 use Rattle.kt_cells.specs.Kinds.{in_range, under}
-use Rattle.kt_text.specs.Rows.{csv_rows, rows_of_width, first_ragged}
-use Rattle.kt_cells.specs.Reading.{and_then, in_front, rule_after, row_values, floor_after, table_rows}
+use Rattle.kt_text.specs.Rows.{csv_rows}
+use Rattle.kt_cells.specs.Reading.{and_then, rule_after, table_rows}
 use Rattle.kt_cells.specs.Stops.{cause_of}
 use Rattle.kt_cells.specs.declared.kind.Kind.{Kind}
 use Rattle.kt_cells.specs.declared.kind.Kind.TheVariants as kind
 use Rattle.kt_cells.specs.declared.stop.Cause.{Cause}
-use Rattle.kt_cells.specs.declared.stop.Cause.TheVariants as cause
 use Rattle.kt_cells.specs.declared.stop.TableStop.{TableStop}
-use Rattle.kt_cells.specs.declared.stop.TableStop.TheVariants.{Bad}
 
 -- a number, or the cause why a text stands for none
 abbrev pub or_cause : Result ℕ BadText → Result ℕ Cause
@@ -54,21 +52,6 @@ row_texts rule (kind ∷ kinds) [] = []
 row_texts rule (kind ∷ kinds) (value ∷ values) =
     value_text (under rule kind) value ∷ row_texts (rule_after rule kind value) kinds values
 
--- the rows, unless one behind them is ragged
-abbrev pub unless_ragged : Option ℕ → List (List ℕ) → Result (List (List ℕ)) TableStop
-unless_ragged None rows = Ok rows
-unless_ragged (Some row) rows = Err (Bad row 0 cause.Columns)
-
--- the rows of a text: those before the first ragged one, which hides no bad field in front of it
+-- the rows of a text, its heading left out
 unfoldable pub text_rows : Bool → List Kind → List ℕ → Result (List (List ℕ)) TableStop
-text_rows ordered kinds text =
-    and_then (table_rows text_value ordered 1 kinds 0 1 (rows_of_width (length kinds) (csv_rows text)))
-    (unless_ragged (first_ragged (length kinds) (csv_rows text)))
-
--- the values of rows from one on, the first of them not below the floor; a row with another number of fields stops them
-unfoldable pub rows_from : Bool → List Kind → ℕ → ℕ → List (List (List ℕ)) → Result (List (List ℕ)) TableStop
-rows_from ordered kinds floor row [] = Ok []
-rows_from ordered kinds floor row (fields ∷ rest) =
-    if length fields == length kinds then
-    and_then (row_values text_value 0 floor row 1 kinds fields) (λ values. in_front values (rows_from ordered kinds (floor_after ordered values) (row + 1) rest))
-    else Err (Bad row 0 cause.Columns)
+text_rows ordered kinds text = table_rows text_value ordered 1 kinds 0 1 (csv_rows text)

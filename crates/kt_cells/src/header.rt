@@ -1,6 +1,7 @@
 //! The header of a binary table.
-ghost use Rattle.std.specs.Prelude.{◌≡◌, ◌++◌, OnOk};
+ghost use Rattle.std.specs.Prelude.{◌≡◌, ◌++◌, OnOk, OnErr};
 ghost use Rattle.kt_cells.specs.Header.{header_extra, header_bytes};
+ghost use Rattle.kt_cells.specs.Taking.{HasMore};
 
 use crate::kind::checked;
 use crate::stop::TableStop;
@@ -45,9 +46,11 @@ pub fn read_header(number: u32, least: u32, most: u32, bytes: &[u8]) -> Result<u
     }
 }
 
-/// Appends a header. An error is want of memory; a part may stand in `out` then.
+/// Appends a header. An error is want of memory; then a part of it may stand behind what was there.
 pub fn push_header(out: &mut Bytes, number: u32, extra: u32) -> Result<(), AllocError>
     ensures ok { OnOk result (out.new ≡ out.old ++ header_bytes number extra) }
+
+    ensures kept { OnErr result (HasMore out.old out.new) }
 {
     out.append(&MARK.to_le_bytes())?;
     out.append(&number.to_le_bytes())?;

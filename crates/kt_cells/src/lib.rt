@@ -2,6 +2,7 @@
 #![tactic(auto)]
 
 mod cells;
+mod front_value;
 mod header;
 mod kind;
 mod laws;

@@ -4,6 +4,7 @@ ghost use Rattle.kt_cells.specs.Lines.{lines_with};
 ghost use Rattle.kt_cells.specs.Reading.{and_then};
 ghost use Rattle.kt_cells.specs.Records.{record_rows};
 ghost use Rattle.kt_cells.specs.Stops.{Tells};
+ghost use Rattle.kt_cells.specs.Taking.{HasMore};
 
 use crate::kind::Kind;
 use crate::lines::{LINE_BYTES, write_line_with};
@@ -12,8 +13,8 @@ use crate::stop::TableStop;
 use kt_money::Bytes;
 
 /// Appends the rows that some bytes give as lines of text, without a list of the rows between, behind a count as the first
-/// field of each where there is one. The first column has the number `first`. An error is the first bad field, by record and then by column; then a record that is cut by the end;
-/// or want of memory; a part may stand in `out` then.
+/// field of each where there is one. The first column has the number `first`. An error is the first bad field, by record and
+/// then by column; then a record that is cut by the end; or want of memory. Then lines may stand behind what was there.
 #[inline(always)]
 pub fn push_record_lines<const N: usize>(
     out: &mut Bytes,
@@ -28,6 +29,7 @@ pub fn push_record_lines<const N: usize>(
     ensures ok { OnOk result (and_then (record_rows first kinds.now bytes.now) (λ rows. Ok (out.old ++ lines_with before kinds.now rows)) ≡ Ok out.new) }
 
     ensures refused { IfErr result (Tells (record_rows first kinds.now bytes.now)) }
+    ensures kept { IfErr result (λ _. HasMore out.old out.new) }
 {
     let width = record_width(kinds);
     let count = bytes.len() / width;

@@ -1,7 +1,8 @@
 //! Rows as records of little-endian numbers.
-ghost use Rattle.std.specs.Prelude.{◌≡◌, ◌++◌, ◌⊎◌, OnOk, length};
+ghost use Rattle.std.specs.Prelude.{◌≡◌, ◌++◌, ◌⊎◌, OnOk, OnErr, length};
 ghost use Rattle.byteorder.specs.Endian.{little_bytes};
 ghost use Rattle.kt_cells.specs.Records.{record_bytes};
+ghost use Rattle.kt_cells.specs.Taking.{HasMore};
 
 use crate::kind::Kind;
 use kt_money::Bytes;
@@ -11,6 +12,7 @@ use std::alloc::AllocError;
 fn push_number(out: &mut Bytes, width: usize, value: u64) -> Result<(), AllocError>
     requires { (width ≡ 4) ⊎ (width ≡ 8) }
     ensures ok { OnOk result (out.new ≡ out.old ++ little_bytes width value) }
+    ensures unchanged { OnErr result (out.new ≡ out.old) }
 {
     if width == 4 {
         out.append(&value.to_le_bytes()[..4])
@@ -19,10 +21,12 @@ fn push_number(out: &mut Bytes, width: usize, value: u64) -> Result<(), AllocErr
     }
 }
 
-/// Appends a row as a record. An error is want of memory; a part may stand in `out` then.
+/// Appends a row as a record. An error is want of memory; then a part of it may stand behind what was there.
 pub fn push_record(out: &mut Bytes, kinds: &[Kind], values: &[u64]) -> Result<(), AllocError>
     requires { length values.now ≡ length kinds.now }
     ensures ok { OnOk result (out.new ≡ out.old ++ record_bytes kinds.now values.now) }
+
+    ensures kept { OnErr result (HasMore out.old out.new) }
 {
     for (column, kind) in kinds.iter().enumerate() {
         push_number(out, kind.width(), values[column])?;

@@ -1,5 +1,5 @@
 //! The rows that records of little-endian numbers give.
-ghost use Rattle.kt_cells.specs.Ranges.{AreRows, FitsBytes};
+ghost use Rattle.kt_cells.specs.Ranges.{IsRow, AreRows, FitsBytes};
 ghost use Rattle.kt_cells.specs.Stops.{Tells};
 ghost use Rattle.kt_cells.specs.Taking.{HandsOver};
 ghost use Rattle.std.specs.Prelude.{◌≡◌, ℕ, List, [], OnOk, IfErr, Ok, Err, ◌+◌, ◌*◌, ◌<◌, ◌≤◌, ◌^◌, ◌⊎◌, length, take, drop};
@@ -91,7 +91,7 @@ pub fn read_records<const N: usize, S: RowSink<N>>(
     requires size { N < 100 }
     requires some { 0 < N }
     requires first { first < 100 }
-    requires takes { (row : List ℕ) → FitsBytes kinds.now row → S.takes row }
+    requires takes { (row : List ℕ) → IsRow 0 kinds.now row → FitsBytes kinds.now row → S.takes row }
     requires fresh { S.takes_to sink.old [] sink.old }
     ensures value { OnOk result (HandsOver (λ rows. S.takes_to sink.old rows sink.new) (record_rows first kinds.now bytes.now)) }
     ensures ranges { OnOk result ((rows : List (List ℕ)) → record_rows first kinds.now bytes.now ≡ Ok rows → AreRows kinds.now rows) }

@@ -14,7 +14,7 @@ pub trait RowSink<const N: usize> {
     // What was a sink has taken rows of these values, and is this sink now.
     ghost takes_to: { Self → List (List ℕ) → Self → Type 0 };
 
-    /// Takes a row. An error is want of memory.
+    /// Takes a row. An error is want of memory: nothing is said of the sink then, and it is not to be used again.
     fn take(&mut self, row: &[u64; N]) -> Result<(), AllocError>
         requires size { N < 100 }
         requires fits { takes row.now }

@@ -1,41 +1,24 @@
 //! The rows of a CSV text, read one after the other.
-ghost use Rattle.std.specs.Prelude.{◌≡◌, ◌∷◌, ◌<◌, ◌≤◌, ◌+◌, ◌^◌, ℕ, List, [], IfOk, IfErr, OnOk, length, map, Ok};
+ghost use Rattle.std.specs.Prelude.{◌≡◌, ◌∷◌, ◌<◌, ◌≤◌, ◌+◌, ◌^◌, ℕ, List, [], IfOk, IfErr, IfSome, OnOk, length, Ok};
 ghost use Rattle.csv.specs.Records.{fields_of};
-ghost use Rattle.kt_text.specs.PlainText.{csv_records, cut};
+ghost use Rattle.kt_text.specs.PlainText.{csv_records};
 ghost use Rattle.kt_text.specs.Records.{StandsBetween, bytes_left, records_left};
 ghost use Rattle.kt_text.specs.Rows.{csv_rows};
-ghost use Rattle.kt_cells.specs.Texts.{text_value, text_rows, rows_from};
+ghost use Rattle.kt_cells.specs.Texts.{text_value, text_rows};
 ghost use Rattle.kt_cells.specs.Stops.{Tells};
-ghost use Rattle.kt_cells.specs.Reading.{behind, row_values};
-ghost use Rattle.kt_cells.specs.Ranges.{AreRows, AreInOrder, FitsBytes};
-ghost use Rattle.kt_cells.specs.Taking.{HandsOver, HandsFront};
+ghost use Rattle.kt_cells.specs.Reading.{behind, row_values, table_rows};
+ghost use Rattle.kt_cells.specs.Ranges.{IsRow, AreRows, AreInOrder, FitsBytes};
+ghost use Rattle.kt_cells.specs.Taking.{HandsOver, HandsFront, HasRow};
 
 use crate::cells::Cells;
+use crate::front_value::front_value;
 use crate::kind::Kind;
-use crate::reader::{floor_after, read_row};
+use crate::reader::{floor_after, read_row, rule_after};
 use crate::row_sink::RowSink;
 use crate::stop::{Cause, TableStop};
 use csv::{ByteRecord, Reader};
-use kt_text::{PlainRow, behind_heading, next_record, plain_row, reader_of, record_field};
-use std::alloc::Global;
-
-impl<'a, const N: usize> Cells<N> for PlainRow<'a, N> {
-    ghost cells = { λ row. map (cut row.text.now) row.spans ∷ [] };
-
-    ghost read = { text_value };
-
-    fn rows(&self) -> u64 {
-        1
-    }
-
-    #[inline(always)]
-    fn value(&self, row: u64, column: usize, kind: Kind) -> Result<u64, Cause> {
-        match self.count(column) {
-            Some(value) if kind.decimals() == 0 => kind.in_range(value),
-            _ => kind.value_of(self.field(column)),
-        }
-    }
-}
+use kt_text::{behind_field, behind_heading, first_field, next_record, reader_of, record_field};
+use std::alloc::{AllocError, Global};
 
 // A record with as many fields as a table has columns.
 #[derive(Clone, Copy)]
@@ -58,6 +41,43 @@ impl<'a, const N: usize> Cells<N> for RecordRow<'a, N> {
     }
 }
 
+// A row of a text, and the text from the end of its line on.
+#[derive(Clone, Copy)]
+struct ReadRow<'a, const N: usize> {
+    values: [u64; N],
+    rest: &'a [u8],
+}
+
+// The next row of a text, if its fields stand there without quotes and each has a value that is none of its refusals: all
+// other rows are for the reader of records.
+#[inline(always)]
+fn plain_row<'a, const N: usize>(
+    text: &'a [u8],
+    kinds: &[Kind; N],
+    floor: u64,
+) -> Option<ReadRow<'a, N>>
+    requires size { N < 100 }
+    requires some { 0 < N }
+    ensures row { IfSome result (λ row. HasRow kinds.now floor text.now row.values row.rest.now) }
+    ensures shorter { IfSome result (λ row. length row.rest.now < length text.now) }
+{
+    let mut rest = first_field(text)?;
+    let mut values = [0; N];
+    let mut rule = 0;
+    let mut least = floor;
+    for (column, kind) in kinds.iter().enumerate() {
+        let field = front_value(kind.under(rule), rest)?;
+        if field.value < least {
+            return None;
+        }
+        rest = behind_field(&rest[field.size..], column + 1 == N)?;
+        values[column] = field.value;
+        rule = rule_after(rule, *kind, field.value);
+        least = 0;
+    }
+    Some(ReadRow { values, rest })
+}
+
 // How far the rows of a text are read: how many, and the least first value that the next one may have.
 #[derive(Clone, Copy, Drop)]
 struct PlainFront<'a> {
@@ -67,32 +87,29 @@ struct PlainFront<'a> {
     rest: &'a [u8],
 }
 
-// Hands over the rows at the front of a text that stand there without quotes.
+// Hands over the rows at the front of a text that stand there without quotes. It fails for want of memory alone.
 #[inline(always)]
 fn read_plain_rows<'a, const N: usize, S: RowSink<N>>(
     text: &'a [u8],
     kinds: &[Kind; N],
     ordered: bool,
     sink: &mut S,
-) -> Result<PlainFront<'a>, TableStop>
+) -> Result<PlainFront<'a>, AllocError>
     requires size { N < 100 }
     requires some { 0 < N }
-    requires takes { (row : List ℕ) → FitsBytes kinds.now row → S.takes row }
+    requires takes { (row : List ℕ) → IsRow 0 kinds.now row → FitsBytes kinds.now row → S.takes row }
     requires fresh { S.takes_to sink.old [] sink.old }
-    ensures value { IfOk result (λ front. HandsFront (λ rows. S.takes_to sink.old rows sink.new) ordered kinds.now (rows_from ordered kinds.now 0 1 (csv_records text.now)) front.count front.floor (csv_records front.rest.now)) }
+    ensures value { IfOk result (λ front. HandsFront text_value ordered 1 kinds.now (λ rows. S.takes_to sink.old rows sink.new) (table_rows text_value ordered 1 kinds.now 0 1 (csv_records text.now)) front.count front.floor (csv_records front.rest.now)) }
     ensures within { IfOk result (λ front. front.count + length front.rest.now ≤ length text.now) }
-
-    ensures refused { IfErr result (Tells (rows_from ordered kinds.now 0 1 (csv_records text.now))) }
 {
     let mut count = 0;
     let mut floor = 0;
     let mut rest = text;
-    while let Some(row) = plain_row(rest) {
+    while let Some(row) = plain_row(rest, kinds, floor) {
         count += 1;
-        let values = read_row(&row, kinds, 1, 0, count, floor)?;
-        floor = floor_after(ordered, &values);
-        sink.take(&values)?;
-        rest = row.rest();
+        floor = floor_after(ordered, &row.values);
+        sink.take(&row.values)?;
+        rest = row.rest;
     }
     Ok(PlainFront { count, floor, rest })
 }
@@ -127,11 +144,11 @@ fn read_rows_left<const N: usize, S: RowSink<N>>(
     requires some { 0 < N }
     requires stands { StandsBetween reader.old }
     requires room { before + bytes_left reader.old < 2 ^ 64 }
-    requires takes { (row : List ℕ) → FitsBytes kinds.now row → S.takes row }
+    requires takes { (row : List ℕ) → IsRow 0 kinds.now row → FitsBytes kinds.now row → S.takes row }
     requires before { (start : S) × (rows : List (List ℕ)) × (before ≡ length rows) × S.takes_to start rows sink.old }
-    ensures value { OnOk result ((start : S) (rows : List (List ℕ)) → before ≡ length rows → S.takes_to start rows sink.old → HandsOver (λ all. S.takes_to start all sink.new) (behind rows (rows_from ordered kinds.now least (before + 1) (records_left reader.old)))) }
+    ensures value { OnOk result ((start : S) (rows : List (List ℕ)) → before ≡ length rows → S.takes_to start rows sink.old → HandsOver (λ all. S.takes_to start all sink.new) (behind rows (table_rows text_value ordered 1 kinds.now least (before + 1) (records_left reader.old)))) }
 
-    ensures refused { IfErr result (Tells (rows_from ordered kinds.now least (before + 1) (records_left reader.old))) }
+    ensures refused { IfErr result (Tells (table_rows text_value ordered 1 kinds.now least (before + 1) (records_left reader.old))) }
 {
     let mut count = before;
     let mut floor = least;
@@ -162,11 +179,11 @@ fn read_all_rows<const N: usize, S: RowSink<N>>(
 ) -> Result<(), TableStop>
     requires size { N < 100 }
     requires some { 0 < N }
-    requires takes { (row : List ℕ) → FitsBytes kinds.now row → S.takes row }
+    requires takes { (row : List ℕ) → IsRow 0 kinds.now row → FitsBytes kinds.now row → S.takes row }
     requires fresh { S.takes_to sink.old [] sink.old }
-    ensures value { OnOk result (HandsOver (λ rows. S.takes_to sink.old rows sink.new) (rows_from ordered kinds.now 0 1 (csv_records text.now))) }
+    ensures value { OnOk result (HandsOver (λ rows. S.takes_to sink.old rows sink.new) (table_rows text_value ordered 1 kinds.now 0 1 (csv_records text.now))) }
 
-    ensures refused { IfErr result (Tells (rows_from ordered kinds.now 0 1 (csv_records text.now))) }
+    ensures refused { IfErr result (Tells (table_rows text_value ordered 1 kinds.now 0 1 (csv_records text.now))) }
 {
     let front = read_plain_rows(text, kinds, ordered, sink)?;
     let mut reader = reader_of(alloc, front.rest);
@@ -193,11 +210,11 @@ fn read_rows_behind_heading<const N: usize, S: RowSink<N>>(
 ) -> Result<(), TableStop>
     requires size { N < 100 }
     requires some { 0 < N }
-    requires takes { (row : List ℕ) → FitsBytes kinds.now row → S.takes row }
+    requires takes { (row : List ℕ) → IsRow 0 kinds.now row → FitsBytes kinds.now row → S.takes row }
     requires fresh { S.takes_to sink.old [] sink.old }
-    ensures value { OnOk result (HandsOver (λ rows. S.takes_to sink.old rows sink.new) (rows_from ordered kinds.now 0 1 (csv_rows text.now))) }
+    ensures value { OnOk result (HandsOver (λ rows. S.takes_to sink.old rows sink.new) (table_rows text_value ordered 1 kinds.now 0 1 (csv_rows text.now))) }
 
-    ensures refused { IfErr result (Tells (rows_from ordered kinds.now 0 1 (csv_rows text.now))) }
+    ensures refused { IfErr result (Tells (table_rows text_value ordered 1 kinds.now 0 1 (csv_rows text.now))) }
 {
     let mut reader = reader_of(alloc, text);
     let mut fields = ByteRecord::new(alloc);
@@ -219,7 +236,7 @@ pub fn read_text<const N: usize, S: RowSink<N>>(
 ) -> Result<(), TableStop>
     requires size { N < 100 }
     requires some { 0 < N }
-    requires takes { (row : List ℕ) → FitsBytes kinds.now row → S.takes row }
+    requires takes { (row : List ℕ) → IsRow 0 kinds.now row → FitsBytes kinds.now row → S.takes row }
     requires fresh { S.takes_to sink.old [] sink.old }
     ensures value { OnOk result (HandsOver (λ rows. S.takes_to sink.old rows sink.new) (text_rows ordered kinds.now text.now)) }
     ensures ranges { OnOk result ((rows : List (List ℕ)) → text_rows ordered kinds.now text.now ≡ Ok rows → AreRows kinds.now rows × AreInOrder ordered 0 rows) }

@@ -1,6 +1,5 @@
 -- Records that are appended one by one.
-use Rattle.std.proofs.Common.{◌≡◌, ℕ, List, [], ◌∷◌, ◌++◌, refl, sym, ap, ◌∙◌, append_assoc}
-use Rattle.std.specs.Prelude.{map}
+use Rattle.std.proofs.Common.{◌≡◌, ℕ, List, [], ◌∷◌, ◌++◌, sym, ap, ◌∙◌, append_assoc}
 use Rattle.std.proofs.lemmas.List.{append-nil}
 use Rattle.kt_cells.specs.Records.{record_bytes, records_bytes}
 use Rattle.kt_cells.specs.declared.kind.Kind.{Kind}
@@ -21,8 +20,3 @@ records-fresh kinds out = sym (append-nil out)
 pub records-taken : (kinds : List Kind) (start before now : List ℕ) (rows : List (List ℕ)) (row : List ℕ) → before ≡ start ++ records_bytes kinds rows → now ≡ before ++ record_bytes kinds row → now ≡ start ++ records_bytes kinds (rows ++ row ∷ [])
 records-taken kinds start before now rows row was is =
     is ∙ ap (λ text. text ++ record_bytes kinds row) was ∙ append_assoc start (records_bytes kinds rows) (record_bytes kinds row) ∙ ap (λ more. start ++ more) (sym (records-push kinds rows row))
-
--- the rows without their first field, with one more
-pub map-push : {A B : Type 0} (f : A → B) (rows : List A) (row : A) → map f (rows ++ row ∷ []) ≡ map f rows ++ f row ∷ []
-map-push f [] row = refl
-map-push f (first ∷ rows) row = ap (λ more. f first ∷ more) (map-push f rows row)

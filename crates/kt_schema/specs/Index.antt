@@ -1,5 +1,6 @@
 -- The index of the footprint: where the records of each event stand.
-use Rattle.std.specs.Prelude.{ℕ, ◌+◌, ◌==◌, List, [], ◌∷◌, if◌then◌else◌, slice_index_or}
+use Rattle.std.specs.Prelude.{ℕ, ◌+◌, ◌==◌, List, [], ◌∷◌, if◌then◌else◌, slice_index_or, Option, None, Some}
+use Rattle.kt_schema.specs.declared.index.OpenEntry.{OpenEntry}
 
 -- a record of the footprint takes so many bytes
 abbrev pub footprint_width : ℕ
@@ -28,3 +29,8 @@ index_from event offset size (row ∷ rows) =
 unfoldable pub index_of : List (List ℕ) → List (List ℕ)
 index_of [] = []
 index_of (row ∷ rows) = index_from (event_of row) first_offset footprint_width rows
+
+-- the index of rows behind those whose last row is this, or of all rows where there was none
+abbrev pub index_behind : Option OpenEntry → List (List ℕ) → List (List ℕ)
+index_behind None rows = index_of rows
+index_behind (Some entry) rows = index_from entry.event entry.offset entry.size rows

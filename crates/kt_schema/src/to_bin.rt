@@ -5,10 +5,10 @@ ghost use Rattle.kt_cells.specs.Reading.{and_then};
 ghost use Rattle.kt_cells.specs.Stops.{Tells};
 ghost use Rattle.kt_schema.specs.Conversions.{csv_bin, file_bytes, footprint_bytes, index_bytes, header_part};
 
-use crate::index::push_index;
+use crate::index::IndexRecords;
 use crate::record_sinks::{FootprintRecords, Records};
 use crate::schema::*;
-use kt_cells::{TableStop, Values, push_header, read_text};
+use kt_cells::{TableStop, push_header, read_text};
 use kt_money::Bytes;
 use kt_rec::Table;
 use std::alloc::{AllocError, Global};
@@ -104,9 +104,8 @@ fn footprint_index(alloc: Global, text: &[u8]) -> Result<Bytes, TableStop>
 
     ensures refused { IfErr result (Tells (and_then (text_rows true FOOTPRINT.kinds text.now) (λ rows. Ok (index_bytes rows)))) }
 {
-    let mut values = Values::new(alloc);
-    read_text(alloc, text, &FOOTPRINT.kinds, true, &mut values)?;
-    let mut out = Bytes::new(alloc);
-    push_index(&mut out, values.as_slice())?;
+    let mut records = IndexRecords::new(alloc);
+    read_text(alloc, text, &FOOTPRINT.kinds, true, &mut records)?;
+    let out = records.finish()?;
     Ok(out)
 }

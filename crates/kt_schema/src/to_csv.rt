@@ -2,7 +2,7 @@
 ghost use Rattle.std.specs.Prelude.{◌≡◌, ◌≢◌, ◌<◌, ◌++◌, ℕ, List, [], IfOk, IfErr, OnOk, Ok};
 ghost use Rattle.kt_cells.specs.Reading.{and_then};
 ghost use Rattle.kt_cells.specs.Lines.{rows_lines};
-ghost use Rattle.kt_cells.specs.Ranges.{FitsBytes};
+ghost use Rattle.kt_cells.specs.Ranges.{IsRow, FitsBytes};
 ghost use Rattle.kt_cells.specs.Stops.{Tells};
 ghost use Rattle.kt_schema.specs.Conversions.{HandsFile, bin_csv, body_rows, extra_of, body_of};
 
@@ -55,7 +55,7 @@ pub(crate) fn read_file<const N: usize, S: RowSink<N>>(
 ) -> Result<u32, TableStop>
     requires size { N < 100 }
     requires some { 0 < N }
-    requires takes { (row : List ℕ) → FitsBytes schema.now.kinds row → S.takes row }
+    requires takes { (row : List ℕ) → IsRow 0 schema.now.kinds row → FitsBytes schema.now.kinds row → S.takes row }
     requires fresh { S.takes_to sink.old [] sink.old }
     ensures value { IfOk result (HandsFile (λ rows. S.takes_to sink.old rows sink.new) schema.now.kinds (body_rows schema.now.header schema.now.number least most 1 schema.now.kinds bytes.now)) }
 

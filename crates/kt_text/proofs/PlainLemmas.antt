@@ -1,13 +1,13 @@
 -- A number in plain digits, with or without decimals, and what is read of it.
 use Rattle.std.proofs.Common.{◌≡◌, ℕ, zero, suc, ◌+◌, ◌-◌, ◌*◌, ◌/◌, ◌%◌, ◌^◌, ◌<◌, ◌≤◌, true, false, eqb, ◌&&◌, Ok, List, [], ◌∷◌, ◌++◌, length, get_or, refl, sym, ap, ◌∙◌, arith, inl, inr, length-append}
 use Rattle.std.proofs.lemmas.Bool.{cases_Bool, lt-ltb, le-ltb, ne_eqb, eqb-true, and_parts}
-use Rattle.std.proofs.lemmas.List.{append-nil, get_or-append-add, get_or_append_left}
+use Rattle.std.proofs.lemmas.List.{append-nil, get_or-append-add, get_or_append_left, length-take-le}
 use Rattle.std.proofs.lemmas.Fmt.{decimal_is_IsNumeral}
 use Rattle.std.proofs.lemmas.Float.Parse.{scan_numeral-text_of}
 use Rattle.std.proofs.lemmas.Str.{digit_value_digit}
 use Rattle.std.proofs.lemmas.Str.Parse.{digit_at, without_leading_plus_none}
 use Rattle.std.proofs.lemmas.Int.Digits.{digits_value_push, digits_value-lt}
-use Rattle.std.proofs.Common.{Bool, take, take_all, lit<}
+use Rattle.std.proofs.Common.{Bool, take, lit<}
 use Rattle.std.specs.Char.{digit_value}
 use Rattle.std.specs.Int.{IsInRange}
 use Rattle.std.specs.Fmt.{decimal}
@@ -46,10 +46,10 @@ count-of_digits text all some few =
     count_value-few text text (sym same) (digits_value 10 text) digits (omega (arith, below, power)) (λ e. omega (arith, below, power))
 
 -- the same at the front of a text
-pub count-of_front : (text : List ℕ) (count value : ℕ) → count ≡ length text → 0 < count → count ≤ 18 → AllDigits 10 (take count text) → value ≡ digits_value 10 (take count text) → count_value text ≡ Ok value
-count-of_front text count value all_is some few all value_is =
-    let whole : take count text ≡ text = take_all count text (omega arith) in
-    count-of_digits text (rw whole at all) (omega arith) (omega arith) ∙ ap Ok (sym (rw whole at value_is))
+pub count-of_front : (text : List ℕ) (count value : ℕ) → count ≤ length text → 0 < count → count ≤ 18 → AllDigits 10 (take count text) → value ≡ digits_value 10 (take count text) → count_value (take count text) ≡ Ok value
+count-of_front text count value within some few all value_is =
+    let long : length (take count text) ≡ count = length-take-le count text within in
+    count-of_digits (take count text) all (omega (arith, long)) (omega (arith, long)) ∙ ap Ok (sym value_is)
 
 -- a count in plain digits is read as that count
 pub count-plain : (n : ℕ) → n < 10 ^ 18 → count_value (decimal n) ≡ Ok n

@@ -1,18 +1,16 @@
 -- Rows that stand in a text as they are, and what the machine of CSV makes of them.
-use Rattle.std.proofs.Common.{◌≡◌, ℕ, ◌+◌, ◌-◌, ◌<◌, ◌≤◌, Bool, true, false, ◌||◌, List, [], ◌∷◌, ◌++◌, All, length, get_or, set, take, drop, map, replicate, Option, Some, None, Ok, refl, sym, ap, ◌∙◌, arith, inl, inr, ◌⊎◌, drop-drop, length-drop, take-add, take-append-drop, eqb}
+use Rattle.std.proofs.Common.{◌≡◌, ℕ, ◌+◌, ◌<◌, ◌≤◌, Bool, true, false, ◌||◌, List, [], ◌∷◌, ◌++◌, length, get_or, take, drop, Option, Some, None, refl, sym, ap, ◌∙◌, arith, inl, inr, ◌⊎◌, take-append-drop, eqb}
 use Rattle.std.specs.List.{list_any}
 use Rattle.std.specs.Borrow.{Bor}
 use Rattle.std.specs.Option.{IfSome}
-use Rattle.std.proofs.lemmas.Bool.{cases_Bool, eqb-true, ne_eqb, false≢true}
-use Rattle.std.proofs.lemmas.List.{map-append, take_more_set, take_all, length-take-le, length-replicate}
+use Rattle.std.proofs.lemmas.Bool.{cases_Bool, eq-eqb, eqb-true, ne_eqb, false≢true}
+use Rattle.std.proofs.lemmas.List.{length-take-le}
 use Rattle.std.proofs.lemmas.List.Folds.{list_any_more, list_any-append}
 use Rattle.std.proofs.lemmas.Str.Parse.{digit_from_value}
 use Rattle.std.specs.Char.{digit_value}
-use Rattle.std.specs.Str.Parse.{AllDigits, digits_value}
+use Rattle.std.specs.Str.Parse.{AllDigits}
 use Rattle.csv.specs.Writing.{default_writer, needs_byte}
-use Rattle.kt_text.proofs.PlainLemmas.{count-of_digits}
-use Rattle.std.proofs.Math.ListN.{length-set}
-use Rattle.std.proofs.lemmas.List.Elements.{All-set, All-replicate}
+use Rattle.kt_text.proofs.PlainAmountLemmas.{point-split}
 use Rattle.csv.specs.Machine.{Read, next_record, after_end}
 use Rattle.csv.specs.Reading.{default_config, records, strip_bom}
 use Rattle.csv.specs.declared.parser.State.{State}
@@ -21,10 +19,8 @@ use Rattle.csv.specs.declared.parser.Terminator.TheVariants as term
 use Rattle.csv.specs.Machine.{ends_at_end}
 use Rattle.csv.proofs.RoundTrip.{field-run, start-same, record-same}
 use Rattle.kt_text.specs.Records.{records_in}
-use Rattle.kt_text.specs.Numbers.{count_value}
 use Rattle.kt_text.specs.Rows.{csv_rows}
-use Rattle.kt_text.specs.PlainText.{csv_records, cut, is_line_end, begins_with_comma, begins_with_line_end, begins_with_mark, begins_with_row, ends_heading, IsPlainField, IsWithin, IsCounted}
-use Rattle.kt_text.specs.declared.plain.Span.{Span}
+use Rattle.kt_text.specs.PlainText.{csv_records, is_line_end, begins_with_comma, begins_with_line_end, begins_with_mark, begins_with_point, begins_with_row, ends_heading, IsPlainField, BeginsField, EndsField, IsField}
 use Rattle.kt_text.proofs.MachineLemmas.{records_in-next, records_in-none}
 
 -- the end of a line is one of two bytes
@@ -125,91 +121,37 @@ row_ends line fields x (c ∷ rest) read p h =
     read ∙ plain_start fields x c rest (no_quote c h) p ∙ line_ends fields x c rest h in
     records_in-next st.StartRecord line (fields ++ x ∷ [], after_end term.CRLF c, rest) refl next ∙ ap (λ more. (fields ++ x ∷ []) ∷ more) (line_left c rest h)
 
--- a row is cut as far as its first fields, and the next one begins at a place
-pub record RowCut (line : List ℕ) (columns : ℕ) (spans : List Span) (column start : ℕ) : Type 0 where
-  pub width : length spans ≡ columns
-  pub places : All (IsWithin (length line)) spans
-  pub counted : All (IsCounted line) spans
-  pub within : start ≤ length line
-  pub read : next_record default_config st.StartRecord [] [] line ≡ next_record default_config st.StartField (map (cut line) (take column spans)) [] (drop start line)
-
--- the place of a field that is not cut yet
-abbrev pub unset : Span
-unset = record { start = 0; end = 0; is_count = false; value = 0 }
-
--- before the first field
-pub cut-start : (line : List ℕ) (columns : ℕ) → begins_with_row line ≡ true → RowCut line columns (replicate columns unset) 0 0
-cut-start [] columns begins = absurd (false≢true begins)
-cut-start (c ∷ rest) columns begins =
+-- a row begins with its first field
+begins-first : (text rest : List ℕ) → csv_records text ≡ records default_config rest → begins_with_row rest ≡ true → BeginsField text [] rest
+begins-first text [] same begins = absurd (false≢true begins)
+begins-first text (c ∷ rest) same begins =
     let other : is_line_end c ≡ false = elim (cases_Bool (is_line_end c)) [ inl ended ↦ cc (rw ended at begins) | inr e ↦ e ] in
     let none = no_line_end c other in
-    record {
-      width = length-replicate columns unset;
-      places = All-replicate (IsWithin (length (c ∷ rest))) columns unset (omega arith, omega arith);
-      counted = All-replicate (IsCounted (c ∷ rest)) columns unset (λ e. absurd (false≢true e));
-      within = omega arith;
-      read = record-same [] [] c rest none.0 none.1;
-    }
+    record { line = c ∷ rest; same = same; read = record-same [] [] c rest none.0 none.1 }
 
-module _ (line : List ℕ) (columns : ℕ) (spans : List Span) (column start : ℕ) (now : RowCut line columns spans column start) (size value : ℕ) (is_count : Bool) (room : column < columns) (long : size ≤ length (drop start line)) (plain : IsPlainField (take size (drop start line)))
-    (count : is_count ≡ true → count_value (take size (drop start line)) ≡ Ok value) where
-  -- the place of the next field
-  abbrev next : Span
-  next = record { start = start; end = start + size; is_count = is_count; value = value }
+-- bytes without marks are a field
+pub plain-field : (rest : List ℕ) (size : ℕ) → IsPlainField (take size rest) → IsField rest size
+plain-field rest size plain text fields begins = record {
+  before = fields;
+  last = take size rest;
+  fields_are = refl;
+  plain = plain;
+  begins = record { line = begins.line; same = begins.same; read = begins.read ∙ ap (next_record default_config st.StartField fields []) (sym (take-append-drop size rest)) };
+}
 
-  -- the field that is cut
-  cut_is : cut line next ≡ take size (drop start line)
-  cut_is = let long : start + size - start ≡ size = omega arith in rw long refl
+-- behind a comma the next field begins
+pub comma-behind : (text : List ℕ) (fields : List (List ℕ)) (rest : List ℕ) → 1 ≤ length rest → get_or rest 0 0 ≡ 44 → EndsField text fields rest → BeginsField text fields (drop 1 rest)
+comma-behind text fields [] some comma ended = absurd (omega arith)
+comma-behind text fields (c ∷ rest) some comma ended = record {
+  line = ended.begins.line;
+  same = ended.begins.same;
+  read = ended.begins.read ∙ comma_ends ended.before ended.last (c ∷ rest) ended.plain (eq-eqb c 44 comma) ∙ ap (λ names. next_record default_config st.StartField names [] rest) (sym ended.fields_are);
+}
 
-  -- its place is in the text
-  placed : All (IsWithin (length line)) (set spans column next)
-  placed = All-set (IsWithin (length line)) spans column next (omega arith, omega (arith, long, length-drop start line, now.within)) now.places
-
-  -- it writes the count that is kept
-  recounted : All (IsCounted line) (set spans column next)
-  recounted = All-set (IsCounted line) spans column next (λ e. ap count_value cut_is ∙ count e) now.counted
-
-  -- it comes behind those before it
-  joined : map (cut line) (take (column + 1) (set spans column next)) ≡ map (cut line) (take column spans) ++ take size (drop start line) ∷ []
-  joined = ap (map (cut line)) (take_more_set spans column next (omega (arith, now.width))) ∙ map-append (cut line) (take column spans) (next ∷ [])
-      ∙ ap (λ field. map (cut line) (take column spans) ++ field ∷ []) cut_is
-
-  -- a field and a comma more
-  pub cut-more : begins_with_comma (drop size (drop start line)) ≡ true → RowCut line columns (set spans column next) (column + 1) (start + size + 1)
-  cut-more comma =
-      let xs = drop start line in
-      let some : 1 ≤ length (drop size xs) = begins_some (drop size xs) comma in
-      let step = comma_ends (map (cut line) (take column spans)) (take size xs) (drop size xs) plain comma in
-      let behind : drop 1 (drop size xs) ≡ drop (start + size + 1) line = rw (drop-drop, drop-drop) (ap (λ n. drop n line) (omega arith)) in
-      record {
-        width = length-set spans column next ∙ now.width;
-        places = placed;
-        counted = recounted;
-        within = omega (arith, some, length-drop size xs, length-drop start line, now.within);
-        read = now.read ∙ ap (next_record default_config st.StartField (map (cut line) (take column spans)) []) (sym (take-append-drop size xs)) ∙ step
-            ∙ ap (λ rest. next_record default_config st.StartField (map (cut line) (take column spans) ++ take size xs ∷ []) [] rest) behind
-            ∙ ap (λ fields. next_record default_config st.StartField fields [] (drop (start + size + 1) line)) (sym joined);
-      }
-    where
-      begins_some : (ys : List ℕ) → begins_with_comma ys ≡ true → 1 ≤ length ys
-      begins_some [] h = absurd (false≢true h)
-      begins_some (y ∷ ys) h = omega arith
-
-  -- the last field
-  pub cut-end : column + 1 ≡ columns → begins_with_line_end (drop size (drop start line)) ≡ true
-      → records default_config line ≡ map (cut line) (set spans column next) ∷ csv_records (drop (start + size) line)
-  cut-end last ended =
-      let xs = drop start line in
-      let all : take (column + 1) (set spans column next) ≡ set spans column next = take_all (column + 1) (set spans column next) (omega (arith, length-set spans column next, now.width)) in
-      let fields : map (cut line) (set spans column next) ≡ map (cut line) (take column spans) ++ take size xs ∷ [] = ap (map (cut line)) (sym all) ∙ joined in
-      let behind : drop size xs ≡ drop (start + size) line = rw drop-drop (ap (λ n. drop n line) (omega arith)) in
-      row_ends line (map (cut line) (take column spans)) (take size xs) (drop size xs)
-      (now.read ∙ ap (next_record default_config st.StartField (map (cut line) (take column spans)) []) (sym (take-append-drop size xs))) plain ended
-      ∙ ap (λ row. row ∷ csv_records (drop size xs)) (sym fields) ∙ ap (λ rest. map (cut line) (set spans column next) ∷ csv_records rest) behind
-
-  -- all places are in the text, and keep their counts
-  pub cut-places : All (IsWithin (length line)) (set spans column next) × All (IsCounted line) (set spans column next)
-  cut-places = (placed, recounted)
+-- at the end of a line the row is read
+pub row-behind : (text : List ℕ) (fields : List (List ℕ)) (rest : List ℕ) → begins_with_line_end rest ≡ true → EndsField text fields rest → csv_records text ≡ fields ∷ csv_records rest
+row-behind text fields rest end ended =
+    ended.begins.same ∙ row_ends ended.begins.line ended.before ended.last rest ended.begins.read ended.plain end ∙ ap (λ row. row ∷ csv_records rest) (sym ended.fields_are)
 
 -- neither of two tests
 or_parts : (a b : Bool) → (a || b) ≡ false → (a ≡ false) × (b ≡ false)
@@ -274,11 +216,11 @@ rows_behind text whole size whole_is some within plain ended =
 pub unmarked_more : (test : ℕ → Bool) (xs : List ℕ) (i : ℕ) → i < length xs → list_any test (take i xs) ≡ false → test (get_or xs i 0) ≡ false → list_any test (take (i + 1) xs) ≡ false
 unmarked_more test xs i within before here = list_any_more test xs i 0 within ∙ rw (before, here) refl
 
--- one end of a line in front of others
-pub behind_first : (text : List ℕ) (found : Option (Bor (List ℕ))) → 1 ≤ length text → is_line_end (get_or text 0 0) ≡ true
-    → IfSome found (λ rest. records default_config (drop 1 text) ≡ records default_config rest.now) → IfSome found (λ rest. csv_records text ≡ records default_config rest.now)
-behind_first text None some ended found = tt
-behind_first text (Some rest) some ended found = skip_marked text some ended ∙ found
+-- the first field of a row stands behind the ends of lines in front of it
+pub first-found : (text : List ℕ) (found : Option (Bor (List ℕ))) → 1 ≤ length text → is_line_end (get_or text 0 0) ≡ true
+    → IfSome found (λ rest. records default_config (drop 1 text) ≡ records default_config rest.now) → IfSome found (λ rest. begins_with_row rest.now ≡ true) → IfSome found (λ rest. BeginsField text [] rest.now)
+first-found text None some ended same begins = tt
+first-found text (Some rest) some ended same begins = begins-first text rest.now (skip_marked text some ended ∙ same) begins
 
 -- a byte order mark goes
 pub marked : (text : List ℕ) → begins_with_mark text ≡ true → drop 3 text ≡ strip_bom text
@@ -307,14 +249,13 @@ digits_plain : (ds : List ℕ) → AllDigits 10 ds → list_any (needs_byte defa
 digits_plain [] h = refl
 digits_plain (d ∷ ds) h = rw (digit_unmarked d h.0, digits_plain ds h.1) refl
 
--- digits with plain bytes behind them
-pub digits_then_plain : (text : List ℕ) (count more : ℕ) → AllDigits 10 (take count text) → list_any (needs_byte default_writer) (take more (drop count text)) ≡ false → IsPlainField (take (count + more) text)
-digits_then_plain text count more all plain =
-    ap (list_any (needs_byte default_writer)) (take-add count more text) ∙ list_any-append (needs_byte default_writer) (take count text) (take more (drop count text)) ∙ rw (digits_plain (take count text) all, plain) refl
+-- digits are a field
+pub digits-field : (text : List ℕ) (count : ℕ) → AllDigits 10 (take count text) → IsField text count
+digits-field text count all = plain-field text count (digits_plain (take count text) all)
 
--- digits alone are a count
-pub digits_count : (text : List ℕ) (count more value : ℕ) → count ≤ length text → count ≤ 18 → AllDigits 10 (take count text) → value ≡ digits_value 10 (take count text) → 0 < count → more ≡ 0 → count_value (take (count + more) text) ≡ Ok value
-digits_count text count more value within few all value_is some none =
-    let here : count + more ≡ count = omega (arith, none) in
-    let long : length (take count text) ≡ count = length-take-le count text within in
-    rw here (count-of_digits (take count text) all (omega (arith, long)) (omega (arith, long)) ∙ ap Ok (sym value_is))
+-- so are digits, a point and decimals
+pub decimals-field : (text : List ℕ) (count more : ℕ) → AllDigits 10 (take count text) → begins_with_point (drop count text) ≡ true → AllDigits 10 (take more (drop (count + 1) text)) → IsField text (count + (1 + more))
+decimals-field text count more all point digits =
+    plain-field text (count + (1 + more))
+    (ap (list_any (needs_byte default_writer)) (point-split text count more point) ∙ list_any-append (needs_byte default_writer) (take count text) (46 ∷ take more (drop (count + 1) text))
+    ∙ rw (digits_plain (take count text) all, digits_plain (take more (drop (count + 1) text)) digits) refl)

@@ -1,9 +1,9 @@
 -- Fields that stand in a text as they are, and the ends of lines.
-use Rattle.std.specs.Prelude.{◌≡◌, ℕ, ◌-◌, ◌≤◌, ◌==◌, ◌||◌, Bool, true, false, not, List, [], ◌∷◌, take, drop, Ok}
+use Rattle.std.specs.Prelude.{◌≡◌, ℕ, ◌==◌, ◌||◌, Bool, true, false, not, List, [], ◌∷◌, ◌++◌, take, drop}
 use Rattle.csv.specs.Writing.{default_writer, needs_quotes}
 use Rattle.csv.specs.Reading.{records, default_config, is_bom, strip_bom}
-use Rattle.kt_text.specs.Numbers.{count_value}
-use Rattle.kt_text.specs.declared.plain.Span.{Span}
+use Rattle.csv.specs.Machine.{next_record}
+use Rattle.csv.specs.declared.parser.State.TheVariants as st
 
 -- all records of a text, its heading with them
 abbrev pub csv_records : List ℕ → List (List (List ℕ))
@@ -43,14 +43,30 @@ begins_with_mark (a ∷ b ∷ c ∷ rest) = is_bom a b c
 abbrev pub ends_heading : ℕ → Bool
 ends_heading b = (b == 34) || is_line_end b
 
--- a place in a text with so many bytes
-abbrev pub IsWithin : ℕ → Span → Type 0
-IsWithin bytes span = (span.start ≤ span.end) × (span.end ≤ bytes)
+-- a text that begins with a point
+abbrev pub begins_with_point : List ℕ → Bool
+begins_with_point [] = false
+begins_with_point (b ∷ rest) = b == 46
 
--- the bytes at a place of a text
-abbrev pub cut : List ℕ → Span → List ℕ
-cut text span = take (span.end - span.start) (drop span.start text)
+-- these fields of the first record of a text are read, and the next one begins at the rest
+pub record BeginsField (text : List ℕ) (fields : List (List ℕ)) (rest : List ℕ) : Type 0 where
+  pub line : List ℕ
+  pub same : csv_records text ≡ records default_config line
+  pub read : next_record default_config st.StartRecord [] [] line ≡ next_record default_config st.StartField fields [] rest
 
--- where a field is marked as a count, it writes the count that is kept for it
-abbrev pub IsCounted : List ℕ → Span → Type 0
-IsCounted text span = span.is_count ≡ true → count_value (cut text span) ≡ Ok span.value
+-- these fields of the first record of a text are read, the last of them one without quotes, and the rest stands behind it
+pub record EndsField (text : List ℕ) (fields : List (List ℕ)) (rest : List ℕ) : Type 0 where
+  pub before : List (List ℕ)
+  pub last : List ℕ
+  pub fields_are : fields ≡ before ++ last ∷ []
+  pub plain : IsPlainField last
+  pub begins : BeginsField text before (last ++ rest)
+
+-- where a field begins, so many bytes are one that ends there
+abbrev pub IsField : List ℕ → ℕ → Type 0
+IsField rest size = (text : List ℕ) (fields : List (List ℕ)) → BeginsField text fields rest → EndsField text (fields ++ take size rest ∷ []) (drop size rest)
+
+-- behind a field the next one begins; behind the last the first record of the text is read, and the others stand in the rest
+abbrev pub StandsBehind : Bool → List ℕ → List (List ℕ) → List ℕ → Type 0
+StandsBehind false text fields rest = BeginsField text fields rest
+StandsBehind true text fields rest = csv_records text ≡ fields ∷ csv_records rest

@@ -1,6 +1,6 @@
 -- The rows of a CSV text, as a table of a fixed number of columns sees them.
-use Rattle.std.specs.Prelude.{◌≡◌, ℕ, zero, suc, ◌+◌, ◌==◌, Bool, List, [], ◌∷◌, ◌++◌, length, take, drop, nat_lt, if◌then◌else◌, Option, Some, None, slice_index_or}
-use Rattle.std.specs.List.{prefix_len, take_while, AllByRecursion}
+use Rattle.std.specs.Prelude.{◌≡◌, ℕ, ◌+◌, ◌==◌, Bool, List, [], ◌∷◌, ◌++◌, length, drop, nat_lt, if◌then◌else◌, Option, Some, None, slice_index_or}
+use Rattle.std.specs.List.{prefix_len, AllByRecursion}
 use Rattle.csv.specs.Writing.{default_writer, row_text}
 use Rattle.csv.specs.Reading.{records, default_config, strip_bom}
 
@@ -11,10 +11,6 @@ csv_rows text = drop 1 (records default_config (strip_bom text))
 -- a row has as many fields as the table has columns
 abbrev pub has_width : ℕ → List (List ℕ) → Bool
 has_width columns row = length row == columns
-
--- the rows before the first that has another number of fields
-abbrev pub rows_of_width : ℕ → List (List (List ℕ)) → List (List (List ℕ))
-rows_of_width columns rows = take_while (has_width columns) rows
 
 -- the number of the first row that has another number of fields, counted from 1
 abbrev pub first_ragged : ℕ → List (List (List ℕ)) → Option ℕ
@@ -29,11 +25,6 @@ AreEven columns rows = AllByRecursion (λ row. length row ≡ columns) rows
 -- the field of a row and a column, both counted from 0
 abbrev pub cell : List (List (List ℕ)) → ℕ → ℕ → List ℕ
 cell rows row column = slice_index_or (slice_index_or rows row []) column []
-
--- so many rows, cut from the cells that stand one after the other
-unfoldable pub in_rows : ℕ → ℕ → List (List ℕ) → List (List (List ℕ))
-in_rows columns zero cells = []
-in_rows columns (suc rows) cells = take columns cells ∷ in_rows columns rows (drop columns cells)
 
 -- the text of rows, each as csv writes it
 unfoldable pub rows_text : List (List (List ℕ)) → List ℕ

@@ -1,13 +1,13 @@
 //! Counts: digits alone.
 
-ghost use Rattle.std.specs.Prelude.{◌≡◌, Ok, IfSome};
+ghost use Rattle.std.specs.Prelude.{◌≡◌};
 ghost use Rattle.std.specs.Char.{is_ascii_digit};
 ghost use Rattle.std.specs.List.{list_all};
 ghost use Rattle.kt_text.specs.Numbers.{count_value, are_digits as all_digits};
 
 use crate::bad_text::BadText;
 use crate::digits::{TOO_MANY, capped_value};
-use crate::front_digits::front_digits;
+use crate::front_number::front_count;
 use crate::trimming::trim_blanks;
 
 /// The count that a text stands for: digits alone, blanks at both ends not regarded.
@@ -17,21 +17,10 @@ use crate::trimming::trim_blanks;
 pub fn read_count(text: &[u8]) -> Result<u64, BadText>
     ensures { result ≡ count_value text.now }
 {
-    match plain_count(text) {
-        Some(value) => Ok(value),
-        None => read_any_count(text),
+    match front_count(text) {
+        Some(number) if number.size == text.len() => Ok(number.value),
+        _ => read_any_count(text),
     }
-}
-
-// The number that at most 18 digits write, if nothing else stands there.
-fn plain_count(text: &[u8]) -> Option<u64>
-    ensures { IfSome result (λ value. count_value text.now ≡ Ok value) }
-{
-    let digits = front_digits(text);
-    if digits.count == 0 || digits.count < text.len() {
-        return None;
-    }
-    Some(digits.value)
 }
 
 // The count that a text stands for, whatever stands there.

@@ -6,16 +6,13 @@ ghost use Rattle.std.specs.Str.Parse.{AllDigits, digits_value};
 
 use crate::bad_text::BadText;
 use crate::digits::{TOO_MANY, capped_value};
-use crate::front_digits::front_digits;
+use crate::front_number::front_amount;
 use crate::scaling::scaled;
 use crate::trimming::{trim_blanks, trim_plus, trim_zeros};
 use fast_float::Numeral;
 
 // The least exponent that is too large, with either sign.
 const TOO_FAR: u64 = 31;
-
-// A whole part of so many digits is below the limit in the units of each scale.
-const MOST_WHOLE: usize = 11;
 
 // The largest amount.
 const LIMIT: u64 = 100_000_000_000_000_000;
@@ -31,50 +28,9 @@ pub fn read_decimal(text: &[u8], scale: u8) -> Result<u64, BadText>
     requires { (scale ≡ 2) ⊎ (scale ≡ 6) }
     ensures { result ≡ decimal_value scale text.now }
 {
-    match plain_amount(text, usize::from(scale)) {
-        Some(amount) => Ok(amount),
-        None => read_any_decimal(text, scale),
-    }
-}
-
-// The amount that digits write, with at most as many decimals as the scale has, if nothing else stands there and it is
-// far below the limit.
-fn plain_amount(text: &[u8], scale: usize) -> Option<u64>
-    requires { scale < 7 }
-    ensures { IfSome result (λ amount. decimal_value scale text.now ≡ Ok amount) }
-{
-    let whole = front_digits(text);
-    if whole.count == 0 || whole.count > MOST_WHOLE {
-        return None;
-    }
-    if whole.count == text.len() {
-        return Some(whole.value * ten_to(scale));
-    }
-    let decimals = &text[whole.count + 1..];
-    let fraction = front_digits(decimals);
-    if text[whole.count] != b'.' || fraction.count < decimals.len() {
-        return None;
-    }
-    if fraction.count == 0 || fraction.count > scale {
-        return None;
-    }
-    Some(whole.value * ten_to(scale) + fraction.value * ten_to(scale - fraction.count))
-}
-
-// A power of ten.
-fn ten_to(places: usize) -> u64
-    requires { places < 7 }
-    ensures value { result ≡ 10 ^ places }
-    ensures bound { result ≤ 1000000 }
-{
-    match places {
-        0 => 1,
-        1 => 10,
-        2 => 100,
-        3 => 1_000,
-        4 => 10_000,
-        5 => 100_000,
-        _ => 1_000_000,
+    match front_amount(text, usize::from(scale)) {
+        Some(number) if number.size == text.len() => Ok(number.value),
+        _ => read_any_decimal(text, scale),
     }
 }
 

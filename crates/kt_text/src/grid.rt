@@ -1,8 +1,10 @@
 //! The fields of a table's rows.
 
-ghost use Rattle.std.specs.Prelude.{◌≡◌, ◌<◌, length};
+ghost use Rattle.std.specs.Prelude.{◌≡◌, ◌<◌, [], length, map, slice_index_or};
+ghost use Rattle.csv.specs.Records.{fields_of};
 ghost use Rattle.kt_text.specs.Rows.{AreEven, cell};
 
+use crate::records::record_field;
 use csv::ByteRecord;
 use std::marker::Model;
 
@@ -10,20 +12,19 @@ use std::marker::Model;
 /// a list of `N` fields of any bytes.
 #[derive(Drop)]
 pub struct Grid<const N: usize> {
-    pub(crate) cells: ByteRecord,
-    pub(crate) rows: u64,
+    pub(crate) records: Vec<ByteRecord>,
 }
 
 impl<const N: usize> Model for Grid<N> {
-    ghost use Rattle.std.specs.Prelude.{◌≡◌, ℕ, ◌*◌, List, length};
+    ghost use Rattle.std.specs.Prelude.{ℕ, List, map};
     ghost use Rattle.csv.specs.Records.{fields_of};
-    ghost use Rattle.kt_text.specs.Rows.{in_rows};
+    ghost use Rattle.kt_text.specs.Rows.{AreEven};
 
     ghost Value = { List (List (List ℕ)) };
 
-    ghost view = { λ g. in_rows N g.rows (fields_of g.cells) };
+    ghost view = { λ g. map fields_of g.records.items };
 
-    ghost invariant = { λ g. length (fields_of g.cells) ≡ g.rows * N };
+    ghost invariant = { λ g. AreEven N (map fields_of g.records.items) };
 }
 
 impl<const N: usize> Grid<N> {
@@ -32,7 +33,7 @@ impl<const N: usize> Grid<N> {
         ensures value { result ≡ length self.now }
         ensures even { AreEven N self.now }
     {
-        self.rows
+        self.records.len() as u64
     }
 
     /// The field of a row and a column, both counted from 0.
@@ -41,9 +42,15 @@ impl<const N: usize> Grid<N> {
         requires column { column < N }
         ensures { result.now ≡ cell self.now row column }
     {
-        // The counts say that the index is in range.
-        let (_rows, _count) = (self.rows, self.cells.len());
-        let index = row as usize * N + column as usize;
-        self.cells.get(index).unwrap()
+        let record = record_of(&self.records, row as usize);
+        record_field(record, column as usize)
     }
+}
+
+// The record of a row.
+fn record_of(records: &Vec<ByteRecord>, row: usize) -> &ByteRecord
+    requires { row < length (map fields_of records.now.items) }
+    ensures { fields_of result.now ≡ slice_index_or (map fields_of records.now.items) row [] }
+{
+    &records[row]
 }

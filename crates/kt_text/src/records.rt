@@ -22,7 +22,8 @@ pub fn reader_of(alloc: Global, text: &[u8]) -> Reader<&[u8]>
         .from_reader(alloc, text)
 }
 
-/// The next record into `row`, and whether there was one.
+/// The next record into `row`, and whether there was one. An error is want of memory: nothing is said of the reader and the
+/// row then, and they are not to be used again.
 pub fn next_record(reader: &mut Reader<&[u8]>, row: &mut ByteRecord) -> Result<bool, AllocError>
     requires { StandsBetween reader.old }
     ensures { IfOk result (λ found. MatchBool found

@@ -11,4 +11,5 @@ returns c = record {
       (c.in_ok-append-2.ensures.ok ∙ ap (λ piece. c.append.new.self ++ piece) c.to_le_bytes-2.ensures)
       (c.in_ok-append-3.ensures.ok ∙ ap (λ piece. c.append-2.new.self ++ piece) c.to_le_bytes-3.ensures)
       (c.in_ok-append-4.ensures.ok ∙ ap (λ piece. c.append-3.new.self ++ piece) c.to_le_bytes-4.ensures);
+  kept = tt;
 }

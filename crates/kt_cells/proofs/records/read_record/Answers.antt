@@ -1,7 +1,8 @@
 use Rattle.std.proofs.Common.{◌≡◌, length, get_or, sym, arith, length-drop, refl, ◌∙◌}
 use Rattle.std.proofs.lemmas.List.{take_rest}
 use Rattle.kt_cells.specs.declared.kind.Kind.TheVariants.{Id}
-use Rattle.kt_cells.proofs.RecordLemmas.{width-most, record_width-most}
+use Rattle.kt_cells.proofs.KindLemmas.{kind-facts}
+use Rattle.kt_cells.proofs.RecordLemmas.{record_width-most}
 use Rattle.kt_cells.proofs.RecordReadLemmas.{record-start, place-within, record-more, record-stops, record-end}
 use Rattle.kt_cells.proofs.records.read_record.Goals as goal
 
@@ -23,7 +24,7 @@ number-requires-clause-room g c =
 
 pub overflow_add-at : goal.overflow_add-at
 overflow_add-at g c =
-    omega (arith, c.width-width.ensures, width-most (get_or c.args.kinds.now c.loop-column.column Id), c.loop-column.invariant.within, c.told-kinds, c.requires.size, record_width-most c.args.kinds.now)
+    omega (arith, c.width-width.ensures, (kind-facts 0 (get_or c.args.kinds.now c.loop-column.column Id)).wide, c.loop-column.invariant.within, c.told-kinds, c.requires.size, record_width-most c.args.kinds.now)
 
 pub returns-in-Err-clause-refused : goal.returns-in-Err-clause-refused
 returns-in-Err-clause-refused g c =

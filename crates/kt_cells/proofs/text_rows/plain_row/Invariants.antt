@@ -1,0 +1,7 @@
+use Rattle.std.proofs.Common.{◌==◌, ◌<◌, length}
+use Rattle.kt_cells.proofs.StreamLemmas.{PlainRead}
+use Rattle.kt_cells.proofs.text_rows.plain_row.Given as goal
+
+abbrev pub invariant-loop-column : goal.invariant-loop-column
+invariant-loop-column g l = PlainRead l.kinds l.floor l.text l.values l.column l.rule l.least (l.column == g.row.N) l.rest
+    × (length l.rest < length l.text)

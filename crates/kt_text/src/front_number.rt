@@ -1,0 +1,94 @@
+//! The number at the front of a text, in digits with or without decimals: what nearly every field of a table is.
+
+ghost use Rattle.std.specs.Prelude.{◌≡◌, ◌≤◌, ◌<◌, ◌^◌, ◌⊎◌, Ok, length, take, drop, IfSome};
+ghost use Rattle.kt_text.specs.Numbers.{count_value, decimal_value};
+ghost use Rattle.kt_text.specs.PlainText.{IsField, begins_with_point as point_begins};
+
+use crate::front_digits::front_digits;
+
+// A whole part of so many digits is below the limit in the units of each scale.
+const MOST_WHOLE: usize = 11;
+
+/// A number at the front of a text, and how many bytes write it.
+#[derive(Clone, Copy, Debug, PartialEq, Eq)]
+pub struct FrontNumber {
+    /// How many bytes write it, at least one.
+    pub size: usize,
+    /// The number: a count, or an amount in the units of a scale.
+    pub value: u64,
+}
+
+/// The count that the digits at the front of a text write, the first 18 where there are more. What stands behind them may
+/// still belong to their field.
+#[inline(always)]
+pub fn front_count(text: &[u8]) -> Option<FrontNumber>
+    ensures within { IfSome result (λ number. number.size ≤ length text.now) }
+    ensures field { IfSome result (λ number. IsField text.now number.size) }
+    ensures value { IfSome result (λ number. count_value (take number.size text.now) ≡ Ok number.value) }
+{
+    let digits = front_digits(text);
+    if digits.count == 0 {
+        return None;
+    }
+    Some(FrontNumber {
+        size: digits.count,
+        value: digits.value,
+    })
+}
+
+/// The amount, in units of 10^-`scale`, that digits at the front of a text write, with at most as many decimals as the
+/// scale has. What stands behind them may still belong to their field.
+#[inline(always)]
+pub fn front_amount(text: &[u8], scale: usize) -> Option<FrontNumber>
+    requires { (scale ≡ 2) ⊎ (scale ≡ 6) }
+    ensures within { IfSome result (λ number. number.size ≤ length text.now) }
+    ensures field { IfSome result (λ number. IsField text.now number.size) }
+    ensures value { IfSome result (λ number. decimal_value scale (take number.size text.now) ≡ Ok number.value) }
+{
+    let whole = front_digits(text);
+    if whole.count == 0 || whole.count > MOST_WHOLE {
+        return None;
+    }
+    if !begins_with_point(&text[whole.count..]) {
+        return Some(FrontNumber {
+            size: whole.count,
+            value: whole.value * ten_to(scale),
+        });
+    }
+    let fraction = front_digits(&text[whole.count + 1..]);
+    if fraction.count == 0 || fraction.count > scale {
+        return None;
+    }
+    Some(FrontNumber {
+        size: whole.count + (1 + fraction.count),
+        value: whole.value * ten_to(scale) + fraction.value * ten_to(scale - fraction.count),
+    })
+}
+
+// Whether a text begins with a point.
+fn begins_with_point(text: &[u8]) -> bool
+    ensures { result ≡ point_begins text.now }
+{
+    match text {
+        [first, ..] => *first == b'.',
+        _ => false,
+    }
+}
+
+// A power of ten.
+#[inline(always)]
+fn ten_to(places: usize) -> u64
+    requires { places < 7 }
+    ensures value { result ≡ 10 ^ places }
+    ensures bound { result ≤ 1000000 }
+{
+    match places {
+        0 => 1,
+        1 => 10,
+        2 => 100,
+        3 => 1_000,
+        4 => 10_000,
+        5 => 100_000,
+        _ => 1_000_000,
+    }
+}
