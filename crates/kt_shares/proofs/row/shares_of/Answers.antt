@@ -26,7 +26,7 @@ returns-then-policy-eq0-clause-value c tree loss is carried =
     let top = top-is tree c.args.programme.now is c.args.one c.requires.layer in
     let width : length c.beneath.result.now ≡ length (beneath tree c.args.one.top) = ap length (c.beneath.ensures.tree tree is ∙ ap (beneath tree) top) in
     let none : policy_loss tree loss c.args.one.top c.args.one.layer ≡ 0 =
-        ap (λ n. policy_loss tree loss n c.args.one.layer) (sym top) ∙ (sym (c.policy-policy.ensures.value tree loss is carried) ∙ c.if-policy-eq0.true) in
+    ap (λ n. policy_loss tree loss n c.args.one.layer) (sym top) ∙ (sym (c.policy-policy.ensures.value tree loss is carried) ∙ c.if-policy-eq0.true) in
     c.in_ok-none.ensures.value ∙ (ap (λ n. replicate n 0) width ∙ nothing-shared tree is.is loss c.args.rule c.args.one.top c.args.one.layer (ne_eqb c.args.rule 0 c.if-rule-eq0.false) none)
 
 pub returns-then-policy-eq0-clause-few : goal.returns-then-policy-eq0-clause-few
