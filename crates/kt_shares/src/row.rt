@@ -1,8 +1,8 @@
 //! The policy losses of the layers at one sidx, and what they are shared out to.
 //! The rule: docs/FINANCIAL_MODULE.md, "Insured losses".
-ghost use Rattle.std.specs.Prelude.{◌≡◌, ◌≤◌, ◌^◌, ℕ, length, map, replicate, IfOk};
+ghost use Rattle.std.specs.Prelude.{◌≡◌, ◌≤◌, ◌^◌, ℕ, length, map, replicate, slice_index, IfOk};
 ghost use Rattle.std.specs.List.{AllByRecursion, sum};
-ghost use Rattle.kt_tree.specs.Tree.{Tree};
+ghost use Rattle.kt_tree.specs.Tree.{Tree, policy_loss};
 ghost use Rattle.kt_fmtree.specs.Carried.{AreCarried, IsCarriedBy};
 ghost use Rattle.kt_fmtree.specs.Parts.{IsProgramme};
 ghost use Rattle.kt_shares.specs.Shares.{shares};
@@ -71,14 +71,15 @@ fn shares_of(
     levels: &Levels,
     rule: u32,
     one: TopLayer,
+    policy: u64,
 ) -> Result<Vec<u64>, AllocError>
     requires rule { rule ≤ 2 }
     requires layer { IsTopLayer programme.now one }
     requires levels { IsCarriedBy programme.now levels.now }
+    requires policy { (tree : Tree) (loss : ℕ → ℕ) → IsProgramme tree programme.now → AreCarried tree loss programme.now levels.now → policy ≡ policy_loss tree loss (slice_index tree.tops one.node) one.layer }
     ensures value { IfOk result (λ made. (tree : Tree) (loss : ℕ → ℕ) → IsProgramme tree programme.now → AreCarried tree loss programme.now levels.now → made.items ≡ shares tree loss rule one.top one.layer) }
     ensures few { IfOk result (λ made. sum made.items ≤ 10 ^ 16) }
 {
-    let policy = programme.policy(levels, one.node, one.layer);
     if rule == 0 {
         let mut made = Vec::new(alloc);
         made.push(policy)?;
@@ -121,8 +122,9 @@ pub(crate) fn row_of(
     let mut policies = Vec::with_capacity(alloc, layers.len())?;
     let mut totals = Vec::with_capacity(alloc, layers.len())?;
     for one in layers {
-        let made = shares_of(alloc, programme, levels, rule, *one)?;
-        policies.push(programme.policy(levels, one.node, one.layer))?;
+        let policy = programme.policy(levels, one.node, one.layer);
+        let made = shares_of(alloc, programme, levels, rule, *one, policy)?;
+        policies.push(policy)?;
         totals.push(total_of(&made))?;
         shares.extend_from_slice(&made)?;
     }

@@ -10,13 +10,13 @@ use Rattle.kt_shares.proofs.row.shares_of.Goals as goal
 pub returns-then-rule-eq0-clause-few : goal.returns-then-rule-eq0-clause-few
 returns-then-rule-eq0-clause-few c =
     let of = c.requires.levels in
-    let policy = c.policy-policy.result in
+    let policy = c.args.policy in
     let items : c.push.new.self.items ≡ policy ∷ [] = c.in_ok-push.ensures.items ∙ ap (λ (front : List ℕ). front ++ policy ∷ []) c.new-made.ensures.items in
     omega (
       arith,
       ap sum items,
       sum_by-cons (λ (n : ℕ). n) policy [],
-      c.policy-policy.ensures.value of.tree of.loss of.is of.carried_are,
+      c.requires.policy of.tree of.loss of.is of.carried_are,
       policy-le of.tree of.is.is of.loss (slice_index of.tree.tops c.args.one.node) c.args.one.layer,
       of.few,
     )
@@ -26,7 +26,7 @@ returns-then-policy-eq0-clause-value c tree loss is carried =
     let top = top-is tree c.args.programme.now is c.args.one c.requires.layer in
     let width : length c.beneath.result.now ≡ length (beneath tree c.args.one.top) = ap length (c.beneath.ensures.tree tree is ∙ ap (beneath tree) top) in
     let none : policy_loss tree loss c.args.one.top c.args.one.layer ≡ 0 =
-    ap (λ n. policy_loss tree loss n c.args.one.layer) (sym top) ∙ (sym (c.policy-policy.ensures.value tree loss is carried) ∙ c.if-policy-eq0.true) in
+    ap (λ n. policy_loss tree loss n c.args.one.layer) (sym top) ∙ (sym (c.requires.policy tree loss is carried) ∙ c.if-policy-eq0.true) in
     c.in_ok-none.ensures.value ∙ (ap (λ n. replicate n 0) width ∙ nothing-shared tree is.is loss c.args.rule c.args.one.top c.args.one.layer (ne_eqb c.args.rule 0 c.if-rule-eq0.false) none)
 
 pub returns-then-policy-eq0-clause-few : goal.returns-then-policy-eq0-clause-few
