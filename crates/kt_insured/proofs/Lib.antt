@@ -6,3 +6,4 @@ pub mod GoodLemmas
 pub mod TableLemmas
 pub mod RunLemmas
 pub mod WholeLemmas
+pub mod RecordLemmas

@@ -17,6 +17,16 @@ pub each-of : {X : Type 0} (P : X → Type 0) → ((x : X) → P x) → (xs : Li
 each-of P all [] = tt
 each-of P all (x ∷ xs) = (all x, each-of P all xs)
 
+-- what holds of each for every other holds for every other of each
+pub each-all : {A X : Type 0} (P : A → X → Type 0) (xs : List X) → ((a : A) → AllByRecursion (P a) xs) → AllByRecursion (λ x. (a : A) → P a x) xs
+each-all P [] all = tt
+each-all P (x ∷ xs) all = (λ a. (all a).0, each-all P xs (λ a. (all a).1))
+
+-- what holds of what each becomes
+pub each-mapped : {X Y : Type 0} (P : Y → Type 0) (f : X → Y) (xs : List X) → AllByRecursion P (map f xs) → AllByRecursion (λ x. P (f x)) xs
+each-mapped P f [] all = tt
+each-mapped P f (x ∷ xs) all = (all.0, each-mapped P f xs all.1)
+
 -- what holds of ids holds of those that pass a test, and they pass it
 pub each-passing : (P : ℕ → Type 0) (test : ℕ → Bool) (ids : List ℕ) → AllByRecursion P ids → AllByRecursion (λ id. P id × (test id ≡ true)) (filter test ids)
 each-passing P test [] all = tt
@@ -36,6 +46,10 @@ sum_by-made {Y = Y} amount f (x ∷ xs) = by (f x) (sum_by-made amount f xs) ∙
     by (Some y) rest = omega (arith, sum_by-cons amount y (filter_map f xs), rest)
 
 module _ {X K : Type 0} {eq : K → K → Bool} (laws : IsEquivalence eq) (key : X → K) where
+  -- the key of a row is compared from either side
+  pub sum_by-turned : (amount : X → ℕ) (k : K) (xs : List X) → sum_by (λ x. cond (eq (key x) k) (amount x) 0) xs ≡ sum_by (λ x. cond (eq k (key x)) (amount x) 0) xs
+  sum_by-turned amount k xs = sum_by-agree (λ x. cond (eq (key x) k) (amount x) 0) (λ x. cond (eq k (key x)) (amount x) 0) xs (each-of _ (λ x. ap (λ b. cond b (amount x) 0) (laws.symm (key x) k)) xs)
+
   -- rows whose keys are apart from one have nothing for it
   none-apart : (amount : X → ℕ) (k one : K) (xs : List X) → eq k one ≡ true → AllByRecursion (λ other. eq one other ≡ false) (map key xs) → sum_by (λ x. cond (eq k (key x)) (amount x) 0) xs ≡ 0
   none-apart amount k one [] same apart = refl
@@ -75,16 +89,13 @@ module _ {X K : Type 0} {eq : K → K → Bool} (laws : IsEquivalence eq) (key :
   sum_by-own amount [] distinct = tt
   sum_by-own amount (x ∷ xs) distinct = (first, later xs distinct.0 (sum_by-own amount xs distinct.1))
     where
-      turned : (k : K) (xs : List X) → sum_by (λ other. cond (eq (key other) k) (amount other) 0) xs ≡ sum_by (λ other. cond (eq k (key other)) (amount other) 0) xs
-      turned k xs = sum_by-agree (λ other. cond (eq (key other) k) (amount other) 0) (λ other. cond (eq k (key other)) (amount other) 0) xs (each-of _ (λ other. ap (λ b. cond b (amount other) 0) (laws.symm (key other) k)) xs)
-
       first : sum_by (λ other. cond (eq (key other) (key x)) (amount other) 0) (x ∷ xs) ≡ amount x
       first =
           omega (
             arith,
             sum_by-cons (λ other. cond (eq (key other) (key x)) (amount other) 0) x xs,
             ap (λ b. cond b (amount x) 0) (laws.refl (key x)),
-            turned (key x) xs,
+            sum_by-turned amount (key x) xs,
             none-apart amount (key x) (key x) xs (laws.refl (key x)) distinct.0,
           )
 

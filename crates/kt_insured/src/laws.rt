@@ -1,12 +1,15 @@
 //! Theorems about the outputs of a portfolio, as functions that do nothing.
 //! The rule: docs/FINANCIAL_MODULE.md, "Insured losses".
-ghost use Rattle.std.specs.Prelude.{◌≡◌, ℕ, nat_eq, true};
+ghost use Rattle.std.specs.Prelude.{◌≡◌, ℕ, nat_eq, true, List, All};
 ghost use Rattle.std.specs.List.{list_any};
 ghost use Rattle.kt_rec.specs.declared.table.Table.TheVariants as table;
 ghost use Rattle.kt_keys.specs.Refusals.{is_loaded};
+ghost use Rattle.kt_stream.specs.declared.entry.LossRecord.{LossRecord};
 ghost use Rattle.kt_tree.specs.Programme.{tree_of};
 ghost use Rattle.kt_tree.specs.Tree.{policy_loss};
-ghost use Rattle.kt_insured.specs.Whole.{outputs_loss};
+ghost use Rattle.kt_shares.specs.Shares.{id_loss, insured_range, taken_loss};
+ghost use Rattle.kt_insured.specs.Insured.{insured_records, output_loss};
+ghost use Rattle.kt_insured.specs.Whole.{outputs_loss, records_loss};
 
 use kt_tables::Portfolio;
 
@@ -21,4 +24,24 @@ pub fn the_outputs_of_a_layer_have_its_policy_loss(portfolio: &Portfolio)
     portfolio.is_valid();
     portfolio.keeps_keys();
     portfolio.keeps_outputs();
+}
+
+/// The records of a run have at the mean and at each sample what each output has there: an output without a loss has no record,
+/// and a record no pair without a loss, and nothing is lost by that.
+pub fn the_records_have_what_the_outputs_have(portfolio: &Portfolio)
+    ensures whole { (rule samples : ℕ) (records : List LossRecord) → All (λ sidx. All (λ output. id_loss (insured_records (tree_of portfolio.now.rows 0) rule samples portfolio.now.rows.fm_xref records) sidx output.output_id ≡ output_loss (tree_of portfolio.now.rows 0) (taken_loss (tree_of portfolio.now.rows 0) records sidx) rule output.agg_id output.layer_id) portfolio.now.rows.fm_xref) (insured_range samples) }
+{
+    portfolio.keeps_keys();
+}
+
+/// So the records of the outputs of a layer of a top have the whole of its policy loss, at the mean and at each sample, whatever
+/// the records of the run.
+pub fn the_records_of_a_layer_have_its_policy_loss(portfolio: &Portfolio)
+    requires programme { is_loaded portfolio.now.need 0 table.FmProgramme ≡ true }
+    requires terms { is_loaded portfolio.now.need 0 table.FmPolicytc ≡ true }
+    requires outputs { is_loaded portfolio.now.need 0 table.FmXref ≡ true }
+    ensures whole { (samples : ℕ) (records : List LossRecord) (top layer : ℕ) → list_any (nat_eq top) (tree_of portfolio.now.rows 0).tops ≡ true → list_any (nat_eq layer) ((tree_of portfolio.now.rows 0).layers top) ≡ true → All (λ sidx. records_loss (tree_of portfolio.now.rows 0) portfolio.now.need.rule portfolio.now.rows.fm_xref (insured_records (tree_of portfolio.now.rows 0) portfolio.now.need.rule samples portfolio.now.rows.fm_xref records) top layer sidx ≡ policy_loss (tree_of portfolio.now.rows 0) (taken_loss (tree_of portfolio.now.rows 0) records sidx) top layer) (insured_range samples) }
+{
+    portfolio.keeps_keys();
+    the_outputs_of_a_layer_have_its_policy_loss(portfolio);
 }
