@@ -7,3 +7,4 @@ pub mod TableLemmas
 pub mod RunLemmas
 pub mod WholeLemmas
 pub mod RecordLemmas
+pub mod TotalLemmas

@@ -11,7 +11,7 @@ use Rattle.std.proofs.lemmas.List.{map-id}
 use Rattle.kt_rec.specs.declared.financial.FmXref.{FmXref}
 use Rattle.kt_stream.specs.declared.entry.LossRecord.{LossRecord}
 use Rattle.kt_stream.specs.declared.entry.Pair.{Pair}
-use Rattle.kt_runs.specs.RunLosses.{event_of, loss_of}
+use Rattle.kt_runs.specs.RunLosses.{event_of, loss_of, run_loss}
 use Rattle.kt_runs.specs.Sidx.{pair_of, pairs_of}
 use Rattle.kt_tree.specs.Rising.{rising, rising-distinct, rising-member}
 use Rattle.kt_tree.specs.Sums.{each_member, each_then, sum_by-agree, sum_by-one, sum_by-swap}
@@ -20,14 +20,9 @@ use Rattle.kt_shares.specs.Shares.{id_loss, insured_range, record_with, sample_r
 use Rattle.kt_insured.specs.Insured.{in_order, insured_records, output_record}
 use Rattle.kt_insured.specs.Whole.{has_share, outputs_loss, records_loss}
 use Rattle.kt_insured.proofs.GoodLemmas.{loss_for}
-use Rattle.kt_insured.proofs.SumLemmas.{amount_of, each-all, each-mapped, each-of, sum_by-found, sum_by-made, sum_by-own, sum_by-turned}
+use Rattle.kt_insured.proofs.SumLemmas.{amount_of, each-all, each-mapped, each-of, either-none, sum_by-found, sum_by-made, sum_by-own, sum_by-turned}
 
 -- ---- the pairs of a record
-
--- nothing, whether it counts or not
-either-none : (b : Bool) → zero ≡ cond b 0 0
-either-none true = refl
-either-none false = refl
 
 -- the sidx of insured losses are distinct
 range-once : (samples : ℕ) → IsDistinct int_eq (insured_range samples)
@@ -60,7 +55,7 @@ pairs-loss loss sidx range =
     ∙ sum_by-agree (λ other. amount_of (λ (pair : Pair). cond (int_eq pair.sidx sidx) pair.loss 0) (pair_of other (loss other))) (λ other. cond (int_eq other sidx) (loss other) 0) range (each-of _ (λ other. by other (loss other)) range)
   where
     by : (other : ℤ) (amount : ℕ) → amount_of (λ (pair : Pair). cond (int_eq pair.sidx sidx) pair.loss 0) (pair_of other amount) ≡ cond (int_eq other sidx) amount 0
-    by other zero = either-none (int_eq other sidx)
+    by other zero = sym (either-none (int_eq other sidx))
     by other (suc less) = refl
 
 -- the pairs at the mean and at the samples have the losses there
@@ -72,10 +67,10 @@ pairs-own samples =
     once : IsDistinct int_eq (map (λ (sidx : ℤ). sidx) (insured_range samples))
     once = subst (IsDistinct int_eq) (sym (map-id (insured_range samples))) (range-once samples)
 
--- the losses of an id in a record, where there is one
-record-loss : (sidx : ℤ) (event id output : ℕ) (pairs : List Pair) → amount_of (λ (entry : LossRecord). cond (nat_eq entry.id id) (loss_of sidx entry.pairs) 0) (record_with event output pairs) ≡ cond (nat_eq output id) (loss_of sidx pairs) 0
-record-loss sidx event id output [] = either-none (nat_eq output id)
-record-loss sidx event id output (pair ∷ pairs) = refl
+-- the losses of a record, where there is one and its id passes a test
+record-loss : (test : ℕ → Bool) (sidx : ℤ) (event output : ℕ) (pairs : List Pair) → amount_of (λ (entry : LossRecord). cond (test entry.id) (loss_of sidx entry.pairs) 0) (record_with event output pairs) ≡ cond (test output) (loss_of sidx pairs) 0
+record-loss test sidx event output [] = sym (either-none (test output))
+record-loss test sidx event output (pair ∷ pairs) = refl
 
 -- ---- the records of outputs
 
@@ -98,21 +93,25 @@ module _ (outputs : List FmXref) (once : IsDistinct nat_eq (map (λ row. row.out
           ∙ ap (λ b. cond b (amount output) 0) (rising-member (map (λ row. row.output_id) outputs) output.output_id ∙ here))
 
   module _ (tree : Tree) (rule samples : ℕ) (records : List LossRecord) where
-    -- what the records have of an id
-    made-loss : (sidx : ℤ) → ((loss : ℤ → ℕ) → loss_of sidx (pairs_of loss (insured_range samples)) ≡ loss sidx) → (id : ℕ) → id_loss (insured_records tree rule samples outputs records) sidx id ≡ sum_by (λ output. cond (nat_eq output.output_id id) (loss_for tree rule records output sidx) 0) outputs
-    made-loss sidx own id =
-        sum_by-made (λ (entry : LossRecord). cond (nat_eq entry.id id) (loss_of sidx entry.pairs) 0) (output_record tree rule samples records) (in_order outputs)
-        ∙ (sum_by-agree (λ output. amount_of (λ (entry : LossRecord). cond (nat_eq entry.id id) (loss_of sidx entry.pairs) 0) (output_record tree rule samples records output)) (λ output. cond (nat_eq output.output_id id) (loss_for tree rule records output sidx) 0) (in_order outputs) (each-of _ each (in_order outputs))
-        ∙ order-sum (λ output. cond (nat_eq output.output_id id) (loss_for tree rule records output sidx) 0))
+    -- what the records have of ids that pass a test
+    made-loss : (test : ℕ → Bool) (sidx : ℤ) → ((loss : ℤ → ℕ) → loss_of sidx (pairs_of loss (insured_range samples)) ≡ loss sidx) → sum_by (λ (entry : LossRecord). cond (test entry.id) (loss_of sidx entry.pairs) 0) (insured_records tree rule samples outputs records) ≡ sum_by (λ output. cond (test output.output_id) (loss_for tree rule records output sidx) 0) outputs
+    made-loss test sidx own =
+        sum_by-made (λ (entry : LossRecord). cond (test entry.id) (loss_of sidx entry.pairs) 0) (output_record tree rule samples records) (in_order outputs)
+        ∙ (sum_by-agree (λ output. amount_of (λ (entry : LossRecord). cond (test entry.id) (loss_of sidx entry.pairs) 0) (output_record tree rule samples records output)) (λ output. cond (test output.output_id) (loss_for tree rule records output sidx) 0) (in_order outputs) (each-of _ each (in_order outputs))
+        ∙ order-sum (λ output. cond (test output.output_id) (loss_for tree rule records output sidx) 0))
       where
-        each : (output : FmXref) → amount_of (λ (entry : LossRecord). cond (nat_eq entry.id id) (loss_of sidx entry.pairs) 0) (output_record tree rule samples records output) ≡ cond (nat_eq output.output_id id) (loss_for tree rule records output sidx) 0
+        each : (output : FmXref) → amount_of (λ (entry : LossRecord). cond (test entry.id) (loss_of sidx entry.pairs) 0) (output_record tree rule samples records output) ≡ cond (test output.output_id) (loss_for tree rule records output sidx) 0
         each output =
-            record-loss sidx (event_of records) id output.output_id (pairs_of (loss_for tree rule records output) (insured_range samples))
-            ∙ ap (λ amount. cond (nat_eq output.output_id id) amount 0) (own (loss_for tree rule records output))
+            record-loss test sidx (event_of records) output.output_id (pairs_of (loss_for tree rule records output) (insured_range samples))
+            ∙ ap (λ amount. cond (test output.output_id) amount 0) (own (loss_for tree rule records output))
+
+    -- what they have together is what the outputs have
+    pub made-all : AllByRecursion (λ sidx. run_loss sidx (insured_records tree rule samples outputs records) ≡ sum_by (λ output. loss_for tree rule records output sidx) outputs) (insured_range samples)
+    made-all = each_then _ _ (λ sidx own. made-loss (λ id. true) sidx own) (insured_range samples) (pairs-own samples)
 
     -- what they have of each output is its loss
     pub made-own : AllByRecursion (λ sidx. AllByRecursion (λ output. id_loss (insured_records tree rule samples outputs records) sidx output.output_id ≡ loss_for tree rule records output sidx) outputs) (insured_range samples)
-    made-own = each_then _ _ (λ sidx own. each_then _ _ (λ output sums. made-loss sidx own output.output_id ∙ sums) outputs (sum_by-own nat_eq_equiv (λ (output : FmXref). output.output_id) (λ output. loss_for tree rule records output sidx) outputs once)) (insured_range samples) (pairs-own samples)
+    made-own = each_then _ _ (λ sidx own. each_then _ _ (λ output sums. made-loss (λ id. nat_eq id output.output_id) sidx own ∙ sums) outputs (sum_by-own nat_eq_equiv (λ (output : FmXref). output.output_id) (λ output. loss_for tree rule records output sidx) outputs once)) (insured_range samples) (pairs-own samples)
 
     -- so what they have of the outputs of a layer is what those outputs have
     pub records-own : (top layer : ℕ) → AllByRecursion (λ sidx. records_loss tree rule outputs (insured_records tree rule samples outputs records) top layer sidx ≡ outputs_loss tree (taken_loss tree records sidx) rule outputs top layer) (insured_range samples)

@@ -1,5 +1,5 @@
 -- Sums over rows of which each key is of one row.
-use Rattle.std.proofs.Common.{◌≡◌, ℕ, ◌+◌, ◌≤◌, ◌||◌, Bool, true, false, cond, nat_eq, List, [], ◌∷◌, Option, Some, None, length, map, refl, sym, ap, ◌∙◌, arith}
+use Rattle.std.proofs.Common.{◌≡◌, ℕ, zero, ◌+◌, ◌≤◌, ◌||◌, Bool, true, false, cond, nat_eq, List, [], ◌∷◌, Option, Some, None, length, map, refl, sym, ap, ◌∙◌, arith}
 use Rattle.std.specs.Prelude.{unwrap_or}
 use Rattle.std.specs.Cmp.{IsEquivalence, nat_eq_equiv}
 use Rattle.std.specs.List.{AllByRecursion, IsDistinct, cons_option, filter, filter_map, list_any, sum, sum_by, zip}
@@ -11,6 +11,11 @@ use Rattle.kt_tree.specs.Sums.{each_then, sum_by-agree}
 abbrev pub amount_of : {X : Type 0} → (X → ℕ) → Option X → ℕ
 amount_of amount None = 0
 amount_of amount (Some x) = amount x
+
+-- nothing, whether it counts or not
+pub either-none : (b : Bool) → cond b 0 0 ≡ zero
+either-none true = refl
+either-none false = refl
 
 -- what holds of each holds of those of a list
 pub each-of : {X : Type 0} (P : X → Type 0) → ((x : X) → P x) → (xs : List X) → AllByRecursion P xs
@@ -27,6 +32,10 @@ pub each-mapped : {X Y : Type 0} (P : Y → Type 0) (f : X → Y) (xs : List X) 
 each-mapped P f [] all = tt
 each-mapped P f (x ∷ xs) all = (all.0, each-mapped P f xs all.1)
 
+pub mapped-each : {X Y : Type 0} (P : Y → Type 0) (f : X → Y) (xs : List X) → AllByRecursion (λ x. P (f x)) xs → AllByRecursion P (map f xs)
+mapped-each P f [] all = tt
+mapped-each P f (x ∷ xs) all = (all.0, mapped-each P f xs all.1)
+
 -- what holds of ids holds of those that pass a test, and they pass it
 pub each-passing : (P : ℕ → Type 0) (test : ℕ → Bool) (ids : List ℕ) → AllByRecursion P ids → AllByRecursion (λ id. P id × (test id ≡ true)) (filter test ids)
 each-passing P test [] all = tt
@@ -35,6 +44,11 @@ each-passing P test (id ∷ ids) all = by (test id) refl (each-passing P test id
     by : (b : Bool) → test id ≡ b → AllByRecursion (λ id. P id × (test id ≡ true)) (filter test ids) → AllByRecursion (λ id. P id × (test id ≡ true)) (cond b (id ∷ filter test ids) (filter test ids))
     by true passes rest = ((all.0, passes), rest)
     by false fails rest = rest
+
+-- the amounts of what each becomes
+pub sum_by-mapped : {X Y : Type 0} (amount : Y → ℕ) (f : X → Y) (xs : List X) → sum_by amount (map f xs) ≡ sum_by (λ x. amount (f x)) xs
+sum_by-mapped amount f [] = refl
+sum_by-mapped amount f (x ∷ xs) = omega (arith, sum_by-cons amount (f x) (map f xs), sum_by-cons (λ x. amount (f x)) x xs, sum_by-mapped amount f xs)
 
 -- the amounts of what is made of some
 pub sum_by-made : {X Y : Type 0} (amount : Y → ℕ) (f : X → Option Y) (xs : List X) → sum_by amount (filter_map f xs) ≡ sum_by (λ x. amount_of amount (f x)) xs
