@@ -20,7 +20,7 @@ pub fn the_outputs_of_a_layer_have_its_policy_loss(portfolio: &Portfolio)
     requires programme { is_loaded portfolio.now.need 0 table.FmProgramme ≡ true }
     requires terms { is_loaded portfolio.now.need 0 table.FmPolicytc ≡ true }
     requires outputs { is_loaded portfolio.now.need 0 table.FmXref ≡ true }
-    ensures whole { (losses : ℕ → ℕ) (top layer : ℕ) → list_any (nat_eq top) (tree_of portfolio.now.rows 0).tops ≡ true → list_any (nat_eq layer) ((tree_of portfolio.now.rows 0).layers top) ≡ true → outputs_loss (tree_of portfolio.now.rows 0) losses portfolio.now.need.rule portfolio.now.rows.fm_xref top layer ≡ policy_loss (tree_of portfolio.now.rows 0) losses top layer }
+    ensures conserved { (losses : ℕ → ℕ) (top layer : ℕ) → list_any (nat_eq top) (tree_of portfolio.now.rows 0).tops ≡ true → list_any (nat_eq layer) ((tree_of portfolio.now.rows 0).layers top) ≡ true → outputs_loss (tree_of portfolio.now.rows 0) losses portfolio.now.need.rule portfolio.now.rows.fm_xref top layer ≡ policy_loss (tree_of portfolio.now.rows 0) losses top layer }
 {
     portfolio.is_valid();
     portfolio.keeps_keys();
@@ -30,7 +30,7 @@ pub fn the_outputs_of_a_layer_have_its_policy_loss(portfolio: &Portfolio)
 /// The records of a run have at the mean and at each sample what each output has there: an output without a loss has no record,
 /// and a record no pair without a loss, and nothing is lost by that.
 pub fn the_records_have_what_the_outputs_have(portfolio: &Portfolio)
-    ensures whole { (rule samples : ℕ) (records : List LossRecord) → All (λ sidx. All (λ output. id_loss (insured_records (tree_of portfolio.now.rows 0) rule samples portfolio.now.rows.fm_xref records) sidx output.output_id ≡ output_loss (tree_of portfolio.now.rows 0) (taken_loss (tree_of portfolio.now.rows 0) records sidx) rule output.agg_id output.layer_id) portfolio.now.rows.fm_xref) (insured_range samples) }
+    ensures value { (rule samples : ℕ) (records : List LossRecord) → All (λ sidx. All (λ output. id_loss (insured_records (tree_of portfolio.now.rows 0) rule samples portfolio.now.rows.fm_xref records) sidx output.output_id ≡ output_loss (tree_of portfolio.now.rows 0) (taken_loss (tree_of portfolio.now.rows 0) records sidx) rule output.agg_id output.layer_id) portfolio.now.rows.fm_xref) (insured_range samples) }
 {
     portfolio.keeps_keys();
 }
@@ -41,18 +41,18 @@ pub fn the_records_of_a_layer_have_its_policy_loss(portfolio: &Portfolio)
     requires programme { is_loaded portfolio.now.need 0 table.FmProgramme ≡ true }
     requires terms { is_loaded portfolio.now.need 0 table.FmPolicytc ≡ true }
     requires outputs { is_loaded portfolio.now.need 0 table.FmXref ≡ true }
-    ensures whole { (samples : ℕ) (records : List LossRecord) (top layer : ℕ) → list_any (nat_eq top) (tree_of portfolio.now.rows 0).tops ≡ true → list_any (nat_eq layer) ((tree_of portfolio.now.rows 0).layers top) ≡ true → All (λ sidx. records_loss (tree_of portfolio.now.rows 0) portfolio.now.need.rule portfolio.now.rows.fm_xref (insured_records (tree_of portfolio.now.rows 0) portfolio.now.need.rule samples portfolio.now.rows.fm_xref records) top layer sidx ≡ policy_loss (tree_of portfolio.now.rows 0) (taken_loss (tree_of portfolio.now.rows 0) records sidx) top layer) (insured_range samples) }
+    ensures conserved { (samples : ℕ) (records : List LossRecord) (top layer : ℕ) → list_any (nat_eq top) (tree_of portfolio.now.rows 0).tops ≡ true → list_any (nat_eq layer) ((tree_of portfolio.now.rows 0).layers top) ≡ true → All (λ sidx. records_loss (tree_of portfolio.now.rows 0) portfolio.now.need.rule portfolio.now.rows.fm_xref (insured_records (tree_of portfolio.now.rows 0) portfolio.now.need.rule samples portfolio.now.rows.fm_xref records) top layer sidx ≡ policy_loss (tree_of portfolio.now.rows 0) (taken_loss (tree_of portfolio.now.rows 0) records sidx) top layer) (insured_range samples) }
 {
     portfolio.keeps_keys();
     the_outputs_of_a_layer_have_its_policy_loss(portfolio);
 }
 
-/// All outputs together have the policy losses of all layers, whatever the losses: no output has a share of two layers.
+/// All outputs together have the policy losses of all layers, and nothing beside, whatever the losses.
 pub fn all_outputs_have_all_policy_losses(portfolio: &Portfolio)
     requires programme { is_loaded portfolio.now.need 0 table.FmProgramme ≡ true }
     requires terms { is_loaded portfolio.now.need 0 table.FmPolicytc ≡ true }
     requires outputs { is_loaded portfolio.now.need 0 table.FmXref ≡ true }
-    ensures whole { (losses : ℕ → ℕ) → sum_by (λ output. output_loss (tree_of portfolio.now.rows 0) losses portfolio.now.need.rule output.agg_id output.layer_id) portfolio.now.rows.fm_xref ≡ sum_by (λ key. policy_loss (tree_of portfolio.now.rows 0) losses key.0 key.1) (layers_of (tree_of portfolio.now.rows 0)) }
+    ensures conserved { (losses : ℕ → ℕ) → sum_by (λ output. output_loss (tree_of portfolio.now.rows 0) losses portfolio.now.need.rule output.agg_id output.layer_id) portfolio.now.rows.fm_xref ≡ sum_by (λ key. policy_loss (tree_of portfolio.now.rows 0) losses key.0 key.1) (layers_of (tree_of portfolio.now.rows 0)) }
 {
     the_outputs_of_a_layer_have_its_policy_loss(portfolio);
 }
@@ -62,7 +62,7 @@ pub fn the_records_of_a_run_have_all_policy_losses(portfolio: &Portfolio)
     requires programme { is_loaded portfolio.now.need 0 table.FmProgramme ≡ true }
     requires terms { is_loaded portfolio.now.need 0 table.FmPolicytc ≡ true }
     requires outputs { is_loaded portfolio.now.need 0 table.FmXref ≡ true }
-    ensures whole { (samples : ℕ) (records : List LossRecord) → All (λ sidx. run_loss sidx (insured_records (tree_of portfolio.now.rows 0) portfolio.now.need.rule samples portfolio.now.rows.fm_xref records) ≡ sum_by (λ key. policy_loss (tree_of portfolio.now.rows 0) (taken_loss (tree_of portfolio.now.rows 0) records sidx) key.0 key.1) (layers_of (tree_of portfolio.now.rows 0))) (insured_range samples) }
+    ensures conserved { (samples : ℕ) (records : List LossRecord) → All (λ sidx. run_loss sidx (insured_records (tree_of portfolio.now.rows 0) portfolio.now.need.rule samples portfolio.now.rows.fm_xref records) ≡ sum_by (λ key. policy_loss (tree_of portfolio.now.rows 0) (taken_loss (tree_of portfolio.now.rows 0) records sidx) key.0 key.1) (layers_of (tree_of portfolio.now.rows 0))) (insured_range samples) }
 {
     portfolio.keeps_keys();
     all_outputs_have_all_policy_losses(portfolio);

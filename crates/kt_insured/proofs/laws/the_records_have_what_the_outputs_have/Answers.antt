@@ -7,7 +7,7 @@ use Rattle.kt_insured.proofs.laws.the_records_have_what_the_outputs_have.Goals a
 
 pub returns : goal.returns
 returns c = record {
-  whole = λ rule samples records.
+  value = λ rule samples records.
       let rows = c.args.portfolio.now.rows in
       All-from_recursion _ (insured_range samples) (each_then _ _ (λ sidx all. All-from_recursion _ rows.fm_xref all) (insured_range samples) (made-own rows.fm_xref c.keeps_keys.ensures.kept.outputs (tree_of rows 0) rule samples records));
 }

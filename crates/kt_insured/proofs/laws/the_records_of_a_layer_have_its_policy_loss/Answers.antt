@@ -8,9 +8,9 @@ use Rattle.kt_insured.proofs.laws.the_records_of_a_layer_have_its_policy_loss.Go
 
 pub returns : goal.returns
 returns c = record {
-  whole = λ samples records top layer is_top is_layer.
+  conserved = λ samples records top layer is_top is_layer.
       let rows = c.args.portfolio.now.rows in
       let tree = tree_of rows 0 in
       All-from_recursion _ (insured_range samples)
-      (each_then _ _ (λ sidx same. same ∙ c.the_outputs_of_a_layer_have_its_policy_loss.ensures.whole (taken_loss tree records sidx) top layer is_top is_layer) (insured_range samples) (records-own rows.fm_xref c.keeps_keys.ensures.kept.outputs tree c.args.portfolio.now.need.rule samples records top layer));
+      (each_then _ _ (λ sidx same. same ∙ c.the_outputs_of_a_layer_have_its_policy_loss.ensures.conserved (taken_loss tree records sidx) top layer is_top is_layer) (insured_range samples) (records-own rows.fm_xref c.keeps_keys.ensures.kept.outputs tree c.args.portfolio.now.need.rule samples records top layer));
 }

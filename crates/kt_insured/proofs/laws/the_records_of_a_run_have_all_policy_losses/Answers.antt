@@ -8,9 +8,9 @@ use Rattle.kt_insured.proofs.laws.the_records_of_a_run_have_all_policy_losses.Go
 
 pub returns : goal.returns
 returns c = record {
-  whole = λ samples records.
+  conserved = λ samples records.
       let rows = c.args.portfolio.now.rows in
       let tree = tree_of rows 0 in
       All-from_recursion _ (insured_range samples)
-      (each_then _ _ (λ sidx same. same ∙ c.all_outputs_have_all_policy_losses.ensures.whole (taken_loss tree records sidx)) (insured_range samples) (made-all rows.fm_xref c.keeps_keys.ensures.kept.outputs tree c.args.portfolio.now.need.rule samples records));
+      (each_then _ _ (λ sidx same. same ∙ c.all_outputs_have_all_policy_losses.ensures.conserved (taken_loss tree records sidx)) (insured_range samples) (made-all rows.fm_xref c.keeps_keys.ensures.kept.outputs tree c.args.portfolio.now.need.rule samples records));
 }
