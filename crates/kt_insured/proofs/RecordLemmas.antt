@@ -1,5 +1,5 @@
 -- The records of a run have what its outputs have, sidx by sidx.
-use Rattle.std.proofs.Common.{◌≡◌, ℕ, zero, suc, ◌+◌, ◌<◌, ◌≤◌, Bool, true, false, cond, nat_eq, ℤ, pos, negsuc, List, [], ◌∷◌, map, refl, sym, ap, subst, ◌∙◌, arith}
+use Rattle.std.proofs.Common.{◌≡◌, ℕ, zero, suc, ◌+◌, ◌<◌, Bool, true, false, cond, nat_eq, ℤ, pos, negsuc, List, [], ◌∷◌, map, refl, sym, ap, subst, ◌∙◌, arith}
 use Rattle.std.specs.Cmp.{nat_eq_equiv}
 use Rattle.std.specs.List.{AllByRecursion, IsDistinct, list_any, range_with_len, sum_by}
 use Rattle.std.specs.Map.{lookup}
@@ -16,7 +16,7 @@ use Rattle.kt_runs.specs.Sidx.{pair_of, pairs_of}
 use Rattle.kt_tree.specs.Rising.{rising, rising-distinct, rising-member}
 use Rattle.kt_tree.specs.Sums.{each_member, each_then, sum_by-agree, sum_by-one, sum_by-swap}
 use Rattle.kt_tree.specs.Tree.{Tree}
-use Rattle.kt_shares.specs.Shares.{id_loss, insured_range, record_with, sample_range, taken_loss}
+use Rattle.kt_shares.specs.Shares.{id_loss, insured_range, record_with, taken_loss}
 use Rattle.kt_insured.specs.Insured.{in_order, insured_records, output_record}
 use Rattle.kt_insured.specs.Whole.{has_share, outputs_loss, records_loss}
 use Rattle.kt_insured.proofs.GoodLemmas.{loss_for}
