@@ -76,7 +76,7 @@ order-each P outputs all = from (rising (map (λ row. row.output_id) outputs))
     from (id ∷ ids) = found-each P (nat_eq id) (map (λ row. (row.output_id, row)) outputs) (paired outputs all) _ (from ids)
 
 -- what an output loses at a sidx
-abbrev loss_for : Tree → ℕ → List LossRecord → FmXref → ℤ → ℕ
+abbrev pub loss_for : Tree → ℕ → List LossRecord → FmXref → ℤ → ℕ
 loss_for tree rule records output sidx = output_loss tree (taken_loss tree records sidx) rule output.agg_id output.layer_id
 
 -- insured losses are records of a stream

@@ -3,7 +3,6 @@ use Rattle.std.proofs.Common.{◌≡◌, ℕ, suc, ◌+◌, ◌-◌, ◌<◌, �
 use Rattle.std.specs.Prelude.{All, option_map, unwrap_or}
 use Rattle.std.specs.List.{AllByRecursion, cons_option, filter_map, range_with_len, sum, sum_by}
 use Rattle.std.proofs.lemmas.List.{get_or-map, length-map}
-use Rattle.std.proofs.lemmas.List.Sums.{sum_by-cons}
 use Rattle.kt_keys.specs.Keys.{same_pair}
 use Rattle.kt_rec.specs.declared.financial.FmXref.{FmXref}
 use Rattle.kt_stream.specs.declared.entry.LossRecord.{LossRecord}
@@ -27,6 +26,7 @@ use Rattle.kt_shares.specs.declared.layers.TopLayer.{TopLayer}
 use Rattle.kt_insured.specs.declared.layout.Outlet.{Outlet}
 use Rattle.kt_insured.proofs.ListLemmas.{filter_map-twice, place-none, place-some, followed, summed-few, summed-more}
 use Rattle.kt_insured.proofs.OutputLemmas.{length-row, output-is}
+use Rattle.kt_insured.proofs.SumLemmas.{sum_by-mapped}
 
 -- ---- amounts of the samples, added row by row
 
@@ -150,10 +150,6 @@ module _ (tree : Tree) (is : IsTree tree) (rule samples : ℕ) (records : List L
           total_few = omega (arith, total, shares-sum tree is (losses row) rule key.0 key.1, few, taken, within (sidx_at (row_place row)));
         })
 
-    sum_by-map : (f : ℤ → ℕ) (g : ℕ → ℤ) (xs : List ℕ) → sum_by f (map g xs) ≡ sum_by (λ x. f (g x)) xs
-    sum_by-map f g [] = refl
-    sum_by-map f g (x ∷ xs) = omega (arith, sum_by-cons f (g x) (map g xs), sum_by-cons (λ x. f (g x)) x xs, sum_by-map f g xs)
-
     -- amounts of the samples, added
     sampled-is : (amount : Shared → ℕ) (f : ℤ → ℕ) → ((row : ℕ) → amount (full row) ≡ f (sidx_at (row_place row))) → sampled_sum amount table ≡ sum_by f (sample_range samples)
     sampled-is amount f same =
@@ -162,7 +158,7 @@ module _ (tree : Tree) (is : IsTree tree) (rule samples : ℕ) (records : List L
         ap (λ n. sum_by (λ row. amount (row_at table row)) (range_with_len 1 n)) fewer
         ∙ (sum_by-agree (λ row. amount (row_at table row)) (λ row. f (pos row)) (range_with_len 1 samples)
         (each-range (λ row. amount (row_at table row) ≡ f (pos row)) 1 samples (λ row low high. ap amount (row-is tree rule samples records (layers_of tree) table table_is row (omega arith)) ∙ (same row ∙ ap f (sample-place row low))))
-        ∙ sym (sum_by-map f pos (range_with_len 1 samples)))
+        ∙ sym (sum_by-mapped f pos (range_with_len 1 samples)))
 
     -- the sum of the layer in a place
     sum-is : (place : ℕ) (one : TopLayer) → place < length (layers_of tree) → slice_index_or (layers_of tree) place no_key ≡ key_of one → sum_in (event_of records) table one place ≡ layer_sum tree rule samples records (key_of one)

@@ -9,7 +9,9 @@ use Rattle.kt_rec.specs.Rows.{Rows, no_rows}
 use Rattle.kt_rules.specs.Rules.{rule_of}
 use Rattle.kt_stream.specs.declared.entry.LossRecord.{LossRecord}
 use Rattle.kt_tree.specs.Programme.{tree_of}
+use Rattle.kt_shares.specs.Shares.{taken_loss}
 use Rattle.kt_insured.specs.Insured.{insured_records, layer_sums}
+use Rattle.kt_insured.specs.Whole.{outputs_loss, records_loss}
 
 -- rows
 abbrev step : ℕ → ℕ → ℕ → FmProgramme
@@ -74,6 +76,15 @@ down = refl
 sums : layer_sums (tree_of two_layers 0) 2 1 losses ≡ record { event = 4; agg = 1; layer = 1; policy = 5000; allocated = 5000 } ∷ record { event = 4; agg = 1; layer = 2; policy = 2500; allocated = 2500 } ∷ []
 unfolding two_layers losses sampled rule_of
 sums = refl
+
+-- the outputs 1 and 3 have the 50.00 of the first layer, and so have their records
+first_layer : outputs_loss (tree_of two_layers 0) (taken_loss (tree_of two_layers 0) losses (pos 1)) 2 item_outputs 1 1 ≡ 5000
+unfolding two_layers losses item_outputs sampled rule_of
+first_layer = refl
+
+first_records : records_loss (tree_of two_layers 0) 2 item_outputs (insured_records (tree_of two_layers 0) 2 1 item_outputs losses) 1 1 (pos 1) ≡ 5000
+unfolding two_layers losses item_outputs sampled rule_of
+first_records = refl
 
 -- deductibles of 60.00 take both losses of 50.00, and a maximum of 30.00 gives 70.00 back, by the ground-up losses
 given_back : Rows

@@ -1,6 +1,7 @@
 //! The insured losses of a run of ground-up losses, and the sums of its layers.
 #![tactic(auto)]
 
+pub mod laws;
 mod layout;
 mod made;
 mod outputs;

@@ -1,0 +1,13 @@
+use Rattle.std.proofs.lemmas.List.Elements.{All-from_recursion}
+use Rattle.kt_tree.specs.Programme.{tree_of}
+use Rattle.kt_tree.specs.Sums.{each_then}
+use Rattle.kt_shares.specs.Shares.{insured_range}
+use Rattle.kt_insured.proofs.RecordLemmas.{made-own}
+use Rattle.kt_insured.proofs.laws.the_records_have_what_the_outputs_have.Goals as goal
+
+pub returns : goal.returns
+returns c = record {
+  value = λ rule samples records.
+      let rows = c.args.portfolio.now.rows in
+      All-from_recursion _ (insured_range samples) (each_then _ _ (λ sidx all. All-from_recursion _ rows.fm_xref all) (insured_range samples) (made-own rows.fm_xref c.keeps_keys.ensures.kept.outputs (tree_of rows 0) rule samples records));
+}

@@ -1,0 +1,16 @@
+use Rattle.std.proofs.Common.{◌∙◌}
+use Rattle.std.proofs.lemmas.List.Elements.{All-from_recursion}
+use Rattle.kt_tree.specs.Programme.{tree_of}
+use Rattle.kt_tree.specs.Sums.{each_then}
+use Rattle.kt_shares.specs.Shares.{insured_range, taken_loss}
+use Rattle.kt_insured.proofs.RecordLemmas.{made-all}
+use Rattle.kt_insured.proofs.laws.the_records_of_a_run_have_all_policy_losses.Goals as goal
+
+pub returns : goal.returns
+returns c = record {
+  conserved = λ samples records.
+      let rows = c.args.portfolio.now.rows in
+      let tree = tree_of rows 0 in
+      All-from_recursion _ (insured_range samples)
+      (each_then _ _ (λ sidx same. same ∙ c.all_outputs_have_all_policy_losses.ensures.conserved (taken_loss tree records sidx)) (insured_range samples) (made-all rows.fm_xref c.keeps_keys.ensures.kept.outputs tree c.args.portfolio.now.need.rule samples records));
+}

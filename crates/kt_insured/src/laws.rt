@@ -1,0 +1,69 @@
+//! Theorems about the outputs of a portfolio, as functions that do nothing.
+//! The rule: docs/FINANCIAL_MODULE.md, "Insured losses".
+ghost use Rattle.std.specs.Prelude.{◌≡◌, ℕ, nat_eq, true, List, All};
+ghost use Rattle.std.specs.List.{list_any, sum_by};
+ghost use Rattle.kt_rec.specs.declared.table.Table.TheVariants as table;
+ghost use Rattle.kt_keys.specs.Refusals.{is_loaded};
+ghost use Rattle.kt_stream.specs.declared.entry.LossRecord.{LossRecord};
+ghost use Rattle.kt_runs.specs.RunLosses.{run_loss};
+ghost use Rattle.kt_tree.specs.Programme.{tree_of};
+ghost use Rattle.kt_tree.specs.Tree.{policy_loss};
+ghost use Rattle.kt_shares.specs.Shares.{id_loss, insured_range, layers_of, taken_loss};
+ghost use Rattle.kt_insured.specs.Insured.{insured_records, output_loss};
+ghost use Rattle.kt_insured.specs.Whole.{outputs_loss, records_loss};
+
+use kt_tables::Portfolio;
+
+/// The outputs of a layer of a top have its whole policy loss, whatever the losses, by the allocation rule that the portfolio is
+/// checked for: by rule 0 the output of the top, by rules 1 and 2 those of the items beneath it, each once.
+pub fn the_outputs_of_a_layer_have_its_policy_loss(portfolio: &Portfolio)
+    requires programme { is_loaded portfolio.now.need 0 table.FmProgramme ≡ true }
+    requires terms { is_loaded portfolio.now.need 0 table.FmPolicytc ≡ true }
+    requires outputs { is_loaded portfolio.now.need 0 table.FmXref ≡ true }
+    ensures conserved { (losses : ℕ → ℕ) (top layer : ℕ) → list_any (nat_eq top) (tree_of portfolio.now.rows 0).tops ≡ true → list_any (nat_eq layer) ((tree_of portfolio.now.rows 0).layers top) ≡ true → outputs_loss (tree_of portfolio.now.rows 0) losses portfolio.now.need.rule portfolio.now.rows.fm_xref top layer ≡ policy_loss (tree_of portfolio.now.rows 0) losses top layer }
+{
+    portfolio.is_valid();
+    portfolio.keeps_keys();
+    portfolio.keeps_outputs();
+}
+
+/// The records of a run have at the mean and at each sample what each output has there: an output without a loss has no record,
+/// and a record no pair without a loss, and nothing is lost by that.
+pub fn the_records_have_what_the_outputs_have(portfolio: &Portfolio)
+    ensures value { (rule samples : ℕ) (records : List LossRecord) → All (λ sidx. All (λ output. id_loss (insured_records (tree_of portfolio.now.rows 0) rule samples portfolio.now.rows.fm_xref records) sidx output.output_id ≡ output_loss (tree_of portfolio.now.rows 0) (taken_loss (tree_of portfolio.now.rows 0) records sidx) rule output.agg_id output.layer_id) portfolio.now.rows.fm_xref) (insured_range samples) }
+{
+    portfolio.keeps_keys();
+}
+
+/// So the records of the outputs of a layer of a top have the whole of its policy loss, at the mean and at each sample, whatever
+/// the records of the run.
+pub fn the_records_of_a_layer_have_its_policy_loss(portfolio: &Portfolio)
+    requires programme { is_loaded portfolio.now.need 0 table.FmProgramme ≡ true }
+    requires terms { is_loaded portfolio.now.need 0 table.FmPolicytc ≡ true }
+    requires outputs { is_loaded portfolio.now.need 0 table.FmXref ≡ true }
+    ensures conserved { (samples : ℕ) (records : List LossRecord) (top layer : ℕ) → list_any (nat_eq top) (tree_of portfolio.now.rows 0).tops ≡ true → list_any (nat_eq layer) ((tree_of portfolio.now.rows 0).layers top) ≡ true → All (λ sidx. records_loss (tree_of portfolio.now.rows 0) portfolio.now.need.rule portfolio.now.rows.fm_xref (insured_records (tree_of portfolio.now.rows 0) portfolio.now.need.rule samples portfolio.now.rows.fm_xref records) top layer sidx ≡ policy_loss (tree_of portfolio.now.rows 0) (taken_loss (tree_of portfolio.now.rows 0) records sidx) top layer) (insured_range samples) }
+{
+    portfolio.keeps_keys();
+    the_outputs_of_a_layer_have_its_policy_loss(portfolio);
+}
+
+/// All outputs together have the policy losses of all layers, and nothing beside, whatever the losses.
+pub fn all_outputs_have_all_policy_losses(portfolio: &Portfolio)
+    requires programme { is_loaded portfolio.now.need 0 table.FmProgramme ≡ true }
+    requires terms { is_loaded portfolio.now.need 0 table.FmPolicytc ≡ true }
+    requires outputs { is_loaded portfolio.now.need 0 table.FmXref ≡ true }
+    ensures conserved { (losses : ℕ → ℕ) → sum_by (λ output. output_loss (tree_of portfolio.now.rows 0) losses portfolio.now.need.rule output.agg_id output.layer_id) portfolio.now.rows.fm_xref ≡ sum_by (λ key. policy_loss (tree_of portfolio.now.rows 0) losses key.0 key.1) (layers_of (tree_of portfolio.now.rows 0)) }
+{
+    the_outputs_of_a_layer_have_its_policy_loss(portfolio);
+}
+
+/// So the records of a run add, at the mean and at each sample, to the policy losses of all layers.
+pub fn the_records_of_a_run_have_all_policy_losses(portfolio: &Portfolio)
+    requires programme { is_loaded portfolio.now.need 0 table.FmProgramme ≡ true }
+    requires terms { is_loaded portfolio.now.need 0 table.FmPolicytc ≡ true }
+    requires outputs { is_loaded portfolio.now.need 0 table.FmXref ≡ true }
+    ensures conserved { (samples : ℕ) (records : List LossRecord) → All (λ sidx. run_loss sidx (insured_records (tree_of portfolio.now.rows 0) portfolio.now.need.rule samples portfolio.now.rows.fm_xref records) ≡ sum_by (λ key. policy_loss (tree_of portfolio.now.rows 0) (taken_loss (tree_of portfolio.now.rows 0) records sidx) key.0 key.1) (layers_of (tree_of portfolio.now.rows 0))) (insured_range samples) }
+{
+    portfolio.keeps_keys();
+    all_outputs_have_all_policy_losses(portfolio);
+}
