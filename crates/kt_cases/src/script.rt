@@ -7,8 +7,8 @@ use kt_out::MemInputs;
 use std::alloc::{AllocError, AllocGlobal, Global};
 use std::thread::Threads;
 
-/// The names of the files of a run.
-const NAMES: [&str; 19] = [
+/// The names of the files of a run, of reinsurance stages those of the cases.
+const NAMES: [&str; 31] = [
     "input/events.bin",
     "input/items.bin",
     "input/coverages.bin",
@@ -25,6 +25,18 @@ const NAMES: [&str; 19] = [
     "input/fmsummaryxref.bin",
     "input/occurrence.bin",
     "input/returnperiods.bin",
+    "RI_1/fm_programme.bin",
+    "RI_1/fm_policytc.bin",
+    "RI_1/fm_profile.bin",
+    "RI_2/fm_programme.bin",
+    "RI_2/fm_policytc.bin",
+    "RI_2/fm_profile.bin",
+    "RI_4/fm_programme.bin",
+    "RI_4/fm_policytc.bin",
+    "RI_4/fm_profile.bin",
+    "RI_9/fm_programme.bin",
+    "RI_9/fm_policytc.bin",
+    "RI_9/fm_profile.bin",
     "first",
     "second",
     "third",
