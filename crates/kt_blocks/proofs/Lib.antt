@@ -1,0 +1,3 @@
+mod Headings
+mod LineLemmas
+mod Midway
