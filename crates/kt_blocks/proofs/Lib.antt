@@ -1,3 +1,4 @@
+mod EventLines
 mod Headings
 mod LineLemmas
 mod Midway

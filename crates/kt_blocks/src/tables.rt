@@ -69,8 +69,8 @@ fn lines_of(left: usize) -> usize
     if left < LINES { left } else { LINES }
 }
 
-// A file without rows.
-fn empty_file(alloc: Global, header: bool, number: u32, least: u32) -> Result<Bytes, TableStop>
+/// A file without rows.
+pub(crate) fn empty_file(alloc: Global, header: bool, number: u32, least: u32) -> Result<Bytes, TableStop>
     ensures value { IfOk result (λ file. file ≡ header_part header number least) }
 
     ensures memory { IfErr result (λ stop. stop ≡ TableStop.OutOfMemory) }
