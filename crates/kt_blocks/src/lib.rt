@@ -2,6 +2,7 @@
 #![tactic(auto)]
 
 mod footprint;
+mod ids;
 mod pieces;
 mod spill;
 mod tables;
@@ -9,6 +10,7 @@ mod slices;
 mod stop;
 
 pub use footprint::write_footprint;
+pub use ids::write_ids;
 pub use pieces::{Pieces, write_pieces};
 pub use stop::TextStop;
 pub use tables::write_csv;
