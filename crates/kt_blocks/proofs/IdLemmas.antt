@@ -15,5 +15,5 @@ ids-made ids index out after is =
       flat_map (little_bytes 4) (take 1024 left),
       is ∙ ap (λ (part : List ℕ). out ++ flat_map (little_bytes 4) part) (take_min 1024 left),
       ap (flat_map (little_bytes 4)) (sym (take-append-drop 1024 left)) ∙ flat_map-append (little_bytes 4) (take 1024 left) (drop 1024 left)
-      ∙ ap (λ (rest : List ℕ). flat_map (little_bytes 4) (take 1024 left) ++ flat_map (little_bytes 4) rest) (drop-drop 1024 (index * 1024) ids ∙ ap (λ n. drop n ids) next),
+          ∙ ap (λ (rest : List ℕ). flat_map (little_bytes 4) (take 1024 left) ++ flat_map (little_bytes 4) rest) (drop-drop 1024 (index * 1024) ids ∙ ap (λ n. drop n ids) next),
     )

@@ -7,7 +7,7 @@ use Rattle.kt_blocks.specs.Tables.{AreLines, rows_or_none}
 use Rattle.kt_cells.specs.Laws.{SlicesGiveSlices}
 use Rattle.kt_cells.specs.Lines.{line, rows_lines}
 use Rattle.kt_cells.specs.Reading.{and_then}
-use Rattle.kt_cells.specs.Records.{record_rows, record_width}
+use Rattle.kt_cells.specs.Records.{record_rows}
 use Rattle.kt_cells.specs.Texts.{row_texts}
 use Rattle.kt_cells.specs.declared.kind.Kind.{Kind}
 

@@ -1,7 +1,7 @@
 -- A text that is written in blocks: what is pending grows, is written, or its writing fails.
-use Rattle.std.proofs.Common.{◌≡◌, ℕ, ◌≤◌, List, [], ◌++◌, length, take, drop, Option, Some, None, Result, Ok, Err, refl, sym, ap, subst, ◌∙◌, arith, append_assoc, length-append}
+use Rattle.std.proofs.Common.{◌≡◌, ℕ, List, [], ◌++◌, length, take, drop, Option, Some, None, Result, Ok, Err, refl, sym, ap, subst, ◌∙◌, arith, append_assoc, length-append}
 use Rattle.std.proofs.lemmas.List.{append-nil, take-append-drop}
-use Rattle.std.proofs.Math.Seq.{take-append_seam, take-append-add}
+use Rattle.std.proofs.Math.Seq.{take-append_seam}
 use Rattle.kt_out.specs.Counts.{Rose}
 use Rattle.kt_out.specs.Writing.{SinkState, Gains, GainsFront, WritesBytes, WritesAll}
 use Rattle.kt_out.specs.declared.fault.Fault.{Fault}

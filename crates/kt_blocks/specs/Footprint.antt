@@ -3,7 +3,7 @@
 use Rattle.std.specs.Prelude.{◌≡◌, ◌-◌, ◌/◌, ℕ, List, length, drop, All, Ok}
 use Rattle.kt_rec.specs.declared.hazard.FootprintIdx.{FootprintIdx}
 use Rattle.kt_rec.specs.declared.table.Table.TheVariants.{Footprint}
-use Rattle.kt_schema.specs.Conversions.{bin_rows, body_of}
+use Rattle.kt_schema.specs.Conversions.{bin_rows}
 use Rattle.kt_schema.specs.Footprint.{AreRecords, HasRecords}
 
 -- records of the footprint file, among which are those of all entries of an index

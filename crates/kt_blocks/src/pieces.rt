@@ -8,7 +8,7 @@ use kt_money::Bytes;
 use kt_out::{Fault, Sink, write_all};
 
 /// A text in pieces, each of which can be made without those before it.
-pub trait Pieces {
+pub(crate) trait Pieces {
     ghost use Rattle.std.specs.Prelude.{◌≡◌, ◌<◌, ◌++◌, ◌+◌, ℕ, List, [], OnOk, IfErr};
     ghost use Rattle.kt_out.specs.declared.fault.Fault.TheVariants.{OutOfMemory};
 
@@ -38,7 +38,7 @@ pub trait Pieces {
 
 /// Writes a text that begins with what is in `start` and goes on with the pieces, a block of 64 KiB at a time. After a
 /// refusal the sink has taken some front of it, maybe nothing.
-pub fn write_pieces<P: Pieces, K: Sink>(
+pub(crate) fn write_pieces<P: Pieces, K: Sink>(
     pieces: &P,
     start: Bytes,
     sink: &mut K,

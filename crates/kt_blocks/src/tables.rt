@@ -70,7 +70,12 @@ fn lines_of(left: usize) -> usize
 }
 
 /// A file without rows.
-pub(crate) fn empty_file(alloc: Global, header: bool, number: u32, least: u32) -> Result<Bytes, TableStop>
+pub(crate) fn empty_file(
+    alloc: Global,
+    header: bool,
+    number: u32,
+    least: u32,
+) -> Result<Bytes, TableStop>
     ensures value { IfOk result (λ file. file ≡ header_part header number least) }
 
     ensures memory { IfErr result (λ stop. stop ≡ TableStop.OutOfMemory) }
@@ -87,7 +92,13 @@ pub(crate) fn empty_file(alloc: Global, header: bool, number: u32, least: u32) -
 }
 
 // The heading of a table's text: the text of a file without rows.
-fn heading(alloc: Global, table: Table, header: bool, number: u32, least: u32) -> Result<Bytes, TableStop>
+fn heading(
+    alloc: Global,
+    table: Table,
+    header: bool,
+    number: u32,
+    least: u32,
+) -> Result<Bytes, TableStop>
     requires table { table ≢ Table.Footprint }
     requires header { header ≡ has_header table }
     requires number { number ≡ number_of table }
@@ -108,7 +119,13 @@ fn heading(alloc: Global, table: Table, header: bool, number: u32, least: u32) -
 }
 
 // Judges the header of a file, if it has one.
-fn judge_header(header: bool, number: u32, least: u32, most: u32, bytes: &[u8]) -> Result<u32, TableStop>
+fn judge_header(
+    header: bool,
+    number: u32,
+    least: u32,
+    most: u32,
+    bytes: &[u8],
+) -> Result<u32, TableStop>
     ensures { result ≡ extra_of header number least most bytes.now }
 {
     if header {
@@ -120,7 +137,12 @@ fn judge_header(header: bool, number: u32, least: u32, most: u32, bytes: &[u8]) 
 
 // Judges a file: its header and all records.
 #[inline(always)]
-fn judge<const N: usize>(schema: &Schema<N>, least: u32, most: u32, bytes: &[u8]) -> Result<(), TableStop>
+fn judge<const N: usize>(
+    schema: &Schema<N>,
+    least: u32,
+    most: u32,
+    bytes: &[u8],
+) -> Result<(), TableStop>
     requires size { N < 100 }
     requires some { 0 < N }
     ensures ok { OnOk result (IsJudged schema.now.kinds (body_of schema.now.header bytes.now) (body_rows schema.now.header schema.now.number least most 1 schema.now.kinds bytes.now)) }
@@ -175,7 +197,12 @@ fn write_lines<const N: usize, K: Sink>(
 /// The whole file is judged first, and one that is refused writes nothing: the first that is wrong is told, as
 /// `bin_to_csv` tells it. After a failed write some front of the text is written.
 #[tactic(auto, unfolding(kt_cells::specs::Records::record_width))]
-pub fn write_csv<K: Sink>(alloc: Global, table: Table, bytes: &[u8], sink: &mut K) -> Result<(), TextStop>
+pub fn write_csv<K: Sink>(
+    alloc: Global,
+    table: Table,
+    bytes: &[u8],
+    sink: &mut K,
+) -> Result<(), TextStop>
     requires { table ≢ Table.Footprint }
     ensures { WritesText (bin_csv table bytes.now) (K.state sink.old) (K.state sink.new) result }
 {

@@ -1,18 +1,14 @@
 -- How the making of a footprint's text ends.
-use Rattle.std.proofs.Common.{◌≡◌, ℕ, List, length, All, Some, None, Ok, sym, ap, subst, ◌∙◌, inl, inr}
-use Rattle.kt_cells.specs.Stops.{Tells}
-use Rattle.kt_cells.specs.declared.stop.TableStop.{TableStop}
+use Rattle.std.proofs.Common.{◌≡◌, ℕ, List, length, All, Some, None, sym, ap, subst, ◌∙◌, inl, inr}
 use Rattle.kt_checks.specs.CheckLaws.{each_placed}
 use Rattle.kt_checks.specs.TableChecks.{is_misplaced}
-use Rattle.kt_ends.specs.Outcome.{Outcome}
 use Rattle.kt_ends.specs.declared.tool_stop.ToolStop.{ToolStop}
 use Rattle.kt_keys.specs.FirstRow.{first_where}
 use Rattle.kt_rec.specs.declared.hazard.FootprintIdx.{FootprintIdx}
 use Rattle.kt_schema.specs.Footprint.{IsEntryOf, footprint_csv}
-use Rattle.kt_tools.specs.Converting.{IsTableStop, MakesText, StopsText, converted}
+use Rattle.kt_tools.specs.Converting.{StopsText, converted}
 use Rattle.kt_tools.specs.FootprintText.{IsPlaceStop, text_of}
 use Rattle.kt_tools.specs.Outcome.{text_unless}
-use Rattle.kt_tools.proofs.Converting.{stops_form}
 
 -- rows of the index that check 9 passes are entries of the footprint
 pub are_entries : (index : List FootprintIdx) (size : ℕ) → first_where (is_misplaced size) index ≡ None → All (IsEntryOf size) index

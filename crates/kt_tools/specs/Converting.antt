@@ -47,10 +47,6 @@ IsTooLarge ReadFault = ⊥
 IsTooLarge WriteFault = ⊥
 IsTooLarge NoMemory = Unit {0}
 
--- the text was made that is the whole output
-abbrev pub MakesText : Outcome → List ℕ → Type 0
-MakesText outcome text = outcome ≡ writes_text text
-
 -- there is no text: it is refused, and not for a missing file, or memory is wanting
 abbrev pub StopsText : Outcome → ToolStop → Type 0
 StopsText outcome (Refused why) = (outcome ≡ nothing (status.Refused why)) × (IsMissing (status.Refused why) → ⊥)

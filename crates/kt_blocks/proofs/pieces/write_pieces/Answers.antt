@@ -1,4 +1,4 @@
-use Rattle.std.proofs.Common.{◌≡◌, ◌+◌, ℕ, List, [], Err, subst, arith}
+use Rattle.std.proofs.Common.{◌≡◌, ◌+◌, ℕ, List, subst, arith}
 use Rattle.kt_out.specs.Writing.{WritesAll}
 use Rattle.kt_blocks.proofs.Midway.{midway_memory, midway_more, midway_ends}
 use Rattle.kt_blocks.proofs.pieces.write_pieces.Goals as goal

@@ -1,4 +1,4 @@
-use Rattle.std.proofs.Common.{refl, arith}
+use Rattle.std.proofs.Common.{refl}
 use Rattle.kt_blocks.proofs.Headings.{tells_text, text_is}
 use Rattle.kt_blocks.proofs.tables.write_lines.Goals as goal
 
