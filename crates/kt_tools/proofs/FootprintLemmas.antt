@@ -1,5 +1,5 @@
 -- How the making of a footprint's text ends.
-use Rattle.std.proofs.Common.{◌≡◌, ℕ, List, length, All, Some, None, sym, ap, subst, ◌∙◌, inl, inr}
+use Rattle.std.proofs.Common.{◌≡◌, ℕ, List, length, All, Some, None, sym, ap, subst, inl, inr}
 use Rattle.kt_checks.specs.CheckLaws.{each_placed}
 use Rattle.kt_checks.specs.TableChecks.{is_misplaced}
 use Rattle.kt_ends.specs.declared.tool_stop.ToolStop.{ToolStop}
