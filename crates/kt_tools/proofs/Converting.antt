@@ -8,20 +8,23 @@ use Rattle.kt_out.specs.OutputFiles.{OutputsState}
 use Rattle.kt_out.specs.Reading.{SourceState}
 use Rattle.kt_out.specs.Writing.{SinkState, WritesAll}
 use Rattle.kt_out.specs.declared.fault.Fault.{Fault}
+use Rattle.kt_blocks.specs.Progress.{WritesText}
+use Rattle.kt_blocks.specs.declared.stop.TextStop.{TextStop}
+use Rattle.kt_blocks.specs.declared.stop.TextStop.TheVariants as text
 use Rattle.kt_cells.specs.Stops.{Tells}
 use Rattle.kt_cells.specs.declared.stop.TableStop.{TableStop}
 use Rattle.kt_cells.specs.declared.stop.TableStop.TheVariants as table
 use Rattle.kt_ends.specs.Ending.{Ended, IsMissing}
 use Rattle.kt_ends.specs.Endings.{UnderWay, nothing, writes_text, written_status, ends_for_memory, ends_refused, ends_unread_source, ends_written, may_change}
 use Rattle.kt_ends.specs.Outcome.{Outcome}
-use Rattle.kt_ends.specs.Stops.{stop_status}
+use Rattle.kt_ends.specs.Stops.{end_status, stop_status}
 use Rattle.kt_ends.specs.World.{Uses, World, world}
 use Rattle.kt_ends.specs.declared.status.Refusal.{Refusal}
 use Rattle.kt_ends.specs.declared.status.Refusal.TheVariants as refusal
 use Rattle.kt_ends.specs.declared.status.Status.TheVariants as status
 use Rattle.kt_ends.specs.declared.tool_stop.ToolStop.{ToolStop}
 use Rattle.kt_ends.specs.declared.tool_stop.ToolStop.TheVariants as tool
-use Rattle.kt_tools.specs.Converting.{source_limit, source_name, ReadsWhole, StopsText, IsTableStop, converted}
+use Rattle.kt_tools.specs.Converting.{source_limit, source_name, ReadsWhole, EndsText, StopsText, IsTableStop, converted}
 use Rattle.kt_tools.specs.Outcome.{within_limit}
 
 -- a fact of what is told holds of what it is
@@ -92,3 +95,14 @@ module _ (found : FileMap → List ℕ → Type 0) (uses : Uses) (made : List �
       at_end : (left : Option (List ℕ)) → IfSome left (λ source. (source ≡ bytes) × (now.left ≡ Some [])) → IfSome left (λ source. now.left ≡ Some [])
       at_end None read = tt
       at_end (Some source) read = read.1
+
+  -- the text was written, or the source was refused, or its writing has ended the run
+  pub ends_text : {T : Type 0} (form : Result (List ℕ) TableStop) (after : SinkState) (bytes : List ℕ) (answer : Result T TextStop) (end : Result (Unit {0}) ToolStop) → ReadsWhole before now (Ok bytes) → made bytes ≡ converted form → WritesText form sink after answer → EndsText answer end → Ended found uses (λ files source. within_limit made source) (world inputs outputs before sink) (world inputs outputs now after) (end_status end)
+  ends_text form after bytes (Ok done) (Ok ended) read is wrote ends = ends_made after bytes wrote.0 (Ok done) read (is ∙ ap converted wrote.1) wrote.2
+  ends_text form after bytes (Ok done) (Err end) read is wrote ends = absurd ends
+  ends_text form after bytes (Err stop) (Ok ended) read is wrote ends = absurd ends
+  ends_text form after bytes (Err (text.Refused why)) (Err end) read is wrote ends =
+      subst (λ (state : SinkState). Ended found uses (λ files source. within_limit made source) (world inputs outputs before sink) (world inputs outputs now state) (stop_status end)) (sym wrote.1)
+      (ends_unmade bytes end read (subst (λ (outcome : Outcome). StopsText outcome end) (sym is) (stops_form form why end wrote.0 ends)))
+  ends_text {T} form after bytes (Err (text.Unwritten fault)) (Err end) read is wrote ends =
+      rw ends (ends_made {T = T} after bytes wrote.0 (Err fault) read (is ∙ ap converted wrote.1) wrote.2)

@@ -1,34 +1,24 @@
 -- How the making of a footprint's text ends.
-use Rattle.std.proofs.Common.{◌≡◌, ℕ, List, length, All, Some, None, Ok, sym, ap, subst, ◌∙◌, inl, inr}
-use Rattle.kt_cells.specs.Stops.{Tells}
-use Rattle.kt_cells.specs.declared.stop.TableStop.{TableStop}
+use Rattle.std.proofs.Common.{◌≡◌, ℕ, List, length, All, Some, None, sym, ap, subst, inl, inr}
 use Rattle.kt_checks.specs.CheckLaws.{each_placed}
 use Rattle.kt_checks.specs.TableChecks.{is_misplaced}
-use Rattle.kt_ends.specs.Outcome.{Outcome}
 use Rattle.kt_ends.specs.declared.tool_stop.ToolStop.{ToolStop}
 use Rattle.kt_keys.specs.FirstRow.{first_where}
 use Rattle.kt_rec.specs.declared.hazard.FootprintIdx.{FootprintIdx}
 use Rattle.kt_schema.specs.Footprint.{IsEntryOf, footprint_csv}
-use Rattle.kt_tools.specs.Converting.{IsTableStop, MakesText, StopsText, converted}
+use Rattle.kt_tools.specs.Converting.{StopsText, converted}
 use Rattle.kt_tools.specs.FootprintText.{IsPlaceStop, text_of}
 use Rattle.kt_tools.specs.Outcome.{text_unless}
-use Rattle.kt_tools.proofs.Converting.{stops_form}
 
 -- rows of the index that check 9 passes are entries of the footprint
 pub are_entries : (index : List FootprintIdx) (size : ℕ) → first_where (is_misplaced size) index ≡ None → All (IsEntryOf size) index
 are_entries index size none = λ k d below. let placed = each_placed size index none k d below in record { behind_header = placed.behind_header; whole_place = placed.whole_place; whole_size = placed.whole_size; few = placed.few; within = placed.within }
 
 -- the text of a footprint whose index check 9 passes
-text_is : (index : List FootprintIdx) (bytes : List ℕ) → first_where (is_misplaced (length bytes)) index ≡ None → text_of index bytes ≡ converted (footprint_csv bytes index)
+pub text_is : (index : List FootprintIdx) (bytes : List ℕ) → first_where (is_misplaced (length bytes)) index ≡ None → text_of index bytes ≡ converted (footprint_csv bytes index)
 text_is index bytes none = ap (text_unless index bytes) none
 
-pub makes_text : (index : List FootprintIdx) (bytes text : List ℕ) → first_where (is_misplaced (length bytes)) index ≡ None → footprint_csv bytes index ≡ Ok text → MakesText (text_of index bytes) text
-makes_text index bytes text none is = text_is index bytes none ∙ ap converted is
-
--- the text of such a footprint that is refused, and how that ends the tool
-pub stops_text : (index : List FootprintIdx) (bytes : List ℕ) (why : TableStop) (end : ToolStop) → first_where (is_misplaced (length bytes)) index ≡ None → Tells (footprint_csv bytes index) why → IsTableStop why end → StopsText (text_of index bytes) end
-stops_text index bytes why end none tells is = subst (λ (o : Outcome). StopsText o end) (sym (text_is index bytes none)) (stops_form (footprint_csv bytes index) why end tells is)
-
+-- a row of the index that check 9 refuses, and how that ends the tool
 pub stops_place : (index : List FootprintIdx) (bytes : List ℕ) (row : ℕ) (end : ToolStop) → first_where (is_misplaced (length bytes)) index ≡ Some row → IsPlaceStop row end → StopsText (text_of index bytes) end
 stops_place index bytes row end is (inl ends) = subst (StopsText (text_of index bytes)) (sym ends) (ap (text_unless index bytes) is, λ missing. missing)
 stops_place index bytes row end is (inr ends) = subst (StopsText (text_of index bytes)) (sym ends) tt

@@ -3,6 +3,8 @@
 use Rattle.std.specs.Prelude.{◌≡◌, ◌⊎◌, ◌≤◌, ◌<◌, ◌^◌, ℕ, List, [], length, codes, Some, Result, Ok, Err, IfSome}
 use Rattle.kt_out.specs.Counts.{Rose}
 use Rattle.kt_out.specs.Reading.{SourceState}
+use Rattle.kt_blocks.specs.declared.stop.TextStop.{TextStop}
+use Rattle.kt_blocks.specs.declared.stop.TextStop.TheVariants as text
 use Rattle.kt_cells.specs.declared.stop.TableStop.{TableStop}
 use Rattle.kt_schema.specs.Conversions.{csv_bin, bin_csv}
 use Rattle.kt_words.specs.declared.command.Conversion.{Conversion}
@@ -11,7 +13,7 @@ use Rattle.kt_ends.specs.declared.status.Refusal.TheVariants as refusal
 use Rattle.kt_ends.specs.Ending.{IsMissing}
 use Rattle.kt_ends.specs.Endings.{nothing, writes_text}
 use Rattle.kt_ends.specs.Outcome.{Outcome}
-use Rattle.kt_ends.specs.Stops.{stop_status}
+use Rattle.kt_ends.specs.Stops.{fault_stop, stop_status}
 use Rattle.kt_ends.specs.declared.status.Status.TheVariants as status
 use Rattle.kt_ends.specs.declared.tool_stop.ToolStop.{ToolStop}
 use Rattle.kt_ends.specs.declared.tool_stop.ToolStop.TheVariants.{Refused, ReadFault, WriteFault, NoMemory}
@@ -45,10 +47,6 @@ IsTooLarge ReadFault = ⊥
 IsTooLarge WriteFault = ⊥
 IsTooLarge NoMemory = Unit {0}
 
--- the text was made that is the whole output
-abbrev pub MakesText : Outcome → List ℕ → Type 0
-MakesText outcome text = outcome ≡ writes_text text
-
 -- there is no text: it is refused, and not for a missing file, or memory is wanting
 abbrev pub StopsText : Outcome → ToolStop → Type 0
 StopsText outcome (Refused why) = (outcome ≡ nothing (status.Refused why)) × (IsMissing (status.Refused why) → ⊥)
@@ -64,3 +62,11 @@ converted (Err stop) = nothing (stop_status (table_stop source_name stop))
 -- the stop of a table of the source, or want of memory for its name
 abbrev pub IsTableStop : TableStop → ToolStop → Type 0
 IsTableStop why end = (end ≡ table_stop source_name why) ⊎ (end ≡ NoMemory)
+
+-- how the tool ends by how the writing of a text of the source did
+abbrev pub EndsText : {T U : Type 0} → Result T TextStop → Result U ToolStop → Type 0
+EndsText (Ok written) (Ok done) = Unit {0}
+EndsText (Ok written) (Err end) = ⊥
+EndsText (Err stop) (Ok done) = ⊥
+EndsText (Err (text.Refused why)) (Err end) = IsTableStop why end
+EndsText (Err (text.Unwritten fault)) (Err end) = end ≡ fault_stop fault

@@ -1,39 +1,29 @@
 //! The tools that give the source, a table in one form, in its other form.
 //! The rules: docs/COMMANDS.md, "tobin and tocsv".
-ghost use Rattle.std.specs.Prelude.{◌≡◌, IfOk, IfErr, Ok, Err};
+ghost use Rattle.std.specs.Prelude.{◌≡◌, ℕ, List, Result, IfOk, IfErr, Ok};
+ghost use Rattle.kt_blocks.specs.Progress.{WritesText};
 ghost use Rattle.kt_cells.specs.Stops.{Tells};
+ghost use Rattle.kt_cells.specs.declared.stop.TableStop.{TableStop};
 ghost use Rattle.kt_ends.specs.Stops.{end_status};
 ghost use Rattle.kt_ends.specs.World.{world};
 ghost use Rattle.kt_out.specs.InputFiles.{InputsState};
 ghost use Rattle.kt_out.specs.OutputFiles.{OutputsState};
-ghost use Rattle.kt_tools.specs.Converting.{IsTableStop, MakesText, StopsText, converted, other_form};
+ghost use Rattle.kt_tools.specs.Converting.{EndsText, IsTableStop, other_form};
 ghost use Rattle.kt_tools.specs.Outcome.{convert_outcome};
 ghost use Rattle.kt_tools.specs.Uses.{ToolEnds, command_uses};
 ghost use Rattle.kt_words.specs.Command.{IsConversion};
 ghost use Rattle.kt_words.specs.declared.command.Command.TheVariants as Command;
 
 use crate::whole_source::{read_whole, source_label};
+use kt_blocks::{TextStop, write_csv};
 use kt_cells::TableStop;
 use kt_ends::{ToolStop, write_stop};
 use kt_loading::table_stop;
 use kt_money::Bytes;
 use kt_out::{Sink, Source, write_all};
-use kt_schema::{bin_to_csv, csv_to_bin};
+use kt_schema::csv_to_bin;
 use kt_words::Conversion;
 use std::alloc::Global;
-
-/// The other form of a table.
-fn other_form_of(alloc: Global, conversion: Conversion, bytes: &[u8]) -> Result<Bytes, TableStop>
-    requires { IsConversion conversion }
-    ensures value { IfOk result (λ made. other_form conversion bytes.now ≡ Ok made) }
-
-    ensures refused { IfErr result (Tells (other_form conversion bytes.now)) }
-{
-    match conversion {
-        Conversion::ToFile { table, periods } => csv_to_bin(alloc, table, periods, bytes),
-        Conversion::ToText { table } => bin_to_csv(alloc, table, bytes),
-    }
-}
 
 /// How the refusal of the source ends the tool.
 pub fn source_stop(alloc: Global, stop: TableStop) -> ToolStop
@@ -45,16 +35,46 @@ pub fn source_stop(alloc: Global, stop: TableStop) -> ToolStop
     }
 }
 
-/// Makes the other form of the source.
-fn make_form(alloc: Global, conversion: Conversion, bytes: &[u8]) -> Result<Bytes, ToolStop>
-    requires { IsConversion conversion }
-    ensures value { IfOk result (MakesText (converted (other_form conversion bytes.now))) }
-
-    ensures refused { IfErr result (StopsText (converted (other_form conversion bytes.now))) }
+/// How the tool ends by how the writing of its text did.
+pub fn text_end(alloc: Global, written: Result<(), TextStop>) -> Result<(), ToolStop>
+    ensures { EndsText written result }
 {
-    match other_form_of(alloc, conversion, bytes) {
-        Ok(made) => Ok(made),
-        Err(stop) => Err(source_stop(alloc, stop)),
+    match written {
+        Ok(()) => Ok(()),
+        Err(TextStop::Refused(stop)) => Err(source_stop(alloc, stop)),
+        Err(TextStop::Unwritten(fault)) => Err(write_stop(fault)),
+    }
+}
+
+/// Writes what was made of the source as a whole, unless it was refused.
+fn write_made<K: Sink>(made: Result<Bytes, TableStop>, sink: &mut K) -> Result<(), TextStop>
+    ensures { (form : Result (List ℕ) TableStop) → IfOk made (λ bytes. form ≡ Ok bytes) → IfErr made (Tells form) → WritesText form (K.state sink.old) (K.state sink.new) result }
+{
+    let bytes = match made {
+        Ok(bytes) => bytes,
+        Err(stop) => return Err(TextStop::Refused(stop)),
+    };
+    match write_all(sink, bytes.as_slice()) {
+        Ok(()) => Ok(()),
+        Err(fault) => Err(TextStop::Unwritten(fault)),
+    }
+}
+
+/// Writes the other form of the source: a file once it is whole, a text in blocks.
+fn write_form<K: Sink>(
+    alloc: Global,
+    conversion: Conversion,
+    bytes: &[u8],
+    sink: &mut K,
+) -> Result<(), TextStop>
+    requires { IsConversion conversion }
+    ensures { WritesText (other_form conversion bytes.now) (K.state sink.old) (K.state sink.new) result }
+{
+    match conversion {
+        Conversion::ToFile { table, periods } => {
+            write_made(csv_to_bin(alloc, table, periods, bytes), sink)
+        }
+        Conversion::ToText { table } => write_csv(alloc, table, bytes, sink),
     }
 }
 
@@ -73,12 +93,5 @@ pub fn convert<S: Source, K: Sink>(
         Ok(bytes) => bytes,
         Err(stop) => return Err(stop),
     };
-    let made = match make_form(alloc, conversion, bytes.as_slice()) {
-        Ok(made) => made,
-        Err(stop) => return Err(stop),
-    };
-    match write_all(sink, made.as_slice()) {
-        Ok(()) => Ok(()),
-        Err(fault) => Err(write_stop(fault)),
-    }
+    text_end(alloc, write_form(alloc, conversion, bytes.as_slice(), sink))
 }

@@ -1,33 +1,22 @@
 //! The tool that gives the events of a part of the event list.
 //! The rules: docs/COMMANDS.md, "eve".
-ghost use Rattle.std.specs.Prelude.{◌≡◌, true, IfOk};
+ghost use Rattle.std.specs.Prelude.{◌≡◌, true};
 ghost use Rattle.kt_ends.specs.Stops.{end_status};
 ghost use Rattle.kt_ends.specs.World.{world};
 ghost use Rattle.kt_eve.specs.Parts.{has_part};
 ghost use Rattle.kt_out.specs.OutputFiles.{OutputsState};
 ghost use Rattle.kt_out.specs.Reading.{SourceState};
-ghost use Rattle.kt_tools.specs.Outcome.{event_bytes as bytes_of_events, eve_outcome};
+ghost use Rattle.kt_tools.specs.Outcome.{eve_outcome};
 ghost use Rattle.kt_tools.specs.Uses.{ToolEnds, command_uses};
 ghost use Rattle.kt_words.specs.declared.command.Command.TheVariants as Command;
 
+use kt_blocks::write_ids;
 use kt_ends::{ToolStop, write_stop};
 use kt_eve::part as events_of_part;
 use kt_loading::{load_tables, need_of};
-use kt_money::Bytes;
-use kt_out::{Inputs, Sink, write_all};
+use kt_out::{Inputs, Sink};
 use kt_rec::Table;
-use std::alloc::{AllocError, Global};
-
-/// The ids of events as a stream.
-fn event_bytes(alloc: Global, events: &[u32]) -> Result<Bytes, AllocError>
-    ensures { IfOk result (λ bytes. bytes ≡ bytes_of_events events.now) }
-{
-    let mut bytes = Bytes::new(alloc);
-    for event in events {
-        bytes.append(&event.to_le_bytes())?;
-    }
-    Ok(bytes)
-}
+use std::alloc::Global;
 
 /// Loads the event list and writes the ids of the events of a part of it.
 pub fn eve<I: Inputs, K: Sink>(
@@ -48,11 +37,7 @@ pub fn eve<I: Inputs, K: Sink>(
     let Ok(events) = events_of_part(portfolio.events(), part, parts) else {
         unreachable!()
     };
-    let bytes = match event_bytes(alloc, events) {
-        Ok(bytes) => bytes,
-        Err(_) => return Err(ToolStop::NoMemory),
-    };
-    match write_all(sink, bytes.as_slice()) {
+    match write_ids(alloc, events, sink) {
         Ok(()) => Ok(()),
         Err(fault) => Err(write_stop(fault)),
     }

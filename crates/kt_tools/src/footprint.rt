@@ -1,27 +1,28 @@
 //! The tool that gives the source, a footprint, as text by its index.
 //! The rules: docs/COMMANDS.md, "tobin and tocsv".
-ghost use Rattle.std.specs.Prelude.{◌≡◌, Some, IfOk, IfErr};
+ghost use Rattle.std.specs.Prelude.{◌≡◌, Some, None, OnOk, IfErr, length};
+ghost use Rattle.kt_checks.specs.TableChecks.{is_misplaced};
 ghost use Rattle.kt_ends.specs.Ending.{Ended};
 ghost use Rattle.kt_ends.specs.Stops.{end_status};
 ghost use Rattle.kt_ends.specs.World.{world};
+ghost use Rattle.kt_keys.specs.FirstRow.{first_where};
 ghost use Rattle.kt_out.specs.InputFiles.{InputsState};
 ghost use Rattle.kt_out.specs.OutputFiles.{OutputsState};
-ghost use Rattle.kt_tools.specs.Converting.{MakesText, StopsText};
+ghost use Rattle.kt_tools.specs.Converting.{StopsText};
 ghost use Rattle.kt_tools.specs.FootprintText.{IsPlaceStop, text_of};
 ghost use Rattle.kt_tools.specs.Outcome.{footprint_text, footprint_outcome};
 ghost use Rattle.kt_tools.specs.Uses.{ToolEnds, command_uses};
 ghost use Rattle.kt_words.specs.declared.command.Command.TheVariants as Command;
 
-use crate::convert::source_stop;
+use crate::convert::text_end;
 use crate::whole_source::read_whole;
+use kt_blocks::write_footprint;
 use kt_checks::first_misplaced;
-use kt_ends::{Refusal, ToolStop, write_stop};
+use kt_ends::{Refusal, ToolStop};
 use kt_load::file_name;
 use kt_loading::{load_tables, need_of};
-use kt_money::Bytes;
-use kt_out::{Inputs, Sink, Source, write_all};
+use kt_out::{Inputs, Sink, Source};
 use kt_rec::{FootprintIdx, Table, TableId};
-use kt_schema::footprint_to_csv;
 use std::alloc::Global;
 
 /// The check of the index for the size of the footprint.
@@ -45,23 +46,19 @@ fn place_stop(alloc: Global, row: u64) -> ToolStop
     }
 }
 
-/// The text of a footprint by its index.
-fn make_text(alloc: Global, index: &[FootprintIdx], bytes: &[u8]) -> Result<Bytes, ToolStop>
-    ensures value { IfOk result (MakesText (text_of index.now bytes.now)) }
+/// Checks that each row of an index names whole records of a footprint.
+fn check_places(alloc: Global, index: &[FootprintIdx], bytes: &[u8]) -> Result<(), ToolStop>
+    ensures ok { OnOk result (first_where (is_misplaced (length bytes.now)) index.now ≡ None) }
 
     ensures refused { IfErr result (StopsText (text_of index.now bytes.now)) }
 {
     match first_misplaced(bytes.len() as u64, index) {
-        Some(row) => return Err(place_stop(alloc, row)),
-        None => {}
-    }
-    match footprint_to_csv(alloc, bytes, index) {
-        Ok(text) => Ok(text),
-        Err(stop) => Err(source_stop(alloc, stop)),
+        Some(row) => Err(place_stop(alloc, row)),
+        None => Ok(()),
     }
 }
 
-/// Reads the whole source, a footprint, and writes its text by the index.
+/// Reads the whole source, a footprint, and writes its text by the index, in blocks.
 fn write_text<S: Source, K: Sink>(
     alloc: Global,
     index: &[FootprintIdx],
@@ -74,14 +71,10 @@ fn write_text<S: Source, K: Sink>(
         Ok(bytes) => bytes,
         Err(stop) => return Err(stop),
     };
-    let text = match make_text(alloc, index, bytes.as_slice()) {
-        Ok(text) => text,
-        Err(stop) => return Err(stop),
-    };
-    match write_all(sink, text.as_slice()) {
-        Ok(()) => Ok(()),
-        Err(fault) => Err(write_stop(fault)),
+    if let Err(stop) = check_places(alloc, index, bytes.as_slice()) {
+        return Err(stop);
     }
+    text_end(alloc, write_footprint(alloc, bytes.as_slice(), index, sink))
 }
 
 /// Loads the footprint's index, reads the whole source, the footprint, and writes its text.

@@ -1,0 +1,5 @@
+mod EventLines
+mod Headings
+mod IdLemmas
+mod LineLemmas
+mod Midway
