@@ -37,7 +37,8 @@ pub(crate) trait Pieces {
 }
 
 /// Writes a text that begins with what is in `start` and goes on with the pieces, a block of 64 KiB at a time. After a
-/// refusal the sink has taken some front of it, maybe nothing.
+/// refusal the sink has taken some front of it, maybe nothing. Each text has its own copy of this code.
+#[inline(always)]
 pub(crate) fn write_pieces<P: Pieces, K: Sink>(
     pieces: &P,
     start: Bytes,

@@ -49,6 +49,7 @@ impl<'a, const N: usize> Pieces for Lines<'a, N> {
         records.len() / width / LINES + 1
     }
 
+    #[inline(always)]
     fn push(&self, index: usize, out: &mut Bytes) -> Result<(), Fault> {
         slices_give_slices();
         let (kinds, width, records) = (self.kinds, self.width, self.records);
