@@ -1,12 +1,9 @@
-pub mod AmountLemmas
 pub mod DigitLemmas
 pub mod MachineLemmas
 pub mod PlainLemmas
 pub mod PlainRowLemmas
 pub mod ReaderLemmas
-pub mod ReadingRows
 pub mod RowLemmas
 pub mod ScalingLemmas
 pub mod TrimmingLemmas
 pub mod ValueLemmas
-pub mod PlainAmountLemmas

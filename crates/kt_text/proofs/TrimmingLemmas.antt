@@ -1,49 +1,33 @@
--- What one more element at an end means for a list whose ends are trimmed.
-use Rattle.std.proofs.Common.{◌≡◌, ℕ, zero, suc, ◌<◌, ◌≤◌, Bool, true, false, cond, ◌&&◌, List, [], ◌∷◌, length, get_or, take, drop, refl, arith}
-use Rattle.std.proofs.Common.{eqb}
-use Rattle.std.proofs.lemmas.Bool.{and_right, ne_eqb}
+-- A list whose ends are trimmed, by the element at that end.
+use Rattle.std.proofs.Common.{◌≡◌, ℕ, zero, suc, ◌-◌, Bool, cond, eqb, List, [], ◌∷◌, length, get_or, take, drop, refl, arith, inl, inr}
+use Rattle.std.proofs.lemmas.Bool.{and_right, cases_Bool, ne_eqb}
+use Rattle.std.proofs.lemmas.Bool.Decides.{nat_tests}
+use Rattle.std.proofs.lemmas.List.{take_rest}
 use Rattle.kt_text.specs.Trimming.{without_front, without_end}
+use Rattle.kt_text.proofs.DigitLemmas.{AllDigits-without_end}
 
--- an element at the front that passes the test may go first
-pub without_front-first : (test : ℕ → Bool) (xs : List ℕ) → 1 ≤ length xs → test (get_or xs 0 0) ≡ true → without_front test (drop 1 xs) ≡ without_front test xs
+pub without_front_at : (test : ℕ → Bool) (xs : List ℕ) → without_front test xs ≡ cond (eqb (length xs) 0) xs (cond (test (get_or xs 0 0)) (without_front test (drop 1 xs)) xs)
 unfolding without_front
-without_front-first test [] h p = absurd (omega arith)
-without_front-first test (x ∷ xs) h p = rw p
+without_front_at test [] = refl
+without_front_at test (x ∷ xs) = rw (ne_eqb (length (x ∷ xs)) 0 (λ e. omega arith))
 
--- an element at the front that does not pass it stays
-pub without_front-stays : (test : ℕ → Bool) (xs : List ℕ) → 1 ≤ length xs → test (get_or xs 0 0) ≡ false → without_front test xs ≡ xs
-unfolding without_front
-without_front-stays test [] h p = absurd (omega arith)
-without_front-stays test (x ∷ xs) h p = rw p
-
--- nothing is taken off nothing
-pub without_front-empty : (test : ℕ → Bool) (xs : List ℕ) → length xs < 1 → without_front test xs ≡ xs
-unfolding without_front
-without_front-empty test [] h = refl
-without_front-empty test (x ∷ xs) h = absurd (omega arith)
-
--- an element at the end that passes the test may go first
-pub without_end-last : (test : ℕ → Bool) (xs : List ℕ) (n : ℕ) → length xs ≡ suc n → test (get_or xs n 0) ≡ true → without_end test (take n xs) ≡ without_end test xs
+without_end_last : (test : ℕ → Bool) (xs : List ℕ) (n : ℕ) → length xs ≡ suc n → without_end test xs ≡ cond (test (get_or xs n 0)) (without_end test (take n xs)) xs
 unfolding without_end
-without_end-last test [] n e p = absurd (omega arith)
-without_end-last test (x ∷ []) zero e p = rw p
-without_end-last test (x ∷ y ∷ ys) zero e p = absurd (omega arith)
-without_end-last test (x ∷ xs) (suc n) e p = rw (without_end-last test xs n (omega arith) p)
+without_end_last test (x ∷ []) zero e = elim (cases_Bool (test x)) [ inl p ↦ rw p refl | inr p ↦ rw p refl ]
+without_end_last test (x ∷ y ∷ ys) (suc n) e =
+    rw (without_end_last test (y ∷ ys) n (omega arith)) (elim (cases_Bool (test (get_or (y ∷ ys) n 0))) [
+      | inl p ↦ rw p refl
+      | inr p ↦ rw (p, and_right (test x) (eqb (length (y ∷ ys)) 0) (ne_eqb _ 0 (λ z. omega arith)))
+    ])
+without_end_last test _ _ e = absurd (omega arith)
 
-keeps : (passes : Bool) (x : ℕ) (rest : List ℕ) → 1 ≤ length rest → cond (passes && eqb (length rest) 0) [] (x ∷ rest) ≡ x ∷ rest
-keeps passes x rest h = rw (and_right passes (eqb (length rest) 0) (ne_eqb _ 0 (λ e. omega arith)))
-
--- an element at the end that does not pass it stays
-pub without_end-stays : (test : ℕ → Bool) (xs : List ℕ) (n : ℕ) → length xs ≡ suc n → test (get_or xs n 0) ≡ false → without_end test xs ≡ xs
+pub without_end_at : (test : ℕ → Bool) (xs : List ℕ) → without_end test xs ≡ cond (eqb (length xs) 0) xs (cond (test (get_or xs (length xs - 1) 0)) (without_end test (take (length xs - 1) xs)) xs)
 unfolding without_end
-without_end-stays test [] n e p = absurd (omega arith)
-without_end-stays test (x ∷ []) zero e p = rw p
-without_end-stays test (x ∷ []) (suc n) e p = absurd (omega arith)
-without_end-stays test (x ∷ y ∷ ys) zero e p = absurd (omega arith)
-without_end-stays test (x ∷ y ∷ ys) (suc n) e p = rw (without_end-stays test (y ∷ ys) n (omega arith) p) (keeps (test x) x (y ∷ ys) (omega arith))
+without_end_at test [] = refl
+without_end_at test (x ∷ xs) = rw (ne_eqb (length (x ∷ xs)) 0 (λ e. omega arith)) (without_end_last test (x ∷ xs) (length (x ∷ xs) - 1) (omega arith))
 
--- nothing is taken off nothing
-pub without_end-empty : (test : ℕ → Bool) (xs : List ℕ) → length xs < 1 → without_end test xs ≡ xs
-unfolding without_end
-without_end-empty test [] h = refl
-without_end-empty test (x ∷ xs) h = absurd (omega arith)
+-- what stands behind the first element, as a pattern of the code cuts it
+pub behind_first : (xs : List ℕ) → take (length xs - 1) (drop 1 xs) ≡ drop 1 xs
+behind_first xs = take_rest xs 1
+
+pub ruleset trimming = (without_front_at, without_end_at, behind_first, AllDigits-without_end, nat_tests)

@@ -25,6 +25,7 @@ pub fn read_count(text: &[u8]) -> Result<u64, BadText>
 
 // The count that a text stands for, whatever stands there.
 #[inline(never)]
+#[tactic(auto, using(crate::proofs::ValueLemmas::count_cases))]
 fn read_any_count(text: &[u8]) -> Result<u64, BadText>
     ensures { result ≡ count_value text.now }
 {

@@ -36,6 +36,7 @@ pub fn read_decimal(text: &[u8], scale: u8) -> Result<u64, BadText>
 
 // The amount that a text stands for, whatever stands there.
 #[inline(never)]
+#[tactic(auto, using(std::proofs::lemmas::Bool::Decides::nat_tests), unfolding(crate::specs::Numbers::decimal_value))]
 fn read_any_decimal(text: &[u8], scale: u8) -> Result<u64, BadText>
     requires { scale < 7 }
     ensures { result ≡ decimal_value scale text.now }
@@ -49,6 +50,7 @@ fn read_any_decimal(text: &[u8], scale: u8) -> Result<u64, BadText>
 }
 
 // The amount that the parts of a numeral write.
+#[tactic(auto, using(crate::proofs::ValueLemmas::amount_cases))]
 fn amount(numeral: &Numeral<'_>, scale: u8) -> Result<u64, BadText>
     requires { scale < 10 }
     ensures { result ≡ amount_of scale numeral.now }
@@ -68,6 +70,7 @@ fn amount(numeral: &Numeral<'_>, scale: u8) -> Result<u64, BadText>
 }
 
 // The number that the digits before and behind the point write, or 10^18 where that is less.
+#[tactic(auto, using(crate::proofs::DigitLemmas::joined_digits))]
 fn capped_digits(numeral: &Numeral<'_>, fraction: &[u8]) -> u64
     requires worthy { fraction.now ≡ worthy_fraction numeral.now }
     requires digits { AllDigits 10 fraction.now }

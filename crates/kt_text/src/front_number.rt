@@ -1,10 +1,10 @@
 //! The number at the front of a text, in digits with or without decimals: what nearly every field of a table is.
 
-ghost use Rattle.std.specs.Prelude.{◌≡◌, ◌≤◌, ◌<◌, ◌^◌, ◌⊎◌, Ok, length, take, drop, IfSome};
+ghost use Rattle.std.specs.Prelude.{◌≡◌, ◌≤◌, ◌<◌, ◌^◌, ◌+◌, ◌-◌, ◌*◌, ◌⊎◌, Ok, length, take, drop, IfSome};
 ghost use Rattle.kt_text.specs.Numbers.{count_value, decimal_value};
 ghost use Rattle.kt_text.specs.PlainText.{IsField, begins_with_point as point_begins};
 
-use crate::front_digits::front_digits;
+use crate::front_digits::{FrontDigits, front_digits};
 
 // A whole part of so many digits is below the limit in the units of each scale.
 const MOST_WHOLE: usize = 11;
@@ -21,6 +21,7 @@ pub struct FrontNumber {
 /// The count that the digits at the front of a text write, the first 18 where there are more. What stands behind them may
 /// still belong to their field.
 #[inline(always)]
+#[tactic(auto, using(crate::proofs::PlainLemmas::front_counts, crate::proofs::PlainRowLemmas::front_fields))]
 pub fn front_count(text: &[u8]) -> Option<FrontNumber>
     ensures within { IfSome result (λ number. number.size ≤ length text.now) }
     ensures field { IfSome result (λ number. IsField text.now number.size) }
@@ -52,7 +53,7 @@ pub fn front_amount(text: &[u8], scale: usize) -> Option<FrontNumber>
     if !begins_with_point(&text[whole.count..]) {
         return Some(FrontNumber {
             size: whole.count,
-            value: whole.value * ten_to(scale),
+            value: in_units(whole, FrontDigits { count: 0, value: 0 }, scale),
         });
     }
     let fraction = front_digits(&text[whole.count + 1..]);
@@ -61,8 +62,22 @@ pub fn front_amount(text: &[u8], scale: usize) -> Option<FrontNumber>
     }
     Some(FrontNumber {
         size: whole.count + (1 + fraction.count),
-        value: whole.value * ten_to(scale) + fraction.value * ten_to(scale - fraction.count),
+        value: in_units(whole, fraction, scale),
     })
+}
+
+// What the digits before and behind a point are, in units of 10^-`scale`.
+#[inline(always)]
+fn in_units(whole: FrontDigits, fraction: FrontDigits, scale: usize) -> u64
+    requires scale { scale < 7 }
+    requires few { whole.count ≤ 11 }
+    requires whole { whole.value < 10 ^ whole.count }
+    requires short { fraction.count ≤ scale }
+    requires fraction { fraction.value < 10 ^ fraction.count }
+    ensures value { result ≡ whole.value * 10 ^ scale + fraction.value * 10 ^ (scale - fraction.count) }
+    ensures limit { result ≤ 10 ^ 17 }
+{
+    whole.value * ten_to(scale) + fraction.value * ten_to(scale - fraction.count)
 }
 
 // Whether a text begins with a point.

@@ -31,17 +31,10 @@ fn ends_heading(byte: u8) -> bool
 
 /// How many bytes the field at the front of a text has, if it has no quotes: those before the first comma, quote or end of
 /// a line.
+#[tactic(auto, using(crate::proofs::PlainRowLemmas::plain_fields))]
 pub fn field_length(text: &[u8]) -> usize
     ensures within { result ≤ length text.now }
     ensures field { IsField text.now result }
-{
-    plain_length(text)
-}
-
-// How many bytes stand before the first mark.
-fn plain_length(text: &[u8]) -> usize
-    ensures within { result ≤ length text.now }
-    ensures plain { list_any (needs_byte default_writer) (take result text.now) ≡ false }
 {
     for (place, byte) in text.iter().enumerate() {
         if is_mark(*byte) {
@@ -75,6 +68,7 @@ fn begins_line_end(text: &[u8]) -> bool
 }
 
 // The text behind the ends of lines at its front, if a row begins there.
+#[tactic(auto, using(crate::proofs::PlainRowLemmas::plain_rows))]
 fn row_behind(text: &[u8]) -> Option<&[u8]>
     ensures same { IfSome result (λ rest. records default_config text.now ≡ records default_config rest.now) }
     ensures begins { IfSome result (λ rest. begins_with_row rest.now ≡ true) }
@@ -92,6 +86,7 @@ fn row_behind(text: &[u8]) -> Option<&[u8]>
 
 /// The first field of the first row behind the end of a line. A text that begins with a byte of a row has none.
 #[inline(always)]
+#[tactic(auto, using(crate::proofs::PlainRowLemmas::plain_rows))]
 pub fn first_field(text: &[u8]) -> Option<&[u8]>
     ensures begins { IfSome result (λ rest. BeginsField text.now [] rest.now) }
     ensures shorter { IfSome result (λ rest. length rest.now < length text.now) }
@@ -121,6 +116,7 @@ pub fn behind_field(text: &[u8], is_last: bool) -> Option<&[u8]>
 
 // What stands behind a comma.
 #[inline(always)]
+#[tactic(auto, using(crate::proofs::PlainRowLemmas::plain_fields))]
 fn behind_comma(text: &[u8]) -> Option<&[u8]>
     ensures stands { IfSome result (λ rest. (start : List ℕ) (fields : List (List ℕ)) → EndsField start fields text.now → BeginsField start fields rest.now) }
     ensures shorter { IfSome result (λ rest. length rest.now ≤ length text.now) }
@@ -136,6 +132,7 @@ fn behind_comma(text: &[u8]) -> Option<&[u8]>
 
 // A text that begins with the end of a line.
 #[inline(always)]
+#[tactic(auto, using(crate::proofs::PlainRowLemmas::plain_fields))]
 fn at_line_end(text: &[u8]) -> Option<&[u8]>
     ensures stands { IfSome result (λ rest. (start : List ℕ) (fields : List (List ℕ)) → EndsField start fields text.now → StandsBehind true start fields rest.now) }
     ensures shorter { IfSome result (λ rest. length rest.now ≤ length text.now) }
@@ -158,6 +155,7 @@ fn has_mark(text: &[u8]) -> bool
 }
 
 // The text without a byte order mark in front.
+#[tactic(auto, using(crate::proofs::PlainRowLemmas::plain_headings))]
 fn without_mark(text: &[u8]) -> &[u8]
     ensures { result.now ≡ strip_bom text.now }
 {
@@ -166,6 +164,7 @@ fn without_mark(text: &[u8]) -> &[u8]
 
 /// The text from the end of the heading's line on, if the heading begins the text and has no quotes: its records are
 /// the rows.
+#[tactic(auto, using(crate::proofs::PlainRowLemmas::plain_headings))]
 pub fn behind_heading(text: &[u8]) -> Option<&[u8]>
     ensures { IfSome result (λ rest. csv_rows text.now ≡ csv_records rest.now) }
 {

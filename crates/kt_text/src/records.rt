@@ -11,6 +11,7 @@ use std::alloc::{AllocError, Global};
 
 /// A reader before the first record of a text, which takes no record for a heading and records of any
 /// length.
+#[tactic(auto, using(crate::proofs::MachineLemmas::strip_bom_shorter), unfolding(crate::specs::Records::bytes_left, crate::specs::Records::records_left))]
 pub fn reader_of(alloc: Global, text: &[u8]) -> Reader<&[u8]>
     ensures stands { StandsBetween result }
     ensures bytes { bytes_left result ≤ length text.now }
@@ -24,6 +25,7 @@ pub fn reader_of(alloc: Global, text: &[u8]) -> Reader<&[u8]>
 
 /// The next record into `row`, and whether there was one. An error is want of memory: nothing is said of the reader and the
 /// row then, and they are not to be used again.
+#[tactic(auto, using(crate::proofs::ReaderLemmas::next_is))]
 pub fn next_record(reader: &mut Reader<&[u8]>, row: &mut ByteRecord) -> Result<bool, AllocError>
     requires { StandsBetween reader.old }
     ensures { IfOk result (λ found. MatchBool found
@@ -41,6 +43,7 @@ pub fn next_record(reader: &mut Reader<&[u8]>, row: &mut ByteRecord) -> Result<b
 }
 
 /// The field of a record at a column, counted from 0.
+#[tactic(auto, using(crate::proofs::RowLemmas::field_within))]
 pub fn record_field(row: &ByteRecord, column: usize) -> &[u8]
     requires { column < length (fields_of row.now) }
     ensures { result.now ≡ slice_index_or (fields_of row.now) column [] }

@@ -23,6 +23,7 @@ pub(crate) fn scaled(digits: u64, scale: u64, places: u64, exponent: u64, negati
 }
 
 // The digits times 10^`up` / 10^`down`, rounded half up, or 10^18 where that is less.
+#[tactic(auto, using(crate::proofs::ScalingLemmas::scaling))]
 fn moved(digits: u64, up: u64, down: u64) -> u64
     requires { digits < 10 ^ 18 }
     ensures { result ≡ min (half_up (digits * 10 ^ up) (10 ^ down)) (10 ^ 18) }
@@ -35,6 +36,7 @@ fn moved(digits: u64, up: u64, down: u64) -> u64
 }
 
 // The digits with so many zeros behind them, or 10^18 where that is less.
+#[tactic(auto, using(crate::proofs::ScalingLemmas::scaling))]
 fn raised(digits: u64, places: u64) -> u64
     requires { digits < 10 ^ 18 }
     ensures { result ≡ min (digits * 10 ^ places) (10 ^ 18) }
@@ -44,6 +46,7 @@ fn raised(digits: u64, places: u64) -> u64
 }
 
 // The digits without the last so many, rounded half up. With more than 19 places nothing is left.
+#[tactic(auto, using(crate::proofs::ScalingLemmas::scaling))]
 fn lowered(digits: u64, places: u64) -> u64
     requires digits { digits < 10 ^ 18 }
     requires places { 0 < places }

@@ -1,6 +1,6 @@
 use Rattle.std.proofs.Common.{map}
 use Rattle.csv.specs.Records.{fields_of}
-use Rattle.kt_text.proofs.ReadingRows.{RowsRead}
+use Rattle.kt_text.proofs.RowLemmas.{RowsRead}
 use Rattle.kt_text.specs.Records.{bytes_left}
 use Rattle.kt_text.proofs.columns.rows_left.Given as goal
 
