@@ -1,3 +1,4 @@
+mod KnownLemmas
 mod ReadLemmas
 mod TypedLemmas
 mod RangeLemmas

@@ -3,8 +3,9 @@
 ghost use Rattle.std.specs.Prelude.{◌≡◌, ◌≤◌, ◌*◌, ◌/◌, ◌%◌, true, length, Some, IfOk, IfSome, IfErr, MatchResult};
 ghost use Rattle.kt_keys.specs.Refusals.{is_loaded};
 ghost use Rattle.kt_load.specs.Ends.{IsReadStop};
-ghost use Rattle.kt_load.specs.EventRows.{HasFootprint, event_rows, foot_row, foot_rows_in, footprint_name};
+ghost use Rattle.kt_load.specs.EventRows.{HasFootprint, LiesWithin, event_rows, foot_row, foot_rows_in, footprint_name};
 ghost use Rattle.kt_rec.specs.declared.table.Table.TheVariants as table;
+ghost use Rattle.kt_tables.specs.Lookups.{place_in};
 
 use crate::file::read_part;
 use crate::naming::file_name;
@@ -12,7 +13,7 @@ use crate::stop::LoadStop;
 use byteorder::{ByteOrder, LittleEndian};
 use kt_out::Inputs;
 use kt_rec::{FootRow, Table, TableId};
-use kt_tables::Portfolio;
+use kt_tables::{Place, Portfolio};
 use std::alloc::{AllocError, Global};
 
 /// The size of a footprint row in its file, in bytes.
@@ -42,6 +43,17 @@ fn rows_of(alloc: Global, bytes: &[u8]) -> Result<Vec<FootRow>, AllocError>
     Ok(rows)
 }
 
+/// The place of an event in the footprint's file, which has its bytes; none where the index has no such event.
+fn place_in_file(portfolio: &Portfolio, event: u32) -> Option<Place>
+    requires footprint { is_loaded portfolio.now.need 0 table.Footprint ≡ true }
+    requires index { is_loaded portfolio.now.need 0 table.FootprintIdx ≡ true }
+    ensures value { result ≡ place_in portfolio.now.rows event }
+    ensures within { IfSome result (LiesWithin portfolio.now.rows.footprint_size) }
+{
+    portfolio.is_valid();
+    portfolio.place_of(event)
+}
+
 /// The footprint rows of an event, as they stand in the footprint's file; none where the index has no such event. The
 /// footprint and its index must be loaded, and the file be as long as it was then. Refused only for a fault that the inputs
 /// counted, and for want of memory. Rows are not judged here.
@@ -58,8 +70,7 @@ pub fn foot_rows<I: Inputs>(
 
     ensures inputs { MatchResult result (λ _. I.state inputs.new ≡ I.state inputs.old) (IsReadStop (I.state inputs.old) (I.state inputs.new)) }
 {
-    portfolio.is_valid();
-    let Some(place) = portfolio.place_of(event) else {
+    let Some(place) = place_in_file(portfolio, event) else {
         return Ok(Vec::new(alloc));
     };
     let footprint = TableId {

@@ -12,16 +12,16 @@ read_tables-requires g c = c.load_order.ensures.ids
 
 -- src/loading.rt:110:11
 pub new-requires-clause-ranges : goal.new-requires-clause-ranges
-new-requires-clause-ranges g c = c.in-Ok.ensures.in_range (subst AreInRange (sym c.new-tables.ensures.absent) no_rows-in_range)
+new-requires-clause-ranges g c = c.in-Ok.ensures.keeps.in_range (subst AreInRange (sym c.new-tables.ensures.absent) no_rows-in_range)
 
 -- src/loading.rt:110:11
 pub new-requires-clause-needed : goal.new-requires-clause-needed
-new-requires-clause-needed g c = c.in-Ok.ensures.outside (subst (NoneOutside c.args.need.loaded) (sym c.new-tables.ensures.absent) (no_rows-outside c.args.need.loaded))
+new-requires-clause-needed g c = c.in-Ok.ensures.keeps.outside (subst (NoneOutside c.args.need.loaded) (sym c.new-tables.ensures.absent) (no_rows-outside c.args.need.loaded))
 
 -- src/loading.rt:110:11
 pub new-requires-clause-periods : goal.new-requires-clause-periods
-new-requires-clause-periods g c = has_periods-from_all c.args.need c.load_order.result (rows_of c.read_tables.new.tables) c.load_order.ensures.value c.in-Ok.ensures.periods
+new-requires-clause-periods g c = has_periods-from_all c.args.need c.load_order.result (rows_of c.read_tables.new.tables) c.load_order.ensures.value c.in-Ok.ensures.keeps.read_periods
 
 -- the portfolio that was made
 pub returns-in-Ok-new-clause-exact : goal.returns-in-Ok-new-clause-exact
-returns-in-Ok-new-clause-exact g c = loads_portfolio (g.I.Inputs.state c.args.inputs.now).held c.args.need c.load_order.result (rows_of c.new-tables.result) (rows_of c.read_tables.new.tables) c.in-Ok-new.portfolio c.load_order.ensures.value c.new-tables.ensures.absent c.in-Ok.ensures.ok c.in-Ok-new.ensures.valid c.in-Ok-new.ensures.ok
+returns-in-Ok-new-clause-exact g c = loads_portfolio (g.I.Inputs.state c.args.inputs.now).held c.args.need c.load_order.result (rows_of c.new-tables.result) (rows_of c.read_tables.new.tables) c.in-Ok-new.portfolio c.load_order.ensures.value c.new-tables.ensures.absent c.in-Ok.ensures.tells c.in-Ok-new.ensures.valid c.in-Ok-new.ensures.ok
