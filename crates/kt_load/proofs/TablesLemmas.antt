@@ -24,7 +24,7 @@ pub record Carries (held : Option FileMap) (set : TableSet) (ids rest : List Tab
   pub keeps : (new : Rows) → KeepsAll set rest now new → KeepsAll set ids old new
 
 -- a stop is that of what would go on
-tells_on : {A B : Type 0} (expected : Result A LoadStop) (next : A → Result B LoadStop) (stop : LoadStop) → TellsLoad expected stop → TellsLoad (go_on expected next) stop
+pub tells_on : {A B : Type 0} (expected : Result A LoadStop) (next : A → Result B LoadStop) (stop : LoadStop) → TellsLoad expected stop → TellsLoad (go_on expected next) stop
 tells_on expected next ReadFault tells = tt
 tells_on expected next OutOfMemory tells = tt
 tells_on expected next stop tells = ap (λ r. go_on r next) tells

@@ -57,11 +57,6 @@ IsTableEnd name (table.WrongVersion found) end = end ≡ Table name (table.Wrong
 IsTableEnd name (table.CutRecord row) end = end ≡ Table name (table.CutRecord row)
 IsTableEnd name (table.Bad row column cause) end = end ≡ Table name (table.Bad row column cause)
 
--- the stop for tables that a check refuses, or want of memory
-abbrev pub IsCheckEnd : CheckStop → LoadStop → Type 0
-IsCheckEnd check.OutOfMemory end = end ≡ OutOfMemory
-IsCheckEnd (check.Check number refused row) end = (end ≡ Check number (file_name_of refused) row) ⊎ (end ≡ OutOfMemory)
-
 -- what a stop tells of what was expected: nothing for a fault or want of memory, which may come at any files
 abbrev pub TellsLoad : {A : Type 0} → Result A LoadStop → LoadStop → Type 0
 TellsLoad expected ReadFault = ⊤
