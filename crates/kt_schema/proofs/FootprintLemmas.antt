@@ -51,8 +51,7 @@ AreRows-take kinds (row ∷ rows) (suc count) range = (range.0, AreRows-take kin
 rows_lines-append : (kinds : List Kind) (xs ys : List (List ℕ)) → rows_lines kinds (xs ++ ys) ≡ rows_lines kinds xs ++ rows_lines kinds ys
 unfolding rows_lines
 rows_lines-append kinds [] ys = refl
-rows_lines-append kinds (row ∷ xs) ys =
-    ap (λ more. line (row_texts 0 kinds row) ++ more) (rows_lines-append kinds xs ys) ∙ sym (append_assoc (line (row_texts 0 kinds row)) (rows_lines kinds xs) (rows_lines kinds ys))
+rows_lines-append kinds (row ∷ xs) ys = rw (rows_lines-append kinds xs ys, append_assoc) refl
 
 -- an event more of the index
 pub indexed-more : (start out more : List ℕ) (rows : List (List ℕ)) (index : List FootprintIdx) (done : ℕ) (d : FootprintIdx) → done < length index
@@ -62,21 +61,7 @@ pub indexed-more : (start out more : List ℕ) (rows : List (List ℕ)) (index :
 unfolding indexed_rows
 indexed-more start out more rows index done d within now written =
     let step : drop done index ≡ get_or index done d ∷ drop (done + 1) index = drop-step index done d within in
-    let rest : List (List ℕ) = indexed_rows rows (drop (done + 1) index) in
-    let split : rows_lines (kinds_of Footprint) (indexed_rows rows (drop done index)) ≡ rows_lines (kinds_of Footprint) (entry_rows rows (get_or index done d)) ++ rows_lines (kinds_of Footprint) rest =
-    ap (λ left. rows_lines (kinds_of Footprint) (indexed_rows rows left)) step ∙ rows_lines-append (kinds_of Footprint) (entry_rows rows (get_or index done d)) rest in
-    ap (λ text. text ++ rows_lines (kinds_of Footprint) rest) written
-    ∙ append_assoc out (rows_lines (kinds_of Footprint) (entry_rows rows (get_or index done d))) (rows_lines (kinds_of Footprint) rest)
-    ∙ ap (λ text. out ++ text) (sym split) ∙ now
-
--- no event is left
-pub indexed-end : (start out : List ℕ) (rows : List (List ℕ)) (index : List FootprintIdx)
-    → out ++ rows_lines (kinds_of Footprint) (indexed_rows rows (drop (length index) index)) ≡ start ++ rows_lines (kinds_of Footprint) (indexed_rows rows index)
-    → out ≡ start ++ rows_lines (kinds_of Footprint) (indexed_rows rows index)
-unfolding indexed_rows rows_lines
-indexed-end start out rows index now =
-    let none : drop (length index) index ≡ [] = drop-length index in
-    sym (append-nil out) ∙ ap (λ left. out ++ rows_lines (kinds_of Footprint) (indexed_rows rows left)) (sym none) ∙ now
+    rw (written, append_assoc) (rw (step, rows_lines-append) at now)
 
 -- the records of an entry are among those of the file
 pub entry-within : (bytes rows : ℕ) (entry : FootprintIdx) → IsEntryOf bytes entry → rows ≡ (bytes - 16) / 12 → HasRecords rows entry
@@ -112,17 +97,4 @@ module _ (records : List ℕ) (rows : List (List ℕ)) (entry : FootprintIdx) (a
 -- what is right is refused for want of memory alone
 pub memory-alone : {A : Type 0} (read : Result A TableStop) (x : A) (why : TableStop) → read ≡ Ok x → Tells read why → why ≡ stop.OutOfMemory
 memory-alone read x stop.OutOfMemory good told = refl
-memory-alone read x stop.NotProfile good told = absurd (cc)
-memory-alone read x (stop.WrongTable found) good told = absurd (cc)
-memory-alone read x (stop.WrongVersion found) good told = absurd (cc)
-memory-alone read x (stop.CutRecord row) good told = absurd (cc)
-memory-alone read x (stop.Bad row column cause) good told = absurd (cc)
-
--- the text of a footprint whose records are read
-pub text-made : (bytes : List ℕ) (index : List FootprintIdx) (extra : ℕ) (rows : List (List ℕ)) (out : List ℕ) → header_extra 4 0 0 bytes ≡ Ok extra → record_rows 2 (drop 1 (kinds_of Footprint)) (drop 16 bytes) ≡ Ok rows
-    → out ≡ canon Footprint (indexed_rows rows index) → footprint_csv bytes index ≡ Ok out
-text-made bytes index extra rows out header read text =
-    let text_of : Result (ℕ × List (List ℕ)) TableStop → Result (List ℕ) TableStop = λ found. and_then found (λ file. Ok (canon Footprint (indexed_rows file.1 index))) in
-    let behind : Result ℕ TableStop → Result (ℕ × List (List ℕ)) TableStop = λ found. and_then found (λ extra. and_then (record_rows 2 (drop 1 (kinds_of Footprint)) (drop 16 bytes)) (λ rows. Ok (extra, rows))) in
-    let beside : Result (List (List ℕ)) TableStop → Result (ℕ × List (List ℕ)) TableStop = λ found. and_then found (λ rows. Ok (extra, rows)) in
-    ap (λ found. text_of (behind found)) header ∙ ap (λ found. text_of (beside found)) read ∙ ap Ok (sym text)
+memory-alone read x why good told = absurd (cc)

@@ -12,47 +12,31 @@ use Rattle.kt_schema.specs.Tables.{kinds_of}
 pub drop-step : {A : Type 0} (xs : List A) (i : ℕ) (d : A) → i < length xs → drop i xs ≡ get_or xs i d ∷ drop (i + 1) xs
 drop-step xs i d here = rw add-one (drop-cons xs i d here)
 
--- a row of the same event
-index_from-same : (event offset size : ℕ) (row : List ℕ) (rows : List (List ℕ)) → event_of row ≡ event → index_from event offset size (row ∷ rows) ≡ index_from event offset (size + footprint_width) rows
-unfolding index_from
-index_from-same event offset size row rows same =
-    let test : (event_of row == event) ≡ true = grind (arith, nat_tests, same) in
-    rw test refl
-
--- a row of another event
-index_from-next : (event offset size : ℕ) (row : List ℕ) (rows : List (List ℕ)) → (event_of row ≡ event → ⊥) → index_from event offset size (row ∷ rows) ≡ index_row event offset size ∷ index_from (event_of row) (offset + size) footprint_width rows
-unfolding index_from
-index_from-next event offset size row rows other =
-    let test : (event_of row == event) ≡ false = grind (arith, nat_tests, other) in
-    rw test refl
-
 -- a row more of the same event
 pub index-same : (start : List ℕ) (all : List (List ℕ) → List (List ℕ)) (out : List ℕ) (event offset size : ℕ) (rows : List (List ℕ)) (row : List ℕ) → event_of row ≡ event
     → ((more : List (List ℕ)) → out ++ records_bytes (kinds_of FootprintIdx) (index_from event offset size more) ≡ start ++ records_bytes (kinds_of FootprintIdx) (all (rows ++ more)))
     → (more : List (List ℕ)) → out ++ records_bytes (kinds_of FootprintIdx) (index_from event offset (size + 12) more) ≡ start ++ records_bytes (kinds_of FootprintIdx) (all ((rows ++ row ∷ []) ++ more))
+unfolding index_from
 index-same start all out event offset size rows row same now more =
-    ap (λ index. out ++ records_bytes (kinds_of FootprintIdx) index) (sym (index_from-same event offset size row more same)) ∙ now (row ∷ more)
-    ∙ ap (λ rows. start ++ records_bytes (kinds_of FootprintIdx) (all rows)) (sym (append_assoc rows (row ∷ []) more))
+    let test : (event_of row == event) ≡ true = grind (arith, nat_tests, same) in
+    rw (append_assoc rows (row ∷ []) more) (rw test at (now (row ∷ more)))
 
 -- a row of another event
 pub index-next : (start : List ℕ) (all : List (List ℕ) → List (List ℕ)) (out next : List ℕ) (event offset size : ℕ) (rows : List (List ℕ)) (row : List ℕ) → (event_of row ≡ event → ⊥)
     → next ≡ out ++ record_bytes (kinds_of FootprintIdx) (index_row event offset size)
     → ((more : List (List ℕ)) → out ++ records_bytes (kinds_of FootprintIdx) (index_from event offset size more) ≡ start ++ records_bytes (kinds_of FootprintIdx) (all (rows ++ more)))
     → (more : List (List ℕ)) → next ++ records_bytes (kinds_of FootprintIdx) (index_from (event_of row) (offset + size) 12 more) ≡ start ++ records_bytes (kinds_of FootprintIdx) (all ((rows ++ row ∷ []) ++ more))
-unfolding records_bytes
+unfolding records_bytes index_from
 index-next start all out next event offset size rows row other written now more =
-    let rest : List (List ℕ) = index_from (event_of row) (offset + size) 12 more in
-    ap (λ text. text ++ records_bytes (kinds_of FootprintIdx) rest) written
-    ∙ append_assoc out (record_bytes (kinds_of FootprintIdx) (index_row event offset size)) (records_bytes (kinds_of FootprintIdx) rest)
-    ∙ ap (λ index. out ++ records_bytes (kinds_of FootprintIdx) index) (sym (index_from-next event offset size row more other)) ∙ now (row ∷ more)
-    ∙ ap (λ rows. start ++ records_bytes (kinds_of FootprintIdx) (all rows)) (sym (append_assoc rows (row ∷ []) more))
+    let test : (event_of row == event) ≡ false = grind (arith, nat_tests, other) in
+    rw (written, append_assoc out _ _, append_assoc rows (row ∷ []) more) (rw test at (now (row ∷ more)))
 
 -- the first row
 pub index-first : (start : List ℕ) (all : List (List ℕ) → List (List ℕ)) (out : List ℕ) (rows : List (List ℕ)) (row : List ℕ)
     → ((more : List (List ℕ)) → out ++ records_bytes (kinds_of FootprintIdx) (index_of more) ≡ start ++ records_bytes (kinds_of FootprintIdx) (all (rows ++ more)))
     → (more : List (List ℕ)) → out ++ records_bytes (kinds_of FootprintIdx) (index_from (event_of row) 16 12 more) ≡ start ++ records_bytes (kinds_of FootprintIdx) (all ((rows ++ row ∷ []) ++ more))
 unfolding index_of
-index-first start all out rows row now more = now (row ∷ more) ∙ ap (λ rows. start ++ records_bytes (kinds_of FootprintIdx) (all rows)) (sym (append_assoc rows (row ∷ []) more))
+index-first start all out rows row now more = rw (append_assoc rows (row ∷ []) more) (now (row ∷ more))
 
 -- no row of the index
 pub index-none : (out : List ℕ) → out ≡ out ++ records_bytes (kinds_of FootprintIdx) (index_of [])
@@ -62,7 +46,7 @@ index-none out = sym (append-nil out)
 -- the last row of the index
 pub index-last : (out next : List ℕ) (event offset size : ℕ) → next ≡ out ++ record_bytes (kinds_of FootprintIdx) (index_row event offset size) → next ≡ out ++ records_bytes (kinds_of FootprintIdx) (index_from event offset size [])
 unfolding records_bytes index_from
-index-last out next event offset size written = written ∙ ap (λ piece. out ++ piece) (sym (append-nil (record_bytes (kinds_of FootprintIdx) (index_row event offset size))))
+index-last out next event offset size written = rw append-nil written
 
 -- three pieces, one after the other
 pub text-three : (start one two three a b c : List ℕ) → one ≡ start ++ a → two ≡ one ++ b → three ≡ two ++ c → three ≡ start ++ (a ++ (b ++ (c ++ [])))
