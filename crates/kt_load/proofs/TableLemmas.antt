@@ -26,23 +26,6 @@ use Rattle.kt_load.proofs.OutsideLemmas.{outside-with_rows, outside-with_size}
 use Rattle.kt_load.proofs.TableRanges.{in_range-with_rows, in_range-with_size, periods-with_rows}
 use Rattle.kt_load.proofs.TypedLemmas.{loads-rows_at}
 
--- what a file within the limit gives, where files are known: what is loaded of the bytes that were read
-file_gives : (held : Option FileMap) (rows : Rows) (id : TableId) (name : List ℕ) (size : ℕ) (front : List ℕ) → name ≡ file_name_of id → size ≤ file_limit → FindsSize held name (Ok size) → IsFront held name (bytes_wanted id.table size) front
-    → IfSome held (λ files. with_table_file rows id (files (file_name_of id)) ≡ go_on (with_read rows id (loaded_rows id.table front)) (λ read. Ok (with_size read id.table size)))
-file_gives None rows id name size front named small found is = tt
-file_gives (Some files) rows id name size front named small found is = rw (← named) (of_file (files name) found is.known)
-  where
-    of_file : (file : Option (List ℕ)) → IsSizeOf file (Ok size) → IfSome file (λ bytes. front ≡ take (bytes_wanted id.table size) bytes) → with_table_file rows id file ≡ go_on (with_read rows id (loaded_rows id.table front)) (λ read. Ok (with_size read id.table size))
-    of_file None sized fronted = absurd sized
-    of_file (Some bytes) sized fronted = rw (fronted, sized, front-loads id.table bytes, le-ltb file_limit (length bytes) (omega arith)) refl
-
--- the table was read
-pub reads-table : (held : Option FileMap) (id : TableId) (name : List ℕ) (size : ℕ) (front : List ℕ) (old mid new : Tables) → name ≡ file_name_of id → size ≤ file_limit → FindsSize held name (Ok size) → IsFront held name (bytes_wanted id.table size) front → Loads id front old mid → rows_of new ≡ with_size (rows_of mid) id.table size → IfSome held (λ files. with_table_file (rows_of old) id (files (file_name_of id)) ≡ Ok (rows_of new))
-reads-table held id name size front old mid new named small found is loads sized =
-    let has = loads-rows_at id.table id.stage front old mid loads in
-    let loaded : go_on (with_read (rows_of old) id (loaded_rows id.table front)) (λ read. Ok (with_size read id.table size)) ≡ Ok (rows_of new) = rw (has.read, sized, has.becomes) refl in
-    if_known held (λ files gives. gives ∙ loaded) (file_gives held (rows_of old) id name size front named small found is)
-
 -- what is kept while it was
 pub keeps-table : (id : TableId) (size : ℕ) (front : List ℕ) (old mid new : Tables) → IsTableId id → Loads id front old mid → rows_of new ≡ with_size (rows_of mid) id.table size → KeepsRows id (rows_of old) (rows_of new)
 keeps-table id size front old mid new is loads sized =
@@ -60,12 +43,26 @@ ends-reading : (rows : Rows) (id : TableId) (read : Result (ℕ × List (List �
 ends-reading rows id read next stop.OutOfMemory answer tells ends = rw ends tt
 ends-reading rows id read next why answer tells ends = rw (ends, tells) refl
 
--- how a table that is refused ends the reading
-pub refuses-table : (held : Option FileMap) (rows : Rows) (id : TableId) (name : List ℕ) (size : ℕ) (front : List ℕ) (why : TableStop) (answer : LoadStop) → name ≡ file_name_of id → size ≤ file_limit → FindsSize held name (Ok size) → IsFront held name (bytes_wanted id.table size) front → Tells (loaded_rows id.table front) why → IsTableEnd name why answer → IfSome held (λ files. TellsLoad (with_table_file rows id (files (file_name_of id))) answer)
-refuses-table held rows id name size front why answer named small found is tells ends =
-    let told = ends-reading rows id (loaded_rows id.table front) (λ read. Ok (with_size read id.table size)) why answer tells (subst (λ n. IsTableEnd n why answer) named ends) in
-    if_known held (λ files gives. subst (λ r. TellsLoad r answer) (sym gives) told) (file_gives held rows id name size front named small found is)
+module _ (held : Option FileMap) (id : TableId) (size : ℕ) (front : List ℕ) (small : size ≤ file_limit) (found : FindsSize held (file_name_of id) (Ok size)) (is : IsFront held (file_name_of id) (bytes_wanted id.table size) front) where
+  -- where files are known, the file of the table gives what is loaded of the bytes that were read
+  file_gives : (rows : Rows) → IfSome held (λ files. with_table_file rows id (files (file_name_of id)) ≡ go_on (with_read rows id (loaded_rows id.table front)) (λ read. Ok (with_size read id.table size)))
+  file_gives rows = by_held held found is
+    where
+      of_file : (file : Option (List ℕ)) → IsSizeOf file (Ok size) → IfSome file (λ bytes. front ≡ take (bytes_wanted id.table size) bytes) → with_table_file rows id file ≡ go_on (with_read rows id (loaded_rows id.table front)) (λ read. Ok (with_size read id.table size))
+      of_file None sized fronted = absurd sized
+      of_file (Some bytes) sized fronted = rw (fronted, sized, front-loads id.table bytes, le-ltb file_limit (length bytes) (omega arith)) refl
 
--- the front that was read, of the file that was meant
-pub same-front : {held now : Option FileMap} {name given : List ℕ} {wanted asked : ℕ} {front : List ℕ} → now ≡ held → given ≡ name → asked ≡ wanted → IsFront now given asked front → IsFront held name wanted front
-same-front {held} {now} {name} {given} {wanted} {asked} {front} holds named size is = subst (λ h. IsFront h name wanted front) holds (subst (λ n. IsFront now n wanted front) named (subst (λ w. IsFront now given w front) size is))
+      by_held : (known : Option FileMap) → FindsSize known (file_name_of id) (Ok size) → IsFront known (file_name_of id) (bytes_wanted id.table size) front → IfSome known (λ files. with_table_file rows id (files (file_name_of id)) ≡ go_on (with_read rows id (loaded_rows id.table front)) (λ read. Ok (with_size read id.table size)))
+      by_held None finds fronted = tt
+      by_held (Some files) finds fronted = of_file (files (file_name_of id)) finds fronted.known
+
+  -- the table was read
+  pub reads-table : (old mid new : Tables) → Loads id front old mid → rows_of new ≡ with_size (rows_of mid) id.table size → IfSome held (λ files. with_table_file (rows_of old) id (files (file_name_of id)) ≡ Ok (rows_of new))
+  reads-table old mid new loads sized =
+      let has = loads-rows_at id.table id.stage front old mid loads in
+      let loaded : go_on (with_read (rows_of old) id (loaded_rows id.table front)) (λ read. Ok (with_size read id.table size)) ≡ Ok (rows_of new) = rw (has.read, sized, has.becomes) refl in
+      if_known held (λ files gives. gives ∙ loaded) (file_gives (rows_of old))
+
+  -- how a table that is refused ends the reading
+  pub refuses-table : (rows : Rows) (why : TableStop) (answer : LoadStop) → Tells (loaded_rows id.table front) why → IsTableEnd (file_name_of id) why answer → IfSome held (λ files. TellsLoad (with_table_file rows id (files (file_name_of id))) answer)
+  refuses-table rows why answer tells ends = if_known held (λ files gives. rw gives (ends-reading rows id (loaded_rows id.table front) (λ read. Ok (with_size read id.table size)) why answer tells ends)) (file_gives rows)
