@@ -5,7 +5,6 @@ mod RangeLemmas
 mod TableRanges
 mod OutsideLemmas
 mod FrontLemmas
-mod HeaderLemmas
 mod TableLemmas
 mod TablesLemmas
 mod NeedLemmas

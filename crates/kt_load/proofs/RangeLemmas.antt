@@ -27,11 +27,6 @@ IsOfKind rule kind.Rule value = is_rule_number value ≡ true
 IsOfKind rule (kind.Term t) value = IsTerm (is_ppm t rule) value
 IsOfKind rule k value = AreBounds (lowest k) (highest k) value
 
--- a calculation rule is known
-is_known : (value : ℕ) (known : Bool) → (if known then Ok value else Err cause.Rule) ≡ Ok value → known ≡ true
-is_known value true is = refl
-is_known value false is = cc
-
 -- a term is an amount or parts per million
 is_term : (value : ℕ) (part : Bool) → in_range (if part then kind.Ppm else kind.Amount) value ≡ Ok value → IsTerm part value
 unfolding in_range
@@ -41,7 +36,7 @@ is_term value false is = (bounds 0 (10 ^ 17) value is).below
 -- a value that is in the range of its kind is one
 of_kind : (rule : ℕ) (k : Kind) (value : ℕ) → in_range (under rule k) value ≡ Ok value → IsOfKind rule k value
 unfolding in_range
-of_kind rule kind.Rule value is = is_known value (is_rule_number value) is
+of_kind rule kind.Rule value is = grind (arith, nat_tests)
 of_kind rule (kind.Term t) value is = is_term value (is_ppm t rule) is
 of_kind rule k value is = bounds (lowest k) (highest k) value is
 

@@ -21,7 +21,7 @@ use Rattle.kt_load.specs.FileNames.{file_name_of}
 use Rattle.kt_load.specs.Reading.{file_limit, go_on, with_read, with_size, with_table_file}
 use Rattle.kt_load.specs.Steps.{KeepsRows}
 use Rattle.kt_load.specs.Typed.{with_rows}
-use Rattle.kt_load.proofs.HeaderLemmas.{front-loads}
+use Rattle.kt_load.proofs.FrontLemmas.{front-loads}
 use Rattle.kt_load.proofs.OutsideLemmas.{outside-with_rows, outside-with_size}
 use Rattle.kt_load.proofs.TableRanges.{in_range-with_rows, in_range-with_size, periods-with_rows}
 use Rattle.kt_load.proofs.TypedLemmas.{loads-rows_at}
@@ -43,26 +43,24 @@ ends-reading : (rows : Rows) (id : TableId) (read : Result (ℕ × List (List �
 ends-reading rows id read next stop.OutOfMemory answer tells ends = rw ends tt
 ends-reading rows id read next why answer tells ends = rw (ends, tells) refl
 
+-- where files are known, the file of a table gives what is loaded of the bytes that were read
+file_gives : (held : Option FileMap) (id : TableId) (size : ℕ) (front : List ℕ) (rows : Rows) → size ≤ file_limit → FindsSize held (file_name_of id) (Ok size) → IsFront held (file_name_of id) (bytes_wanted id.table size) front
+    → IfSome held (λ files. with_table_file rows id (files (file_name_of id)) ≡ go_on (with_read rows id (loaded_rows id.table front)) (λ read. Ok (with_size read id.table size)))
+file_gives None id size front rows small found is = tt
+file_gives (Some files) id size front rows small found is = of_file (files (file_name_of id)) found is.known
+  where
+    of_file : (file : Option (List ℕ)) → IsSizeOf file (Ok size) → IfSome file (λ bytes. front ≡ take (bytes_wanted id.table size) bytes) → with_table_file rows id file ≡ go_on (with_read rows id (loaded_rows id.table front)) (λ read. Ok (with_size read id.table size))
+    of_file None sized fronted = absurd sized
+    of_file (Some bytes) sized fronted = rw (fronted, sized, front-loads id.table bytes, le-ltb file_limit (length bytes) (omega arith)) refl
+
 module _ (held : Option FileMap) (id : TableId) (size : ℕ) (front : List ℕ) (small : size ≤ file_limit) (found : FindsSize held (file_name_of id) (Ok size)) (is : IsFront held (file_name_of id) (bytes_wanted id.table size) front) where
-  -- where files are known, the file of the table gives what is loaded of the bytes that were read
-  file_gives : (rows : Rows) → IfSome held (λ files. with_table_file rows id (files (file_name_of id)) ≡ go_on (with_read rows id (loaded_rows id.table front)) (λ read. Ok (with_size read id.table size)))
-  file_gives rows = by_held held found is
-    where
-      of_file : (file : Option (List ℕ)) → IsSizeOf file (Ok size) → IfSome file (λ bytes. front ≡ take (bytes_wanted id.table size) bytes) → with_table_file rows id file ≡ go_on (with_read rows id (loaded_rows id.table front)) (λ read. Ok (with_size read id.table size))
-      of_file None sized fronted = absurd sized
-      of_file (Some bytes) sized fronted = rw (fronted, sized, front-loads id.table bytes, le-ltb file_limit (length bytes) (omega arith)) refl
-
-      by_held : (known : Option FileMap) → FindsSize known (file_name_of id) (Ok size) → IsFront known (file_name_of id) (bytes_wanted id.table size) front → IfSome known (λ files. with_table_file rows id (files (file_name_of id)) ≡ go_on (with_read rows id (loaded_rows id.table front)) (λ read. Ok (with_size read id.table size)))
-      by_held None finds fronted = tt
-      by_held (Some files) finds fronted = of_file (files (file_name_of id)) finds fronted.known
-
   -- the table was read
   pub reads-table : (old mid new : Tables) → Loads id front old mid → rows_of new ≡ with_size (rows_of mid) id.table size → IfSome held (λ files. with_table_file (rows_of old) id (files (file_name_of id)) ≡ Ok (rows_of new))
   reads-table old mid new loads sized =
       let has = loads-rows_at id.table id.stage front old mid loads in
       let loaded : go_on (with_read (rows_of old) id (loaded_rows id.table front)) (λ read. Ok (with_size read id.table size)) ≡ Ok (rows_of new) = rw (has.read, sized, has.becomes) refl in
-      if_known held (λ files gives. gives ∙ loaded) (file_gives (rows_of old))
+      if_known held (λ files gives. gives ∙ loaded) (file_gives held id size front (rows_of old) small found is)
 
   -- how a table that is refused ends the reading
   pub refuses-table : (rows : Rows) (why : TableStop) (answer : LoadStop) → Tells (loaded_rows id.table front) why → IsTableEnd (file_name_of id) why answer → IfSome held (λ files. TellsLoad (with_table_file rows id (files (file_name_of id))) answer)
-  refuses-table rows why answer tells ends = if_known held (λ files gives. rw gives (ends-reading rows id (loaded_rows id.table front) (λ read. Ok (with_size read id.table size)) why answer tells ends)) (file_gives rows)
+  refuses-table rows why answer tells ends = if_known held (λ files gives. rw gives (ends-reading rows id (loaded_rows id.table front) (λ read. Ok (with_size read id.table size)) why answer tells ends)) (file_gives held id size front rows small found is)

@@ -32,6 +32,7 @@ fn row_of(bytes: &[u8]) -> FootRow
 }
 
 /// The rows that the bytes are, one after the other.
+#[tactic(auto, using(crate::proofs::EventRowLemmas::rows_more, std::proofs::lemmas::List::take_rest), unfolding(crate::specs::EventRows::foot_rows_in))]
 fn rows_of(alloc: Global, bytes: &[u8]) -> Result<Vec<FootRow>, AllocError>
     ensures { IfOk result (λ rows. rows.items ≡ foot_rows_in (length bytes.now / 12) bytes.now) }
 {
@@ -44,6 +45,7 @@ fn rows_of(alloc: Global, bytes: &[u8]) -> Result<Vec<FootRow>, AllocError>
 }
 
 /// The place of an event in the footprint's file, which has its bytes; none where the index has no such event.
+#[tactic(auto, using(crate::proofs::EventRowLemmas::lies_within))]
 fn place_in_file(portfolio: &Portfolio, event: u32) -> Option<Place>
     requires footprint { is_loaded portfolio.now.need 0 table.Footprint ≡ true }
     requires index { is_loaded portfolio.now.need 0 table.FootprintIdx ≡ true }
