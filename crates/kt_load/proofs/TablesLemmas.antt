@@ -40,12 +40,7 @@ module _ (held : Option FileMap) (set : TableSet) (ids : List TableId) (at : ℕ
   pub carries-behind : at < length ids → is_in set (slice_index_or ids at d) ≡ false → Carries held set ids (drop (at + 1) ids) old now
   carries-behind below out = record {
     tells = λ new result told. (next below).tells new result (rw out told);
-    keeps = λ new keeps. (next below).keeps new (record {
-      in_range = keeps.in_range;
-      outside = keeps.outside;
-      periods = keeps.periods;
-      read_periods = All-cons (GivesPeriods set new) _ _ (λ number there. absurd (true≢false (sym there ∙ out))) keeps.read_periods;
-    });
+    keeps = λ new keeps. (next below).keeps new (assumption (All-cons (GivesPeriods set new) _ _ (λ number there. absurd (true≢false (sym there ∙ out))) keeps.read_periods));
   }
 
   -- the next table is read
@@ -68,7 +63,7 @@ module _ (held : Option FileMap) (set : TableSet) (ids : List TableId) (at : ℕ
 
   -- none is left
   pub keeps-all : length ids ≤ at → KeepsAll set ids old now
-  keeps-all past = (rw (drop_all at ids past) at before).keeps now (record { in_range = λ h. h; outside = λ h. h; periods = λ h. h; read_periods = All-nil (GivesPeriods set now) })
+  keeps-all past = (rw (drop_all at ids past) at before).keeps now (assumption (All-nil (GivesPeriods set now)))
 
   pub tells-all : length ids ≤ at → TellsTables held (filter (is_in set) ids) old now (Ok tt)
   unfolding with_table_files

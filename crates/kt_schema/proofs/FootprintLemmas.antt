@@ -88,11 +88,10 @@ module _ (records : List ℕ) (rows : List (List ℕ)) (entry : FootprintIdx) (a
   pub part-written : SlicesGiveSlices → (out after : List ℕ) → and_then (record_rows 2 (drop 1 (kinds_of Footprint)) (part_of records entry)) (λ part. Ok (out ++ lines_behind entry.event_id (drop 1 (kinds_of Footprint)) part)) ≡ Ok after
       → after ≡ out ++ rows_lines (kinds_of Footprint) (entry_rows rows entry)
   part-written law out after written =
-      let part : List (List ℕ) = take (record_number entry) (drop (first_record entry) rows) in
       let range = AreRows-take (drop 1 (kinds_of Footprint)) (drop (first_record entry) rows) (record_number entry) (AreRows-drop (drop 1 (kinds_of Footprint)) rows (first_record entry) are.in_range) in
-      let all = sym (ap (λ read. and_then read (λ part. Ok (out ++ lines_behind entry.event_id (drop 1 (kinds_of Footprint)) part))) (part-read law)) ∙ written in
-      let same : out ++ lines_behind entry.event_id (drop 1 (kinds_of Footprint)) part ≡ after = cc (all) in
-      sym same ∙ ap (λ lines. out ++ lines) (sym (event_lines entry.event_id part range))
+      let all = rw (part-read law) at written in
+      let same : after ≡ out ++ lines_behind entry.event_id (drop 1 (kinds_of Footprint)) (take (record_number entry) (drop (first_record entry) rows)) = cc (all) in
+      rw (same, event_lines entry.event_id _ range) refl
 
 -- what is right is refused for want of memory alone
 pub memory-alone : {A : Type 0} (read : Result A TableStop) (x : A) (why : TableStop) → read ≡ Ok x → Tells read why → why ≡ stop.OutOfMemory

@@ -38,11 +38,6 @@ pub index-first : (start : List ℕ) (all : List (List ℕ) → List (List ℕ))
 unfolding index_of
 index-first start all out rows row now more = rw (append_assoc rows (row ∷ []) more) (now (row ∷ more))
 
--- no row of the index
-pub index-none : (out : List ℕ) → out ≡ out ++ records_bytes (kinds_of FootprintIdx) (index_of [])
-unfolding records_bytes index_of
-index-none out = sym (append-nil out)
-
 -- the last row of the index
 pub index-last : (out next : List ℕ) (event offset size : ℕ) → next ≡ out ++ record_bytes (kinds_of FootprintIdx) (index_row event offset size) → next ≡ out ++ records_bytes (kinds_of FootprintIdx) (index_from event offset size [])
 unfolding records_bytes index_from
