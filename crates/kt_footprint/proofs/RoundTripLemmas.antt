@@ -1,14 +1,13 @@
 -- A footprint comes back from its file and its index.
-use Rattle.std.proofs.Common.{◌≡◌, ℕ, ◌+◌, ◌*◌, true, List, [], ◌∷◌, length, drop, Ok, refl, sym, ap, ◌∙◌, arith}
+use Rattle.std.proofs.Common.{◌≡◌, ℕ, ◌*◌, true, List, [], ◌∷◌, length, drop, Ok, refl, sym, ap, arith}
 use Rattle.std.specs.Prelude.{map}
 use Rattle.std.proofs.lemmas.List.{length-append, length-map}
 use Rattle.kt_rec.specs.declared.hazard.FootprintIdx.{FootprintIdx}
 use Rattle.kt_rec.specs.declared.table.Table.TheVariants.{Footprint}
 use Rattle.kt_cells.specs.Laws.{HeadersAreReadBack, RecordsAreReadBack, TextsAreInRange}
 use Rattle.kt_cells.specs.Ranges.{IsRow, AreRows}
-use Rattle.kt_cells.specs.Reading.{and_then}
-use Rattle.kt_cells.specs.Records.{record_bytes, record_rows, records_bytes}
-use Rattle.kt_schema.specs.Conversions.{bin, bin_rows, body_of, canon, footprint_bytes}
+use Rattle.kt_cells.specs.Records.{record_bytes, records_bytes}
+use Rattle.kt_schema.specs.Conversions.{bin, bin_rows, canon, footprint_bytes}
 use Rattle.kt_schema.specs.Footprint.{footprint_csv, indexed_rows}
 use Rattle.kt_schema.specs.Index.{event_of, index_of}
 use Rattle.kt_schema.specs.Rows.{footprint_idx_values}

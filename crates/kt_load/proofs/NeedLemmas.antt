@@ -1,5 +1,5 @@
 -- Loading begins with no rows, and reads the tables that are needed.
-use Rattle.std.proofs.Common.{◌≡◌, ◌⊎◌, ◌≤◌, List, refl, ap, subst, arith, Option, Some, None, Ok, Err, true, Bool}
+use Rattle.std.proofs.Common.{◌≡◌, List, refl, ap, subst, arith, Option, Ok, Err, true, Bool}
 use Rattle.std.proofs.lemmas.List.Elements.{All-nil, All-replicate}
 use Rattle.std.specs.Prelude.{All, IfSome, slice_index_or, nat_le, ◌==◌, ◌&&◌, ◌||◌}
 use Rattle.std.specs.List.{filter}

@@ -1,11 +1,10 @@
 -- How the reading of one table ends.
-use Rattle.std.proofs.Common.{◌≡◌, ◌≤◌, ℕ, List, Option, Some, None, Ok, Result, length, take, refl, arith, sym, subst, ◌∙◌}
+use Rattle.std.proofs.Common.{◌≡◌, ◌≤◌, ℕ, List, Option, Some, None, Ok, Result, length, take, refl, arith, ◌∙◌}
 use Rattle.std.specs.Prelude.{IfSome}
 use Rattle.std.proofs.lemmas.Bool.{le-ltb}
 use Rattle.kt_load.proofs.KnownLemmas.{if_known}
 use Rattle.kt_out.specs.NamedFiles.{FileMap}
 use Rattle.kt_out.specs.InputFiles.{FindsSize, IsSizeOf}
-use Rattle.kt_rec.specs.declared.table.Table.{Table}
 use Rattle.kt_rec.specs.declared.table.TableId.{TableId}
 use Rattle.kt_rec.specs.declared.tables.Tables.{Tables}
 use Rattle.kt_rec.specs.Rows.{Rows, rows_of}
@@ -15,7 +14,6 @@ use Rattle.kt_cells.specs.declared.stop.TableStop.{TableStop}
 use Rattle.kt_cells.specs.declared.stop.TableStop.TheVariants as stop
 use Rattle.kt_schema.specs.Loading.{Loads, loaded_rows}
 use Rattle.kt_load.specs.declared.stop.LoadStop.{LoadStop}
-use Rattle.kt_load.specs.declared.stop.LoadStop.TheVariants as end
 use Rattle.kt_load.specs.Ends.{IsFront, IsTableEnd, TellsLoad, bytes_wanted}
 use Rattle.kt_load.specs.FileNames.{file_name_of}
 use Rattle.kt_load.specs.Reading.{file_limit, go_on, with_read, with_size, with_table_file}

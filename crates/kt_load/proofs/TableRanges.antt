@@ -1,6 +1,6 @@
 -- The rows of each table are in range, and stay so with those of one more table.
-use Rattle.std.proofs.Common.{◌≡◌, ◌⊎◌, ℕ, List, length, refl, Ok, Err, arith, subst, Bool, true, false, inl, inr}
-use Rattle.std.specs.Prelude.{IfOk, nat_lt, not, ◌==◌, if◌then◌else◌, drop, Result}
+use Rattle.std.proofs.Common.{◌≡◌, ◌⊎◌, ℕ, List, Ok, arith, subst, inl, inr}
+use Rattle.std.specs.Prelude.{IfOk, drop}
 use Rattle.std.proofs.lemmas.Bool.Decides.{nat_tests}
 use Rattle.std.proofs.lemmas.List.Elements.{All-set}
 use Rattle.kt_rec.specs.Ranges.{AreInRange, AreFinancial, ArePeriods, IsId, IsPart, IsCoverage, IsDamageBin, IsFmPolicytc, IsFmProfile, IsFmProgramme, IsFmSummaryXref, IsFmXref, IsFootprintIdx, IsGulSummaryXref, IsItem, IsOccurrence, IsVulnerability}

@@ -1,5 +1,5 @@
 -- Reading table after table: what holds of the tables behind one holds of all.
-use Rattle.std.proofs.Common.{◌≡◌, ◌≤◌, ◌<◌, ◌+◌, ℕ, List, [], ◌∷◌, length, drop, drop-cons, add-one, Option, Some, None, Ok, Err, refl, ap, sym, ◌∙◌, true, false, inl, inr}
+use Rattle.std.proofs.Common.{◌≡◌, ◌≤◌, ◌<◌, ◌+◌, ℕ, List, ◌∷◌, length, drop, drop-cons, add-one, Option, Ok, Err, refl, ap, sym, ◌∙◌, true, false, inl, inr}
 use Rattle.std.specs.Prelude.{IfSome, Result, slice_index_or}
 use Rattle.std.specs.List.{filter}
 use Rattle.std.proofs.lemmas.Bool.{true≢false}

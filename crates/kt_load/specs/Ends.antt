@@ -1,6 +1,6 @@
 -- How reading the files of tables ends, and what it leaves of the inputs.
 -- The rules: docs/REFUSALS.md, "Order".
-use Rattle.std.specs.Prelude.{◌≡◌, ◌⊎◌, ◌+◌, ◌≤◌, ℕ, List, length, min, take, drop, Option, None, Some, Result, Ok, Err, IfSome, IsSomeAnd, MatchResult, ⊤}
+use Rattle.std.specs.Prelude.{◌≡◌, ◌+◌, ◌≤◌, ℕ, List, length, min, take, drop, Option, None, Some, Result, Ok, Err, IfSome, IsSomeAnd, MatchResult, ⊤}
 use Rattle.kt_out.specs.InputFiles.{InputsState, CountsFault, CountsMiss}
 use Rattle.kt_out.specs.NamedFiles.{FileMap}
 use Rattle.kt_rec.specs.declared.table.Table.{Table as TheTable}
@@ -8,11 +8,8 @@ use Rattle.kt_rec.specs.declared.table.Table.TheVariants as which
 use Rattle.kt_cells.specs.Header.{header_width}
 use Rattle.kt_cells.specs.declared.stop.TableStop.{TableStop}
 use Rattle.kt_cells.specs.declared.stop.TableStop.TheVariants as table
-use Rattle.kt_keys.specs.declared.need.CheckStop.{CheckStop}
-use Rattle.kt_keys.specs.declared.need.CheckStop.TheVariants as check
 use Rattle.kt_rec.specs.Rows.{Rows}
 use Rattle.kt_rec.specs.declared.table.TableId.{TableId}
-use Rattle.kt_load.specs.FileNames.{file_name_of}
 use Rattle.kt_load.specs.Reading.{with_table_files}
 use Rattle.kt_load.specs.declared.stop.LoadStop.{LoadStop}
 use Rattle.kt_load.specs.declared.stop.LoadStop.TheVariants.{Missing, TooLarge, Table, Check, ReadFault, OutOfMemory}

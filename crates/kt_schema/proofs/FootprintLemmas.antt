@@ -1,13 +1,10 @@
 -- The lines of the footprint, event by event.
-use Rattle.std.proofs.Common.{◌≡◌, ℕ, zero, suc, ◌+◌, ◌-◌, ◌*◌, ◌/◌, ◌<◌, List, [], ◌∷◌, ◌++◌, length, take, drop, get_or, refl, sym, ap, ◌∙◌, arith, append_assoc}
+use Rattle.std.proofs.Common.{◌≡◌, ℕ, zero, suc, ◌+◌, ◌-◌, ◌*◌, ◌/◌, ◌<◌, List, [], ◌∷◌, ◌++◌, length, take, drop, get_or, refl, ap, arith, append_assoc}
 use Rattle.std.specs.Prelude.{map, Result, Ok}
-use Rattle.std.proofs.lemmas.List.{append-nil}
 use Rattle.std.proofs.Math.Nat.{div-mul-le_self}
-use Rattle.std.proofs.Math.Seq.{drop-length}
 use Rattle.kt_rec.specs.declared.hazard.FootprintIdx.{FootprintIdx}
 use Rattle.kt_rec.specs.declared.table.Table.TheVariants.{Footprint}
 use Rattle.kt_cells.specs.Lines.{line, fields_behind, rows_lines, lines_behind}
-use Rattle.kt_cells.specs.Header.{header_extra}
 use Rattle.kt_cells.specs.Laws.{SlicesGiveSlices}
 use Rattle.kt_cells.specs.Ranges.{IsRow, AreRows}
 use Rattle.kt_cells.specs.Reading.{and_then}
@@ -18,8 +15,7 @@ use Rattle.kt_cells.specs.declared.stop.TableStop.TheVariants as stop
 use Rattle.kt_cells.specs.Texts.{row_texts}
 use Rattle.kt_cells.specs.declared.kind.Kind.{Kind}
 use Rattle.kt_money.specs.NumberText.{count_text}
-use Rattle.kt_schema.specs.Footprint.{footprint_csv, AreRecords, IsEntryOf, HasRecords, first_record, record_number, entry_rows, indexed_rows}
-use Rattle.kt_schema.specs.Conversions.{canon}
+use Rattle.kt_schema.specs.Footprint.{AreRecords, IsEntryOf, HasRecords, first_record, record_number, entry_rows, indexed_rows}
 use Rattle.kt_schema.specs.Index.{footprint_width}
 use Rattle.kt_schema.specs.Tables.{kinds_of}
 use Rattle.kt_schema.proofs.IndexLemmas.{drop-step}

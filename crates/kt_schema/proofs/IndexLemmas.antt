@@ -1,11 +1,11 @@
 -- How far the index of the footprint is written.
-use Rattle.std.proofs.Common.{◌≡◌, ℕ, ◌+◌, ◌<◌, true, false, List, [], ◌∷◌, ◌++◌, length, drop, get_or, refl, sym, ap, ◌∙◌, arith, append_assoc, add-one, drop-cons}
+use Rattle.std.proofs.Common.{◌≡◌, ℕ, ◌+◌, ◌<◌, true, false, List, [], ◌∷◌, ◌++◌, length, drop, get_or, arith, append_assoc, add-one, drop-cons}
 use Rattle.std.specs.Prelude.{◌==◌}
 use Rattle.std.proofs.lemmas.Bool.Decides.{nat_tests}
 use Rattle.std.proofs.lemmas.List.{append-nil}
 use Rattle.kt_cells.specs.Records.{record_bytes, records_bytes}
 use Rattle.kt_rec.specs.declared.table.Table.TheVariants.{FootprintIdx}
-use Rattle.kt_schema.specs.Index.{index_of, index_from, index_row, event_of, footprint_width}
+use Rattle.kt_schema.specs.Index.{index_of, index_from, index_row, event_of}
 use Rattle.kt_schema.specs.Tables.{kinds_of}
 
 -- an element in front of what is left behind it

@@ -1,5 +1,5 @@
 use Rattle.std.proofs.Common.{ℕ, List, ◌/◌, ◌≡◌, length, subst, sym, ◌∙◌}
-use Rattle.kt_load.specs.Ends.{HasPart, IsPart}
+use Rattle.kt_load.specs.Ends.{IsPart}
 use Rattle.kt_load.specs.EventRows.{foot_rows_in}
 use Rattle.kt_load.proofs.EventRowLemmas.{has_part, reads_rows}
 use Rattle.kt_load.proofs.event_rows.foot_rows.Goals as goal

@@ -1,7 +1,5 @@
-use Rattle.kt_out.specs.InputFiles.{InputsState, ReadsAt}
-use Rattle.kt_out.specs.declared.fault.Fault.{Fault}
 use Rattle.kt_load.proofs.ReadLemmas.{reads_more}
-use Rattle.std.proofs.Common.{arith, ◌+◌, ◌∙◌, subst, Ok, length, take, drop, ◌-◌}
+use Rattle.std.proofs.Common.{arith, ◌∙◌, length}
 use Rattle.kt_load.proofs.file.fill.Goals as goal
 
 -- src/file.rt:23:5

@@ -1,8 +1,5 @@
-use Rattle.std.proofs.Common.{subst, ap, arith, Ok}
-use Rattle.kt_cells.specs.Stops.{Tells}
-use Rattle.kt_out.specs.InputFiles.{FindsSize, InputsState}
+use Rattle.std.proofs.Common.{arith}
 use Rattle.kt_rec.specs.Rows.{rows_of}
-use Rattle.kt_schema.specs.Loading.{Loads, loaded_rows}
 use Rattle.kt_load.proofs.TableLemmas.{reads-table, keeps-table, refuses-table}
 use Rattle.kt_load.proofs.table.read_table.Goals as goal
 

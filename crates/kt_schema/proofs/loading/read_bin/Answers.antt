@@ -1,4 +1,4 @@
-use Rattle.std.proofs.Common.{ap, refl, get_or}
+use Rattle.std.proofs.Common.{ap, get_or}
 use Rattle.std.specs.Prelude.{Ok}
 use Rattle.kt_cells.specs.Reading.{and_then}
 use Rattle.kt_schema.proofs.loading.read_bin.Goals as goal
