@@ -48,7 +48,6 @@ fn rows_of(alloc: Global, bytes: &[u8]) -> Result<Vec<FootRow>, AllocError>
 #[tactic(auto, using(crate::proofs::EventRowLemmas::lies_within))]
 fn place_in_file(portfolio: &Portfolio, event: u32) -> Option<Place>
     requires footprint { is_loaded portfolio.now.need 0 table.Footprint ≡ true }
-    requires index { is_loaded portfolio.now.need 0 table.FootprintIdx ≡ true }
     ensures value { result ≡ place_in portfolio.now.rows event }
     ensures within { IfSome result (LiesWithin portfolio.now.rows.footprint_size) }
 {
