@@ -1,10 +1,10 @@
+mod KnownLemmas
 mod ReadLemmas
 mod TypedLemmas
 mod RangeLemmas
 mod TableRanges
 mod OutsideLemmas
 mod FrontLemmas
-mod HeaderLemmas
 mod TableLemmas
 mod TablesLemmas
 mod NeedLemmas

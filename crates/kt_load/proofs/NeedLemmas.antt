@@ -1,24 +1,28 @@
 -- Loading begins with no rows, and reads the tables that are needed.
-use Rattle.std.proofs.Common.{◌≡◌, ◌⊎◌, ◌≤◌, List, refl, ap, sym, ◌∙◌, Option, Some, None, Ok, true, false, Bool, inl, inr}
+use Rattle.std.proofs.Common.{◌≡◌, List, refl, ap, subst, arith, Option, Ok, Err, true, Bool}
 use Rattle.std.proofs.lemmas.List.Elements.{All-nil, All-replicate}
 use Rattle.std.specs.Prelude.{All, IfSome, slice_index_or, nat_le, ◌==◌, ◌&&◌, ◌||◌}
-use Rattle.std.specs.List.{filter, list_any}
-use Rattle.std.proofs.lemmas.Bool.{and_parts, eqb-true, leb-true}
+use Rattle.std.specs.List.{filter}
+use Rattle.std.proofs.lemmas.Bool.Decides.{nat_tests}
 use Rattle.std.proofs.lemmas.List.Sums.{AllPass-from_list_all}
-use Rattle.kt_rec.specs.Ranges.{AreInRange, AreFinancial, ArePeriods}
-use Rattle.kt_rec.specs.Rows.{Rows, no_rows, no_financial_rows}
+use Rattle.kt_rec.specs.Ranges.{AreInRange}
+use Rattle.kt_rec.specs.Rows.{Rows, no_rows}
 use Rattle.kt_rec.specs.TableNames.{IsTableId, number_of}
 use Rattle.kt_rec.specs.TableSet.{is_in}
 use Rattle.kt_rec.specs.declared.table.TableId.{TableId}
 use Rattle.kt_checks.specs.Checks.{first_refusal}
 use Rattle.kt_keys.specs.declared.need.Need.{Need}
 use Rattle.kt_out.specs.NamedFiles.{FileMap}
-use Rattle.kt_tables.specs.Portfolio.{PortfolioRows, HasPeriods}
+use Rattle.kt_tables.specs.Portfolio.{HasPeriods}
 use Rattle.kt_rec.specs.declared.table.Table.TheVariants as table
 use Rattle.kt_keys.specs.Refusals.{is_loaded}
 use Rattle.kt_load.specs.FileNames.{load_order, table_at}
-use Rattle.kt_load.specs.Steps.{has_periods}
-use Rattle.kt_load.specs.Loaded.{TellsLoaded, loaded, unless_refused}
+use Rattle.kt_load.specs.declared.stop.LoadStop.{LoadStop}
+use Rattle.kt_load.specs.Ends.{TellsLoad, TellsTables}
+use Rattle.kt_load.proofs.KnownLemmas.{if_known}
+use Rattle.kt_load.proofs.TablesLemmas.{tells_on}
+use Rattle.kt_load.specs.Steps.{GivesPeriods}
+use Rattle.kt_load.specs.Loaded.{loaded, needed, unless_refused}
 use Rattle.kt_load.specs.Reading.{with_table_files, go_on}
 
 -- a test for a table of the base, or a financial table of a stage
@@ -28,13 +32,7 @@ is_table id = nat_le id.stage 9 && ((id.stage == 0) || (nat_le 9 (number_of id.t
 -- a table that passes the test is one
 passes : (id : TableId) → is_table id ≡ true → IsTableId id
 unfolding is_table
-passes id pass =
-    let parts = and_parts (nat_le id.stage 9) _ pass in
-    record { stages = leb-true id.stage 9 parts.0; financial = either (id.stage == 0) refl parts.1 }
-  where
-    either : (base : Bool) → (id.stage == 0) ≡ base → (base || (nat_le 9 (number_of id.table) && nat_le (number_of id.table) 11)) ≡ true → (id.stage ≡ 0) ⊎ ((9 ≤ number_of id.table) × (number_of id.table ≤ 11))
-    either true is h = inl (eqb-true id.stage 0 is)
-    either false is h = let both = and_parts (nat_le 9 (number_of id.table)) _ h in inr (leb-true 9 (number_of id.table) both.0, leb-true (number_of id.table) 11 both.1)
+passes id pass = grind (arith, nat_tests)
 
 -- each table that is loaded is one
 pub each-is_table : All IsTableId load_order
@@ -43,33 +41,18 @@ each-is_table = λ k d below. passes (slice_index_or load_order k d) (AllPass-fr
 
 -- no rows are in range
 pub no_rows-in_range : AreInRange no_rows
-no_rows-in_range = record {
-  events = All-nil _;
-  items = All-nil _;
-  coverages = All-nil _;
-  footprint_idx = All-nil _;
-  vulnerability = All-nil _;
-  damage_bin_dict = All-nil _;
-  random = All-nil _;
-  fm_xref = All-nil _;
-  gulsummaryxref = All-nil _;
-  fmsummaryxref = All-nil _;
-  occurrence = All-nil _;
-  returnperiods = All-nil _;
-  financial = All-replicate AreFinancial 10 no_financial_rows (record { programme = All-nil _; policytc = All-nil _; profile = All-nil _ });
-}
+no_rows-in_range = search (All-nil, All-replicate)
 
 -- the number of periods is in range where the occurrences were read
-pub has_periods-from_all : (need : Need) (order : List TableId) (now : Rows) → order ≡ load_order → (list_any has_periods order ≡ true → is_in need.loaded (table_at 0 table.Occurrence) ≡ true → ArePeriods now.periods) → HasPeriods now need
+pub has_periods-from_all : (need : Need) (order : List TableId) (now : Rows) → order ≡ load_order → All (GivesPeriods need.loaded now) order → HasPeriods now need
 unfolding is_loaded
-has_periods-from_all need order now ordered read loaded = read (ap (list_any has_periods) ordered) loaded
+has_periods-from_all need order now ordered read loaded = subst (All (GivesPeriods need.loaded now)) ordered read 14 (table_at 0 table.Occurrence) (omega arith) refl loaded
 
--- what was read makes a portfolio where no check refuses it
-pub loads_portfolio : (held : Option FileMap) (need : Need) (order : List TableId) (empty now : Rows) (portfolio : PortfolioRows) → order ≡ load_order → empty ≡ no_rows → IfSome held (λ files. with_table_files files (filter (is_in need.loaded) order) empty ≡ Ok now) → first_refusal now need ≡ None → portfolio ≡ record { rows = now; need = need } → IfSome held (λ files. TellsLoaded (loaded files need) (Ok portfolio))
-loads_portfolio None need order empty now portfolio ordered none read valid is = tt
-loads_portfolio (Some files) need order empty now portfolio ordered none read valid is =
-    ap (λ o. go_on (with_table_files files (filter (is_in need.loaded) o) no_rows) (λ rows. unless_refused rows (first_refusal rows need))) (sym ordered)
-    ∙ ap (λ e. go_on (with_table_files files (filter (is_in need.loaded) order) e) (λ rows. unless_refused rows (first_refusal rows need))) (sym none)
-    ∙ ap (λ r. go_on r (λ rows. unless_refused rows (first_refusal rows need))) read
-    ∙ ap (unless_refused now) valid
-    ∙ ap (λ p. Ok p.rows) (sym is)
+module _ (held : Option FileMap) (need : Need) (order : List TableId) (empty : Rows) (ordered : order ≡ load_order) (none : empty ≡ no_rows) where
+  -- what was read is loaded where no check refuses it
+  pub read-loads : (now : Rows) → TellsTables held (filter (is_in need.loaded) order) empty now (Ok tt) → IfSome held (λ files. loaded files need ≡ unless_refused now (first_refusal now need))
+  read-loads now told = if_known held (λ files read. ap (λ r. go_on r (λ rows. unless_refused rows (first_refusal rows need))) read) (rw (ordered, none) at told)
+
+  -- what stops the reading stops the loading
+  pub stop-loads : (now : Rows) (stop : LoadStop) → TellsTables held (filter (is_in need.loaded) order) empty now (Err stop) → IfSome held (λ files. TellsLoad (loaded files need) stop)
+  stop-loads now stop told = if_known held (λ files tells. tells_on (with_table_files files (needed need) no_rows) (λ rows. unless_refused rows (first_refusal rows need)) stop tells) (rw (ordered, none) at told)

@@ -25,19 +25,15 @@ counted : (rows : Rows) (stage : ℕ) (t : Table) → count_in rows stage t ≡ 
 counted rows stage table.Events = refl
 counted rows stage t = refl
 
--- a list of financial rows stays where another list is changed, in the same stage or in another
-same_list : {A : Type 0} (field : FinancialRows → List A) (rows : Rows) (stage place : ℕ) (after : FinancialRows) → field after ≡ field (financial_at rows stage) → field (financial_at (with_financial rows stage after) place) ≡ field (financial_at rows place)
-same_list field rows stage place after is = sym (get_or-map field (slice_set rows.financial stage after) place no_financial_rows) ∙ ap (λ l. slice_index_or l place (field no_financial_rows)) (map-set_same field rows.financial stage after no_financial_rows is) ∙ get_or-map field rows.financial place no_financial_rows
-
--- and so do two lists where a third is changed
-same_lists : {A B : Type 0} (one : FinancialRows → List A) (other : FinancialRows → List B) (numbers : List A → List B → List ℕ) (rows : Rows) (stage place : ℕ) (after : FinancialRows) → one after ≡ one (financial_at rows stage) → other after ≡ other (financial_at rows stage) → numbers (one (financial_at (with_financial rows stage after) place)) (other (financial_at (with_financial rows stage after) place)) ≡ numbers (one (financial_at rows place)) (other (financial_at rows place))
-same_lists one other numbers rows stage place after is too = ap (λ l. numbers l (other (financial_at (with_financial rows stage after) place))) (same_list one rows stage place after is) ∙ ap (numbers (one (financial_at rows place))) (same_list other rows stage place after too)
+-- what is read of a list of financial rows stays where a change leaves it, in the same stage or in another
+same_read : {A : Type 0} (read : FinancialRows → A) (rows : Rows) (stage place : ℕ) (after : FinancialRows) → read after ≡ read (financial_at rows stage) → read (financial_at (with_financial rows stage after) place) ≡ read (financial_at rows place)
+same_read read rows stage place after is = sym (get_or-map read (slice_set rows.financial stage after) place no_financial_rows) ∙ ap (λ l. slice_index_or l place (read no_financial_rows)) (map-set_same read rows.financial stage after no_financial_rows is) ∙ get_or-map read rows.financial place no_financial_rows
 
 -- the rows of one table more change the count of that table alone
 one_changes : (t : Table) (rows : Rows) (stage place extra : ℕ) (values : List (List ℕ)) → counts (with_rows rows stage t extra values) (financial_at (with_rows rows stage t extra values) place) ≡ slice_set (counts rows (financial_at rows place)) (number_of t) (count_in (with_rows rows stage t extra values) place t)
-one_changes table.FmProgramme rows stage place extra values = same_lists (λ f. f.policytc) (λ f. f.profile) (λ policytc profile. counts rows (record (financial_at (with_rows rows stage table.FmProgramme extra values) place) { policytc = policytc; profile = profile })) rows stage place _ refl refl
-one_changes table.FmPolicytc rows stage place extra values = same_lists (λ f. f.programme) (λ f. f.profile) (λ programme profile. counts rows (record (financial_at (with_rows rows stage table.FmPolicytc extra values) place) { programme = programme; profile = profile })) rows stage place _ refl refl
-one_changes table.FmProfile rows stage place extra values = same_lists (λ f. f.programme) (λ f. f.policytc) (λ programme policytc. counts rows (record (financial_at (with_rows rows stage table.FmProfile extra values) place) { programme = programme; policytc = policytc })) rows stage place _ refl refl
+one_changes table.FmProgramme rows stage place extra values = same_read (λ f. slice_set (counts rows f) 9 (count_in (with_rows rows stage table.FmProgramme extra values) place table.FmProgramme)) rows stage place _ refl
+one_changes table.FmPolicytc rows stage place extra values = same_read (λ f. slice_set (counts rows f) 10 (count_in (with_rows rows stage table.FmPolicytc extra values) place table.FmPolicytc)) rows stage place _ refl
+one_changes table.FmProfile rows stage place extra values = same_read (λ f. slice_set (counts rows f) 11 (count_in (with_rows rows stage table.FmProfile extra values) place table.FmProfile)) rows stage place _ refl
 one_changes t rows stage place extra values = refl
 
 -- so a table of another number keeps its count

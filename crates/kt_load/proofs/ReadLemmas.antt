@@ -10,27 +10,17 @@ use Rattle.kt_out.specs.InputFiles.{ReadsAt, ReadsFrom, GivesFrom}
 use Rattle.kt_out.specs.declared.fault.Fault.{Fault}
 use Rattle.kt_load.specs.Ends.{HasRead}
 
--- the bytes of the room and of the file up to the next place
-reads_on : (bytes room part buffer : List ℕ) (at size n : ℕ) → at ≤ length room → n ≤ length buffer → take at room ≡ take at bytes → GivesFrom bytes at part buffer n → take (at + n) (put_mid at size room buffer) ≡ take (at + n) bytes
-reads_on bytes room part buffer at size n within few so_far gives =
+-- the bytes of the room and of the file from a place on, up to the next place
+reads_on : (bytes room part buffer : List ℕ) (from at size n : ℕ) → at ≤ length room → n ≤ length buffer → take at room ≡ take at (drop from bytes) → GivesFrom bytes (from + at) part buffer n → take (at + n) (put_mid at size room buffer) ≡ take (at + n) (drop from bytes)
+reads_on bytes room part buffer from at size n within few so_far gives =
     let front : length (take at room) ≡ at = length-take-le at room within in
-    let given : take n buffer ≡ take n (drop at bytes) = ap (take n) gives.filled_by ∙ take_at (take n (drop at bytes)) (drop n part) n (length-take-le n (drop at bytes) (omega (arith, length-drop at bytes, gives.was_there))) in
+    let behind : List ℕ = drop at (drop from bytes) in
+    let given : take n buffer ≡ take n behind = rw (gives.filled_by, drop-drop at from bytes) (take_at (take n (drop (from + at) bytes)) (drop n part) n (length-take-le n (drop (from + at) bytes) (omega (arith, gives.was_there, length-drop (from + at) bytes)))) in
     sym (take-take (at + n) (at + length buffer) (put_mid at size room buffer) (omega arith))
     ∙ ap (take (at + n)) (take-put_mid at size room buffer (at + length buffer) refl within)
     ∙ ap (λ m. take (m + n) (take at room ++ buffer)) (sym front)
     ∙ take-append-add (take at room) buffer n
-    ∙ ap (λ l. l ++ take n buffer) so_far
-    ∙ ap (λ l. take at bytes ++ l) given
-    ∙ sym (take-add at n bytes)
-
--- what is given from a place behind another is given from there of the bytes behind that
-gives_behind : (bytes part buffer : List ℕ) (from at n : ℕ) → GivesFrom bytes (from + at) part buffer n → GivesFrom (drop from bytes) at part buffer n
-gives_behind bytes part buffer from at n gives = record {
-  some = gives.some;
-  fits = gives.fits;
-  was_there = omega (arith, gives.was_there, length-drop from bytes);
-  filled_by = gives.filled_by ∙ ap (λ (behind : List ℕ). take n behind ++ drop n part) (sym (drop-drop at from bytes));
-}
+    ∙ rw (so_far, given, take-add) refl
 
 -- where files are known, the front of the room is that of the file from the place on once more was read
 read_part_of : (held : Option FileMap) (name room part buffer : List ℕ) (from at size n : ℕ) → at ≤ length room → n ≤ length buffer → IfSome held (λ files. IfSome (files name) (λ bytes. take at room ≡ take at (drop from bytes))) → ReadsAt {E = Fault} held name (from + at) part buffer (Ok n) → IfSome held (λ files. IfSome (files name) (λ bytes. take (at + n) (put_mid at size room buffer) ≡ take (at + n) (drop from bytes)))
@@ -39,7 +29,7 @@ read_part_of (Some files) name room part buffer from at size n within few so_far
   where
     of_file : (file : Option (List ℕ)) → IfSome file (λ bytes. take at room ≡ take at (drop from bytes)) → ReadsFrom {E = Fault} file (from + at) part buffer (Ok n) → IfSome file (λ bytes. take (at + n) (put_mid at size room buffer) ≡ take (at + n) (drop from bytes))
     of_file None same read = tt
-    of_file (Some bytes) same read = reads_on (drop from bytes) room part buffer at size n within few same (gives_behind bytes part buffer from at n read)
+    of_file (Some bytes) same read = reads_on bytes room part buffer from at size n within few same read
 
 -- what was read is there once more was read behind it
 pub reads_more : (held : Option FileMap) (name : List ℕ) (from : ℕ) (room buffer : List ℕ) (wanted at n : ℕ) → at < length room → HasRead held name from wanted at room → n ≤ length room - at → length buffer ≡ length room - at → (part : List ℕ) → ReadsAt {E = Fault} held name (from + at) part buffer (Ok n) → HasRead held name from wanted (at + n) (put_mid at (length room - at) room buffer)

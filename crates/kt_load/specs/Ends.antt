@@ -1,6 +1,6 @@
 -- How reading the files of tables ends, and what it leaves of the inputs.
 -- The rules: docs/REFUSALS.md, "Order".
-use Rattle.std.specs.Prelude.{◌≡◌, ◌⊎◌, ◌+◌, ◌≤◌, ℕ, List, length, min, take, drop, Option, None, Some, Result, Ok, Err, IfSome, IsSomeAnd, ⊤}
+use Rattle.std.specs.Prelude.{◌≡◌, ◌+◌, ◌≤◌, ℕ, List, length, min, take, drop, Option, None, Some, Result, Ok, Err, IfSome, IsSomeAnd, MatchResult, ⊤}
 use Rattle.kt_out.specs.InputFiles.{InputsState, CountsFault, CountsMiss}
 use Rattle.kt_out.specs.NamedFiles.{FileMap}
 use Rattle.kt_rec.specs.declared.table.Table.{Table as TheTable}
@@ -8,9 +8,9 @@ use Rattle.kt_rec.specs.declared.table.Table.TheVariants as which
 use Rattle.kt_cells.specs.Header.{header_width}
 use Rattle.kt_cells.specs.declared.stop.TableStop.{TableStop}
 use Rattle.kt_cells.specs.declared.stop.TableStop.TheVariants as table
-use Rattle.kt_keys.specs.declared.need.CheckStop.{CheckStop}
-use Rattle.kt_keys.specs.declared.need.CheckStop.TheVariants as check
-use Rattle.kt_load.specs.FileNames.{file_name_of}
+use Rattle.kt_rec.specs.Rows.{Rows}
+use Rattle.kt_rec.specs.declared.table.TableId.{TableId}
+use Rattle.kt_load.specs.Reading.{with_table_files}
 use Rattle.kt_load.specs.declared.stop.LoadStop.{LoadStop}
 use Rattle.kt_load.specs.declared.stop.LoadStop.TheVariants.{Missing, TooLarge, Table, Check, ReadFault, OutOfMemory}
 
@@ -54,11 +54,6 @@ IsTableEnd name (table.WrongVersion found) end = end ≡ Table name (table.Wrong
 IsTableEnd name (table.CutRecord row) end = end ≡ Table name (table.CutRecord row)
 IsTableEnd name (table.Bad row column cause) end = end ≡ Table name (table.Bad row column cause)
 
--- the stop for tables that a check refuses, or want of memory
-abbrev pub IsCheckEnd : CheckStop → LoadStop → Type 0
-IsCheckEnd check.OutOfMemory end = end ≡ OutOfMemory
-IsCheckEnd (check.Check number refused row) end = (end ≡ Check number (file_name_of refused) row) ⊎ (end ≡ OutOfMemory)
-
 -- what a stop tells of what was expected: nothing for a fault or want of memory, which may come at any files
 abbrev pub TellsLoad : {A : Type 0} → Result A LoadStop → LoadStop → Type 0
 TellsLoad expected ReadFault = ⊤
@@ -67,6 +62,10 @@ TellsLoad expected (Missing name) = expected ≡ Err (Missing name)
 TellsLoad expected (TooLarge name) = expected ≡ Err (TooLarge name)
 TellsLoad expected (Table name stop) = expected ≡ Err (Table name stop)
 TellsLoad expected (Check number name row) = expected ≡ Err (Check number name row)
+
+-- what a call that reads the files of some tables tells, where files are known: the rows with all of theirs, or why there are none
+abbrev pub TellsTables : Option FileMap → List TableId → Rows → Rows → Result Unit LoadStop → Type 0
+TellsTables held ids old new result = IfSome held (λ files. MatchResult result (λ _. with_table_files files ids old ≡ Ok new) (TellsLoad (with_table_files files ids old)))
 
 -- what a stop leaves of the inputs: a count rose exactly where the stop is the answer to it
 abbrev pub AfterStop : InputsState → InputsState → LoadStop → Type 0

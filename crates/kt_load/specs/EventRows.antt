@@ -1,6 +1,6 @@
 -- The footprint rows of one event, as they stand in the footprint's file.
 -- The rules: docs/TABLES.md, "Footprint rows of an event".
-use Rattle.std.specs.Prelude.{◌≡◌, ℕ, zero, suc, ◌/◌, List, [], ◌∷◌, length, drop, Option, Some, None, IsSomeAnd, ⊤}
+use Rattle.std.specs.Prelude.{◌≡◌, ◌+◌, ◌≤◌, ℕ, zero, suc, ◌/◌, List, [], ◌∷◌, length, drop, Option, Some, None, IsSomeAnd, ⊤}
 use Rattle.byteorder.specs.Endian.{little_number}
 use Rattle.kt_out.specs.NamedFiles.{FileMap}
 use Rattle.kt_rec.specs.Rows.{Rows}
@@ -36,3 +36,8 @@ event_rows rows bytes event = rows_at bytes (place_in rows event)
 abbrev pub HasFootprint : Option FileMap → ℕ → Type 0
 HasFootprint None size = ⊤
 HasFootprint (Some files) size = IsSomeAnd (files footprint_name) (λ bytes. length bytes ≡ size)
+
+-- the place of an event lies in a footprint's file of so many bytes
+pub record LiesWithin (size : ℕ) (place : Place) : Type 0 where
+  pub few : place.size ≤ 1200000
+  pub within : place.at + place.size ≤ size

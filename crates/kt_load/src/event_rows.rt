@@ -3,8 +3,9 @@
 ghost use Rattle.std.specs.Prelude.{◌≡◌, ◌≤◌, ◌*◌, ◌/◌, ◌%◌, true, length, Some, IfOk, IfSome, IfErr, MatchResult};
 ghost use Rattle.kt_keys.specs.Refusals.{is_loaded};
 ghost use Rattle.kt_load.specs.Ends.{IsReadStop};
-ghost use Rattle.kt_load.specs.EventRows.{HasFootprint, event_rows, foot_row, foot_rows_in, footprint_name};
+ghost use Rattle.kt_load.specs.EventRows.{HasFootprint, LiesWithin, event_rows, foot_row, foot_rows_in, footprint_name};
 ghost use Rattle.kt_rec.specs.declared.table.Table.TheVariants as table;
+ghost use Rattle.kt_tables.specs.Lookups.{place_in};
 
 use crate::file::read_part;
 use crate::naming::file_name;
@@ -12,7 +13,7 @@ use crate::stop::LoadStop;
 use byteorder::{ByteOrder, LittleEndian};
 use kt_out::Inputs;
 use kt_rec::{FootRow, Table, TableId};
-use kt_tables::Portfolio;
+use kt_tables::{Place, Portfolio};
 use std::alloc::{AllocError, Global};
 
 /// The size of a footprint row in its file, in bytes.
@@ -31,6 +32,7 @@ fn row_of(bytes: &[u8]) -> FootRow
 }
 
 /// The rows that the bytes are, one after the other.
+#[tactic(auto, using(crate::proofs::EventRowLemmas::rows_more, std::proofs::lemmas::List::take_rest), unfolding(crate::specs::EventRows::foot_rows_in))]
 fn rows_of(alloc: Global, bytes: &[u8]) -> Result<Vec<FootRow>, AllocError>
     ensures { IfOk result (λ rows. rows.items ≡ foot_rows_in (length bytes.now / 12) bytes.now) }
 {
@@ -40,6 +42,17 @@ fn rows_of(alloc: Global, bytes: &[u8]) -> Result<Vec<FootRow>, AllocError>
         rows.push_reserved(row_of(&bytes[ROW * i..]));
     }
     Ok(rows)
+}
+
+/// The place of an event in the footprint's file, which has its bytes; none where the index has no such event.
+#[tactic(auto, using(crate::proofs::EventRowLemmas::lies_within))]
+fn place_in_file(portfolio: &Portfolio, event: u32) -> Option<Place>
+    requires footprint { is_loaded portfolio.now.need 0 table.Footprint ≡ true }
+    ensures value { result ≡ place_in portfolio.now.rows event }
+    ensures within { IfSome result (LiesWithin portfolio.now.rows.footprint_size) }
+{
+    portfolio.is_valid();
+    portfolio.place_of(event)
 }
 
 /// The footprint rows of an event, as they stand in the footprint's file; none where the index has no such event. The
@@ -58,8 +71,7 @@ pub fn foot_rows<I: Inputs>(
 
     ensures inputs { MatchResult result (λ _. I.state inputs.new ≡ I.state inputs.old) (IsReadStop (I.state inputs.old) (I.state inputs.new)) }
 {
-    portfolio.is_valid();
-    let Some(place) = portfolio.place_of(event) else {
+    let Some(place) = place_in_file(portfolio, event) else {
         return Ok(Vec::new(alloc));
     };
     let footprint = TableId {

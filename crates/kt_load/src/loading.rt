@@ -1,10 +1,14 @@
 //! Loads the tables that a command needs, and makes their checks.
 //! The rules: docs/REFUSALS.md, "Order".
-ghost use Rattle.std.specs.Prelude.{◌≡◌, IfOk, IfErr, IfSome, All};
+ghost use Rattle.std.specs.Prelude.{◌≡◌, ◌⊎◌, Option, IfOk, Err, IfSome, All};
+ghost use Rattle.kt_out.specs.InputFiles.{InputsState};
+ghost use Rattle.kt_checks.specs.Checks.{answer_of};
+ghost use Rattle.kt_keys.specs.declared.need.Refusal.{Refusal};
+ghost use Rattle.kt_rec.specs.Rows.{Rows};
 ghost use Rattle.kt_rec.specs.TableNames.{IsTableId};
-ghost use Rattle.kt_load.specs.Ends.{AfterLoad, IsCheckEnd};
+ghost use Rattle.kt_load.specs.Ends.{AfterLoad, AfterStop, TellsLoad};
 ghost use Rattle.kt_load.specs.FileNames.{load_order as order_of_loading};
-ghost use Rattle.kt_load.specs.Loaded.{TellsLoaded, loaded};
+ghost use Rattle.kt_load.specs.Loaded.{TellsLoaded, loaded, unless_refused};
 
 use crate::naming::file_name;
 use crate::stop::LoadStop;
@@ -78,7 +82,8 @@ pub fn load_order() -> [TableId; 43]
 impl LoadStop {
     /// The stop for tables that a check refuses.
     fn of_check(alloc: Global, stop: CheckStop) -> LoadStop
-        ensures { IsCheckEnd stop result }
+        ensures tells { (rows : Rows) (refused : Option Refusal) → (Err stop ≡ answer_of refused) ⊎ (stop ≡ CheckStop.OutOfMemory) → TellsLoad (unless_refused rows refused) result }
+        ensures inputs { (before after : InputsState) → after ≡ before → AfterStop before after result }
     {
         match stop {
             CheckStop::OutOfMemory => LoadStop::OutOfMemory,

@@ -1,18 +1,16 @@
 //! Reads the files of tables, one after the other.
 //! The rules: docs/REFUSALS.md, "Order".
 ghost use Rattle.std.specs.Prelude.{◌≡◌, ◌≤◌, true, IfErr, IfSome, OnOk, Ok, All};
-ghost use Rattle.std.specs.List.{filter, list_any};
+ghost use Rattle.std.specs.List.{filter};
 ghost use Rattle.kt_rec.specs.Rows.{rows_of};
 ghost use Rattle.kt_rec.specs.TableNames.{IsTableId};
 ghost use Rattle.kt_rec.specs.TableSet.{is_in};
-ghost use Rattle.kt_load.specs.Ends.{TellsLoad, AfterLoad};
-ghost use Rattle.kt_load.specs.FileNames.{file_name_of, table_at};
-ghost use Rattle.kt_load.specs.Reading.{with_table_file, with_table_files};
+ghost use Rattle.kt_load.specs.Ends.{TellsLoad, TellsTables, AfterLoad};
+ghost use Rattle.kt_load.specs.FileNames.{file_name_of};
+ghost use Rattle.kt_load.specs.Reading.{with_table_file};
 ghost use Rattle.kt_load.specs.Reading.{file_limit, with_size};
 ghost use Rattle.kt_load.specs.Ends.{bytes_wanted};
-ghost use Rattle.kt_rec.specs.Ranges.{AreInRange, ArePeriods};
-ghost use Rattle.kt_rec.specs.declared.table.Table.TheVariants as table;
-ghost use Rattle.kt_load.specs.Steps.{KeepsRows, NoneOutside, has_periods};
+ghost use Rattle.kt_load.specs.Steps.{KeepsRows, KeepsAll};
 
 use crate::file::read_front;
 use crate::naming::file_name;
@@ -92,21 +90,18 @@ pub(crate) fn read_tables<I: Inputs>(
     tables: &mut Tables,
 ) -> Result<(), LoadStop>
     requires { All IsTableId ids.now }
-    ensures ok { OnOk result (IfSome (I.state inputs.old).held (λ files. with_table_files files (filter (is_in set.now) ids.now) (rows_of tables.old) ≡ Ok (rows_of tables.new))) }
-    ensures in_range { OnOk result (AreInRange (rows_of tables.old) → AreInRange (rows_of tables.new)) }
-    ensures periods { OnOk result (list_any has_periods ids.now ≡ true → is_in set.now (table_at 0 table.Occurrence) ≡ true → ArePeriods (rows_of tables.new).periods) }
-    ensures outside { OnOk result (NoneOutside set.now (rows_of tables.old) → NoneOutside set.now (rows_of tables.new)) }
-
-    ensures refused { IfErr result (λ stop. IfSome (I.state inputs.old).held (λ files. TellsLoad (with_table_files files (filter (is_in set.now) ids.now) (rows_of tables.old)) stop)) }
+    ensures tells { TellsTables (I.state inputs.old).held (filter (is_in set.now) ids.now) (rows_of tables.old) (rows_of tables.new) result }
+    ensures keeps { OnOk result (KeepsAll set.now ids.now (rows_of tables.old) (rows_of tables.new)) }
 
     ensures inputs { AfterLoad (I.state inputs.old) (I.state inputs.new) result }
 {
     for id in ids {
-        if set.has(*id) {
-            match read_table(alloc, inputs, *id, tables) {
-                Ok(()) => {}
-                Err(stop) => return Err(stop),
-            }
+        if !set.has(*id) {
+            continue;
+        }
+        match read_table(alloc, inputs, *id, tables) {
+            Ok(()) => {}
+            Err(stop) => return Err(stop),
         }
     }
     Ok(())

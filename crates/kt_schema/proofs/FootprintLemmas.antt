@@ -1,13 +1,10 @@
 -- The lines of the footprint, event by event.
-use Rattle.std.proofs.Common.{◌≡◌, ℕ, zero, suc, ◌+◌, ◌-◌, ◌*◌, ◌/◌, ◌<◌, List, [], ◌∷◌, ◌++◌, length, take, drop, get_or, refl, sym, ap, ◌∙◌, arith, append_assoc}
+use Rattle.std.proofs.Common.{◌≡◌, ℕ, zero, suc, ◌+◌, ◌-◌, ◌*◌, ◌/◌, ◌<◌, List, [], ◌∷◌, ◌++◌, length, take, drop, get_or, refl, ap, arith, append_assoc}
 use Rattle.std.specs.Prelude.{map, Result, Ok}
-use Rattle.std.proofs.lemmas.List.{append-nil}
 use Rattle.std.proofs.Math.Nat.{div-mul-le_self}
-use Rattle.std.proofs.Math.Seq.{drop-length}
 use Rattle.kt_rec.specs.declared.hazard.FootprintIdx.{FootprintIdx}
 use Rattle.kt_rec.specs.declared.table.Table.TheVariants.{Footprint}
 use Rattle.kt_cells.specs.Lines.{line, fields_behind, rows_lines, lines_behind}
-use Rattle.kt_cells.specs.Header.{header_extra}
 use Rattle.kt_cells.specs.Laws.{SlicesGiveSlices}
 use Rattle.kt_cells.specs.Ranges.{IsRow, AreRows}
 use Rattle.kt_cells.specs.Reading.{and_then}
@@ -18,8 +15,7 @@ use Rattle.kt_cells.specs.declared.stop.TableStop.TheVariants as stop
 use Rattle.kt_cells.specs.Texts.{row_texts}
 use Rattle.kt_cells.specs.declared.kind.Kind.{Kind}
 use Rattle.kt_money.specs.NumberText.{count_text}
-use Rattle.kt_schema.specs.Footprint.{footprint_csv, AreRecords, IsEntryOf, HasRecords, first_record, record_number, entry_rows, indexed_rows}
-use Rattle.kt_schema.specs.Conversions.{canon}
+use Rattle.kt_schema.specs.Footprint.{AreRecords, IsEntryOf, HasRecords, first_record, record_number, entry_rows, indexed_rows}
 use Rattle.kt_schema.specs.Index.{footprint_width}
 use Rattle.kt_schema.specs.Tables.{kinds_of}
 use Rattle.kt_schema.proofs.IndexLemmas.{drop-step}
@@ -51,8 +47,7 @@ AreRows-take kinds (row ∷ rows) (suc count) range = (range.0, AreRows-take kin
 rows_lines-append : (kinds : List Kind) (xs ys : List (List ℕ)) → rows_lines kinds (xs ++ ys) ≡ rows_lines kinds xs ++ rows_lines kinds ys
 unfolding rows_lines
 rows_lines-append kinds [] ys = refl
-rows_lines-append kinds (row ∷ xs) ys =
-    ap (λ more. line (row_texts 0 kinds row) ++ more) (rows_lines-append kinds xs ys) ∙ sym (append_assoc (line (row_texts 0 kinds row)) (rows_lines kinds xs) (rows_lines kinds ys))
+rows_lines-append kinds (row ∷ xs) ys = rw (rows_lines-append kinds xs ys, append_assoc) refl
 
 -- an event more of the index
 pub indexed-more : (start out more : List ℕ) (rows : List (List ℕ)) (index : List FootprintIdx) (done : ℕ) (d : FootprintIdx) → done < length index
@@ -62,21 +57,7 @@ pub indexed-more : (start out more : List ℕ) (rows : List (List ℕ)) (index :
 unfolding indexed_rows
 indexed-more start out more rows index done d within now written =
     let step : drop done index ≡ get_or index done d ∷ drop (done + 1) index = drop-step index done d within in
-    let rest : List (List ℕ) = indexed_rows rows (drop (done + 1) index) in
-    let split : rows_lines (kinds_of Footprint) (indexed_rows rows (drop done index)) ≡ rows_lines (kinds_of Footprint) (entry_rows rows (get_or index done d)) ++ rows_lines (kinds_of Footprint) rest =
-    ap (λ left. rows_lines (kinds_of Footprint) (indexed_rows rows left)) step ∙ rows_lines-append (kinds_of Footprint) (entry_rows rows (get_or index done d)) rest in
-    ap (λ text. text ++ rows_lines (kinds_of Footprint) rest) written
-    ∙ append_assoc out (rows_lines (kinds_of Footprint) (entry_rows rows (get_or index done d))) (rows_lines (kinds_of Footprint) rest)
-    ∙ ap (λ text. out ++ text) (sym split) ∙ now
-
--- no event is left
-pub indexed-end : (start out : List ℕ) (rows : List (List ℕ)) (index : List FootprintIdx)
-    → out ++ rows_lines (kinds_of Footprint) (indexed_rows rows (drop (length index) index)) ≡ start ++ rows_lines (kinds_of Footprint) (indexed_rows rows index)
-    → out ≡ start ++ rows_lines (kinds_of Footprint) (indexed_rows rows index)
-unfolding indexed_rows rows_lines
-indexed-end start out rows index now =
-    let none : drop (length index) index ≡ [] = drop-length index in
-    sym (append-nil out) ∙ ap (λ left. out ++ rows_lines (kinds_of Footprint) (indexed_rows rows left)) (sym none) ∙ now
+    rw (written, append_assoc) (rw (step, rows_lines-append) at now)
 
 -- the records of an entry are among those of the file
 pub entry-within : (bytes rows : ℕ) (entry : FootprintIdx) → IsEntryOf bytes entry → rows ≡ (bytes - 16) / 12 → HasRecords rows entry
@@ -103,26 +84,12 @@ module _ (records : List ℕ) (rows : List (List ℕ)) (entry : FootprintIdx) (a
   pub part-written : SlicesGiveSlices → (out after : List ℕ) → and_then (record_rows 2 (drop 1 (kinds_of Footprint)) (part_of records entry)) (λ part. Ok (out ++ lines_behind entry.event_id (drop 1 (kinds_of Footprint)) part)) ≡ Ok after
       → after ≡ out ++ rows_lines (kinds_of Footprint) (entry_rows rows entry)
   part-written law out after written =
-      let part : List (List ℕ) = take (record_number entry) (drop (first_record entry) rows) in
       let range = AreRows-take (drop 1 (kinds_of Footprint)) (drop (first_record entry) rows) (record_number entry) (AreRows-drop (drop 1 (kinds_of Footprint)) rows (first_record entry) are.in_range) in
-      let all = sym (ap (λ read. and_then read (λ part. Ok (out ++ lines_behind entry.event_id (drop 1 (kinds_of Footprint)) part))) (part-read law)) ∙ written in
-      let same : out ++ lines_behind entry.event_id (drop 1 (kinds_of Footprint)) part ≡ after = cc (all) in
-      sym same ∙ ap (λ lines. out ++ lines) (sym (event_lines entry.event_id part range))
+      let all = rw (part-read law) at written in
+      let same : after ≡ out ++ lines_behind entry.event_id (drop 1 (kinds_of Footprint)) (take (record_number entry) (drop (first_record entry) rows)) = cc (all) in
+      rw (same, event_lines entry.event_id _ range) refl
 
 -- what is right is refused for want of memory alone
 pub memory-alone : {A : Type 0} (read : Result A TableStop) (x : A) (why : TableStop) → read ≡ Ok x → Tells read why → why ≡ stop.OutOfMemory
 memory-alone read x stop.OutOfMemory good told = refl
-memory-alone read x stop.NotProfile good told = absurd (cc)
-memory-alone read x (stop.WrongTable found) good told = absurd (cc)
-memory-alone read x (stop.WrongVersion found) good told = absurd (cc)
-memory-alone read x (stop.CutRecord row) good told = absurd (cc)
-memory-alone read x (stop.Bad row column cause) good told = absurd (cc)
-
--- the text of a footprint whose records are read
-pub text-made : (bytes : List ℕ) (index : List FootprintIdx) (extra : ℕ) (rows : List (List ℕ)) (out : List ℕ) → header_extra 4 0 0 bytes ≡ Ok extra → record_rows 2 (drop 1 (kinds_of Footprint)) (drop 16 bytes) ≡ Ok rows
-    → out ≡ canon Footprint (indexed_rows rows index) → footprint_csv bytes index ≡ Ok out
-text-made bytes index extra rows out header read text =
-    let text_of : Result (ℕ × List (List ℕ)) TableStop → Result (List ℕ) TableStop = λ found. and_then found (λ file. Ok (canon Footprint (indexed_rows file.1 index))) in
-    let behind : Result ℕ TableStop → Result (ℕ × List (List ℕ)) TableStop = λ found. and_then found (λ extra. and_then (record_rows 2 (drop 1 (kinds_of Footprint)) (drop 16 bytes)) (λ rows. Ok (extra, rows))) in
-    let beside : Result (List (List ℕ)) TableStop → Result (ℕ × List (List ℕ)) TableStop = λ found. and_then found (λ rows. Ok (extra, rows)) in
-    ap (λ found. text_of (behind found)) header ∙ ap (λ found. text_of (beside found)) read ∙ ap Ok (sym text)
+memory-alone read x why good told = absurd (cc)

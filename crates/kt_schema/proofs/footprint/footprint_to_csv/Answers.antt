@@ -1,4 +1,4 @@
-use Rattle.std.proofs.Common.{◌≡◌, ◌/◌, ◌++◌, ◌∙◌, ap, sym, drop, length, length-drop}
+use Rattle.std.proofs.Common.{◌≡◌, ◌/◌, ◌++◌, ◌∙◌, ap, refl, sym, drop, length, length-drop}
 use Rattle.std.specs.Prelude.{Ok, slice_index_or}
 use Rattle.kt_rec.specs.declared.table.Table.TheVariants.{Footprint}
 use Rattle.kt_cells.specs.Header.{header_extra}
@@ -7,7 +7,7 @@ use Rattle.kt_cells.specs.Records.{record_rows, record_width}
 use Rattle.kt_schema.specs.Conversions.{canon}
 use Rattle.kt_schema.specs.Footprint.{indexed_rows}
 use Rattle.kt_schema.specs.Tables.{kinds_of}
-use Rattle.kt_schema.proofs.FootprintLemmas.{entry-within, records-are, text-made}
+use Rattle.kt_schema.proofs.FootprintLemmas.{entry-within, records-are}
 use Rattle.kt_schema.proofs.footprint.footprint_to_csv.Goals as goal
 
 pub push_events-requires : goal.push_events-requires
@@ -36,4 +36,4 @@ returns-clause-value c =
     let text : c.push_events.new.out ≡ canon Footprint (indexed_rows rows c.args.index.now) =
     c.in_ok-push_events.ensures.ok rows are
     ∙ ap (λ out. out ++ rows_lines (kinds_of Footprint) (indexed_rows rows c.args.index.now)) (c.in_ok-append.ensures.ok ∙ ap (λ start. start ++ c.heading.result.now) c.new-out.ensures.value ∙ c.heading.ensures) in
-    text-made c.args.bytes.now c.args.index.now c.in_ok-_extra._extra rows c.push_events.new.out header read text
+    rw (header, read, text) refl
