@@ -17,47 +17,19 @@ use Rattle.kt_cells.specs.declared.stop.Cause.{Cause}
 use Rattle.kt_cells.specs.declared.stop.Cause.TheVariants as cause
 use Rattle.kt_cells.proofs.RangeLemmas.{ReadsInRange, ReadsBack}
 
--- a value that is below the least or above the most is refused
-refused_by : (b : Bool) (cause : Cause) (rest : Result ℕ Cause) (x : ℕ) → (if b then Err cause else rest) ≡ Ok x → (b ≡ false) × (rest ≡ Ok x)
-refused_by true cause rest x good = absurd (cc)
-refused_by false cause rest x good = (refl, good)
-
 -- a value within bounds is the value
 within-ok : (least most value x : ℕ) → within least most value ≡ Ok x → (value ≡ x) × (x ≤ most)
-within-ok least most value x good =
-    let low = refused_by (nat_lt value least) cause.Zero _ x good in
-    let high = refused_by (nat_lt most value) cause.TooLarge (Ok value) x low.1 in
-    let same : value ≡ x = cc (high.1) in
-    let at_most : value ≤ most = grind (arith, nat_tests, high.0) in
-    (same, omega (arith, same, at_most))
+within-ok least most value x good = (grind (arith, nat_tests), grind (arith, nat_tests))
 
--- a rule is the value
-rule_by : (b : Bool) (value x : ℕ) → (if b then Ok value else Err cause.Rule) ≡ Ok x → (b ≡ true) × (value ≡ x)
-rule_by true value x good = (refl, cc)
-rule_by false value x good = absurd (cc)
-
+-- and so is a rule
 known_rule-ok : (value x : ℕ) → known_rule value ≡ Ok x → (value ≡ x) × (x ≤ 100)
-known_rule-ok value x good =
-    let known = rule_by (is_rule value) value x good in
-    let at_most : value ≤ 100 = grind (arith, nat_tests, known.0) in
-    (known.1, omega (arith, known.1, at_most))
+known_rule-ok value x good = (grind (arith, nat_tests), grind (arith, nat_tests))
 
 -- a value in range is the value, and not above the greatest
 pub in_range-ok : (k : Kind) (value x : ℕ) → in_range k value ≡ Ok x → (value ≡ x) × (x ≤ highest k)
 unfolding in_range
 in_range-ok kind.Rule value x good = known_rule-ok value x good
-in_range-ok kind.Id value x good = within-ok _ _ value x good
-in_range-ok kind.Count value x good = within-ok _ _ value x good
-in_range-ok kind.IntensityBin value x good = within-ok _ _ value x good
-in_range-ok kind.DamageBin value x good = within-ok _ _ value x good
-in_range-ok kind.Level value x good = within-ok _ _ value x good
-in_range-ok kind.Layer value x good = within-ok _ _ value x good
-in_range-ok kind.SummarySet value x good = within-ok _ _ value x good
-in_range-ok kind.Offset value x good = within-ok _ _ value x good
-in_range-ok kind.Tiv value x good = within-ok _ _ value x good
-in_range-ok kind.Amount value x good = within-ok _ _ value x good
-in_range-ok (kind.Term t) value x good = within-ok _ _ value x good
-in_range-ok kind.Ppm value x good = within-ok _ _ value x good
+in_range-ok k value x good = within-ok _ _ value x good
 
 -- the value of a field is in range
 pub field_value-range : ReadsInRange field_value
@@ -87,19 +59,11 @@ pub record KindFacts (rule : ℕ) (k : Kind) : Type 0 where
   pub scale : (decimals k ≡ 0) ⊎ ((decimals k ≡ 2) ⊎ (decimals k ≡ 6))
 
 pub kind-facts : (rule : ℕ) (k : Kind) → KindFacts rule k
-kind-facts rule kind.Rule = record { fits = omega arith; most = omega arith; narrow = omega arith; wide = omega arith; scale = inl refl }
-kind-facts rule kind.Id = record { fits = omega arith; most = omega arith; narrow = omega arith; wide = omega arith; scale = inl refl }
-kind-facts rule kind.Count = record { fits = omega arith; most = omega arith; narrow = omega arith; wide = omega arith; scale = inl refl }
-kind-facts rule kind.IntensityBin = record { fits = omega arith; most = omega arith; narrow = omega arith; wide = omega arith; scale = inl refl }
-kind-facts rule kind.DamageBin = record { fits = omega arith; most = omega arith; narrow = omega arith; wide = omega arith; scale = inl refl }
-kind-facts rule kind.Level = record { fits = omega arith; most = omega arith; narrow = omega arith; wide = omega arith; scale = inl refl }
-kind-facts rule kind.Layer = record { fits = omega arith; most = omega arith; narrow = omega arith; wide = omega arith; scale = inl refl }
-kind-facts rule kind.SummarySet = record { fits = omega arith; most = omega arith; narrow = omega arith; wide = omega arith; scale = inl refl }
-kind-facts rule kind.Offset = record { fits = omega arith; most = omega arith; narrow = omega arith; wide = omega arith; scale = inl refl }
 kind-facts rule kind.Tiv = record { fits = omega arith; most = omega arith; narrow = omega arith; wide = omega arith; scale = inr (inl refl) }
 kind-facts rule kind.Amount = record { fits = omega arith; most = omega arith; narrow = omega arith; wide = omega arith; scale = inr (inl refl) }
 kind-facts rule (kind.Term t) = record { fits = term-fits (is_ppm t rule); most = omega arith; narrow = omega arith; wide = omega arith; scale = inr (inl refl) }
 kind-facts rule kind.Ppm = record { fits = omega arith; most = omega arith; narrow = omega arith; wide = omega arith; scale = inr (inr refl) }
+kind-facts rule k = record { fits = omega arith; most = omega arith; narrow = omega arith; wide = omega arith; scale = inl refl }
 
 -- the bytes of a value are read back
 pub numbers-read_back : ReadsBack field_value (λ rule k value. little_bytes (width k) value)
