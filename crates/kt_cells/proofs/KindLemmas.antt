@@ -15,7 +15,7 @@ use Rattle.kt_cells.specs.declared.kind.Kind.{Kind}
 use Rattle.kt_cells.specs.declared.kind.Kind.TheVariants as kind
 use Rattle.kt_cells.specs.declared.stop.Cause.{Cause}
 use Rattle.kt_cells.specs.declared.stop.Cause.TheVariants as cause
-use Rattle.kt_cells.proofs.RangeLemmas.{ReadsInRange, ReadsBack}
+use Rattle.kt_cells.proofs.RangeLemmas.{ReadsInRange}
 
 -- a value within bounds is the value
 within-ok : (least most value x : ℕ) → within least most value ≡ Ok x → (value ≡ x) × (x ≤ most)
@@ -66,27 +66,13 @@ kind-facts rule kind.Ppm = record { fits = omega arith; most = omega arith; narr
 kind-facts rule k = record { fits = omega arith; most = omega arith; narrow = omega arith; wide = omega arith; scale = inl refl }
 
 -- the bytes of a value are read back
-pub numbers-read_back : ReadsBack field_value (λ rule k value. little_bytes (width k) value)
-numbers-read_back rule k value range =
+pub number-read_back : (rule : ℕ) (k : Kind) (value : ℕ) → in_range (under rule k) value ≡ Ok value → field_value (under rule k) (little_bytes (width k) value) ≡ Ok value
+number-read_back rule k value range =
     let small : value < 256 ^ width k = omega (arith, (in_range-ok (under rule k) value value range).1, (kind-facts rule k).fits) in
     let long : length (little_bytes (width k) value) ≡ width k = length-bytes_low_first 0 (width k) value in
     let back : little_number (width k) (little_bytes (width k) value) ≡ value =
     ap (little_number (width k)) (sym (append-nil (little_bytes (width k) value))) ∙ little_number-reads_back (width k) value [] small in
     ap (λ n. in_range (under rule k) (little_number n (little_bytes (width k) value))) long ∙ ap (in_range (under rule k)) back ∙ range
-
--- a count, or an amount in its decimals, is read back
-number_in-text : CountsAreReadBack → AmountsAreReadBack → (k : Kind) (value : ℕ) → value ≤ 10 ^ 17 → number_in (decimals k) (value_text k value) ≡ Ok value
-number_in-text counts amounts k value small = elim (kind-facts 0 k).scale [
-  | inl none ↦ rw none (counts value (omega arith))
-  | inr some ↦ elim some [ inl two ↦ rw two (amounts 2 value (inl refl) small) | inr six ↦ rw six (amounts 6 value (inr refl) small) ]
-]
-
--- the text of a value is read back
-pub texts-read_back : CountsAreReadBack → AmountsAreReadBack → ReadsBack text_value (λ rule k value. value_text (under rule k) value)
-unfolding text_value
-texts-read_back counts amounts rule k value range =
-    let small : value ≤ 10 ^ 17 = omega (arith, (in_range-ok (under rule k) value value range).1, (kind-facts rule (under rule k)).most) in
-    ap (λ result. and_then (or_cause result) (in_range (under rule k))) (number_in-text counts amounts (under rule k) value small) ∙ range
 
 -- the values of a row in range fit their bytes
 pub IsRow-fits : (rule : ℕ) (kinds : List Kind) (values : List ℕ) → IsRow rule kinds values → FitsBytes kinds values

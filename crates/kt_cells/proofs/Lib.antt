@@ -8,6 +8,4 @@ pub mod WrittenLemmas
 pub mod LineLemmas
 pub mod StreamLemmas
 pub mod FieldLemmas
-pub mod RecordReadLemmas
 pub mod RecordLinesLemmas
-pub mod SliceLemmas

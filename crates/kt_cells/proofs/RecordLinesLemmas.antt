@@ -1,46 +1,31 @@
 -- How far records are written as lines.
-use Rattle.std.proofs.Common.{◌≡◌, ℕ, List, [], ◌∷◌, ◌++◌, refl, sym, ap, ◌∙◌, append_assoc}
-use Rattle.std.specs.Prelude.{Option, None, Some}
+use Rattle.std.proofs.Common.{◌≡◌, ℕ, List, [], ◌∷◌, ◌++◌, refl, ap, sym, append_assoc}
+use Rattle.std.specs.Prelude.{Result, Ok, Err, Option, None, Some}
 use Rattle.std.proofs.lemmas.List.{append-nil}
-use Rattle.kt_cells.specs.Lines.{line, line_with, rows_lines, lines_behind, lines_with}
-use Rattle.kt_cells.specs.Texts.{row_texts}
+use Rattle.kt_cells.specs.Lines.{line_with, rows_lines, lines_behind, lines_with}
+use Rattle.kt_cells.specs.Reading.{and_then, in_front}
 use Rattle.kt_cells.specs.declared.kind.Kind.{Kind}
+use Rattle.kt_cells.specs.declared.stop.TableStop.{TableStop}
 
--- a line behind those of other rows
-rows_lines-behind : (kinds : List Kind) (rows : List (List ℕ)) (values : List ℕ) → rows_lines kinds (rows ++ values ∷ []) ≡ rows_lines kinds rows ++ line (row_texts 0 kinds values)
-unfolding rows_lines
-rows_lines-behind kinds [] values = append-nil (line (row_texts 0 kinds values))
-rows_lines-behind kinds (row ∷ rows) values =
-    ap (λ rest. line (row_texts 0 kinds row) ++ rest) (rows_lines-behind kinds rows values) ∙ sym (append_assoc (line (row_texts 0 kinds row)) (rows_lines kinds rows) (line (row_texts 0 kinds values)))
+-- the lines of rows behind what was there
+abbrev pub lines_put : Option ℕ → List Kind → List ℕ → Result (List (List ℕ)) TableStop → Result (List ℕ) TableStop
+lines_put before kinds out left = and_then left (λ rows. Ok (out ++ lines_with before kinds rows))
 
--- and behind those of rows that begin with a count
-lines_behind-behind : (count : ℕ) (kinds : List Kind) (rows : List (List ℕ)) (values : List ℕ) → lines_behind count kinds (rows ++ values ∷ []) ≡ lines_behind count kinds rows ++ line_with (Some count) kinds values
-unfolding lines_behind
-lines_behind-behind count kinds [] values = append-nil (line_with (Some count) kinds values)
-lines_behind-behind count kinds (row ∷ rows) values =
-    ap (λ rest. line_with (Some count) kinds row ++ rest) (lines_behind-behind count kinds rows values) ∙ sym (append_assoc (line_with (Some count) kinds row) (lines_behind count kinds rows) (line_with (Some count) kinds values))
-
--- so in either way
-lines_with-behind : (before : Option ℕ) (kinds : List Kind) (rows : List (List ℕ)) (values : List ℕ) → lines_with before kinds (rows ++ values ∷ []) ≡ lines_with before kinds rows ++ line_with before kinds values
-lines_with-behind None kinds rows values = rows_lines-behind kinds rows values
-lines_with-behind (Some count) kinds rows values = lines_behind-behind count kinds rows values
-
--- no line yet
-no_lines : (before : Option ℕ) (kinds : List Kind) → lines_with before kinds [] ≡ []
+-- no line behind what was there
+pub lines-end : (before : Option ℕ) (kinds : List Kind) (out : List ℕ) → lines_put before kinds out (Ok []) ≡ Ok out
 unfolding rows_lines lines_behind
-no_lines None kinds = refl
-no_lines (Some count) kinds = refl
-
--- the lines of some rows stand behind what was there
-abbrev pub LinesBehind : Option ℕ → List Kind → List ℕ → List ℕ → List (List ℕ) → Type 0
-LinesBehind before kinds start out rows = out ≡ start ++ lines_with before kinds rows
-
--- before the first record
-pub lines-start : (before : Option ℕ) (kinds : List Kind) (start : List ℕ) → LinesBehind before kinds start start []
-lines-start before kinds start = sym (ap (λ text. start ++ text) (no_lines before kinds) ∙ append-nil start)
+lines-end None kinds out = ap Ok (append-nil out)
+lines-end (Some count) kinds out = ap Ok (append-nil out)
 
 -- a line more
-pub lines-more : (before : Option ℕ) (kinds : List Kind) (start out next values : List ℕ) (rows : List (List ℕ)) → next ≡ out ++ line_with before kinds values → LinesBehind before kinds start out rows → LinesBehind before kinds start next (rows ++ values ∷ [])
-lines-more before kinds start out next values rows written now =
-    written ∙ ap (λ text. text ++ line_with before kinds values) now ∙ append_assoc start (lines_with before kinds rows) (line_with before kinds values)
-    ∙ ap (λ lines. start ++ lines) (sym (lines_with-behind before kinds rows values))
+pub lines-more : (before : Option ℕ) (kinds : List Kind) (out values : List ℕ) (left : Result (List (List ℕ)) TableStop)
+    → lines_put before kinds out (in_front values left) ≡ lines_put before kinds (out ++ line_with before kinds values) left
+unfolding rows_lines lines_behind
+lines-more None kinds out values (Ok rows) = ap Ok (sym (append_assoc out (line_with None kinds values) (rows_lines kinds rows)))
+lines-more (Some count) kinds out values (Ok rows) = ap Ok (sym (append_assoc out (line_with (Some count) kinds values) (lines_behind count kinds rows)))
+lines-more before kinds out values (Err stop) = refl
+
+-- what stops the lines stops their rows
+pub lines-stop : (before : Option ℕ) (kinds : List Kind) (out : List ℕ) (rows : Result (List (List ℕ)) TableStop) (stop : TableStop) → lines_put before kinds out rows ≡ Err stop → rows ≡ Err stop
+lines-stop before kinds out (Ok rows) stop stopped = absurd (cc)
+lines-stop before kinds out (Err found) stop stopped = cc

@@ -8,12 +8,14 @@ use Rattle.kt_cells.specs.Kinds.{in_range}
 use Rattle.kt_cells.specs.declared.kind.Kind.{Kind}
 use Rattle.kt_cells.specs.declared.stop.TableStop.{TableStop}
 use Rattle.kt_cells.proofs.KindLemmas.{text_value-range}
-use Rattle.kt_cells.proofs.RangeLemmas.{table_rows-range}
+use Rattle.kt_cells.proofs.RangeLemmas.{rows-read, rows-range}
 
 -- the rows of a text are in range and in order
 pub text_rows-ranges : (ordered : Bool) (kinds : List Kind) (text : List ℕ) (rows : List (List ℕ)) → 0 < length kinds → text_rows ordered kinds text ≡ Ok rows → AreRows kinds rows × AreInOrder ordered 0 rows
 unfolding text_rows
-text_rows-ranges ordered kinds text rows some good = table_rows-range text_value text_value-range ordered 1 kinds 0 1 (csv_rows text) rows some good
+text_rows-ranges ordered kinds text rows some good =
+    let found = rows-read text_value ordered 1 kinds 0 1 (csv_rows text) rows some good in
+    (rows-range text_value text_value-range kinds (csv_rows text) rows found.0, found.1)
 
 -- the rows that a call hands over are in range and in order
 pub ranges-given : {A : Type 0} (ordered : Bool) (kinds : List Kind) (text : List ℕ) (result : Result A TableStop) → 0 < length kinds

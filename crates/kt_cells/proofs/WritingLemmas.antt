@@ -2,7 +2,7 @@
 use Rattle.std.proofs.Common.{◌≡◌, ℕ, zero, suc, add-one, ◌+◌, ◌<◌, List, [], ◌∷◌, ◌++◌, length, drop, get_or, refl, sym, ap, ◌∙◌, arith, append_assoc}
 use Rattle.std.specs.Prelude.{◌==◌, false}
 use Rattle.std.proofs.lemmas.Bool.Decides.{nat_tests}
-use Rattle.std.proofs.lemmas.List.{append-nil}
+use Rattle.std.proofs.lemmas.List.{append-nil, drop_more}
 use Rattle.std.proofs.Math.Seq.{drop-length}
 use Rattle.byteorder.specs.Endian.{little_bytes}
 use Rattle.kt_cells.specs.Kinds.{width}
@@ -10,15 +10,14 @@ use Rattle.kt_cells.specs.Lines.{line, fields_behind, separator}
 use Rattle.kt_cells.specs.Records.{record_bytes}
 use Rattle.kt_cells.specs.Taking.{HasMore}
 use Rattle.kt_cells.specs.declared.kind.Kind.{Kind}
-use Rattle.kt_cells.proofs.ReadingLemmas.{drop-step}
 
 -- one number more of a record
 pub record_bytes-more : (kinds : List Kind) (values : List ℕ) (done : ℕ) (d : Kind) → done < length kinds → length values ≡ length kinds
     → record_bytes (drop done kinds) (drop done values) ≡ little_bytes (width (get_or kinds done d)) (get_or values done 0) ++ record_bytes (drop (done + 1) kinds) (drop (done + 1) values)
 unfolding record_bytes
 record_bytes-more kinds values done d column long =
-    let here : drop done kinds ≡ get_or kinds done d ∷ drop (done + 1) kinds = drop-step kinds done d column in
-    let value : drop done values ≡ get_or values done 0 ∷ drop (done + 1) values = drop-step values done 0 (omega arith) in
+    let here : drop done kinds ≡ get_or kinds done d ∷ drop (done + 1) kinds = drop_more kinds done d column in
+    let value : drop done values ≡ get_or values done 0 ∷ drop (done + 1) values = drop_more values done 0 (omega arith) in
     rw (here, value) refl
 
 -- nothing is left of a record
