@@ -103,7 +103,7 @@ module _ (counts : CountsAreReadBack) (amounts : AmountsAreReadBack) where
   -- so with all rows
   rows-written : (kinds : List Kind) (rows : List (List ℕ)) → 0 < length kinds → AreRows kinds rows
       → (rows_text (map (row_texts 0 kinds) rows) ≡ rows_lines kinds rows) × (map read_back (map (row_texts 0 kinds) rows) ≡ map (row_texts 0 kinds) rows) × AreRead text_value kinds (map (row_texts 0 kinds) rows) rows
-  unfolding rows_text rows_lines AreRows AreRead
+  unfolding rows_text rows_lines AreRows
   rows-written kinds [] some range = (refl, refl, tt)
   rows-written kinds (row ∷ rows) some range =
       let here = row-written kinds row some range.0 in

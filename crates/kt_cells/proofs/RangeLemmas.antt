@@ -1,6 +1,7 @@
 -- What is read, value by value: it is in range and in order, and is read under any number.
 use Rattle.std.proofs.Common.{◌≡◌, ℕ, suc, ◌+◌, ◌<◌, ◌≤◌, Bool, false, List, [], ◌∷◌, length, get_or, refl, sym, ap, ◌∙◌, arith, subst, inl, inr}
 use Rattle.std.specs.Prelude.{Result, Ok, Err, ◌==◌}
+use Rattle.std.specs.List.{AllZip}
 use Rattle.std.proofs.lemmas.Bool.{cases_Bool, eqb-true}
 use Rattle.std.proofs.lemmas.Bool.Decides.{nat_tests}
 use Rattle.kt_cells.specs.Kinds.{under, in_range}
@@ -26,10 +27,8 @@ IsRead read rule (kind ∷ kinds) (cell ∷ cells) (value ∷ values) = (read (u
 IsRead read rule kinds cells values = ⊥
 
 -- and so the rows of a table
-unfoldable pub AreRead : {C : Type 0} → (Kind → C → Result ℕ Cause) → List Kind → List (List C) → List (List ℕ) → Type 0
-AreRead read kinds [] [] = Unit {0}
-AreRead read kinds (cells ∷ rest) (values ∷ rows) = IsRead read 0 kinds cells values × AreRead read kinds rest rows
-AreRead read kinds cells rows = ⊥
+abbrev pub AreRead : {C : Type 0} → (Kind → C → Result ℕ Cause) → List Kind → List (List C) → List (List ℕ) → Type 0
+AreRead read kinds = AllZip (IsRead read 0 kinds)
 
 -- a reading whose values are in the range of their kind
 abbrev pub ReadsInRange : {C : Type 0} → (Kind → C → Result ℕ Cause) → Type 0
@@ -45,7 +44,6 @@ module _ {C : Type 0} (read : Kind → C → Result ℕ Cause) where
 
   -- and a row of cells for each row
   pub length-rows : (kinds : List Kind) (cells : List (List C)) (rows : List (List ℕ)) → AreRead read kinds cells rows → length rows ≡ length cells
-  unfolding AreRead
   length-rows kinds [] [] found = refl
   length-rows kinds (cells ∷ rest) (values ∷ rows) found = ap suc (length-rows kinds rest rows found.1)
   length-rows kinds cells rows found = absurd found
@@ -78,7 +76,7 @@ module _ {C : Type 0} (read : Kind → C → Result ℕ Cause) where
   -- a table is read so, and in order
   pub rows-read : (ordered : Bool) (first : ℕ) (kinds : List Kind) (floor row : ℕ) (cells : List (List C)) (rows : List (List ℕ)) → 0 < length kinds
       → table_rows read ordered first kinds floor row cells ≡ Ok rows → AreRead read kinds cells rows × AreInOrder ordered floor rows
-  unfolding table_rows AreRead AreInOrder
+  unfolding table_rows AreInOrder
   rows-read ordered first kinds floor row [] [] some good = (tt, tt)
   rows-read ordered first kinds floor row [] (values ∷ rows) some good = absurd (cc)
   rows-read ordered first kinds floor row (cells ∷ rest) rows some good = elim (cases_Bool (length cells == length kinds)) [
@@ -95,7 +93,7 @@ module _ {C : Type 0} (read : Kind → C → Result ℕ Cause) where
   -- and so from any row on
   pub read-rows : (ordered : Bool) (first : ℕ) (kinds : List Kind) (floor row : ℕ) (cells : List (List C)) (rows : List (List ℕ)) → AreRead read kinds cells rows → AreInOrder ordered floor rows
       → table_rows read ordered first kinds floor row cells ≡ Ok rows
-  unfolding table_rows AreRead AreInOrder
+  unfolding table_rows AreInOrder
   read-rows ordered first kinds floor row [] [] found order = refl
   read-rows ordered first kinds floor row (cells ∷ rest) (values ∷ rows) found order =
       table_rows-row read ordered first kinds floor row values cells rest (length-read 0 kinds cells values found.0) (sym (read-row 0 floor row first kinds cells values found.0 (λ some. order.0)))
@@ -112,7 +110,7 @@ module _ {C : Type 0} (read : Kind → C → Result ℕ Cause) where
 
     -- so are those of a table
     pub rows-range : (kinds : List Kind) (cells : List (List C)) (rows : List (List ℕ)) → AreRead read kinds cells rows → AreRows kinds rows
-    unfolding AreRead AreRows
+    unfolding AreRows
     rows-range kinds [] [] found = tt
     rows-range kinds (cells ∷ rest) (values ∷ rows) found = (row-range 0 kinds cells values found.0, rows-range kinds rest rows found.1)
     rows-range kinds cells rows found = absurd found

@@ -2,6 +2,7 @@
 use Rattle.std.proofs.Common.{◌≡◌, ◌<◌, ℕ, Bool, List, length, sym}
 use Rattle.std.specs.Prelude.{Result, Ok, Err, OnOk}
 use Rattle.kt_text.specs.Rows.{csv_rows}
+use Rattle.kt_cells.specs.Laws.{TextsAreInRange}
 use Rattle.kt_cells.specs.Ranges.{AreRows, AreInOrder}
 use Rattle.kt_cells.specs.Texts.{text_value, text_rows, decimals, number_in}
 use Rattle.kt_cells.specs.Kinds.{in_range}
@@ -11,16 +12,16 @@ use Rattle.kt_cells.proofs.KindLemmas.{text_value-range}
 use Rattle.kt_cells.proofs.RangeLemmas.{rows-read, rows-range}
 
 -- the rows of a text are in range and in order
-pub text_rows-ranges : (ordered : Bool) (kinds : List Kind) (text : List ℕ) (rows : List (List ℕ)) → 0 < length kinds → text_rows ordered kinds text ≡ Ok rows → AreRows kinds rows × AreInOrder ordered 0 rows
+pub texts-in_range : TextsAreInRange
 unfolding text_rows
-text_rows-ranges ordered kinds text rows some good =
+texts-in_range ordered kinds text rows some good =
     let found = rows-read text_value ordered 1 kinds 0 1 (csv_rows text) rows some good in
     (rows-range text_value text_value-range kinds (csv_rows text) rows found.0, found.1)
 
 -- the rows that a call hands over are in range and in order
 pub ranges-given : {A : Type 0} (ordered : Bool) (kinds : List Kind) (text : List ℕ) (result : Result A TableStop) → 0 < length kinds
     → OnOk result ((rows : List (List ℕ)) → text_rows ordered kinds text ≡ Ok rows → AreRows kinds rows × AreInOrder ordered 0 rows)
-ranges-given ordered kinds text (Ok x) some = λ rows good. text_rows-ranges ordered kinds text rows some good
+ranges-given ordered kinds text (Ok x) some = λ rows good. texts-in_range ordered kinds text rows some good
 ranges-given ordered kinds text (Err stop) some = tt
 
 -- a number in range is the value of its text

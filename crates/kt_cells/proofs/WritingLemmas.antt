@@ -42,10 +42,6 @@ more-none out = ([], sym (append-nil out))
 pub more-piece : (start out next piece : List ℕ) → HasMore start out → next ≡ out ++ piece → HasMore start next
 more-piece start out next piece now written = (now.0 ++ piece, written ∙ ap (λ text. text ++ piece) now.1 ∙ append_assoc start now.0 piece)
 
--- four pieces, one after the other
-pub text-four : (start one two three four a b c d : List ℕ) → one ≡ start ++ a → two ≡ one ++ b → three ≡ two ++ c → four ≡ three ++ d → four ≡ start ++ (a ++ (b ++ (c ++ d)))
-text-four start one two three four a b c d first second third fourth = rw (fourth, third, second, first) (simp append_assoc)
-
 -- what is left of a line, from a column on
 abbrev pub line_rest : ℕ → List (List ℕ) → List ℕ
 line_rest zero fields = line fields

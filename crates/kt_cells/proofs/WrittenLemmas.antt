@@ -39,7 +39,7 @@ record-written rule kinds values rest range = absurd range
 
 -- so are the records of rows
 records-written : (kinds : List Kind) (rows : List (List ℕ)) → AreRows kinds rows → AreRead field_value kinds (records_in kinds (length rows) (records_bytes kinds rows)) rows × (length (records_bytes kinds rows) ≡ length rows * record_width kinds)
-unfolding records_in records_bytes AreRows AreRead
+unfolding records_in records_bytes AreRows
 records-written kinds [] range = (tt, omega arith)
 records-written kinds (row ∷ rows) range =
     let bytes : List ℕ = record_bytes kinds row in
@@ -69,7 +69,7 @@ fields-front (kind ∷ kinds) most bytes within =
 -- the records at the front of some that are read
 records-front : (kinds : List Kind) (count more : ℕ) (bytes : List ℕ) (rows : List (List ℕ)) → AreRead field_value kinds (records_in kinds (count + more) bytes) rows
     → AreRead field_value kinds (records_in kinds count (take (count * record_width kinds) bytes)) (take count rows)
-unfolding records_in AreRead
+unfolding records_in
 records-front kinds zero more bytes rows found = tt
 records-front kinds (suc count) more bytes [] found = let next : suc count + more ≡ suc (count + more) = omega arith in absurd (rw next at found)
 records-front kinds (suc count) more bytes (row ∷ rows) found =
@@ -82,7 +82,7 @@ records-front kinds (suc count) more bytes (row ∷ rows) found =
 -- and those behind some
 records-behind : (kinds : List Kind) (from more : ℕ) (bytes : List ℕ) (rows : List (List ℕ)) → AreRead field_value kinds (records_in kinds (from + more) bytes) rows
     → AreRead field_value kinds (records_in kinds more (drop (from * record_width kinds) bytes)) (drop from rows)
-unfolding records_in AreRead
+unfolding records_in
 records-behind kinds zero more bytes rows found =
     let none : 0 * record_width kinds ≡ 0 = omega arith in
     let same : 0 + more ≡ more = omega arith in

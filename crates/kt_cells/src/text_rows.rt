@@ -226,6 +226,7 @@ fn read_rows_behind_heading<const N: usize, S: RowSink<N>>(
 /// Hands the values of a CSV text, its heading left out, to a sink. An error is the first bad place: by
 /// row, in a row the number of its fields first, then by column; or want of memory.
 #[inline(always)]
+#[tactic(auto, unfolding(crate::specs::Texts::text_rows))]
 pub fn read_text<const N: usize, S: RowSink<N>>(
     alloc: Global,
     text: &[u8],
