@@ -1,20 +1,17 @@
 -- Values in the range of their kind.
-use Rattle.std.proofs.Common.{◌≡◌, ℕ, zero, suc, ◌^◌, ◌<◌, ◌≤◌, Bool, true, false, List, [], ◌∷◌, length, refl, sym, ap, ◌∙◌, inl, inr, ◌⊎◌, arith, subst}
-use Rattle.std.specs.Prelude.{Result, Ok, Err, nat_lt, if◌then◌else◌}
+use Rattle.std.proofs.Common.{◌≡◌, ℕ, zero, suc, ◌^◌, ◌<◌, ◌≤◌, Bool, true, false, List, [], ◌∷◌, length, refl, inl, inr, ◌⊎◌, arith, subst}
+use Rattle.std.specs.Prelude.{Ok, if◌then◌else◌}
 use Rattle.std.proofs.lemmas.Bool.Decides.{nat_tests}
 use Rattle.std.proofs.lemmas.List.{append-nil}
 use Rattle.byteorder.specs.Endian.{little_number, little_bytes}
 use Rattle.byteorder.specs.Numbers.{length-bytes_low_first, little_number-reads_back}
-use Rattle.kt_text.specs.Laws.{CountsAreReadBack, AmountsAreReadBack}
-use Rattle.kt_cells.specs.Kinds.{under, width, is_ppm, is_rule, highest, within, known_rule, in_range}
-use Rattle.kt_cells.specs.Reading.{and_then, and_then-ok, rule_after}
+use Rattle.kt_cells.specs.Kinds.{under, width, is_ppm, highest, within, known_rule, in_range}
+use Rattle.kt_cells.specs.Reading.{and_then-ok, rule_after}
 use Rattle.kt_cells.specs.Ranges.{IsRow, FitsBytes}
 use Rattle.kt_cells.specs.Records.{field_value}
-use Rattle.kt_cells.specs.Texts.{decimals, number_in, or_cause, text_value, value_text}
+use Rattle.kt_cells.specs.Texts.{decimals, number_in, or_cause, text_value}
 use Rattle.kt_cells.specs.declared.kind.Kind.{Kind}
 use Rattle.kt_cells.specs.declared.kind.Kind.TheVariants as kind
-use Rattle.kt_cells.specs.declared.stop.Cause.{Cause}
-use Rattle.kt_cells.specs.declared.stop.Cause.TheVariants as cause
 use Rattle.kt_cells.proofs.RangeLemmas.{ReadsInRange}
 
 -- a value within bounds is the value
@@ -69,10 +66,7 @@ kind-facts rule k = record { fits = omega arith; most = omega arith; narrow = om
 pub number-read_back : (rule : ℕ) (k : Kind) (value : ℕ) → in_range (under rule k) value ≡ Ok value → field_value (under rule k) (little_bytes (width k) value) ≡ Ok value
 number-read_back rule k value range =
     let small : value < 256 ^ width k = omega (arith, (in_range-ok (under rule k) value value range).1, (kind-facts rule k).fits) in
-    let long : length (little_bytes (width k) value) ≡ width k = length-bytes_low_first 0 (width k) value in
-    let back : little_number (width k) (little_bytes (width k) value) ≡ value =
-    ap (little_number (width k)) (sym (append-nil (little_bytes (width k) value))) ∙ little_number-reads_back (width k) value [] small in
-    ap (λ n. in_range (under rule k) (little_number n (little_bytes (width k) value))) long ∙ ap (in_range (under rule k)) back ∙ range
+    rw (length-bytes_low_first 0 (width k) value, rw append-nil at (little_number-reads_back (width k) value [] small)) range
 
 -- the values of a row in range fit their bytes
 pub IsRow-fits : (rule : ℕ) (kinds : List Kind) (values : List ℕ) → IsRow rule kinds values → FitsBytes kinds values

@@ -1,15 +1,14 @@
 -- Lines of plain fields are read back as their rows.
-use Rattle.std.proofs.Common.{◌≡◌, ℕ, ◌^◌, ◌/◌, ◌<◌, ◌≤◌, Bool, true, false, List, [], ◌∷◌, ◌++◌, length, refl, sym, ap, ◌∙◌, arith, subst, inl, inr, length-append, append_assoc}
-use Rattle.std.specs.Prelude.{Ok, map, ◌==◌, ◌||◌, decimal, if◌then◌else◌}
-use Rattle.std.specs.Char.{digit_value}
-use Rattle.std.specs.List.{AllByRecursion, list_any}
+use Rattle.std.proofs.Common.{◌≡◌, ℕ, ◌^◌, ◌/◌, ◌<◌, ◌≤◌, false, List, [], ◌∷◌, ◌++◌, length, refl, sym, ap, ◌∙◌, arith, inl, inr, length-append, append_assoc}
+use Rattle.std.specs.Prelude.{Ok, map, decimal}
+use Rattle.std.specs.List.{AllByRecursion}
 use Rattle.std.specs.Str.Parse.{AllDigits}
 use Rattle.std.proofs.lemmas.Bool.{ne_eqb}
 use Rattle.std.proofs.lemmas.Bool.Decides.{nat_tests}
 use Rattle.std.proofs.lemmas.Fmt.{decimal_is_IsNumeral}
 use Rattle.std.proofs.lemmas.List.Folds.{list_any-append}
 use Rattle.csv.specs.Reading.{strip_bom}
-use Rattle.csv.specs.Writing.{default_writer, needs_quotes, needs_byte, by_style, quoted, field_text, fields_text, row_text, is_blank, read_back}
+use Rattle.csv.specs.Writing.{default_writer, needs_byte, field_text, fields_text, row_text, is_blank, read_back}
 use Rattle.kt_money.specs.NumberText.{plain, padded_digits}
 use Rattle.kt_money.specs.NumberTextLaws.{plain-decimals, padded_digits-digits}
 use Rattle.kt_text.specs.Laws.{CountsAreReadBack, AmountsAreReadBack, RowsAreReadBack}
@@ -18,7 +17,7 @@ use Rattle.kt_cells.specs.Kinds.{under, in_range}
 use Rattle.kt_cells.specs.Laws.{IsPlain, LinesAreReadBack}
 use Rattle.kt_cells.specs.Lines.{line, fields_behind, rows_lines}
 use Rattle.kt_cells.specs.Ranges.{IsRow, AreRows}
-use Rattle.kt_cells.specs.Reading.{rule_after, table_rows}
+use Rattle.kt_cells.specs.Reading.{rule_after}
 use Rattle.kt_cells.specs.Texts.{text_value, text_rows, row_texts, value_text}
 use Rattle.kt_cells.specs.declared.kind.Kind.{Kind}
 use Rattle.kt_cells.proofs.KindLemmas.{in_range-ok, kind-facts}

@@ -1,5 +1,5 @@
 -- Records as bytes: their widths, how far one is read, and the rows that some give.
-use Rattle.std.proofs.Common.{◌≡◌, ℕ, zero, suc, ◌+◌, ◌*◌, ◌/◌, ◌<◌, ◌≤◌, false, List, [], ◌∷◌, length, take, drop, get_or, refl, sym, ap, ◌∙◌, arith, length-drop}
+use Rattle.std.proofs.Common.{◌≡◌, ℕ, zero, suc, ◌+◌, ◌*◌, ◌<◌, ◌≤◌, false, List, [], ◌∷◌, length, take, drop, get_or, refl, sym, ap, ◌∙◌, arith, length-drop}
 use Rattle.std.specs.Prelude.{Result, Ok, Err, slice_set, Bool, true, ◌==◌, ◌%◌, if◌then◌else◌}
 use Rattle.std.proofs.lemmas.Bool.{ne_eqb}
 use Rattle.std.proofs.lemmas.Bool.Decides.{nat_tests}
@@ -17,7 +17,7 @@ use Rattle.kt_cells.specs.declared.stop.TableStop.{TableStop}
 use Rattle.kt_cells.specs.declared.stop.TableStop.TheVariants.{Bad, CutRecord}
 use Rattle.kt_cells.proofs.KindLemmas.{kind-facts, field_value-range}
 use Rattle.kt_cells.proofs.RangeLemmas.{AreRead, not_below-above, length-rows, row-read, row-range, rows-range, rows-read, read-rows, in_order-any}
-use Rattle.kt_cells.proofs.ReadingLemmas.{RowRead, row-start, row-more, row-stops, row-end, table_rows-row, table_rows-stops}
+use Rattle.kt_cells.proofs.ReadingLemmas.{RowRead, row-start, row-more, row-stops, table_rows-row, table_rows-stops}
 
 -- a record takes at most eight bytes a column
 pub record_width-most : (kinds : List Kind) → record_width kinds ≤ 8 * length kinds

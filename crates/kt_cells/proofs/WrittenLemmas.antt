@@ -1,16 +1,16 @@
 -- Records and headers that are written are read back, and slices of records give slices of their rows.
-use Rattle.std.proofs.Common.{◌≡◌, ℕ, zero, suc, ◌+◌, ◌-◌, ◌*◌, ◌/◌, ◌^◌, ◌<◌, ◌≤◌, true, false, List, [], ◌∷◌, ◌++◌, length, take, drop, refl, ap, ◌∙◌, arith, append_assoc, length-append, length-drop, drop-drop}
-use Rattle.std.specs.Prelude.{Ok, map, nat_lt, ◌==◌}
+use Rattle.std.proofs.Common.{◌≡◌, ℕ, zero, suc, ◌+◌, ◌-◌, ◌*◌, ◌≤◌, List, [], ◌∷◌, ◌++◌, length, take, drop, refl, ap, ◌∙◌, arith, append_assoc, length-append, length-drop, drop-drop}
+use Rattle.std.specs.Prelude.{Ok}
 use Rattle.std.proofs.lemmas.Bool.Decides.{nat_tests}
 use Rattle.std.proofs.lemmas.List.{take_at, drop_at, take-take, drop-take, length-take-le}
 use Rattle.std.proofs.Math.Nat.{div-mul-le_self, mul-le-mul_right}
 use Rattle.byteorder.specs.Endian.{little_number, little_bytes}
 use Rattle.byteorder.specs.Numbers.{length-bytes_low_first, little_number-reads_back}
 use Rattle.kt_cells.specs.Header.{header_extra, header_bytes, mark, version, number_at}
-use Rattle.kt_cells.specs.Kinds.{under, width, within}
+use Rattle.kt_cells.specs.Kinds.{width, within}
 use Rattle.kt_cells.specs.Laws.{RecordsAreReadBack, HeadersAreReadBack, SlicesGiveSlices}
 use Rattle.kt_cells.specs.Ranges.{IsRow, AreRows}
-use Rattle.kt_cells.specs.Reading.{rule_after, at_place}
+use Rattle.kt_cells.specs.Reading.{rule_after}
 use Rattle.kt_cells.specs.Records.{record_width, record_fields, records_in, record_bytes, records_bytes, record_count, field_value}
 use Rattle.kt_cells.specs.declared.kind.Kind.{Kind}
 use Rattle.kt_cells.proofs.KindLemmas.{number-read_back}

@@ -1,10 +1,9 @@
 -- What a sink has taken of the rows of a table that are read.
-use Rattle.std.specs.Prelude.{◌≡◌, ℕ, ◌+◌, Bool, List, ◌∷◌, ◌++◌, length, Result, Ok}
+use Rattle.std.specs.Prelude.{◌≡◌, ℕ, List, ◌∷◌, ◌++◌, length, Result, Ok}
 use Rattle.kt_text.specs.PlainText.{csv_records}
-use Rattle.kt_cells.specs.Reading.{behind, row_values, table_rows}
+use Rattle.kt_cells.specs.Reading.{behind, row_values}
 use Rattle.kt_cells.specs.Texts.{text_value}
 use Rattle.kt_cells.specs.declared.kind.Kind.{Kind}
-use Rattle.kt_cells.specs.declared.stop.Cause.{Cause}
 use Rattle.kt_cells.specs.declared.stop.TableStop.{TableStop}
 
 -- what was there stands in front, and maybe more behind it

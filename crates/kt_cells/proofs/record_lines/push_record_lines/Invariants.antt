@@ -1,7 +1,7 @@
 use Rattle.std.proofs.Common.{◌≡◌, ◌+◌, ◌≤◌, length}
 use Rattle.kt_cells.specs.Records.{record_rows, records_behind}
 use Rattle.kt_cells.specs.Taking.{HasMore}
-use Rattle.kt_cells.proofs.RecordLinesLemmas.{lines_put}
+use Rattle.kt_cells.proofs.WritingLemmas.{lines_put}
 use Rattle.kt_cells.proofs.record_lines.push_record_lines.Given as goal
 
 abbrev pub invariant-loop-rest : goal.invariant-loop-rest

@@ -1,5 +1,5 @@
 use Rattle.std.proofs.lemmas.Result.{IfErr-weaker, on_ok_weaker}
-use Rattle.kt_cells.proofs.StreamLemmas.{front-over, told-front}
+use Rattle.kt_cells.proofs.TextLemmas.{front-over, told-front}
 use Rattle.kt_cells.proofs.text_rows.read_all_rows.Goals as goal
 
 pub returns-clause-value : goal.returns-clause-value
