@@ -67,31 +67,30 @@ fields-front (kind ∷ kinds) most bytes within =
     rw (front, behind, fields-front kinds (most - w) (drop w bytes) (omega arith)) refl
 
 -- the records at the front of some that are read
-records-front : (kinds : List Kind) (count more : ℕ) (bytes : List ℕ) (rows : List (List ℕ)) → AreRead field_value kinds (records_in kinds (count + more) bytes) rows
+records-front : (kinds : List Kind) (count all : ℕ) (bytes : List ℕ) (rows : List (List ℕ)) → count ≤ all → AreRead field_value kinds (records_in kinds all bytes) rows
     → AreRead field_value kinds (records_in kinds count (take (count * record_width kinds) bytes)) (take count rows)
 unfolding records_in
-records-front kinds zero more bytes rows found = tt
-records-front kinds (suc count) more bytes [] found = let next : suc count + more ≡ suc (count + more) = omega arith in absurd (rw next at found)
-records-front kinds (suc count) more bytes (row ∷ rows) found =
+records-front kinds zero all bytes rows within found = tt
+records-front kinds (suc count) zero bytes rows within found = absurd (omega arith)
+records-front kinds (suc count) (suc all) bytes [] within found = absurd found
+records-front kinds (suc count) (suc all) bytes (row ∷ rows) within found =
     let w : ℕ = record_width kinds in
-    let next : suc count + more ≡ suc (count + more) = omega arith in
     let split : suc count * w ≡ w + count * w = grind arith in
-    let here = rw next at found in
-    rw (split, fields-front kinds (w + count * w) bytes (omega arith), drop-take w (count * w) bytes) (here.0, records-front kinds count more (drop w bytes) rows here.1)
+    rw (split, fields-front kinds (w + count * w) bytes (omega arith), drop-take w (count * w) bytes) (found.0, records-front kinds count all (drop w bytes) rows (omega arith) found.1)
 
 -- and those behind some
-records-behind : (kinds : List Kind) (from more : ℕ) (bytes : List ℕ) (rows : List (List ℕ)) → AreRead field_value kinds (records_in kinds (from + more) bytes) rows
+records-behind : (kinds : List Kind) (from more all : ℕ) (bytes : List ℕ) (rows : List (List ℕ)) → all ≡ from + more → AreRead field_value kinds (records_in kinds all bytes) rows
     → AreRead field_value kinds (records_in kinds more (drop (from * record_width kinds) bytes)) (drop from rows)
 unfolding records_in
-records-behind kinds zero more bytes rows found =
+records-behind kinds zero more all bytes rows parts found =
     let none : 0 * record_width kinds ≡ 0 = omega arith in
-    let same : 0 + more ≡ more = omega arith in
+    let same : all ≡ more = omega arith in
     rw none (rw same at found)
-records-behind kinds (suc from) more bytes [] found = let next : suc from + more ≡ suc (from + more) = omega arith in absurd (rw next at found)
-records-behind kinds (suc from) more bytes (row ∷ rows) found =
-    let next : suc from + more ≡ suc (from + more) = omega arith in
+records-behind kinds (suc from) more zero bytes rows parts found = absurd (omega arith)
+records-behind kinds (suc from) more (suc all) bytes [] parts found = absurd found
+records-behind kinds (suc from) more (suc all) bytes (row ∷ rows) parts found =
     let split : suc from * record_width kinds ≡ record_width kinds + from * record_width kinds = grind arith in
-    rw (split, ← drop-drop (from * record_width kinds) (record_width kinds) bytes) (records-behind kinds from more (drop (record_width kinds) bytes) rows (rw next at found).1)
+    rw (split, ← drop-drop (from * record_width kinds) (record_width kinds) bytes) (records-behind kinds from more all (drop (record_width kinds) bytes) rows (omega arith) found.1)
 
 -- the records of a slice give a slice of the rows
 pub slices : SlicesGiveSlices
@@ -99,13 +98,12 @@ slices first kinds bytes rows from count some good within =
     let w : ℕ = record_width kinds in
     let n : ℕ = record_count kinds bytes in
     let many : length rows ≡ n = records-count first kinds bytes rows some good in
-    let parts : n ≡ from + (count + (n - (from + count))) = omega (arith, many, within) in
     let fits : (from + count) * w ≤ n * w = mul-le-mul_right w (omega (arith, many, within)) in
     let sum_is : (from + count) * w ≡ from * w + count * w = grind arith in
     records-rows first count kinds (take (count * w) (drop (from * w) bytes)) (take count (drop from rows)) some
     (length-take-le (count * w) (drop (from * w) bytes) (omega (arith, fits, sum_is, length-drop (from * w) bytes, div-mul-le_self (length bytes) w)))
-    (records-front kinds count (n - (from + count)) (drop (from * w) bytes) (drop from rows)
-    (records-behind kinds from (count + (n - (from + count))) bytes rows (rw parts at (rows-records first kinds bytes rows some good))))
+    (records-front kinds count (n - from) (drop (from * w) bytes) (drop from rows) (omega (arith, many, within))
+    (records-behind kinds from (n - from) n bytes rows (omega (arith, many, within)) (rows-records first kinds bytes rows some good)))
 
 -- a header with good numbers
 header_by : (number least most extra : ℕ) (bytes : List ℕ) → 16 ≤ length bytes → little_number 4 bytes ≡ mark → number_at 4 bytes ≡ number → number_at 8 bytes ≡ version → number_at 12 bytes ≡ extra → least ≤ extra → extra ≤ most

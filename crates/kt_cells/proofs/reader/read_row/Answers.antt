@@ -5,9 +5,6 @@ use Rattle.kt_cells.specs.declared.kind.Kind.TheVariants.{Id}
 use Rattle.kt_cells.proofs.ReadingLemmas.{row-start, row-more, row-stops, row-end}
 use Rattle.kt_cells.proofs.reader.read_row.Goals as goal
 
-pub loop-column-init : goal.loop-column-init
-loop-column-init g c = row-start g.C.Cells.read c.args.floor c.args.number c.args.first c.args.kinds.now (row_at (g.C.Cells.cells c.args.cells.now) c.args.row) (replicate g.row.N 0) (length-replicate g.row.N 0 ∙ sym c.told-kinds)
-
 pub returns-in-Err : goal.returns-in-Err
 returns-in-Err g c =
     row-stops c.loop-column.invariant Id _ _ c.in-Err.cause (omega (arith, c.told-kinds)) (drop_more (row_at (g.C.Cells.cells c.args.cells.now) c.args.row) c.loop-column.column [] (omega arith)) (rw c.under.ensures at (sym c.in-Err.ensures))

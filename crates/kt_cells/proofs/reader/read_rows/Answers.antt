@@ -6,9 +6,6 @@ use Rattle.kt_cells.specs.Stops.{Tells-refused}
 use Rattle.kt_cells.proofs.ReadingLemmas.{table_rows-row, table_rows-stops, front-start, front-more, front-stops, front-end}
 use Rattle.kt_cells.proofs.reader.read_rows.Goals as goal
 
-pub loop-row-init : goal.loop-row-init
-loop-row-init g c = front-start c.new-rows.ensures.items
-
 pub returns-in_err-values-clause-refused : goal.returns-in_err-values-clause-refused
 returns-in_err-values-clause-refused g c =
     let p = err_from_is_err_and c.from_residual.result c.from_residual.ensures.1 in

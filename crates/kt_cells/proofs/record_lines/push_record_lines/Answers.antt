@@ -11,11 +11,6 @@ use Rattle.kt_cells.proofs.record_lines.push_record_lines.Goals as goal
 pub loop-rest-init : goal.loop-rest-init
 loop-rest-init g c = record { within = omega arith; text = rw behind-none refl; kept = more-none c.args.out.now }
 
-pub returns-in_err-rest-clause-refused : goal.returns-in_err-rest-clause-refused
-returns-in_err-rest-clause-refused g c =
-    let p = err_from_is_err_and c.from_residual.result c.from_residual.ensures.1 in
-    rw (p.1, p.2) (Tells-refused _ _ (lines-stop c.args.before c.args.kinds.now c.args.out.now _ _ (c.loop-rest.invariant.text ∙ ap (lines_put c.args.before c.args.kinds.now c.loop-rest.out) c.in_err-rest.ensures.refused)))
-
 pub loop-rest-preserved : goal.loop-rest-preserved
 loop-rest-preserved g c =
     let start = c.write_line_with-start.result in

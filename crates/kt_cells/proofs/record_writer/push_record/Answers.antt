@@ -5,17 +5,11 @@ use Rattle.kt_cells.specs.declared.kind.Kind.TheVariants.{Id}
 use Rattle.kt_cells.proofs.WritingLemmas.{record_bytes-more, record_bytes-end, more-none, more-piece}
 use Rattle.kt_cells.proofs.record_writer.push_record.Goals as goal
 
-pub loop-column-init : goal.loop-column-init
-loop-column-init c = (refl, more-none c.args.out.now)
-
 pub loop-column-preserved : goal.loop-column-preserved
 loop-column-preserved c =
     let written = rw c.width.ensures at c.in_ok-push_number.ensures.ok in
     let next = record_bytes-more c.args.kinds.now c.args.values.now c.loop-column.column Id c.loop-column-test.true c.requires in
     (rw (written, append_assoc c.loop-column.out, ← next) c.loop-column.invariant.0, more-piece c.args.out.now c.loop-column.out c.push_number.new.out _ c.loop-column.invariant.1 written)
-
-pub returns-in_err-push_number-clause-kept : goal.returns-in_err-push_number-clause-kept
-returns-in_err-push_number-clause-kept c = let p = err_from_is_err_and c.from_residual.result c.from_residual.ensures.1 in rw (c.in_err-push_number.ensures.unchanged, p.1) c.loop-column.invariant.1
 
 pub returns-clause-ok : goal.returns-clause-ok
 returns-clause-ok c = rw (record_bytes-end c.args.kinds.now c.args.values.now c.loop-column.column (omega arith), append-nil c.loop-column.out) at c.loop-column.invariant.0

@@ -5,9 +5,6 @@ use Rattle.kt_cells.proofs.ReadingLemmas.{row-end}
 use Rattle.kt_cells.proofs.RecordLemmas.{record-start, record-more, record-stops}
 use Rattle.kt_cells.proofs.records.read_record.Goals as goal
 
-pub loop-column-init : goal.loop-column-init
-loop-column-init g c = record-start c.args.row c.args.first c.args.kinds.now c.args.bytes.now c.args.values.now (omega (arith, c.told-kinds, c.told-values)) c.requires.whole
-
 pub returns-in-Err-clause-refused : goal.returns-in-Err-clause-refused
 returns-in-Err-clause-refused g c =
     sym (record-stops c.loop-column.invariant Id (omega (arith, c.told-kinds)) c.in-Err.cause

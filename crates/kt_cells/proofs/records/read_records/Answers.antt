@@ -10,21 +10,10 @@ use Rattle.kt_cells.proofs.records.read_records.Goals as goal
 pub loop-rest-init : goal.loop-rest-init
 loop-rest-init g c = record { within = omega arith; front = rw behind-none (front-start c.requires.fresh) }
 
-pub returns-in_err-rest-clause-refused : goal.returns-in_err-rest-clause-refused
-returns-in_err-rest-clause-refused g c =
-    let p = err_from_is_err_and c.from_residual.result c.from_residual.ensures.1 in
-    rw (p.1, p.2) (Tells-refused _ _ (front-stops c.loop-rest.invariant.front _ c.in_err-rest.ensures.refused))
-
 pub take-requires : goal.take-requires
 take-requires g c =
     let range = c.in_ok-rest.ensures.range in
     (omega (arith, c.requires.size), (c.requires.size, c.requires.takes _ range (IsRow-fits 0 _ _ range)))
-
-pub loop-rest-preserved : goal.loop-rest-preserved
-loop-rest-preserved g c = record {
-  within = omega (arith, c.loop-rest.invariant.within, c.in_ok-rest.ensures.shorter);
-  front = front-more c.loop-rest.invariant.front _ _ _ c.in_ok-rest.ensures.next (c.in_ok-take.ensures.ok _);
-}
 
 pub returns-clause-value : goal.returns-clause-value
 returns-clause-value g c = front-end c.loop-rest.invariant.front (record-end c.loop-rest.row c.args.first c.args.kinds.now c.loop-rest.rest.now (omega arith) (grind (arith, nat_tests)))

@@ -5,11 +5,6 @@ use Rattle.kt_cells.specs.declared.kind.Kind.TheVariants.{Id}
 use Rattle.kt_cells.proofs.TextLemmas.{plain-start, plain-more, plain-end}
 use Rattle.kt_cells.proofs.text_rows.plain_row.Goals as goal
 
-pub loop-column-init : goal.loop-column-init
-loop-column-init g c =
-    let none : (0 == g.row.N) ≡ false = ne_eqb 0 g.row.N (λ e. omega (arith, c.requires.some)) in
-    rw none (plain-start c.args.kinds.now c.args.floor c.args.text.now (replicate g.row.N 0) c.in_ok-rest.rest.now (length-replicate g.row.N 0 ∙ sym c.told-kinds) c.in_ok-rest.ensures.begins, c.in_ok-rest.ensures.shorter)
-
 pub loop-column-preserved : goal.loop-column-preserved
 loop-column-preserved g c =
     let here : (c.loop-column.column == g.row.N) ≡ false = ne_eqb c.loop-column.column g.row.N (λ e. omega (arith, c.loop-column-test.true)) in

@@ -4,9 +4,6 @@ use Rattle.kt_cells.proofs.ReadingLemmas.{table_rows-row, front-start, front-mor
 use Rattle.kt_cells.proofs.TextLemmas.{row-taken}
 use Rattle.kt_cells.proofs.text_rows.read_plain_rows.Goals as goal
 
-pub loop-row-init : goal.loop-row-init
-loop-row-init g c = record { within = omega arith; front = front-start c.requires.fresh }
-
 pub take-requires : goal.take-requires
 take-requires g c =
     let row = c.in-Some.ensures.row in

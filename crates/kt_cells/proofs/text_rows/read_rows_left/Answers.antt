@@ -9,9 +9,6 @@ use Rattle.kt_cells.proofs.ReadingLemmas.{table_rows-row, table_rows-stops, fron
 use Rattle.kt_cells.proofs.TextLemmas.{row-taken}
 use Rattle.kt_cells.proofs.text_rows.read_rows_left.Goals as goal
 
-pub loop-count-init : goal.loop-count-init
-loop-count-init g c = record { stands = c.requires.stands; within = omega arith; front = front-start (λ start rows held. rw append-nil held) }
-
 pub returns-then-len-clause-refused : goal.returns-then-len-clause-refused
 unfolding table_rows
 returns-then-len-clause-refused g c =
