@@ -36,12 +36,6 @@ pub record RowRead (read : Kind → List ℕ → Result ℕ Cause) (row first : 
   pub so_far : all ≡ behind (take done values) (row_values read rule least row (first + done) (drop done kinds) left)
   pub width : length values ≡ length kinds
 
--- before the first column
-pub row-start : (read : Kind → List ℕ → Result ℕ Cause) (floor row first : ℕ) (kinds : List Kind) (cells : List (List ℕ)) (values : List ℕ) → length values ≡ length kinds → RowRead read row first kinds (row_values read 0 floor row first kinds cells) values 0 0 floor cells
-row-start read floor row first kinds cells values width =
-    let here : first + 0 ≡ first = omega arith in
-    record { so_far = rw here (sym (behind-nil _)); width = width }
-
 module _ {read : Kind → List ℕ → Result ℕ Cause} {row first : ℕ} {kinds : List Kind} {all : Result (List ℕ) TableStop} {values : List ℕ} {done rule least : ℕ} {left : List (List ℕ)} (now : RowRead read row first kinds all values done rule least left) where
   -- a value more
   pub row-more : (d : Kind) (cell : List ℕ) (rest : List (List ℕ)) (value : ℕ) → done < length kinds → left ≡ cell ∷ rest → value_from read least (under rule (get_or kinds done d)) cell ≡ Ok value

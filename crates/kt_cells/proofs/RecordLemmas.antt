@@ -17,7 +17,7 @@ use Rattle.kt_cells.specs.declared.stop.TableStop.{TableStop}
 use Rattle.kt_cells.specs.declared.stop.TableStop.TheVariants.{Bad, CutRecord}
 use Rattle.kt_cells.proofs.KindLemmas.{kind-facts, field_value-range}
 use Rattle.kt_cells.proofs.RangeLemmas.{AreRead, not_below-above, length-rows, row-read, row-range, rows-range, rows-read, read-rows, in_order-any}
-use Rattle.kt_cells.proofs.ReadingLemmas.{RowRead, row-start, row-more, row-stops, table_rows-row, table_rows-stops}
+use Rattle.kt_cells.proofs.ReadingLemmas.{RowRead, row-more, row-stops, table_rows-row, table_rows-stops}
 
 -- a record takes at most eight bytes a column
 pub record_width-most : (kinds : List Kind) → record_width kinds ≤ 8 * length kinds
@@ -62,10 +62,6 @@ no_floor (Err cause) = refl
 pub record RecordRead (row first : ℕ) (kinds : List Kind) (bytes values : List ℕ) (column rule : ℕ) (rest : List ℕ) : Type 0 where
   pub read : RowRead field_value row first kinds (row_values field_value 0 0 row first kinds (record_fields kinds bytes)) values column rule 0 (record_fields (drop column kinds) rest)
   pub whole : record_width (drop column kinds) ≤ length rest
-
--- before the first column
-pub record-start : (row first : ℕ) (kinds : List Kind) (bytes values : List ℕ) → length values ≡ length kinds → record_width kinds ≤ length bytes → RecordRead row first kinds bytes values 0 0 bytes
-record-start row first kinds bytes values long whole = record { read = row-start field_value 0 row first kinds (record_fields kinds bytes) values long; whole = whole }
 
 module _ {row first : ℕ} {kinds : List Kind} {bytes values : List ℕ} {column rule : ℕ} {rest : List ℕ} (now : RecordRead row first kinds bytes values column rule rest) (d : Kind) (field : column < length kinds) where
   -- the next field stands within the rest

@@ -15,7 +15,7 @@ use Rattle.kt_text.specs.PlainText.{BeginsField, EndsField, IsField, StandsBehin
 use Rattle.kt_cells.specs.Reading.{and_then, behind, row_values, rule_after, not_below, Tells-and_then}
 use Rattle.kt_cells.specs.Stops.{Tells}
 use Rattle.kt_cells.specs.Taking.{HandsFront, HandsOver, HasRow, TakesMore}
-use Rattle.kt_cells.proofs.ReadingLemmas.{RowRead, row-start, row-more, row-end}
+use Rattle.kt_cells.proofs.ReadingLemmas.{RowRead, row-more, row-end}
 
 -- the rows of a text are in range and in order
 pub texts-in_range : TextsAreInRange
@@ -44,10 +44,6 @@ pub record PlainRead (kinds : List Kind) (floor : ℕ) (text values : List ℕ) 
   pub counted : length fields ≡ done
   pub read : (number : ℕ) (more : List (List ℕ)) → RowRead text_value number 1 kinds (row_values text_value 0 floor number 1 kinds (fields ++ more)) values done rule least more
 
--- before the first field
-pub plain-start : (kinds : List Kind) (floor : ℕ) (text values rest : List ℕ) → length values ≡ length kinds → BeginsField text [] rest → PlainRead kinds floor text values 0 0 floor false rest
-plain-start kinds floor text values rest width begins = record { fields = []; stands = begins; counted = refl; read = λ number more. row-start text_value floor number 1 kinds more values width }
-
 -- a field more
 pub plain-more : {kinds : List Kind} {floor : ℕ} {text values : List ℕ} {done rule least : ℕ} {rest : List ℕ} → PlainRead kinds floor text values done rule least false rest → (d : Kind) (at_end : Bool) (size value : ℕ) (next : List ℕ) → done < length kinds
     → IsField rest size → text_value (under rule (get_or kinds done d)) (take size rest) ≡ Ok value → least ≤ value
@@ -72,16 +68,3 @@ plain-end now all = record {
   width = now.counted ∙ all;
   read = λ number. row-end (rw (append-nil now.fields) at (now.read number [])) all;
 }
-
--- what a sink takes of the rows that are left goes behind those before
-pub front-over : {S : Type 0} (takes_to : S → List (List ℕ) → S → Type 0) {start old new : S} {all left : Result (List (List ℕ)) TableStop} → HandsFront (λ rows. takes_to start rows old) all left → HandsOver (TakesMore takes_to old new) left
-    → HandsOver (λ rows. takes_to start rows new) all
-front-over takes_to {start = start} front over = record {
-  rows = front.rows ++ over.rows;
-  are_read = front.so_far ∙ ap (behind front.rows) over.are_read;
-  are_taken = over.are_taken start front.rows front.are_taken;
-}
-
--- and what stops them stops all
-pub told-front : {has_taken : List (List ℕ) → Type 0} {all left : Result (List (List ℕ)) TableStop} → HandsFront has_taken all left → (stop : TableStop) → Tells left stop → Tells all stop
-told-front {left = left} front stop told = rw front.so_far (Tells-and_then left (λ more. Ok (front.rows ++ more)) stop told)

@@ -50,8 +50,3 @@ unfolding rows_lines lines_behind
 lines-more None kinds out values (Ok rows) = ap Ok (sym (append_assoc out (line_with None kinds values) (rows_lines kinds rows)))
 lines-more (Some count) kinds out values (Ok rows) = ap Ok (sym (append_assoc out (line_with (Some count) kinds values) (lines_behind count kinds rows)))
 lines-more before kinds out values (Err stop) = refl
-
--- what stops the lines stops their rows
-pub lines-stop : (before : Option ℕ) (kinds : List Kind) (out : List ℕ) (rows : Result (List (List ℕ)) TableStop) (stop : TableStop) → lines_put before kinds out rows ≡ Err stop → rows ≡ Err stop
-lines-stop before kinds out (Ok rows) stop stopped = absurd (cc)
-lines-stop before kinds out (Err found) stop stopped = cc

@@ -2,7 +2,7 @@ use Rattle.std.proofs.Common.{[], replicate, sym, ◌∙◌, arith}
 use Rattle.std.proofs.lemmas.List.{drop_more, length-replicate}
 use Rattle.kt_cells.specs.Cells.{row_at}
 use Rattle.kt_cells.specs.declared.kind.Kind.TheVariants.{Id}
-use Rattle.kt_cells.proofs.ReadingLemmas.{row-start, row-more, row-stops, row-end}
+use Rattle.kt_cells.proofs.ReadingLemmas.{row-more, row-stops, row-end}
 use Rattle.kt_cells.proofs.reader.read_row.Goals as goal
 
 pub returns-in-Err : goal.returns-in-Err

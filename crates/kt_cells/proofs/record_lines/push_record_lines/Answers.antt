@@ -4,7 +4,7 @@ use Rattle.std.proofs.lemmas.List.{take_all}
 use Rattle.std.proofs.lemmas.Result.{err_from_is_err_and}
 use Rattle.kt_cells.specs.Stops.{Tells-refused}
 use Rattle.kt_cells.proofs.RecordLemmas.{behind-none, record-end}
-use Rattle.kt_cells.proofs.WritingLemmas.{lines_put, lines-end, lines-more, lines-stop}
+use Rattle.kt_cells.proofs.WritingLemmas.{lines_put, lines-end, lines-more}
 use Rattle.kt_cells.proofs.WritingLemmas.{more-none, more-piece}
 use Rattle.kt_cells.proofs.record_lines.push_record_lines.Goals as goal
 

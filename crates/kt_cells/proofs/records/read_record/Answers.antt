@@ -2,7 +2,7 @@ use Rattle.std.proofs.Common.{sym, arith, refl, ◌∙◌}
 use Rattle.std.proofs.lemmas.List.{take_rest}
 use Rattle.kt_cells.specs.declared.kind.Kind.TheVariants.{Id}
 use Rattle.kt_cells.proofs.ReadingLemmas.{row-end}
-use Rattle.kt_cells.proofs.RecordLemmas.{record-start, record-more, record-stops}
+use Rattle.kt_cells.proofs.RecordLemmas.{record-more, record-stops}
 use Rattle.kt_cells.proofs.records.read_record.Goals as goal
 
 pub returns-in-Err-clause-refused : goal.returns-in-Err-clause-refused

@@ -2,7 +2,7 @@ use Rattle.std.proofs.Common.{◌≡◌, ◌==◌, false, true, replicate, sym, 
 use Rattle.std.proofs.lemmas.Bool.{eq-eqb, ne_eqb}
 use Rattle.std.proofs.lemmas.List.{length-replicate, take_rest}
 use Rattle.kt_cells.specs.declared.kind.Kind.TheVariants.{Id}
-use Rattle.kt_cells.proofs.TextLemmas.{plain-start, plain-more, plain-end}
+use Rattle.kt_cells.proofs.TextLemmas.{plain-more, plain-end}
 use Rattle.kt_cells.proofs.text_rows.plain_row.Goals as goal
 
 pub loop-column-preserved : goal.loop-column-preserved
