@@ -161,9 +161,9 @@ rows-records first kinds bytes rows some good =
     (rows-read field_value false first kinds 0 1 (whole_records kinds bytes) rows some (found.1 ∙ ap Ok same)).0
 
 -- they are in range, and as many as there are whole records
-pub records-range : (first : ℕ) (kinds : List Kind) (bytes : List ℕ) (rows : List (List ℕ)) → 0 < length kinds → record_rows first kinds bytes ≡ Ok rows → AreRows kinds rows
-records-range first kinds bytes rows some good = rows-range field_value field_value-range kinds (whole_records kinds bytes) rows (rows-records first kinds bytes rows some good)
+pub records_in_range : (first : ℕ) (kinds : List Kind) (bytes : List ℕ) (rows : List (List ℕ)) → 0 < length kinds → record_rows first kinds bytes ≡ Ok rows → AreRows kinds rows
+records_in_range first kinds bytes rows some good = rows-range field_value field_value-range kinds (whole_records kinds bytes) rows (rows-records first kinds bytes rows some good)
 
-pub records-count : (first : ℕ) (kinds : List Kind) (bytes : List ℕ) (rows : List (List ℕ)) → 0 < length kinds → record_rows first kinds bytes ≡ Ok rows → length rows ≡ record_count kinds bytes
-records-count first kinds bytes rows some good =
+pub records_counted : (first : ℕ) (kinds : List Kind) (bytes : List ℕ) (rows : List (List ℕ)) → 0 < length kinds → record_rows first kinds bytes ≡ Ok rows → length rows ≡ record_count kinds bytes
+records_counted first kinds bytes rows some good =
     length-rows field_value kinds (whole_records kinds bytes) rows (rows-records first kinds bytes rows some good) ∙ length-records_in kinds (record_count kinds bytes) bytes

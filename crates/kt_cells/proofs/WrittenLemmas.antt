@@ -15,7 +15,7 @@ use Rattle.kt_cells.specs.Records.{record_width, record_fields, records_in, reco
 use Rattle.kt_cells.specs.declared.kind.Kind.{Kind}
 use Rattle.kt_cells.proofs.KindLemmas.{number-read_back}
 use Rattle.kt_cells.proofs.RangeLemmas.{IsRead, AreRead}
-use Rattle.kt_cells.proofs.RecordLemmas.{records-rows, rows-records, records-count}
+use Rattle.kt_cells.proofs.RecordLemmas.{records-rows, rows-records, records_counted}
 
 -- a record in range has the bytes of its columns
 length-record_bytes : (rule : ℕ) (kinds : List Kind) (values : List ℕ) → IsRow rule kinds values → length (record_bytes kinds values) ≡ record_width kinds
@@ -97,7 +97,7 @@ pub slices : SlicesGiveSlices
 slices first kinds bytes rows from count some good within =
     let w : ℕ = record_width kinds in
     let n : ℕ = record_count kinds bytes in
-    let many : length rows ≡ n = records-count first kinds bytes rows some good in
+    let many : length rows ≡ n = records_counted first kinds bytes rows some good in
     let fits : (from + count) * w ≤ n * w = mul-le-mul_right w (omega (arith, many, within)) in
     let sum_is : (from + count) * w ≡ from * w + count * w = grind arith in
     records-rows first count kinds (take (count * w) (drop (from * w) bytes)) (take count (drop from rows)) some

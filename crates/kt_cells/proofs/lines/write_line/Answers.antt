@@ -17,10 +17,7 @@ loop-column-preserved g c =
     c.write_value-at.ensures.start
     c.write_value-at.ensures.short
 
-pub returns : goal.returns
-returns g c =
-    let none : c.loop-column.column ≡ 0 = omega arith in record {
-      start = c.loop-column.invariant.inside;
-      room = omega (arith, c.loop-column.invariant.room, c.told-kinds, c.requires.size);
-      written = (rw none at c.loop-column.invariant).line_is ∙ line-start c.args.kinds.now c.args.values.now (omega (arith, c.told-kinds, c.requires.some)) (omega (arith, c.told-kinds, c.told-values));
-    }
+pub returns-clause-written : goal.returns-clause-written
+returns-clause-written g c =
+    let none : c.loop-column.column ≡ 0 = omega arith in
+    (rw none at c.loop-column.invariant).line_is ∙ line-start c.args.kinds.now c.args.values.now (omega (arith, c.told-kinds, c.requires.some)) (omega (arith, c.told-kinds, c.told-values))

@@ -27,9 +27,3 @@ returns-clause-ok g c =
     c.loop-rest.invariant.text
     ∙ ap (lines_put c.args.before c.args.kinds.now c.loop-rest.out) (record-end c.loop-rest.row c.args.first c.args.kinds.now c.loop-rest.rest.now (omega arith) (grind (arith, nat_tests)))
     ∙ lines-end c.args.before c.args.kinds.now c.loop-rest.out
-
-pub returns-in_err-rest-clause-kept : goal.returns-in_err-rest-clause-kept
-returns-in_err-rest-clause-kept g c = let p = err_from_is_err_and c.from_residual.result c.from_residual.ensures.1 in rw p.1 c.loop-rest.invariant.kept
-
-pub returns-in_err-append-clause-kept : goal.returns-in_err-append-clause-kept
-returns-in_err-append-clause-kept g c = let p = err_from_is_err_and c.from_residual-in_err-append.result c.from_residual-in_err-append.ensures.1 in rw (p.1, c.in_err-append.ensures.unchanged) c.loop-rest.invariant.kept

@@ -4,7 +4,7 @@ use Rattle.std.proofs.lemmas.Result.{err_from_is_err_and}
 use Rattle.kt_cells.specs.Stops.{Tells-refused}
 use Rattle.kt_cells.proofs.KindLemmas.{IsRow-fits}
 use Rattle.kt_cells.proofs.ReadingLemmas.{front-start, front-more, front-stops, front-end}
-use Rattle.kt_cells.proofs.RecordLemmas.{behind-none, record-end, records-range, records-count}
+use Rattle.kt_cells.proofs.RecordLemmas.{behind-none, record-end, records_in_range, records_counted}
 use Rattle.kt_cells.proofs.records.read_records.Goals as goal
 
 pub loop-rest-init : goal.loop-rest-init
@@ -17,9 +17,3 @@ take-requires g c =
 
 pub returns-clause-value : goal.returns-clause-value
 returns-clause-value g c = front-end c.loop-rest.invariant.front (record-end c.loop-rest.row c.args.first c.args.kinds.now c.loop-rest.rest.now (omega arith) (grind (arith, nat_tests)))
-
-pub returns-clause-ranges : goal.returns-clause-ranges
-returns-clause-ranges g c = λ rows. records-range c.args.first c.args.kinds.now c.args.bytes.now rows (omega (arith, c.told-kinds, c.requires.some))
-
-pub returns-clause-count : goal.returns-clause-count
-returns-clause-count g c = λ rows. records-count c.args.first c.args.kinds.now c.args.bytes.now rows (omega (arith, c.told-kinds, c.requires.some))
