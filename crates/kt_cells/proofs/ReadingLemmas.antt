@@ -60,9 +60,9 @@ module _ {read : Kind → List ℕ → Result ℕ Cause} {row first : ℕ} {kind
       sym (now.so_far ∙ ap (behind (take done values)) step)
 
   -- all columns are read
-  pub row-end : done ≡ length kinds → Ok values ≡ all
+  pub row_end : done ≡ length kinds → Ok values ≡ all
   unfolding row_values
-  row-end last =
+  row_end last =
       let none : drop done kinds ≡ [] = rw last (drop-length kinds) in
       let step : row_values read rule least row (first + done) (drop done kinds) left ≡ Ok [] = rw none refl in
       sym (now.so_far ∙ ap (behind (take done values)) step ∙ ap Ok (append-nil _ ∙ take_all done values (omega (arith, now.width, last))))

@@ -94,8 +94,8 @@ module _ {row first : ℕ} {kinds : List Kind} {bytes values : List ℕ} {column
   record-stops cause found = row-stops now.read d _ _ cause field next (number-value (Err cause) found)
 
 -- the values of a record are in range
-pub record-range : (row first : ℕ) (kinds : List Kind) (bytes values : List ℕ) → row_values field_value 0 0 row first kinds (record_fields kinds bytes) ≡ Ok values → IsRow 0 kinds values
-record-range row first kinds bytes values good =
+pub record_in_range : (row first : ℕ) (kinds : List Kind) (bytes values : List ℕ) → row_values field_value 0 0 row first kinds (record_fields kinds bytes) ≡ Ok values → IsRow 0 kinds values
+record_in_range row first kinds bytes values good =
     row-range field_value field_value-range 0 kinds (record_fields kinds bytes) values (row-read field_value 0 0 row first kinds (record_fields kinds bytes) values (length-record_fields kinds bytes) good).0
 
 -- a row in front of others comes before the end

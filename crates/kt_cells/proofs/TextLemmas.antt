@@ -15,7 +15,7 @@ use Rattle.kt_text.specs.PlainText.{BeginsField, EndsField, IsField, StandsBehin
 use Rattle.kt_cells.specs.Reading.{and_then, behind, row_values, rule_after, not_below, Tells-and_then}
 use Rattle.kt_cells.specs.Stops.{Tells}
 use Rattle.kt_cells.specs.Taking.{HandsFront, HandsOver, HasRow, TakesMore}
-use Rattle.kt_cells.proofs.ReadingLemmas.{RowRead, row-more, row-end}
+use Rattle.kt_cells.proofs.ReadingLemmas.{RowRead, row-more, row_end}
 
 -- the rows of a text are in range and in order
 pub texts-in_range : TextsAreInRange
@@ -66,5 +66,5 @@ plain-end now all = record {
   fields = now.fields;
   split = now.stands;
   width = now.counted ∙ all;
-  read = λ number. row-end (rw (append-nil now.fields) at (now.read number [])) all;
+  read = λ number. row_end (rw (append-nil now.fields) at (now.read number [])) all;
 }

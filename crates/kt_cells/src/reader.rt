@@ -66,6 +66,7 @@ fn value_of<const N: usize, C: Cells<N>>(
 
 /// The values of a row, which is named by its number. The floor is for the first of them.
 #[inline(always)]
+#[tactic(auto, using(crate::proofs::ReadingLemmas::row_end))]
 pub(crate) fn read_row<const N: usize, C: Cells<N>>(
     cells: &C,
     kinds: &[Kind; N],

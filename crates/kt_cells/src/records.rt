@@ -43,7 +43,7 @@ fn number(bytes: &[u8], width: usize) -> u64
 // Reads the values of the record at the front of some bytes, the first column of which has the number `first`. An error
 // is the first bad field; its row is `row`.
 #[inline(always)]
-#[tactic(auto, using(crate::proofs::RecordLemmas::field_within))]
+#[tactic(auto, using(crate::proofs::RecordLemmas::field_within, crate::proofs::ReadingLemmas::row_end))]
 fn read_record<const N: usize>(
     kinds: &[Kind; N],
     first: u32,
@@ -83,6 +83,7 @@ fn read_record<const N: usize>(
 /// Reads the record at the front of the bytes that are left behind so many records, of so many bytes each, and gives the
 /// bytes behind it. An error is its first bad field, or that it is cut by the end.
 #[inline(always)]
+#[tactic(auto, using(crate::proofs::RecordLemmas::record_in_range))]
 pub(crate) fn next_record<'a, const N: usize>(
     kinds: &[Kind; N],
     first: u32,

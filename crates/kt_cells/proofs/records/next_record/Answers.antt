@@ -1,7 +1,7 @@
 use Rattle.std.proofs.Common.{◌+◌, arith}
 use Rattle.std.proofs.lemmas.List.{take_rest}
 use Rattle.std.proofs.lemmas.Result.{err_from_is_err_and}
-use Rattle.kt_cells.proofs.RecordLemmas.{record-good, record-bad, record-cut, record-range}
+use Rattle.kt_cells.proofs.RecordLemmas.{record-good, record-bad, record-cut, record_in_range}
 use Rattle.kt_cells.proofs.records.next_record.Goals as goal
 
 pub returns-then-bytes-width-clause-refused : goal.returns-then-bytes-width-clause-refused
@@ -15,6 +15,3 @@ returns-in_err-read_record-clause-refused g c =
 pub returns-clause-next : goal.returns-clause-next
 returns-clause-next g c =
     rw (take_rest, c.requires.width) (record-good c.args.before c.args.first c.args.kinds.now c.args.bytes.now (omega arith) (omega arith) c.read_record.new.values c.in_ok-read_record.ensures.ok)
-
-pub returns-clause-range : goal.returns-clause-range
-returns-clause-range g c = record-range (c.args.before + 1) c.args.first c.args.kinds.now c.args.bytes.now c.read_record.new.values c.in_ok-read_record.ensures.ok

@@ -1,7 +1,7 @@
 use Rattle.std.proofs.Common.{sym, arith, refl, ◌∙◌}
 use Rattle.std.proofs.lemmas.List.{take_rest}
 use Rattle.kt_cells.specs.declared.kind.Kind.TheVariants.{Id}
-use Rattle.kt_cells.proofs.ReadingLemmas.{row-end}
+use Rattle.kt_cells.proofs.ReadingLemmas.{row_end}
 use Rattle.kt_cells.proofs.RecordLemmas.{record-more, record-stops}
 use Rattle.kt_cells.proofs.records.read_record.Goals as goal
 
@@ -15,6 +15,3 @@ loop-column-preserved g c =
     rw (take_rest, c.rule_after-rule.ensures, c.width-width.ensures)
     (record-more c.loop-column.invariant Id (omega (arith, c.told-kinds)) c.in-Ok.value
     (sym c.in-Ok.is ∙ rw (c.in_range.ensures, c.under.ensures, c.number.ensures, c.width-width.ensures) refl))
-
-pub returns-clause-ok : goal.returns-clause-ok
-returns-clause-ok g c = sym (row-end c.loop-column.invariant.read (omega (arith, c.told-kinds)))
