@@ -11,10 +11,9 @@ use Rattle.kt_cells.specs.declared.stop.TableStop.{TableStop}
 use Rattle.kt_cells.proofs.KindLemmas.{text_value-range, IsRow-fits}
 use Rattle.kt_cells.proofs.RangeLemmas.{rows-read, rows-range, not_below-above, row-read, row-range}
 use Rattle.std.proofs.lemmas.List.{append-nil}
-use Rattle.kt_text.specs.PlainText.{BeginsField, EndsField, IsField, StandsBehind}
-use Rattle.kt_cells.specs.Reading.{and_then, behind, row_values, rule_after, not_below, Tells-and_then}
-use Rattle.kt_cells.specs.Stops.{Tells}
-use Rattle.kt_cells.specs.Taking.{HandsFront, HandsOver, HasRow, TakesMore}
+use Rattle.kt_text.specs.PlainText.{EndsField, IsField, StandsBehind}
+use Rattle.kt_cells.specs.Reading.{and_then, row_values, rule_after, not_below}
+use Rattle.kt_cells.specs.Taking.{HasRow}
 use Rattle.kt_cells.proofs.ReadingLemmas.{RowRead, row-more, row_end}
 
 -- the rows of a text are in range and in order

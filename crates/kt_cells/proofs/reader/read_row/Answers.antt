@@ -1,8 +1,8 @@
-use Rattle.std.proofs.Common.{[], replicate, sym, ◌∙◌, arith}
-use Rattle.std.proofs.lemmas.List.{drop_more, length-replicate}
+use Rattle.std.proofs.Common.{[], sym, arith}
+use Rattle.std.proofs.lemmas.List.{drop_more}
 use Rattle.kt_cells.specs.Cells.{row_at}
 use Rattle.kt_cells.specs.declared.kind.Kind.TheVariants.{Id}
-use Rattle.kt_cells.proofs.ReadingLemmas.{row-more, row-stops, row_end}
+use Rattle.kt_cells.proofs.ReadingLemmas.{row-more, row-stops}
 use Rattle.kt_cells.proofs.reader.read_row.Goals as goal
 
 pub returns-in-Err : goal.returns-in-Err

@@ -3,7 +3,7 @@ use Rattle.std.proofs.lemmas.List.{drop_all, drop_more}
 use Rattle.std.proofs.lemmas.Result.{err_from_is_err_and}
 use Rattle.kt_cells.specs.Reading.{table_rows}
 use Rattle.kt_cells.specs.Stops.{Tells-refused}
-use Rattle.kt_cells.proofs.ReadingLemmas.{table_rows-row, table_rows-stops, front-start, front-more, front-stops, front-end}
+use Rattle.kt_cells.proofs.ReadingLemmas.{table_rows-row, table_rows-stops, front-more, front-stops, front-end}
 use Rattle.kt_cells.proofs.reader.read_rows.Goals as goal
 
 pub returns-in_err-values-clause-refused : goal.returns-in_err-values-clause-refused

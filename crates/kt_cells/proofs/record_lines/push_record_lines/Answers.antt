@@ -1,8 +1,6 @@
 use Rattle.std.proofs.Common.{◌-◌, ◌∙◌, ap, arith, drop, length-drop, refl}
 use Rattle.std.proofs.lemmas.Bool.Decides.{nat_tests}
 use Rattle.std.proofs.lemmas.List.{take_all}
-use Rattle.std.proofs.lemmas.Result.{err_from_is_err_and}
-use Rattle.kt_cells.specs.Stops.{Tells-refused}
 use Rattle.kt_cells.proofs.RecordLemmas.{behind-none, record-end}
 use Rattle.kt_cells.proofs.WritingLemmas.{lines_put, lines-end, lines-more}
 use Rattle.kt_cells.proofs.WritingLemmas.{more-none, more-piece}

@@ -1,8 +1,7 @@
-use Rattle.std.proofs.Common.{append_assoc, arith, refl}
+use Rattle.std.proofs.Common.{append_assoc, arith}
 use Rattle.std.proofs.lemmas.List.{append-nil}
-use Rattle.std.proofs.lemmas.Result.{err_from_is_err_and}
 use Rattle.kt_cells.specs.declared.kind.Kind.TheVariants.{Id}
-use Rattle.kt_cells.proofs.WritingLemmas.{record_bytes-more, record_bytes-end, more-none, more-piece}
+use Rattle.kt_cells.proofs.WritingLemmas.{record_bytes-more, record_bytes-end, more-piece}
 use Rattle.kt_cells.proofs.record_writer.push_record.Goals as goal
 
 pub loop-column-preserved : goal.loop-column-preserved

@@ -1,7 +1,7 @@
-use Rattle.std.proofs.Common.{◌+◌, arith}
+use Rattle.std.proofs.Common.{arith}
 use Rattle.std.proofs.lemmas.List.{take_rest}
 use Rattle.std.proofs.lemmas.Result.{err_from_is_err_and}
-use Rattle.kt_cells.proofs.RecordLemmas.{record-good, record-bad, record-cut, record_in_range}
+use Rattle.kt_cells.proofs.RecordLemmas.{record-good, record-bad, record-cut}
 use Rattle.kt_cells.proofs.records.next_record.Goals as goal
 
 pub returns-then-bytes-width-clause-refused : goal.returns-then-bytes-width-clause-refused

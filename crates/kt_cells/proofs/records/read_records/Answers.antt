@@ -1,10 +1,8 @@
 use Rattle.std.proofs.Common.{arith}
 use Rattle.std.proofs.lemmas.Bool.Decides.{nat_tests}
-use Rattle.std.proofs.lemmas.Result.{err_from_is_err_and}
-use Rattle.kt_cells.specs.Stops.{Tells-refused}
 use Rattle.kt_cells.proofs.KindLemmas.{IsRow-fits}
-use Rattle.kt_cells.proofs.ReadingLemmas.{front-start, front-more, front-stops, front-end}
-use Rattle.kt_cells.proofs.RecordLemmas.{behind-none, record-end, records_in_range, records_counted}
+use Rattle.kt_cells.proofs.ReadingLemmas.{front-start, front-end}
+use Rattle.kt_cells.proofs.RecordLemmas.{behind-none, record-end}
 use Rattle.kt_cells.proofs.records.read_records.Goals as goal
 
 pub loop-rest-init : goal.loop-rest-init

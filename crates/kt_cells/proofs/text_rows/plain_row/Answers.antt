@@ -1,6 +1,6 @@
-use Rattle.std.proofs.Common.{◌≡◌, ◌==◌, false, true, replicate, sym, ◌∙◌, arith, length-drop}
+use Rattle.std.proofs.Common.{◌≡◌, ◌==◌, false, true, sym, ◌∙◌, arith, length-drop}
 use Rattle.std.proofs.lemmas.Bool.{eq-eqb, ne_eqb}
-use Rattle.std.proofs.lemmas.List.{length-replicate, take_rest}
+use Rattle.std.proofs.lemmas.List.{take_rest}
 use Rattle.kt_cells.specs.declared.kind.Kind.TheVariants.{Id}
 use Rattle.kt_cells.proofs.TextLemmas.{plain-more, plain-end}
 use Rattle.kt_cells.proofs.text_rows.plain_row.Goals as goal

@@ -1,6 +1,6 @@
 use Rattle.std.proofs.Common.{◌+◌, arith}
 use Rattle.kt_cells.specs.Texts.{text_value}
-use Rattle.kt_cells.proofs.ReadingLemmas.{table_rows-row, front-start, front-more}
+use Rattle.kt_cells.proofs.ReadingLemmas.{table_rows-row, front-more}
 use Rattle.kt_cells.proofs.TextLemmas.{row-taken}
 use Rattle.kt_cells.proofs.text_rows.read_plain_rows.Goals as goal
 

@@ -1,11 +1,10 @@
 use Rattle.std.proofs.Common.{◌+◌, append_assoc, sym, ◌∙◌, arith, refl}
 use Rattle.std.proofs.lemmas.Bool.{MatchBool-at_true, MatchBool-at_false, ne_eqb}
-use Rattle.std.proofs.lemmas.List.{append-nil}
 use Rattle.std.proofs.lemmas.Result.{err_from_is_err_and}
 use Rattle.kt_cells.specs.Reading.{table_rows}
 use Rattle.kt_cells.specs.Stops.{Tells-refused}
 use Rattle.kt_cells.specs.Texts.{text_value}
-use Rattle.kt_cells.proofs.ReadingLemmas.{table_rows-row, table_rows-stops, front-start, front-more, front-stops, front-end}
+use Rattle.kt_cells.proofs.ReadingLemmas.{table_rows-row, table_rows-stops, front-more, front-stops, front-end}
 use Rattle.kt_cells.proofs.TextLemmas.{row-taken}
 use Rattle.kt_cells.proofs.text_rows.read_rows_left.Goals as goal
 
