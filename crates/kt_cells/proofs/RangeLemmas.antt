@@ -1,4 +1,4 @@
--- What is read, value by value: it is in range and in order, and is read under any number.
+-- What is read, value by value: it is in range and in order, and is read so under any number.
 use Rattle.std.proofs.Common.{◌≡◌, ℕ, suc, ◌+◌, ◌<◌, ◌≤◌, Bool, false, List, [], ◌∷◌, length, get_or, refl, sym, ap, ◌∙◌, arith, inl, inr}
 use Rattle.std.specs.Prelude.{Result, Ok, Err, ◌==◌}
 use Rattle.std.specs.List.{AllZip}

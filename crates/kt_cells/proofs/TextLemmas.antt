@@ -1,4 +1,4 @@
--- The rows of a text: how far one is read field by field, and what comes behind those that are read.
+-- The rows of a text: their ranges, what a sink takes of one, and how far one is read field by field.
 use Rattle.std.proofs.Common.{◌≡◌, ◌<◌, ℕ, Bool, List, length, sym, ◌+◌, ◌≤◌, true, false, [], ◌∷◌, ◌++◌, take, drop, get_or, refl, ap, ◌∙◌, arith, length-append, append_assoc}
 use Rattle.std.specs.Prelude.{Result, Ok, Err, OnOk, slice_set}
 use Rattle.kt_text.specs.Rows.{csv_rows}

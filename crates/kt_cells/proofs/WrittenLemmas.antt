@@ -10,7 +10,7 @@ use Rattle.kt_cells.specs.Header.{header_extra, header_bytes, mark, version, num
 use Rattle.kt_cells.specs.Kinds.{width, within}
 use Rattle.kt_cells.specs.Laws.{RecordsAreReadBack, HeadersAreReadBack, SlicesGiveSlices}
 use Rattle.kt_cells.specs.Ranges.{IsRow, AreRows}
-use Rattle.kt_cells.specs.Reading.{rule_after}
+use Rattle.kt_cells.specs.Reading.{rule_after, at_place}
 use Rattle.kt_cells.specs.Records.{record_width, record_fields, records_in, record_bytes, records_bytes, record_count, field_value}
 use Rattle.kt_cells.specs.declared.kind.Kind.{Kind}
 use Rattle.kt_cells.proofs.KindLemmas.{number-read_back}
@@ -105,18 +105,18 @@ slices first kinds bytes rows from count some good within =
     (records-front kinds count (n - from) (drop (from * w) bytes) (drop from rows) (omega (arith, many, within))
     (records-behind kinds from (n - from) n bytes rows (omega (arith, many, within)) (rows-records first kinds bytes rows some good)))
 
--- a header with good numbers
-header_by : (number least most extra : ℕ) (bytes : List ℕ) → 16 ≤ length bytes → little_number 4 bytes ≡ mark → number_at 4 bytes ≡ number → number_at 8 bytes ≡ version → number_at 12 bytes ≡ extra → least ≤ extra → extra ≤ most
-    → header_extra number least most bytes ≡ Ok extra
+-- a header with good numbers gives its last one, if that is within its bounds
+pub header_by : (number least most : ℕ) (bytes : List ℕ) → 16 ≤ length bytes → little_number 4 bytes ≡ mark → number_at 4 bytes ≡ number → number_at 8 bytes ≡ version
+    → header_extra number least most bytes ≡ at_place 0 0 (within least most (number_at 12 bytes))
 unfolding header_extra
-header_by number least most extra bytes long marked numbered versioned extra_is low high = grind (arith, nat_tests)
+header_by number least most bytes long marked numbered versioned = grind (arith, nat_tests)
 
 -- a header is read back
 pub headers-read_back : HeadersAreReadBack
 headers-read_back number least most extra rest numbered low high small =
-    header_by number least most extra (header_bytes number extra ++ rest) (omega arith)
+    let within_bounds : within least most extra ≡ Ok extra = grind (arith, nat_tests) in
+    header_by number least most (header_bytes number extra ++ rest) (omega arith)
     (little_number-reads_back 4 mark (little_bytes 4 number ++ (little_bytes 4 version ++ (little_bytes 4 extra ++ rest))) (omega arith))
     (little_number-reads_back 4 number (little_bytes 4 version ++ (little_bytes 4 extra ++ rest)) (omega arith))
     (little_number-reads_back 4 version (little_bytes 4 extra ++ rest) (omega arith))
-    (little_number-reads_back 4 extra rest (omega arith))
-    low high
+    ∙ rw (little_number-reads_back 4 extra rest (omega arith), within_bounds) refl
