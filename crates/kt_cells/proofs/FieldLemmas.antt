@@ -1,16 +1,19 @@
 -- The fields of a line, put in front of each other from the last to the first.
-use Rattle.std.proofs.Common.{◌≡◌, ℕ, zero, suc, ◌+◌, ◌*◌, ◌/◌, ◌-◌, ◌^◌, ◌<◌, ◌≤◌, List, [], ◌∷◌, ◌++◌, length, take, drop, get_or, refl, sym, ap, ◌∙◌, arith, append_assoc, length-append}
-use Rattle.std.specs.Prelude.{decimal, slice_set}
+use Rattle.std.proofs.Common.{◌≡◌, ℕ, zero, suc, ◌+◌, ◌*◌, ◌/◌, ◌-◌, ◌^◌, ◌<◌, ◌≤◌, List, [], ◌∷◌, ◌++◌, length, take, drop, get_or, refl, sym, ap, ◌∙◌, arith, append_assoc, length-append, length-drop}
+use Rattle.std.specs.Prelude.{Ok, decimal, slice_set}
 use Rattle.std.proofs.lemmas.Fmt.{length-decimal-le}
 use Rattle.std.proofs.lemmas.List.{append-nil, take_all, drop_all, drop_more, drop-set, take_more_set}
 use Rattle.std.proofs.Math.ListN.{length-set}
+use Rattle.std.proofs.Math.Seq.{drop-length}
 use Rattle.kt_money.specs.NumberText.{plain, padded_digits}
 use Rattle.kt_money.specs.NumberTextLaws.{plain-decimals, length-padded_digits}
-use Rattle.kt_cells.specs.Kinds.{under}
-use Rattle.kt_cells.specs.Lines.{line, fields_behind, units_under}
+use Rattle.kt_cells.specs.Kinds.{under, in_range}
+use Rattle.kt_cells.specs.Lines.{line, fields_behind, separator, units_under}
 use Rattle.kt_cells.specs.Reading.{rule_after}
 use Rattle.kt_cells.specs.Texts.{row_texts, value_text}
 use Rattle.kt_cells.specs.declared.kind.Kind.{Kind}
+use Rattle.kt_cells.specs.declared.kind.Kind.TheVariants as kind
+use Rattle.kt_cells.proofs.WritingLemmas.{line_rest, line_rest-field, line_rest-later, line_rest-end}
 
 -- a number with decimals takes a point and those behind it
 pub length-plain : (whole scale value : ℕ) → 1 ≤ scale → 1 ≤ whole → value / 10 ^ scale < 10 ^ whole → value / 10 ^ scale < 2 ^ 64 → length (plain scale value) ≤ whole + 1 + scale
@@ -60,47 +63,39 @@ module _ {kinds : List Kind} {values : List ℕ} {units : List Kind} {done rule 
       let none : drop done kinds ≡ [] = drop_all done kinds (omega arith) in
       sym (take_all done units (omega (arith, now.width))) ∙ sym (append-nil (take done units)) ∙ (rw none at now.so_far)
 
--- the fields of a line from a column on, each with a comma in front, stand at the end of a buffer of 2,400 bytes, with room
--- for those before
+-- the fields of a line from a column on stand at the end of a buffer of 2,400 bytes, with room for those before
 pub record LineFrom (kinds : List Kind) (values text : List ℕ) (at column : ℕ) : Type 0 where
-  pub line_is : drop at text ≡ fields_behind (drop column (row_texts 0 kinds values))
+  pub line_is : drop at text ≡ line_rest column (drop column (row_texts 0 kinds values))
   pub room : 2400 + column * 24 ≤ at + 1 + length kinds * 24
-  pub inside : at < 2400
+  pub inside : at ≤ 2400
   pub long : length text ≡ 2400
   pub within : column ≤ length kinds
 
 -- the line feed stands behind the last field
-pub line-end : (kinds : List Kind) (values text : List ℕ) → length values ≡ length kinds → length text ≡ 2400 → LineFrom kinds values (slice_set text 2399 10) 2399 (length kinds)
-unfolding fields_behind
-line-end kinds values text same long =
+pub line_from-end : (kinds : List Kind) (values text : List ℕ) → length values ≡ length kinds → length text ≡ 2400 → LineFrom kinds values (slice_set text 2399 10) 2399 (length kinds)
+line_from-end kinds values text same long =
     let none : drop (length kinds) (row_texts 0 kinds values) ≡ [] = drop_all (length kinds) (row_texts 0 kinds values) (omega (arith, length-row_texts 0 kinds values same)) in
     record {
-      line_is = drop-set text 2399 10 (omega (arith, long)) ∙ rw (drop_all 2400 text (omega (arith, long)), none) refl;
+      line_is = drop-set text 2399 10 (omega (arith, long)) ∙ rw (drop_all 2400 text (omega (arith, long)), none) (sym (line_rest-end (length kinds)));
       room = omega arith;
       inside = omega arith;
       long = length-set text 2399 10 ∙ long;
       within = omega arith;
     }
 
--- a field more
-pub line-more : {kinds : List Kind} {values text : List ℕ} {at column : ℕ} → LineFrom kinds values text at (column + 1) → (next : List ℕ) (start : ℕ) (d : Kind) → length values ≡ length kinds
-    → drop start next ≡ value_text (get_or (units_under 0 kinds values) column d) (get_or values column 0) ++ drop at text
-    → length next ≡ length text → 0 < start → start ≤ at → at ≤ start + 23 → LineFrom kinds values (slice_set next (start - 1) 44) (start - 1) column
-unfolding fields_behind
-line-more {kinds} {values} {text} {at} {column} now next start d same put long some before short =
+-- a field more, with its separator
+pub line_from-more : {kinds : List Kind} {values text : List ℕ} {at column : ℕ} → LineFrom kinds values text at (column + 1) → (next : List ℕ) (start : ℕ) (d : Kind) → length values ≡ length kinds
+    → drop start next ≡ separator column ++ (value_text (get_or (units_under 0 kinds values) column d) (get_or values column 0) ++ drop at text)
+    → length next ≡ length text → start ≤ at → at ≤ start + 24 → LineFrom kinds values next start column
+line_from-more {kinds} {values} {text} {at} {column} now next start d same put long before short =
     let texts : List (List ℕ) = row_texts 0 kinds values in
     let split : drop column texts ≡ get_or texts column [] ∷ drop (column + 1) texts = drop_more texts column [] (omega (arith, now.within, length-row_texts 0 kinds values same)) in
-    let one : start - 1 + 1 ≡ start = omega arith in
+    let field = row_texts-field 0 kinds values column d same (omega (arith, now.within)) in
+    let behind : drop at text ≡ fields_behind (drop (column + 1) texts) = now.line_is ∙ line_rest-later column (drop (column + 1) texts) in
     record {
-      line_is = drop-set next (start - 1) 44 (omega (arith, now.inside, now.long, long)) ∙ rw (one, put, split, row_texts-field 0 kinds values column d same (omega (arith, now.within)), now.line_is) refl;
+      line_is = put ∙ rw (split, field, behind) (sym (line_rest-field column _ _));
       room = omega (arith, now.room, short);
       inside = omega (arith, now.inside, before);
-      long = length-set next (start - 1) 44 ∙ long ∙ now.long;
+      long = long ∙ now.long;
       within = omega (arith, now.within);
     }
-
--- all fields of a row are a line behind a comma
-pub line-start : (kinds : List Kind) (values : List ℕ) → 0 < length kinds → length values ≡ length kinds → fields_behind (row_texts 0 kinds values) ≡ 44 ∷ line (row_texts 0 kinds values)
-unfolding fields_behind line row_texts
-line-start (kind ∷ kinds) (value ∷ values) some same = refl
-line-start kinds values some same = absurd (omega arith)

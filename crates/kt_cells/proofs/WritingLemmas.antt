@@ -1,13 +1,14 @@
 -- How far a row is written as a record, and records as lines.
-use Rattle.std.proofs.Common.{◌≡◌, ℕ, ◌+◌, ◌<◌, ◌≤◌, List, [], ◌∷◌, ◌++◌, length, drop, get_or, refl, sym, ap, ◌∙◌, arith, append_assoc}
-use Rattle.std.specs.Prelude.{Result, Ok, Err, Option, None, Some}
+use Rattle.std.proofs.lemmas.Bool.Decides.{nat_tests}
+use Rattle.std.proofs.Common.{◌≡◌, ℕ, ◌+◌, ◌<◌, ◌≤◌, List, [], ◌∷◌, ◌++◌, length, drop, get_or, refl, sym, ap, ◌∙◌, arith, append_assoc, zero, suc, add-one}
+use Rattle.std.specs.Prelude.{Result, Ok, Err, Option, None, Some, ◌==◌, false}
 use Rattle.std.proofs.lemmas.List.{append-nil, drop_all, drop_more}
 use Rattle.byteorder.specs.Endian.{little_bytes}
 use Rattle.kt_cells.specs.Kinds.{width}
 use Rattle.kt_cells.specs.Records.{record_bytes}
 use Rattle.kt_cells.specs.Taking.{HasMore}
 use Rattle.kt_cells.specs.declared.kind.Kind.{Kind}
-use Rattle.kt_cells.specs.Lines.{line_with, rows_lines, lines_behind, lines_with}
+use Rattle.kt_cells.specs.Lines.{line_with, rows_lines, lines_behind, lines_with, line, fields_behind, separator}
 use Rattle.kt_cells.specs.Reading.{and_then, in_front}
 use Rattle.kt_cells.specs.declared.stop.TableStop.{TableStop}
 
@@ -50,3 +51,22 @@ unfolding rows_lines lines_behind
 lines-more None kinds out values (Ok rows) = ap Ok (sym (append_assoc out (line_with None kinds values) (rows_lines kinds rows)))
 lines-more (Some count) kinds out values (Ok rows) = ap Ok (sym (append_assoc out (line_with (Some count) kinds values) (lines_behind count kinds rows)))
 lines-more before kinds out values (Err stop) = refl
+
+-- what is left of a line, from a column on
+abbrev pub line_rest : ℕ → List (List ℕ) → List ℕ
+line_rest zero fields = line fields
+line_rest (suc column) fields = fields_behind fields
+
+-- what is left begins with the separator of its column
+pub line_rest-field : (column : ℕ) (field : List ℕ) (fields : List (List ℕ)) → line_rest column (field ∷ fields) ≡ separator column ++ (field ++ fields_behind fields)
+unfolding line fields_behind
+line_rest-field zero field fields = refl
+line_rest-field (suc column) field fields = let later : (suc column == 0) ≡ false = grind (arith, nat_tests) in rw later refl
+
+pub line_rest-later : (column : ℕ) (fields : List (List ℕ)) → line_rest (column + 1) fields ≡ fields_behind fields
+line_rest-later column fields = rw add-one refl
+
+pub line_rest-end : (column : ℕ) → line_rest column [] ≡ 10 ∷ []
+unfolding line fields_behind
+line_rest-end zero = refl
+line_rest-end (suc column) = refl

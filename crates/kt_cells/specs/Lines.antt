@@ -1,5 +1,5 @@
 -- Lines of text: fields with commas between them and a line feed behind them.
-use Rattle.std.specs.Prelude.{ℕ, Option, None, Some, List, [], ◌∷◌, ◌++◌}
+use Rattle.std.specs.Prelude.{ℕ, Option, None, Some, List, [], ◌∷◌, ◌++◌, ◌==◌, if◌then◌else◌}
 use Rattle.kt_money.specs.NumberText.{count_text}
 use Rattle.kt_cells.specs.Kinds.{under}
 use Rattle.kt_cells.specs.Reading.{rule_after}
@@ -10,6 +10,10 @@ use Rattle.kt_cells.specs.declared.kind.Kind.{Kind}
 unfoldable pub fields_behind : List (List ℕ) → List ℕ
 fields_behind [] = 10 ∷ []
 fields_behind (field ∷ fields) = 44 ∷ field ++ fields_behind fields
+
+-- what stands before a field, by its column
+abbrev pub separator : ℕ → List ℕ
+separator column = if column == 0 then [] else 44 ∷ []
 
 -- a line
 unfoldable pub line : List (List ℕ) → List ℕ

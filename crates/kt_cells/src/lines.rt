@@ -1,6 +1,7 @@
 //! Rows as lines of text.
 ghost use Rattle.std.specs.Prelude.{◌≡◌, ◌+◌, ◌<◌, ◌≤◌, ◌∷◌, ◌++◌, length, drop};
-ghost use Rattle.kt_cells.specs.Lines.{line, line_with, units_under};
+ghost use Rattle.kt_money.specs.NumberText.{count_text};
+ghost use Rattle.kt_cells.specs.Lines.{line, line_with, separator, units_under};
 ghost use Rattle.kt_cells.specs.Texts.{row_texts, value_text};
 ghost use Rattle.kt_cells.specs.declared.lines.TheConstants.{LINE_BYTES};
 
@@ -11,6 +12,23 @@ use kt_money::write_plain;
 
 /// So many bytes have room for a line, and for a count in front of it, whatever the values are.
 pub(crate) const LINE_BYTES: usize = 2_400;
+
+// Writes the comma that stands before a field so that it ends at `end`, unless the field is the first, and returns where
+// it starts.
+#[inline(always)]
+fn write_separator(column: usize, text: &mut [u8], end: usize) -> usize
+    requires room { 1 ≤ end }
+    requires within { end ≤ length text.old }
+    ensures start { result ≤ end }
+    ensures short { end ≤ result + 1 }
+    ensures written { drop result text.new ≡ separator column ++ drop end text.old }
+{
+    if column == 0 {
+        return end;
+    }
+    text[end - 1] = b',';
+    end - 1
+}
 
 // Writes the text of a value so that it ends at `end`, and returns where it starts: at most 23 bytes.
 #[inline(always)]
@@ -43,19 +61,17 @@ fn units_of<const N: usize>(kinds: &[Kind; N], values: &[u64; N]) -> [Kind; N]
     units
 }
 
-// Writes a row as a line that ends with the buffer, from its last field to its first, with a comma in front, and returns
-// where that stands.
+/// Writes a row as a line that ends with the buffer, from its last field to its first, and returns where it starts.
 #[inline(always)]
-fn write_line<const N: usize>(
+pub(crate) fn write_line<const N: usize>(
     kinds: &[Kind; N],
     values: &[u64; N],
     text: &mut [u8; LINE_BYTES],
 ) -> usize
     requires size { N < 100 }
-    requires some { 0 < N }
-    ensures start { result < LINE_BYTES }
-    ensures room { 20 ≤ result }
-    ensures written { drop result text.new ≡ 44 ∷ line (row_texts 0 kinds.now values.now) }
+    ensures start { result ≤ LINE_BYTES }
+    ensures room { 20 < result }
+    ensures written { drop result text.new ≡ line (row_texts 0 kinds.now values.now) }
 {
     let units = units_of(kinds, values);
     let mut at = LINE_BYTES - 1;
@@ -63,10 +79,27 @@ fn write_line<const N: usize>(
     let mut column = N;
     while column > 0 {
         column -= 1;
-        at = write_value(units[column], values[column], text, at) - 1;
-        text[at] = b',';
+        at = write_value(units[column], values[column], text, at);
+        at = write_separator(column, text, at);
     }
     at
+}
+
+// Writes a row as a line that ends with the buffer, with a count and a comma in front, and returns where it starts.
+#[inline(always)]
+fn write_line_behind<const N: usize>(
+    count: u64,
+    kinds: &[Kind; N],
+    values: &[u64; N],
+    text: &mut [u8; LINE_BYTES],
+) -> usize
+    requires size { N < 100 }
+    ensures start { result ≤ LINE_BYTES }
+    ensures written { drop result text.new ≡ count_text count ++ 44 ∷ line (row_texts 0 kinds.now values.now) }
+{
+    let behind = write_line(kinds, values, text) - 1;
+    text[behind] = b',';
+    write_digits(count, text, behind)
 }
 
 /// Writes a row as a line that ends with the buffer, behind a count as its first field where there is one, and returns where
@@ -79,13 +112,11 @@ pub(crate) fn write_line_with<const N: usize>(
     text: &mut [u8; LINE_BYTES],
 ) -> usize
     requires size { N < 100 }
-    requires some { 0 < N }
     ensures start { result ≤ LINE_BYTES }
     ensures written { drop result text.new ≡ line_with before kinds.now values.now }
 {
-    let comma = write_line(kinds, values, text);
     match before {
-        None => comma + 1,
-        Some(count) => write_digits(count, text, comma),
+        None => write_line(kinds, values, text),
+        Some(count) => write_line_behind(count, kinds, values, text),
     }
 }
