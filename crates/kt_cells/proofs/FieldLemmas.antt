@@ -1,18 +1,16 @@
 -- The fields of a line, put in front of each other from the last to the first.
-use Rattle.std.proofs.Common.{◌≡◌, ℕ, zero, suc, ◌+◌, ◌*◌, ◌/◌, ◌-◌, ◌^◌, ◌<◌, ◌≤◌, List, [], ◌∷◌, ◌++◌, length, take, drop, get_or, refl, sym, ap, ◌∙◌, arith, append_assoc, length-append, length-drop}
-use Rattle.std.specs.Prelude.{Ok, decimal, slice_set}
+use Rattle.std.proofs.Common.{◌≡◌, ℕ, zero, suc, ◌+◌, ◌*◌, ◌/◌, ◌^◌, ◌<◌, ◌≤◌, List, [], ◌∷◌, ◌++◌, length, take, drop, get_or, refl, sym, ap, ◌∙◌, arith, append_assoc, length-append}
+use Rattle.std.specs.Prelude.{decimal, slice_set}
 use Rattle.std.proofs.lemmas.Fmt.{length-decimal-le}
 use Rattle.std.proofs.lemmas.List.{append-nil, take_all, drop_all, drop_more, drop-set, take_more_set}
 use Rattle.std.proofs.Math.ListN.{length-set}
-use Rattle.std.proofs.Math.Seq.{drop-length}
 use Rattle.kt_money.specs.NumberText.{plain, padded_digits}
 use Rattle.kt_money.specs.NumberTextLaws.{plain-decimals, length-padded_digits}
-use Rattle.kt_cells.specs.Kinds.{under, in_range}
-use Rattle.kt_cells.specs.Lines.{line, fields_behind, separator, units_under}
+use Rattle.kt_cells.specs.Kinds.{under}
+use Rattle.kt_cells.specs.Lines.{fields_behind, separator, units_under}
 use Rattle.kt_cells.specs.Reading.{rule_after}
 use Rattle.kt_cells.specs.Texts.{row_texts, value_text}
 use Rattle.kt_cells.specs.declared.kind.Kind.{Kind}
-use Rattle.kt_cells.specs.declared.kind.Kind.TheVariants as kind
 use Rattle.kt_cells.proofs.WritingLemmas.{line_rest, line_rest-field, line_rest-later, line_rest-end}
 
 -- a number with decimals takes a point and those behind it

@@ -7,18 +7,6 @@ use Rattle.kt_cells.proofs.lines.write_line.Goals as goal
 pub loop-column-init : goal.loop-column-init
 loop-column-init g c = rw c.told-kinds at (line_from-end c.args.kinds.now c.args.values.now c.args.text.now (omega (arith, c.told-kinds, c.told-values)) c.told-text)
 
-pub write_value-at-requires : goal.write_value-at-requires
-write_value-at-requires g c = record {
-  room = omega (arith, c.loop-column.invariant.room, c.told-kinds, c.requires.size);
-  within = omega (arith, c.loop-column.invariant.inside, c.loop-column.invariant.long);
-}
-
-pub write_separator-at-requires : goal.write_separator-at-requires
-write_separator-at-requires g c = record {
-  room = omega (arith, c.loop-column.invariant.room, c.write_value-at.ensures.short, c.told-kinds, c.requires.size);
-  within = omega (arith, c.loop-column.invariant.inside, c.loop-column.invariant.long, c.write_value-at.ensures.start, c.write_value-at.auto.text);
-}
-
 pub loop-column-preserved : goal.loop-column-preserved
 loop-column-preserved g c =
     let one : c.loop-column.column ≡ c.loop-column.column - 1 + 1 = omega arith in
@@ -29,10 +17,5 @@ loop-column-preserved g c =
     (omega (arith, c.write_separator-at.ensures.start, c.write_value-at.ensures.start))
     (omega (arith, c.write_separator-at.ensures.short, c.write_value-at.ensures.short))
 
-pub returns : goal.returns
-returns g c =
-    let none : c.loop-column.column ≡ 0 = omega arith in record {
-      start = c.loop-column.invariant.inside;
-      room = omega (arith, c.loop-column.invariant.room, c.told-kinds, c.requires.size);
-      written = (rw none at c.loop-column.invariant).line_is;
-    }
+pub returns-clause-written : goal.returns-clause-written
+returns-clause-written g c = let none : c.loop-column.column ≡ 0 = omega arith in (rw none at c.loop-column.invariant).line_is
