@@ -1,63 +1,32 @@
 -- Values in the range of their kind.
-use Rattle.std.proofs.Common.{◌≡◌, ℕ, zero, suc, ◌^◌, ◌<◌, ◌≤◌, Bool, true, false, List, [], ◌∷◌, length, refl, sym, ap, ◌∙◌, inl, inr, ◌⊎◌, arith, subst}
-use Rattle.std.specs.Prelude.{Result, Ok, Err, nat_lt, if◌then◌else◌}
+use Rattle.std.proofs.Common.{◌≡◌, ℕ, zero, suc, ◌^◌, ◌<◌, ◌≤◌, Bool, true, false, List, [], ◌∷◌, length, refl, inl, inr, ◌⊎◌, arith, subst}
+use Rattle.std.specs.Prelude.{Ok, if◌then◌else◌}
 use Rattle.std.proofs.lemmas.Bool.Decides.{nat_tests}
 use Rattle.std.proofs.lemmas.List.{append-nil}
 use Rattle.byteorder.specs.Endian.{little_number, little_bytes}
 use Rattle.byteorder.specs.Numbers.{length-bytes_low_first, little_number-reads_back}
-use Rattle.kt_text.specs.Laws.{CountsAreReadBack, AmountsAreReadBack}
-use Rattle.kt_cells.specs.Kinds.{under, width, is_ppm, is_rule, highest, within, known_rule, in_range}
-use Rattle.kt_cells.specs.Reading.{and_then, and_then-ok, rule_after}
+use Rattle.kt_cells.specs.Kinds.{under, width, is_ppm, highest, within, known_rule, in_range}
+use Rattle.kt_cells.specs.Reading.{and_then-ok, rule_after}
 use Rattle.kt_cells.specs.Ranges.{IsRow, FitsBytes}
 use Rattle.kt_cells.specs.Records.{field_value}
-use Rattle.kt_cells.specs.Texts.{decimals, number_in, or_cause, text_value, value_text}
+use Rattle.kt_cells.specs.Texts.{decimals, number_in, or_cause, text_value}
 use Rattle.kt_cells.specs.declared.kind.Kind.{Kind}
 use Rattle.kt_cells.specs.declared.kind.Kind.TheVariants as kind
-use Rattle.kt_cells.specs.declared.stop.Cause.{Cause}
-use Rattle.kt_cells.specs.declared.stop.Cause.TheVariants as cause
-use Rattle.kt_cells.proofs.RangeLemmas.{ReadsInRange, ReadsBack}
-
--- a value that is below the least or above the most is refused
-refused_by : (b : Bool) (cause : Cause) (rest : Result ℕ Cause) (x : ℕ) → (if b then Err cause else rest) ≡ Ok x → (b ≡ false) × (rest ≡ Ok x)
-refused_by true cause rest x good = absurd (cc)
-refused_by false cause rest x good = (refl, good)
+use Rattle.kt_cells.proofs.RangeLemmas.{ReadsInRange}
 
 -- a value within bounds is the value
 within-ok : (least most value x : ℕ) → within least most value ≡ Ok x → (value ≡ x) × (x ≤ most)
-within-ok least most value x good =
-    let low = refused_by (nat_lt value least) cause.Zero _ x good in
-    let high = refused_by (nat_lt most value) cause.TooLarge (Ok value) x low.1 in
-    let same : value ≡ x = cc (high.1) in
-    let at_most : value ≤ most = grind (arith, nat_tests, high.0) in
-    (same, omega (arith, same, at_most))
+within-ok least most value x good = (grind (arith, nat_tests), grind (arith, nat_tests))
 
--- a rule is the value
-rule_by : (b : Bool) (value x : ℕ) → (if b then Ok value else Err cause.Rule) ≡ Ok x → (b ≡ true) × (value ≡ x)
-rule_by true value x good = (refl, cc)
-rule_by false value x good = absurd (cc)
-
+-- and so is a rule
 known_rule-ok : (value x : ℕ) → known_rule value ≡ Ok x → (value ≡ x) × (x ≤ 100)
-known_rule-ok value x good =
-    let known = rule_by (is_rule value) value x good in
-    let at_most : value ≤ 100 = grind (arith, nat_tests, known.0) in
-    (known.1, omega (arith, known.1, at_most))
+known_rule-ok value x good = (grind (arith, nat_tests), grind (arith, nat_tests))
 
 -- a value in range is the value, and not above the greatest
 pub in_range-ok : (k : Kind) (value x : ℕ) → in_range k value ≡ Ok x → (value ≡ x) × (x ≤ highest k)
 unfolding in_range
 in_range-ok kind.Rule value x good = known_rule-ok value x good
-in_range-ok kind.Id value x good = within-ok _ _ value x good
-in_range-ok kind.Count value x good = within-ok _ _ value x good
-in_range-ok kind.IntensityBin value x good = within-ok _ _ value x good
-in_range-ok kind.DamageBin value x good = within-ok _ _ value x good
-in_range-ok kind.Level value x good = within-ok _ _ value x good
-in_range-ok kind.Layer value x good = within-ok _ _ value x good
-in_range-ok kind.SummarySet value x good = within-ok _ _ value x good
-in_range-ok kind.Offset value x good = within-ok _ _ value x good
-in_range-ok kind.Tiv value x good = within-ok _ _ value x good
-in_range-ok kind.Amount value x good = within-ok _ _ value x good
-in_range-ok (kind.Term t) value x good = within-ok _ _ value x good
-in_range-ok kind.Ppm value x good = within-ok _ _ value x good
+in_range-ok k value x good = within-ok _ _ value x good
 
 -- the value of a field is in range
 pub field_value-range : ReadsInRange field_value
@@ -87,42 +56,17 @@ pub record KindFacts (rule : ℕ) (k : Kind) : Type 0 where
   pub scale : (decimals k ≡ 0) ⊎ ((decimals k ≡ 2) ⊎ (decimals k ≡ 6))
 
 pub kind-facts : (rule : ℕ) (k : Kind) → KindFacts rule k
-kind-facts rule kind.Rule = record { fits = omega arith; most = omega arith; narrow = omega arith; wide = omega arith; scale = inl refl }
-kind-facts rule kind.Id = record { fits = omega arith; most = omega arith; narrow = omega arith; wide = omega arith; scale = inl refl }
-kind-facts rule kind.Count = record { fits = omega arith; most = omega arith; narrow = omega arith; wide = omega arith; scale = inl refl }
-kind-facts rule kind.IntensityBin = record { fits = omega arith; most = omega arith; narrow = omega arith; wide = omega arith; scale = inl refl }
-kind-facts rule kind.DamageBin = record { fits = omega arith; most = omega arith; narrow = omega arith; wide = omega arith; scale = inl refl }
-kind-facts rule kind.Level = record { fits = omega arith; most = omega arith; narrow = omega arith; wide = omega arith; scale = inl refl }
-kind-facts rule kind.Layer = record { fits = omega arith; most = omega arith; narrow = omega arith; wide = omega arith; scale = inl refl }
-kind-facts rule kind.SummarySet = record { fits = omega arith; most = omega arith; narrow = omega arith; wide = omega arith; scale = inl refl }
-kind-facts rule kind.Offset = record { fits = omega arith; most = omega arith; narrow = omega arith; wide = omega arith; scale = inl refl }
 kind-facts rule kind.Tiv = record { fits = omega arith; most = omega arith; narrow = omega arith; wide = omega arith; scale = inr (inl refl) }
 kind-facts rule kind.Amount = record { fits = omega arith; most = omega arith; narrow = omega arith; wide = omega arith; scale = inr (inl refl) }
 kind-facts rule (kind.Term t) = record { fits = term-fits (is_ppm t rule); most = omega arith; narrow = omega arith; wide = omega arith; scale = inr (inl refl) }
 kind-facts rule kind.Ppm = record { fits = omega arith; most = omega arith; narrow = omega arith; wide = omega arith; scale = inr (inr refl) }
+kind-facts rule k = record { fits = omega arith; most = omega arith; narrow = omega arith; wide = omega arith; scale = inl refl }
 
 -- the bytes of a value are read back
-pub numbers-read_back : ReadsBack field_value (λ rule k value. little_bytes (width k) value)
-numbers-read_back rule k value range =
+pub number-read_back : (rule : ℕ) (k : Kind) (value : ℕ) → in_range (under rule k) value ≡ Ok value → field_value (under rule k) (little_bytes (width k) value) ≡ Ok value
+number-read_back rule k value range =
     let small : value < 256 ^ width k = omega (arith, (in_range-ok (under rule k) value value range).1, (kind-facts rule k).fits) in
-    let long : length (little_bytes (width k) value) ≡ width k = length-bytes_low_first 0 (width k) value in
-    let back : little_number (width k) (little_bytes (width k) value) ≡ value =
-    ap (little_number (width k)) (sym (append-nil (little_bytes (width k) value))) ∙ little_number-reads_back (width k) value [] small in
-    ap (λ n. in_range (under rule k) (little_number n (little_bytes (width k) value))) long ∙ ap (in_range (under rule k)) back ∙ range
-
--- a count, or an amount in its decimals, is read back
-number_in-text : CountsAreReadBack → AmountsAreReadBack → (k : Kind) (value : ℕ) → value ≤ 10 ^ 17 → number_in (decimals k) (value_text k value) ≡ Ok value
-number_in-text counts amounts k value small = elim (kind-facts 0 k).scale [
-  | inl none ↦ rw none (counts value (omega arith))
-  | inr some ↦ elim some [ inl two ↦ rw two (amounts 2 value (inl refl) small) | inr six ↦ rw six (amounts 6 value (inr refl) small) ]
-]
-
--- the text of a value is read back
-pub texts-read_back : CountsAreReadBack → AmountsAreReadBack → ReadsBack text_value (λ rule k value. value_text (under rule k) value)
-unfolding text_value
-texts-read_back counts amounts rule k value range =
-    let small : value ≤ 10 ^ 17 = omega (arith, (in_range-ok (under rule k) value value range).1, (kind-facts rule (under rule k)).most) in
-    ap (λ result. and_then (or_cause result) (in_range (under rule k))) (number_in-text counts amounts (under rule k) value small) ∙ range
+    rw (length-bytes_low_first 0 (width k) value, rw append-nil at (little_number-reads_back (width k) value [] small)) range
 
 -- the values of a row in range fit their bytes
 pub IsRow-fits : (rule : ℕ) (kinds : List Kind) (values : List ℕ) → IsRow rule kinds values → FitsBytes kinds values

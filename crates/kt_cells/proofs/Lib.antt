@@ -6,8 +6,4 @@ pub mod KindLemmas
 pub mod TextLemmas
 pub mod WrittenLemmas
 pub mod LineLemmas
-pub mod StreamLemmas
 pub mod FieldLemmas
-pub mod RecordReadLemmas
-pub mod RecordLinesLemmas
-pub mod SliceLemmas

@@ -1,27 +1,69 @@
--- The rows of a text.
-use Rattle.std.proofs.Common.{◌≡◌, ◌<◌, ℕ, Bool, List, length, sym}
-use Rattle.std.specs.Prelude.{Result, Ok, Err, OnOk}
+-- The rows of a text: their ranges, what a sink takes of one, and how far one is read field by field.
+use Rattle.std.proofs.Common.{◌≡◌, ◌<◌, ℕ, Bool, List, length, sym, ◌+◌, ◌≤◌, true, false, [], ◌∷◌, ◌++◌, take, drop, get_or, refl, ap, ◌∙◌, arith, length-append, append_assoc}
+use Rattle.std.specs.Prelude.{Result, Ok, Err, OnOk, slice_set}
 use Rattle.kt_text.specs.Rows.{csv_rows}
-use Rattle.kt_cells.specs.Ranges.{AreRows, AreInOrder}
-use Rattle.kt_cells.specs.Texts.{text_value, text_rows, decimals, number_in}
-use Rattle.kt_cells.specs.Kinds.{in_range}
+use Rattle.kt_cells.specs.Laws.{TextsAreInRange}
+use Rattle.kt_cells.specs.Ranges.{AreRows, AreInOrder, IsRow, FitsBytes}
+use Rattle.kt_cells.specs.Texts.{text_value, text_rows}
+use Rattle.kt_cells.specs.Kinds.{under}
 use Rattle.kt_cells.specs.declared.kind.Kind.{Kind}
 use Rattle.kt_cells.specs.declared.stop.TableStop.{TableStop}
-use Rattle.kt_cells.proofs.KindLemmas.{text_value-range}
-use Rattle.kt_cells.proofs.RangeLemmas.{table_rows-range}
+use Rattle.kt_cells.proofs.KindLemmas.{text_value-range, IsRow-fits}
+use Rattle.kt_cells.proofs.RangeLemmas.{rows-read, rows-range, not_below-above, row-read, row-range}
+use Rattle.std.proofs.lemmas.List.{append-nil}
+use Rattle.kt_text.specs.PlainText.{EndsField, IsField, StandsBehind}
+use Rattle.kt_cells.specs.Reading.{and_then, row_values, rule_after, not_below}
+use Rattle.kt_cells.specs.Taking.{HasRow}
+use Rattle.kt_cells.proofs.ReadingLemmas.{RowRead, row-more, row_end}
 
 -- the rows of a text are in range and in order
-pub text_rows-ranges : (ordered : Bool) (kinds : List Kind) (text : List ℕ) (rows : List (List ℕ)) → 0 < length kinds → text_rows ordered kinds text ≡ Ok rows → AreRows kinds rows × AreInOrder ordered 0 rows
+pub texts-in_range : TextsAreInRange
 unfolding text_rows
-text_rows-ranges ordered kinds text rows some good = table_rows-range text_value text_value-range ordered 1 kinds 0 1 (csv_rows text) rows some good
+texts-in_range ordered kinds text rows some good =
+    let found = rows-read text_value ordered 1 kinds 0 1 (csv_rows text) rows some good in
+    (rows-range text_value text_value-range kinds (csv_rows text) rows found.0, found.1)
 
 -- the rows that a call hands over are in range and in order
 pub ranges-given : {A : Type 0} (ordered : Bool) (kinds : List Kind) (text : List ℕ) (result : Result A TableStop) → 0 < length kinds
     → OnOk result ((rows : List (List ℕ)) → text_rows ordered kinds text ≡ Ok rows → AreRows kinds rows × AreInOrder ordered 0 rows)
-ranges-given ordered kinds text (Ok x) some = λ rows good. text_rows-ranges ordered kinds text rows some good
+ranges-given ordered kinds text (Ok x) some = λ rows good. texts-in_range ordered kinds text rows some good
 ranges-given ordered kinds text (Err stop) some = tt
 
--- a number in range is the value of its text
-pub number-value : (kind : Kind) (text : List ℕ) (number value : ℕ) → number_in (decimals kind) text ≡ Ok number → Ok value ≡ in_range kind number → text_value kind text ≡ Ok value
-unfolding text_value
-number-value kind text number value read good = rw read (sym good)
+-- a sink takes the values of a row that is read
+pub row-taken : {P : List ℕ → Type 0} (kinds : List Kind) (floor row : ℕ) (values : List ℕ) (fields : List (List ℕ)) → ((row : List ℕ) → IsRow 0 kinds row → FitsBytes kinds row → P row) → length fields ≡ length kinds
+    → Ok values ≡ row_values text_value 0 floor row 1 kinds fields → P values
+row-taken kinds floor row values fields takes width good =
+    let range = row-range text_value text_value-range 0 kinds fields values (row-read text_value 0 floor row 1 kinds fields values width (sym good)).0 in
+    takes values range (IsRow-fits 0 kinds values range)
+
+-- a row of a text is read as far as its first fields, whatever fields follow and whatever its number is
+pub record PlainRead (kinds : List Kind) (floor : ℕ) (text values : List ℕ) (done rule least : ℕ) (at_end : Bool) (rest : List ℕ) : Type 0 where
+  pub fields : List (List ℕ)
+  pub stands : StandsBehind at_end text fields rest
+  pub counted : length fields ≡ done
+  pub read : (number : ℕ) (more : List (List ℕ)) → RowRead text_value number 1 kinds (row_values text_value 0 floor number 1 kinds (fields ++ more)) values done rule least more
+
+-- a field more
+pub plain-more : {kinds : List Kind} {floor : ℕ} {text values : List ℕ} {done rule least : ℕ} {rest : List ℕ} → PlainRead kinds floor text values done rule least false rest → (d : Kind) (at_end : Bool) (size value : ℕ) (next : List ℕ) → done < length kinds
+    → IsField rest size → text_value (under rule (get_or kinds done d)) (take size rest) ≡ Ok value → least ≤ value
+    → ((start : List ℕ) (fields : List (List ℕ)) → EndsField start fields (drop size rest) → StandsBehind at_end start fields next)
+    → PlainRead kinds floor text (slice_set values done value) (done + 1) (rule_after rule (get_or kinds done d) value) 0 at_end next
+plain-more {kinds} {floor} {text} {values} {done} {rule} {least} {rest} now d at_end size value next column field good above follows =
+    let cell : List ℕ = take size rest in
+    record {
+      fields = now.fields ++ cell ∷ [];
+      stands = follows text (now.fields ++ cell ∷ []) (field text now.fields now.stands);
+      counted = omega (arith, length-append now.fields (cell ∷ []), now.counted);
+      read = λ number more.
+          rw (append_assoc now.fields (cell ∷ []) more)
+          (row-more (now.read number (cell ∷ more)) d cell more value column refl (ap (λ result. and_then result (not_below least)) good ∙ not_below-above least value above));
+    }
+
+-- all fields are read
+pub plain-end : {kinds : List Kind} {floor : ℕ} {text values : List ℕ} {done rule least : ℕ} {rest : List ℕ} → PlainRead kinds floor text values done rule least true rest → done ≡ length kinds → HasRow kinds floor text values rest
+plain-end now all = record {
+  fields = now.fields;
+  split = now.stands;
+  width = now.counted ∙ all;
+  read = λ number. row_end (rw (append-nil now.fields) at (now.read number [])) all;
+}

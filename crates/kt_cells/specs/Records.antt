@@ -51,3 +51,9 @@ unfoldable pub record_rows : ℕ → List Kind → List ℕ → Result (List (Li
 record_rows first kinds bytes =
     and_then (table_rows field_value false first kinds 0 1 (whole_records kinds bytes))
     (λ rows. if length bytes % record_width kinds == 0 then Ok rows else Err (CutRecord (record_count kinds bytes + 1)))
+
+-- the same behind so many records: theirs are the numbers before
+unfoldable pub records_behind : ℕ → ℕ → List Kind → List ℕ → Result (List (List ℕ)) TableStop
+records_behind before first kinds bytes =
+    and_then (table_rows field_value false first kinds 0 (before + 1) (whole_records kinds bytes))
+    (λ rows. if length bytes % record_width kinds == 0 then Ok rows else Err (CutRecord (before + record_count kinds bytes + 1)))

@@ -1,10 +1,9 @@
 -- What a sink has taken of the rows of a table that are read.
-use Rattle.std.specs.Prelude.{◌≡◌, ℕ, ◌+◌, Bool, List, ◌∷◌, ◌++◌, length, Result, Ok}
+use Rattle.std.specs.Prelude.{◌≡◌, ℕ, List, ◌∷◌, ◌++◌, length, Result, Ok}
 use Rattle.kt_text.specs.PlainText.{csv_records}
-use Rattle.kt_cells.specs.Reading.{behind, row_values, table_rows}
+use Rattle.kt_cells.specs.Reading.{behind, row_values}
 use Rattle.kt_cells.specs.Texts.{text_value}
 use Rattle.kt_cells.specs.declared.kind.Kind.{Kind}
-use Rattle.kt_cells.specs.declared.stop.Cause.{Cause}
 use Rattle.kt_cells.specs.declared.stop.TableStop.{TableStop}
 
 -- what was there stands in front, and maybe more behind it
@@ -17,12 +16,15 @@ pub record HandsOver (has_taken : List (List ℕ) → Type 0) (read : Result (Li
   pub are_read : read ≡ Ok rows
   pub are_taken : has_taken rows
 
--- so many of all rows were read, and the sink has taken them; the first of those that are left is not below the floor
-pub record HandsFront (read : Kind → List ℕ → Result ℕ Cause) (ordered : Bool) (first : ℕ) (kinds : List Kind) (has_taken : List (List ℕ) → Type 0) (all : Result (List (List ℕ)) TableStop) (count floor : ℕ) (left : List (List (List ℕ))) : Type 0 where
+-- some of all rows were read, and the sink has taken them; these are left
+pub record HandsFront (has_taken : List (List ℕ) → Type 0) (all left : Result (List (List ℕ)) TableStop) : Type 0 where
   pub rows : List (List ℕ)
-  pub counted : count ≡ length rows
   pub are_taken : has_taken rows
-  pub so_far : all ≡ behind rows (table_rows read ordered first kinds floor (count + 1) left)
+  pub so_far : all ≡ behind rows left
+
+-- whatever a sink had taken, it has taken these rows besides
+abbrev pub TakesMore : {S : Type 0} → (S → List (List ℕ) → S → Type 0) → S → S → List (List ℕ) → Type 0
+TakesMore {S = S} takes_to old new more = (start : S) (rows : List (List ℕ)) → takes_to start rows old → takes_to start (rows ++ more) new
 
 -- the next row of a text has these values, where the first of them is not to be below the floor, and the others stand in the rest
 pub record HasRow (kinds : List Kind) (floor : ℕ) (text values rest : List ℕ) : Type 0 where

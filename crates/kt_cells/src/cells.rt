@@ -1,6 +1,6 @@
 //! What the reader of tables needs of their cells, whether they are texts or little-endian numbers.
 ghost use Rattle.std.specs.Prelude.{◌≡◌, ◌<◌, ℕ, List, Result, length};
-ghost use Rattle.kt_text.specs.Rows.{AreEven};
+ghost use Rattle.std.specs.List.{All};
 ghost use Rattle.kt_cells.specs.Cells.{cell_at};
 ghost use Rattle.kt_cells.specs.declared.kind.Kind.{Kind};
 ghost use Rattle.kt_cells.specs.declared.stop.Cause.{Cause};
@@ -19,7 +19,7 @@ pub(crate) trait Cells<const N: usize> {
     /// How many rows there are.
     fn rows(&self) -> u64
         ensures value { result ≡ length (cells self.now) }
-        ensures even { AreEven N (cells self.now) };
+        ensures even { All (λ row. length row ≡ N) (cells self.now) };
 
     /// The value of a cell, read as one of a kind.
     fn value(&self, row: u64, column: usize, kind: Kind) -> Result<u64, Cause>

@@ -1,9 +1,7 @@
 //! Rows as lines of text.
-ghost use Rattle.std.specs.Prelude.{◌≡◌, ◌+◌, ◌<◌, ◌≤◌, ◌∷◌, ◌++◌, Ok, length, drop};
+ghost use Rattle.std.specs.Prelude.{◌≡◌, ◌+◌, ◌<◌, ◌≤◌, ◌∷◌, ◌++◌, length, drop};
 ghost use Rattle.kt_money.specs.NumberText.{count_text};
-ghost use Rattle.kt_cells.specs.Kinds.{in_range};
 ghost use Rattle.kt_cells.specs.Lines.{line, line_with, separator, units_under};
-ghost use Rattle.kt_cells.specs.Ranges.{IsRow};
 ghost use Rattle.kt_cells.specs.Texts.{row_texts, value_text};
 ghost use Rattle.kt_cells.specs.declared.lines.TheConstants.{LINE_BYTES};
 
@@ -34,9 +32,7 @@ fn write_separator(column: usize, text: &mut [u8], end: usize) -> usize
 
 // Writes the text of a value so that it ends at `end`, and returns where it starts: at most 23 bytes.
 #[inline(always)]
-#[tactic(auto, unfolding(crate::specs::Kinds::in_range))]
 fn write_value(kind: Kind, value: u64, text: &mut [u8], end: usize) -> usize
-    requires range { in_range kind value ≡ Ok value }
     requires room { 27 ≤ end }
     requires within { end ≤ length text.old }
     ensures start { result ≤ end }
@@ -73,7 +69,6 @@ pub(crate) fn write_line<const N: usize>(
     text: &mut [u8; LINE_BYTES],
 ) -> usize
     requires size { N < 100 }
-    requires range { IsRow 0 kinds.now values.now }
     ensures start { result ≤ LINE_BYTES }
     ensures room { 20 < result }
     ensures written { drop result text.new ≡ line (row_texts 0 kinds.now values.now) }
@@ -99,7 +94,6 @@ fn write_line_behind<const N: usize>(
     text: &mut [u8; LINE_BYTES],
 ) -> usize
     requires size { N < 100 }
-    requires range { IsRow 0 kinds.now values.now }
     ensures start { result ≤ LINE_BYTES }
     ensures written { drop result text.new ≡ count_text count ++ 44 ∷ line (row_texts 0 kinds.now values.now) }
 {
@@ -118,7 +112,6 @@ pub(crate) fn write_line_with<const N: usize>(
     text: &mut [u8; LINE_BYTES],
 ) -> usize
     requires size { N < 100 }
-    requires range { IsRow 0 kinds.now values.now }
     ensures start { result ≤ LINE_BYTES }
     ensures written { drop result text.new ≡ line_with before kinds.now values.now }
 {

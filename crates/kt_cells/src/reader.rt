@@ -1,6 +1,5 @@
 //! The reader of tables: the values of the rows, or the first place that is wrong.
 ghost use Rattle.std.specs.Prelude.{◌≡◌, ◌+◌, ◌<◌, ◌≤◌, ◌^◌, IsTrue, IfOk, IfErr, length};
-ghost use Rattle.kt_text.specs.Rows.{AreEven};
 ghost use Rattle.kt_cells.specs.Cells.{cell_at, row_at};
 ghost use Rattle.kt_cells.specs.Reading.{value_from, not_below, row_values, table_rows, rule_after as rule_behind, floor_after as floor_behind};
 ghost use Rattle.kt_cells.specs.Stops.{Tells};
@@ -67,6 +66,7 @@ fn value_of<const N: usize, C: Cells<N>>(
 
 /// The values of a row, which is named by its number. The floor is for the first of them.
 #[inline(always)]
+#[tactic(auto, using(crate::proofs::ReadingLemmas::row_end))]
 pub(crate) fn read_row<const N: usize, C: Cells<N>>(
     cells: &C,
     kinds: &[Kind; N],

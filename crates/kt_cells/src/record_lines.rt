@@ -8,7 +8,7 @@ ghost use Rattle.kt_cells.specs.Taking.{HasMore};
 
 use crate::kind::Kind;
 use crate::lines::{LINE_BYTES, write_line_with};
-use crate::records::{read_record, record_width};
+use crate::records::{next_record, record_width};
 use crate::stop::TableStop;
 use kt_money::Bytes;
 
@@ -32,19 +32,15 @@ pub fn push_record_lines<const N: usize>(
     ensures kept { IfErr result (λ _. HasMore out.old out.new) }
 {
     let width = record_width(kinds);
-    let count = bytes.len() / width;
     let mut values = [0; N];
     let mut text = [0; LINE_BYTES];
-    for row in 0..count {
-        let rest = &bytes[row * width..];
-        read_record(kinds, first, row as u64 + 1, rest, &mut values)?;
+    let mut rest = bytes;
+    let mut row = 0;
+    while !rest.is_empty() {
+        rest = next_record(kinds, first, row, width, rest, &mut values)?;
+        row += 1;
         let start = write_line_with(before, kinds, &values, &mut text);
         out.append(&text[start..])?;
-    }
-    if bytes.len() % width != 0 {
-        return Err(TableStop::CutRecord {
-            row: count as u64 + 1,
-        });
     }
     Ok(())
 }

@@ -2,11 +2,11 @@
 ghost use Rattle.kt_cells.specs.Ranges.{IsRow, AreRows, FitsBytes};
 ghost use Rattle.kt_cells.specs.Stops.{Tells};
 ghost use Rattle.kt_cells.specs.Taking.{HandsOver};
-ghost use Rattle.std.specs.Prelude.{◌≡◌, ℕ, List, [], OnOk, IfErr, Ok, Err, ◌+◌, ◌*◌, ◌<◌, ◌≤◌, ◌^◌, ◌⊎◌, length, take, drop};
+ghost use Rattle.std.specs.Prelude.{◌≡◌, ℕ, List, [], OnOk, IfOk, IfErr, Ok, Err, ◌+◌, ◌*◌, ◌<◌, ◌≤◌, ◌^◌, ◌⊎◌, length, take, drop};
 ghost use Rattle.byteorder.specs.Endian.{little_number};
 ghost use Rattle.kt_cells.specs.Kinds.{width};
-ghost use Rattle.kt_cells.specs.Reading.{row_values};
-ghost use Rattle.kt_cells.specs.Records.{record_width as width_of, record_count, record_fields, record_rows, field_value};
+ghost use Rattle.kt_cells.specs.Reading.{in_front, row_values};
+ghost use Rattle.kt_cells.specs.Records.{record_width as width_of, record_count, record_fields, record_rows, records_behind, field_value};
 
 use crate::kind::Kind;
 use crate::reader::rule_after;
@@ -40,10 +40,11 @@ fn number(bytes: &[u8], width: usize) -> u64
     }
 }
 
-/// Reads the values of the record at the front of some bytes, the first column of which has the number `first`. An error
-/// is the first bad field; its row is `row`.
+// Reads the values of the record at the front of some bytes, the first column of which has the number `first`. An error
+// is the first bad field; its row is `row`.
 #[inline(always)]
-pub(crate) fn read_record<const N: usize>(
+#[tactic(auto, using(crate::proofs::RecordLemmas::field_within, crate::proofs::ReadingLemmas::row_end))]
+fn read_record<const N: usize>(
     kinds: &[Kind; N],
     first: u32,
     row: u64,
@@ -58,14 +59,14 @@ pub(crate) fn read_record<const N: usize>(
     ensures refused { IfErr result (λ stop. row_values field_value 0 0 row first kinds.now (record_fields kinds.now bytes.now) ≡ Err stop) }
 {
     let mut rule = 0;
-    let mut at = 0;
+    let mut rest = bytes;
     for (column, kind) in kinds.iter().enumerate() {
         let width = kind.width();
-        match kind.under(rule).in_range(number(&bytes[at..], width)) {
+        match kind.under(rule).in_range(number(rest, width)) {
             Ok(value) => {
                 values[column] = value;
                 rule = rule_after(rule, *kind, value);
-                at += width;
+                rest = &rest[width..];
             }
             Err(cause) => {
                 return Err(TableStop::Bad {
@@ -79,9 +80,41 @@ pub(crate) fn read_record<const N: usize>(
     Ok(())
 }
 
+/// Reads the record at the front of the bytes that are left behind so many records, of so many bytes each, and gives the
+/// bytes behind it. An error is its first bad field, or that it is cut by the end.
+#[inline(always)]
+#[tactic(auto, using(crate::proofs::RecordLemmas::record_in_range))]
+pub(crate) fn next_record<'a, const N: usize>(
+    kinds: &[Kind; N],
+    first: u32,
+    before: u64,
+    width: usize,
+    bytes: &'a [u8],
+    values: &mut [u64; N],
+) -> Result<&'a [u8], TableStop>
+    requires size { N < 100 }
+    requires first { first < 100 }
+    requires width { width ≡ width_of kinds.now }
+    requires wide { 0 < width }
+    requires some { 0 < length bytes.now }
+    requires room { before + length bytes.now < 2 ^ 64 }
+    ensures next { IfOk result (λ rest. records_behind before first kinds.now bytes.now ≡ in_front values.new (records_behind (before + 1) first kinds.now rest.now)) }
+    ensures shorter { IfOk result (λ rest. length rest.now < length bytes.now) }
+    ensures range { OnOk result (IsRow 0 kinds.now values.new) }
+
+    ensures refused { IfErr result (λ stop. records_behind before first kinds.now bytes.now ≡ Err stop) }
+{
+    if bytes.len() < width {
+        return Err(TableStop::CutRecord { row: before + 1 });
+    }
+    read_record(kinds, first, before + 1, bytes, values)?;
+    Ok(&bytes[width..])
+}
+
 /// Hands the values of all records to a sink, where the first column has the number `first`. An error is
 /// the first bad field, by record and then by column; then a record that is cut by the end; or want of memory.
 #[inline(always)]
+#[tactic(auto, using(crate::proofs::RecordLemmas::records_in_range, crate::proofs::RecordLemmas::records_counted))]
 pub fn read_records<const N: usize, S: RowSink<N>>(
     kinds: &[Kind; N],
     first: u32,
@@ -100,17 +133,13 @@ pub fn read_records<const N: usize, S: RowSink<N>>(
     ensures refused { IfErr result (Tells (record_rows first kinds.now bytes.now)) }
 {
     let width = record_width(kinds);
-    let count = bytes.len() / width;
     let mut values = [0; N];
-    for row in 0..count {
-        let rest = &bytes[row * width..];
-        read_record(kinds, first, row as u64 + 1, rest, &mut values)?;
+    let mut rest = bytes;
+    let mut row = 0;
+    while !rest.is_empty() {
+        rest = next_record(kinds, first, row, width, rest, &mut values)?;
+        row += 1;
         sink.take(&values)?;
-    }
-    if bytes.len() % width != 0 {
-        return Err(TableStop::CutRecord {
-            row: count as u64 + 1,
-        });
     }
     Ok(())
 }

@@ -6,9 +6,9 @@ ghost use Rattle.kt_text.specs.Records.{StandsBetween, bytes_left, records_left}
 ghost use Rattle.kt_text.specs.Rows.{csv_rows};
 ghost use Rattle.kt_cells.specs.Texts.{text_value, text_rows};
 ghost use Rattle.kt_cells.specs.Stops.{Tells};
-ghost use Rattle.kt_cells.specs.Reading.{behind, row_values, table_rows};
+ghost use Rattle.kt_cells.specs.Reading.{row_values, table_rows};
 ghost use Rattle.kt_cells.specs.Ranges.{IsRow, AreRows, AreInOrder, FitsBytes};
-ghost use Rattle.kt_cells.specs.Taking.{HandsOver, HandsFront, HasRow};
+ghost use Rattle.kt_cells.specs.Taking.{HandsOver, HandsFront, HasRow, TakesMore};
 
 use crate::cells::Cells;
 use crate::front_value::front_value;
@@ -99,7 +99,7 @@ fn read_plain_rows<'a, const N: usize, S: RowSink<N>>(
     requires some { 0 < N }
     requires takes { (row : List ℕ) → IsRow 0 kinds.now row → FitsBytes kinds.now row → S.takes row }
     requires fresh { S.takes_to sink.old [] sink.old }
-    ensures value { IfOk result (λ front. HandsFront text_value ordered 1 kinds.now (λ rows. S.takes_to sink.old rows sink.new) (table_rows text_value ordered 1 kinds.now 0 1 (csv_records text.now)) front.count front.floor (csv_records front.rest.now)) }
+    ensures value { IfOk result (λ front. HandsFront (λ rows. S.takes_to sink.old rows sink.new) (table_rows text_value ordered 1 kinds.now 0 1 (csv_records text.now)) (table_rows text_value ordered 1 kinds.now front.floor (front.count + 1) (csv_records front.rest.now))) }
     ensures within { IfOk result (λ front. front.count + length front.rest.now ≤ length text.now) }
 {
     let mut count = 0;
@@ -145,8 +145,7 @@ fn read_rows_left<const N: usize, S: RowSink<N>>(
     requires stands { StandsBetween reader.old }
     requires room { before + bytes_left reader.old < 2 ^ 64 }
     requires takes { (row : List ℕ) → IsRow 0 kinds.now row → FitsBytes kinds.now row → S.takes row }
-    requires before { (start : S) × (rows : List (List ℕ)) × (before ≡ length rows) × S.takes_to start rows sink.old }
-    ensures value { OnOk result ((start : S) (rows : List (List ℕ)) → before ≡ length rows → S.takes_to start rows sink.old → HandsOver (λ all. S.takes_to start all sink.new) (behind rows (table_rows text_value ordered 1 kinds.now least (before + 1) (records_left reader.old)))) }
+    ensures value { OnOk result (HandsOver (TakesMore S.takes_to sink.old sink.new) (table_rows text_value ordered 1 kinds.now least (before + 1) (records_left reader.old))) }
 
     ensures refused { IfErr result (Tells (table_rows text_value ordered 1 kinds.now least (before + 1) (records_left reader.old))) }
 {
@@ -227,6 +226,7 @@ fn read_rows_behind_heading<const N: usize, S: RowSink<N>>(
 /// Hands the values of a CSV text, its heading left out, to a sink. An error is the first bad place: by
 /// row, in a row the number of its fields first, then by column; or want of memory.
 #[inline(always)]
+#[tactic(auto, unfolding(crate::specs::Texts::text_rows))]
 pub fn read_text<const N: usize, S: RowSink<N>>(
     alloc: Global,
     text: &[u8],

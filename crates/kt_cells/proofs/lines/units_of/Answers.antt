@@ -1,14 +1,10 @@
-use Rattle.std.proofs.Common.{◌≡◌, length, arith}
+use Rattle.std.proofs.Common.{arith}
 use Rattle.kt_cells.specs.declared.kind.Kind.TheVariants.{Id}
 use Rattle.kt_cells.proofs.FieldLemmas.{units-more, units-end}
 use Rattle.kt_cells.proofs.lines.units_of.Goals as goal
 
 pub loop-column-preserved : goal.loop-column-preserved
-loop-column-preserved g c =
-    rw (c.under.ensures, c.rule_after-rule.ensures)
-    (units-more c.args.kinds.now c.args.values.now c.loop-column.units c.loop-column.column c.loop-column.rule c.loop-column.invariant Id (omega (arith, c.told-kinds)) (omega (arith, c.told-kinds, c.told-values)))
+loop-column-preserved g c = rw (c.under.ensures, c.rule_after-rule.ensures) (units-more c.loop-column.invariant Id (omega (arith, c.told-kinds)) (omega (arith, c.told-kinds, c.told-values)))
 
 pub returns : goal.returns
-returns g c =
-    let done : c.loop-column.column ≡ length c.args.kinds.now = omega (arith, c.told-kinds) in
-    units-end c.args.kinds.now c.args.values.now c.loop-column.units c.loop-column.rule (rw done at c.loop-column.invariant)
+returns g c = units-end c.loop-column.invariant (omega (arith, c.told-kinds))

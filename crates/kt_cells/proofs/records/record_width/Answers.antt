@@ -1,20 +1,15 @@
-use Rattle.std.proofs.Common.{◌≡◌, arith, length}
+use Rattle.std.proofs.Common.{arith}
 use Rattle.kt_cells.specs.declared.kind.Kind.TheVariants.{Id}
 use Rattle.kt_cells.proofs.RecordLemmas.{record_width-more, record_width-most, record_width-some, record_width-end}
 use Rattle.kt_cells.proofs.records.record_width.Goals as goal
 
 pub overflow_add-bytes : goal.overflow_add-bytes
-overflow_add-bytes c =
-    omega (arith, c.loop-kind.invariant, record_width-most c.args.kinds.now, record_width-more c.args.kinds.now c.loop-kind.kind-index Id c.loop-kind-test.true, c.width-bytes.ensures)
+overflow_add-bytes c = omega (arith, record_width-most c.args.kinds.now, record_width-more c.args.kinds.now c.loop-kind.kind-index Id c.loop-kind-test.true)
 
 pub loop-kind-preserved : goal.loop-kind-preserved
-loop-kind-preserved c =
-    omega (arith, c.loop-kind.invariant, record_width-more c.args.kinds.now c.loop-kind.kind-index Id c.loop-kind-test.true, c.width-bytes.ensures)
+loop-kind-preserved c = omega (arith, record_width-more c.args.kinds.now c.loop-kind.kind-index Id c.loop-kind-test.true)
 
 pub returns : goal.returns
 returns c =
-    let done : c.loop-kind.kind-index ≡ length c.args.kinds.now = omega arith in
-    record {
-      value = omega (arith, rw done at c.loop-kind.invariant, record_width-end c.args.kinds.now);
-      some = λ some. omega (arith, rw done at c.loop-kind.invariant, record_width-end c.args.kinds.now, record_width-some c.args.kinds.now some);
-    }
+    let none = record_width-end c.args.kinds.now c.loop-kind.kind-index (omega arith) in
+    record { value = omega arith; some = λ some. omega (arith, record_width-some c.args.kinds.now some) }

@@ -1,21 +1,16 @@
-use Rattle.std.proofs.Common.{◌≡◌, ◌==◌, false, true, replicate, sym, ◌∙◌, arith, length-drop}
+use Rattle.std.proofs.Common.{◌≡◌, ◌==◌, false, true, sym, ◌∙◌, arith, length-drop}
 use Rattle.std.proofs.lemmas.Bool.{eq-eqb, ne_eqb}
-use Rattle.std.proofs.lemmas.List.{length-replicate, take_rest}
-use Rattle.kt_cells.proofs.RangeLemmas.{not_below-above}
-use Rattle.kt_cells.proofs.StreamLemmas.{plain-start, plain-more, plain-end}
+use Rattle.std.proofs.lemmas.List.{take_rest}
+use Rattle.kt_cells.specs.declared.kind.Kind.TheVariants.{Id}
+use Rattle.kt_cells.proofs.TextLemmas.{plain-more, plain-end}
 use Rattle.kt_cells.proofs.text_rows.plain_row.Goals as goal
-
-pub loop-column-init : goal.loop-column-init
-loop-column-init g c =
-    let none : (0 == g.row.N) ≡ false = ne_eqb 0 g.row.N (λ e. omega (arith, c.requires.some)) in
-    rw none (plain-start c.args.kinds.now c.args.floor c.args.text.now (replicate g.row.N 0) c.in_ok-rest.rest.now (length-replicate g.row.N 0 ∙ sym c.told-kinds) c.in_ok-rest.ensures.begins, c.in_ok-rest.ensures.shorter)
 
 pub loop-column-preserved : goal.loop-column-preserved
 loop-column-preserved g c =
     let here : (c.loop-column.column == g.row.N) ≡ false = ne_eqb c.loop-column.column g.row.N (λ e. omega (arith, c.loop-column-test.true)) in
     rw c.rule_after-rule.ensures (
-      plain-more c.args.kinds.now c.args.floor c.args.text.now c.loop-column.values c.loop-column.column c.loop-column.rule c.loop-column.least c.loop-column.rest.now (rw here at c.loop-column.invariant.0) _ _ c.in_ok-field.field.size c.in_ok-field.field.value c.in_ok-rest-2.rest.now
-          (omega (arith, c.told-kinds, c.loop-column-test.true)) c.in_ok-field.ensures.field (rw c.under.ensures at c.in_ok-field.ensures.value) (not_below-above c.loop-column.least c.in_ok-field.field.value (omega (arith, c.if-field-least.false)))
+      plain-more (rw here at c.loop-column.invariant.0) Id _ c.in_ok-field.field.size c.in_ok-field.field.value c.in_ok-rest-2.rest.now
+          (omega (arith, c.told-kinds, c.loop-column-test.true)) c.in_ok-field.ensures.field (rw c.under.ensures at c.in_ok-field.ensures.value) (omega (arith, c.if-field-least.false))
           (rw take_rest at c.in_ok-rest-2.ensures.stands),
       omega (arith, c.loop-column.invariant.1, rw take_rest at c.in_ok-rest-2.ensures.shorter, length-drop c.in_ok-field.field.size c.loop-column.rest.now),
     )
@@ -24,4 +19,4 @@ pub returns-clause-row : goal.returns-clause-row
 returns-clause-row g c =
     let all : c.loop-column.column ≡ g.row.N = omega (arith, c.loop-column-test.false, c.loop-column.auto.column-end) in
     let here : (c.loop-column.column == g.row.N) ≡ true = eq-eqb c.loop-column.column g.row.N all in
-    plain-end c.args.kinds.now c.args.floor c.args.text.now c.loop-column.values c.loop-column.column c.loop-column.rule c.loop-column.least c.loop-column.rest.now (rw here at c.loop-column.invariant.0) (all ∙ sym c.told-kinds)
+    plain-end (rw here at c.loop-column.invariant.0) (all ∙ sym c.told-kinds)

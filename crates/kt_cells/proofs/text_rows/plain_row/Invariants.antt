@@ -1,5 +1,5 @@
 use Rattle.std.proofs.Common.{◌==◌, ◌<◌, length}
-use Rattle.kt_cells.proofs.StreamLemmas.{PlainRead}
+use Rattle.kt_cells.proofs.TextLemmas.{PlainRead}
 use Rattle.kt_cells.proofs.text_rows.plain_row.Given as goal
 
 abbrev pub invariant-loop-column : goal.invariant-loop-column

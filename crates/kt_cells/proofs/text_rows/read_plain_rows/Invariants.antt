@@ -8,7 +8,7 @@ use Rattle.kt_cells.proofs.text_rows.read_plain_rows.Given as goal
 abbrev pub invariant-loop-row : goal.invariant-loop-row
 invariant-loop-row g l = record {
   within : l.count + length l.rest ≤ length l.fn.text;
-  front : HandsFront text_value l.ordered 1 l.kinds (λ rows. g.S.RowSink.takes_to l.fn.sink rows l.sink) (table_rows text_value l.ordered 1 l.kinds 0 1 (csv_records l.fn.text)) l.count l.floor (csv_records l.rest);
+  front : HandsFront (λ rows. g.S.RowSink.takes_to l.fn.sink rows l.sink) (table_rows text_value l.ordered 1 l.kinds 0 1 (csv_records l.fn.text)) (table_rows text_value l.ordered 1 l.kinds l.floor (l.count + 1) (csv_records l.rest));
 }
 
 abbrev pub decreases-loop-row : goal.decreases-loop-row

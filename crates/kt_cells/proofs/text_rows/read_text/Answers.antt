@@ -1,26 +1,9 @@
 use Rattle.std.proofs.Common.{arith}
-use Rattle.kt_cells.specs.Texts.{text_rows}
 use Rattle.kt_cells.proofs.TextLemmas.{ranges-given}
 use Rattle.kt_cells.proofs.text_rows.read_text.Goals as goal
-
-pub returns-in-Some-clause-value : goal.returns-in-Some-clause-value
-unfolding text_rows
-returns-in-Some-clause-value g c = rw c.in-Some.ensures c.read_all_rows.ensures.value
 
 pub returns-in-Some-clause-ranges : goal.returns-in-Some-clause-ranges
 returns-in-Some-clause-ranges g c = ranges-given c.args.ordered c.args.kinds.now c.args.text.now c.read_all_rows.result (omega (arith, c.told-kinds, c.requires.some))
 
-pub returns-in-Some-clause-refused : goal.returns-in-Some-clause-refused
-unfolding text_rows
-returns-in-Some-clause-refused g c = rw c.in-Some.ensures c.read_all_rows.ensures.refused
-
-pub returns-in-None-clause-value : goal.returns-in-None-clause-value
-unfolding text_rows
-returns-in-None-clause-value g c = c.read_rows_behind_heading.ensures.value
-
 pub returns-in-None-clause-ranges : goal.returns-in-None-clause-ranges
 returns-in-None-clause-ranges g c = ranges-given c.args.ordered c.args.kinds.now c.args.text.now c.read_rows_behind_heading.result (omega (arith, c.told-kinds, c.requires.some))
-
-pub returns-in-None-clause-refused : goal.returns-in-None-clause-refused
-unfolding text_rows
-returns-in-None-clause-refused g c = c.read_rows_behind_heading.ensures.refused
