@@ -1,16 +1,19 @@
 -- The lists that are made from a plan are those of the tree of the tables.
 use Rattle.std.proofs.Common.{◌≡◌, ℕ, zero, suc, ◌^◌, ◌<◌, ◌≤◌, true, List, [], ◌∷◌, length, map, get_or, refl, ap, sym, subst, ◌∙◌, nat_eq, Option, arith}
 use Rattle.std.specs.Prelude.{option_map}
+use Rattle.std.proofs.Math.Path.{fun_ext}
 use Rattle.std.specs.List.{All, AllByRecursion, filter, filter_map, list_any}
 use Rattle.kt_rec.specs.Rows.{Rows}
 use Rattle.kt_keys.specs.Keys.{policytc_of}
+use Rattle.kt_checks.specs.OutputChecks.{climbed}
 use Rattle.kt_tree.specs.Sums.{each_then, each_member, each_flat_map}
 use Rattle.kt_tree.specs.Rising.{IsRising}
 use Rattle.kt_tree.specs.Tree.{Tree, is_unit, beneath}
 use Rattle.kt_tree.specs.Programme.{layers_in, or_first}
 use Rattle.kt_fmtree.specs.Parts.{Parts, IsNode, IsProgramme, nodes_at, units_at}
-use Rattle.kt_structure.specs.Plan.{link_key, linked, layer_link, kids, build_levels, build_leaves, Finds}
+use Rattle.kt_structure.specs.Plan.{found_terms, found_tiv, link_key, linked, layer_link, kids, build_levels, build_leaves, Finds}
 use Rattle.kt_structure.specs.Ready.{IsReady}
+use Rattle.kt_structure.specs.Structure.{Fits, Kept}
 use Rattle.kt_structure.specs.declared.links.Link.{Link}
 use Rattle.kt_fmtree.specs.declared.node.Node.{Node}
 use Rattle.kt_structure.specs.declared.plan.Plan.{Plan}
@@ -76,3 +79,45 @@ pub all-beneath : (climb : ℕ → Option ℕ) (links : List Link) (ids tops : L
 all-beneath climb links ids [] rises kept = refl
 all-beneath climb links ids (top ∷ tops) rises kept =
     ap (λ y. y ∷ map (λ t. linked links 0 t) tops) (beneath-found climb links ids rises kept top) ∙ ap (λ ys. filter (λ id. is_unit top (climb id)) ids ∷ ys) (all-beneath climb links ids tops rises kept)
+
+-- the lists that are made of what fits a tree are its lists
+module _ (tree : Tree) (kept : Kept) (links : List Link) (ids tops : List ℕ) (fits : Fits tree kept links ids tops) (plan : Plan) (links_are : plan.links.now ≡ links) (terms_are : found_terms plan.terms.now ≡ kept.terms) (tivs_are : (level unit : ℕ) → found_tiv plan level unit ≡ kept.tiv level unit) where
+  plan-finds : Finds tree plan
+  plan-finds = record {
+    is = fits.is;
+    children_are = λ level unit least most small. ap (λ all. linked all level unit) links_are ∙ fits.children_are level unit least most small;
+    kids_small = λ level unit. subst (λ all. AllByRecursion (λ kid. kid < 2 ^ 32) (linked all level unit)) (sym links_are) (fits.children_fit level unit);
+    profiles_are = λ level unit. ap (λ terms. terms 1 level unit) terms_are ∙ fits.profiles_are level unit;
+    layers_are = λ top layer. ap (λ terms. terms layer tree.top_level top) terms_are ∙ fits.layer_profiles_are top layer;
+    tivs_are = λ level unit least most. tivs_are level unit ∙ fits.tivs_are level unit least most;
+  }
+
+  -- the leaves are among the ids
+  pub leaves-fit : AllByRecursion (λ id. list_any (nat_eq id) ids ≡ true) (build_leaves plan kept.top_level tops)
+  leaves-fit =
+      subst (λ found. AllByRecursion (λ id. list_any (nat_eq id) found ≡ true) (build_leaves plan kept.top_level tops)) (sym fits.ids_are)
+      (subst (λ n. AllByRecursion (λ id. list_any (nat_eq id) tree.ids ≡ true) (build_leaves plan n tops)) (sym fits.top_level_is) (leaves-members tree plan plan-finds tops fits.tops_fit))
+
+  pub programme-fits : (parts : Parts)
+      → parts.ids ≡ ids → parts.tops ≡ tops
+      → All (λ place. place < length parts.ids) parts.leaves
+      → map (λ place. get_or parts.ids place 0) parts.leaves ≡ build_leaves plan kept.top_level tops
+      → parts.levels ≡ build_levels plan kept.top_level tops
+      → parts.layers ≡ map kept.layers tops
+      → parts.terms ≡ map (λ top. map (λ layer. kept.terms layer kept.top_level top) (kept.layers top)) tops
+      → parts.beneath ≡ map (λ top. filter (λ id. is_unit top (climbed kept.next kept.top_level 1 id)) ids) tops
+      → IsProgramme tree parts
+  programme-fits parts ids_same tops_same within leaves levels layers terms below =
+      assembled tree plan plan-finds tops fits.tops_fit parts
+      (ids_same ∙ fits.ids_are) (subst IsRising (sym ids_same) fits.ids_rise) within
+      (leaves ∙ ap (λ n. build_leaves plan n tops) fits.top_level_is)
+      (levels ∙ ap (λ n. build_levels plan n tops) fits.top_level_is)
+      (tops_same ∙ fits.tops_are) fits.tops_are
+      (layers ∙ (map-each (λ top. top < 2 ^ 32) kept.layers tree.layers fits.layers_are tops fits.tops_fit ∙ ap (map tree.layers) fits.tops_are))
+      (terms ∙ (map-each (λ top. top < 2 ^ 32) _ (λ top. map (tree.layer_profile top) (tree.layers top)) layer_terms tops fits.tops_fit ∙ ap (map (λ top. map (tree.layer_profile top) (tree.layers top))) fits.tops_are))
+      (below ∙ (map-each (λ top. top < 2 ^ 32) _ (beneath tree) (λ top small. fits.beneath_are top) tops fits.tops_fit ∙ ap (map (beneath tree)) fits.tops_are))
+    where
+      layer_terms : (top : ℕ) → top < 2 ^ 32 → map (λ layer. kept.terms layer kept.top_level top) (kept.layers top) ≡ map (tree.layer_profile top) (tree.layers top)
+      layer_terms top small =
+          (λ i. map (λ layer. kept.terms layer (fits.top_level_is i) top) (fits.layers_are top small i))
+          ∙ ap (λ terms. map terms (tree.layers top)) (fun_ext (fits.layer_profiles_are top))

@@ -1,10 +1,9 @@
 -- What is found along the ids that have losses is what the tree of the struck units has.
-use Rattle.std.proofs.Common.{◌≡◌, ℕ, zero, suc, ◌+◌, ◌*◌, ◌^◌, ◌<◌, ◌≤◌, Bool, true, false, List, [], ◌∷◌, Option, None, Some, map, length, get_or, nat_eq, refl, sym, ap, subst, ◌∙◌, arith, map-id}
+use Rattle.std.proofs.Common.{◌≡◌, ℕ, zero, suc, ◌+◌, ◌*◌, ◌^◌, ◌<◌, ◌≤◌, Bool, true, false, List, [], ◌∷◌, Option, None, Some, map, get_or, nat_eq, refl, sym, ap, subst, ◌∙◌, arith, map-id}
 use Rattle.std.specs.Prelude.{◌&&◌, ◌||◌, is_some}
 use Rattle.std.specs.Cmp.{nat_eq_equiv}
-use Rattle.std.proofs.Math.Path.{fun_ext}
 use Rattle.std.proofs.lemmas.Bool.{eqb-true}
-use Rattle.std.specs.List.{All, AllByRecursion, filter, filter_map, flat_map, list_any}
+use Rattle.std.specs.List.{AllByRecursion, filter, filter_map, flat_map, list_any}
 use Rattle.kt_checks.specs.OutputChecks.{climbed}
 use Rattle.kt_struck.specs.Members.{filter-both, member-filter}
 use Rattle.kt_struck.specs.Struck.{is_struck, struck, struck_children}
@@ -12,13 +11,10 @@ use Rattle.kt_struck.specs.StruckLaws.{climbed-struck, struck-id, struck-is}
 use Rattle.kt_tree.specs.Rising.{IsRising, rising, rising-member, rising-rises, rising-unique}
 use Rattle.kt_tree.specs.Sums.{each_then}
 use Rattle.kt_tree.specs.Tree.{Tree, beneath, comes_to, is_unit}
-use Rattle.kt_fmtree.specs.Parts.{Parts, IsProgramme}
 use Rattle.kt_fmtree.specs.RisingLaws.{rising-filter}
-use Rattle.kt_structure.specs.Plan.{Finds, build_leaves, build_levels, found_terms, found_tiv, link_key, linked, links_up}
-use Rattle.kt_structure.specs.Structure.{Kept, IsStructure}
+use Rattle.kt_structure.specs.Plan.{link_key, linked, links_up}
+use Rattle.kt_structure.specs.Structure.{Fits, Kept, IsStructure}
 use Rattle.kt_structure.specs.declared.links.Link.{Link}
-use Rattle.kt_structure.specs.declared.plan.Plan.{Plan}
-use Rattle.kt_structure.proofs.AssemblyLemmas.{assembled, leaves-members, map-each}
 use Rattle.kt_structure.proofs.FindLemmas.{each-filter, linked-are, rising-all}
 use Rattle.kt_structure.proofs.LinkLemmas.{all-small, children-among, reached-among, reached-small}
 
@@ -62,17 +58,6 @@ module _ (tree : Tree) (kept : Kept) (is : IsStructure tree kept) (ids : List �
     kids-fit level unit =
         rising-all (λ kid. kid < 2 ^ 32) _ (subst (λ (found : List Link). AllByRecursion (λ kid. kid < 2 ^ 32) (map (λ row. row.child) found)) (sym (by_key (level * 2 ^ 32 + unit)))
         (each-filter (λ kid. kid < 2 ^ 32) (λ (row : Link). row.child) (λ row. nat_eq (link_key row) (level * 2 ^ 32 + unit)) rows_up (each_then _ (λ row. row.child < 2 ^ 32) (λ row both. both.1) rows_up rows-fit)))
-
-    -- a plan of these links finds what the tree of struck units has
-    pub finds-struck : (plan : Plan) → plan.links.now ≡ links → found_terms plan.terms.now ≡ kept.terms → ((level unit : ℕ) → found_tiv plan level unit ≡ kept.tiv level unit) → Finds (struck tree ids) plan
-    finds-struck plan links_are terms_are tivs_are = record {
-      is = struck-is tree is.is ids;
-      children_are = λ level unit least most small. ap (λ all. linked all level unit) links_are ∙ children-struck level unit least most small;
-      kids_small = λ level unit. subst (λ all. AllByRecursion (λ kid. kid < 2 ^ 32) (linked all level unit)) (sym links_are) (kids-fit level unit);
-      profiles_are = λ level unit. ap (λ terms. terms 1 level unit) terms_are ∙ is.profiles_are level unit;
-      layers_are = λ top layer. ap (λ terms. terms layer tree.top_level top) terms_are ∙ is.layer_profiles_are top layer;
-      tivs_are = λ level unit least most. tivs_are level unit ∙ is.tivs_are level unit least most;
-    }
 
   -- ---- ids and tops
 
@@ -144,38 +129,26 @@ module _ (tree : Tree) (kept : Kept) (is : IsStructure tree kept) (ids : List �
       filter-both (is_struck tree ids 0) (comes_to tree tree.top_level top) (comes_to tree tree.top_level top) (λ id here. refl) tree.ids
       ∙ sym (filter-both (is_struck tree ids 0) (comes_to (struck tree ids) tree.top_level top) (comes_to tree tree.top_level top) (λ id here. ap (is_unit top) (climbed-struck tree is.is ids tree.top_level id (sym (struck-id tree is.is ids id) ∙ here))) tree.ids)
 
-  -- the lists that were made are those of the tree of struck units
-  pub programme-struck : (plan : Plan) → Finds (struck tree ids) plan → (taken tops : List ℕ) (parts : Parts)
-      → taken ≡ filter (is_struck tree ids 0) tree.ids → tops ≡ filter (is_struck tree ids tree.top_level) tree.tops
-      → parts.ids ≡ taken → parts.tops ≡ tops
-      → All (λ place. place < length parts.ids) parts.leaves
-      → map (λ place. get_or parts.ids place 0) parts.leaves ≡ build_leaves plan kept.top_level tops
-      → parts.levels ≡ build_levels plan kept.top_level tops
-      → parts.layers ≡ map kept.layers tops
-      → parts.terms ≡ map (λ top. map (λ layer. kept.terms layer kept.top_level top) (kept.layers top)) tops
-      → parts.beneath ≡ map (λ top. filter (λ id. is_unit top (climbed kept.next kept.top_level 1 id)) taken) tops
-      → IsProgramme (struck tree ids) parts
-  programme-struck plan finds taken tops parts taken_are tops_are ids_same tops_same within leaves levels layers terms below =
-      assembled (struck tree ids) plan finds tops (subst (AllByRecursion (λ unit. unit < 2 ^ 32)) (sym tops_are) tops-fit) parts
-      (ids_same ∙ taken_are) (subst IsRising (sym (ids_same ∙ taken_are)) (rising-filter (is_struck tree ids 0) tree.ids is.ids_rise)) within
-      (leaves ∙ ap (λ n. build_leaves plan n tops) is.top_level_is)
-      (levels ∙ ap (λ n. build_levels plan n tops) is.top_level_is)
-      (tops_same ∙ tops_are) tops_are
-      (layers ∙ (ap (map kept.layers) tops_are ∙ map-each (λ top. top < 2 ^ 32) kept.layers tree.layers is.layers_are _ tops-fit))
-      (terms ∙ (ap (map (λ top. map (λ layer. kept.terms layer kept.top_level top) (kept.layers top))) tops_are ∙ map-each (λ top. top < 2 ^ 32) _ _ (λ top fits. layer_terms top fits) _ tops-fit))
-      (below ∙ ((λ i. map (λ top. filter (λ id. is_unit top (climbed (is.next_is i) (is.top_level_is i) 1 id)) (taken_are i)) (tops_are i)) ∙ map-each (λ top. top < 2 ^ 32) _ _ (λ top fits. beneath-made top) _ tops-fit))
-    where
-      layer_terms : (top : ℕ) → top < 2 ^ 32 → map (λ layer. kept.terms layer kept.top_level top) (kept.layers top) ≡ map (tree.layer_profile top) (tree.layers top)
-      layer_terms top fits =
-          (λ i. map (λ layer. kept.terms layer (is.top_level_is i) top) (is.layers_are top fits i))
-          ∙ ap (λ terms. map terms (tree.layers top)) (fun_ext (is.layer_profiles_are top))
-
-  -- and the leaves are among the ids that were taken
-  pub leaves-taken : (plan : Plan) → Finds (struck tree ids) plan → (taken tops : List ℕ) → taken ≡ filter (is_struck tree ids 0) tree.ids → tops ≡ filter (is_struck tree ids tree.top_level) tree.tops → AllByRecursion (λ id. list_any (nat_eq id) taken ≡ true) (build_leaves plan kept.top_level tops)
-  leaves-taken plan finds taken tops taken_are tops_are =
-      subst (λ found. AllByRecursion (λ id. list_any (nat_eq id) found ≡ true) (build_leaves plan kept.top_level tops)) (sym taken_are)
-      (subst (λ n. AllByRecursion (λ id. list_any (nat_eq id) (filter (is_struck tree ids 0) tree.ids) ≡ true) (build_leaves plan n tops)) (sym is.top_level_is)
-      (leaves-members (struck tree ids) plan finds tops (subst (AllByRecursion (λ unit. unit < 2 ^ 32)) (sym tops_are) tops-fit)))
+  -- what is found along the ids fits the tree of struck units
+  pub struck-fits : (links : List Link) → ((key : ℕ) → filter (λ row. nat_eq (link_key row) key) links ≡ filter (λ row. nat_eq (link_key row) key) rows_up) → (taken tops : List ℕ) → taken ≡ rising (filter (λ id. is_some (kept.next (1, id))) ids) → tops ≡ rising (filter_map (climbed kept.next kept.top_level 1) ids) → Fits (struck tree ids) kept links taken tops
+  struck-fits links by_key taken tops taken_are tops_are =
+      let ids_same = taken_are ∙ ids-struck in
+      let tops_same = tops_are ∙ tops-struck in
+      record {
+        is = struck-is tree is.is ids;
+        top_level_is = is.top_level_is;
+        profiles_are = is.profiles_are;
+        layer_profiles_are = is.layer_profiles_are;
+        tivs_are = is.tivs_are;
+        layers_are = is.layers_are;
+        children_are = children-struck links by_key;
+        children_fit = kids-fit links by_key;
+        ids_are = ids_same;
+        ids_rise = subst IsRising (sym taken_are) (rising-rises (filter (λ id. is_some (kept.next (1, id))) ids));
+        tops_are = tops_same;
+        tops_fit = subst (AllByRecursion (λ unit. unit < 2 ^ 32)) (sym tops_same) tops-fit;
+        beneath_are = λ top. (λ i. filter (λ id. is_unit top (climbed (is.next_is i) (is.top_level_is i) 1 id)) (ids_same i)) ∙ beneath-made top;
+      }
 
 -- numbers that fit 32 bits at each place
 pub fits-each : (xs : List ℕ) → ((i : ℕ) → get_or xs i 0 < 2 ^ 32) → AllByRecursion (λ x. x < 2 ^ 32) xs

@@ -11,4 +11,5 @@ mod shared;
 mod structure;
 mod terms;
 
+pub use building::programme_of;
 pub use structure::Structure;

@@ -5,7 +5,8 @@ ghost use Rattle.std.specs.List.{filter, filter_map};
 ghost use Rattle.std.specs.HashMap.{get};
 ghost use Rattle.kt_checks.specs.OutputChecks.{climbed};
 ghost use Rattle.kt_keys.specs.Keys.{same_pair};
-ghost use Rattle.kt_tree.specs.Programme.{or_first};
+ghost use Rattle.kt_tree.specs.Programme.{ids_in, or_first};
+ghost use Rattle.kt_keys.specs.Units.{top_targets};
 ghost use Rattle.kt_structure.specs.Plan.{found_terms, layer_link, link_key, linked};
 ghost use Rattle.kt_tree.specs.Rising.{rising, IsRising};
 ghost use Rattle.kt_tree.specs.Tree.{is_unit};
@@ -15,10 +16,51 @@ use crate::terms::Terms;
 use kt_checks::climbed;
 use kt_fmtree::rising;
 use kt_index::ByKey;
-use kt_rec::FmPolicytc;
+use kt_keys::top_level;
+use kt_rec::{FmPolicytc, FmProgramme};
 use kt_rules::Profile;
 use std::alloc::{AllocError, Global};
 use std::collections::HashMap;
+
+/// The units from which losses come at level 1.
+fn sources(alloc: Global, programme: &[FmProgramme]) -> Result<Vec<u32>, AllocError>
+    ensures value { IfOk result (λ ids. ids.items ≡ map (λ row. row.from_agg_id) (filter (λ row. nat_eq row.level_id 1) programme.now)) }
+{
+    programme
+        .iter()
+        .filter(|row| row.level_id == 1)
+        .map(|row| row.from_agg_id)
+        .collect(alloc)
+}
+
+/// The ids whose losses a programme takes, rising.
+pub(crate) fn ids(alloc: Global, programme: &[FmProgramme]) -> Result<Vec<u32>, AllocError>
+    ensures value { IfOk result (λ ids. ids.items ≡ ids_in programme.now) }
+{
+    let ids = sources(alloc, programme)?;
+    let ids = rising(ids)?;
+    Ok(ids)
+}
+
+/// The units of a level that losses go to.
+fn targets(alloc: Global, programme: &[FmProgramme], level: u32) -> Result<Vec<u32>, AllocError>
+    ensures value { IfOk result (λ units. units.items ≡ map (λ row. row.to_agg_id) (filter (λ row. nat_eq row.level_id level) programme.now)) }
+{
+    programme
+        .iter()
+        .filter(|row| row.level_id == level)
+        .map(|row| row.to_agg_id)
+        .collect(alloc)
+}
+
+/// The units of the top level, rising.
+pub(crate) fn tops(alloc: Global, programme: &[FmProgramme]) -> Result<Vec<u32>, AllocError>
+    ensures value { IfOk result (λ units. units.items ≡ rising (top_targets programme.now)) }
+{
+    let units = targets(alloc, programme, top_level(programme))?;
+    let units = rising(units)?;
+    Ok(units)
+}
 
 /// The ids of a list whose losses come to a unit.
 fn among(
@@ -51,7 +93,7 @@ pub(crate) fn taken(
 }
 
 /// The tops that the losses of ids come to, one for each id that has one.
-fn reached(
+fn tops_up(
     alloc: Global,
     next: &HashMap<(u32, u32), u32>,
     level: u32,
@@ -65,7 +107,7 @@ fn reached(
 }
 
 /// The tops that the losses of ids come to, rising.
-pub(crate) fn tops(
+pub(crate) fn reached(
     alloc: Global,
     next: &HashMap<(u32, u32), u32>,
     level: u32,
@@ -73,7 +115,7 @@ pub(crate) fn tops(
 ) -> Result<Vec<u32>, AllocError>
     ensures value { IfOk result (λ tops. tops.items ≡ rising (filter_map (climbed (get same_pair next.now) level 1) ids.now)) }
 {
-    let tops = reached(alloc, next, level, ids)?;
+    let tops = tops_up(alloc, next, level, ids)?;
     let tops = rising(tops)?;
     Ok(tops)
 }

@@ -32,7 +32,11 @@ pub struct Structure {
 }
 
 /// The structure of the programme of a stage.
-fn structure_at(alloc: Global, tables: &Tables, stage: u32) -> Result<Structure, AllocError>
+pub(crate) fn structure_at(
+    alloc: Global,
+    tables: &Tables,
+    stage: u32,
+) -> Result<Structure, AllocError>
     requires stage { stage < 10 }
     requires ready { IsReady (rows_of tables.now) stage }
     ensures value { IfOk result (λ made. IsStructure (tree_of (rows_of tables.now) stage) (kept_by made)) }
