@@ -220,6 +220,10 @@ module _ (tree : Tree) (is : IsTree tree) (ids : List ℕ) (losses : ℕ → ℕ
             by true none rest = let clash : true ≡ false = none in cc
             by false none rest = rest none
 
+    -- an id without a loss has nothing
+    pub part-none : (id : ℕ) → losses id ≡ 0 → unwrap_or (lookup (nat_eq id) (zip (beneath tree top) (allocated tree losses rule top layer))) 0 ≡ 0
+    part-none id none = lookup-nothing id (beneath tree top) (allocated tree losses rule top layer) (λ place at. allocated-none tree is losses top layer rule place (ap losses at ∙ none))
+
     -- each id has of a policy loss what it had
     pub allocated-struck : (id : ℕ) → unwrap_or (lookup (nat_eq id) (zip (beneath (struck tree ids) top) (allocated (struck tree ids) losses rule top layer))) 0 ≡ unwrap_or (lookup (nat_eq id) (zip (beneath tree top) (allocated tree losses rule top layer))) 0
     allocated-struck id = by_id (is_struck tree ids 0 id) refl
@@ -229,9 +233,6 @@ module _ (tree : Tree) (is : IsTree tree) (ids : List ℕ) (losses : ℕ → ℕ
             ap (list_any (nat_eq id)) (beneath-struck tree is ids top)
             ∙ (member-filter (is_struck tree ids 0) id (beneath tree top)
             ∙ ap (λ c. c && list_any (nat_eq id) (beneath tree top)) here)
-
-        nothing_before : losses id ≡ 0 → unwrap_or (lookup (nat_eq id) (zip (beneath tree top) (allocated tree losses rule top layer))) 0 ≡ 0
-        nothing_before none = lookup-nothing id (beneath tree top) (allocated tree losses rule top layer) (λ place at. allocated-none tree is losses top layer rule place (ap losses at ∙ none))
 
         by_rule : (b : Bool) → is_struck tree ids 0 id ≡ true → is_struck tree ids tree.top_level top ≡ true → unwrap_or (lookup (nat_eq id) (zip (beneath (struck tree ids) top) (cond b (shared_at_once (struck tree ids) losses top layer) (shared_down (struck tree ids) losses top layer)))) 0 ≡ unwrap_or (lookup (nat_eq id) (zip (beneath tree top) (cond b (shared_at_once tree losses top layer) (shared_down tree losses top layer)))) 0
         by_rule true here struck_top = ap (λ found. unwrap_or found 0) (at_once-struck id here)
@@ -250,4 +251,4 @@ module _ (tree : Tree) (is : IsTree tree) (ids : List ℕ) (losses : ℕ → ℕ
 
         by_id : (b : Bool) → is_struck tree ids 0 id ≡ b → unwrap_or (lookup (nat_eq id) (zip (beneath (struck tree ids) top) (allocated (struck tree ids) losses rule top layer))) 0 ≡ unwrap_or (lookup (nat_eq id) (zip (beneath tree top) (allocated tree losses rule top layer))) 0
         by_id true here = by_place (list_any (nat_eq id) (beneath tree top)) refl here
-        by_id false other = not_beneath (struck tree ids) _ id (members false other) ∙ sym (nothing_before (quiet id (sym (struck-id tree is ids id) ∙ other)))
+        by_id false other = not_beneath (struck tree ids) _ id (members false other) ∙ sym (part-none id (quiet id (sym (struck-id tree is ids id) ∙ other)))

@@ -2,8 +2,8 @@ use Rattle.std.proofs.Common.{ap, sym, ◌∙◌, nat_eq}
 use Rattle.std.specs.HashMap.{get}
 use Rattle.std.specs.Option.{option_copied}
 use Rattle.kt_insured.proofs.ListLemmas.{made-push, made-skip}
-use Rattle.kt_insured.proofs.layout.rows_in_order.Goals as goal
-use Rattle.kt_insured.proofs.layout.rows_in_order.Goals.{in-Some+in_ok-push, in_default}
+use Rattle.kt_insured.proofs.index.rows_in_order.Goals as goal
+use Rattle.kt_insured.proofs.index.rows_in_order.Goals.{in-Some+in_ok-push, in_default}
 
 pub loop-id-preserved : goal.loop-id-preserved
 loop-id-preserved c = elim c.match-get.branch [
