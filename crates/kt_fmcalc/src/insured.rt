@@ -6,8 +6,8 @@ ghost use Rattle.kt_ends.specs.Stops.{end_status};
 ghost use Rattle.kt_ends.specs.World.{Finds, world};
 ghost use Rattle.kt_fmcalc.specs.Losses.{insured_rows_outcome};
 ghost use Rattle.kt_fmcalc.specs.Needs.{insured_need};
-ghost use Rattle.kt_fmtree.specs.Parts.{IsProgramme};
-ghost use Rattle.kt_insured.specs.Layout.{IsLayout};
+ghost use Rattle.kt_insured.specs.Index.{AreIndexed};
+ghost use Rattle.kt_structure.specs.Structure.{IsStructure, kept_by};
 ghost use Rattle.kt_losses.specs.Judged.{uses_losses};
 ghost use Rattle.kt_out.specs.InputFiles.{InputsState};
 ghost use Rattle.kt_out.specs.OutputFiles.{OutputsState};
@@ -15,33 +15,34 @@ ghost use Rattle.kt_tree.specs.Programme.{tree_of};
 
 use crate::heading::put_heading;
 use kt_ends::ToolStop;
-use kt_fmtree::Programme;
-use kt_insured::{Layout, insured_placed};
+use kt_insured::{OutputIndex, insured};
 use kt_losses::{LossTool, put_losses, write_losses};
 use kt_money::Bytes;
 use kt_out::{Sink, Source};
 use kt_stream::{Head, LossRecord, Placed};
+use kt_structure::Structure;
 use kt_tables::Portfolio;
 use std::alloc::{AllocError, Global};
 
-/// The insured losses by a programme and the places of its outputs.
+/// The insured losses by the structure of the base and the outputs, by an allocation rule.
 #[derive(Drop)]
 struct InsuredLosses {
     alloc: Global,
-    programme: Programme,
-    layout: Layout,
+    rule: u32,
+    structure: Structure,
+    outputs: OutputIndex,
 }
 
 impl LossTool for InsuredLosses {
     ghost use Rattle.std.specs.Prelude.{◌≡◌, ◌≤◌};
     ghost use Rattle.kt_tree.specs.Programme.{tree_of};
-    ghost use Rattle.kt_fmtree.specs.Parts.{IsProgramme};
-    ghost use Rattle.kt_insured.specs.Layout.{IsLayout};
+    ghost use Rattle.kt_structure.specs.Structure.{IsStructure, kept_by};
+    ghost use Rattle.kt_insured.specs.Index.{AreIndexed};
     ghost use Rattle.kt_fmcalc.specs.Losses.{insured_table};
 
-    ghost table = { λ tool. insured_table tool.layout.rule };
+    ghost table = { λ tool. insured_table tool.rule };
 
-    ghost serves = { λ portfolio tool. (tool.layout.rule ≤ 2) × (IsProgramme (tree_of portfolio.rows 0) tool.programme × IsLayout (tree_of portfolio.rows 0) portfolio.rows.fm_xref tool.programme tool.layout) };
+    ghost serves = { λ portfolio tool. (tool.rule ≤ 2) × (IsStructure (tree_of portfolio.rows 0) (kept_by tool.structure) × AreIndexed portfolio.rows.fm_xref tool.outputs) };
 
     fn of_items(&self) -> bool {
         true
@@ -58,12 +59,13 @@ impl LossTool for InsuredLosses {
         run: &[Placed<LossRecord>],
         out: &mut Bytes,
     ) -> Result<(), AllocError> {
-        let made = insured_placed(
+        let made = insured(
             self.alloc,
             portfolio,
-            &self.programme,
-            &self.layout,
+            &self.structure,
+            &self.outputs,
             head.samples,
+            self.rule,
             run,
         )?;
         put_losses(out, made.records.as_slice())
@@ -78,16 +80,17 @@ fn insured_losses(
 ) -> Result<InsuredLosses, AllocError>
     requires rule { rule ≤ 2 }
     requires need { portfolio.now.need ≡ insured_need rule }
-    ensures rule { IfOk result (λ tool. tool.layout.rule ≡ rule) }
-    ensures programme { IfOk result (λ tool. IsProgramme (tree_of portfolio.now.rows 0) tool.programme) }
-    ensures layout { IfOk result (λ tool. IsLayout (tree_of portfolio.now.rows 0) portfolio.now.rows.fm_xref tool.programme tool.layout) }
+    ensures rule { IfOk result (λ tool. tool.rule ≡ rule) }
+    ensures structure { IfOk result (λ tool. IsStructure (tree_of portfolio.now.rows 0) (kept_by tool.structure)) }
+    ensures outputs { IfOk result (λ tool. AreIndexed portfolio.now.rows.fm_xref tool.outputs) }
 {
-    let programme = Programme::new(alloc, portfolio, 0)?;
-    let layout = Layout::new(alloc, portfolio, &programme, rule)?;
+    let structure = Structure::new(alloc, portfolio, 0)?;
+    let outputs = OutputIndex::new(alloc, portfolio)?;
     Ok(InsuredLosses {
         alloc,
-        programme,
-        layout,
+        rule,
+        structure,
+        outputs,
     })
 }
 

@@ -6,10 +6,10 @@ ghost use Rattle.kt_ends.specs.Stops.{end_status};
 ghost use Rattle.kt_ends.specs.World.{Finds, world};
 ghost use Rattle.kt_fmcalc.specs.Losses.{net_rows_outcome};
 ghost use Rattle.kt_fmcalc.specs.Needs.{net_need};
-ghost use Rattle.kt_fmtree.specs.Parts.{IsProgramme};
 ghost use Rattle.kt_losses.specs.Judged.{uses_losses};
 ghost use Rattle.kt_out.specs.InputFiles.{InputsState};
 ghost use Rattle.kt_out.specs.OutputFiles.{OutputsState};
+ghost use Rattle.kt_ri.specs.Stages.{IsStage};
 ghost use Rattle.kt_tree.specs.Programme.{tree_of};
 
 use crate::heading::put_heading;
@@ -17,8 +17,9 @@ use kt_ends::ToolStop;
 use kt_losses::{LossTool, put_losses, write_losses};
 use kt_money::Bytes;
 use kt_out::{Sink, Source};
-use kt_ri::{CedingProgramme, one_stage};
+use kt_ri::{one_stage, stage_of};
 use kt_stream::{Head, LossRecord, Placed};
+use kt_structure::Structure;
 use kt_tables::Portfolio;
 use std::alloc::{AllocError, Global};
 
@@ -28,18 +29,18 @@ struct NetLosses {
     alloc: Global,
     rule: u32,
     stage: u32,
-    programme: CedingProgramme,
+    structure: Structure,
 }
 
 impl LossTool for NetLosses {
     ghost use Rattle.std.specs.Prelude.{◌≡◌, ◌≤◌};
     ghost use Rattle.kt_tree.specs.Programme.{tree_of};
-    ghost use Rattle.kt_fmtree.specs.Parts.{IsProgramme};
+    ghost use Rattle.kt_ri.specs.Stages.{IsStage};
     ghost use Rattle.kt_fmcalc.specs.Losses.{net_table};
 
     ghost table = { λ tool. net_table tool.rule tool.stage };
 
-    ghost serves = { λ portfolio tool. ((1 ≤ tool.rule) × (tool.rule ≤ 2)) × IsProgramme (tree_of portfolio.rows tool.stage) tool.programme };
+    ghost serves = { λ portfolio tool. ((1 ≤ tool.rule) × (tool.rule ≤ 2)) × IsStage (tree_of portfolio.rows tool.stage) tool.structure };
 
     fn of_items(&self) -> bool {
         self.stage == 0
@@ -56,7 +57,7 @@ impl LossTool for NetLosses {
         run: &[Placed<LossRecord>],
         out: &mut Bytes,
     ) -> Result<(), AllocError> {
-        let made = one_stage(self.alloc, &self.programme, head.samples, self.rule, run)?;
+        let made = one_stage(self.alloc, &self.structure, head.samples, self.rule, run)?;
         put_losses(out, made.net.as_slice())
     }
 }
@@ -72,14 +73,14 @@ fn net_losses(
     requires need { portfolio.now.need ≡ net_need rule stage }
     ensures rule { IfOk result (λ tool. tool.rule ≡ rule) }
     ensures stage { IfOk result (λ tool. tool.stage ≡ stage) }
-    ensures programme { IfOk result (λ tool. IsProgramme (tree_of portfolio.now.rows stage) tool.programme) }
+    ensures structure { IfOk result (λ tool. IsStage (tree_of portfolio.now.rows stage) tool.structure) }
 {
-    let programme = CedingProgramme::new(alloc, portfolio, stage)?;
+    let structure = stage_of(alloc, portfolio, stage)?;
     Ok(NetLosses {
         alloc,
         rule,
         stage,
-        programme,
+        structure,
     })
 }
 

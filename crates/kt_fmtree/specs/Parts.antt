@@ -1,6 +1,7 @@
 -- The lists of a programme, and the tree whose lists they are.
 -- The rule: docs/FINANCIAL_MODULE.md, "Levels".
-use Rattle.std.specs.Prelude.{◌≡◌, ℕ, zero, suc, ◌+◌, ◌≤◌, ◌<◌, List, [], length, map, take, drop, All, slice_index, slice_index_or}
+use Rattle.std.specs.Prelude.{◌≡◌, ℕ, zero, suc, ◌+◌, ◌≤◌, ◌<◌, List, Vec, [], length, map, take, drop, All, slice_index, slice_index_or}
+use Rattle.std.specs.declared.alloc.Global.{Global}
 use Rattle.kt_rules.specs.declared.profile.Profile.{Profile}
 use Rattle.kt_tree.specs.Rising.{IsRising}
 use Rattle.kt_tree.specs.Tree.{Tree, IsTree, beneath}
@@ -18,17 +19,21 @@ pub record Parts : Type 0 where
   pub terms : List (List Profile)
   pub beneath : List (List ℕ)
 
+-- the lists of what a programme is made from
+abbrev pub lists_of : Vec ℕ Global → Vec ℕ Global → Vec (Vec Node Global) Global → Vec ℕ Global → Vec (Vec ℕ Global) Global → Vec (Vec Profile Global) Global → Vec (Vec ℕ Global) Global → Parts
+lists_of ids leaves levels tops layers terms beneath = record {
+  ids = ids.items;
+  leaves = leaves.items;
+  levels = map (λ nodes. nodes.items) levels.items;
+  tops = tops.items;
+  layers = map (λ layers. layers.items) layers.items;
+  terms = map (λ terms. terms.items) terms.items;
+  beneath = map (λ ids. ids.items) beneath.items;
+}
+
 -- the lists of what is kept
 abbrev pub parts_of : Inside → Parts
-parts_of kept = record {
-  ids = kept.ids.items;
-  leaves = kept.leaves.items;
-  levels = map (λ nodes. nodes.items) kept.levels.items;
-  tops = kept.tops.items;
-  layers = map (λ layers. layers.items) kept.layers.items;
-  terms = map (λ terms. terms.items) kept.terms.items;
-  beneath = map (λ ids. ids.items) kept.beneath.items;
-}
+parts_of kept = lists_of kept.ids kept.leaves kept.levels kept.tops kept.layers kept.terms kept.beneath
 
 -- the nodes of a level from level 1 up
 abbrev pub nodes_at : Parts → ℕ → List Node

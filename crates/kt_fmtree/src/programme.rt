@@ -1,6 +1,7 @@
 //! The programme of the base or of a reinsurance stage.
 //! The rule: docs/FINANCIAL_MODULE.md, "Levels".
-ghost use Rattle.kt_fmtree.specs.Parts.{HasProgramme};
+ghost use Rattle.std.specs.Prelude.{◌≡◌};
+ghost use Rattle.kt_fmtree.specs.Parts.{HasProgramme, lists_of};
 
 use crate::node::Node;
 use kt_rules::Profile;
@@ -32,6 +33,32 @@ impl Model for Programme {
 }
 
 impl Programme {
+    /// The programme of these lists, which are those of a tree that hangs together: the ids, rising; the places of the ids in the
+    /// order of the tree; the units of each level from level 1 up; the tops, rising; and of each top its layers, their terms, and
+    /// the ids beneath it.
+    pub fn new(
+        ids: Vec<u32>,
+        leaves: Vec<usize>,
+        levels: Vec<Vec<Node>>,
+        tops: Vec<u32>,
+        layers: Vec<Vec<u32>>,
+        terms: Vec<Vec<Profile>>,
+        beneath: Vec<Vec<u32>>,
+    ) -> Programme
+        requires kept { HasProgramme (lists_of ids leaves levels tops layers terms beneath) }
+        ensures value { result ≡ lists_of ids leaves levels tops layers terms beneath }
+    {
+        Programme {
+            ids,
+            leaves,
+            levels,
+            tops,
+            layers,
+            terms,
+            beneath,
+        }
+    }
+
     /// Says what every programme keeps: it is that of a tree that hangs together.
     pub fn is_of_a_tree(&self)
         ensures kept { HasProgramme self.now }

@@ -8,3 +8,5 @@ pub mod RunLemmas
 pub mod WholeLemmas
 pub mod RecordLemmas
 pub mod TotalLemmas
+pub mod StruckLemmas
+pub mod IndexLemmas

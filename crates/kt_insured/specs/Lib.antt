@@ -1,5 +1,6 @@
 pub mod Insured
 pub mod Layout
+pub mod Index
 pub mod Table
 pub mod Whole
 pub mod Bounds

@@ -5,25 +5,26 @@ ghost use Rattle.std.specs.List.{AllByRecursion, filter_map, flat_map, range_wit
 ghost use Rattle.std.specs.HashMap.{get};
 ghost use Rattle.std.specs.Map.{lookup};
 ghost use Rattle.kt_keys.specs.Keys.{same_pair};
-ghost use Rattle.kt_tree.specs.Programme.{tree_of};
+ghost use Rattle.kt_rec.specs.declared.financial.FmXref.{FmXref};
+ghost use Rattle.kt_tree.specs.Rising.{IsRising};
 ghost use Rattle.kt_tree.specs.Tree.{Tree};
 ghost use Rattle.kt_fmtree.specs.Parts.{IsProgramme};
-ghost use Rattle.kt_insured.specs.Insured.{in_order};
+ghost use Rattle.kt_insured.specs.Index.{AreIndexed};
 ghost use Rattle.kt_insured.specs.Layout.{IsLayout, keys_for, outlet_of, place_in};
 ghost use Rattle.kt_shares.specs.Layers.{IsTopLayer, key_of};
 
-use kt_fmtree::{Programme, rising};
-use kt_keys::{first_values, output_ids};
+use crate::index::OutputIndex;
+use kt_fmtree::Programme;
+use kt_keys::first_values;
 use kt_rec::FmXref;
 use kt_shares::{TopLayer, top_layers};
-use kt_tables::Portfolio;
 use std::alloc::{AllocError, Global};
 use std::collections::HashMap;
 use std::marker::Model;
 
 /// An output that has a loss, and its place in a row of shares.
 #[derive(Clone, Copy, Debug)]
-pub struct Outlet {
+pub(crate) struct Outlet {
     /// The output.
     pub(crate) id: u32,
     /// Its place, counted from 0.
@@ -31,9 +32,9 @@ pub struct Outlet {
 }
 
 /// Where the loss of each output stands in a row of shares: of the layers of all tops, by top and then by layer, the shares of
-/// each policy loss. It depends on the tables and the allocation rule alone, so that one serves all runs.
+/// each policy loss.
 #[derive(Debug, Drop)]
-pub struct Layout {
+pub(crate) struct Layout {
     pub(crate) rule: u32,
     pub(crate) layers: Vec<TopLayer>,
     pub(crate) outlets: Vec<Outlet>,
@@ -115,49 +116,11 @@ fn places_of(alloc: Global, keys: &[(u32, u32)]) -> Result<HashMap<(u32, u32), u
     Ok(places)
 }
 
-/// Outputs with their ids.
-fn output_rows(alloc: Global, outputs: &[FmXref]) -> Result<Vec<(u32, FmXref)>, AllocError>
-    ensures value { IfOk result (λ rows. rows.items ≡ map (λ row. (row.output_id, row)) outputs.now) }
+/// The units of keys.
+fn units_of(alloc: Global, keys: &[(u32, u32)]) -> Result<Vec<u32>, AllocError>
+    ensures value { IfOk result (λ units. units.items ≡ map (λ key. key.0) keys.now) }
 {
-    outputs
-        .iter()
-        .map(|row| (row.output_id, *row))
-        .collect(alloc)
-}
-
-/// The first row of each output.
-fn first_rows(alloc: Global, rows: &[(u32, FmXref)]) -> Result<HashMap<u32, FmXref>, AllocError>
-    ensures value { IfOk result (λ found. (id : ℕ) → get nat_eq found id ≡ lookup (nat_eq id) rows.now) }
-{
-    first_values(alloc, rows)
-}
-
-/// The rows of outputs by rising id.
-fn rows_in_order(
-    alloc: Global,
-    ids: &[u32],
-    rows: &HashMap<u32, FmXref>,
-) -> Result<Vec<FmXref>, AllocError>
-    ensures value { IfOk result (λ found. found.items ≡ filter_map (λ id. get nat_eq rows.now id) ids.now) }
-{
-    let mut found = Vec::with_capacity(alloc, ids.len())?;
-    for id in ids {
-        if let Some(row) = rows.get(id) {
-            found.push(*row)?;
-        }
-    }
-    Ok(found)
-}
-
-/// Outputs by rising id.
-fn in_order(alloc: Global, outputs: &[FmXref]) -> Result<Vec<FmXref>, AllocError>
-    ensures value { IfOk result (λ rows. rows.items ≡ in_order outputs.now) }
-{
-    let ids = rising(output_ids(alloc, outputs)?)?;
-    let pairs = output_rows(alloc, outputs)?;
-    let rows = first_rows(alloc, &pairs)?;
-    let found = rows_in_order(alloc, &ids, &rows)?;
-    Ok(found)
+    keys.iter().map(|key| key.0).collect(alloc)
 }
 
 /// An output with its place, where it has one.
@@ -189,23 +152,23 @@ fn outlets_of(
 }
 
 impl Layout {
-    /// The layout of a portfolio's outputs for the programme of its base and an allocation rule, 0 to 2. An error is want of
-    /// memory.
-    pub fn new(
+    /// The layout of outputs for a programme and an allocation rule, 0 to 2. An error is want of memory.
+    pub(crate) fn new(
         alloc: Global,
-        portfolio: &Portfolio,
+        outputs: &OutputIndex,
         programme: &Programme,
         rule: u32,
     ) -> Result<Layout, AllocError>
-        requires programme { IsProgramme (tree_of portfolio.now.rows 0) programme.now }
+        requires rising { IsRising programme.now.tops }
         ensures rule { IfOk result (λ layout. layout.rule ≡ rule) }
-        ensures value { IfOk result (IsLayout (tree_of portfolio.now.rows 0) portfolio.now.rows.fm_xref programme.now) }
+        ensures value { IfOk result (λ layout. (tree : Tree) (all : List FmXref) → IsProgramme tree programme.now → AreIndexed all outputs.now → IsLayout tree all programme.now layout) }
     {
         let layers = top_layers(alloc, programme)?;
         let keys = keys_of(alloc, programme, rule, &layers)?;
         let places = places_of(alloc, &keys)?;
-        let outputs = in_order(alloc, &portfolio.tables().fm_xref)?;
-        let outlets = outlets_of(alloc, &places, &outputs)?;
+        let units = units_of(alloc, &keys)?;
+        let found = outputs.of(alloc, &units)?;
+        let outlets = outlets_of(alloc, &places, &found)?;
         Ok(Layout {
             rule,
             layers,

@@ -1,6 +1,7 @@
 //! The insured losses of a run of ground-up losses, and the sums of its layers.
 #![tactic(auto)]
 
+mod index;
 pub mod laws;
 mod layout;
 mod made;
@@ -9,7 +10,7 @@ mod run;
 mod shared;
 mod sums;
 
-pub use layout::{Layout, Outlet};
+pub use index::OutputIndex;
 pub use made::Insured;
-pub use run::{insured, insured_placed};
+pub use run::insured;
 pub use sums::LayerSum;

@@ -4,18 +4,22 @@ ghost use Rattle.std.specs.Prelude.{◌≡◌, ◌≤◌, map, All, IfOk};
 ghost use Rattle.kt_stream.specs.Losses.{IsLoss};
 ghost use Rattle.kt_runs.specs.RunLosses.{AreWithin, event_of};
 ghost use Rattle.kt_tree.specs.Programme.{tree_of};
+ghost use Rattle.kt_tree.specs.Tree.{Tree};
 ghost use Rattle.kt_fmtree.specs.Parts.{IsProgramme};
+ghost use Rattle.kt_structure.specs.Structure.{IsStructure, kept_by};
+ghost use Rattle.kt_insured.specs.Index.{AreIndexed};
 ghost use Rattle.kt_insured.specs.Insured.{insured_records, layer_sums};
 ghost use Rattle.kt_insured.specs.Layout.{IsLayout};
 
+use crate::index::OutputIndex;
 use crate::layout::Layout;
 use crate::made::Insured;
 use crate::outputs::records_of;
 use crate::sums::sums_of;
 use kt_fmtree::Programme;
 use kt_runs::RunEntry;
-use kt_shares::table_of;
-use kt_stream::{LossRecord, Placed};
+use kt_shares::{ids_of, table_of};
+use kt_structure::Structure;
 use kt_tables::Portfolio;
 use std::alloc::{AllocError, Global};
 
@@ -29,7 +33,7 @@ fn event_of<T: RunEntry>(records: &[T]) -> u32
     }
 }
 
-/// The insured losses of the records of a run.
+/// The insured losses of the records of a run, by a programme of the ids that have losses.
 fn insured_of<T: RunEntry>(
     alloc: Global,
     portfolio: &Portfolio,
@@ -40,16 +44,13 @@ fn insured_of<T: RunEntry>(
 ) -> Result<Insured, AllocError>
     requires samples { samples ≤ 1000 }
     requires rule { layout.now.rule ≤ 2 }
-    requires programme { IsProgramme (tree_of portfolio.now.rows 0) programme.now }
-    requires layout { IsLayout (tree_of portfolio.now.rows 0) portfolio.now.rows.fm_xref programme.now layout.now }
+    requires layout { (tree : Tree) → IsProgramme tree programme.now → IsLayout tree portfolio.now.rows.fm_xref programme.now layout.now }
     requires records { All (IsLoss samples) (map T.entry_of records.now) }
     requires within { AreWithin (map T.entry_of records.now) }
-    ensures records { IfOk result (λ made. made.records ≡ insured_records (tree_of portfolio.now.rows 0) layout.now.rule samples portfolio.now.rows.fm_xref (map T.entry_of records.now)) }
-    ensures layers { IfOk result (λ made. made.layers ≡ layer_sums (tree_of portfolio.now.rows 0) layout.now.rule samples (map T.entry_of records.now)) }
-    ensures conserved { IfOk result (λ made. All (λ entry. entry.allocated ≡ entry.policy) made.layers) }
-    ensures good { IfOk result (λ made. All (IsLoss samples) made.records) }
+    ensures records { IfOk result (λ made. (tree : Tree) → IsProgramme tree programme.now → made.records ≡ insured_records tree layout.now.rule samples portfolio.now.rows.fm_xref (map T.entry_of records.now)) }
+    ensures layers { IfOk result (λ made. (tree : Tree) → IsProgramme tree programme.now → made.layers ≡ layer_sums tree layout.now.rule samples (map T.entry_of records.now)) }
 {
-    portfolio.is_valid();
+    programme.is_of_a_tree();
     let event = event_of(records);
     let layers = layout.layers();
     let table = table_of(alloc, programme, samples, layout.rule(), layers, records)?;
@@ -63,51 +64,32 @@ fn insured_of<T: RunEntry>(
 
 /// The insured losses of the records of one run, by an allocation rule from 0 to 2, and the sums of the layers over the samples.
 /// The records of the outputs stand by rising output; an output without a loss at the mean and at each sample has none. An id
-/// that the programme does not name takes no part, and neither does sidx -2. The programme is that of the portfolio's base, and
-/// the losses of the run add to at most 10^16 cents at each sidx. An error is want of memory.
-pub fn insured(
+/// that the programme does not name takes no part, and neither does sidx -2. The structure is that of the portfolio's base, the
+/// outputs are the portfolio's, and the losses of the run add to at most 10^16 cents at each sidx. An error is want of memory.
+pub fn insured<T: RunEntry>(
     alloc: Global,
     portfolio: &Portfolio,
-    programme: &Programme,
+    structure: &Structure,
+    outputs: &OutputIndex,
     samples: u32,
     rule: u32,
-    records: &[LossRecord],
+    records: &[T],
 ) -> Result<Insured, AllocError>
     requires samples { samples ≤ 1000 }
     requires rule { rule ≤ 2 }
-    requires programme { IsProgramme (tree_of portfolio.now.rows 0) programme.now }
-    requires records { All (IsLoss samples) records.now }
-    requires within { AreWithin records.now }
-    ensures records { IfOk result (λ made. made.records ≡ insured_records (tree_of portfolio.now.rows 0) rule samples portfolio.now.rows.fm_xref records.now) }
-    ensures layers { IfOk result (λ made. made.layers ≡ layer_sums (tree_of portfolio.now.rows 0) rule samples records.now) }
+    requires structure { IsStructure (tree_of portfolio.now.rows 0) (kept_by structure.now) }
+    requires outputs { AreIndexed portfolio.now.rows.fm_xref outputs.now }
+    requires records { All (IsLoss samples) (map T.entry_of records.now) }
+    requires within { AreWithin (map T.entry_of records.now) }
+    ensures records { IfOk result (λ made. made.records ≡ insured_records (tree_of portfolio.now.rows 0) rule samples portfolio.now.rows.fm_xref (map T.entry_of records.now)) }
+    ensures layers { IfOk result (λ made. made.layers ≡ layer_sums (tree_of portfolio.now.rows 0) rule samples (map T.entry_of records.now)) }
     ensures conserved { IfOk result (λ made. All (λ entry. entry.allocated ≡ entry.policy) made.layers) }
     ensures good { IfOk result (λ made. All (IsLoss samples) made.records) }
 {
-    let layout = Layout::new(alloc, portfolio, programme, rule)?;
-    let made = insured_of(alloc, portfolio, programme, &layout, samples, records)?;
-    Ok(made)
-}
-
-/// As `insured`, for records with their places in a stream, by a layout that was made once for all runs.
-pub fn insured_placed(
-    alloc: Global,
-    portfolio: &Portfolio,
-    programme: &Programme,
-    layout: &Layout,
-    samples: u32,
-    records: &[Placed<LossRecord>],
-) -> Result<Insured, AllocError>
-    requires samples { samples ≤ 1000 }
-    requires rule { layout.now.rule ≤ 2 }
-    requires programme { IsProgramme (tree_of portfolio.now.rows 0) programme.now }
-    requires layout { IsLayout (tree_of portfolio.now.rows 0) portfolio.now.rows.fm_xref programme.now layout.now }
-    requires records { All (IsLoss samples) (map (λ placed. placed.entry) records.now) }
-    requires within { AreWithin (map (λ placed. placed.entry) records.now) }
-    ensures records { IfOk result (λ made. made.records ≡ insured_records (tree_of portfolio.now.rows 0) layout.now.rule samples portfolio.now.rows.fm_xref (map (λ placed. placed.entry) records.now)) }
-    ensures layers { IfOk result (λ made. made.layers ≡ layer_sums (tree_of portfolio.now.rows 0) layout.now.rule samples (map (λ placed. placed.entry) records.now)) }
-    ensures conserved { IfOk result (λ made. All (λ entry. entry.allocated ≡ entry.policy) made.layers) }
-    ensures good { IfOk result (λ made. All (IsLoss samples) made.records) }
-{
-    let made = insured_of(alloc, portfolio, programme, layout, samples, records)?;
+    portfolio.is_valid();
+    let ids = ids_of(alloc, records)?;
+    let programme = structure.programme(alloc, &ids)?;
+    let layout = Layout::new(alloc, outputs, &programme, rule)?;
+    let made = insured_of(alloc, portfolio, &programme, &layout, samples, records)?;
     Ok(made)
 }

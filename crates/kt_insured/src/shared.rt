@@ -1,5 +1,5 @@
 //! The types of this crate may be sent to threads and shared by them.
-use crate::layout::Layout;
+use crate::index::OutputIndex;
 use crate::made::Insured;
 use crate::sums::LayerSum;
 
@@ -7,8 +7,8 @@ use crate::sums::LayerSum;
 fn is_shared<T: Send + Sync>(_: &T) {}
 
 /// Each type once.
-pub(crate) fn are_shared(layout: &Layout, made: &Insured, sum: &LayerSum) {
-    is_shared(layout);
+pub(crate) fn are_shared(outputs: &OutputIndex, made: &Insured, sum: &LayerSum) {
+    is_shared(outputs);
     is_shared(made);
     is_shared(sum);
 }

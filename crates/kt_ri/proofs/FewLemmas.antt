@@ -8,13 +8,15 @@ use Rattle.kt_rec.specs.Ranges.{AreFinancial, AreInRange, IsFmPolicytc, IsLayer}
 use Rattle.kt_rec.specs.Rows.{FinancialRows, Rows}
 use Rattle.kt_rec.specs.declared.financial.FmPolicytc.{FmPolicytc}
 use Rattle.kt_keys.specs.Keys.{no_financial, policytc_of, programme_of}
-use Rattle.kt_keys.specs.Units.{top_level, top_targets}
+use Rattle.kt_keys.specs.Units.{top_level}
 use Rattle.kt_checks.specs.OutputChecks.{climbed}
 use Rattle.kt_tree.specs.Programme.{layers_in, or_first, tree_of}
 use Rattle.kt_tree.specs.Rising.{IsRising, distinct-from_rising, put, rising, rising-rises}
 use Rattle.kt_tree.specs.Sharing.{allocated}
 use Rattle.kt_tree.specs.Sums.{each_then, sum_by-flat_map, sum_by-one}
 use Rattle.kt_tree.specs.Tree.{Tree, IsTree, beneath, comes_to, is_unit}
+use Rattle.kt_struck.specs.Struck.{is_struck, struck}
+use Rattle.kt_fmtree.specs.RisingLaws.{rising-filter}
 use Rattle.kt_fmtree.specs.Parts.{Parts, IsProgramme}
 use Rattle.kt_shares.specs.LookupLaws.{filter-absent, lookup-none}
 use Rattle.kt_shares.specs.Shares.{part_of_id}
@@ -85,16 +87,20 @@ terms-each rows are stage = from rows.financial (recursion_from_All AreFinancial
     from (one ∷ all) are zero = recursion_from_All IsFmPolicytc one.policytc are.0.policytc
     from (one ∷ all) are (suc stage) = from all are.1 stage
 
--- the programme of a stage of the tables has few layers
-pub tables-few : (rows : Rows) → AreInRange rows → (stage : ℕ) (parts : Parts) → IsProgramme (tree_of rows stage) parts → HasFewLayers parts
-tables-few rows are stage parts is = record {
-  tops_rise = subst IsRising (sym is.tops_are) (rising-rises (top_targets (programme_of rows stage)));
-  layers_few = subst (AllByRecursion (λ layers. length layers ≤ 50)) (sym is.layers_are) (each (rising (top_targets (programme_of rows stage))));
+-- a top of a stage of the tables has few layers
+pub stage-few : (rows : Rows) → AreInRange rows → (stage top : ℕ) → length ((tree_of rows stage).layers top) ≤ 50
+stage-few rows are stage top = layers-few (policytc_of rows stage) (terms-each rows are stage) (top_level (programme_of rows stage)) top
+
+-- so the programme of its struck units has
+pub struck-few : (tree : Tree) → IsRising tree.tops → ((top : ℕ) → length (tree.layers top) ≤ 50) → (ids : List ℕ) (parts : Parts) → IsProgramme (struck tree ids) parts → HasFewLayers parts
+struck-few tree rises few ids parts is = record {
+  tops_rise = subst IsRising (sym is.tops_are) (rising-filter (is_struck tree ids tree.top_level) tree.tops rises);
+  layers_few = subst (AllByRecursion (λ layers. length layers ≤ 50)) (sym is.layers_are) (each (struck tree ids).tops);
 }
   where
-    each : (tops : List ℕ) → AllByRecursion (λ layers. length layers ≤ 50) (map (tree_of rows stage).layers tops)
+    each : (tops : List ℕ) → AllByRecursion (λ layers. length layers ≤ 50) (map tree.layers tops)
     each [] = tt
-    each (top ∷ tops) = (layers-few (policytc_of rows stage) (terms-each rows are stage) (top_level (programme_of rows stage)) top, each tops)
+    each (top ∷ tops) = (few top, each tops)
 
 -- ---- what an id cedes
 

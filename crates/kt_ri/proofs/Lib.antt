@@ -3,3 +3,4 @@ pub mod FewLemmas
 pub mod CededLemmas
 pub mod NetLemmas
 pub mod StageLemmas
+pub mod StruckLemmas

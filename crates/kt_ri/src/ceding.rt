@@ -1,11 +1,8 @@
-//! A programme that cedes losses, as it serves all runs.
+//! A programme that cedes losses.
 //! The rule: docs/FINANCIAL_MODULE.md, "Reinsurance".
-ghost use Rattle.std.specs.Prelude.{◌≡◌, ◌≤◌, ◌<◌, true, map, All, IfOk};
-ghost use Rattle.kt_keys.specs.Refusals.{is_loaded};
-ghost use Rattle.kt_rec.specs.declared.table.Table.TheVariants as table;
+ghost use Rattle.std.specs.Prelude.{◌≡◌, ◌≤◌, map, All, IfOk};
 ghost use Rattle.kt_stream.specs.Losses.{IsLoss};
 ghost use Rattle.kt_runs.specs.RunLosses.{AreWithin};
-ghost use Rattle.kt_tree.specs.Programme.{tree_of};
 ghost use Rattle.kt_tree.specs.Tree.{Tree};
 ghost use Rattle.kt_fmtree.specs.Parts.{HasProgramme, IsProgramme};
 ghost use Rattle.kt_shares.specs.Shares.{layers_of};
@@ -16,14 +13,13 @@ use crate::places::owner_places;
 use kt_fmtree::Programme;
 use kt_runs::RunEntry;
 use kt_shares::{Row, TopLayer, table_of, top_layers};
-use kt_tables::Portfolio;
 use std::alloc::{AllocError, Global};
 use std::marker::Model;
 
 /// A programme that cedes losses, with the layers of its tops and the places of the ids that have the shares of their policy
-/// losses. It depends on the tables alone, so that one serves all runs. Contracts see the lists of the programme.
+/// losses. Contracts see the lists of the programme.
 #[derive(Debug, Drop)]
-pub struct CedingProgramme {
+pub(crate) struct CedingProgramme {
     programme: Programme,
     layers: Vec<TopLayer>,
     places: Vec<usize>,
@@ -41,7 +37,7 @@ impl Model for CedingProgramme {
 }
 
 /// A programme with what its layers cede to.
-fn ceding_of(alloc: Global, programme: Programme) -> Result<CedingProgramme, AllocError>
+pub(crate) fn ceding_of(alloc: Global, programme: Programme) -> Result<CedingProgramme, AllocError>
     requires few { HasFewLayers programme }
     ensures value { IfOk result (λ made. made ≡ programme) }
 {
@@ -55,23 +51,6 @@ fn ceding_of(alloc: Global, programme: Programme) -> Result<CedingProgramme, All
 }
 
 impl CedingProgramme {
-    /// The programme of the base, at 0, or of a reinsurance stage, 1 to 9, whose `fm_programme` must be loaded, as it cedes losses.
-    /// An error is want of memory.
-    pub fn new(
-        alloc: Global,
-        portfolio: &Portfolio,
-        stage: u32,
-    ) -> Result<CedingProgramme, AllocError>
-        requires stage { stage < 10 }
-        requires loaded { is_loaded portfolio.now.need stage table.FmProgramme ≡ true }
-        ensures value { IfOk result (IsProgramme (tree_of portfolio.now.rows stage)) }
-    {
-        portfolio.is_valid();
-        let programme = Programme::new(alloc, portfolio, stage)?;
-        let made = ceding_of(alloc, programme)?;
-        Ok(made)
-    }
-
     /// Says what it keeps: its programme is of a tree, and a top has few layers.
     pub(crate) fn is_ceding(&self)
         ensures tree { HasProgramme self.now }

@@ -7,8 +7,9 @@ mod net;
 mod places;
 mod reinsured;
 mod shared;
+mod stage;
 mod stages;
 
-pub use ceding::CedingProgramme;
 pub use reinsured::{Reinsured, one_stage};
+pub use stage::stage_of;
 pub use stages::reinsure;

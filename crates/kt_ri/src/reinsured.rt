@@ -5,13 +5,18 @@ ghost use Rattle.kt_stream.specs.Losses.{IsLoss};
 ghost use Rattle.kt_runs.specs.RunLosses.{AreWithin};
 ghost use Rattle.kt_tree.specs.Tree.{Tree};
 ghost use Rattle.kt_fmtree.specs.Parts.{IsProgramme};
+ghost use Rattle.kt_struck.specs.Struck.{struck};
+ghost use Rattle.kt_shares.specs.Shares.{ids_of};
+ghost use Rattle.kt_ri.specs.Stages.{HasStage, IsStage};
 ghost use Rattle.kt_ri.specs.Reinsurance.{ceded_records, net_records};
 
 use crate::ceded::ceded_of;
-use crate::ceding::CedingProgramme;
+use crate::ceding::{CedingProgramme, ceding_of};
 use crate::net::{ceded_records, net_of};
 use kt_runs::RunEntry;
+use kt_shares::ids_of;
 use kt_stream::{LossRecord, Records};
+use kt_structure::Structure;
 use std::alloc::{AllocError, Global};
 
 /// The losses of a run behind a stage.
@@ -23,28 +28,44 @@ pub struct Reinsured {
     pub ceded: Records<LossRecord>,
 }
 
-/// What a programme cedes of the losses of one run by allocation rule 1 or 2, and what is left of them, at the mean and at each
+/// The programme that cedes the losses of a run: of the units that they come to.
+pub(crate) fn ceding_for<T: RunEntry>(
+    alloc: Global,
+    stage: &Structure,
+    records: &[T],
+) -> Result<CedingProgramme, AllocError>
+    requires stage { HasStage stage.now }
+    ensures value { IfOk result (λ made. (tree : Tree) → IsStage tree stage.now → IsProgramme (struck tree (ids_of (map T.entry_of records.now))) made) }
+{
+    let ids = ids_of(alloc, records)?;
+    let programme = stage.programme(alloc, &ids)?;
+    let made = ceding_of(alloc, programme)?;
+    Ok(made)
+}
+
+/// What a stage cedes of the losses of one run by allocation rule 1 or 2, and what is left of them, at the mean and at each
 /// sample. Sidx -2 is dropped, and a record without a loss is left out. An id that the programme does not name cedes nothing. The
 /// losses of the run add to at most 10^16 cents at each sidx. An error is want of memory.
 pub fn one_stage<T: RunEntry>(
     alloc: Global,
-    stage: &CedingProgramme,
+    stage: &Structure,
     samples: u32,
     rule: u32,
     records: &[T],
 ) -> Result<Reinsured, AllocError>
+    requires stage { HasStage stage.now }
     requires samples { samples ≤ 1000 }
     requires rule { (rule ≡ 1) ⊎ (rule ≡ 2) }
     requires records { All (IsLoss samples) (map T.entry_of records.now) }
     requires within { AreWithin (map T.entry_of records.now) }
-    ensures net { IfOk result (λ made. (tree : Tree) → IsProgramme tree stage.now → made.net ≡ net_records tree rule samples (map T.entry_of records.now)) }
-    ensures ceded { IfOk result (λ made. (tree : Tree) → IsProgramme tree stage.now → made.ceded ≡ ceded_records tree rule samples (map T.entry_of records.now)) }
+    ensures net { IfOk result (λ made. (tree : Tree) → IsStage tree stage.now → made.net ≡ net_records tree rule samples (map T.entry_of records.now)) }
+    ensures ceded { IfOk result (λ made. (tree : Tree) → IsStage tree stage.now → made.ceded ≡ ceded_records tree rule samples (map T.entry_of records.now)) }
     ensures good { IfOk result (λ made. All (IsLoss samples) made.net) }
     ensures within { IfOk result (λ made. AreWithin made.net) }
 {
-    stage.is_ceding();
-    let rows = ceded_of(alloc, stage, samples, rule, records)?;
-    let net = net_of(alloc, stage, samples, &rows, records)?;
-    let ceded = ceded_records(alloc, stage, samples, &rows, records)?;
+    let ceding = ceding_for(alloc, stage, records)?;
+    let rows = ceded_of(alloc, &ceding, samples, rule, records)?;
+    let net = net_of(alloc, &ceding, samples, &rows, records)?;
+    let ceded = ceded_records(alloc, &ceding, samples, &rows, records)?;
     Ok(Reinsured { net, ceded })
 }

@@ -4,14 +4,14 @@ ghost use Rattle.std.specs.Prelude.{◌≡◌, ◌≤◌, ◌++◌, ◌∷◌, [
 ghost use Rattle.kt_stream.specs.Losses.{IsLoss};
 ghost use Rattle.kt_runs.specs.RunLosses.{AreWithin};
 ghost use Rattle.kt_tree.specs.Tree.{Tree};
-ghost use Rattle.kt_fmtree.specs.Parts.{IsProgramme};
 ghost use Rattle.kt_ri.specs.Reinsurance.{net_records, reinsured};
-ghost use Rattle.kt_ri.specs.Stages.{AreProgrammes};
+ghost use Rattle.kt_ri.specs.Stages.{AreStages, HasStage, IsStage};
 
 use crate::ceded::ceded_of;
-use crate::ceding::CedingProgramme;
 use crate::net::net_of;
+use crate::reinsured::ceding_for;
 use kt_stream::{LossRecord, Pairs, Records};
+use kt_structure::Structure;
 use std::alloc::{AllocError, Global};
 
 /// A copy of pairs.
@@ -51,20 +51,21 @@ fn copy_of(alloc: Global, records: &[LossRecord]) -> Result<Records<LossRecord>,
 /// What a stage leaves of the losses of a run, by allocation rule 2.
 fn left_by(
     alloc: Global,
-    stage: &CedingProgramme,
+    stage: &Structure,
     samples: u32,
     records: &[LossRecord],
 ) -> Result<Records<LossRecord>, AllocError>
+    requires stage { HasStage stage.now }
     requires samples { samples ≤ 1000 }
     requires records { All (IsLoss samples) records.now }
     requires within { AreWithin records.now }
-    ensures net { IfOk result (λ net. (tree : Tree) → IsProgramme tree stage.now → net ≡ net_records tree 2 samples records.now) }
+    ensures net { IfOk result (λ net. (tree : Tree) → IsStage tree stage.now → net ≡ net_records tree 2 samples records.now) }
     ensures good { IfOk result (λ net. All (IsLoss samples) net) }
     ensures within { IfOk result (λ net. AreWithin net) }
 {
-    stage.is_ceding();
-    let rows = ceded_of(alloc, stage, samples, 2, records)?;
-    let net = net_of(alloc, stage, samples, &rows, records)?;
+    let ceding = ceding_for(alloc, stage, records)?;
+    let rows = ceded_of(alloc, &ceding, samples, 2, records)?;
+    let net = net_of(alloc, &ceding, samples, &rows, records)?;
     Ok(net)
 }
 
@@ -72,14 +73,15 @@ fn left_by(
 /// records stay as they are. The losses of the run add to at most 10^16 cents at each sidx. An error is want of memory.
 pub fn reinsure(
     alloc: Global,
-    stages: &[CedingProgramme],
+    stages: &[Structure],
     samples: u32,
     records: &[LossRecord],
 ) -> Result<Records<LossRecord>, AllocError>
+    requires stages { All HasStage stages.now }
     requires samples { samples ≤ 1000 }
     requires records { All (IsLoss samples) records.now }
     requires within { AreWithin records.now }
-    ensures net { IfOk result (λ net. (trees : List Tree) → AreProgrammes trees stages.now → net ≡ reinsured trees samples records.now) }
+    ensures net { IfOk result (λ net. (trees : List Tree) → AreStages trees stages.now → net ≡ reinsured trees samples records.now) }
     ensures good { IfOk result (λ net. All (IsLoss samples) net) }
     ensures within { IfOk result (λ net. AreWithin net) }
 {

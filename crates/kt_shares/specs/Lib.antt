@@ -9,3 +9,4 @@ pub mod SharesLaws
 pub mod RowLaws
 pub mod RecordLaws
 pub mod TableLaws
+pub mod StruckLaws

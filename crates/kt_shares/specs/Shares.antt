@@ -11,6 +11,10 @@ use Rattle.kt_tree.specs.Tree.{Tree, beneath, policy_loss}
 
 -- ---- the losses that come in
 
+-- the ids of records
+abbrev pub ids_of : List LossRecord → List ℕ
+ids_of records = map (λ entry. entry.id) records
+
 -- the losses of an id at a sidx among records, added
 abbrev pub id_loss : List LossRecord → ℤ → ℕ → ℕ
 id_loss records sidx id = sum_by (λ entry. cond (nat_eq entry.id id) (loss_of sidx entry.pairs) 0) records

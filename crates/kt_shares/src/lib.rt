@@ -9,7 +9,7 @@ mod shared;
 mod table;
 
 pub use layers::{TopLayer, top_layers};
-pub use losses::losses_of;
+pub use losses::{ids_of, losses_of};
 pub use pairs::{push_loss, push_record};
 pub use row::Row;
 pub use table::{loss_in_row, table_of};

@@ -8,6 +8,7 @@ ghost use Rattle.kt_runs.specs.Adding.{Holds};
 ghost use Rattle.kt_runs.specs.RunLosses.{AreWithin, loss_of};
 ghost use Rattle.kt_runs.specs.Sidx.{sidx_at};
 ghost use Rattle.kt_tree.specs.Rising.{IsRising};
+ghost use Rattle.kt_shares.specs.Shares.{ids_of};
 ghost use Rattle.kt_shares.specs.Taken.{ArePlaced, IsPlacing, IsWithin, placed_loss, placed_sum};
 
 use kt_runs::{RunEntry, add_pairs, zeros};
@@ -35,6 +36,17 @@ pub fn losses_of(alloc: Global, samples: u32, pairs: &[Pair]) -> Result<Vec<u64>
     let mut losses = zeros(alloc, samples as usize + 3)?;
     add_pairs(&mut losses, FIRST, pairs);
     Ok(losses)
+}
+
+/// The ids of records, in their order. An error is want of memory.
+pub fn ids_of<T: RunEntry>(alloc: Global, records: &[T]) -> Result<Vec<u32>, AllocError>
+    ensures value { IfOk result (λ ids. ids.items ≡ ids_of (map T.entry_of records.now)) }
+{
+    let mut ids = Vec::with_capacity(alloc, records.len())?;
+    for held in records {
+        ids.push(held.entry().id)?;
+    }
+    Ok(ids)
 }
 
 /// The losses of a record with the place of its id among rising ids; none where it is not among them.

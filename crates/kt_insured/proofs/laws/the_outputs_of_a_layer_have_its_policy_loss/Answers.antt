@@ -1,5 +1,5 @@
 use Rattle.std.proofs.Common.{arith}
-use Rattle.kt_fmtree.specs.Ready.{ready}
+use Rattle.kt_structure.specs.Ready.{ready}
 use Rattle.kt_tree.specs.OutputLaws.{outputs_of-tree}
 use Rattle.kt_tree.specs.ProgrammeLaws.{tree_of-is}
 use Rattle.kt_insured.proofs.WholeLemmas.{rows-whole}

@@ -1,9 +1,0 @@
-use Rattle.std.proofs.Common.{◌≡◌, take}
-use Rattle.std.specs.List.{flat_map}
-use Rattle.std.specs.HashMap.{get}
-use Rattle.kt_keys.specs.Keys.{same_pair}
-use Rattle.kt_fmtree.specs.Coverages.{rows_for}
-use Rattle.kt_fmtree.proofs.coverage.climbs.Given as goal
-
-abbrev pub invariant-loop-pair : goal.invariant-loop-pair
-invariant-loop-pair l = l.rows.items ≡ flat_map (rows_for (get same_pair l.next) l.top) (take l.pair-index l.covered)

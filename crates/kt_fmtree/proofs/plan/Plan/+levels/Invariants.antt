@@ -1,4 +1,0 @@
-use Rattle.kt_fmtree.proofs.plan.Plan.+levels.Given as goal
-
-abbrev pub decreases-levels : goal.decreases-levels
-decreases-levels l = l.level

@@ -1,0 +1,22 @@
+-- The outputs of a portfolio, found by their units.
+-- The rule: docs/FINANCIAL_MODULE.md, "Insured losses".
+use Rattle.std.specs.Prelude.{◌≡◌, ℕ, nat_eq, List, map}
+use Rattle.std.specs.HashMap.{get}
+use Rattle.std.specs.List.{filter}
+use Rattle.std.specs.Map.{lookup}
+use Rattle.kt_rec.specs.declared.financial.FmXref.{FmXref}
+use Rattle.kt_insured.specs.declared.index.OutputIndex.{OutputIndex}
+use Rattle.kt_insured.specs.declared.index.UnitOutput.{UnitOutput}
+
+-- the output of a row
+abbrev pub unit_output : FmXref → UnitOutput
+unit_output row = record { agg_id = row.agg_id; output_id = row.output_id }
+
+-- the ids of the outputs of a unit
+abbrev pub ids_at : OutputIndex → ℕ → List ℕ
+ids_at index unit = map (λ row. row.output_id) (filter (λ row. nat_eq row.agg_id unit) index.by_unit)
+
+-- an index is that of outputs
+pub record AreIndexed (outputs : List FmXref) (index : OutputIndex) : Type 0 where
+  pub by_unit : (unit : ℕ) → filter (λ row. nat_eq row.agg_id unit) index.by_unit ≡ filter (λ row. nat_eq row.agg_id unit) (map unit_output outputs)
+  pub by_id : (id : ℕ) → get nat_eq index.by_id id ≡ lookup (nat_eq id) (map (λ row. (row.output_id, row)) outputs)

@@ -1,0 +1,4 @@
+pub mod Struck
+pub mod Members
+pub mod StruckLaws
+pub mod StruckSharing

@@ -1,0 +1,56 @@
+use Rattle.std.proofs.Common.{◌≡◌, ◌∙◌, ◌<◌, List, ℕ, map, length, get_or, nat_eq, true, refl, ap, sym, subst, unwrap_or}
+use Rattle.std.specs.HashMap.{get}
+use Rattle.std.specs.List.{All, AllByRecursion, filter, list_any}
+use Rattle.kt_keys.specs.Keys.{same_pair}
+use Rattle.kt_checks.specs.OutputChecks.{climbed}
+use Rattle.kt_tree.specs.Rising.{IsRising}
+use Rattle.kt_tree.specs.Tree.{is_unit}
+use Rattle.kt_fmtree.specs.Parts.{Parts, IsProgramme}
+use Rattle.kt_structure.specs.Plan.{build_leaves, build_levels, found_terms}
+use Rattle.kt_structure.specs.Structure.{kept_by}
+use Rattle.kt_structure.proofs.AssemblyLemmas.{leaves-fit, programme-fits}
+use Rattle.kt_structure.proofs.structure.Structure.made.Goals as goal
+
+pub beneath-requires : goal.beneath-requires
+beneath-requires c = record { rising = subst IsRising (sym c.deref-3.ensures.value) c.requires.fit.fits.ids_rise }
+
+pub levels_of-requires-clause-rising : goal.levels_of-requires-clause-rising
+levels_of-requires-clause-rising c = subst IsRising (sym c.deref-6.ensures.value) c.requires.fit.fits.ids_rise
+
+pub levels_of-requires-clause-members : goal.levels_of-requires-clause-members
+levels_of-requires-clause-members c =
+    let has = c.requires.fit in
+    subst (λ (found : List ℕ). AllByRecursion (λ id. list_any (nat_eq id) found ≡ true) (build_leaves c.new-plan.result c.args.self.now.top_level c.deref-5.result.now)) (sym c.deref-6.ensures.value)
+    (subst (λ (found : List ℕ). AllByRecursion (λ id. list_any (nat_eq id) c.args.ids.items ≡ true) (build_leaves c.new-plan.result c.args.self.now.top_level found)) (sym c.deref-5.ensures.value)
+    (leaves-fit has.tree (kept_by c.args.self.now) c.args.links.now c.args.ids.items c.args.tops.items has.fits c.new-plan.result c.new-plan.ensures.links (ap found_terms c.new-plan.ensures.terms) (λ level unit. ap (λ found. unwrap_or (get same_pair found (level, unit)) 0) c.new-plan.ensures.tivs)))
+
+pub new-made-requires : goal.new-made-requires
+new-made-requires c =
+    let has = c.requires.fit in
+    let kept = kept_by c.args.self.now in
+    record {
+      kept = record {
+        tree = has.tree;
+        is = programme-fits has.tree kept c.args.links.now c.args.ids.items c.args.tops.items has.fits c.new-plan.result c.new-plan.ensures.links (ap found_terms c.new-plan.ensures.terms) (λ level unit. ap (λ found. unwrap_or (get same_pair found (level, unit)) 0) c.new-plan.ensures.tivs) _ refl refl
+            (subst (λ (found : List ℕ). All (λ place. place < length found) c.in_ok-levels.leaves.items) c.deref-6.ensures.value c.in_ok-levels.ensures.within)
+            (ap (λ (found : List ℕ). map (λ place. get_or found place 0) c.in_ok-levels.leaves.items) (sym c.deref-6.ensures.value) ∙ (c.in_ok-levels.ensures.leaves ∙ ap (build_leaves c.new-plan.result c.args.self.now.top_level) c.deref-5.ensures.value))
+            (c.in_ok-levels.ensures.levels ∙ ap (build_levels c.new-plan.result c.args.self.now.top_level) c.deref-5.ensures.value)
+            (c.in_ok-layers.ensures.value ∙ ap (map kept.layers) c.deref.ensures.value)
+            (c.in_ok-terms.ensures.value ∙ ap (map (λ top. map (λ layer. kept.terms layer kept.top_level top) (kept.layers top))) c.deref-2.ensures.value)
+            (c.in_ok-beneath.ensures.value ∙ (ap (λ (found : List ℕ). map (λ top. filter (λ id. is_unit top (climbed kept.next kept.top_level 1 id)) found) c.deref-4.result.now) c.deref-3.ensures.value ∙ ap (map (λ top. filter (λ id. is_unit top (climbed kept.next kept.top_level 1 id)) c.args.ids.items)) c.deref-4.ensures.value));
+      };
+    }
+
+pub returns : goal.returns
+returns c =
+    let kept = kept_by c.args.self.now in
+    record {
+      value = λ tree fits. subst (λ (parts : Parts). IsProgramme tree parts) (sym c.new-made.ensures.value)
+          (programme-fits tree kept c.args.links.now c.args.ids.items c.args.tops.items fits c.new-plan.result c.new-plan.ensures.links (ap found_terms c.new-plan.ensures.terms) (λ level unit. ap (λ found. unwrap_or (get same_pair found (level, unit)) 0) c.new-plan.ensures.tivs) _ refl refl
+          (subst (λ (found : List ℕ). All (λ place. place < length found) c.in_ok-levels.leaves.items) c.deref-6.ensures.value c.in_ok-levels.ensures.within)
+          (ap (λ (found : List ℕ). map (λ place. get_or found place 0) c.in_ok-levels.leaves.items) (sym c.deref-6.ensures.value) ∙ (c.in_ok-levels.ensures.leaves ∙ ap (build_leaves c.new-plan.result c.args.self.now.top_level) c.deref-5.ensures.value))
+          (c.in_ok-levels.ensures.levels ∙ ap (build_levels c.new-plan.result c.args.self.now.top_level) c.deref-5.ensures.value)
+          (c.in_ok-layers.ensures.value ∙ ap (map kept.layers) c.deref.ensures.value)
+          (c.in_ok-terms.ensures.value ∙ ap (map (λ top. map (λ layer. kept.terms layer kept.top_level top) (kept.layers top))) c.deref-2.ensures.value)
+          (c.in_ok-beneath.ensures.value ∙ (ap (λ (found : List ℕ). map (λ top. filter (λ id. is_unit top (climbed kept.next kept.top_level 1 id)) found) c.deref-4.result.now) c.deref-3.ensures.value ∙ ap (map (λ top. filter (λ id. is_unit top (climbed kept.next kept.top_level 1 id)) c.args.ids.items)) c.deref-4.ensures.value)));
+    }

@@ -1,0 +1,4 @@
+pub mod Plan
+pub mod Coverages
+pub mod Ready
+pub mod Structure

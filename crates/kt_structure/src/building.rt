@@ -1,0 +1,121 @@
+//! The programme of the ids that have losses.
+//! The rule: docs/FINANCIAL_MODULE.md, "Levels".
+ghost use Rattle.std.specs.Prelude.{◌≡◌, ◌<◌, nat_eq, true, length, map, All, IfOk, slice_index};
+ghost use Rattle.std.specs.List.{AllByRecursion, list_any};
+ghost use Rattle.kt_rec.specs.Rows.{rows_of};
+ghost use Rattle.kt_rec.specs.declared.table.Table.TheVariants as table;
+ghost use Rattle.kt_keys.specs.Refusals.{is_loaded};
+ghost use Rattle.kt_tree.specs.Programme.{tree_of};
+ghost use Rattle.kt_struck.specs.Struck.{struck};
+ghost use Rattle.kt_tree.specs.Rising.{IsRising};
+ghost use Rattle.kt_tree.specs.Tree.{Tree};
+ghost use Rattle.kt_fmtree.specs.Parts.{IsProgramme};
+ghost use Rattle.kt_structure.specs.Plan.{build_levels, build_leaves};
+ghost use Rattle.kt_structure.specs.Ready.{IsReady};
+ghost use Rattle.kt_structure.specs.Structure.{Fits, HasFit, HasStructure, IsStructure, kept_by};
+
+use crate::leaves::places;
+use crate::links::{Link, links, links_up};
+use crate::outline::{beneath, ids, layers, reached, taken, terms, tops};
+use crate::plan::Plan;
+use crate::structure::{Structure, structure_at};
+use kt_fmtree::{Node, Programme};
+use kt_index::ByKey;
+use kt_keys::programme;
+use kt_rec::Tables;
+use kt_tables::Portfolio;
+use std::alloc::{AllocError, Global};
+
+/// A copy of ids.
+fn copy_of(alloc: Global, ids: &[u32]) -> Result<Vec<u32>, AllocError>
+    ensures value { IfOk result (λ copy. copy.items ≡ ids.now) }
+{
+    ids.iter().copied().collect(alloc)
+}
+
+/// The levels beneath tops, and the places of the ids beneath them.
+fn levels_of(
+    alloc: Global,
+    plan: &Plan,
+    top: u32,
+    tops: &[u32],
+    ids: &[u32],
+) -> Result<(Vec<Vec<Node>>, Vec<usize>), AllocError>
+    requires rising { IsRising ids.now }
+    requires members { AllByRecursion (λ id. list_any (nat_eq id) ids.now ≡ true) (build_leaves plan.now top tops.now) }
+    ensures levels { IfOk result (λ made. map (λ nodes. nodes.items) made.0.items ≡ build_levels plan.now top tops.now) }
+    ensures within { IfOk result (λ made. All (λ place. place < length ids.now) made.1.items) }
+    ensures leaves { IfOk result (λ made. map (slice_index ids.now) made.1.items ≡ build_leaves plan.now top tops.now) }
+{
+    let units = copy_of(alloc, tops)?;
+    let mut levels = Vec::new(alloc);
+    let found = plan.levels(alloc, top, units, &mut levels)?;
+    let leaves = places(alloc, ids, &found)?;
+    Ok((levels, leaves))
+}
+
+impl Structure {
+    /// The programme of these links, ids and tops, with the rest from the structure.
+    fn made(
+        &self,
+        alloc: Global,
+        links: &ByKey<Link>,
+        ids: Vec<u32>,
+        tops: Vec<u32>,
+    ) -> Result<Programme, AllocError>
+        requires fit { HasFit (kept_by self.now) links.now ids.items tops.items }
+        ensures value { IfOk result (λ made. (tree : Tree) → Fits tree (kept_by self.now) links.now ids.items tops.items → IsProgramme tree made) }
+    {
+        let top = self.top_level;
+        let layers = layers(alloc, &self.layers, top, &tops)?;
+        let terms = terms(alloc, &self.layers, &self.terms, top, &tops)?;
+        let beneath = beneath(alloc, &self.next, top, &ids, &tops)?;
+        let plan = Plan::new(links, &self.terms, &self.tivs);
+        let (levels, leaves) = levels_of(alloc, &plan, top, &tops, &ids)?;
+        let made = Programme::new(ids, leaves, levels, tops, layers, terms, beneath);
+        Ok(made)
+    }
+
+    /// The programme of the units that the losses of some ids come to. An error is want of memory.
+    pub fn programme(&self, alloc: Global, ids: &[u32]) -> Result<Programme, AllocError>
+        requires structure { HasStructure (kept_by self.now) }
+        ensures value { IfOk result (λ made. (tree : Tree) → IsStructure tree (kept_by self.now) → IsProgramme (struck tree ids.now) made) }
+    {
+        let links = links_up(alloc, &self.next, self.top_level, ids)?;
+        let taken = taken(alloc, &self.next, ids)?;
+        let reached = reached(alloc, &self.next, self.top_level, ids)?;
+        let made = self.made(alloc, &links, taken, reached)?;
+        Ok(made)
+    }
+}
+
+/// The whole programme of a stage.
+fn whole_at(alloc: Global, tables: &Tables, stage: u32) -> Result<Programme, AllocError>
+    requires stage { stage < 10 }
+    requires ready { IsReady (rows_of tables.now) stage }
+    ensures value { IfOk result (IsProgramme (tree_of (rows_of tables.now) stage)) }
+{
+    let structure = structure_at(alloc, tables, stage)?;
+    let rows = programme(tables, stage);
+    let links = links(alloc, rows)?;
+    let ids = ids(alloc, rows)?;
+    let tops = tops(alloc, rows)?;
+    let made = structure.made(alloc, &links, ids, tops)?;
+    Ok(made)
+}
+
+/// The whole programme of the base, at 0, or of a reinsurance stage, 1 to 9, whose `fm_programme` must be loaded. An error is
+/// want of memory.
+pub fn programme_of(
+    alloc: Global,
+    portfolio: &Portfolio,
+    stage: u32,
+) -> Result<Programme, AllocError>
+    requires stage { stage < 10 }
+    requires loaded { is_loaded portfolio.now.need stage table.FmProgramme ≡ true }
+    ensures value { IfOk result (IsProgramme (tree_of portfolio.now.rows stage)) }
+{
+    portfolio.is_valid();
+    let made = whole_at(alloc, portfolio.tables(), stage)?;
+    Ok(made)
+}

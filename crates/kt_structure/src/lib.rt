@@ -1,0 +1,15 @@
+//! The structure of a programme, as the tables have it, and the programme of the ids that have losses.
+#![tactic(auto)]
+
+mod building;
+mod coverage;
+mod leaves;
+mod links;
+mod outline;
+mod plan;
+mod shared;
+mod structure;
+mod terms;
+
+pub use building::programme_of;
+pub use structure::Structure;

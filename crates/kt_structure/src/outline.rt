@@ -1,0 +1,280 @@
+//! The tops of a programme, their layers, and the ids beneath them.
+//! The rule: docs/FINANCIAL_MODULE.md, "Levels".
+ghost use Rattle.std.specs.Prelude.{◌≡◌, ℕ, nat_eq, map, option_map, is_some, IfOk};
+ghost use Rattle.std.specs.List.{filter, filter_map};
+ghost use Rattle.std.specs.HashMap.{get};
+ghost use Rattle.kt_checks.specs.OutputChecks.{climbed};
+ghost use Rattle.kt_keys.specs.Keys.{same_pair};
+ghost use Rattle.kt_tree.specs.Programme.{ids_in, or_first};
+ghost use Rattle.kt_keys.specs.Units.{top_targets};
+ghost use Rattle.kt_structure.specs.Plan.{found_terms, layer_link, link_key, linked};
+ghost use Rattle.kt_tree.specs.Rising.{rising, IsRising};
+ghost use Rattle.kt_tree.specs.Tree.{is_unit};
+
+use crate::links::{Link, children};
+use crate::terms::Terms;
+use kt_checks::climbed;
+use kt_fmtree::rising;
+use kt_index::ByKey;
+use kt_keys::top_level;
+use kt_rec::{FmPolicytc, FmProgramme};
+use kt_rules::Profile;
+use std::alloc::{AllocError, Global};
+use std::collections::HashMap;
+
+/// The units from which losses come at level 1.
+fn sources(alloc: Global, programme: &[FmProgramme]) -> Result<Vec<u32>, AllocError>
+    ensures value { IfOk result (λ ids. ids.items ≡ map (λ row. row.from_agg_id) (filter (λ row. nat_eq row.level_id 1) programme.now)) }
+{
+    programme
+        .iter()
+        .filter(|row| row.level_id == 1)
+        .map(|row| row.from_agg_id)
+        .collect(alloc)
+}
+
+/// The ids whose losses a programme takes, rising.
+pub(crate) fn ids(alloc: Global, programme: &[FmProgramme]) -> Result<Vec<u32>, AllocError>
+    ensures value { IfOk result (λ ids. ids.items ≡ ids_in programme.now) }
+{
+    let ids = sources(alloc, programme)?;
+    let ids = rising(ids)?;
+    Ok(ids)
+}
+
+/// The units of a level that losses go to.
+fn targets(alloc: Global, programme: &[FmProgramme], level: u32) -> Result<Vec<u32>, AllocError>
+    ensures value { IfOk result (λ units. units.items ≡ map (λ row. row.to_agg_id) (filter (λ row. nat_eq row.level_id level) programme.now)) }
+{
+    programme
+        .iter()
+        .filter(|row| row.level_id == level)
+        .map(|row| row.to_agg_id)
+        .collect(alloc)
+}
+
+/// The units of the top level, rising.
+pub(crate) fn tops(alloc: Global, programme: &[FmProgramme]) -> Result<Vec<u32>, AllocError>
+    ensures value { IfOk result (λ units. units.items ≡ rising (top_targets programme.now)) }
+{
+    let units = targets(alloc, programme, top_level(programme))?;
+    let units = rising(units)?;
+    Ok(units)
+}
+
+/// The ids of a list whose losses come to a unit.
+fn among(
+    alloc: Global,
+    next: &HashMap<(u32, u32), u32>,
+    ids: &[u32],
+) -> Result<Vec<u32>, AllocError>
+    ensures value { IfOk result (λ taken. taken.items ≡ filter (λ id. is_some (get same_pair next.now (1, id))) ids.now) }
+{
+    let mut taken = Vec::with_capacity(alloc, ids.len())?;
+    for id in ids {
+        if next.get(&(1, *id)).is_some() {
+            taken.push(*id)?;
+        }
+    }
+    Ok(taken)
+}
+
+/// The ids of a list whose losses come to a unit, rising.
+pub(crate) fn taken(
+    alloc: Global,
+    next: &HashMap<(u32, u32), u32>,
+    ids: &[u32],
+) -> Result<Vec<u32>, AllocError>
+    ensures value { IfOk result (λ taken. taken.items ≡ rising (filter (λ id. is_some (get same_pair next.now (1, id))) ids.now)) }
+{
+    let taken = among(alloc, next, ids)?;
+    let taken = rising(taken)?;
+    Ok(taken)
+}
+
+/// The tops that the losses of ids come to, one for each id that has one.
+fn tops_up(
+    alloc: Global,
+    next: &HashMap<(u32, u32), u32>,
+    level: u32,
+    ids: &[u32],
+) -> Result<Vec<u32>, AllocError>
+    ensures value { IfOk result (λ tops. tops.items ≡ filter_map (climbed (get same_pair next.now) level 1) ids.now) }
+{
+    ids.iter()
+        .filter_map(|id| climbed(next, level, *id))
+        .collect(alloc)
+}
+
+/// The tops that the losses of ids come to, rising.
+pub(crate) fn reached(
+    alloc: Global,
+    next: &HashMap<(u32, u32), u32>,
+    level: u32,
+    ids: &[u32],
+) -> Result<Vec<u32>, AllocError>
+    ensures value { IfOk result (λ tops. tops.items ≡ rising (filter_map (climbed (get same_pair next.now) level 1) ids.now)) }
+{
+    let tops = tops_up(alloc, next, level, ids)?;
+    let tops = rising(tops)?;
+    Ok(tops)
+}
+
+/// The link of a layer to its unit.
+fn layer_link(row: &FmPolicytc) -> Link
+    ensures value { result ≡ layer_link row.now }
+{
+    Link {
+        level: row.level_id,
+        unit: row.agg_id,
+        child: row.layer_id,
+    }
+}
+
+/// The links of the layers of units.
+fn layer_rows(alloc: Global, policytc: &[FmPolicytc]) -> Result<Vec<Link>, AllocError>
+    ensures value { IfOk result (λ links. links.items ≡ map layer_link policytc.now) }
+{
+    policytc.iter().map(|row| layer_link(row)).collect(alloc)
+}
+
+/// The links of the layers of units, by their units.
+pub(crate) fn layer_links(alloc: Global, policytc: &[FmPolicytc]) -> Result<ByKey<Link>, AllocError>
+    ensures kept { IfOk result (λ links. (key : ℕ) → filter (λ row. nat_eq (link_key row) key) links ≡ filter (λ row. nat_eq (link_key row) key) (map layer_link policytc.now)) }
+{
+    let rows = layer_rows(alloc, policytc)?;
+    ByKey::new(alloc, &rows)
+}
+
+/// The layers of a unit of a level, rising; layer 1 where it has none.
+fn layers_of(
+    alloc: Global,
+    links: &ByKey<Link>,
+    level: u32,
+    unit: u32,
+) -> Result<Vec<u32>, AllocError>
+    ensures value { IfOk result (λ layers. layers.items ≡ or_first (linked links.now level unit)) }
+{
+    let mut layers = children(alloc, links, level, unit)?;
+    if layers.is_empty() {
+        layers.push(1)?;
+    }
+    Ok(layers)
+}
+
+/// The layers of each top.
+pub(crate) fn layers(
+    alloc: Global,
+    links: &ByKey<Link>,
+    level: u32,
+    tops: &[u32],
+) -> Result<Vec<Vec<u32>>, AllocError>
+    ensures value { IfOk result (λ rows. map (λ layers. layers.items) rows.items ≡ map (λ top. or_first (linked links.now level top)) tops.now) }
+{
+    let mut rows = Vec::with_capacity(alloc, tops.len())?;
+    for top in tops {
+        rows.push(layers_of(alloc, links, level, *top)?)?;
+    }
+    Ok(rows)
+}
+
+/// The terms of layers of a top.
+fn layer_terms(
+    alloc: Global,
+    terms: &Terms,
+    level: u32,
+    top: u32,
+    layers: &[u32],
+) -> Result<Vec<Profile>, AllocError>
+    ensures value { IfOk result (λ row. row.items ≡ map (λ layer. found_terms terms.now layer level top) layers.now) }
+{
+    let mut row = Vec::with_capacity(alloc, layers.len())?;
+    for layer in layers {
+        row.push(terms.of(*layer, level, top))?;
+    }
+    Ok(row)
+}
+
+/// The terms of the layers of each top.
+pub(crate) fn terms(
+    alloc: Global,
+    links: &ByKey<Link>,
+    terms: &Terms,
+    level: u32,
+    tops: &[u32],
+) -> Result<Vec<Vec<Profile>>, AllocError>
+    ensures value { IfOk result (λ rows. map (λ row. row.items) rows.items ≡ map (λ top. map (λ layer. found_terms terms.now layer level top) (or_first (linked links.now level top))) tops.now) }
+{
+    let mut rows = Vec::with_capacity(alloc, tops.len())?;
+    for top in tops {
+        let layers = layers_of(alloc, links, level, *top)?;
+        rows.push(layer_terms(alloc, terms, level, *top, &layers)?)?;
+    }
+    Ok(rows)
+}
+
+/// The link of an id to the top that its losses come to.
+fn top_link(next: &HashMap<(u32, u32), u32>, level: u32, id: u32) -> Option<Link>
+    ensures value { result ≡ option_map (λ top. record { level = 0; unit = top; child = id }) (climbed (get same_pair next.now) level 1 id) }
+{
+    let unit = climbed(next, level, id)?;
+    Some(Link {
+        level: 0,
+        unit,
+        child: id,
+    })
+}
+
+/// The links of ids to the tops that their losses come to.
+fn top_rows(
+    alloc: Global,
+    next: &HashMap<(u32, u32), u32>,
+    level: u32,
+    ids: &[u32],
+) -> Result<Vec<Link>, AllocError>
+    ensures value { IfOk result (λ links. links.items ≡ filter_map (λ id. option_map (λ top. record { level = 0; unit = top; child = id }) (climbed (get same_pair next.now) level 1 id)) ids.now) }
+{
+    ids.iter()
+        .filter_map(|id| top_link(next, level, *id))
+        .collect(alloc)
+}
+
+/// The links of ids to the tops that their losses come to, by the tops.
+fn top_links(
+    alloc: Global,
+    next: &HashMap<(u32, u32), u32>,
+    level: u32,
+    ids: &[u32],
+) -> Result<ByKey<Link>, AllocError>
+    ensures kept { IfOk result (λ links. (key : ℕ) → filter (λ row. nat_eq (link_key row) key) links ≡ filter (λ row. nat_eq (link_key row) key) (filter_map (λ id. option_map (λ top. record { level = 0; unit = top; child = id }) (climbed (get same_pair next.now) level 1 id)) ids.now)) }
+{
+    let rows = top_rows(alloc, next, level, ids)?;
+    ByKey::new(alloc, &rows)
+}
+
+/// The ids beneath each top, by links of ids to tops.
+fn linked_ids(alloc: Global, links: &ByKey<Link>, tops: &[u32]) -> Result<Vec<Vec<u32>>, AllocError>
+    ensures value { IfOk result (λ rows. map (λ row. row.items) rows.items ≡ map (λ top. linked links.now 0 top) tops.now) }
+{
+    let mut rows = Vec::with_capacity(alloc, tops.len())?;
+    for top in tops {
+        rows.push(children(alloc, links, 0, *top)?)?;
+    }
+    Ok(rows)
+}
+
+/// The ids, rising, beneath each top.
+pub(crate) fn beneath(
+    alloc: Global,
+    next: &HashMap<(u32, u32), u32>,
+    level: u32,
+    ids: &[u32],
+    tops: &[u32],
+) -> Result<Vec<Vec<u32>>, AllocError>
+    requires rising { IsRising ids.now }
+    ensures value { IfOk result (λ rows. map (λ row. row.items) rows.items ≡ map (λ top. filter (λ id. is_unit top (climbed (get same_pair next.now) level 1 id)) ids.now) tops.now) }
+{
+    let links = top_links(alloc, next, level, ids)?;
+    let rows = linked_ids(alloc, &links, tops)?;
+    Ok(rows)
+}

@@ -1,0 +1,131 @@
+//! The terms of the layers of units.
+//! The rule: docs/FINANCIAL_MODULE.md, "Policy losses".
+ghost use Rattle.std.specs.Prelude.{◌≡◌, ℕ, map, nat_eq, All, IfOk};
+ghost use Rattle.std.specs.Map.{lookup};
+ghost use Rattle.std.specs.HashMap.{get};
+ghost use Rattle.kt_keys.specs.Keys.{same_triple};
+ghost use Rattle.kt_rec.specs.Ranges.{IsFmProfile};
+ghost use Rattle.kt_rules.specs.Profiles.{profile_of};
+ghost use Rattle.kt_tree.specs.Programme.{no_terms, terms_or_none};
+ghost use Rattle.kt_structure.specs.Plan.{AreTerms, found_terms};
+
+use kt_keys::first_values;
+use kt_rec::{FmPolicytc, FmProfile};
+use kt_rules::Profile;
+use std::alloc::{AllocError, Global};
+use std::collections::HashMap;
+
+/// The profiles of the layers of units, and the terms of profiles.
+#[derive(Drop)]
+pub(crate) struct Terms {
+    pub by_unit: HashMap<(u32, u32, u32), u32>,
+    pub by_id: HashMap<u32, Profile>,
+}
+
+/// The terms of a row, which is in the ranges of its fields.
+fn profile_of(row: &FmProfile) -> Profile
+    requires { IsFmProfile row.now }
+    ensures value { result ≡ profile_of row.now }
+{
+    match Profile::of(row) {
+        Ok(profile) => profile,
+        Err(_) => unreachable!(),
+    }
+}
+
+/// The terms of profiles by their ids.
+fn id_pairs(alloc: Global, profiles: &[FmProfile]) -> Result<Vec<(u32, Profile)>, AllocError>
+    requires { All IsFmProfile profiles.now }
+    ensures value { IfOk result (λ pairs. pairs.items ≡ map (λ row. (row.policytc_id, profile_of row)) profiles.now) }
+{
+    let mut pairs = Vec::with_capacity(alloc, profiles.len())?;
+    for row in profiles {
+        pairs.push((row.policytc_id, profile_of(row)))?;
+    }
+    Ok(pairs)
+}
+
+/// The profiles of the layers of units.
+fn unit_pairs(
+    alloc: Global,
+    policytc: &[FmPolicytc],
+) -> Result<Vec<((u32, u32, u32), u32)>, AllocError>
+    ensures value { IfOk result (λ pairs. pairs.items ≡ map (λ row. ((row.layer_id, row.level_id, row.agg_id), row.policytc_id)) policytc.now) }
+{
+    policytc
+        .iter()
+        .map(|row| ((row.layer_id, row.level_id, row.agg_id), row.policytc_id))
+        .collect(alloc)
+}
+
+/// The profile that each layer of a unit has in its first row.
+fn unit_values(
+    alloc: Global,
+    pairs: &[((u32, u32, u32), u32)],
+) -> Result<HashMap<(u32, u32, u32), u32>, AllocError>
+    ensures value { IfOk result (λ values. (key : ℕ × ℕ × ℕ) → get same_triple values key ≡ lookup (same_triple key) pairs.now) }
+{
+    first_values(alloc, pairs)
+}
+
+/// The terms that each profile has in its first row.
+fn id_values(alloc: Global, pairs: &[(u32, Profile)]) -> Result<HashMap<u32, Profile>, AllocError>
+    ensures value { IfOk result (λ values. (key : ℕ) → get nat_eq values key ≡ lookup (nat_eq key) pairs.now) }
+{
+    first_values(alloc, pairs)
+}
+
+impl Terms {
+    /// The terms of the tables.
+    pub(crate) fn new(
+        alloc: Global,
+        policytc: &[FmPolicytc],
+        profiles: &[FmProfile],
+    ) -> Result<Terms, AllocError>
+        requires { All IsFmProfile profiles.now }
+        ensures value { IfOk result (AreTerms policytc.now profiles.now) }
+    {
+        let units = unit_pairs(alloc, policytc)?;
+        let by_unit = unit_values(alloc, &units)?;
+        let ids = id_pairs(alloc, profiles)?;
+        let by_id = id_values(alloc, &ids)?;
+        Ok(Terms { by_unit, by_id })
+    }
+
+    /// The terms of a layer of a unit of a level; none where it has no row.
+    pub(crate) fn of(&self, layer: u32, level: u32, unit: u32) -> Profile
+        ensures value { result ≡ found_terms self.now layer level unit }
+    {
+        match self.by_unit.get(&(layer, level, unit)) {
+            None => no_terms(),
+            Some(id) => self.with_id(*id),
+        }
+    }
+
+    /// The terms of a profile; none where it has no row.
+    fn with_id(&self, id: u32) -> Profile
+        ensures value { result ≡ terms_or_none (get nat_eq self.now.by_id id) }
+    {
+        match self.by_id.get(&id) {
+            None => no_terms(),
+            Some(terms) => *terms,
+        }
+    }
+}
+
+/// No terms: a rule that leaves each loss as it is.
+fn no_terms() -> Profile
+    ensures value { result ≡ no_terms }
+{
+    Profile {
+        rule: 100,
+        ded1: 0,
+        ded2: 0,
+        ded3: 0,
+        att1: 0,
+        lim1: 0,
+        share1: 0,
+        share2: 0,
+        share3: 0,
+    }
+}
