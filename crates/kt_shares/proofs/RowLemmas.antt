@@ -49,6 +49,21 @@ nothing-shared tree is losses rule top layer other none =
     ∙ (zeros-from_sum (allocated tree losses rule top layer) (allocated-sum tree is losses top layer rule ∙ none)
     ∙ sym (shares-back tree losses rule top layer other))
 
+-- an only id beneath a top has the whole policy loss
+pub only-share : (tree : Tree) → IsTree tree → (losses : ℕ → ℕ) (rule top layer : ℕ) → nat_eq rule 0 ≡ false → length (beneath tree top) ≡ 1 → (policy : ℕ) → policy ≡ policy_loss tree losses top layer → policy ∷ [] ≡ shares tree losses rule top layer
+only-share tree is losses rule top layer other one policy policy_is =
+    by (allocated tree losses rule top layer) (length-allocated tree losses rule top layer ∙ one) (allocated-sum tree is losses top layer rule ∙ sym policy_is)
+    ∙ sym (shares-back tree losses rule top layer other)
+  where
+    by : (amounts : List ℕ) → length amounts ≡ 1 → sum amounts ≡ policy → policy ∷ [] ≡ amounts
+    by [] long adds = absurd (omega arith)
+    by (amount ∷ []) long adds = let same : policy ≡ amount = omega (arith, sum_by-cons (λ (n : ℕ). n) amount []) in ap (λ n. n ∷ []) same
+    by (amount ∷ other ∷ amounts) long adds = absurd (omega arith)
+
+-- a policy loss that stays whole is at most 10^16
+pub whole-few : (tree : Tree) → IsTree tree → (losses : ℕ → ℕ) → sum (map losses tree.ids) ≤ 10 ^ 16 → (policy top layer : ℕ) → policy ≡ policy_loss tree losses top layer → (made : List ℕ) → made ≡ policy ∷ [] → sum made ≤ 10 ^ 16
+whole-few tree is losses few policy top layer policy_is made made_is = omega (arith, ap sum made_is, sum_by-cons (λ (n : ℕ). n) policy [], policy-le tree is losses top layer)
+
 -- zeros add to nothing
 pub zeros-sum : (width : ℕ) → sum (replicate width 0) ≡ 0
 zeros-sum zero = refl

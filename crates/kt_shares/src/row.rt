@@ -1,6 +1,6 @@
 //! The policy losses of the layers at one sidx, and what they are shared out to.
 //! The rule: docs/FINANCIAL_MODULE.md, "Insured losses".
-ghost use Rattle.std.specs.Prelude.{◌≡◌, ◌≤◌, ◌^◌, ℕ, length, map, replicate, slice_index, IfOk};
+ghost use Rattle.std.specs.Prelude.{◌≡◌, ◌≤◌, ◌^◌, ℕ, [], ◌∷◌, length, map, replicate, slice_index, IfOk};
 ghost use Rattle.std.specs.List.{AllByRecursion, sum};
 ghost use Rattle.kt_tree.specs.Tree.{Tree, policy_loss};
 ghost use Rattle.kt_fmtree.specs.Carried.{AreCarried, IsCarriedBy};
@@ -64,7 +64,16 @@ fn no_shares(alloc: Global, ids: &[u32]) -> Result<Vec<u64>, AllocError>
     vec![in alloc; 0; ids.len()]
 }
 
-/// What the policy loss of a layer is shared out to.
+/// A policy loss that stays whole.
+fn whole(alloc: Global, policy: u64) -> Result<Vec<u64>, AllocError>
+    ensures value { IfOk result (λ made. made.items ≡ policy ∷ []) }
+{
+    let mut made = Vec::with_capacity(alloc, 1)?;
+    made.push(policy)?;
+    Ok(made)
+}
+
+/// What the policy loss of a layer is shared out to. An only id beneath its top has the whole.
 fn shares_of(
     alloc: Global,
     programme: &Programme,
@@ -81,13 +90,17 @@ fn shares_of(
     ensures few { IfOk result (λ made. sum made.items ≤ 10 ^ 16) }
 {
     if rule == 0 {
-        let mut made = Vec::new(alloc);
-        made.push(policy)?;
+        let made = whole(alloc, policy)?;
         return Ok(made);
     }
+    let ids = programme.beneath(one.node);
     if policy == 0 {
-        let none = no_shares(alloc, programme.beneath(one.node))?;
+        let none = no_shares(alloc, ids)?;
         return Ok(none);
+    }
+    if ids.len() == 1 {
+        let made = whole(alloc, policy)?;
+        return Ok(made);
     }
     let made = allocate(alloc, programme, levels, one.node, one.layer, rule)?;
     Ok(made)

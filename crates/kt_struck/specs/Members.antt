@@ -33,9 +33,6 @@ member-filter test id [] = by (test id)
     by false = refl
 member-filter test id (first ∷ ids) = by (nat_eq id first) refl (test first) refl (member-filter test id ids)
   where
-    swap : (a b : Bool) → a ≡ false → (b && a) ≡ (b && a)
-    swap a b none = refl
-
     by : (same : Bool) → nat_eq id first ≡ same → (kept : Bool) → test first ≡ kept → list_any (nat_eq id) (filter test ids) ≡ (test id && list_any (nat_eq id) ids) → list_any (nat_eq id) (cond kept (first ∷ filter test ids) (filter test ids)) ≡ (test id && (same || list_any (nat_eq id) ids))
     by true same true kept rest = ap (λ b. b || list_any (nat_eq id) (filter test ids)) same ∙ sym (ap (λ b. b && true) (ap test (eqb-true id first same) ∙ kept))
     by true same false kept rest =
@@ -43,20 +40,6 @@ member-filter test id (first ∷ ids) = by (nat_eq id first) refl (test first) r
         rest ∙ rw fails refl
     by false same true kept rest = ap (λ b. b || list_any (nat_eq id) (filter test ids)) same ∙ rest
     by false same false kept rest = rest
-
--- those of lists behind each other that pass a test
-pub filter-append : {X : Type 0} (test : X → Bool) (xs ys : List X) → filter test (xs ++ ys) ≡ filter test xs ++ filter test ys
-filter-append test [] ys = refl
-filter-append test (x ∷ xs) ys = by (test x) (filter-append test xs ys)
-  where
-    by : (b : Bool) → filter test (xs ++ ys) ≡ filter test xs ++ filter test ys → cond b (x ∷ filter test (xs ++ ys)) (filter test (xs ++ ys)) ≡ cond b (x ∷ filter test xs) (filter test xs) ++ filter test ys
-    by true rest = ap (λ later. x ∷ later) rest
-    by false rest = rest
-
--- where none passes a test, none is left
-pub filter-none : {X : Type 0} (test : X → Bool) (xs : List X) → AllByRecursion (λ x. test x ≡ false) xs → filter test xs ≡ []
-filter-none test [] all = refl
-filter-none test (x ∷ xs) all = rw all.0 (filter-none test xs all.1)
 
 -- of those that pass one test, those that pass another, where the second says the same of them as a third
 pub filter-both : (one other third : ℕ → Bool) → ((x : ℕ) → one x ≡ true → other x ≡ third x) → (xs : List ℕ) → filter other (filter one xs) ≡ filter one (filter third xs)

@@ -4,6 +4,7 @@ use Rattle.std.specs.List.{AllByRecursion, filter, flat_map, list_any, sum, sum_
 use Rattle.std.specs.Map.{lookup}
 use Rattle.std.proofs.Common.{refl, sym, ap, ◌∙◌, arith}
 use Rattle.std.proofs.lemmas.Bool.{eqb-true}
+use Rattle.std.proofs.lemmas.List.Elements.{filter-append}
 use Rattle.std.proofs.lemmas.List.Sums.{sum-map}
 use Rattle.kt_money.specs.Sharing.{share_of, share_out, shares_after}
 use Rattle.kt_tree.specs.Sharing.{Part, allocated, carried_loss, id_parts, part_of, parts_for, passed_down, policy_parts, shared_at_once, shared_down, weight_of}
@@ -13,7 +14,7 @@ use Rattle.kt_tree.specs.Tree.{Tree, IsTree, beneath, carry_of, comes_to, ground
 use Rattle.kt_tree.specs.TreeLaws.{each}
 use Rattle.kt_struck.specs.Struck.{is_struck, struck}
 use Rattle.kt_struck.specs.StruckLaws.{beneath-struck, carry_of-none, carry_of-struck, ground_up-none, ground_up-struck, policy_loss-struck, struck-id, unstruck-children}
-use Rattle.kt_struck.specs.Members.{any-of, filter-append, lookup-map, lookup-nothing, member-filter}
+use Rattle.kt_struck.specs.Members.{any-of, lookup-map, lookup-nothing, member-filter}
 
 -- amounts that agree
 map-agree : (one other : ℕ → ℕ) → ((x : ℕ) → one x ≡ other x) → (xs : List ℕ) → map one xs ≡ map other xs
