@@ -7,7 +7,7 @@ use Rattle.kt_rec.specs.declared.financial.FmProfile.{FmProfile}
 use Rattle.kt_cells.specs.declared.stop.TableStop.{TableStop}
 use Rattle.kt_schema.specs.Loading.{HasRows}
 use Rattle.kt_schema.specs.Rows.{fm_programme_values, fm_policytc_values, fm_profile_values}
-use Rattle.kt_schema.proofs.TableLemmas.{one_list, stage_list}
+use Rattle.kt_schema.proofs.LoadingLemmas.{one_list, stage_list}
 use Rattle.kt_schema.proofs.loading.read_bin.Goals as goal
 
 pub returns-in-Events : goal.returns-in-Events
