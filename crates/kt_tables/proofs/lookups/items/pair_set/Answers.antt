@@ -3,7 +3,7 @@ use Rattle.std.specs.BTreeSet.{insert_key}
 use Rattle.std.proofs.lemmas.List.Sums.{fold_more}
 use Rattle.kt_rec.specs.declared.exposure.Item.{Item}
 use Rattle.kt_tables.specs.Lookups.{pair_of, pair_order}
-use Rattle.kt_tables.proofs.lookups.pair_set.Goals as goal
+use Rattle.kt_tables.proofs.lookups.items.pair_set.Goals as goal
 
 pub loop-row-preserved : goal.loop-row-preserved
 loop-row-preserved c =

@@ -1,7 +1,7 @@
 use Rattle.std.proofs.Common.{◌∙◌, ap, nat_eq}
 use Rattle.std.specs.List.{filter}
 use Rattle.kt_tables.specs.Kept.{damage_key}
-use Rattle.kt_tables.proofs.lookups.damages.Goals as goal
+use Rattle.kt_tables.proofs.lookups.hazard.damages.Goals as goal
 
 pub returns : goal.returns
 returns c = record {
