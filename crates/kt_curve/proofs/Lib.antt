@@ -13,3 +13,8 @@ pub mod SampleRuns
 pub mod Periods
 pub mod Means
 pub mod Exceedances
+pub mod RowCells
+pub mod Tables
+pub mod Puts
+pub mod SetEntries
+pub mod Spots

@@ -11,6 +11,9 @@ mod group;
 mod kinds;
 mod lec;
 mod mean_curves;
+mod row;
+mod row_key;
+mod rows;
 mod samples;
 mod shared;
 
