@@ -6,7 +6,7 @@ use Rattle.std.specs.List.Sorted.{IsStrictlySortedBy}
 use Rattle.std.specs.Map.{keys_of}
 use Rattle.std.specs.declared.cmp.Ordering.TheVariants.{Less}
 use Rattle.std.proofs.lemmas.Bool.Decides.{nat_tests, Decides-eqb}
-use Rattle.std.proofs.lemmas.List.Elements.{All-head, All-tail, All-nil, All-cons, All-take, All-drop, All-weaker, All-filter, filter_passes}
+use Rattle.std.proofs.lemmas.List.Elements.{All-head, All-tail, All-nil, All-cons, All-take, All-drop, All-weaker}
 use Rattle.std.proofs.lemmas.Map.Keys.{sorted_head, sorted_tail}
 use Rattle.kt_rec.specs.declared.perspective.Perspective.{Perspective}
 use Rattle.kt_rec.specs.declared.perspective.Perspective.TheVariants.{Gul, Il, Ri}
@@ -14,7 +14,7 @@ use Rattle.kt_rec.specs.declared.perspective.CellKey.{CellKey}
 use Rattle.kt_rec.specs.contracts.perspective.CellKeyOrd.TheImpl as key_order
 use Rattle.kt_curve.specs.declared.cell.Cell.{Cell}
 use Rattle.kt_curve.specs.Losses.{key_of}
-use Rattle.kt_curve.specs.Grid.{set_entries, IsPart, IsGroup, in_set, same_perspective, by_summary, group_length}
+use Rattle.kt_curve.specs.Grid.{IsPart, IsGroup, in_set, same_perspective, by_summary, group_length}
 use Rattle.kt_curve.specs.Standing.{FitsCells}
 use Rattle.kt_curve.proofs.Parts.{OwnKey, summary_order, by_summary_split}
 

@@ -13,7 +13,9 @@ use Rattle.kt_curve.specs.RowCells.{SampleCells, cell_in, CellFits, RowFits, Cha
 use Rattle.kt_curve.specs.Rows.{entries_of, row_entries, row_keys, row_of, key_in, place_of, Apart}
 use Rattle.kt_curve.proofs.Keys.{same_exact}
 use Rattle.kt_curve.proofs.Steps.{extra, to_key, take_out, take_down, never_missing}
-use Rattle.kt_curve.proofs.Tables.{length_set, length_row, entries_set, row_changes, row_cell, found_row, nowhere, fits_changed, yes_or_no}
+use Rattle.kt_curve.proofs.Tables.{length_set, entries_set, found_row, nowhere}
+use Rattle.kt_curve.proofs.OneRow.{length_row, row_changes, row_cell}
+use Rattle.kt_curve.proofs.RowBounds.{fits_changed}
 
 -- a cell that is there, or one more
 one_or_extra : (o : Option Cell) → one_of o + extra o ≡ 1

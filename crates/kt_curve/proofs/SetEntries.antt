@@ -1,8 +1,8 @@
--- The entries of a set, gathered from the rows and then sorted.
-use Rattle.std.proofs.Common.{◌≡◌, ℕ, zero, suc, ◌+◌, ◌<◌, ◌≤◌, List, [], ◌∷◌, ◌++◌, length, map, take, get_or, arith, refl, sym, ap, ◌∙◌, cond, Some, None, Option, append_assoc}
-use Rattle.std.specs.Prelude.{ℤ, Bool, true, false, ◌&&◌, All, nat_eq, nat_lt}
+-- The entries of a set, sorted: their bounds, their order and what they have for a key.
+use Rattle.std.proofs.Common.{◌≡◌, ℕ, zero, suc, ◌+◌, ◌<◌, ◌≤◌, List, [], ◌∷◌, ◌++◌, length, map, get_or, arith, refl, sym, ap, ◌∙◌, cond, Some, None, Option}
+use Rattle.std.specs.Prelude.{Bool, true, false, All}
 use Rattle.std.specs.Option.{option_or}
-use Rattle.std.specs.List.{filter, AllByRecursion, IsDistinct, Contains}
+use Rattle.std.specs.List.{AllByRecursion, IsDistinct}
 use Rattle.std.specs.List.Sorted.{IsStrictlySortedBy, IsPermutation, IsSortedByKey}
 use Rattle.std.specs.Map.{keys_of}
 use Rattle.std.specs.BTreeMap.{is_at}
@@ -11,8 +11,7 @@ use Rattle.std.specs.declared.cmp.Ordering.TheVariants.{Less, Equal, Greater}
 use Rattle.std.specs.Ordering.{is_lt, is_eq, ordering_reverse}
 use Rattle.std.proofs.lemmas.Bool.Decides.{nat_tests}
 use Rattle.std.proofs.lemmas.Cmp.{eq_by_cmp_equiv}
-use Rattle.std.proofs.lemmas.List.{take_more, get_or_default}
-use Rattle.std.proofs.lemmas.List.Elements.{All-head, All-tail, All-nil, All-cons, All-append, All-filter, All-weaker, filter_passes, filter-append}
+use Rattle.std.proofs.lemmas.List.Elements.{All-head, All-tail, All-nil, All-cons, All-append, All-filter, All-weaker, filter_passes}
 use Rattle.std.proofs.lemmas.List.Sorted.{IsPermutation-map, IsPermutation-sym, All-permutation, Contains-permutation}
 use Rattle.std.proofs.lemmas.Map.Keys.{IsDistinct-head, IsDistinct-tail, IsDistinct-IsPermutation}
 use Rattle.std.proofs.lemmas.Map.Made.{IsDistinct-keys_filter}
@@ -28,60 +27,19 @@ use Rattle.kt_curve.specs.declared.row.Row.{Row}
 use Rattle.kt_curve.specs.Losses.{same_key}
 use Rattle.kt_curve.specs.Standing.{FitsCells, cell_at, sidx_in_range}
 use Rattle.kt_curve.specs.Amounts.{sample_of}
-use Rattle.kt_curve.specs.Grid.{set_entries, in_set, same_perspective, IsPart, HasSet}
-use Rattle.kt_curve.specs.RowCells.{SampleCells, CellFits, RowFits, IsRising, cell_in, sample_at}
+use Rattle.kt_curve.specs.Grid.{set_entries, in_set, IsPart, HasSet}
+use Rattle.kt_curve.specs.RowCells.{SampleCells, CellFits, RowFits, IsRising, cell_in}
 use Rattle.kt_curve.specs.Rows.{sidx_of, key_in, row_entries, entries_of, row_keys, Apart, IsTable}
-use Rattle.kt_curve.proofs.Keys.{key_total, same_exact, same_itself}
+use Rattle.kt_curve.proofs.Keys.{key_total, same_exact}
 use Rattle.kt_curve.proofs.RowCells.{cell_absent}
-use Rattle.kt_curve.proofs.Tables.{row_cell, nowhere, found_append}
+use Rattle.kt_curve.proofs.OneRow.{row_cell}
+use Rattle.kt_curve.proofs.Tables.{nowhere, found_append}
 use Rattle.kt_curve.proofs.Parts.{OwnKey}
 use Rattle.kt_curve.proofs.FirstGroup.{in_set_is}
 
 -- an entry
 abbrev Entry : Type 0
 Entry = CellKey × Cell
-
--- ---- gathered row by row
-
--- the entries of a set in one row: all of them, or none
-set_row : (p : Perspective) (s : ℕ) (row : RowKey) (cells : SampleCells) →
-    set_entries p s (map (λ one. (key_in row one.0, one.1)) cells) ≡ cond (same_perspective row.perspective p && nat_eq row.set s) (map (λ one. (key_in row one.0, one.1)) cells) []
-set_row p s row cells = by_test (same_perspective row.perspective p && nat_eq row.set s) refl cells
-  where
-    by_test : (b : Bool) → same_perspective row.perspective p && nat_eq row.set s ≡ b → (cells : SampleCells) → set_entries p s (map (λ one. (key_in row one.0, one.1)) cells) ≡ cond b (map (λ one. (key_in row one.0, one.1)) cells) []
-    by_test true is [] = refl
-    by_test false is [] = refl
-    by_test true is (one ∷ cells) = rw is (ap (λ (es : List Entry). (key_in row one.0, one.1) ∷ es) (by_test true is cells))
-    by_test false is (one ∷ cells) = rw is (by_test false is cells)
-
--- the entries of rows and others
-entries_append : (xs ys : List Row) → entries_of (xs ++ ys) ≡ entries_of xs ++ entries_of ys
-entries_append [] ys = refl
-entries_append (x ∷ xs) ys = ap (λ es. row_entries x ++ es) (entries_append xs ys) ∙ sym (append_assoc (row_entries x) (entries_of xs) (entries_of ys))
-
--- nothing behind entries
-nothing_behind : (es : List Entry) → es ++ [] ≡ es
-nothing_behind [] = refl
-nothing_behind (e ∷ es) = ap (λ (xs : List Entry). e ∷ xs) (nothing_behind es)
-
--- the entries of a set in one row more
-more_is : (p : Perspective) (s : ℕ) (rows : List Row) (i : ℕ) (row : Row) → i < length rows → row ≡ get_or rows i row →
-    set_entries p s (entries_of (take (i + 1) rows)) ≡ set_entries p s (entries_of (take i rows)) ++ cond (same_perspective row.key.perspective p && nat_eq row.key.set s) (row_entries row) []
-more_is p s rows i row within is =
-    ap (λ xs. set_entries p s (entries_of xs)) (take_more rows i row within ∙ ap (λ r. take i rows ++ r ∷ []) (sym is)) ∙ ap (set_entries p s) (entries_append (take i rows) (row ∷ []) ∙ ap (λ es. entries_of (take i rows) ++ es) (nothing_behind (row_entries row)))
-    ∙ filter-append (λ entry. in_set p s entry.0) (entries_of (take i rows)) (row_entries row) ∙ ap (λ es. set_entries p s (entries_of (take i rows)) ++ es) (set_row p s row.key row.cells.items)
-
--- a row of the set was gathered
-pub gathered_in : (p : Perspective) (s : ℕ) (rows : List Row) (i : ℕ) (row : Row) (old new : List Entry) → i < length rows → row ≡ get_or rows i row → true ≡ same_perspective row.key.perspective p && nat_eq row.key.set s →
-    old ≡ set_entries p s (entries_of (take i rows)) → new ≡ old ++ row_entries row → new ≡ set_entries p s (entries_of (take (i + 1) rows))
-gathered_in p s rows i row old new within is own old_is new_is =
-    new_is ∙ ap (λ es. es ++ row_entries row) old_is ∙ ap (λ b. set_entries p s (entries_of (take i rows)) ++ cond b (row_entries row) []) own ∙ sym (more_is p s rows i row within is)
-
--- a row of another set was passed over
-pub gathered_past : (p : Perspective) (s : ℕ) (rows : List Row) (i : ℕ) (row : Row) (old : List Entry) → i < length rows → row ≡ get_or rows i row → false ≡ same_perspective row.key.perspective p && nat_eq row.key.set s →
-    old ≡ set_entries p s (entries_of (take i rows)) → old ≡ set_entries p s (entries_of (take (i + 1) rows))
-gathered_past p s rows i row old within is other old_is =
-    old_is ∙ sym (nothing_behind (set_entries p s (entries_of (take i rows)))) ∙ ap (λ b. set_entries p s (entries_of (take i rows)) ++ cond b (row_entries row) []) other ∙ sym (more_is p s rows i row within is)
 
 -- ---- the entries of a table
 
@@ -120,9 +78,10 @@ none_found key (e ∷ es) missing = by_test (same_key key e.0) refl missing (non
 row_distinct : (row : RowKey) (cells : SampleCells) (es : List Entry) → IsRising cells → ((s : ℕ) → cell_at es (key_in row s) ≡ None) → IsDistinct same_key (keys_of es) → IsDistinct same_key (keys_of (map (λ one. (key_in row one.0, one.1)) cells ++ es))
 unfolding IsDistinct
 row_distinct row [] es rising missing distinct = distinct
-row_distinct row (one ∷ cells) es rising missing distinct =
-    (none_found (key_in row one.0) (map (λ one. (key_in row one.0, one.1)) cells ++ es) (found_append (map (λ one. (key_in row one.0, one.1)) cells) es (key_in row one.0) ∙ ap (λ o. option_or o (cell_at es (key_in row one.0))) own ∙ missing one.0),
-      row_distinct row cells es (λ i j less within. rising (suc i) (suc j) (omega (arith, less)) (omega (arith, within))) missing distinct)
+row_distinct row (one ∷ cells) es rising missing distinct = (
+  none_found (key_in row one.0) (map (λ one. (key_in row one.0, one.1)) cells ++ es) (found_append (map (λ one. (key_in row one.0, one.1)) cells) es (key_in row one.0) ∙ ap (λ o. option_or o (cell_at es (key_in row one.0))) own ∙ missing one.0),
+  row_distinct row cells es (λ i j less within. rising (suc i) (suc j) (omega (arith, less)) (omega (arith, within))) missing distinct,
+)
   where
     back : sample_of (sidx_of one.0) ≡ one.0
     back = all one.0

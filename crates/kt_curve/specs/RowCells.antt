@@ -3,7 +3,6 @@
 use Rattle.std.specs.Prelude.{ℕ, ◌≡◌, ◌+◌, ◌<◌, ◌≤◌, List, length, All, Option, Some, None, is_some, nat_eq, nat_le, slice_index_or, if◌then◌else◌, IfSome, ◌-◌}
 use Rattle.std.specs.Map.{lookup}
 use Rattle.kt_curve.specs.declared.cell.Cell.{Cell}
-use Rattle.kt_curve.specs.declared.row_key.RowKey.{RowKey}
 use Rattle.kt_curve.specs.declared.row.Row.{Row}
 use Rattle.kt_curve.specs.Standing.{most_total}
 

@@ -1,25 +1,19 @@
 //! Adding losses to the cells of rows, and taking them back.
 //! The rules: docs/CALCULATION.md, "Periods".
-ghost use Rattle.std.specs.Prelude.{◌≡◌, ◌+◌, ◌<◌, ◌≤◌, ◌^◌, pos, ◌≤ℤ◌, List, [], ◌∷◌, ◌++◌, map, All, IfNone, Some, None, true};
+ghost use Rattle.std.specs.Prelude.{◌≡◌, ◌≤◌, ◌^◌, pos, ◌≤ℤ◌, List, [], ◌∷◌, ◌++◌, map, All, Some, true};
 ghost use Rattle.std.specs.List.{flat_map};
 ghost use Rattle.kt_curve.specs.Losses.{KeyLoss, maximum, is_added, key_of};
-ghost use Rattle.kt_curve.specs.Standing.{Standing, sidx_in_range, most_total, most_cells, total_in, maximum_in, refusal_of, raised};
+ghost use Rattle.kt_curve.specs.Standing.{Standing, sidx_in_range, most_total};
 ghost use Rattle.kt_curve.specs.Rows.{entries_of, row_keys, row_of, place_of, IsSpot, spot_loss, spot_losses};
-ghost use Rattle.kt_curve.specs.RowCells.{one_of};
 ghost use Rattle.kt_curve.specs.Journal.{Puts, Noted, Going, GoesOn, Returns};
 
 use super::{Rows, Spot};
-use crate::cell::{Cell, CellStop, Change, is_added};
+use crate::cell::{CellStop, Change, is_added};
+use crate::raising::{held_with, maximum_in, raised, refusal};
 use crate::row_key::row_of;
 use crate::samples::sample_of;
 use kt_rec::{CellKey, Perspective};
 use kt_stream::Pair;
-
-/// The most cells.
-const MOST_CELLS: usize = 20_000_000;
-
-/// The greatest total of a key, in cents.
-const MOST_TOTAL: u64 = 1_000_000_000_000_000;
 
 /// The key to which a pair's loss falls in a period.
 fn key_of(perspective: Perspective, set: u32, summary: u32, pair: &Pair, period: u32) -> CellKey
@@ -31,68 +25,6 @@ fn key_of(perspective: Perspective, set: u32, summary: u32, pair: &Pair, period:
         summary,
         sidx: pair.sidx,
         period,
-    }
-}
-
-/// Why so many cells, among them this one of the key, refuse a loss.
-fn refusal(held: usize, old: Option<Cell>, key: CellKey, loss: u64) -> Option<CellStop>
-    requires total { total_in old ≤ most_total }
-    requires loss { loss ≤ 10 ^ 16 }
-    ensures value { result ≡ refusal_of held old key loss }
-    ensures room { IfNone result (total_in old + loss ≤ most_total) }
-    ensures few { IfNone result (old ≡ None → held < most_cells) }
-{
-    match old {
-        Some(cell) if cell.total + loss > MOST_TOTAL => Some(CellStop::Period {
-            key,
-            held: cell.total,
-            more: loss,
-        }),
-        None if held >= MOST_CELLS => Some(CellStop::Cells { held: held as u64 }),
-        None if loss > MOST_TOTAL => Some(CellStop::Period {
-            key,
-            held: 0,
-            more: loss,
-        }),
-        _ => None,
-    }
-}
-
-/// The maximum of a key's cell, 0 where it has none.
-fn maximum_in(old: Option<Cell>) -> u64
-    ensures value { result ≡ maximum_in old }
-{
-    match old {
-        Some(cell) => cell.maximum,
-        None => 0,
-    }
-}
-
-/// The cell of a key after one more loss.
-fn raised(old: Option<Cell>, loss: u64) -> Cell
-    requires { total_in old + loss ≤ most_total }
-    ensures value { result ≡ raised old loss }
-{
-    match old {
-        Some(cell) => Cell {
-            total: cell.total + loss,
-            maximum: cell.maximum.max(loss),
-        },
-        None => Cell {
-            total: loss,
-            maximum: loss,
-        },
-    }
-}
-
-/// The number of cells where a key that had a cell, or none, has one.
-fn held_with(held: usize, old: Option<Cell>) -> usize
-    requires { old ≡ None → held < most_cells }
-    ensures value { result + one_of old ≡ held + 1 }
-{
-    match old {
-        Some(_) => held,
-        None => held + 1,
     }
 }
 

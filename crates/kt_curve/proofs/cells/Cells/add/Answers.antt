@@ -1,5 +1,5 @@
 -- A record's losses, in the rows of its occurrences.
-use Rattle.std.proofs.Common.{◌≡◌, ◌++◌, ◌∷◌, []}
+use Rattle.std.proofs.Common.{◌≡◌}
 use Rattle.std.specs.List.{flat_map}
 use Rattle.kt_curve.specs.Losses.{all_losses, pair_losses}
 use Rattle.kt_curve.specs.Standing.{Standing}

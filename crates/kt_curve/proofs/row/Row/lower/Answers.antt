@@ -1,6 +1,6 @@
 -- A loss taken from a cell.
 use Rattle.std.proofs.Common.{refl}
-use Rattle.kt_curve.proofs.RowCells.{lowers_out, lowers_down, lowers_none}
+use Rattle.kt_curve.proofs.RowEdits.{lowers_out, lowers_down, lowers_none}
 use Rattle.kt_curve.proofs.row.Row.lower.Goals as goal
 
 pub returns-in-Err : goal.returns-in-Err

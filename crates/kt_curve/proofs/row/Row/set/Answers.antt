@@ -1,6 +1,7 @@
 -- A cell in the place of another, or in its gap.
 use Rattle.std.proofs.Common.{refl}
-use Rattle.kt_curve.proofs.RowCells.{changes_set, changes_insert, cell_in_gap, on_err}
+use Rattle.kt_curve.proofs.RowEdits.{changes_set, changes_insert, on_err}
+use Rattle.kt_curve.proofs.RowCells.{cell_in_gap}
 use Rattle.kt_curve.proofs.row.Row.set.Goals as goal
 
 pub returns-in_err-insert-in-Err-clause-err : goal.returns-in_err-insert-in-Err-clause-err

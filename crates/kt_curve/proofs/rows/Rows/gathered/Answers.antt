@@ -1,11 +1,11 @@
 -- The entries of one row more.
-use Rattle.std.proofs.Common.{◌≡◌, arith, sym, ap, ◌∙◌, take_all, List, Vec, Global}
+use Rattle.std.proofs.Common.{ap, ◌∙◌, take_all, List, Vec, Global}
 use Rattle.kt_rec.specs.declared.perspective.CellKey.{CellKey}
 use Rattle.kt_curve.specs.declared.cell.Cell.{Cell}
 use Rattle.kt_curve.specs.declared.row.Row.{Row}
 use Rattle.kt_curve.specs.Grid.{set_entries}
 use Rattle.kt_curve.specs.Rows.{entries_of}
-use Rattle.kt_curve.proofs.SetEntries.{gathered_in, gathered_past}
+use Rattle.kt_curve.proofs.Gathered.{gathered_in, gathered_past}
 use Rattle.kt_curve.proofs.rows.Rows.gathered.Goals.{then-is_in_set+in_ok-append_row, else-is_in_set}
 use Rattle.kt_curve.proofs.rows.Rows.gathered.Goals as goal
 
@@ -17,7 +17,7 @@ loop-row-preserved c = elim c.if-is_in_set.branch [
   }
   | else-is_in_set w ↦ record {
     found = ap (λ (found : Vec (CellKey × Cell) Global). found.items) w.found-is
-    ∙ gathered_past c.args.perspective c.args.set c.deref-row-items.result.now c.loop-row.row-index c.row-item.result c.loop-row.found.items c.loop-row-test.true c.row-item.is w.if-is_in_set.ensures.value c.loop-row.invariant.found;
+        ∙ gathered_past c.args.perspective c.args.set c.deref-row-items.result.now c.loop-row.row-index c.row-item.result c.loop-row.found.items c.loop-row-test.true c.row-item.is w.if-is_in_set.ensures.value c.loop-row.invariant.found;
   }
 ]
 

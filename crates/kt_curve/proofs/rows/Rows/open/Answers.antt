@@ -1,10 +1,12 @@
 -- A row with no cells behind the others.
-use Rattle.std.proofs.Common.{◌≡◌, ◌++◌, ◌∷◌, [], refl, sym, ap, ◌∙◌, length, cond}
+use Rattle.std.proofs.Common.{◌≡◌, ap, ◌∙◌, length, cond}
 use Rattle.std.specs.Prelude.{Some}
 use Rattle.std.specs.Map.{lookup}
 use Rattle.kt_curve.specs.declared.row_key.IndexKey.{IndexKey}
 use Rattle.kt_curve.specs.Rows.{index_key, same_index}
-use Rattle.kt_curve.proofs.Tables.{table_push, entries_push, keys_push, keeps_push, place_last}
+use Rattle.kt_curve.proofs.RowBounds.{table_push}
+use Rattle.kt_curve.proofs.Tables.{entries_push}
+use Rattle.kt_curve.proofs.Places.{keys_push, keeps_push, place_last}
 use Rattle.kt_curve.proofs.rows.Rows.open.Goals as goal
 
 pub invariant_of-self-in-Ok : goal.invariant_of-self-in-Ok

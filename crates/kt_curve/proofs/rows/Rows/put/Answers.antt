@@ -1,15 +1,17 @@
 -- One loss put in: the entries stand for one more, and the rows stay within their bounds.
-use Rattle.std.proofs.Common.{◌≡◌, ◌≤◌, ◌<◌, ◌+◌, ℕ, [], ◌∷◌, ◌++◌, arith, inl, inr, refl, sym, ap, ◌∙◌, length, set}
-use Rattle.std.specs.Prelude.{true, Some}
+use Rattle.std.proofs.Common.{◌≡◌, ◌≤◌, ◌+◌, ℕ, [], ◌∷◌, ◌++◌, arith, inl, inr, refl, sym, ap, ◌∙◌, length, set}
+use Rattle.std.specs.Prelude.{Some}
 use Rattle.std.proofs.lemmas.List.Elements.{All-push}
 use Rattle.kt_curve.specs.declared.cell.Change.{Change}
 use Rattle.kt_curve.specs.declared.row.Row.{Row}
-use Rattle.kt_curve.specs.Amounts.{sample_of}
-use Rattle.kt_curve.specs.Standing.{most_total, total_in, maximum_in, raised, cell_at}
-use Rattle.kt_curve.specs.RowCells.{RowFits, CellFits, Changes, cell_in}
+use Rattle.kt_curve.specs.Standing.{most_total, maximum_in, cell_at}
+use Rattle.kt_curve.specs.RowCells.{CellFits, Changes, cell_in}
 use Rattle.kt_curve.specs.Rows.{entries_of}
 use Rattle.kt_curve.proofs.Steps.{put_step, put_stop, put_noted}
-use Rattle.kt_curve.proofs.Tables.{placed_within, table_row, found_bounds, raised_fits, same_read, cell_is, cells_changed, fits_changed, fits_same, keys_set, table_set, entries_same, row_same}
+use Rattle.kt_curve.proofs.Places.{placed_within, keys_set}
+use Rattle.kt_curve.proofs.RowBounds.{table_row, found_bounds, raised_fits, fits_changed, fits_same, table_set}
+use Rattle.kt_curve.proofs.Tables.{same_read, cell_is, cells_changed, entries_same}
+use Rattle.kt_curve.proofs.OneRow.{row_same}
 use Rattle.kt_curve.proofs.Puts.{count_put, held_put}
 use Rattle.kt_curve.proofs.rows.Rows.put.Goals as goal
 

@@ -8,9 +8,11 @@ pub returns-clause-part : goal.returns-clause-part
 returns-clause-part c =
     let found = rw (← c.self.view_is) at c.in_ok-found.ensures in
     let in_order = c.sort_unstable_by_key.ensures.sorted (λ entry. entry.0) (answers_always _ _ _ (λ f a r g called. search rules)) in
-    rw (← c.self.view_is) (sorted_part c.args.perspective c.args.set _ _ _ c.self.inside.rows.items _ _ _ c.self.invariant found c.sort_unstable_by_key.ensures.permutation in_order)
+    rw (← c.self.view_is) (sorted_part c.args.perspective c.args.set c.self.inside.periods c.self.inside.samples c.self.inside.held c.self.inside.rows.items c.self.inside.index.entries
+    c.in_ok-found.found.items c.sort_unstable_by_key.new.self.items c.self.invariant found c.sort_unstable_by_key.ensures.permutation in_order)
 
 pub returns-clause-found : goal.returns-clause-found
 returns-clause-found c =
     let found = rw (← c.self.view_is) at c.in_ok-found.ensures in
-    rw (← c.self.view_is) (sorted_found c.args.perspective c.args.set _ _ _ c.self.inside.rows.items _ _ _ c.self.invariant found c.sort_unstable_by_key.ensures.permutation)
+    rw (← c.self.view_is) (sorted_found c.args.perspective c.args.set c.self.inside.periods c.self.inside.samples c.self.inside.held c.self.inside.rows.items c.self.inside.index.entries
+    c.in_ok-found.found.items c.sort_unstable_by_key.new.self.items c.self.invariant found c.sort_unstable_by_key.ensures.permutation)

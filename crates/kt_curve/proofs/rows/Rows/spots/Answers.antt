@@ -1,5 +1,5 @@
 -- The row of one occurrence more.
-use Rattle.std.proofs.Common.{◌≡◌, ◌∙◌, arith, refl}
+use Rattle.std.proofs.Common.{◌∙◌, arith, refl}
 use Rattle.std.proofs.lemmas.List.Elements.{All-push, All-weaker}
 use Rattle.kt_rec.specs.declared.periods.Occurrence.{Occurrence}
 use Rattle.kt_curve.specs.declared.rows.Spot.{Spot}
@@ -19,6 +19,6 @@ loop-occurrence-preserved c =
       entries = c.in_ok-row.ensures.entries ∙ now.entries;
       spots = rw c.in_ok-push.ensures.items (All-push (IsSpot c.args.perspective c.args.set c.args.summary (row_keys c.row.new.self.rows)) _ _
           (All-weaker (IsSpot c.args.perspective c.args.set c.args.summary (row_keys c.loop-occurrence.self.rows)) (IsSpot c.args.perspective c.args.set c.args.summary (row_keys c.row.new.self.rows))
-              (λ (spot : Spot) there. c.in_ok-row.ensures.rows (row_for c.args.perspective c.args.set c.args.summary spot.period) spot.row there) _ now.spots) c.in_ok-row.ensures.ok);
+          (λ (spot : Spot) there. c.in_ok-row.ensures.rows (row_for c.args.perspective c.args.set c.args.summary spot.period) spot.row there) _ now.spots) c.in_ok-row.ensures.ok);
       periods = rw c.in_ok-push.ensures.items (periods_more c.args.at.now c.loop-occurrence.occurrence-index c.loop-occurrence.spots.items _ none (omega arith) now.periods refl);
     }

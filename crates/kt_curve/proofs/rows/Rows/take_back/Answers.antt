@@ -1,9 +1,7 @@
 -- One loss taken back: the entries stand for one less, and the rows stay within their bounds.
-use Rattle.std.proofs.Common.{◌≡◌, ◌≤◌, ◌<◌, ◌+◌, ◌-◌, arith, refl, sym, ap, ◌∙◌, length}
-use Rattle.std.specs.Prelude.{Some, None}
-use Rattle.kt_curve.specs.RowCells.{Lowers}
-use Rattle.kt_curve.specs.Rows.{row_of, place_of, row_keys, entries_of}
-use Rattle.kt_curve.proofs.Tables.{placed_within, table_row, table_set}
+use Rattle.std.proofs.Common.{arith, sym, ◌∙◌}
+use Rattle.kt_curve.proofs.Places.{placed_within}
+use Rattle.kt_curve.proofs.RowBounds.{table_row, table_set}
 use Rattle.kt_curve.proofs.Puts.{lowers_key, lowers_fits, row_length, lowers_stands, nowhere_stands}
 use Rattle.kt_curve.proofs.rows.Rows.take_back.Goals as goal
 

@@ -1,7 +1,7 @@
 -- The entries of the first cells are there.
 use Rattle.std.proofs.Common.{◌≡◌, ◌++◌, map, take}
 use Rattle.kt_curve.specs.Rows.{key_in}
-use Rattle.kt_curve.proofs.rows.append_row.Given as goal
+use Rattle.kt_curve.proofs.rows.gathering.append_row.Given as goal
 
 abbrev pub invariant-loop-one : goal.invariant-loop-one
 invariant-loop-one l = record {
