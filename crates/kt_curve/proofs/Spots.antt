@@ -1,6 +1,7 @@
 -- The rows of the occurrences of an event.
 use Rattle.std.proofs.Common.{◌≡◌, ℕ, ◌+◌, ◌<◌, List, [], ◌∷◌, ◌++◌, length, map, take, get_or, refl, sym, ap, ◌∙◌, cond}
-use Rattle.std.specs.List.{flat_map}
+use Rattle.std.specs.Prelude.{Bool, true, false, ◌||◌}
+use Rattle.std.specs.List.{flat_map, list_any}
 use Rattle.std.proofs.lemmas.List.{map-append, take_more}
 use Rattle.std.proofs.lemmas.List.Concat.{flat_map-cons}
 use Rattle.kt_rec.specs.declared.perspective.Perspective.{Perspective}
@@ -46,3 +47,14 @@ losses_same p s u [] spots at same = refl
 losses_same p s u (pair ∷ pairs) spots at same =
     flat_map-cons (spot_losses p s u spots) pair pairs ∙ ap (λ ls. ls ++ flat_map (spot_losses p s u spots) pairs) (ap (λ ls. cond (is_added pair) ls []) (pair_same p s u pair spots at same))
     ∙ ap (λ ls. pair_losses p s u at pair ++ ls) (losses_same p s u pairs spots at same) ∙ sym (flat_map-cons (pair_losses p s u at) pair pairs)
+
+-- pairs of which none is added up have no losses
+pub no_losses : (p : Perspective) (s u : ℕ) (at : List Occurrence) (pairs : List Pair) → list_any is_added pairs ≡ false → flat_map (pair_losses p s u at) pairs ≡ []
+no_losses p s u at [] none = refl
+no_losses p s u at (pair ∷ pairs) none =
+    let both = neither (is_added pair) (list_any is_added pairs) none in
+    flat_map-cons (pair_losses p s u at) pair pairs ∙ ap (λ b. cond b (map (loss_at p s u pair) at) [] ++ flat_map (pair_losses p s u at) pairs) both.0 ∙ no_losses p s u at pairs both.1
+  where
+    neither : (a b : Bool) → a || b ≡ false → (a ≡ false) × (b ≡ false)
+    neither true b same = cc
+    neither false b same = (refl, same)

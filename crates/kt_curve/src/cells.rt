@@ -6,7 +6,7 @@ ghost use Rattle.kt_curve.specs.Standing.{StandsFor};
 ghost use Rattle.kt_curve.specs.Grid.{IsPart, HasSet};
 ghost use Rattle.kt_curve.specs.Journal.{Adds};
 
-use crate::cell::{Cell, CellStop};
+use crate::cell::{Cell, CellStop, adds_any};
 use crate::rows::Rows;
 use kt_money::OutOfMemory;
 use kt_rec::{CellKey, Occurrence, Perspective};
@@ -61,16 +61,24 @@ impl Cells {
         ensures added { (history : List Added) → StandsFor history self.old → Adds history (record { perspective = perspective; set = set; entry = entry.now; at = at.now }) result self.new }
         ensures size { (self.new.periods ≡ self.old.periods) × (self.new.samples ≡ self.old.samples) }
     {
+        let pairs = entry.pairs.as_slice();
+        // A record without a loss opens no row.
+        if !adds_any(pairs) {
+            return Ok(());
+        }
         let spots = match self.rows.spots(perspective, set, entry.summary, at) {
             Ok(spots) => spots,
             Err(_) => return Err(CellStop::OutOfMemory),
         };
-        let mut journal = Vec::new(self.rows.alloc());
+        let mut journal = match Vec::with_capacity(self.rows.alloc(), pairs.len()) {
+            Ok(journal) => journal,
+            Err(_) => return Err(CellStop::OutOfMemory),
+        };
         match self.rows.add_pairs(
             perspective,
             set,
             entry.summary,
-            entry.pairs.as_slice(),
+            pairs,
             spots.as_slice(),
             &mut journal,
         ) {
