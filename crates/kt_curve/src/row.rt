@@ -19,6 +19,15 @@ pub(crate) struct Row {
     pub(crate) cells: Vec<(u32, Cell)>,
 }
 
+/// The cell of a sample, if there is one, and where it stands or would go.
+#[derive(Clone, Copy)]
+pub(crate) struct Found {
+    /// Where it stands, or where it would go.
+    pub(crate) place: Result<usize, usize>,
+    /// The cell.
+    pub(crate) cell: Option<Cell>,
+}
+
 /// Where the cell of a sample stands, or where it would go. It is looked for first at `next`, and then at the end.
 fn place(cells: &[(u32, Cell)], next: usize, sample: u32) -> Result<usize, usize>
     requires { IsRising cells.now }
@@ -56,26 +65,22 @@ impl Row {
         }
     }
 
-    /// Where the cell of a sample stands, or where it would go.
-    pub(crate) fn place(&self, sample: u32) -> Result<usize, usize>
+    /// The cell of a sample, and where it stands or would go.
+    pub(crate) fn find(&self, sample: u32) -> Found
         requires { IsRising self.now.cells.items }
-        ensures found { IfOk result (IsAt self.now.cells.items sample) }
-        ensures absent { IfErr result (IsGap self.now.cells.items sample) }
+        ensures found { IfOk result.place (IsAt self.now.cells.items sample) }
+        ensures absent { IfErr result.place (IsGap self.now.cells.items sample) }
+        ensures cell { result.cell ≡ cell_in self.now.cells.items sample }
     {
-        place(self.cells.as_slice(), self.next, sample)
-    }
-
-    /// The cell at the place of a sample.
-    pub(crate) fn cell(&self, place: Result<usize, usize>, sample: u32) -> Option<Cell>
-        requires rising { IsRising self.now.cells.items }
-        requires found { IfOk place (IsAt self.now.cells.items sample) }
-        requires absent { IfErr place (IsGap self.now.cells.items sample) }
-        ensures value { result ≡ cell_in self.now.cells.items sample }
-    {
-        let _sample = sample;
-        match place {
-            Ok(at) => Some(self.cells[at].1),
-            Err(_) => None,
+        match place(self.cells.as_slice(), self.next, sample) {
+            Ok(at) => Found {
+                place: Ok(at),
+                cell: Some(self.cells[at].1),
+            },
+            Err(at) => Found {
+                place: Err(at),
+                cell: None,
+            },
         }
     }
 
@@ -113,7 +118,7 @@ impl Row {
         requires { IsRising self.old.cells.items }
         ensures value { Lowers self.old self.new sample loss greatest result }
     {
-        let at = match self.place(sample) {
+        let at = match place(self.cells.as_slice(), self.next, sample) {
             Ok(at) => at,
             Err(_) => return 0,
         };

@@ -49,9 +49,8 @@ impl Rows {
         ensures noted { (losses : List KeyLoss) → Standing losses (entries_of self.old.rows) → Noted losses (record { key = key; loss = loss }) result journal.old.items journal.new.items }
     {
         let sample = sample_of(&key);
-        let here = &self.rows[row];
-        let place = here.place(sample);
-        let old = here.cell(place, sample);
+        let found = self.rows[row].find(sample);
+        let old = found.cell;
         match refusal(self.held, old, key, loss) {
             Some(stop) => return Err(stop),
             None => {}
@@ -66,7 +65,7 @@ impl Rows {
             Ok(()) => {}
             Err(_) => return Err(CellStop::OutOfMemory),
         }
-        match self.rows[row].set(place, sample, raised(old, loss)) {
+        match self.rows[row].set(found.place, sample, raised(old, loss)) {
             Ok(()) => {
                 self.held = held_with(self.held, old);
                 return Ok(());
