@@ -9,6 +9,7 @@ pub mod Places
 pub mod Tables
 pub mod RowBounds
 pub mod Puts
+pub mod TakenBack
 pub mod Spots
 pub mod Gathered
 pub mod Grids

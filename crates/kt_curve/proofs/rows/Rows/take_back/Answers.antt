@@ -2,7 +2,7 @@
 use Rattle.std.proofs.Common.{arith, sym, ◌∙◌}
 use Rattle.kt_curve.proofs.Places.{placed_within}
 use Rattle.kt_curve.proofs.RowBounds.{table_row, table_set}
-use Rattle.kt_curve.proofs.Puts.{lowers_key, lowers_fits, row_length, lowers_stands, nowhere_stands}
+use Rattle.kt_curve.proofs.TakenBack.{lowers_key, lowers_fits, row_length, lowers_stands, nowhere_stands}
 use Rattle.kt_curve.proofs.rows.Rows.take_back.Goals as goal
 
 pub index_mut-requires : goal.index_mut-requires
