@@ -127,14 +127,11 @@ impl Row {
             self.cells.remove(at);
             return 1;
         }
-        let total = cell.total - loss;
-        self.cells[at] = (
-            sample,
-            Cell {
-                total,
-                maximum: greatest,
-            },
-        );
+        let left = Cell {
+            total: cell.total - loss,
+            maximum: greatest,
+        };
+        self.cells[at] = (sample, left);
         0
     }
 }

@@ -8,26 +8,18 @@ use kt_rec::{CellKey, Perspective};
 /// Which row: what one summary of a perspective and set has in one period.
 #[derive(Clone, Copy, Debug)]
 pub(crate) struct RowKey {
-    /// Whose losses.
     pub(crate) perspective: Perspective,
-    /// The summary set.
     pub(crate) set: u32,
-    /// The summary.
     pub(crate) summary: u32,
-    /// The period.
     pub(crate) period: u32,
 }
 
-/// The key of a row in the index: its perspective as a number.
+/// The key of a row in the index: its perspective as a number, 0 for ground-up, 1 for insured and 2 for net losses.
 #[derive(Clone, Copy, Debug, PartialEq, Eq, Hash)]
 pub(crate) struct IndexKey {
-    /// 0 for ground-up, 1 for insured, and 2 for net losses.
     perspective: u32,
-    /// The summary set.
     set: u32,
-    /// The summary.
     summary: u32,
-    /// The period.
     period: u32,
 }
 
@@ -85,9 +77,5 @@ fn sidx_of(sample: u32) -> i32
     requires { sample ≤ 1000 }
     ensures value { result ≡ sidx_of sample }
 {
-    if sample == 0 {
-        -1
-    } else {
-        sample.cast_signed()
-    }
+    if sample == 0 { -1 } else { sample as i32 }
 }

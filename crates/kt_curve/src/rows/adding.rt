@@ -82,13 +82,10 @@ impl Rows {
         ensures size { (self.new.periods ≡ self.old.periods) × (self.new.samples ≡ self.old.samples) }
         ensures taken { (losses : List KeyLoss) → change.greatest ≡ maximum losses change.key → 1 ≤ change.loss → Standing (losses ++ (record { key = change.key; loss = change.loss }) ∷ []) (entries_of self.old.rows) → Standing losses (entries_of self.new.rows) }
     {
-        match self.find(row_of(change.key)) {
-            Some(row) => {
-                let sample = sample_of(&change.key);
-                let gone = self.rows[row].lower(sample, change.loss, change.greatest);
-                self.held -= gone;
-            }
-            None => {}
+        if let Some(row) = self.find(row_of(change.key)) {
+            let sample = sample_of(&change.key);
+            let gone = self.rows[row].lower(sample, change.loss, change.greatest);
+            self.held -= gone;
         }
     }
 

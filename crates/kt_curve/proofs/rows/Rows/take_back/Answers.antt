@@ -43,7 +43,7 @@ returns-in-Some-clause-taken c = λ losses greatest some stands.
     lowers_stands losses c.self.inside.rows.items c.args.change.key c.args.change.loss c.args.change.greatest c.in-Some.row c.sample_of-sample.result c.lower-gone.result c.index_mut.result.now c.lower-gone.new.self some greatest c.self.invariant.apart
     found within c.index_mut.ensures.value c.sample_of-sample.ensures.value c.lower-gone.ensures.value here
 
-pub returns-in-None-clause-taken : goal.returns-in-None-clause-taken
-returns-in-None-clause-taken c = λ losses greatest some stands.
-    let missing = rw c.row_of.ensures.value at (sym c.find.ensures.value ∙ c.in-None.is) in
+pub returns-in_default-clause-taken : goal.returns-in_default-clause-taken
+returns-in_default-clause-taken c = λ losses greatest some stands.
+    let missing = rw c.row_of.ensures.value at (sym c.in_default.ensures.value) in
     absurd (nowhere_stands losses c.args.self.now.rows c.args.change.key c.args.change.loss some missing stands)
