@@ -15,7 +15,7 @@ use Rattle.kt_cells.specs.declared.kind.Kind.TheVariants as kind
 use Rattle.kt_cells.proofs.RangeLemmas.{ReadsInRange}
 
 -- a value within bounds is the value
-within-ok : (least most value x : ℕ) → within least most value ≡ Ok x → (value ≡ x) × (x ≤ most)
+pub within-ok : (least most value x : ℕ) → within least most value ≡ Ok x → (value ≡ x) × (x ≤ most)
 within-ok least most value x good = (grind (arith, nat_tests), grind (arith, nat_tests))
 
 -- and so is a rule

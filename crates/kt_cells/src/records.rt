@@ -114,7 +114,6 @@ pub(crate) fn next_record<'a, const N: usize>(
 /// Hands the values of all records to a sink, where the first column has the number `first`. An error is
 /// the first bad field, by record and then by column; then a record that is cut by the end; or want of memory.
 #[inline(always)]
-#[tactic(auto, using(crate::proofs::RecordLemmas::records_in_range, crate::proofs::RecordLemmas::records_counted))]
 pub fn read_records<const N: usize, S: RowSink<N>>(
     kinds: &[Kind; N],
     first: u32,

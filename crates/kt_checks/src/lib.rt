@@ -14,6 +14,7 @@ mod values;
 
 pub use checks::{first_check, samples_check};
 pub use kt_keys::{CheckStop, Need, Refusal};
-pub use outputs::climbed;
+pub use outputs::{climbed, next_units};
 pub use places::first_misplaced;
 pub use samples::{SummaryCounts, summary_counts};
+pub use values::tivs;

@@ -33,6 +33,17 @@ struct Lookups {
     outputs: HashSet<(u32, u32)>,
 }
 
+/// The unit that each unit's losses at a level go to. The error is want of memory.
+pub fn next_units(
+    alloc: Global,
+    programme: &[FmProgramme],
+) -> Result<HashMap<(u32, u32), u32>, AllocError>
+    ensures value { IfOk result (λ next. (unit : ℕ × ℕ) → get same_pair next unit ≡ next_unit programme.now unit) }
+{
+    let steps = steps_of(alloc, programme)?;
+    pair_values(alloc, &steps)
+}
+
 /// The unit of the top level that an item's losses come to over so many levels.
 pub fn climbed(next: &HashMap<(u32, u32), u32>, levels: u32, item: u32) -> Option<u32>
     ensures value { result ≡ climbed (get same_pair next.now) levels 1 item }
@@ -107,6 +118,14 @@ fn first_owing(lookups: &Lookups, rule: u32, top: u32, rows: &[FmProgramme]) -> 
     None
 }
 
+/// What the outputs are for, with their layers.
+fn owners(alloc: Global, outputs: &[FmXref]) -> Result<HashSet<(u32, u32)>, AllocError>
+    ensures value { IfOk result (λ owners. (pair : ℕ × ℕ) → contains same_pair owners pair ≡ list_any (same_pair pair) (map (λ row. (row.agg_id, row.layer_id)) outputs.now)) }
+{
+    let layers = layers_of_outputs(alloc, outputs)?;
+    pair_set(alloc, &layers)
+}
+
 /// Reads what is looked up from the tables.
 fn lookups_of(
     alloc: Global,
@@ -119,15 +138,13 @@ fn lookups_of(
     ensures layers { IfOk result (λ lookups. (pair : ℕ × ℕ) → contains same_pair lookups.layers pair ≡ list_any (same_pair pair) (top_layers programme.now policytc.now)) }
     ensures outputs { IfOk result (λ lookups. (pair : ℕ × ℕ) → contains same_pair lookups.outputs pair ≡ list_any (same_pair pair) (map (λ row. (row.agg_id, row.layer_id)) outputs.now)) }
 {
-    let steps = steps_of(alloc, programme)?;
     let layers = top_layers(alloc, programme, policytc)?;
     let units = units_of(alloc, &layers)?;
-    let outputs = layers_of_outputs(alloc, outputs)?;
     Ok(Lookups {
-        next: pair_values(alloc, &steps)?,
         with_terms: set_of(alloc, &units)?,
         layers: pair_set(alloc, &layers)?,
-        outputs: pair_set(alloc, &outputs)?,
+        outputs: owners(alloc, outputs)?,
+        next: next_units(alloc, programme)?,
     })
 }
 

@@ -1,6 +1,7 @@
 //! The checks of values: of insured values, damage bins, probabilities and periods.
-ghost use Rattle.std.specs.Prelude.{◌≡◌, map, nat_eq, nat_lt, unwrap_or, IfOk};
+ghost use Rattle.std.specs.Prelude.{◌≡◌, ℕ, map, nat_eq, nat_lt, unwrap_or, IfOk};
 ghost use Rattle.std.specs.HashMap.{get};
+ghost use Rattle.std.specs.Map.{lookup};
 ghost use Rattle.kt_rec.specs.Rows.{rows_of};
 ghost use Rattle.kt_keys.specs.Keys.{same_pair};
 ghost use Rattle.kt_keys.specs.FirstRow.{first_where, above_at};
@@ -11,6 +12,14 @@ use kt_rec::{Coverage, DamageBin, Item, Occurrence, Table, Tables, Vulnerability
 use std::alloc::{AllocError, Global};
 use std::collections::HashMap;
 
+/// The insured value of each coverage in cents: that of its first row. The error is want of memory.
+pub fn tivs(alloc: Global, coverages: &[Coverage]) -> Result<HashMap<u32, u64>, AllocError>
+    ensures value { IfOk result (λ tivs. (coverage : ℕ) → get nat_eq tivs coverage ≡ lookup (nat_eq coverage) (map (λ row. (row.coverage_id, row.tiv)) coverages.now)) }
+{
+    let values = values_of(alloc, coverages)?;
+    first_values(alloc, &values)
+}
+
 /// The first item at which the insured values so far add to more than 10^14 cents.
 fn value_above(
     alloc: Global,
@@ -19,8 +28,7 @@ fn value_above(
 ) -> Result<Option<u64>, AllocError>
     ensures value { IfOk result (λ row. row ≡ value_above_at coverages.now items.now) }
 {
-    let pairs = values_of(alloc, coverages)?;
-    let values = first_values(alloc, &pairs)?;
+    let values = tivs(alloc, coverages)?;
     Ok(sum_above(&values, items))
 }
 

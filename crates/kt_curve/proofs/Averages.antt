@@ -12,7 +12,7 @@ use Rattle.kt_rec.specs.declared.periods.Occurrence.{Occurrence}
 use Rattle.kt_stream.specs.declared.entry.Pair.{Pair}
 use Rattle.kt_curve.specs.declared.cell.Cell.{Cell}
 use Rattle.kt_curve.specs.Losses.{KeyLoss, Added, total, all_losses, losses_of, pair_losses, is_added, has_cells, loss_at}
-use Rattle.kt_curve.specs.Grid.{summary_ids, summary_entries, set_entries, keys_for, mean_sidx, sample_sidx, moments_of, by_summary}
+use Rattle.kt_curve.specs.Grid.{summary_ids, summary_entries, HasSet, keys_for, mean_sidx, sample_sidx, moments_of, by_summary}
 use Rattle.kt_curve.specs.Standing.{Standing, cell_at, total_in}
 use Rattle.kt_curve.specs.Average.{aal_row, aal_rows, average_annual_loss_rows}
 use Rattle.kt_curve.proofs.Ids.{ids_of_standing, totals_of_standing, flat_map_each}
@@ -55,14 +55,13 @@ rows_same p s n samples u f g means others =
     ∙ ap (λ amounts. aal_row u 1 (moments_of n (map g (keys_for p s u mean_sidx n))) ++ aal_row u 2 (moments_of (n * samples) amounts)) others
 
 -- the rows of the entries of a set are those of the losses for which they stand
-pub rows_of_standing : (p : Perspective) (s n samples : ℕ) (history : List Added) (es part : List (CellKey × Cell)) → Standing (all_losses history) es → part ≡ set_entries p s es →
+pub rows_of_standing : (p : Perspective) (s n samples : ℕ) (history : List Added) (es part : List (CellKey × Cell)) → Standing (all_losses history) es → HasSet p s part es →
     by_summary p s (λ summary group. aal_rows p s n samples (λ key. total_in (cell_at group key)) summary) part ≡ average_annual_loss_rows p s n samples (all_losses history)
-rows_of_standing p s n samples history es part stands is =
-    ap (by_summary p s (λ summary group. aal_rows p s n samples (λ key. total_in (cell_at group key)) summary)) is
-    ∙ flat_map_each (λ summary. aal_rows p s n samples (λ key. total_in (cell_at (summary_entries summary (set_entries p s es)) key)) summary) (aal_rows p s n samples (total (all_losses history)))
-    (λ summary. rows_same p s n samples summary _ (total (all_losses history)) (totals_of_standing p s summary n (all_losses history) es mean_sidx stands) (totals_of_standing p s summary n (all_losses history) es (sample_sidx samples) stands))
-    (summary_ids p s (keys_of (set_entries p s es)))
-    ∙ ap (flat_map (aal_rows p s n samples (total (all_losses history)))) (ids_of_standing p s (all_losses history) es stands (losses_positive history))
+rows_of_standing p s n samples history es part stands has_set =
+    flat_map_each (λ summary. aal_rows p s n samples (λ key. total_in (cell_at (summary_entries summary part) key)) summary) (aal_rows p s n samples (total (all_losses history)))
+    (λ summary. rows_same p s n samples summary _ (total (all_losses history)) (totals_of_standing p s summary n (all_losses history) es part mean_sidx stands has_set) (totals_of_standing p s summary n (all_losses history) es part (sample_sidx samples) stands has_set))
+    (summary_ids p s (keys_of part))
+    ∙ ap (flat_map (aal_rows p s n samples (total (all_losses history)))) (ids_of_standing p s (all_losses history) es part stands has_set (losses_positive history))
 
 -- a text that was begun with no bytes
 pub fresh_text : (new fresh more all : List ℕ) → new ≡ fresh ++ more → fresh ≡ [] → more ≡ all → new ≡ all

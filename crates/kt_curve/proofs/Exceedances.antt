@@ -10,7 +10,7 @@ use Rattle.kt_curve.specs.declared.cell.Cell.{Cell}
 use Rattle.kt_curve.specs.declared.curve.Curve.{Curve}
 use Rattle.kt_curve.specs.declared.curve.Curve.TheVariants.{FullAep, FullOep, SampleAep, SampleOep, WheatAep, WheatOep, WheatmeanAep, WheatmeanOep}
 use Rattle.kt_curve.specs.Losses.{KeyLoss, Added, all_losses, total, maximum, key_of}
-use Rattle.kt_curve.specs.Grid.{summary_ids, summary_entries, set_entries, keys_for, mean_sidx, sample_sidx, by_summary}
+use Rattle.kt_curve.specs.Grid.{summary_ids, summary_entries, HasSet, keys_for, mean_sidx, sample_sidx, by_summary}
 use Rattle.kt_curve.specs.Standing.{Standing, cell_at, total_in, maximum_in}
 use Rattle.kt_curve.specs.Amounts.{amount_in}
 use Rattle.kt_curve.specs.Exceedance.{curve_rows, full_rows, wheat_rows, period_means, rank_means, ranked_loss, sidx_values, lec_rows, amount_of, takes_maxima, exceedance_rows}
@@ -64,23 +64,22 @@ rows_same WheatmeanAep p s n samples u returns f g same = ap (λ values. curve_r
 rows_same WheatmeanOep p s n samples u returns f g same = ap (λ values. curve_rows u 2 n values returns) (rank_same p s n samples u f g same)
 
 -- what the entries of a summary have at its keys are the amounts of the losses
-amounts_of_standing : (maxima : Bool) (p : Perspective) (s u : ℕ) (losses : List KeyLoss) (es : List (CellKey × Cell)) → Standing losses es →
-    Agree p s u (λ key. amount_in maxima (cell_at (summary_entries u (set_entries p s es)) key)) (amount_of maxima losses)
-amounts_of_standing true p s u losses es stands = λ x t.
-    ap maximum_in (cell_in_summary p s u x t es ∙ stands.cells (key_of p s u x t))
+amounts_of_standing : (maxima : Bool) (p : Perspective) (s u : ℕ) (losses : List KeyLoss) (es part : List (CellKey × Cell)) → Standing losses es → HasSet p s part es →
+    Agree p s u (λ key. amount_in maxima (cell_at (summary_entries u part) key)) (amount_of maxima losses)
+amounts_of_standing true p s u losses es part stands has_set = λ x t.
+    ap maximum_in (cell_in_summary p s u x t es part has_set ∙ stands.cells (key_of p s u x t))
     ∙ maximum_of_cell (total losses (key_of p s u x t)) (maximum losses (key_of p s u x t)) (λ none. omega (arith, none, maximum-le-total losses (key_of p s u x t)))
-amounts_of_standing false p s u losses es stands = λ x t.
-    ap total_in (cell_in_summary p s u x t es ∙ stands.cells (key_of p s u x t)) ∙ total_of_cell (total losses (key_of p s u x t)) (maximum losses (key_of p s u x t))
+amounts_of_standing false p s u losses es part stands has_set = λ x t.
+    ap total_in (cell_in_summary p s u x t es part has_set ∙ stands.cells (key_of p s u x t)) ∙ total_of_cell (total losses (key_of p s u x t)) (maximum losses (key_of p s u x t))
 
 -- the rows of the entries of a set are those of the losses for which they stand
-pub curves_of_standing : (curve : Curve) (p : Perspective) (s n samples : ℕ) (returns : List ℕ) (history : List Added) (es part : List (CellKey × Cell)) → Standing (all_losses history) es → part ≡ set_entries p s es →
+pub curves_of_standing : (curve : Curve) (p : Perspective) (s n samples : ℕ) (returns : List ℕ) (history : List Added) (es part : List (CellKey × Cell)) → Standing (all_losses history) es → HasSet p s part es →
     by_summary p s (λ summary group. lec_rows curve p s n samples (λ key. amount_in (takes_maxima curve) (cell_at group key)) returns summary) part ≡ exceedance_rows curve p s n samples (all_losses history) returns
-curves_of_standing curve p s n samples returns history es part stands is =
-    ap (by_summary p s (λ summary group. lec_rows curve p s n samples (λ key. amount_in (takes_maxima curve) (cell_at group key)) returns summary)) is
-    ∙ flat_map_each (λ summary. lec_rows curve p s n samples (λ key. amount_in (takes_maxima curve) (cell_at (summary_entries summary (set_entries p s es)) key)) returns summary) (lec_rows curve p s n samples (amount_of (takes_maxima curve) (all_losses history)) returns)
-    (λ summary. rows_same curve p s n samples summary returns _ (amount_of (takes_maxima curve) (all_losses history)) (amounts_of_standing (takes_maxima curve) p s summary (all_losses history) es stands))
-    (summary_ids p s (keys_of (set_entries p s es)))
-    ∙ ap (flat_map (lec_rows curve p s n samples (amount_of (takes_maxima curve) (all_losses history)) returns)) (ids_of_standing p s (all_losses history) es stands (losses_positive history))
+curves_of_standing curve p s n samples returns history es part stands has_set =
+    flat_map_each (λ summary. lec_rows curve p s n samples (λ key. amount_in (takes_maxima curve) (cell_at (summary_entries summary part) key)) returns summary) (lec_rows curve p s n samples (amount_of (takes_maxima curve) (all_losses history)) returns)
+    (λ summary. rows_same curve p s n samples summary returns _ (amount_of (takes_maxima curve) (all_losses history)) (amounts_of_standing (takes_maxima curve) p s summary (all_losses history) es part stands has_set))
+    (summary_ids p s (keys_of part))
+    ∙ ap (flat_map (lec_rows curve p s n samples (amount_of (takes_maxima curve) (all_losses history)) returns)) (ids_of_standing p s (all_losses history) es part stands has_set (losses_positive history))
 
 -- ---- the rows of each kind
 

@@ -6,7 +6,7 @@ use Rattle.std.specs.List.Sorted.{IsStrictlySortedBy}
 use Rattle.std.specs.Map.{keys_of}
 use Rattle.std.specs.declared.cmp.Ordering.TheVariants.{Less}
 use Rattle.std.proofs.lemmas.Bool.Decides.{nat_tests, Decides-eqb}
-use Rattle.std.proofs.lemmas.List.Elements.{All-head, All-tail, All-nil, All-cons, All-take, All-drop, All-weaker, All-filter, filter_passes}
+use Rattle.std.proofs.lemmas.List.Elements.{All-head, All-tail, All-nil, All-cons, All-take, All-drop, All-weaker}
 use Rattle.std.proofs.lemmas.Map.Keys.{sorted_head, sorted_tail}
 use Rattle.kt_rec.specs.declared.perspective.Perspective.{Perspective}
 use Rattle.kt_rec.specs.declared.perspective.Perspective.TheVariants.{Gul, Il, Ri}
@@ -14,8 +14,8 @@ use Rattle.kt_rec.specs.declared.perspective.CellKey.{CellKey}
 use Rattle.kt_rec.specs.contracts.perspective.CellKeyOrd.TheImpl as key_order
 use Rattle.kt_curve.specs.declared.cell.Cell.{Cell}
 use Rattle.kt_curve.specs.Losses.{key_of}
-use Rattle.kt_curve.specs.Grid.{set_entries, IsPart, IsGroup, in_set, same_perspective, by_summary, group_length}
-use Rattle.kt_curve.specs.Standing.{FitsCells, IsKept}
+use Rattle.kt_curve.specs.Grid.{IsPart, IsGroup, in_set, same_perspective, by_summary, group_length}
+use Rattle.kt_curve.specs.Standing.{FitsCells}
 use Rattle.kt_curve.proofs.Parts.{OwnKey, summary_order, by_summary_split}
 
 -- ---- parts of sorted entries
@@ -166,7 +166,7 @@ next_group p s n samples text e es is =
 -- ---- the entries of a set
 
 -- a key that is in a set
-in_set_is : (p : Perspective) (s : ℕ) (key : CellKey) → in_set p s key ≡ true → (key.perspective ≡ p) × (key.set ≡ s)
+pub in_set_is : (p : Perspective) (s : ℕ) (key : CellKey) → in_set p s key ≡ true → (key.perspective ≡ p) × (key.set ≡ s)
 in_set_is p s key same = both (same_perspective key.perspective p) (nat_eq key.set s) same (perspectives key.perspective p) ((Decides-eqb key.set s).0)
   where
     perspectives : (a b : Perspective) → same_perspective a b ≡ true → a ≡ b
@@ -183,19 +183,6 @@ in_set_is p s key same = both (same_perspective key.perspective p) (nat_eq key.s
     both : {A B : Type 0} (a b : Bool) → a && b ≡ true → (a ≡ true → A) → (b ≡ true → B) → A × B
     both true b e f g = (f refl, g e)
     both false b e f g = cc
-
--- the entries of a set among all
-pub part_of_kept : (p : Perspective) (s n samples : ℕ) (es : List (CellKey × Cell)) → IsKept n samples es → IsStrictlySortedBy key_order.ghosts.cmp (keys_of es) → IsPart p s n samples (set_entries p s es)
-part_of_kept p s n samples es kept sorted =
-    record {
-      some = kept.some;
-      few = kept.few;
-      some_samples = kept.some_samples;
-      few_samples = kept.few_samples;
-      fitting = All-filter (λ entry. in_set p s entry.0) (λ (e : CellKey × Cell). FitsCells n samples e.0 e.1) es kept.fitting;
-      sorted = sorted_filter (λ entry. in_set p s entry.0) es sorted;
-      own = All-weaker (λ (e : CellKey × Cell). in_set p s e.0 ≡ true) (OwnKey p s) (λ e same. in_set_is p s e.0 same) (set_entries p s es) (filter_passes (λ entry. in_set p s entry.0) es);
-    }
 
 -- what holds of an answer where more holds of it
 pub if_ok : {T E : Type 0} (P Q : T → Type 0) (r : Result T E) → ((x : T) → P x → Q x) → IfOk r P → IfOk r Q

@@ -16,7 +16,7 @@ use Rattle.kt_rec.specs.declared.perspective.CellKey.{CellKey}
 use Rattle.kt_rec.specs.contracts.perspective.CellKeyOrd.TheImpl as key_order
 use Rattle.kt_curve.specs.declared.cell.Cell.{Cell}
 use Rattle.kt_curve.specs.Losses.{KeyLoss, same_key, key_of, total, maximum}
-use Rattle.kt_curve.specs.Grid.{in_set, with_id, summary_ids, summary_entries, set_entries, keys_for}
+use Rattle.kt_curve.specs.Grid.{in_set, with_id, summary_ids, summary_entries, keys_for, HasSet}
 use Rattle.kt_curve.specs.Standing.{Standing, cell_at, cell_of, total_in}
 use Rattle.kt_curve.proofs.Keys.{same_exact, same_itself}
 use Rattle.kt_curve.proofs.Steps.{cell_some, total_of_cell}
@@ -147,16 +147,6 @@ same_ids p s xs ys same =
 
 -- ---- the keys of a set, among entries and among losses
 
--- entries outside a set do not matter
-any_in_set : (p : Perspective) (s i : ℕ) (es : List (CellKey × Cell)) → list_any (of_summary p s i) (keys_of (set_entries p s es)) ≡ list_any (of_summary p s i) (keys_of es)
-any_in_set p s i [] = refl
-any_in_set p s i (e ∷ es) = by_set (in_set p s e.0) refl (any_in_set p s i es)
-  where
-    by_set : (b : Bool) → in_set p s e.0 ≡ b → list_any (of_summary p s i) (keys_of (set_entries p s es)) ≡ list_any (of_summary p s i) (keys_of es) →
-        list_any (of_summary p s i) (keys_of (cond b (e ∷ set_entries p s es) (set_entries p s es))) ≡ of_summary p s i e.0 || list_any (of_summary p s i) (keys_of es)
-    by_set true is later = ap (λ c. of_summary p s i e.0 || c) later
-    by_set false is later = later ∙ ap (λ b. (b && nat_eq i e.0.summary) || list_any (of_summary p s i) (keys_of es)) (sym is)
-
 -- a key that is found passes a test of all keys
 found_passes : (t : CellKey → Bool) (k : CellKey) (c : Cell) (es : List (CellKey × Cell)) → t k ≡ true → cell_at es k ≡ Some c → list_any t (keys_of es) ≡ true
 found_passes t k c [] passes found = cc
@@ -232,31 +222,40 @@ any_summed t (one ∷ rest) positive any = by_test (t one.key) refl any (any_sum
         record { key = one.key; passes = is; some = omega (arith, split one.key, here, some) }
     by_test false is any later = let found = later any in record { key = found.key; passes = found.passes; some = omega (arith, split found.key, found.some) }
 
--- the ids of the entries of a set are those of the losses
-pub ids_of_standing : (p : Perspective) (s : ℕ) (losses : List KeyLoss) (es : List (CellKey × Cell)) → Standing losses es → All (λ one. 1 ≤ one.loss) losses →
-    summary_ids p s (keys_of (set_entries p s es)) ≡ summary_ids p s (map (λ one. one.key) losses)
-ids_of_standing p s losses es stands positive =
-    same_ids p s (keys_of (set_entries p s es)) (map (λ one. one.key) losses) (λ i. any_in_set p s i es ∙ bool_same (list_any (of_summary p s i) (keys_of es)) (list_any (of_summary p s i) (map (λ one. one.key) losses)) (there i) (back i))
+-- a key of a summary is of its set
+of_set : (p : Perspective) (s i : ℕ) (key : CellKey) → of_summary p s i key ≡ true → in_set p s key ≡ true
+of_set p s i key own = by_set (in_set p s key) own
   where
-    there : (i : ℕ) → list_any (of_summary p s i) (keys_of es) ≡ true → list_any (of_summary p s i) (map (λ one. one.key) losses) ≡ true
-    there i any =
-        let found = any_found (of_summary p s i) es any in
-        total_passes (of_summary p s i) found.key losses found.passes (λ none. found.there (stands.cells found.key ∙ ap (λ t. cell_of t (maximum losses found.key)) none))
+    by_set : (b : Bool) → b && nat_eq i key.summary ≡ true → b ≡ true
+    by_set true own = refl
+    by_set false own = cc
 
-    back : (i : ℕ) → list_any (of_summary p s i) (map (λ one. one.key) losses) ≡ true → list_any (of_summary p s i) (keys_of es) ≡ true
+-- the ids of the entries of a set are those of the losses
+pub ids_of_standing : (p : Perspective) (s : ℕ) (losses : List KeyLoss) (es part : List (CellKey × Cell)) → Standing losses es → HasSet p s part es → All (λ one. 1 ≤ one.loss) losses →
+    summary_ids p s (keys_of part) ≡ summary_ids p s (map (λ one. one.key) losses)
+ids_of_standing p s losses es part stands has_set positive =
+    same_ids p s (keys_of part) (map (λ one. one.key) losses) (λ i. bool_same (list_any (of_summary p s i) (keys_of part)) (list_any (of_summary p s i) (map (λ one. one.key) losses)) (there i) (back i))
+  where
+    there : (i : ℕ) → list_any (of_summary p s i) (keys_of part) ≡ true → list_any (of_summary p s i) (map (λ one. one.key) losses) ≡ true
+    there i any =
+        let found = any_found (of_summary p s i) part any in
+        total_passes (of_summary p s i) found.key losses found.passes
+        (λ none. found.there (has_set found.key (of_set p s i found.key found.passes) ∙ stands.cells found.key ∙ ap (λ t. cell_of t (maximum losses found.key)) none))
+
+    back : (i : ℕ) → list_any (of_summary p s i) (map (λ one. one.key) losses) ≡ true → list_any (of_summary p s i) (keys_of part) ≡ true
     back i any =
         let found = any_summed (of_summary p s i) losses positive any in
-        found_passes (of_summary p s i) found.key _ es found.passes (stands.cells found.key ∙ cell_some (total losses found.key) (maximum losses found.key) found.some)
+        found_passes (of_summary p s i) found.key _ part found.passes
+        (has_set found.key (of_set p s i found.key found.passes) ∙ stands.cells found.key ∙ cell_some (total losses found.key) (maximum losses found.key) found.some)
 
 -- ---- the amounts of a summary
 
 -- what the entries of a summary have at its keys is what all entries have
-pub cell_in_summary : (p : Perspective) (s u : ℕ) (x : ℤ) (t : ℕ) (es : List (CellKey × Cell)) → cell_at (summary_entries u (set_entries p s es)) (key_of p s u x t) ≡ cell_at es (key_of p s u x t)
-cell_in_summary p s u x t es =
+pub cell_in_summary : (p : Perspective) (s u : ℕ) (x : ℤ) (t : ℕ) (es part : List (CellKey × Cell)) → HasSet p s part es → cell_at (summary_entries u part) (key_of p s u x t) ≡ cell_at es (key_of p s u x t)
+cell_in_summary p s u x t es part has_set =
     lookup-filter-keys (is_at (key_order.ghosts.cmp (key_of p s u x t))) (λ key. nat_eq key.summary u) true
-    (λ k same. ap (λ key. nat_eq key.summary u) (sym (same_exact (key_of p s u x t) k same)) ∙ (Decides-eqb u u).1 refl) (set_entries p s es)
-    ∙ lookup-filter-keys (is_at (key_order.ghosts.cmp (key_of p s u x t))) (λ key. in_set p s key) true
-    (λ k same. ap (in_set p s) (sym (same_exact (key_of p s u x t) k same)) ∙ is_in_set p s (key_of p s u x t) refl refl) es
+    (λ k same. ap (λ key. nat_eq key.summary u) (sym (same_exact (key_of p s u x t) k same)) ∙ (Decides-eqb u u).1 refl) part
+    ∙ has_set (key_of p s u x t) (is_in_set p s (key_of p s u x t) refl refl)
 
 -- amounts that are the same at each key of a summary
 pub keys_for_same : (f g : CellKey → ℕ) (p : Perspective) (s u n : ℕ) (sidxs : List ℤ) → ((x : ℤ) (t : ℕ) → f (key_of p s u x t) ≡ g (key_of p s u x t)) → map f (keys_for p s u sidxs n) ≡ map g (keys_for p s u sidxs n)
@@ -271,11 +270,11 @@ keys_for_same f g p s u n (x ∷ sidxs) same =
     periods (t ∷ ts) = ap (λ y. y ∷ map f (map (key_of p s u x) ts)) (same x t) ∙ ap (λ ys. g (key_of p s u x t) ∷ ys) (periods ts)
 
 -- the totals of a summary's entries are those of the losses
-pub totals_of_standing : (p : Perspective) (s u n : ℕ) (losses : List KeyLoss) (es : List (CellKey × Cell)) (sidxs : List ℤ) → Standing losses es →
-    map (λ key. total_in (cell_at (summary_entries u (set_entries p s es)) key)) (keys_for p s u sidxs n) ≡ map (total losses) (keys_for p s u sidxs n)
-totals_of_standing p s u n losses es sidxs stands =
-    keys_for_same (λ key. total_in (cell_at (summary_entries u (set_entries p s es)) key)) (total losses) p s u n sidxs
-    (λ x t. ap total_in (cell_in_summary p s u x t es ∙ stands.cells (key_of p s u x t)) ∙ total_of_cell (total losses (key_of p s u x t)) (maximum losses (key_of p s u x t)))
+pub totals_of_standing : (p : Perspective) (s u n : ℕ) (losses : List KeyLoss) (es part : List (CellKey × Cell)) (sidxs : List ℤ) → Standing losses es → HasSet p s part es →
+    map (λ key. total_in (cell_at (summary_entries u part) key)) (keys_for p s u sidxs n) ≡ map (total losses) (keys_for p s u sidxs n)
+totals_of_standing p s u n losses es part sidxs stands has_set =
+    keys_for_same (λ key. total_in (cell_at (summary_entries u part) key)) (total losses) p s u n sidxs
+    (λ x t. ap total_in (cell_in_summary p s u x t es part has_set ∙ stands.cells (key_of p s u x t)) ∙ total_of_cell (total losses (key_of p s u x t)) (maximum losses (key_of p s u x t)))
 
 -- texts that are the same for each
 pub flat_map_each : {X : Type 0} (f g : X → List ℕ) → ((x : X) → f x ≡ g x) → (xs : List X) → flat_map f xs ≡ flat_map g xs

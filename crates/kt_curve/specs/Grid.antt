@@ -12,7 +12,7 @@ use Rattle.kt_rec.specs.contracts.perspective.CellKeyOrd.TheImpl as key_order
 use Rattle.std.specs.List.Sorted.{IsStrictlySortedBy}
 use Rattle.std.specs.Map.{keys_of}
 use Rattle.kt_curve.specs.Losses.{key_of}
-use Rattle.kt_curve.specs.Standing.{FitsCells}
+use Rattle.kt_curve.specs.Standing.{FitsCells, cell_at}
 
 -- the sidx of the mean alone
 abbrev pub mean_sidx : List ℤ
@@ -98,6 +98,10 @@ pub record IsPart (perspective : Perspective) (set periods samples : ℕ) (entri
   pub fitting : All (λ entry. FitsCells periods samples entry.0 entry.1) entries
   pub sorted : IsStrictlySortedBy key_order.ghosts.cmp (keys_of entries)
   pub own : All (λ entry. (entry.0.perspective ≡ perspective) × (entry.0.set ≡ set)) entries
+
+-- entries that have for each key of a perspective and set what others have
+abbrev pub HasSet : Perspective → ℕ → List (CellKey × Cell) → List (CellKey × Cell) → Type 0
+HasSet perspective set found entries = (key : CellKey) → in_set perspective set key ≡ true → cell_at found key ≡ cell_at entries key
 
 -- a text for each summary among the entries, by rising id
 abbrev pub by_summary : Perspective → ℕ → (ℕ → List (CellKey × Cell) → List ℕ) → List (CellKey × Cell) → List ℕ

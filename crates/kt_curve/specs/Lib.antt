@@ -1,5 +1,7 @@
 pub mod Losses
 pub mod Standing
+pub mod RowCells
+pub mod Rows
 pub mod Journal
 pub mod Grid
 pub mod Average

@@ -1,6 +1,6 @@
 -- What kept cells stand for: the totals and maxima of a list of losses.
 -- The rules: docs/CALCULATION.md, "Periods".
-use Rattle.std.specs.Prelude.{ℕ, zero, suc, ℤ, pos, negsuc, Bool, true, false, ◌&&◌, ◌+◌, ◌≤◌, ◌≡◌, List, [], ◌∷◌, ◌++◌, length, All, max, nat_eq, nat_lt, nat_le, if◌then◌else◌, Option, Some, None}
+use Rattle.std.specs.Prelude.{ℕ, zero, suc, ℤ, pos, negsuc, Bool, true, false, ◌&&◌, ◌+◌, ◌≤◌, ◌≡◌, List, [], ◌∷◌, ◌++◌, length, max, nat_eq, nat_lt, nat_le, if◌then◌else◌, Option, Some, None}
 use Rattle.std.specs.BTreeMap.{is_at}
 use Rattle.std.specs.Map.{lookup}
 use Rattle.kt_rec.specs.contracts.perspective.CellKeyOrd.TheImpl as key_order
@@ -67,8 +67,8 @@ pub record Standing (losses : List KeyLoss) (entries : List (CellKey × Cell)) :
   pub cells : (key : CellKey) → cell_at entries key ≡ cell_of (total losses key) (maximum losses key)
   pub count : length entries ≡ cell_count losses
 
--- cells, as contracts see them: the number of periods and of samples, and an entry for each key with a total above 0, by
--- rising key
+-- cells, as contracts see them: the number of periods and of samples, and an entry for each key with a total above 0, in an
+-- order that is not promised
 pub record KeptCells : Type 0 where
   pub periods : ℕ
   pub samples : ℕ
@@ -93,11 +93,3 @@ pub record FitsCells (periods samples : ℕ) (key : CellKey) (cell : Cell) : Typ
   pub some : 1 ≤ cell.total
   pub most : cell.total ≤ most_total
   pub greatest : cell.maximum ≤ most_total
-
--- what cells keep
-pub record IsKept (periods samples : ℕ) (entries : List (CellKey × Cell)) : Type 0 where
-  pub some : 1 ≤ periods
-  pub few : periods ≤ 100000
-  pub some_samples : 1 ≤ samples
-  pub few_samples : samples ≤ 1000
-  pub fitting : All (λ entry. FitsCells periods samples entry.0 entry.1) entries

@@ -1,6 +1,7 @@
 //! The total and the maximum of one key, and why cells refuse a record.
 //! The rules: docs/CALCULATION.md, "Periods".
 ghost use Rattle.std.specs.Prelude.{◌≡◌};
+ghost use Rattle.std.specs.List.{list_any};
 ghost use Rattle.kt_curve.specs.Losses.{has_cells, is_added};
 
 use kt_rec::CellKey;
@@ -52,6 +53,13 @@ pub(crate) fn is_added(pair: &Pair) -> bool
     ensures { result ≡ is_added pair.now }
 {
     has_cells(pair) && 0 < pair.loss
+}
+
+/// Whether the loss of one of the pairs is added up.
+pub(crate) fn adds_any(pairs: &[Pair]) -> bool
+    ensures { result ≡ list_any is_added pairs.now }
+{
+    pairs.iter().any(is_added)
 }
 
 /// Whether the sidx of a pair has cells.

@@ -11,6 +11,10 @@ mod group;
 mod kinds;
 mod lec;
 mod mean_curves;
+mod raising;
+mod row;
+mod row_key;
+mod rows;
 mod samples;
 mod shared;
 

@@ -10,7 +10,7 @@ use crate::cell::Cell;
 use kt_rec::CellKey;
 
 /// The sample of a key, and 0 for the mean.
-fn sample_of(key: &CellKey) -> u32
+pub(crate) fn sample_of(key: &CellKey) -> u32
     ensures value { result ≡ sample_of key.now.sidx }
 {
     if key.sidx < 0 { 0 } else { key.sidx as u32 }

@@ -19,7 +19,7 @@ pub struct SummaryUnit {
     pub set: u32,
     /// The summary.
     pub summary: u32,
-    /// The item or unit.
+    /// The item, output or unit.
     pub unit: u32,
 }
 

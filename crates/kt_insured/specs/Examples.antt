@@ -1,50 +1,22 @@
 -- The worked examples of docs/FINANCIAL_MODULE.md on insured losses, by computing.
 use Rattle.std.specs.Prelude.{◌≡◌, ℕ, pos, List, [], ◌∷◌}
 use Rattle.std.proofs.Common.{refl}
-use Rattle.kt_rec.specs.declared.financial.FmPolicytc.{FmPolicytc}
-use Rattle.kt_rec.specs.declared.financial.FmProfile.{FmProfile}
-use Rattle.kt_rec.specs.declared.financial.FmProgramme.{FmProgramme}
 use Rattle.kt_rec.specs.declared.financial.FmXref.{FmXref}
-use Rattle.kt_rec.specs.Rows.{Rows, no_rows}
 use Rattle.kt_rules.specs.Rules.{rule_of}
 use Rattle.kt_stream.specs.declared.entry.LossRecord.{LossRecord}
 use Rattle.kt_tree.specs.Programme.{tree_of}
+use Rattle.kt_tree.specs.ExampleRows.{two_layers, given_back}
 use Rattle.kt_shares.specs.Shares.{taken_loss}
 use Rattle.kt_insured.specs.Insured.{insured_records, layer_sums}
 use Rattle.kt_insured.specs.Whole.{outputs_loss, records_loss}
 
--- rows
-abbrev step : ℕ → ℕ → ℕ → FmProgramme
-step from level to = record { from_agg_id = from; level_id = level; to_agg_id = to }
-
-abbrev terms : ℕ → ℕ → ℕ → ℕ → FmPolicytc
-terms layer level agg id = record { layer_id = layer; level_id = level; agg_id = agg; policytc_id = id }
-
-abbrev deductible : ℕ → ℕ → FmProfile
-deductible id cents = record { policytc_id = id; calcrule_id = 12; deductible1 = cents; deductible2 = 0; deductible3 = 0; attachment1 = 0; limit1 = 0; share1 = 0; share2 = 0; share3 = 0 }
-
-abbrev layer_terms : ℕ → ℕ → ℕ → ℕ → FmProfile
-layer_terms id attachment limit share = record { policytc_id = id; calcrule_id = 2; deductible1 = 0; deductible2 = 0; deductible3 = 0; attachment1 = attachment; limit1 = limit; share1 = share; share2 = 0; share3 = 0 }
-
-abbrev maximum : ℕ → ℕ → FmProfile
-maximum id cents = record { policytc_id = id; calcrule_id = 10; deductible1 = 0; deductible2 = 0; deductible3 = cents; attachment1 = 0; limit1 = 0; share1 = 0; share2 = 0; share3 = 0 }
-
+-- a row of the outputs
 abbrev output : ℕ → ℕ → ℕ → FmXref
 output id agg layer = record { output_id = id; agg_id = agg; layer_id = layer }
 
 -- a sample of an id in event 4
 sampled : ℕ → ℕ → LossRecord
 sampled id loss = record { event = 4; id = id; pairs = record { sidx = pos 1; loss = loss } ∷ [] }
-
--- items 1 and 2, each with a deductible of 10.00 of its own, and above them two layers: 50.00, and a half of 50.00 above 50.00
-two_layers : Rows
-two_layers = record no_rows {
-  financial = record {
-    programme = step 1 1 1 ∷ step 2 1 2 ∷ step 1 2 1 ∷ step 2 2 1 ∷ [];
-    policytc = terms 1 1 1 1 ∷ terms 1 1 2 1 ∷ terms 1 2 1 2 ∷ terms 2 2 1 3 ∷ [];
-    profile = deductible 1 1000 ∷ layer_terms 2 0 5000 1000000 ∷ layer_terms 3 5000 5000 500000 ∷ [];
-  } ∷ [];
-}
 
 -- losses of 100.00 and 50.00 in sample 1
 losses : List LossRecord
@@ -87,15 +59,6 @@ unfolding two_layers losses item_outputs sampled rule_of
 first_records = refl
 
 -- deductibles of 60.00 take both losses of 50.00, and a maximum of 30.00 gives 70.00 back, by the ground-up losses
-given_back : Rows
-given_back = record no_rows {
-  financial = record {
-    programme = step 1 1 1 ∷ step 2 1 2 ∷ step 1 2 1 ∷ step 2 2 1 ∷ [];
-    policytc = terms 1 1 1 1 ∷ terms 1 1 2 1 ∷ terms 1 2 1 2 ∷ [];
-    profile = deductible 1 6000 ∷ maximum 2 3000 ∷ [];
-  } ∷ [];
-}
-
 back : insured_records (tree_of given_back 0) 2 1 item_outputs (sampled 1 5000 ∷ sampled 2 5000 ∷ []) ≡ sampled 1 3500 ∷ sampled 3 3500 ∷ []
 unfolding given_back item_outputs sampled rule_of
 back = refl

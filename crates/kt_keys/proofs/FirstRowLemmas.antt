@@ -1,8 +1,11 @@
 -- Steps of a search for the first row, and the totals of keys.
-use Rattle.std.proofs.Common.{◌≡◌, ℕ, ◌+◌, ◌<◌, ◌≤◌, Bool, true, false, cond, List, [], ◌∷◌, ◌++◌, length, get_or, take, drop, refl, ap, sym, ◌∙◌, Option, Some, add-zero, unwrap_or}
-use Rattle.std.proofs.lemmas.List.{take_more, drop_more}
+use Rattle.std.proofs.Common.{◌≡◌, ℕ, ◌+◌, ◌<◌, ◌≤◌, Bool, true, false, cond, List, [], ◌∷◌, ◌++◌, length, get_or, take, drop, refl, ap, sym, ◌∙◌, arith, Option, Some, add-zero, unwrap_or}
+use Rattle.std.proofs.lemmas.List.{take_more, drop_more, length-take-le}
 use Rattle.std.specs.Cmp.{IsEquivalence}
+use Rattle.std.proofs.lemmas.List.Folds.{list_any_more}
 use Rattle.std.proofs.lemmas.List.Sums.{sum_by_more}
+use Rattle.std.specs.List.{list_any}
+use Rattle.std.specs.Prelude.{not, ◌||◌}
 use Rattle.kt_keys.specs.TotalLaws.{total_of-same}
 use Rattle.kt_keys.specs.FirstRow.{first_refused_after, total_of}
 
@@ -13,6 +16,19 @@ refused-step refuses rows i row all h is passes known =
     ∙ (sym (ap (λ b. cond b (Some (length (take i rows) + 1)) (first_refused_after refuses (take i rows ++ row ∷ []) (drop (i + 1) rows))) passes)
     ∙ (sym (ap (λ rest. first_refused_after refuses (take i rows) rest) (drop_more rows i row h ∙ ap (λ x. x ∷ drop (i + 1) rows) (sym is)))
     ∙ known))
+
+-- a row that is refused ends the search
+pub refused-here : {A : Type 0} (refuses : List A → A → Bool) (rows : List A) (i : ℕ) (row : A) (all : Option ℕ) → i < length rows → row ≡ get_or rows i row → refuses (take i rows) row ≡ true → first_refused_after refuses (take i rows) (drop i rows) ≡ all → Some (i + 1) ≡ all
+refused-here refuses rows i row all h is refused known =
+    ap (λ n. Some (n + 1)) (sym (length-take-le i rows (omega arith)))
+    ∙ (sym (ap (λ b. cond b (Some (length (take i rows) + 1)) (first_refused_after refuses (take i rows ++ row ∷ []) (drop (i + 1) rows))) refused)
+    ∙ (sym (ap (λ rest. first_refused_after refuses (take i rows) rest) (drop_more rows i row h ∙ ap (λ x. x ∷ drop (i + 1) rows) (sym is)))
+    ∙ known))
+
+-- what is denied is false
+pub not_true : (b : Bool) → not b ≡ true → b ≡ false
+not_true true h = absurd (cc)
+not_true false h = refl
 
 -- a choice of two numbers is within what both are within
 pub cond-le : (b : Bool) (x y most : ℕ) → x ≤ most → y ≤ most → cond b x y ≤ most
@@ -25,6 +41,21 @@ value-step true new old value total grown put was is = ap (λ o. unwrap_or o 0) 
 value-step false new old value total grown put was is = ap (λ o. unwrap_or o 0) put ∙ was
 
 module _ {K : Type 0} {same : K → K → Bool} (laws : IsEquivalence same) where
+  -- whether a key is among the rows after one more row
+  pub member-step : (keys : List K) (i : ℕ) (key other : K) (new old : Bool) → i < length keys → key ≡ get_or keys i key → new ≡ cond (same key other) true old → old ≡ list_any (same other) (take i keys) → new ≡ list_any (same other) (take (i + 1) keys)
+  member-step keys i key other new old h is put was =
+      put ∙ (ap (λ b. cond b true old) (laws.symm key other)
+      ∙ (ap (λ b. cond (same other key) true b) was
+      ∙ (by (list_any (same other) (take i keys)) (same other key)
+      ∙ (ap (λ x. list_any (same other) (take i keys) || same other x) is
+      ∙ sym (list_any_more (same other) keys i key h)))))
+    where
+      by : (before last : Bool) → cond last true before ≡ (before || last)
+      by true true = refl
+      by true false = refl
+      by false true = refl
+      by false false = refl
+
   -- the totals after one more part: that of its key has grown
   pub total_of-step : (parts : List (K × ℕ)) (i : ℕ) (part : K × ℕ) → i < length parts → part ≡ get_or parts i part → (key : K) → total_of same (take (i + 1) parts) key ≡ cond (same part.0 key) (total_of same (take i parts) part.0 + part.1) (total_of same (take i parts) key)
   total_of-step parts i part h is key =

@@ -1,29 +1,16 @@
 -- The worked examples of docs/FINANCIAL_MODULE.md on reinsurance, by computing.
 use Rattle.std.specs.Prelude.{◌≡◌, ℕ, pos, negsuc, [], ◌∷◌}
 use Rattle.std.proofs.Common.{refl}
-use Rattle.kt_rec.specs.declared.financial.FmPolicytc.{FmPolicytc}
 use Rattle.kt_rec.specs.declared.financial.FmProfile.{FmProfile}
-use Rattle.kt_rec.specs.declared.financial.FmProgramme.{FmProgramme}
 use Rattle.kt_rec.specs.Rows.{Rows, no_rows}
 use Rattle.kt_rules.specs.Rules.{rule_of}
 use Rattle.kt_stream.specs.declared.entry.LossRecord.{LossRecord}
 use Rattle.kt_tree.specs.Programme.{tree_of}
+use Rattle.kt_tree.specs.ExampleRows.{layer_terms, step, terms, two_layers}
 use Rattle.kt_shares.specs.Shares.{part_of_id, taken_loss}
 use Rattle.kt_ri.specs.Reinsurance.{ceded_records, net_records, reinsured}
 
--- rows
-abbrev step : ℕ → ℕ → ℕ → FmProgramme
-step from level to = record { from_agg_id = from; level_id = level; to_agg_id = to }
-
-abbrev terms : ℕ → ℕ → ℕ → ℕ → FmPolicytc
-terms layer level agg id = record { layer_id = layer; level_id = level; agg_id = agg; policytc_id = id }
-
-abbrev deductible : ℕ → ℕ → FmProfile
-deductible id cents = record { policytc_id = id; calcrule_id = 12; deductible1 = cents; deductible2 = 0; deductible3 = 0; attachment1 = 0; limit1 = 0; share1 = 0; share2 = 0; share3 = 0 }
-
-abbrev layer_terms : ℕ → ℕ → ℕ → ℕ → FmProfile
-layer_terms id attachment limit share = record { policytc_id = id; calcrule_id = 2; deductible1 = 0; deductible2 = 0; deductible3 = 0; attachment1 = attachment; limit1 = limit; share1 = share; share2 = 0; share3 = 0 }
-
+-- a quota share
 abbrev quota : ℕ → ℕ → FmProfile
 quota id share = record { policytc_id = id; calcrule_id = 25; deductible1 = 0; deductible2 = 0; deductible3 = 0; attachment1 = 0; limit1 = 0; share1 = share; share2 = 1000000; share3 = 1000000 }
 
@@ -70,16 +57,6 @@ unfolding two_quotas sampled with_deviation rule_of
 passes = refl
 
 -- ---- two items under two layers
-
--- items 1 and 2, each with a deductible of 10.00 of its own, and above them two layers: 50.00, and a half of 50.00 above 50.00
-two_layers : Rows
-two_layers = record no_rows {
-  financial = record {
-    programme = step 1 1 1 ∷ step 2 1 2 ∷ step 1 2 1 ∷ step 2 2 1 ∷ [];
-    policytc = terms 1 1 1 1 ∷ terms 1 1 2 1 ∷ terms 1 2 1 2 ∷ terms 2 2 1 3 ∷ [];
-    profile = deductible 1 1000 ∷ layer_terms 2 0 5000 1000000 ∷ layer_terms 3 5000 5000 500000 ∷ [];
-  } ∷ [];
-}
 
 -- of 100.00 and 50.00 the items cede 34.61 + 17.30 and 15.39 + 7.70
 ceded : ceded_records (tree_of two_layers 0) 2 1 (sampled 1 10000 ∷ sampled 2 5000 ∷ []) ≡ sampled 1 5191 ∷ sampled 2 2309 ∷ []

@@ -3,3 +3,4 @@ pub mod FootprintLemmas
 pub mod FileLemmas
 pub mod CanonLemmas
 pub mod SinkLemmas
+pub mod LoadingLemmas

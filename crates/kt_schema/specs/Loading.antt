@@ -12,6 +12,7 @@ use Rattle.kt_rec.specs.declared.tables.Tables.{Tables}
 use Rattle.kt_cells.specs.Header.{header_extra}
 use Rattle.kt_cells.specs.Reading.{and_then}
 use Rattle.kt_cells.specs.declared.stop.TableStop.{TableStop}
+use Rattle.kt_cells.specs.declared.kind.Kind.{Kind}
 use Rattle.kt_cells.specs.Ranges.{AreRows}
 use Rattle.kt_schema.specs.Conversions.{bin_rows}
 use Rattle.kt_schema.specs.Tables.{kinds_of}
@@ -30,10 +31,14 @@ rows_loaded t bytes = and_then (loaded_rows t bytes) (λ file. Ok file.1)
 abbrev pub RowsInRange : Table → List (List ℕ) → Type 0
 RowsInRange t rows = AreRows (kinds_of t) rows
 
+-- rows that were read, and are in the ranges of their kinds
+pub record HasRowsOf (read : Result (ℕ × List (List ℕ)) TableStop) (kinds : List Kind) (rows : List (List ℕ)) : Type 0 where
+  pub loaded : and_then read (λ file. Ok file.1) ≡ Ok rows
+  pub in_range : AreRows kinds rows
+
 -- the rows of the file of a table, which are in range
-pub record HasRows (t : Table) (bytes : List ℕ) (rows : List (List ℕ)) : Type 0 where
-  pub loaded : rows_loaded t bytes ≡ Ok rows
-  pub in_range : RowsInRange t rows
+abbrev pub HasRows : Table → List ℕ → List (List ℕ) → Type 0
+HasRows t bytes rows = HasRowsOf (loaded_rows t bytes) (kinds_of t) rows
 
 -- of the financial tables of one stage, what was before gives way to what is after, and nothing else changes
 pub record ChangesStage (stage : ℕ) (old new : Tables) (before after : FinancialTables) : Type 0 where

@@ -4,7 +4,7 @@ ghost use Rattle.kt_cells.specs.Ranges.{AreRows, FitsBytes};
 ghost use Rattle.kt_cells.specs.Stops.{Tells};
 ghost use Rattle.kt_rec.specs.TableNames.{IsTableId};
 ghost use Rattle.kt_schema.specs.Conversions.{body_rows};
-ghost use Rattle.kt_schema.specs.Loading.{Loads, loaded_rows};
+ghost use Rattle.kt_schema.specs.Loading.{HasRowsOf, Loads, loaded_rows};
 
 use crate::schema::*;
 use crate::to_csv::{MOST_PERIODS, extra, read_file};
@@ -31,29 +31,54 @@ impl<const N: usize, T: TypedRow<N>> RowSink<N> for TypedRows<T> {
     }
 }
 
-// The rows of a file, and the number that its header ends with. Each table has its own copy of this code, in which its kinds
-// are known.
+// Reads the rows of a file into a list, in place of what is there; the number that its header ends with. Each table has its
+// own copy of this code, in which its kinds are known.
 #[inline(always)]
-fn read_list<const N: usize, T: TypedRow<N>>(
+fn load_counted<const N: usize, T: TypedRow<N>>(
     alloc: Global,
     schema: &Schema<N>,
     least: u32,
     most: u32,
     bytes: &[u8],
-) -> Result<(u32, Vec<T>), TableStop>
+    list: &mut Vec<T>,
+) -> Result<u32, TableStop>
     requires size { N < 100 }
     requires some { 0 < N }
     requires kinds { T.kinds ≡ schema.now.kinds }
-    ensures value { IfOk result (λ file. body_rows schema.now.header schema.now.number least most 1 schema.now.kinds bytes.now ≡ Ok (file.0, map T.values file.1.items)) }
-    ensures ranges { IfOk result (λ file. AreRows schema.now.kinds (map T.values file.1.items)) }
+    ensures value { IfOk result (λ extra. body_rows schema.now.header schema.now.number least most 1 schema.now.kinds bytes.now ≡ Ok (extra, map T.values list.new.items)) }
+    ensures ranges { OnOk result (AreRows schema.now.kinds (map T.values list.new.items)) }
 
     ensures refused { IfErr result (Tells (body_rows schema.now.header schema.now.number least most 1 schema.now.kinds bytes.now)) }
+
+    ensures unchanged { OnErr result (list.new ≡ list.old) }
 {
-    let mut list: TypedRows<T> = TypedRows {
+    let mut rows: TypedRows<T> = TypedRows {
         rows: Vec::new(alloc),
     };
-    let extra = read_file(schema, least, most, bytes, &mut list)?;
-    Ok((extra, list.rows))
+    let extra = read_file(schema, least, most, bytes, &mut rows)?;
+    *list = rows.rows;
+    Ok(extra)
+}
+
+// Reads the rows of a file whose header ends with 0, or that has none, into a list, in place of what is there.
+#[inline(always)]
+fn load<const N: usize, T: TypedRow<N>>(
+    alloc: Global,
+    schema: &Schema<N>,
+    bytes: &[u8],
+    list: &mut Vec<T>,
+) -> Result<(), TableStop>
+    requires size { N < 100 }
+    requires some { 0 < N }
+    requires kinds { T.kinds ≡ schema.now.kinds }
+    ensures ok { OnOk result (HasRowsOf (body_rows schema.now.header schema.now.number 0 0 1 schema.now.kinds bytes.now) schema.now.kinds (map T.values list.new.items)) }
+
+    ensures refused { IfErr result (Tells (body_rows schema.now.header schema.now.number 0 0 1 schema.now.kinds bytes.now)) }
+
+    ensures unchanged { OnErr result (list.new ≡ list.old) }
+{
+    let _extra = load_counted(alloc, schema, 0, 0, bytes, list)?;
+    Ok(())
 }
 
 /// Puts the rows of a file into the list of its table, in place of what is there, and for `occurrence` the number of
@@ -76,49 +101,45 @@ pub fn read_bin(
     ensures unchanged { OnErr result (into.new ≡ into.old) }
 {
     let stage = id.stage as usize;
-    macro_rules! load {
-        ($schema:expr, $list:ident) => {{
-            let (_extra, list) = read_list(alloc, &$schema, 0, 0, bytes)?;
-            into.$list = list;
-            Ok(())
-        }};
-    }
     match id.table {
         Table::Footprint => {
             let _extra = extra(true, FOOTPRINT.number, 0, 0, bytes)?;
             Ok(())
         }
-        Table::FmProgramme => {
-            let (_extra, list) = read_list(alloc, &FM_PROGRAMME, 0, 0, bytes)?;
-            into.financial[stage].programme = list;
-            Ok(())
-        }
-        Table::FmPolicytc => {
-            let (_extra, list) = read_list(alloc, &FM_POLICYTC, 0, 0, bytes)?;
-            into.financial[stage].policytc = list;
-            Ok(())
-        }
-        Table::FmProfile => {
-            let (_extra, list) = read_list(alloc, &FM_PROFILE, 0, 0, bytes)?;
-            into.financial[stage].profile = list;
-            Ok(())
-        }
         Table::Occurrence => {
-            let (periods, list) = read_list(alloc, &OCCURRENCE, 1, MOST_PERIODS, bytes)?;
-            into.occurrence = list;
+            let list = &mut into.occurrence;
+            let periods = load_counted(alloc, &OCCURRENCE, 1, MOST_PERIODS, bytes, list)?;
             into.periods = periods;
             Ok(())
         }
-        Table::Events => load!(EVENTS, events),
-        Table::Items => load!(ITEMS, items),
-        Table::Coverages => load!(COVERAGES, coverages),
-        Table::FootprintIdx => load!(FOOTPRINT_IDX, footprint_idx),
-        Table::Vulnerability => load!(VULNERABILITY, vulnerability),
-        Table::DamageBinDict => load!(DAMAGE_BIN_DICT, damage_bin_dict),
-        Table::Random => load!(RANDOM, random),
-        Table::FmXref => load!(FM_XREF, fm_xref),
-        Table::GulSummaryXref => load!(GUL_SUMMARY_XREF, gulsummaryxref),
-        Table::FmSummaryXref => load!(FM_SUMMARY_XREF, fmsummaryxref),
-        Table::ReturnPeriods => load!(RETURN_PERIODS, returnperiods),
+        Table::FmProgramme => load(
+            alloc,
+            &FM_PROGRAMME,
+            bytes,
+            &mut into.financial[stage].programme,
+        ),
+        Table::FmPolicytc => load(
+            alloc,
+            &FM_POLICYTC,
+            bytes,
+            &mut into.financial[stage].policytc,
+        ),
+        Table::FmProfile => load(
+            alloc,
+            &FM_PROFILE,
+            bytes,
+            &mut into.financial[stage].profile,
+        ),
+        Table::Events => load(alloc, &EVENTS, bytes, &mut into.events),
+        Table::Items => load(alloc, &ITEMS, bytes, &mut into.items),
+        Table::Coverages => load(alloc, &COVERAGES, bytes, &mut into.coverages),
+        Table::FootprintIdx => load(alloc, &FOOTPRINT_IDX, bytes, &mut into.footprint_idx),
+        Table::Vulnerability => load(alloc, &VULNERABILITY, bytes, &mut into.vulnerability),
+        Table::DamageBinDict => load(alloc, &DAMAGE_BIN_DICT, bytes, &mut into.damage_bin_dict),
+        Table::Random => load(alloc, &RANDOM, bytes, &mut into.random),
+        Table::FmXref => load(alloc, &FM_XREF, bytes, &mut into.fm_xref),
+        Table::GulSummaryXref => load(alloc, &GUL_SUMMARY_XREF, bytes, &mut into.gulsummaryxref),
+        Table::FmSummaryXref => load(alloc, &FM_SUMMARY_XREF, bytes, &mut into.fmsummaryxref),
+        Table::ReturnPeriods => load(alloc, &RETURN_PERIODS, bytes, &mut into.returnperiods),
     }
 }

@@ -29,19 +29,21 @@ fn push_header_part(
     }
 }
 
-// The file of a table whose records have all its columns.
+// The file of a table whose records have all its columns. Each table has its own copy of this code, in which its kinds are known.
 #[inline(always)]
 fn converted<const N: usize>(
     alloc: Global,
+    table: Table,
     schema: &Schema<N>,
     extra: u32,
     text: &[u8],
 ) -> Result<Bytes, TableStop>
     requires size { N < 100 }
     requires some { 0 < N }
-    ensures value { IfOk result (λ bytes. and_then (text_rows false schema.now.kinds text.now) (λ rows. Ok (file_bytes schema.now.header schema.now.number extra schema.now.kinds rows)) ≡ Ok bytes) }
+    requires schema { csv_bin table extra text.now ≡ and_then (text_rows false schema.now.kinds text.now) (λ rows. Ok (file_bytes schema.now.header schema.now.number extra schema.now.kinds rows)) }
+    ensures value { IfOk result (λ bytes. csv_bin table extra text.now ≡ Ok bytes) }
 
-    ensures refused { IfErr result (Tells (and_then (text_rows false schema.now.kinds text.now) (λ rows. Ok (file_bytes schema.now.header schema.now.number extra schema.now.kinds rows)))) }
+    ensures refused { IfErr result (Tells (csv_bin table extra text.now)) }
 {
     let mut out = Bytes::new(alloc);
     push_header_part(&mut out, schema.header, schema.number, extra)?;
@@ -62,7 +64,7 @@ pub fn csv_to_bin(alloc: Global, table: Table, extra: u32, text: &[u8]) -> Resul
 {
     macro_rules! convert {
         ($schema:expr) => {
-            converted(alloc, &$schema, extra, text)
+            converted(alloc, table, &$schema, extra, text)
         };
     }
     match table {

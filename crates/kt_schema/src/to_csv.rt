@@ -1,10 +1,9 @@
 //! From the file of a table to its text.
-ghost use Rattle.std.specs.Prelude.{◌≡◌, ◌≢◌, ◌<◌, ◌++◌, ℕ, List, [], IfOk, IfErr, OnOk, Ok};
-ghost use Rattle.kt_cells.specs.Reading.{and_then};
-ghost use Rattle.kt_cells.specs.Lines.{rows_lines};
+ghost use Rattle.std.specs.Prelude.{◌≡◌, ◌≢◌, ◌<◌, ℕ, List, [], IfOk, IfErr, OnOk, Ok};
 ghost use Rattle.kt_cells.specs.Ranges.{IsRow, FitsBytes};
 ghost use Rattle.kt_cells.specs.Stops.{Tells};
-ghost use Rattle.kt_schema.specs.Conversions.{HandsFile, bin_csv, body_rows, extra_of, body_of};
+ghost use Rattle.kt_schema.specs.Conversions.{HandsFile, bin_csv, bin_rows, body_rows, extra_of, body_of};
+ghost use Rattle.kt_schema.specs.Tables.{kinds_of};
 
 use crate::headings::heading;
 use crate::schema::*;
@@ -66,25 +65,27 @@ pub(crate) fn read_file<const N: usize, S: RowSink<N>>(
     Ok(extra)
 }
 
-// The text of a file, under a heading. Each table has its own copy of this code, in which its kinds are known.
+// The text of the file of a table, under its heading. Each table has its own copy of this code, in which its kinds are known.
 #[inline(always)]
 fn converted<const N: usize>(
     alloc: Global,
+    table: Table,
     schema: &Schema<N>,
     least: u32,
     most: u32,
-    heading: &[u8],
     bytes: &[u8],
 ) -> Result<Bytes, TableStop>
     requires size { N < 100 }
     requires some { 0 < N }
-    ensures value { IfOk result (λ text. and_then (body_rows schema.now.header schema.now.number least most 1 schema.now.kinds bytes.now) (λ file. Ok (heading.now ++ rows_lines schema.now.kinds file.1)) ≡ Ok text) }
+    requires kinds { kinds_of table ≡ schema.now.kinds }
+    requires rows { bin_rows table bytes.now ≡ body_rows schema.now.header schema.now.number least most 1 schema.now.kinds bytes.now }
+    ensures value { IfOk result (λ text. bin_csv table bytes.now ≡ Ok text) }
 
-    ensures refused { IfErr result (Tells (and_then (body_rows schema.now.header schema.now.number least most 1 schema.now.kinds bytes.now) (λ file. Ok (heading.now ++ rows_lines schema.now.kinds file.1)))) }
+    ensures refused { IfErr result (Tells (bin_csv table bytes.now)) }
 {
     let _extra = extra(schema.header, schema.number, least, most, bytes)?;
     let mut out = Bytes::new(alloc);
-    out.append(heading)?;
+    out.append(heading(table))?;
     push_record_lines(&mut out, None, &schema.kinds, 1, body(schema.header, bytes))?;
     Ok(out)
 }
@@ -99,15 +100,14 @@ pub fn bin_to_csv(alloc: Global, table: Table, bytes: &[u8]) -> Result<Bytes, Ta
 
     ensures refused { IfErr result (Tells (bin_csv table bytes.now)) }
 {
-    let heading = heading(table);
     macro_rules! convert {
         ($schema:expr) => {
-            converted(alloc, &$schema, 0, 0, heading, bytes)
+            converted(alloc, table, &$schema, 0, 0, bytes)
         };
     }
     match table {
         Table::Footprint => unreachable!(),
-        Table::Occurrence => converted(alloc, &OCCURRENCE, 1, MOST_PERIODS, heading, bytes),
+        Table::Occurrence => converted(alloc, table, &OCCURRENCE, 1, MOST_PERIODS, bytes),
         Table::Events => convert!(EVENTS),
         Table::Items => convert!(ITEMS),
         Table::Coverages => convert!(COVERAGES),

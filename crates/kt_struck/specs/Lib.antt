@@ -2,3 +2,4 @@ pub mod Struck
 pub mod Members
 pub mod StruckLaws
 pub mod StruckSharing
+pub mod Examples

@@ -18,7 +18,6 @@ use Rattle.kt_index.specs.Exposure.{unit_covers, summary_covers, IsTotalOf}
 use Rattle.kt_tables.specs.Portfolio.{PortfolioRows, IsPortfolio}
 use Rattle.kt_tables.specs.PortfolioLaws.{coverages_distinct, keys_kept, coverages_within}
 use Rattle.kt_tables.specs.Kept.{AreAddable}
-use Rattle.kt_tables.specs.declared.summaries.SummaryRow.{SummaryRow}
 use Rattle.kt_rec.specs.Rows.{Rows}
 use Rattle.kt_tables.specs.Lookups.{item_has, is_unit, lies_beneath, unit_has}
 
@@ -53,11 +52,9 @@ unit-not_zero rows rule unit coverage other = by (nat_eq rule 0) refl
     by false e = refl
 
 -- the items of a summary cover what its items have
-pub item-covers : (rows : List SummaryRow) (items : List Item) (units : List SummaryUnit) (pairs : List UnitCoverage) → units ≡ map (λ row. record { set = row.set; summary = row.summary; unit = row.id }) rows → pairs ≡ map (λ row. record { unit = row.item_id; coverage = row.coverage_id }) items → (key : ℕ × ℕ) (coverage : ℕ) → summary_covers units pairs key coverage ≡ list_any (λ row. nat_eq row.set key.0 && nat_eq row.summary key.1 && item_has items row.id coverage) rows
-item-covers rows items units pairs units_are pairs_are key coverage =
-    ap (λ (list : List SummaryUnit). summary_covers list pairs key coverage) units_are
-    ∙ (list_any-map (λ row. record { set = row.set; summary = row.summary; unit = row.id }) (λ row. nat_eq row.set key.0 && nat_eq row.summary key.1 && unit_covers pairs row.unit coverage) rows
-    ∙ ap (λ test. list_any test rows) (fun_ext (λ (row : SummaryRow). ap (λ b. nat_eq row.set key.0 && nat_eq row.summary key.1 && b) (ap (λ (list : List UnitCoverage). unit_covers list row.id coverage) pairs_are ∙ item-unit items row.id coverage))))
+pub item-covers : (rows : List SummaryUnit) (items : List Item) (pairs : List UnitCoverage) → pairs ≡ map (λ row. record { unit = row.item_id; coverage = row.coverage_id }) items → (key : ℕ × ℕ) (coverage : ℕ) → summary_covers rows pairs key coverage ≡ list_any (λ row. nat_eq row.set key.0 && nat_eq row.summary key.1 && item_has items row.unit coverage) rows
+item-covers rows items pairs pairs_are key coverage =
+    ap (λ test. list_any test rows) (fun_ext (λ (row : SummaryUnit). ap (λ b. nat_eq row.set key.0 && nat_eq row.summary key.1 && b) (ap (λ (list : List UnitCoverage). unit_covers list row.unit coverage) pairs_are ∙ item-unit items row.unit coverage)))
 
 -- what the items beneath the units of the top level have
 pub beneath-covers : (climb : ℕ → Option ℕ) (items : List Item) (unit coverage : ℕ) → unit_covers (filter_map (λ row. option_map (λ found. record { unit = found; coverage = row.coverage_id }) (climb row.item_id)) items) unit coverage ≡ list_any (λ row. is_unit unit (climb row.item_id) && nat_eq row.coverage_id coverage) items
@@ -97,14 +94,14 @@ module _ (has : ℕ → ℕ → Bool) (coverage : ℕ) where
       by false e rest none = rest
 
   -- the units of the summaries of outputs cover what the outputs have
-  pub output-covers : (rows : List SummaryRow) (outputs : List FmXref) (pairs : List UnitCoverage) (units : ℕ → Option ℕ) (key : ℕ × ℕ) → IsDistinct nat_eq (map (λ row. row.output_id) outputs) → ((id : ℕ) → units id ≡ lookup (nat_eq id) (map (λ row. (row.output_id, row.agg_id)) outputs)) → ((unit : ℕ) → unit_covers pairs unit coverage ≡ has unit coverage) → summary_covers (filter_map (λ row. option_map (λ unit. record { set = row.set; summary = row.summary; unit = unit }) (units row.id)) rows) pairs key coverage ≡ list_any (λ row. nat_eq row.set key.0 && nat_eq row.summary key.1 && list_any (λ x. nat_eq x.output_id row.id && has x.agg_id coverage) outputs) rows
+  pub output-covers : (rows : List SummaryUnit) (outputs : List FmXref) (pairs : List UnitCoverage) (units : ℕ → Option ℕ) (key : ℕ × ℕ) → IsDistinct nat_eq (map (λ row. row.output_id) outputs) → ((id : ℕ) → units id ≡ lookup (nat_eq id) (map (λ row. (row.output_id, row.agg_id)) outputs)) → ((unit : ℕ) → unit_covers pairs unit coverage ≡ has unit coverage) → summary_covers (filter_map (λ row. option_map (λ unit. record { set = row.set; summary = row.summary; unit = unit }) (units row.unit)) rows) pairs key coverage ≡ list_any (λ row. nat_eq row.set key.0 && nat_eq row.summary key.1 && list_any (λ x. nat_eq x.output_id row.unit && has x.agg_id coverage) outputs) rows
   output-covers [] outputs pairs units key apart known agree = refl
-  output-covers (row ∷ rows) outputs pairs units key apart known agree = by (units row.id) (xref-has outputs row.id apart ∙ ap (found_has has coverage) (sym (known row.id))) (output-covers rows outputs pairs units key apart known agree)
+  output-covers (row ∷ rows) outputs pairs units key apart known agree = by (units row.unit) (xref-has outputs row.unit apart ∙ ap (found_has has coverage) (sym (known row.unit))) (output-covers rows outputs pairs units key apart known agree)
     where
       skip : (a b : Bool) → b ≡ (a && false || b)
       skip true b = refl
       skip false b = refl
 
-      by : (found : Option ℕ) → list_any (λ x. nat_eq x.output_id row.id && has x.agg_id coverage) outputs ≡ found_has has coverage found → summary_covers (filter_map (λ x. option_map (λ unit. record { set = x.set; summary = x.summary; unit = unit }) (units x.id)) rows) pairs key coverage ≡ list_any (λ x. nat_eq x.set key.0 && nat_eq x.summary key.1 && list_any (λ y. nat_eq y.output_id x.id && has y.agg_id coverage) outputs) rows → summary_covers (cons_option (option_map (λ unit. record { set = row.set; summary = row.summary; unit = unit }) found) (filter_map (λ x. option_map (λ unit. record { set = x.set; summary = x.summary; unit = unit }) (units x.id)) rows)) pairs key coverage ≡ ((nat_eq row.set key.0 && nat_eq row.summary key.1 && list_any (λ y. nat_eq y.output_id row.id && has y.agg_id coverage) outputs) || list_any (λ x. nat_eq x.set key.0 && nat_eq x.summary key.1 && list_any (λ y. nat_eq y.output_id x.id && has y.agg_id coverage) outputs) rows)
-      by None here rest = rest ∙ (skip (nat_eq row.set key.0 && nat_eq row.summary key.1) _ ∙ ap (λ b. (nat_eq row.set key.0 && nat_eq row.summary key.1 && b) || list_any (λ x. nat_eq x.set key.0 && nat_eq x.summary key.1 && list_any (λ y. nat_eq y.output_id x.id && has y.agg_id coverage) outputs) rows) (sym here))
-      by (Some unit) here rest = ap (λ b. (nat_eq row.set key.0 && nat_eq row.summary key.1 && b) || summary_covers (filter_map (λ x. option_map (λ u. record { set = x.set; summary = x.summary; unit = u }) (units x.id)) rows) pairs key coverage) (agree unit ∙ sym here) ∙ ap (λ b. (nat_eq row.set key.0 && nat_eq row.summary key.1 && list_any (λ y. nat_eq y.output_id row.id && has y.agg_id coverage) outputs) || b) rest
+      by : (found : Option ℕ) → list_any (λ x. nat_eq x.output_id row.unit && has x.agg_id coverage) outputs ≡ found_has has coverage found → summary_covers (filter_map (λ x. option_map (λ unit. record { set = x.set; summary = x.summary; unit = unit }) (units x.unit)) rows) pairs key coverage ≡ list_any (λ x. nat_eq x.set key.0 && nat_eq x.summary key.1 && list_any (λ y. nat_eq y.output_id x.unit && has y.agg_id coverage) outputs) rows → summary_covers (cons_option (option_map (λ unit. record { set = row.set; summary = row.summary; unit = unit }) found) (filter_map (λ x. option_map (λ unit. record { set = x.set; summary = x.summary; unit = unit }) (units x.unit)) rows)) pairs key coverage ≡ ((nat_eq row.set key.0 && nat_eq row.summary key.1 && list_any (λ y. nat_eq y.output_id row.unit && has y.agg_id coverage) outputs) || list_any (λ x. nat_eq x.set key.0 && nat_eq x.summary key.1 && list_any (λ y. nat_eq y.output_id x.unit && has y.agg_id coverage) outputs) rows)
+      by None here rest = rest ∙ (skip (nat_eq row.set key.0 && nat_eq row.summary key.1) _ ∙ ap (λ b. (nat_eq row.set key.0 && nat_eq row.summary key.1 && b) || list_any (λ x. nat_eq x.set key.0 && nat_eq x.summary key.1 && list_any (λ y. nat_eq y.output_id x.unit && has y.agg_id coverage) outputs) rows) (sym here))
+      by (Some unit) here rest = ap (λ b. (nat_eq row.set key.0 && nat_eq row.summary key.1 && b) || summary_covers (filter_map (λ x. option_map (λ u. record { set = x.set; summary = x.summary; unit = u }) (units x.unit)) rows) pairs key coverage) (agree unit ∙ sym here) ∙ ap (λ b. (nat_eq row.set key.0 && nat_eq row.summary key.1 && list_any (λ y. nat_eq y.output_id row.unit && has y.agg_id coverage) outputs) || b) rest

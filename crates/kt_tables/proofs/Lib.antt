@@ -3,3 +3,4 @@ pub mod ItemLemmas
 pub mod ExposureLemmas
 pub mod DamageLemmas
 pub mod SummaryLemmas
+pub mod KeptLemmas

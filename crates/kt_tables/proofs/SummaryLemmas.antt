@@ -19,7 +19,7 @@ use Rattle.kt_rec.specs.declared.perspective.Perspective.TheVariants.{Gul, Il, R
 use Rattle.kt_checks.specs.TableChecks.{tiv_of}
 use Rattle.kt_checks.specs.Worth.{covered_le}
 use Rattle.kt_tables.specs.SummaryLaws.{KeepsSummaries}
-use Rattle.kt_tables.specs.declared.summaries.SummaryRow.{SummaryRow}
+use Rattle.kt_index.specs.declared.exposure.SummaryUnit.{SummaryUnit}
 use Rattle.kt_tables.specs.Lookups.{exposure_of, id_has, is_unit, item_has, item_summary_rows, lies_beneath, output_has, output_summary_rows, summary_has, summary_in, summary_rows, top_unit, unit_has}
 use Rattle.kt_tables.specs.Portfolio.{PortfolioRows, IsPortfolio}
 use Rattle.kt_tables.specs.PortfolioLaws.{coverages_distinct, sizes_kept}
@@ -27,24 +27,24 @@ use Rattle.kt_tables.specs.PortfolioLaws.{coverages_distinct, sizes_kept}
 -- ---- summaries are ids
 
 -- a summary that is found is that of a row
-found_each : (rows : List SummaryRow) → AllByRecursion (λ row. IsId row.summary) rows → (key : ℕ × ℕ) (summary : ℕ) → lookup (same_pair key) (map (λ row. ((row.id, row.set), row.summary)) rows) ≡ Some summary → IsId summary
+found_each : (rows : List SummaryUnit) → AllByRecursion (λ row. IsId row.summary) rows → (key : ℕ × ℕ) (summary : ℕ) → lookup (same_pair key) (map (λ row. ((row.unit, row.set), row.summary)) rows) ≡ Some summary → IsId summary
 found_each [] each key summary is = cc
-found_each (row ∷ rows) each key summary is = by (same_pair key (row.id, row.set)) (found_each rows each.1 key summary) is
+found_each (row ∷ rows) each key summary is = by (same_pair key (row.unit, row.set)) (found_each rows each.1 key summary) is
   where
     same : (a b : ℕ) → Some a ≡ Some b → a ≡ b
     same a b is = cc
 
-    by : (b : Bool) → (lookup (same_pair key) (map (λ row. ((row.id, row.set), row.summary)) rows) ≡ Some summary → IsId summary) → cond b (Some row.summary) (lookup (same_pair key) (map (λ row. ((row.id, row.set), row.summary)) rows)) ≡ Some summary → IsId summary
+    by : (b : Bool) → (lookup (same_pair key) (map (λ row. ((row.unit, row.set), row.summary)) rows) ≡ Some summary → IsId summary) → cond b (Some row.summary) (lookup (same_pair key) (map (λ row. ((row.unit, row.set), row.summary)) rows)) ≡ Some summary → IsId summary
     by true later is = subst IsId (same row.summary summary is) each.0
     by false later is = later is
 
 -- the summaries of items
-item_each : (rows : List GulSummaryXref) → AllByRecursion IsGulSummaryXref rows → AllByRecursion (λ (row : SummaryRow). IsId row.summary) (map (λ row. record { id = row.item_id; set = row.summaryset_id; summary = row.summary_id }) rows)
+item_each : (rows : List GulSummaryXref) → AllByRecursion IsGulSummaryXref rows → AllByRecursion (λ (row : SummaryUnit). IsId row.summary) (map (λ row. record { set = row.summaryset_id; summary = row.summary_id; unit = row.item_id }) rows)
 item_each [] each = tt
 item_each (row ∷ rows) each = (each.0.summary_id, item_each rows each.1)
 
 -- the summaries of outputs
-output_each : (rows : List FmSummaryXref) → AllByRecursion IsFmSummaryXref rows → AllByRecursion (λ (row : SummaryRow). IsId row.summary) (map (λ row. record { id = row.output_id; set = row.summaryset_id; summary = row.summary_id }) rows)
+output_each : (rows : List FmSummaryXref) → AllByRecursion IsFmSummaryXref rows → AllByRecursion (λ (row : SummaryUnit). IsId row.summary) (map (λ row. record { set = row.summaryset_id; summary = row.summary_id; unit = row.output_id }) rows)
 output_each [] each = tt
 output_each (row ∷ rows) each = (each.0.summary_id, output_each rows each.1)
 
@@ -90,7 +90,7 @@ id_covered Ri rows rule id coverage has = output_covered rows rule id coverage h
 -- what a summary is of, some item is of
 summary_covered : (perspective : Perspective) (rows : Rows) (rule set summary coverage : ℕ) → summary_has perspective rows rule set summary coverage ≡ true → is_covered rows.items coverage ≡ true
 summary_covered perspective rows rule set summary coverage has =
-    any_gives (λ row. nat_eq row.set set && nat_eq row.summary summary && id_has perspective rows rule row.id coverage) (is_covered rows.items coverage) (λ row both. id_covered perspective rows rule row.id coverage ((and_parts _ _ both).1)) (summary_rows perspective rows) has
+    any_gives (λ row. nat_eq row.set set && nat_eq row.summary summary && id_has perspective rows rule row.unit coverage) (is_covered rows.items coverage) (λ row both. id_covered perspective rows rule row.unit coverage ((and_parts _ _ both).1)) (summary_rows perspective rows) has
 
 -- ---- sums of values
 

@@ -11,7 +11,7 @@ use Rattle.kt_checks.specs.TableChecks.{tiv_of}
 use Rattle.kt_index.specs.Exposure.{AddsUp}
 use Rattle.kt_checks.specs.SummaryChecks.{CountsSummaries}
 use Rattle.kt_tables.specs.Portfolio.{IsPortfolio}
-use Rattle.kt_tables.specs.Lookups.{event_ids, item_pairs, return_periods_of, item_summary_rows, output_summary_rows, place_in, exposure_of}
+use Rattle.kt_tables.specs.Lookups.{event_ids, item_pairs, return_periods_of, summary_rows, place_in, exposure_of}
 use Rattle.kt_tables.specs.declared.place.Place.{Place}
 use Rattle.kt_rec.specs.declared.perspective.Perspective.{Perspective}
 use Rattle.kt_rec.specs.declared.perspective.Perspective.TheVariants.{Gul, Il}
@@ -19,14 +19,18 @@ use Rattle.kt_rec.specs.declared.exposure.Item.{Item}
 use Rattle.kt_rec.specs.declared.hazard.Vulnerability.{Vulnerability}
 use Rattle.kt_rec.specs.declared.periods.Occurrence.{Occurrence}
 use Rattle.kt_tables.specs.declared.lookups.Lookups.{Lookups}
-use Rattle.kt_tables.specs.declared.summaries.SummaryRow.{SummaryRow}
+use Rattle.kt_tables.specs.declared.lookups.hazard.HazardLookups.{HazardLookups}
+use Rattle.kt_tables.specs.declared.lookups.items.ItemLookups.{ItemLookups}
+use Rattle.kt_tables.specs.declared.lookups.periods.PeriodLookups.{PeriodLookups}
+use Rattle.kt_tables.specs.declared.lookups.summaries.SummaryLookups.{SummaryLookups}
+use Rattle.kt_index.specs.declared.exposure.SummaryUnit.{SummaryUnit}
 use Rattle.kt_tables.specs.declared.summaries.Summaries.{Summaries}
 use Rattle.kt_tables.specs.declared.portfolio.Portfolio.TheInside.{Inside}
 
 -- the summaries of ids are those of their rows
-pub record AreSummaries (rows : List SummaryRow) (summaries : Summaries) : Type 0 where
+pub record AreSummaries (rows : List SummaryUnit) (summaries : Summaries) : Type 0 where
   pub sets : (set : ℕ) → contains nat_eq summaries.sets set ≡ list_any (nat_eq set) (map (λ row. row.set) rows)
-  pub by_id : (key : ℕ × ℕ) → get same_pair summaries.by_id key ≡ lookup (same_pair key) (map (λ row. ((row.id, row.set), row.summary)) rows)
+  pub by_id : (key : ℕ × ℕ) → get same_pair summaries.by_id key ≡ lookup (same_pair key) (map (λ row. ((row.unit, row.set), row.summary)) rows)
 
 -- the insured value of each coverage is that of its first row
 abbrev pub AreTivs : {S : Type 0} → Rows → HashMap ℕ ℕ S → Type 0
@@ -67,22 +71,41 @@ pub record AreAddable (rows : Rows) : Type 0 where
 abbrev pub AreExposures : {S : Type 0} → Perspective → Rows → ℕ → HashMap (ℕ × ℕ) ℕ S → Type 0
 AreExposures perspective rows rule exposures = (key : ℕ × ℕ) → unwrap_or (get same_pair exposures key) 0 ≡ exposure_of perspective rows rule key.0 key.1
 
--- what is kept for the lookups is that of the rows
-pub record AreLookups (rows : Rows) (rule : ℕ) (lookups : Lookups) : Type 0 where
+-- the lookups of events and of damage are those of the rows
+pub record AreHazardLookups (rows : Rows) (lookups : HazardLookups) : Type 0 where
   pub event_ids : lookups.event_ids.items ≡ event_ids rows
-  pub return_periods : lookups.return_periods.items ≡ return_periods_of rows
-  pub items : IsPermutation rows.items lookups.items.items
-  pub rising : IsNonDecreasingBy (λ row. row.item_id) lookups.items.items
+  pub places : ArePlaces rows lookups.places
+  pub damages : AreDamages rows lookups.damages
+
+-- the lookups of items are those of the rows
+pub record AreItemLookups (rows : Rows) (lookups : ItemLookups) : Type 0 where
+  pub by_id : IsPermutation rows.items lookups.by_id.items
+  pub rising : IsNonDecreasingBy (λ row. row.item_id) lookups.by_id.items
   pub by_pair : AreByPair rows lookups.by_pair
   pub pairs : lookups.pairs.items ≡ item_pairs rows.items
-  pub damages : AreDamages rows lookups.damages
-  pub tivs : AreTivs rows lookups.tivs
+
+-- the lookups of occurrences and of return periods are those of the rows
+pub record ArePeriodLookups (rows : Rows) (lookups : PeriodLookups) : Type 0 where
   pub occurrences : AreOccurrences rows lookups.occurrences
-  pub places : ArePlaces rows lookups.places
-  pub of_items : AreSummaries (item_summary_rows rows) lookups.of_items
-  pub of_outputs : AreSummaries (output_summary_rows rows) lookups.of_outputs
-  pub item_exposures : AreExposures Gul rows rule lookups.item_exposures
-  pub output_exposures : AreExposures Il rows rule lookups.output_exposures
+  pub return_periods : lookups.return_periods.items ≡ return_periods_of rows
+
+-- the summaries of a perspective are those of the rows
+pub record AreSummariesOf (perspective : Perspective) (rows : Rows) (rule : ℕ) (summaries : Summaries) : Type 0 where
+  pub of_ids : AreSummaries (summary_rows perspective rows) summaries
+  pub exposures : AreExposures perspective rows rule summaries.exposures
+
+-- the lookups of coverages and of summaries are those of the rows
+pub record AreSummaryLookups (rows : Rows) (rule : ℕ) (lookups : SummaryLookups) : Type 0 where
+  pub tivs : AreTivs rows lookups.tivs
+  pub of_items : AreSummariesOf Gul rows rule lookups.of_items
+  pub of_outputs : AreSummariesOf Il rows rule lookups.of_outputs
+
+-- what is kept for the lookups is that of the rows
+pub record AreLookups (rows : Rows) (rule : ℕ) (lookups : Lookups) : Type 0 where
+  pub periods : ArePeriodLookups rows lookups.periods
+  pub items : AreItemLookups rows lookups.items
+  pub hazard : AreHazardLookups rows lookups.hazard
+  pub summaries : AreSummaryLookups rows rule lookups.summaries
 
 -- what is kept beside the tables is that of their rows
 pub record IsKept (portfolio : Inside) : Type 0 where

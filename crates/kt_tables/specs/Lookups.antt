@@ -15,7 +15,7 @@ use Rattle.kt_rec.specs.declared.perspective.Perspective.TheVariants.{Gul, Il, R
 use Rattle.kt_keys.specs.Keys.{programme_of, same_pair}
 use Rattle.kt_keys.specs.Units.{top_level}
 use Rattle.kt_checks.specs.OutputChecks.{climbed, next_unit}
-use Rattle.kt_tables.specs.declared.summaries.SummaryRow.{SummaryRow}
+use Rattle.kt_index.specs.declared.exposure.SummaryUnit.{SummaryUnit}
 use Rattle.kt_tables.specs.declared.place.Place.{Place}
 
 -- the events in table order
@@ -63,15 +63,15 @@ abbrev pub place_in : Rows → ℕ → Option Place
 place_in rows event = lookup (nat_eq event) (map (λ row. (row.event_id, record { at = row.offset; size = row.size })) rows.footprint_idx)
 
 -- the summaries of items
-abbrev pub item_summary_rows : Rows → List SummaryRow
-item_summary_rows rows = map (λ row. record { id = row.item_id; set = row.summaryset_id; summary = row.summary_id }) rows.gulsummaryxref
+abbrev pub item_summary_rows : Rows → List SummaryUnit
+item_summary_rows rows = map (λ row. record { set = row.summaryset_id; summary = row.summary_id; unit = row.item_id }) rows.gulsummaryxref
 
 -- the summaries of outputs
-abbrev pub output_summary_rows : Rows → List SummaryRow
-output_summary_rows rows = map (λ row. record { id = row.output_id; set = row.summaryset_id; summary = row.summary_id }) rows.fmsummaryxref
+abbrev pub output_summary_rows : Rows → List SummaryUnit
+output_summary_rows rows = map (λ row. record { set = row.summaryset_id; summary = row.summary_id; unit = row.output_id }) rows.fmsummaryxref
 
 -- the summaries of a perspective: of items for ground-up losses, else of outputs
-abbrev pub summary_rows : Perspective → Rows → List SummaryRow
+abbrev pub summary_rows : Perspective → Rows → List SummaryUnit
 summary_rows Gul rows = item_summary_rows rows
 summary_rows Il rows = output_summary_rows rows
 summary_rows Ri rows = output_summary_rows rows
@@ -82,7 +82,7 @@ has_summary_set perspective rows set = list_any (nat_eq set) (map (λ row. row.s
 
 -- the summary of an id in a set
 abbrev pub summary_in : Perspective → Rows → ℕ → ℕ → Option ℕ
-summary_in perspective rows set id = lookup (same_pair (id, set)) (map (λ row. ((row.id, row.set), row.summary)) (summary_rows perspective rows))
+summary_in perspective rows set id = lookup (same_pair (id, set)) (map (λ row. ((row.unit, row.set), row.summary)) (summary_rows perspective rows))
 
 -- whether an item is of a coverage
 abbrev pub item_has : List Item → ℕ → ℕ → Bool
@@ -118,7 +118,7 @@ id_has Ri rows rule id coverage = output_has rows rule id coverage
 -- whether a summary of a set is of a coverage
 abbrev pub summary_has : Perspective → Rows → ℕ → ℕ → ℕ → ℕ → Bool
 summary_has perspective rows rule set summary coverage =
-    list_any (λ row. nat_eq row.set set && nat_eq row.summary summary && id_has perspective rows rule row.id coverage) (summary_rows perspective rows)
+    list_any (λ row. nat_eq row.set set && nat_eq row.summary summary && id_has perspective rows rule row.unit coverage) (summary_rows perspective rows)
 
 -- the exposure of a summary in cents: the insured values of the distinct coverages of all ids mapped to it
 abbrev pub exposure_of : Perspective → Rows → ℕ → ℕ → ℕ → ℕ

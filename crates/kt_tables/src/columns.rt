@@ -2,8 +2,8 @@
 ghost use Rattle.std.specs.Prelude.{◌≡◌, map, IfOk};
 
 use crate::place::Place;
-use crate::summaries::SummaryRow;
-use kt_rec::{Coverage, Event, FmSummaryXref, FootprintIdx, GulSummaryXref, ReturnPeriod};
+use kt_index::SummaryUnit;
+use kt_rec::{Event, FmSummaryXref, FootprintIdx, GulSummaryXref, ReturnPeriod};
 use std::alloc::{AllocError, Global};
 
 /// The events in table order.
@@ -18,15 +18,6 @@ pub(crate) fn return_periods(alloc: Global, rows: &[ReturnPeriod]) -> Result<Vec
     ensures value { IfOk result (λ periods. periods.items ≡ map (λ row. row.return_period) rows.now) }
 {
     rows.iter().map(|row| row.return_period).collect(alloc)
-}
-
-/// The coverages with their values.
-pub(crate) fn tivs_of(alloc: Global, rows: &[Coverage]) -> Result<Vec<(u32, u64)>, AllocError>
-    ensures value { IfOk result (λ values. values.items ≡ map (λ row. (row.coverage_id, row.tiv)) rows.now) }
-{
-    rows.iter()
-        .map(|row| (row.coverage_id, row.tiv))
-        .collect(alloc)
 }
 
 /// The events with the places of their records.
@@ -52,14 +43,14 @@ pub(crate) fn places_of(
 pub(crate) fn item_rows(
     alloc: Global,
     rows: &[GulSummaryXref],
-) -> Result<Vec<SummaryRow>, AllocError>
-    ensures value { IfOk result (λ found. found.items ≡ map (λ row. record { id = row.item_id; set = row.summaryset_id; summary = row.summary_id }) rows.now) }
+) -> Result<Vec<SummaryUnit>, AllocError>
+    ensures value { IfOk result (λ found. found.items ≡ map (λ row. record { set = row.summaryset_id; summary = row.summary_id; unit = row.item_id }) rows.now) }
 {
     rows.iter()
-        .map(|row| SummaryRow {
-            id: row.item_id,
+        .map(|row| SummaryUnit {
             set: row.summaryset_id,
             summary: row.summary_id,
+            unit: row.item_id,
         })
         .collect(alloc)
 }
@@ -68,14 +59,14 @@ pub(crate) fn item_rows(
 pub(crate) fn output_rows(
     alloc: Global,
     rows: &[FmSummaryXref],
-) -> Result<Vec<SummaryRow>, AllocError>
-    ensures value { IfOk result (λ found. found.items ≡ map (λ row. record { id = row.output_id; set = row.summaryset_id; summary = row.summary_id }) rows.now) }
+) -> Result<Vec<SummaryUnit>, AllocError>
+    ensures value { IfOk result (λ found. found.items ≡ map (λ row. record { set = row.summaryset_id; summary = row.summary_id; unit = row.output_id }) rows.now) }
 {
     rows.iter()
-        .map(|row| SummaryRow {
-            id: row.output_id,
+        .map(|row| SummaryUnit {
             set: row.summaryset_id,
             summary: row.summary_id,
+            unit: row.output_id,
         })
         .collect(alloc)
 }

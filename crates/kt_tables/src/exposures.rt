@@ -11,26 +11,12 @@ ghost use Rattle.kt_index.specs.Exposure.{unit_covers};
 ghost use Rattle.kt_tables.specs.Lookups.{item_summary_rows, output_summary_rows, lies_beneath, unit_has};
 ghost use Rattle.kt_tables.specs.Kept.{AreTivs, AreAddable, AreExposures};
 
-use crate::summaries::SummaryRow;
-use kt_checks::climbed;
+use kt_checks::{climbed, next_units};
 use kt_index::{SummaryUnit, UnitCoverage, exposures};
-use kt_keys::{first_values, pair_values, programme, steps_of, top_level};
+use kt_keys::{first_values, programme, top_level};
 use kt_rec::{FmXref, Item, Tables};
 use std::alloc::{AllocError, Global};
 use std::collections::HashMap;
-
-/// The units of the summaries of items: the items themselves.
-fn item_units(alloc: Global, rows: &[SummaryRow]) -> Result<Vec<SummaryUnit>, AllocError>
-    ensures value { IfOk result (λ units. units.items ≡ map (λ row. record { set = row.set; summary = row.summary; unit = row.id }) rows.now) }
-{
-    rows.iter()
-        .map(|row| SummaryUnit {
-            set: row.set,
-            summary: row.summary,
-            unit: row.id,
-        })
-        .collect(alloc)
-}
 
 /// The coverages of items.
 fn item_coverages(alloc: Global, items: &[Item]) -> Result<Vec<UnitCoverage>, AllocError>
@@ -55,10 +41,10 @@ fn output_pairs(alloc: Global, rows: &[FmXref]) -> Result<Vec<(u32, u32)>, Alloc
 }
 
 /// The unit of a summary of an output, where the output is known.
-fn output_unit(units: &HashMap<u32, u32>, row: &SummaryRow) -> Option<SummaryUnit>
-    ensures value { result ≡ option_map (λ unit. record { set = row.now.set; summary = row.now.summary; unit = unit }) (get nat_eq units.now row.now.id) }
+fn output_unit(units: &HashMap<u32, u32>, row: &SummaryUnit) -> Option<SummaryUnit>
+    ensures value { result ≡ option_map (λ unit. record { set = row.now.set; summary = row.now.summary; unit = unit }) (get nat_eq units.now row.now.unit) }
 {
-    let unit = units.get(&row.id).copied()?;
+    let unit = units.get(&row.unit).copied()?;
     Some(SummaryUnit {
         set: row.set,
         summary: row.summary,
@@ -70,9 +56,9 @@ fn output_unit(units: &HashMap<u32, u32>, row: &SummaryRow) -> Option<SummaryUni
 fn output_units(
     alloc: Global,
     units: &HashMap<u32, u32>,
-    rows: &[SummaryRow],
+    rows: &[SummaryUnit],
 ) -> Result<Vec<SummaryUnit>, AllocError>
-    ensures value { IfOk result (λ found. found.items ≡ filter_map (λ row. option_map (λ unit. record { set = row.set; summary = row.summary; unit = unit }) (get nat_eq units.now row.id)) rows.now) }
+    ensures value { IfOk result (λ found. found.items ≡ filter_map (λ row. option_map (λ unit. record { set = row.set; summary = row.summary; unit = unit }) (get nat_eq units.now row.unit)) rows.now) }
 {
     rows.iter()
         .filter_map(|row| output_unit(units, row))
@@ -110,8 +96,7 @@ fn beneath(alloc: Global, tables: &Tables) -> Result<Vec<UnitCoverage>, AllocErr
     ensures value { IfOk result (λ pairs. (unit : ℕ) (coverage : ℕ) → unit_covers pairs.items unit coverage ≡ lies_beneath (rows_of tables.now) unit coverage) }
 {
     let programme = programme(tables, 0);
-    let steps = steps_of(alloc, programme)?;
-    let next = pair_values(alloc, &steps)?;
+    let next = next_units(alloc, programme)?;
     top_coverages(alloc, &next, top_level(programme), &tables.items)
 }
 
@@ -134,7 +119,7 @@ fn unit_coverages(
 pub(crate) fn item_exposures(
     alloc: Global,
     tables: &Tables,
-    rows: &[SummaryRow],
+    rows: &[SummaryUnit],
     tivs: &HashMap<u32, u64>,
 ) -> Result<HashMap<(u32, u32), u64>, AllocError>
     requires addable { AreAddable (rows_of tables.now) }
@@ -142,9 +127,8 @@ pub(crate) fn item_exposures(
     requires tivs { AreTivs (rows_of tables.now) tivs.now }
     ensures value { IfOk result (λ found. (rule : ℕ) → AreExposures perspective.Gul (rows_of tables.now) rule found) }
 {
-    let units = item_units(alloc, rows)?;
     let pairs = item_coverages(alloc, &tables.items)?;
-    exposures(alloc, &units, &pairs, tivs)
+    exposures(alloc, rows, &pairs, tivs)
 }
 
 /// The exposures of the summaries of outputs, which are these rows.
@@ -152,7 +136,7 @@ pub(crate) fn output_exposures(
     alloc: Global,
     tables: &Tables,
     rule: u32,
-    rows: &[SummaryRow],
+    rows: &[SummaryUnit],
     tivs: &HashMap<u32, u64>,
 ) -> Result<HashMap<(u32, u32), u64>, AllocError>
     requires addable { AreAddable (rows_of tables.now) }

@@ -5,7 +5,9 @@ ghost use Rattle.kt_rec.specs.Ranges.{AreInRange};
 ghost use Rattle.kt_rec.specs.Rows.{rows_of};
 ghost use Rattle.kt_checks.specs.Checks.{first_refusal, samples_refusal, answer_of};
 ghost use Rattle.kt_checks.specs.KeptChecks.{FitsSamples};
-ghost use Rattle.kt_tables.specs.Portfolio.{HasOnlyNeeded, HasPeriods};
+ghost use Rattle.kt_checks.specs.SummaryChecks.{CountsSummaries};
+ghost use Rattle.kt_tables.specs.Kept.{AreLookups};
+ghost use Rattle.kt_tables.specs.Portfolio.{HasOnlyNeeded, HasPeriods, IsPortfolio};
 ghost use Rattle.kt_tables.specs.Lookups.{event_ids};
 
 use crate::lookups::Lookups;
@@ -37,6 +39,24 @@ impl Model for Portfolio {
     ghost invariant = { IsKept };
 }
 
+/// What is kept beside tables that no check refuses.
+fn kept(alloc: Global, tables: &Tables, need: &Need) -> Result<(SummaryCounts, Lookups), CheckStop>
+    requires ranges { AreInRange (rows_of tables.now) }
+    requires needed { HasOnlyNeeded (rows_of tables.now) need.now }
+    requires periods { HasPeriods (rows_of tables.now) need.now }
+    ensures valid { IfOk result (λ _. IsPortfolio (record { rows = rows_of tables.now; need = need.now })) }
+    ensures counts { IfOk result (λ kept. CountsSummaries (rows_of tables.now) kept.0) }
+    ensures lookups { IfOk result (λ kept. AreLookups (rows_of tables.now) need.now.rule kept.1) }
+
+    // The first refusal, or want of memory.
+    ensures refused { IfErr result (λ stop. (Err stop ≡ answer_of (first_refusal (rows_of tables.now) need.now)) ⊎ (stop ≡ CheckStop.OutOfMemory)) }
+{
+    first_check(alloc, tables, need)?;
+    let counts = summary_counts(alloc, tables)?;
+    let lookups = Lookups::new(alloc, tables, need.rule)?;
+    Ok((counts, lookups))
+}
+
 impl Portfolio {
     /// Makes the checks of the tables, and keeps them where none refuses. `CheckStop::Check` is the first refusal: by the
     /// check's number, then by the table, then by the row; the other error is want of memory. The checks 18 and 19 are made
@@ -51,9 +71,7 @@ impl Portfolio {
         // The first refusal, or want of memory.
         ensures refused { IfErr result (λ stop. (Err stop ≡ answer_of (first_refusal (rows_of tables) need)) ⊎ (stop ≡ CheckStop.OutOfMemory)) }
     {
-        first_check(alloc, &tables, &need)?;
-        let counts = summary_counts(alloc, &tables)?;
-        let lookups = Lookups::new(alloc, &tables, need.rule)?;
+        let (counts, lookups) = kept(alloc, &tables, &need)?;
         Ok(Portfolio {
             tables,
             need,
@@ -80,7 +98,7 @@ impl Portfolio {
     pub fn events(&self) -> &[u32]
         ensures value { result.now ≡ event_ids self.now.rows }
     {
-        &self.lookups.event_ids
+        &self.lookups.hazard.event_ids
     }
 
     /// Makes the checks 18 and 19 for a number of samples. Takes no memory.

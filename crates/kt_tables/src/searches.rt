@@ -8,9 +8,9 @@ ghost use Rattle.kt_rec.specs.declared.table.Table.TheVariants as table;
 ghost use Rattle.kt_keys.specs.Keys.{same_pair};
 ghost use Rattle.kt_keys.specs.Refusals.{is_loaded};
 ghost use Rattle.kt_checks.specs.TableChecks.{tiv_of};
-ghost use Rattle.kt_tables.specs.Kept.{AreSummaries, AreExposures, damage_key};
+ghost use Rattle.kt_tables.specs.Kept.{AreSummariesOf, damage_key};
 ghost use Rattle.kt_tables.specs.PairLaws.{ArePairsRising};
-ghost use Rattle.kt_tables.specs.Lookups.{damages_at, item_pairs, items_with, pair_of, return_periods_of, random_place, random_of, occurrences_of, place_in, summary_rows, has_summary_set, summary_in, exposure_of};
+ghost use Rattle.kt_tables.specs.Lookups.{damages_at, item_pairs, items_with, pair_of, return_periods_of, random_place, random_of, occurrences_of, place_in, has_summary_set, summary_in, exposure_of};
 
 use crate::place::Place;
 use crate::portfolio::Portfolio;
@@ -44,14 +44,17 @@ impl Portfolio {
         ensures permutation { IsPermutation self.now.rows.items result.now }
         ensures rising { IsStrictlyIncreasing (map (λ row. row.item_id) result.now) }
     {
-        &self.lookups.items
+        &self.lookups.items.by_id
     }
 
     /// The items of an areaperil and a vulnerability, in table order; none where no item has both.
     pub fn items_of(&self, areaperil: u32, vulnerability: u32) -> &[Item]
         ensures value { result.now ≡ items_with self.now.rows areaperil vulnerability }
     {
-        self.lookups.by_pair.of(pair_key(areaperil, vulnerability))
+        self.lookups
+            .items
+            .by_pair
+            .of(pair_key(areaperil, vulnerability))
     }
 
     /// The pairs of areaperil and vulnerability that some item has, each once, by rising areaperil and then vulnerability.
@@ -60,7 +63,7 @@ impl Portfolio {
         ensures rising { ArePairsRising result.now }
         ensures found { (pair : ℕ × ℕ) → list_any (same_pair pair) result.now ≡ list_any (λ row. same_pair pair (pair_of row)) self.now.rows.items }
     {
-        &self.lookups.pairs
+        &self.lookups.items.pairs
     }
 
     /// The rows of the dictionary of damage bins in table order, which is that of their bins.
@@ -77,7 +80,7 @@ impl Portfolio {
     {
         let low = pair_key(vulnerability, 0);
         let top = pair_key(vulnerability, u32::MAX);
-        match &self.lookups.damages {
+        match &self.lookups.hazard.damages {
             Some(sorted) => rows_between(sorted.as_slice(), low, top),
             None => rows_between(&self.tables.vulnerability, low, top),
         }
@@ -97,7 +100,12 @@ impl Portfolio {
     pub fn tiv(&self, coverage: u32) -> u64
         ensures value { result ≡ tiv_of self.now.rows.coverages coverage }
     {
-        self.lookups.tivs.get(&coverage).copied().unwrap_or(0)
+        self.lookups
+            .summaries
+            .tivs
+            .get(&coverage)
+            .copied()
+            .unwrap_or(0)
     }
 
     /// The random number of an event, a group and a sample from 1 on, in parts per million. The table of random numbers
@@ -116,7 +124,7 @@ impl Portfolio {
     pub fn occurrences(&self, event: u32) -> &[Occurrence]
         ensures value { result.now ≡ occurrences_of self.now.rows event }
     {
-        self.lookups.occurrences.of(u64::from(event))
+        self.lookups.periods.occurrences.of(u64::from(event))
     }
 
     /// The number of periods, 0 where the occurrences are not loaded.
@@ -130,16 +138,17 @@ impl Portfolio {
     pub fn return_periods(&self) -> &[u32]
         ensures value { result.now ≡ return_periods_of self.now.rows }
     {
-        &self.lookups.return_periods
+        &self.lookups.periods.return_periods
     }
 
     /// What is kept of the summaries of a perspective.
     fn summaries(&self, perspective: Perspective) -> &Summaries
-        ensures value { AreSummaries (summary_rows perspective self.now.rows) result.now }
+        ensures value { AreSummariesOf perspective self.now.rows self.now.need.rule result.now }
     {
         match perspective {
-            Perspective::Gul => &self.lookups.of_items,
-            Perspective::Il | Perspective::Ri => &self.lookups.of_outputs,
+            Perspective::Gul => &self.lookups.summaries.of_items,
+            Perspective::Il => &self.lookups.summaries.of_outputs,
+            Perspective::Ri => &self.lookups.summaries.of_outputs,
         }
     }
 
@@ -158,29 +167,18 @@ impl Portfolio {
         summaries.by_id.get(&(id, set)).copied()
     }
 
-    /// What is kept of the exposures of a perspective.
-    fn exposures(&self, perspective: Perspective) -> &HashMap<(u32, u32), u64>
-        ensures value { AreExposures perspective self.now.rows self.now.need.rule result.now }
-    {
-        match perspective {
-            Perspective::Gul => &self.lookups.item_exposures,
-            Perspective::Il => &self.lookups.output_exposures,
-            Perspective::Ri => &self.lookups.output_exposures,
-        }
-    }
-
     /// The exposure of a summary of a set in cents: the insured values of the distinct coverages of all items, or outputs,
     /// that are added to it; 0 where there is no such summary.
     pub fn exposure(&self, perspective: Perspective, set: u32, summary: u32) -> u64
         ensures value { result ≡ exposure_of perspective self.now.rows self.now.need.rule set summary }
     {
-        value_at(self.exposures(perspective), (set, summary))
+        value_at(&self.summaries(perspective).exposures, (set, summary))
     }
 
     /// Where the records of an event stand in the footprint file; `None` where the index has no such event.
     pub fn place_of(&self, event: u32) -> Option<Place>
         ensures value { result ≡ place_in self.now.rows event }
     {
-        self.lookups.places.get(&event).copied()
+        self.lookups.hazard.places.get(&event).copied()
     }
 }

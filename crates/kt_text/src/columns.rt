@@ -1,9 +1,11 @@
 //! The fields of a CSV text whose rows have a fixed number of columns.
 
-ghost use Rattle.std.specs.Prelude.{◌≡◌, None, IfOk, IfErr};
+ghost use Rattle.std.specs.Prelude.{◌≡◌, ℕ, List, [], None, IfOk, IfErr, MatchOption};
+ghost use Rattle.std.specs.Bool.{MatchBool};
+ghost use Rattle.csv.specs.Records.{fields_of};
 ghost use Rattle.kt_text.specs.Rows.{csv_rows, first_ragged};
 ghost use Rattle.kt_text.specs.FieldStop.{Explains};
-ghost use Rattle.kt_text.specs.Records.{StandsBetween, records_left};
+ghost use Rattle.kt_text.specs.Records.{StandsBetween, TakesRecord, records_left};
 
 use crate::grid::Grid;
 use crate::records::{next_record, reader_of};
@@ -54,13 +56,23 @@ pub fn fields<const N: usize>(alloc: Global, text: &[u8]) -> Result<Grid<N>, Fie
     ensures refused { IfErr result (Explains N (csv_rows text.now)) }
 {
     let mut reader = reader_of(alloc, text);
-    let mut row = ByteRecord::new(alloc);
-    if !next_record(&mut reader, &mut row)? {
-        return Ok(Grid {
+    if skip_heading(alloc, &mut reader)? {
+        rows_left(alloc, &mut reader)
+    } else {
+        Ok(Grid {
             records: Vec::new(alloc),
-        });
+        })
     }
-    rows_left(alloc, &mut reader)
+}
+
+// Whether the reader has a heading, which it then passes over. An error is want of memory.
+fn skip_heading(alloc: Global, reader: &mut Reader<&[u8]>) -> Result<bool, AllocError>
+    requires { StandsBetween reader.old }
+    ensures { IfOk result (λ found. MatchBool found
+        ((heading : List (List ℕ)) × TakesRecord reader.old reader.new heading) (records_left reader.old ≡ [])) }
+{
+    let mut heading = ByteRecord::new(alloc);
+    next_record(reader, &mut heading)
 }
 
 // The rows that the reader has left.
@@ -75,15 +87,26 @@ fn rows_left<const N: usize>(
     ensures refused { IfErr result (Explains N (records_left reader.old)) }
 {
     let mut records = Vec::new(alloc);
-    let mut row = ByteRecord::new(alloc);
-    while next_record(reader, &mut row)? {
+    while let Some(row) = next_row(alloc, reader)? {
         if row.len() != N {
             return Err(FieldStop::Columns {
                 row: records.len() as u64 + 1,
             });
         }
         records.push(row)?;
-        row = ByteRecord::new(alloc);
     }
     Ok(Grid { records })
+}
+
+// The next row that the reader has, if one is left. An error is want of memory.
+fn next_row(alloc: Global, reader: &mut Reader<&[u8]>) -> Result<Option<ByteRecord>, AllocError>
+    requires { StandsBetween reader.old }
+    ensures { IfOk result (λ found. MatchOption found (records_left reader.old ≡ []) (λ row. TakesRecord reader.old reader.new (fields_of row))) }
+{
+    let mut row = ByteRecord::new(alloc);
+    if next_record(reader, &mut row)? {
+        Ok(Some(row))
+    } else {
+        Ok(None)
+    }
 }

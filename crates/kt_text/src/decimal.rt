@@ -50,7 +50,6 @@ fn read_any_decimal(text: &[u8], scale: u8) -> Result<u64, BadText>
 }
 
 // The amount that the parts of a numeral write.
-#[tactic(auto, using(crate::proofs::ValueLemmas::amount_cases))]
 fn amount(numeral: &Numeral<'_>, scale: u8) -> Result<u64, BadText>
     requires { scale < 10 }
     ensures { result ≡ amount_of scale numeral.now }

@@ -7,7 +7,6 @@ ghost use Rattle.std.specs.Str.Parse.{digits_value_after, AllDigits};
 pub(crate) const TOO_MANY: u64 = 1_000_000_000_000_000_000;
 
 /// The number that the digits write behind those of `start`, or `most` where that is less.
-#[tactic(auto, using(crate::proofs::DigitLemmas::digit_steps))]
 pub(crate) fn capped_value(start: u64, digits: &[u8], most: u64) -> u64
     requires digits { AllDigits 10 digits.now }
     requires start { start ≤ most }

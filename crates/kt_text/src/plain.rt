@@ -86,7 +86,6 @@ fn row_behind(text: &[u8]) -> Option<&[u8]>
 
 /// The first field of the first row behind the end of a line. A text that begins with a byte of a row has none.
 #[inline(always)]
-#[tactic(auto, using(crate::proofs::PlainRowLemmas::plain_rows))]
 pub fn first_field(text: &[u8]) -> Option<&[u8]>
     ensures begins { IfSome result (λ rest. BeginsField text.now [] rest.now) }
     ensures shorter { IfSome result (λ rest. length rest.now < length text.now) }
@@ -164,7 +163,6 @@ fn without_mark(text: &[u8]) -> &[u8]
 
 /// The text from the end of the heading's line on, if the heading begins the text and has no quotes: its records are
 /// the rows.
-#[tactic(auto, using(crate::proofs::PlainRowLemmas::plain_headings))]
 pub fn behind_heading(text: &[u8]) -> Option<&[u8]>
     ensures { IfSome result (λ rest. csv_rows text.now ≡ csv_records rest.now) }
 {

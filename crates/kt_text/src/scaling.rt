@@ -23,7 +23,6 @@ pub(crate) fn scaled(digits: u64, scale: u64, places: u64, exponent: u64, negati
 }
 
 // The digits times 10^`up` / 10^`down`, rounded half up, or 10^18 where that is less.
-#[tactic(auto, using(crate::proofs::ScalingLemmas::scaling))]
 fn moved(digits: u64, up: u64, down: u64) -> u64
     requires { digits < 10 ^ 18 }
     ensures { result ≡ min (half_up (digits * 10 ^ up) (10 ^ down)) (10 ^ 18) }

@@ -12,7 +12,6 @@ fn is_blank_byte(byte: u8) -> bool
 }
 
 // The text without the blanks at its front.
-#[tactic(auto, using(crate::proofs::TrimmingLemmas::trimming))]
 fn without_leading_blanks(text: &[u8]) -> &[u8]
     ensures { result.now ≡ without_front is_blank text.now }
 {
@@ -27,7 +26,6 @@ fn without_leading_blanks(text: &[u8]) -> &[u8]
 }
 
 // The text without the blanks at its end.
-#[tactic(auto, using(crate::proofs::TrimmingLemmas::trimming))]
 fn without_trailing_blanks(text: &[u8]) -> &[u8]
     ensures { result.now ≡ without_end is_blank text.now }
 {
@@ -59,7 +57,6 @@ pub(crate) fn trim_plus(text: &[u8]) -> &[u8]
 }
 
 /// The digits of a fraction without the zeros at their end.
-#[tactic(auto, using(crate::proofs::TrimmingLemmas::trimming))]
 pub(crate) fn trim_zeros(fraction: &[u8]) -> &[u8]
     requires { AllDigits 10 fraction.now }
     ensures value { result.now ≡ without_end is_zero_digit fraction.now }

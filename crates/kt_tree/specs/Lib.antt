@@ -5,6 +5,7 @@ pub mod Sharing
 pub mod SharingLaws
 pub mod Rising
 pub mod Programme
+pub mod ExampleRows
 pub mod Examples
 pub mod ProgrammeLaws
 pub mod OutputLaws

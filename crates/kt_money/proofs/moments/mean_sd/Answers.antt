@@ -9,3 +9,9 @@ pub returns-clause-exact : goal.returns-clause-exact
 returns-clause-exact c =
     let value : c.deviation.result ≡ deviation_of c.args.n c.args.sum c.args.sumsq = grind (arith, common_steps) in
     rw value (deviation_of-is c.args.n c.args.sum c.args.sumsq)
+
+pub returns-clause-mean : goal.returns-clause-mean
+returns-clause-mean c = grind (arith, common_steps)
+
+pub returns-clause-deviation : goal.returns-clause-deviation
+returns-clause-deviation c = grind (arith, common_steps)

@@ -10,7 +10,6 @@ use Rattle.kt_rec.specs.declared.perspective.Perspective.TheVariants.{Il}
 use Rattle.kt_index.specs.declared.exposure.SummaryUnit.{SummaryUnit}
 use Rattle.kt_index.specs.declared.exposure.UnitCoverage.{UnitCoverage}
 use Rattle.kt_index.specs.Exposure.{unit_covers, summary_covers, value_in}
-use Rattle.kt_tables.specs.declared.summaries.SummaryRow.{SummaryRow}
 use Rattle.kt_tables.specs.Lookups.{unit_has, output_has, summary_has}
 use Rattle.kt_tables.specs.Kept.{AreExposures}
 use Rattle.kt_tables.proofs.ExposureLemmas.{output-covers, total-exposure}
@@ -31,7 +30,7 @@ returns c =
           (λ coverage. ap (λ (list : List SummaryUnit). summary_covers list c.deref-4.result.now key coverage) units
           ∙ (output-covers (unit_has rows rule) coverage c.args.rows.now rows.fm_xref c.deref-4.result.now aggs key c.requires.addable.outputs known
           (λ unit. ap (λ (list : List UnitCoverage). unit_covers list unit coverage) c.deref-4.ensures.value ∙ c.in_ok-coverages.ensures.value unit coverage)
-          ∙ ap (λ (list : List SummaryRow). list_any (λ row. nat_eq row.set key.0 && nat_eq row.summary key.1 && output_has rows rule row.id coverage) list) c.requires.rows))
+          ∙ ap (λ (list : List SummaryUnit). list_any (λ row. nat_eq row.set key.0 && nat_eq row.summary key.1 && output_has rows rule row.unit coverage) list) c.requires.rows))
           _ (totals key))
           c.exposures.ensures.value;
     }

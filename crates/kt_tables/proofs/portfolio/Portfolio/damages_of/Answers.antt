@@ -13,7 +13,7 @@ pub returns-in-Some-clause-value : goal.returns-in-Some-clause-value
 returns-in-Some-clause-value c = λ intensity short.
     let rows = rows_of c.self.inside.tables in
     let key = c.args.vulnerability * 2 ^ 32 + intensity in
-    let kept = subst (λ (found : Option (List Vulnerability)). AreDamages rows found) c.in-Some.is c.self.invariant.lookups.damages in
+    let kept = subst (λ (found : Option (List Vulnerability)). AreDamages rows found) c.in-Some.is c.self.invariant.lookups.hazard.damages in
     ap (filter (λ row. nat_eq (damage_key row) key)) (c.rows_between.ensures.value ∙ ap (filter (λ row. nat_le c.pair_key-low.result (damage_key row) && nat_le (damage_key row) c.pair_key-top.result)) c.as_slice.ensures.value)
     ∙ (narrowed c.pair_key-low.result c.pair_key-top.result key (omega arith) (omega arith) c.in-Some.sorted
     ∙ (kept key

@@ -9,4 +9,4 @@ pub returns-clause-rising : goal.returns-clause-rising
 returns-clause-rising c =
     let kept = c.self.invariant in
     subst (λ (rows : List Item). IsStrictlyIncreasing (map (λ row. row.item_id) rows)) (sym c.deref.ensures.value)
-    (keys_rise-strictly (λ row. row.item_id) _ _ (items_distinct _ kept.valid) kept.lookups.items kept.lookups.rising)
+    (keys_rise-strictly (λ row. row.item_id) _ _ (items_distinct _ kept.valid) kept.lookups.items.by_id kept.lookups.items.rising)

@@ -8,10 +8,10 @@ use Rattle.kt_tables.specs.Portfolio.{PortfolioRows}
 use Rattle.kt_tables.proofs.portfolio.Portfolio.pairs.Goals as goal
 
 pub returns-clause-rising : goal.returns-clause-rising
-returns-clause-rising c = subst ArePairsRising (sym (c.deref.ensures.value ∙ c.self.invariant.lookups.pairs)) (pairs-rise (rows_of c.self.inside.tables).items)
+returns-clause-rising c = subst ArePairsRising (sym (c.deref.ensures.value ∙ c.self.invariant.lookups.items.pairs)) (pairs-rise (rows_of c.self.inside.tables).items)
 
 pub returns-clause-found : goal.returns-clause-found
 returns-clause-found c = λ pair.
-    ap (list_any (same_pair pair)) (c.deref.ensures.value ∙ c.self.invariant.lookups.pairs)
+    ap (list_any (same_pair pair)) (c.deref.ensures.value ∙ c.self.invariant.lookups.items.pairs)
     ∙ (pairs-member (rows_of c.self.inside.tables).items pair
     ∙ ap (λ (portfolio : PortfolioRows). list_any (λ row. same_pair pair (pair_of row)) portfolio.rows.items) c.self.view_is)

@@ -1,0 +1,43 @@
+-- The losses of a pair, occurrence by occurrence.
+use Rattle.std.proofs.Common.{◌≡◌, inl, inr, ◌≤◌, ℕ, arith, sym, ap, ◌∙◌, ⊎_elim}
+use Rattle.std.specs.Prelude.{true, false, Bool, ◌&&◌, nat_lt}
+use Rattle.std.proofs.lemmas.Bool.Decides.{nat_tests}
+use Rattle.kt_rec.specs.declared.perspective.CellKey.{CellKey}
+use Rattle.kt_stream.specs.declared.entry.Pair.{Pair}
+use Rattle.kt_curve.specs.declared.rows.Spot.{Spot}
+use Rattle.kt_curve.specs.Losses.{is_added, has_cells}
+use Rattle.kt_curve.specs.Rows.{spot_loss}
+use Rattle.kt_curve.proofs.Walks.{pair_more, pair_stop, returns_stop}
+use Rattle.kt_curve.proofs.rows.Rows.add_pair.Goals as goal
+
+-- no row
+abbrev none : Spot
+none = record { period = 0; row = 0 }
+
+added_some : (pair : Pair) → is_added pair ≡ true → 1 ≤ pair.loss
+added_some pair added = both (has_cells pair.sidx) (nat_lt 0 pair.loss) pair.loss added (λ e. grind (arith, nat_tests))
+  where
+    both : (a b : Bool) (loss : ℕ) → a && b ≡ true → (b ≡ true → 1 ≤ loss) → 1 ≤ loss
+    both true b loss e f = f e
+    both false b loss e f = cc
+
+pub loop-spot-preserved : goal.loop-spot-preserved
+loop-spot-preserved c =
+    let now = c.loop-spot.invariant in
+    record {
+      size = (c.in-Ok.ensures.size.0 ∙ now.size.0, c.in-Ok.ensures.size.1 ∙ now.size.1);
+      rows = c.in-Ok.ensures.rows ∙ now.rows;
+      greatest = c.in-Ok.ensures.journal;
+      going = λ before done going.
+          let g = now.going before done going in
+          pair_more (spot_loss c.args.perspective c.args.set c.args.summary c.args.pair.now) c.args.spots.now c.loop-spot.spot-index none (record { key = c.key_of-key.result; loss = c.args.pair.now.loss }) before done
+          _ _ _ _ (omega arith) (ap (λ (k : CellKey). record { key = k; loss = c.args.pair.now.loss }) (sym c.key_of-key.ensures.value)) g (added_some c.args.pair.now c.requires.added) (c.in-Ok.ensures.step _ g.stands) (c.in-Ok.ensures.noted _ g.stands);
+    }
+
+pub returns-in-Err-clause-step : goal.returns-in-Err-clause-step
+returns-in-Err-clause-step c = λ before done going.
+    let g = c.loop-spot.invariant.going before done going in
+    let s = c.in-Err.ensures.step _ g.stands in (
+      ⊎_elim (λ e. inl e) (λ found. inr (pair_stop (spot_loss c.args.perspective c.args.set c.args.summary c.args.pair.now) c.args.spots.now c.loop-spot.spot-index none (record { key = c.key_of-key.result; loss = c.args.pair.now.loss }) before done c.in-Err.stop (omega arith) (ap (λ (k : CellKey). record { key = k; loss = c.args.pair.now.loss }) (sym c.key_of-key.ensures.value)) g.clear found)) s.0,
+      returns_stop before _ _ _ _ _ g s.1 (c.in-Err.ensures.noted _ g.stands),
+    )

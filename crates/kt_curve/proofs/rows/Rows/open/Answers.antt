@@ -1,0 +1,30 @@
+-- A row with no cells behind the others.
+use Rattle.std.proofs.Common.{◌≡◌, ap, ◌∙◌, length, cond}
+use Rattle.std.specs.Prelude.{Some}
+use Rattle.std.specs.Map.{lookup}
+use Rattle.kt_curve.specs.declared.row_key.IndexKey.{IndexKey}
+use Rattle.kt_curve.specs.Rows.{index_key, same_index}
+use Rattle.kt_curve.proofs.RowBounds.{table_push}
+use Rattle.kt_curve.proofs.Tables.{entries_push}
+use Rattle.kt_curve.proofs.Places.{keys_push, keeps_push, place_last}
+use Rattle.kt_curve.proofs.rows.Rows.open.Goals as goal
+
+pub invariant_of-self-in-Ok : goal.invariant_of-self-in-Ok
+invariant_of-self-in-Ok c =
+    let missing = rw (← c.self.view_is) at c.requires.absent in
+    let last = rw (← c.self.view_is) at c.requires.last in
+    let found : (q : IndexKey) → lookup (same_index q) c.insert.new.self.entries ≡ cond (same_index (index_key c.args.key) q) (Some (length c.self.inside.rows.items)) (lookup (same_index q) c.self.inside.index.entries) =
+    λ q. c.in-Ok.ensures.updates.0 q ∙ ap (λ (k : IndexKey). cond (same_index k q) (Some c.len-place.result) (lookup (same_index q) c.self.inside.index.entries)) c.index_key.ensures.value
+    ∙ ap (λ n. cond (same_index (index_key c.args.key) q) (Some n) (lookup (same_index q) c.self.inside.index.entries)) (c.len-place.ensures ∙ c.self.inside.rows.ok.0) in
+    rw c.in_ok-push.ensures.items (table_push _ _ _ c.self.inside.index.entries c.insert.new.self.entries c.self.inside.rows.items c.args.key c.new.result c.self.invariant missing c.requires.first last c.new.ensures.key c.new.ensures.cells found)
+
+pub returns-in-Ok-clause-entries : goal.returns-in-Ok-clause-entries
+returns-in-Ok-clause-entries c = rw (← c.self.view_is, c.in_ok-push.ensures.items) (entries_push c.self.inside.rows.items c.new.result c.new.ensures.cells)
+
+pub returns-in-Ok-clause-rows : goal.returns-in-Ok-clause-rows
+returns-in-Ok-clause-rows c = rw (← c.self.view_is, c.in_ok-push.ensures.items, keys_push c.self.inside.rows.items c.new.result c.args.key c.new.ensures.key) (keeps_push _ c.args.key)
+
+pub returns-in-Ok-clause-ok : goal.returns-in-Ok-clause-ok
+returns-in-Ok-clause-ok c =
+    let missing = rw (← c.self.view_is) at c.requires.absent in
+    rw (c.in_ok-push.ensures.items, c.len-place.ensures, c.self.inside.rows.ok.0) (place_last c.self.inside.rows.items c.new.result c.args.key c.new.ensures.key missing)

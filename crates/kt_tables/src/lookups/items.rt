@@ -1,0 +1,64 @@
+//! The lookups of items.
+ghost use Rattle.std.specs.Prelude.{◌≡◌, IfOk};
+ghost use Rattle.std.specs.List.Sorted.{IsPermutation, IsNonDecreasingBy};
+ghost use Rattle.kt_rec.specs.Rows.{rows_of};
+ghost use Rattle.kt_tables.specs.Lookups.{item_pairs};
+ghost use Rattle.kt_tables.specs.Kept.{AreItemLookups};
+
+use kt_index::ByKey;
+use kt_rec::{Item, Tables};
+use std::alloc::{AllocError, Global};
+use std::collections::BTreeSet;
+
+/// The lookups of items.
+#[derive(Drop)]
+pub(crate) struct ItemLookups {
+    /// The items by rising id.
+    pub(crate) by_id: Vec<Item>,
+    /// The items by areaperil and vulnerability.
+    pub(crate) by_pair: ByKey<Item>,
+    /// The pairs of areaperil and vulnerability that some item has, each once, rising.
+    pub(crate) pairs: Vec<(u32, u32)>,
+}
+
+/// The items by rising id.
+fn by_id(alloc: Global, items: &[Item]) -> Result<Vec<Item>, AllocError>
+    ensures permutation { IfOk result (λ sorted. IsPermutation items.now sorted.items) }
+    ensures rising { IfOk result (λ sorted. IsNonDecreasingBy (λ row. row.item_id) sorted.items) }
+{
+    let mut sorted = items.to_vec(alloc)?;
+    sorted.sort_by_key(|row| row.item_id)?;
+    Ok(sorted)
+}
+
+/// The pairs of areaperil and vulnerability that some item has, in order.
+fn pair_set(alloc: Global, items: &[Item]) -> Result<BTreeSet<(u32, u32)>, AllocError>
+    ensures value { IfOk result (λ pairs. pairs.keys ≡ item_pairs items.now) }
+{
+    let mut pairs: BTreeSet<(u32, u32)> = BTreeSet::new(alloc);
+    for row in items {
+        pairs.insert((row.areaperil_id, row.vulnerability_id))?;
+    }
+    Ok(pairs)
+}
+
+/// The pairs of areaperil and vulnerability that some item has, each once, rising.
+fn pairs(alloc: Global, items: &[Item]) -> Result<Vec<(u32, u32)>, AllocError>
+    ensures value { IfOk result (λ pairs. pairs.items ≡ item_pairs items.now) }
+{
+    let pairs = pair_set(alloc, items)?;
+    pairs.iter().copied().collect(alloc)
+}
+
+impl ItemLookups {
+    /// What is kept of items. An error is want of memory.
+    pub(crate) fn new(alloc: Global, tables: &Tables) -> Result<ItemLookups, AllocError>
+        ensures value { IfOk result (AreItemLookups (rows_of tables.now)) }
+    {
+        Ok(ItemLookups {
+            by_id: by_id(alloc, &tables.items)?,
+            pairs: pairs(alloc, &tables.items)?,
+            by_pair: ByKey::new(alloc, &tables.items)?,
+        })
+    }
+}
