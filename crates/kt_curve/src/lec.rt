@@ -10,12 +10,11 @@ ghost use Rattle.kt_curve.specs.Exceedance.{lec_heading_text, by_sidx, takes_max
 
 use crate::cell::Cell;
 use crate::cells::Cells;
-use crate::curve::Curve;
 use crate::group::group_length;
 use crate::kinds::{Group, append_full, append_wheat};
 use crate::mean_curves::{append_period_means, append_rank_means};
 use kt_money::{Bytes, OutOfMemory};
-use kt_rec::{CellKey, Perspective};
+use kt_rec::{CellKey, Curve, Perspective};
 use std::alloc::Global;
 
 /// Whether the table of a curve names a sidx in each row, or a type.

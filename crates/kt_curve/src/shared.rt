@@ -1,14 +1,12 @@
 //! The types of this crate may be sent to threads and shared by them.
 use crate::cell::CellStop;
 use crate::cells::Cells;
-use crate::curve::Curve;
 
 /// Takes what may be sent to threads and shared by them.
 fn is_shared<T: Send + Sync>(_: &T) {}
 
 /// Each type once.
-pub(crate) fn are_shared(cells: &Cells, stop: &CellStop, curve: &Curve) {
+pub(crate) fn are_shared(cells: &Cells, stop: &CellStop) {
     is_shared(cells);
     is_shared(stop);
-    is_shared(curve);
 }

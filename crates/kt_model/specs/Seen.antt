@@ -5,8 +5,8 @@ use Rattle.std.specs.HashMap.{get}
 use Rattle.std.specs.HashSet.{contains}
 use Rattle.kt_keys.specs.Keys.{same_pair}
 use Rattle.kt_rec.specs.declared.hazard.FootRow.{FootRow}
-use Rattle.kt_foot.specs.declared.foot_rows.Seen.{Seen}
-use Rattle.kt_foot.specs.FootRows.{areaperil_total, is_at}
+use Rattle.kt_model.specs.declared.foot_rows.Seen.{Seen}
+use Rattle.kt_rec.specs.FootRows.{areaperil_total, is_at}
 
 -- the pairs and the totals are those of rows, none of which was refused
 pub record IsSeen (rows : List FootRow) (seen : Seen) : Type 0 where

@@ -4,10 +4,10 @@ use Rattle.std.specs.Prelude.{ℕ, ◌+◌, ◌&&◌, ◌||◌, Bool, cond, nat_
 use Rattle.std.specs.List.{list_any, sum_by}
 use Rattle.std.specs.Option.{option_or}
 use Rattle.kt_rec.specs.declared.hazard.FootRow.{FootRow}
-use Rattle.kt_foot.specs.declared.foot_rows.ModelStop.{ModelStop}
-use Rattle.kt_foot.specs.declared.foot_rows.ModelStop.TheVariants as stop
-use Rattle.kt_foot.specs.declared.foot_rows.RowCause.{RowCause}
-use Rattle.kt_foot.specs.declared.foot_rows.RowCause.TheVariants as cause
+use Rattle.kt_rec.specs.declared.foot_rows.ModelStop.{ModelStop}
+use Rattle.kt_rec.specs.declared.foot_rows.ModelStop.TheVariants as stop
+use Rattle.kt_rec.specs.declared.foot_rows.RowCause.{RowCause}
+use Rattle.kt_rec.specs.declared.foot_rows.RowCause.TheVariants as cause
 
 -- the probabilities of an areaperil together, in parts per million
 abbrev pub areaperil_total : List FootRow → ℕ → ℕ

@@ -1,53 +1,14 @@
 //! The check of the footprint rows of an event.
 //! The rules: docs/CHECKS.md, "Footprint rows of an event".
 ghost use Rattle.std.specs.Prelude.{◌≡◌, ◌≤◌, ◌⊎◌, ℕ, List, [], ◌∷◌, ◌++◌, None, Some, OnOk, IfOk, IfErr};
-ghost use Rattle.kt_foot.specs.FootRows.{areaperil_total, field_cause, row_cause, first_refused_row};
-ghost use Rattle.kt_foot.specs.Seen.{IsSeen};
-ghost use Rattle.kt_foot.specs.declared.foot_rows.ModelStop.TheVariants.{OutOfMemory};
+ghost use Rattle.kt_rec.specs.FootRows.{areaperil_total, field_cause, row_cause, first_refused_row};
+ghost use Rattle.kt_model.specs.Seen.{IsSeen};
+ghost use Rattle.kt_rec.specs.declared.foot_rows.ModelStop.TheVariants.{OutOfMemory};
 ghost use Rattle.kt_rec.specs.declared.hazard.FootRow.{FootRow};
 
-use kt_rec::FootRow;
+use kt_rec::{FootRow, ModelStop, RowCause};
 use std::alloc::{AllocError, Global};
 use std::collections::{HashMap, HashSet};
-
-/// Why a row of an event's footprint is refused.
-#[derive(Clone, Copy, Debug, PartialEq, Eq)]
-pub enum RowCause {
-    /// The areaperil is not from 1 to 2,147,483,647.
-    Areaperil,
-    /// The intensity is not from 1 to 10,000.
-    Intensity,
-    /// The probability is above 1,000,000.
-    Prob,
-    /// Its areaperil and intensity stand in an earlier row.
-    Twice,
-    /// The probabilities of its areaperil add to more than 1,001,000 up to this row.
-    Sum,
-}
-
-/// Why an event has no distributions.
-#[derive(Clone, Copy, Debug, PartialEq, Eq)]
-pub enum ModelStop {
-    /// A row of its footprint is refused.
-    Row {
-        /// The first row that is refused, counted from 1 within the event.
-        row: u64,
-        /// Why.
-        cause: RowCause,
-    },
-    /// Want of memory.
-    OutOfMemory,
-}
-
-impl From<AllocError> for ModelStop {
-    ghost use Rattle.kt_foot.specs.declared.foot_rows.ModelStop.TheVariants.{OutOfMemory};
-
-    ghost from_gives = { λ _ stop. stop ≡ OutOfMemory };
-
-    fn from(_: AllocError) -> Self {
-        ModelStop::OutOfMemory
-    }
-}
 
 /// Why the fields of a row are refused.
 fn field_cause(row: &FootRow) -> Option<RowCause>

@@ -1,7 +1,7 @@
 use Rattle.std.proofs.Common.{◌≡◌, ◌+◌, ◌∙◌, ap, arith, sym, unwrap_or}
-use Rattle.kt_foot.specs.FootRows.{areaperil_total}
-use Rattle.kt_foot.proofs.SeenLemmas.{cause_twice, cause_sum, cause_none, seen_more, fine_prob}
-use Rattle.kt_foot.proofs.foot_rows.Seen.see.Goals as goal
+use Rattle.kt_rec.specs.FootRows.{areaperil_total}
+use Rattle.kt_model.proofs.SeenLemmas.{cause_twice, cause_sum, cause_none, seen_more, fine_prob}
+use Rattle.kt_model.proofs.foot_rows.Seen.see.Goals as goal
 
 pub returns-then-not-branch-clause-cause : goal.returns-then-not-branch-clause-cause
 returns-then-not-branch-clause-cause c = λ rows is. cause_twice rows c.args.row.now c.args.self.now is (sym c.in_default.ensures.value) _ c.in_ok-insert.ensures.added c.if-not-branch.true

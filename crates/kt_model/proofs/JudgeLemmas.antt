@@ -4,9 +4,9 @@ use Rattle.std.specs.Prelude.{option_map}
 use Rattle.std.specs.Option.{option_or}
 use Rattle.std.proofs.lemmas.List.{drop_more, take_more, length-take-le}
 use Rattle.kt_rec.specs.declared.hazard.FootRow.{FootRow}
-use Rattle.kt_foot.specs.declared.foot_rows.ModelStop.TheVariants as stop
-use Rattle.kt_foot.specs.declared.foot_rows.RowCause.{RowCause}
-use Rattle.kt_foot.specs.FootRows.{row_cause, refused_after, first_refused_row}
+use Rattle.kt_rec.specs.declared.foot_rows.ModelStop.TheVariants as stop
+use Rattle.kt_rec.specs.declared.foot_rows.RowCause.{RowCause}
+use Rattle.kt_rec.specs.FootRows.{row_cause, refused_after, first_refused_row}
 
 module _ (rows : List FootRow) (i : ℕ) (row : FootRow) (within : i < length rows) (is : row ≡ get_or rows i row) where
   -- the rows before the next one, and the next one

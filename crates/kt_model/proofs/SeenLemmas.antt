@@ -11,11 +11,11 @@ use Rattle.std.proofs.lemmas.List.Folds.{list_any-append}
 use Rattle.std.proofs.lemmas.Bool.Decides.{nat_tests}
 use Rattle.kt_keys.specs.Keys.{same_pair}
 use Rattle.kt_rec.specs.declared.hazard.FootRow.{FootRow}
-use Rattle.kt_foot.specs.declared.foot_rows.RowCause.{RowCause}
-use Rattle.kt_foot.specs.declared.foot_rows.RowCause.TheVariants as cause
-use Rattle.kt_foot.specs.declared.foot_rows.Seen.{Seen}
-use Rattle.kt_foot.specs.FootRows.{areaperil_total, field_cause, is_at, row_cause}
-use Rattle.kt_foot.specs.Seen.{IsSeen}
+use Rattle.kt_rec.specs.declared.foot_rows.RowCause.{RowCause}
+use Rattle.kt_rec.specs.declared.foot_rows.RowCause.TheVariants as cause
+use Rattle.kt_model.specs.declared.foot_rows.Seen.{Seen}
+use Rattle.kt_rec.specs.FootRows.{areaperil_total, field_cause, is_at, row_cause}
+use Rattle.kt_model.specs.Seen.{IsSeen}
 
 -- the cause where the fields are fine, by whether the row stands twice, and whether the sum is too large
 cause_is : (fields : Option RowCause) (twice above : Bool) (t a : Bool) → fields ≡ None → twice ≡ t → above ≡ a → option_or fields (cond twice (Some cause.Twice) (cond above (Some cause.Sum) None)) ≡ cond t (Some cause.Twice) (cond a (Some cause.Sum) None)
