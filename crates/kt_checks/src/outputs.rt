@@ -7,7 +7,8 @@ ghost use Rattle.kt_rec.specs.Rows.{rows_of};
 ghost use Rattle.kt_keys.specs.FirstRow.{first_where};
 ghost use Rattle.kt_keys.specs.Keys.{same_pair};
 ghost use Rattle.kt_keys.specs.Units.{top_layers};
-ghost use Rattle.kt_checks.specs.OutputChecks.{next_unit, climbed, has_layer, lacks_output, lacks_at, owes_output, owing_at, missing_output_check};
+ghost use Rattle.kt_keys.specs.Climbing.{next_unit, climbed};
+ghost use Rattle.kt_checks.specs.OutputChecks.{has_layer, lacks_output, lacks_at, owes_output, owing_at, missing_output_check};
 
 use kt_keys::{
     Need, Refusal, base, has_base, has_both, layers_of_outputs, pair_set, pair_values, policytc,

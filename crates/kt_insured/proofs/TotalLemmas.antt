@@ -8,7 +8,7 @@ use Rattle.kt_rec.specs.Rows.{Rows}
 use Rattle.kt_rec.specs.declared.financial.FmXref.{FmXref}
 use Rattle.kt_keys.specs.Keys.{policytc_of, programme_of}
 use Rattle.kt_keys.specs.Units.{top_level, top_targets}
-use Rattle.kt_checks.specs.OutputChecks.{climbed}
+use Rattle.kt_keys.specs.Climbing.{climbed}
 use Rattle.kt_tree.specs.Programme.{or_first, tree_of}
 use Rattle.kt_tree.specs.Rising.{rising, rising-distinct}
 use Rattle.kt_tree.specs.Sharing.{allocated}

@@ -9,13 +9,13 @@ use Rattle.kt_rec.specs.Rows.{FinancialRows, Rows}
 use Rattle.kt_rec.specs.declared.financial.FmPolicytc.{FmPolicytc}
 use Rattle.kt_keys.specs.Keys.{no_financial, policytc_of, programme_of}
 use Rattle.kt_keys.specs.Units.{top_level}
-use Rattle.kt_checks.specs.OutputChecks.{climbed}
+use Rattle.kt_keys.specs.Climbing.{climbed}
 use Rattle.kt_tree.specs.Programme.{layers_in, or_first, tree_of}
 use Rattle.kt_tree.specs.Rising.{IsRising, distinct-from_rising, put, rising, rising-rises}
 use Rattle.kt_tree.specs.Sharing.{allocated}
 use Rattle.kt_tree.specs.Sums.{each_then, sum_by-flat_map, sum_by-one}
 use Rattle.kt_tree.specs.Tree.{Tree, IsTree, beneath, comes_to, is_unit}
-use Rattle.kt_struck.specs.Struck.{is_struck, struck}
+use Rattle.kt_tree.specs.Struck.{is_struck, struck}
 use Rattle.kt_fmtree.specs.RisingLaws.{rising-filter}
 use Rattle.kt_fmtree.specs.Parts.{Parts, IsProgramme}
 use Rattle.kt_shares.specs.LookupLaws.{filter-absent, lookup-none}

@@ -15,7 +15,7 @@ use Rattle.kt_keys.specs.Keys.{same_triple, programme_of}
 use Rattle.kt_keys.specs.Units.{top_level}
 use Rattle.kt_index.specs.Exposure.{IsTotalOf, summary_covers}
 use Rattle.kt_checks.specs.TableChecks.{tiv_of}
-use Rattle.kt_checks.specs.OutputChecks.{next_unit}
+use Rattle.kt_keys.specs.Climbing.{next_unit}
 use Rattle.kt_tree.specs.Rising.{put, rising, IsRising, rising-member, rising-rises, rising-unique}
 use Rattle.kt_tree.specs.Tree.{is_unit}
 use Rattle.kt_fmtree.specs.RisingLaws.{rising-filter}

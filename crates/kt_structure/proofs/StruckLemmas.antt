@@ -4,10 +4,10 @@ use Rattle.std.specs.Prelude.{◌&&◌, ◌||◌, is_some}
 use Rattle.std.specs.Cmp.{nat_eq_equiv}
 use Rattle.std.proofs.lemmas.Bool.{eqb-true}
 use Rattle.std.specs.List.{AllByRecursion, filter, filter_map, flat_map, list_any}
-use Rattle.kt_checks.specs.OutputChecks.{climbed}
-use Rattle.kt_struck.specs.Members.{filter-both, member-filter}
-use Rattle.kt_struck.specs.Struck.{is_struck, struck, struck_children}
-use Rattle.kt_struck.specs.StruckLaws.{climbed-struck, struck-id, struck-is}
+use Rattle.kt_keys.specs.Climbing.{climbed}
+use Rattle.kt_tree.specs.Members.{filter-both, member-filter}
+use Rattle.kt_tree.specs.Struck.{is_struck, struck, struck_children}
+use Rattle.kt_tree.specs.StruckLaws.{climbed-struck, struck-id, struck-is}
 use Rattle.kt_tree.specs.Rising.{IsRising, rising, rising-member, rising-rises, rising-unique}
 use Rattle.kt_tree.specs.Sums.{each_then}
 use Rattle.kt_tree.specs.Tree.{Tree, beneath, comes_to, is_unit}

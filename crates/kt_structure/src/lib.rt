@@ -3,6 +3,7 @@
 
 mod building;
 mod coverage;
+pub mod laws;
 mod leaves;
 mod links;
 mod outline;
@@ -11,5 +12,4 @@ mod shared;
 mod structure;
 mod terms;
 
-pub use building::programme_of;
 pub use structure::Structure;

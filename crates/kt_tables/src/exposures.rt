@@ -6,7 +6,7 @@ ghost use Rattle.std.specs.HashMap.{get};
 ghost use Rattle.kt_rec.specs.Rows.{rows_of};
 ghost use Rattle.kt_rec.specs.declared.perspective.Perspective.TheVariants as perspective;
 ghost use Rattle.kt_keys.specs.Keys.{same_pair};
-ghost use Rattle.kt_checks.specs.OutputChecks.{climbed};
+ghost use Rattle.kt_keys.specs.Climbing.{climbed};
 ghost use Rattle.kt_index.specs.Exposure.{unit_covers};
 ghost use Rattle.kt_tables.specs.Lookups.{item_summary_rows, output_summary_rows, lies_beneath, unit_has};
 ghost use Rattle.kt_tables.specs.Kept.{AreTivs, AreAddable, AreExposures};

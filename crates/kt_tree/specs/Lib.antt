@@ -7,5 +7,8 @@ pub mod Rising
 pub mod Programme
 pub mod ExampleRows
 pub mod Examples
-pub mod ProgrammeLaws
-pub mod OutputLaws
+pub mod Struck
+pub mod Members
+pub mod StruckLaws
+pub mod StruckSharing
+pub mod StruckExamples
