@@ -4,7 +4,6 @@ use Rattle.std.specs.Prelude.{map, All, Result}
 use Rattle.std.proofs.lemmas.List.{append-nil}
 use Rattle.std.proofs.Math.Nat.{div-mul-le_self}
 use Rattle.std.proofs.Math.Seq.{drop-cons, drop-length}
-use Rattle.kt_blocks.proofs.LineLemmas.{rows_lines-append}
 use Rattle.kt_blocks.specs.Footprint.{AreEvents, IsJudgedFootprint}
 use Rattle.kt_blocks.specs.Tables.{rows_or_none}
 use Rattle.kt_cells.specs.Header.{header_extra}
@@ -21,33 +20,12 @@ use Rattle.kt_rec.specs.declared.hazard.FootprintIdx.{FootprintIdx}
 use Rattle.kt_rec.specs.declared.table.Table.TheVariants.{Footprint}
 use Rattle.kt_schema.specs.Conversions.{bin_rows, canon}
 use Rattle.kt_schema.specs.Footprint.{footprint_csv, AreRecords, IsEntryOf, HasRecords, first_record, record_number, entry_rows, indexed_rows}
+use Rattle.kt_schema.specs.FootprintLaws.{AreRows-drop, AreRows-take, entry-within, event_lines, rows_lines-append}
 use Rattle.kt_schema.specs.Tables.{kinds_of, heading_of}
 
 -- the kinds of a record of the file, which leaves the event out
 abbrev pub record_kinds : List Kind
 record_kinds = drop 1 (kinds_of Footprint)
-
--- each line of an event begins with the event
-event_lines : (event : ℕ) (rows : List (List ℕ)) → AreRows record_kinds rows → rows_lines (kinds_of Footprint) (map (λ row. event ∷ row) rows) ≡ lines_behind event record_kinds rows
-unfolding rows_lines lines_behind line fields_behind row_texts AreRows IsRow
-event_lines event [] range = refl
-event_lines event ([] ∷ rows) range = absurd range.0
-event_lines event ((first ∷ rest) ∷ rows) range =
-    ap (λ lines. (count_text event ++ 44 ∷ line (row_texts 0 record_kinds (first ∷ rest))) ++ lines) (event_lines event rows range.1)
-
--- rows in range are so from a place on
-AreRows-drop : (kinds : List Kind) (rows : List (List ℕ)) (first : ℕ) → AreRows kinds rows → AreRows kinds (drop first rows)
-unfolding AreRows
-AreRows-drop kinds rows zero range = range
-AreRows-drop kinds [] (suc first) range = tt
-AreRows-drop kinds (row ∷ rows) (suc first) range = AreRows-drop kinds rows first range.1
-
--- and up to a place
-AreRows-take : (kinds : List Kind) (rows : List (List ℕ)) (count : ℕ) → AreRows kinds rows → AreRows kinds (take count rows)
-unfolding AreRows
-AreRows-take kinds rows zero range = tt
-AreRows-take kinds [] (suc count) range = tt
-AreRows-take kinds (row ∷ rows) (suc count) range = (range.0, AreRows-take kinds rows count range.1)
 
 -- the lines of an event and of those behind it
 index-split : (rows : List (List ℕ)) (index : List FootprintIdx) (n : ℕ) (d : FootprintIdx) → n < length index
@@ -100,13 +78,6 @@ footprint-judged bytes records extra rows header is read range counted =
       are = record { are_read = here; in_range = range; room = omega (arith, many, length-drop 16 bytes, div-mul-le_self (length bytes - 16) 12) };
       counted = many;
     }
-
--- the records of an entry are among those of the file
-entry-within : (bytes rows : ℕ) (entry : FootprintIdx) → IsEntryOf bytes entry → rows ≡ (bytes - 16) / 12 → HasRecords rows entry
-entry-within bytes rows entry names count = record {
-  behind_header = names.behind_header;
-  within = omega (arith, names.behind_header, names.whole_place, names.whole_size, names.within);
-}
 
 module _ (bytes records : List ℕ) (index : List FootprintIdx) (judged : IsJudgedFootprint bytes) (is : records ≡ drop 16 bytes) where
   -- its events can be written

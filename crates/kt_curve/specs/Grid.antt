@@ -1,9 +1,10 @@
 -- The values of a summary in all periods, zeros included, and their mean and deviation.
 -- The rules: docs/CALCULATION.md, "Average annual loss".
-use Rattle.std.specs.Prelude.{Bool, true, false, ◌&&◌, nat_eq, nat_lt, suc, if◌then◌else◌, ◌≤◌, ◌≡◌, All, ℕ, ◌*◌, ℤ, pos, negsuc, List, [], ◌∷◌, map, sum, sum_by}
+use Rattle.std.specs.Prelude.{Bool, true, false, ◌&&◌, nat_eq, suc, if◌then◌else◌, ◌≤◌, ◌≡◌, All, ℕ, ◌*◌, ℤ, pos, negsuc, List, [], ◌∷◌, map, sum, sum_by}
 use Rattle.std.specs.List.{flat_map, range_with_len, filter}
 use Rattle.kt_money.specs.Rounding.{mean_of, deviation_of}
 use Rattle.kt_money.specs.declared.moments.MeanSd.{MeanSd}
+use Rattle.kt_rec.specs.Rising.{put}
 use Rattle.kt_rec.specs.declared.perspective.Perspective.{Perspective}
 use Rattle.kt_rec.specs.declared.perspective.Perspective.TheVariants.{Gul, Il, Ri}
 use Rattle.kt_rec.specs.declared.perspective.CellKey.{CellKey}
@@ -60,15 +61,10 @@ set_entries perspective set entries = filter (λ entry. in_set perspective set e
 abbrev pub summary_entries : ℕ → List (CellKey × Cell) → List (CellKey × Cell)
 summary_entries summary entries = filter (λ entry. nat_eq entry.0.summary summary) entries
 
--- an id put into a rising list of ids, unless it is there
-abbrev pub with_id : ℕ → List ℕ → List ℕ
-with_id id [] = id ∷ []
-with_id id (first ∷ later) = if nat_lt id first then id ∷ first ∷ later else (if nat_eq id first then first ∷ later else first ∷ with_id id later)
-
 -- the summary ids of a perspective and set among these keys, each once and rising
 abbrev pub summary_ids : Perspective → ℕ → List CellKey → List ℕ
 summary_ids perspective set [] = []
-summary_ids perspective set (key ∷ keys) = if in_set perspective set key then with_id key.summary (summary_ids perspective set keys) else summary_ids perspective set keys
+summary_ids perspective set (key ∷ keys) = if in_set perspective set key then put key.summary (summary_ids perspective set keys) else summary_ids perspective set keys
 
 -- the entries of one summary, within the bounds of their cells
 pub record IsGroup (perspective : Perspective) (set periods samples summary : ℕ) (group : List (CellKey × Cell)) : Type 0 where

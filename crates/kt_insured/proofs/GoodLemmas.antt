@@ -11,7 +11,7 @@ use Rattle.kt_stream.specs.declared.entry.LossRecord.{LossRecord}
 use Rattle.kt_stream.specs.Losses.{IsLoss}
 use Rattle.kt_stream.specs.Pairs.{IsId}
 use Rattle.kt_runs.specs.RunLosses.{AreWithin, event_of, run_loss}
-use Rattle.kt_tree.specs.Rising.{rising}
+use Rattle.kt_rec.specs.Rising.{rising}
 use Rattle.kt_tree.specs.Sharing.{allocated}
 use Rattle.kt_tree.specs.SharingLaws.{allocated-sum}
 use Rattle.kt_tree.specs.Sums.{sum_by-agree}

@@ -3,3 +3,4 @@ pub mod TableSet
 pub mod Rows
 pub mod Ranges
 pub mod FootRows
+pub mod Rising

@@ -10,7 +10,7 @@ use Rattle.kt_keys.specs.Units.{top_level, top_targets}
 use Rattle.kt_keys.specs.Climbing.{after, climbed, next_unit}
 use Rattle.kt_tree.specs.Programme.{or_first, tiv_beneath, tree_of}
 use Rattle.kt_structure.specs.ProgrammeLaws.{tree_of-is}
-use Rattle.kt_tree.specs.Rising.{rising-member, rising-rises}
+use Rattle.kt_rec.specs.Rising.{rising-member, rising-rises}
 use Rattle.kt_tree.specs.Tree.{is_unit}
 use Rattle.kt_tree.specs.TreeLaws.{climbed-last}
 use Rattle.kt_structure.specs.Plan.{AreTerms, found_terms, layer_link, link_key, linked}

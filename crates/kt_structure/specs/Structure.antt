@@ -7,7 +7,7 @@ use Rattle.kt_keys.specs.Keys.{same_pair}
 use Rattle.kt_keys.specs.Climbing.{climbed}
 use Rattle.kt_rules.specs.declared.profile.Profile.{Profile}
 use Rattle.kt_tree.specs.Programme.{or_first}
-use Rattle.kt_tree.specs.Rising.{IsRising}
+use Rattle.kt_rec.specs.Rising.{IsRising}
 use Rattle.kt_tree.specs.Tree.{Tree, IsTree, beneath, is_unit}
 use Rattle.kt_structure.specs.Plan.{found_terms, linked}
 use Rattle.kt_structure.specs.declared.links.Link.{Link}

@@ -3,7 +3,7 @@
 ghost use Rattle.std.specs.Prelude.{◌≡◌, ◌<◌, nat_eq, true, length, map, All, IfOk, slice_index};
 ghost use Rattle.std.specs.List.{AllByRecursion, list_any};
 ghost use Rattle.kt_tree.specs.Struck.{struck};
-ghost use Rattle.kt_tree.specs.Rising.{IsRising};
+ghost use Rattle.kt_rec.specs.Rising.{IsRising};
 ghost use Rattle.kt_tree.specs.Tree.{Tree};
 ghost use Rattle.kt_fmtree.specs.Parts.{IsProgramme};
 ghost use Rattle.kt_structure.specs.Plan.{build_levels, build_leaves};

@@ -7,7 +7,7 @@ ghost use Rattle.kt_keys.specs.Climbing.{climbed};
 ghost use Rattle.kt_keys.specs.Keys.{same_pair};
 ghost use Rattle.kt_tree.specs.Programme.{or_first};
 ghost use Rattle.kt_structure.specs.Plan.{found_terms, layer_link, link_key, linked};
-ghost use Rattle.kt_tree.specs.Rising.{rising, IsRising};
+ghost use Rattle.kt_rec.specs.Rising.{rising, IsRising};
 ghost use Rattle.kt_tree.specs.Tree.{is_unit};
 
 use crate::links::{Link, children};

@@ -3,7 +3,6 @@ pub mod Tree
 pub mod TreeLaws
 pub mod Sharing
 pub mod SharingLaws
-pub mod Rising
 pub mod Programme
 pub mod ExampleRows
 pub mod Examples

@@ -13,7 +13,7 @@ use Rattle.kt_keys.specs.Units.{top_level, top_targets}
 use Rattle.kt_keys.specs.Climbing.{climbed, next_unit}
 use Rattle.kt_rules.specs.Profiles.{profile_of}
 use Rattle.kt_rules.specs.declared.profile.Profile.{Profile}
-use Rattle.kt_tree.specs.Rising.{rising}
+use Rattle.kt_rec.specs.Rising.{rising}
 use Rattle.kt_tree.specs.Tree.{Tree, is_unit}
 
 -- ---- units

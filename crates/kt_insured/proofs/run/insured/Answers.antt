@@ -4,7 +4,7 @@ use Rattle.kt_stream.specs.Losses.{IsLoss}
 use Rattle.kt_stream.specs.declared.entry.LossRecord.{LossRecord}
 use Rattle.kt_tree.specs.Struck.{is_struck, struck}
 use Rattle.kt_tree.specs.Programme.{tree_of}
-use Rattle.kt_tree.specs.Rising.{IsRising}
+use Rattle.kt_rec.specs.Rising.{IsRising}
 use Rattle.kt_fmtree.specs.RisingLaws.{rising-filter}
 use Rattle.kt_insured.specs.Insured.{insured_records, layer_sums}
 use Rattle.kt_insured.specs.declared.sums.LayerSum.{LayerSum}

@@ -3,9 +3,8 @@ use Rattle.std.specs.Prelude.{◌≡◌, ℕ, ◌<◌, ◌≤◌, ◌||◌, Bool
 use Rattle.std.specs.List.{AllByRecursion, IsDistinct, list_any}
 use Rattle.std.specs.Cmp.{nat_eq_equiv}
 use Rattle.std.proofs.Common.{refl, sym, ap, ◌∙◌, arith}
-use Rattle.std.proofs.lemmas.Bool.{eqb-true, eqb-false, ltb-true, ltb-false, or_left, true≢false}
+use Rattle.std.proofs.lemmas.Bool.{eqb-true, eqb-false, le-ltb, lt-ltb, ltb-true, ltb-false, or_left, true≢false}
 use Rattle.std.proofs.lemmas.Bool.Decides.{nat_tests}
-use Rattle.kt_tree.specs.Sums.{each_then}
 
 -- an id among rising ones, where it is not there yet
 abbrev pub put : ℕ → List ℕ → List ℕ
@@ -25,7 +24,7 @@ IsRising (id ∷ ids) = AllByRecursion (λ other. id < other) ids × IsRising id
 -- ---- what is among them
 
 -- an id that was put is among them, and those that were
-put-member : (id : ℕ) (ids : List ℕ) (other : ℕ) → list_any (nat_eq other) (put id ids) ≡ (nat_eq other id || list_any (nat_eq other) ids)
+pub put-member : (id : ℕ) (ids : List ℕ) (other : ℕ) → list_any (nat_eq other) (put id ids) ≡ (nat_eq other id || list_any (nat_eq other) ids)
 put-member id [] other = refl
 put-member id (first ∷ ids) other = by (nat_lt id first) (nat_eq id first) refl (put-member id ids other)
   where
@@ -48,30 +47,49 @@ pub rising-member : (ids : List ℕ) (other : ℕ) → list_any (nat_eq other) (
 rising-member [] other = refl
 rising-member (id ∷ ids) other = put-member id (rising ids) other ∙ ap (λ b. nat_eq other id || b) (rising-member ids other)
 
+-- an id below all stands first
+pub put-first : (id : ℕ) (ids : List ℕ) → AllByRecursion (λ other. id < other) ids → put id ids ≡ id ∷ ids
+put-first id [] above = refl
+put-first id (other ∷ ids) above = ap (λ b. cond b (id ∷ other ∷ ids) (cond (nat_eq id other) (other ∷ ids) (other ∷ put id ids))) (lt-ltb id other above.0)
+
+-- an id that stands first is not put there again
+pub put-again : (id : ℕ) (ids : List ℕ) → put id (id ∷ ids) ≡ id ∷ ids
+put-again id ids =
+    ap (λ b. cond b (id ∷ id ∷ ids) (cond (nat_eq id id) (id ∷ ids) (id ∷ put id ids))) (le-ltb id id (omega arith))
+    ∙ ap (λ b. cond b (id ∷ ids) (id ∷ put id ids)) (nat_eq_equiv.refl id)
+
 -- ---- their order
+
+-- what holds of an id and of others holds of them with it put among them
+pub put-all : (P : ℕ → Type 0) (id : ℕ) (ids : List ℕ) → P id → AllByRecursion P ids → AllByRecursion P (put id ids)
+put-all P id [] here all = (here, tt)
+put-all P id (first ∷ ids) here all = by (nat_lt id first) (nat_eq id first) (put-all P id ids here all.1)
+  where
+    by : (below same : Bool) → AllByRecursion P (put id ids) → AllByRecursion P (cond below (id ∷ (first ∷ ids)) (cond same (first ∷ ids) (first ∷ put id ids)))
+    by true same rest = (here, all)
+    by false true rest = all
+    by false false rest = (all.0, rest)
+
+-- what holds of ids holds of them rising
+pub rising-all : (P : ℕ → Type 0) (ids : List ℕ) → AllByRecursion P ids → AllByRecursion P (rising ids)
+rising-all P [] all = tt
+rising-all P (id ∷ ids) all = put-all P id (rising ids) all.0 (rising-all P ids all.1)
 
 -- ids above one are above a lower one
 pub above-all : (low high : ℕ) (ids : List ℕ) → low ≤ high → AllByRecursion (λ other. high < other) ids → AllByRecursion (λ other. low < other) ids
-above-all low high ids less above = each_then _ _ (λ other h. omega arith) ids above
+above-all low high [] less above = tt
+above-all low high (id ∷ ids) less above = (omega (arith, above.0), above-all low high ids less above.1)
 
-put-rising : (id : ℕ) (ids : List ℕ) → IsRising ids → IsRising (put id ids)
+-- an id that is put among rising ones
+pub put-rising : (id : ℕ) (ids : List ℕ) → IsRising ids → IsRising (put id ids)
 unfolding IsRising
 put-rising id [] rises = (tt, tt)
 put-rising id (first ∷ ids) rises = by (nat_lt id first) (nat_eq id first) refl refl (put-rising id ids rises.1)
   where
-    above : (ids : List ℕ) → first < id → AllByRecursion (λ other. first < other) ids → AllByRecursion (λ other. first < other) (put id ids)
-    above [] less all = (less, tt)
-    above (next ∷ ids) less all = step (nat_lt id next) (nat_eq id next) (above ids less all.1)
-      where
-        step : (below same : Bool) → AllByRecursion (λ other. first < other) (put id ids) → AllByRecursion (λ other. first < other) (cond below (id ∷ (next ∷ ids)) (cond same (next ∷ ids) (next ∷ put id ids)))
-        step true same rest = (less, all)
-        step false true rest = all
-        step false false rest = (all.0, rest)
-
     by : (below same : Bool) → nat_lt id first ≡ below → nat_eq id first ≡ same → IsRising (put id ids) → IsRising (cond below (id ∷ (first ∷ ids)) (cond same (first ∷ ids) (first ∷ put id ids)))
     by true same is other rest = let less = ltb-true id first is in ((less, above-all id first ids (omega arith) rises.0), rises)
     by false true is other rest = rises
-    by false false is other rest = let least = ltb-false id first is in let apart = eqb-false id first other in (above ids (omega arith) rises.0, rest)
+    by false false is other rest = let least = ltb-false id first is in let apart = eqb-false id first other in (put-all (λ other. first < other) id ids (omega arith) rises.0, rest)
 
 -- rising ids rise
 pub rising-rises : (ids : List ℕ) → IsRising (rising ids)
@@ -83,10 +101,14 @@ rising-rises (id ∷ ids) = put-rising id (rising ids) (rising-rises ids)
 pub distinct-from_rising : (ids : List ℕ) → IsRising ids → IsDistinct nat_eq ids
 unfolding IsRising IsDistinct
 distinct-from_rising [] rises = tt
-distinct-from_rising (id ∷ ids) rises = (each_then _ _ (λ other less. apart id other less) ids rises.0, distinct-from_rising ids rises.1)
+distinct-from_rising (id ∷ ids) rises = (apart ids rises.0, distinct-from_rising ids rises.1)
   where
-    apart : (one other : ℕ) → one < other → nat_eq one other ≡ false
-    apart one other less = grind (arith, nat_tests)
+    apart : (others : List ℕ) → AllByRecursion (λ other. id < other) others → AllByRecursion (λ other. nat_eq id other ≡ false) others
+    apart [] above = tt
+    apart (other ∷ others) above = (one id other above.0, apart others above.1)
+      where
+        one : (low high : ℕ) → low < high → nat_eq low high ≡ false
+        one low high less = grind (arith, nat_tests)
 
 -- rising ids are distinct
 pub rising-distinct : (ids : List ℕ) → IsDistinct nat_eq (rising ids)
