@@ -14,12 +14,11 @@ ghost use Rattle.kt_structure.specs.Plan.{build_levels, build_leaves};
 ghost use Rattle.kt_structure.specs.Ready.{IsReady};
 ghost use Rattle.kt_structure.specs.Structure.{Fits, HasFit, HasStructure, IsStructure, kept_by};
 
-use crate::leaves::places;
 use crate::links::{Link, links, links_up};
 use crate::outline::{beneath, ids, layers, reached, taken, terms, tops};
 use crate::plan::Plan;
 use crate::structure::{Structure, structure_at};
-use kt_fmtree::{Node, Programme};
+use kt_fmtree::{Node, Programme, places_of};
 use kt_index::ByKey;
 use kt_keys::programme;
 use kt_rec::Tables;
@@ -50,7 +49,7 @@ fn levels_of(
     let units = copy_of(alloc, tops)?;
     let mut levels = Vec::new(alloc);
     let found = plan.levels(alloc, top, units, &mut levels)?;
-    let leaves = places(alloc, ids, &found)?;
+    let leaves = places_of(alloc, ids, &found)?;
     Ok((levels, leaves))
 }
 

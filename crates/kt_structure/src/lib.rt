@@ -3,7 +3,6 @@
 
 mod building;
 mod coverage;
-mod leaves;
 mod links;
 mod outline;
 mod plan;
