@@ -2,7 +2,7 @@
 //! The rule: docs/FINANCIAL_MODULE.md, "Allocation".
 
 /// An amount of the unit at a place of its level, in the order of the tree.
-#[derive(Clone, Copy, Debug)]
+#[derive(Clone, Copy)]
 pub(crate) struct PlacedPart {
     /// The place of the unit.
     pub place: usize,

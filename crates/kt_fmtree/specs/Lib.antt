@@ -3,3 +3,4 @@ pub mod Carried
 pub mod CarriedLaws
 pub mod PartsLaws
 pub mod RisingLaws
+pub mod LoopLaws

@@ -6,7 +6,7 @@ use kt_rules::Carry;
 use std::marker::Model;
 
 /// The four amounts of each unit below the top level, and of each top those that come to it. Contracts see the lists.
-#[derive(Debug, Drop)]
+#[derive(Drop)]
 pub struct Levels {
     pub(crate) rows: Vec<Vec<Carry>>,
     pub(crate) bases: Vec<Carry>,

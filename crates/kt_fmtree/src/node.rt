@@ -3,7 +3,7 @@
 use kt_rules::Profile;
 
 /// A unit of a level. Its children stand side by side in the level below.
-#[derive(Clone, Copy, Debug)]
+#[derive(Clone, Copy)]
 pub struct Node {
     /// The unit.
     pub unit: u32,

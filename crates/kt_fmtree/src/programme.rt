@@ -9,7 +9,7 @@ use std::marker::Model;
 
 /// The tree of a programme, level by level. Contracts see its lists, and say what they give by the trees of which they are the
 /// lists.
-#[derive(Debug, Drop)]
+#[derive(Drop)]
 pub struct Programme {
     pub(crate) ids: Vec<u32>,
     pub(crate) leaves: Vec<usize>,

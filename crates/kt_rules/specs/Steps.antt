@@ -1,14 +1,13 @@
 -- The steps of the table of rules, and what they make of the four amounts.
-use Rattle.std.specs.Prelude.{◌≡◌, ℕ, ◌-◌, ◌&&◌, Bool, true, cond, nat_le, List, [], ◌∷◌}
+use Rattle.std.specs.Prelude.{ℕ, ◌&&◌, Bool, true, List, [], ◌∷◌}
 use Rattle.kt_money.specs.Rounding.{ppm_part}
 use Rattle.kt_rules.specs.declared.carry.Carry.{Carry}
 use Rattle.kt_rules.specs.declared.profile.Profile.{Profile}
 use Rattle.kt_rules.specs.declared.steps.Step.{Step}
 use Rattle.kt_rules.specs.declared.steps.Step.TheVariants as step
-use Rattle.kt_rules.specs.declared.table.Row.{Row}
 use Rattle.kt_rules.specs.Amounts.{deduct, limited, attached, shared, franchise, reverse_franchise, at_most, at_least, between}
 use Rattle.kt_rec.specs.Ranges.{is_deductible_part, is_limit_part}
-use Rattle.kt_rules.specs.Rules.{part_of, bounded_part_of, rule_of}
+use Rattle.kt_rules.specs.Rules.{part_of, bounded_part_of}
 
 -- what a step makes of the four amounts, beside the insured value and the loss before the rule's first step
 abbrev pub after_step : Step → Profile → ℕ → ℕ → Carry → Carry
@@ -50,12 +49,3 @@ can_step _ rule = true
 abbrev pub can_take : List Step → ℕ → Bool
 can_take [] rule = true
 can_take (step ∷ steps) rule = can_step step rule && can_take steps rule
-
--- the steps of a row make what the rule of its number makes, and it may take them
-pub record IsRight (row : Row) : Type 0 where
-  pub makes : (terms : Profile) (tiv : ℕ) (carry : Carry) → after_steps row.steps terms tiv carry.loss carry ≡ rule_of row.rule terms tiv carry
-  pub can : can_take row.steps row.rule ≡ true
-
--- the place of a rule in the table
-abbrev pub place_of : ℕ → ℕ
-place_of rule = cond (nat_le rule 26) (rule - 1) 26

@@ -17,7 +17,7 @@ use crate::profile::Profile;
 use kt_money::ppm_of;
 
 /// A step of a rule. `Loss` is the loss before the rule's first step.
-#[derive(Clone, Copy, Debug, PartialEq, Eq)]
+#[derive(Clone, Copy)]
 pub(crate) enum Step {
     /// Leaves the amounts as they are.
     Nothing,

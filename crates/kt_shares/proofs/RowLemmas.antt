@@ -84,11 +84,11 @@ pub row-start : (tree : Tree) (losses : ℕ → ℕ) (rule : ℕ) → HasRow tre
 row-start tree losses rule = record { shares_are = refl; policies_are = refl; totals_are = refl }
 
 -- one more layer
-pub row-more : (tree : Tree) (losses : ℕ → ℕ) (rule : ℕ) (layers : List TopLayer) (i : ℕ) (one : TopLayer) (all policies totals made all_now policies_now totals_now : List ℕ) (policy total : ℕ) → i < length layers → one ≡ slice_index_or layers i one → HasRow tree losses rule (take i layers) all policies totals
+pub row-more : (tree : Tree) (losses : ℕ → ℕ) (rule : ℕ) (layers : List TopLayer) (i : ℕ) (d one : TopLayer) (all policies totals made all_now policies_now totals_now : List ℕ) (policy total : ℕ) → i < length layers → one ≡ slice_index_or layers i d → HasRow tree losses rule (take i layers) all policies totals
     → made ≡ shares tree losses rule one.top one.layer → policy ≡ policy_loss tree losses one.top one.layer → total ≡ sum made
     → all_now ≡ all ++ made → policies_now ≡ policies ++ policy ∷ [] → totals_now ≡ totals ++ total ∷ []
     → HasRow tree losses rule (take (i + 1) layers) all_now policies_now totals_now
-row-more tree losses rule layers i one all policies totals made all_now policies_now totals_now policy total below one_is so_far made_is policy_is total_is all_is policies_is totals_is = record {
+row-more tree losses rule layers i d one all policies totals made all_now policies_now totals_now policy total below one_is so_far made_is policy_is total_is all_is policies_is totals_is = record {
   shares_are =
       all_is
       ∙ (ap (λ front. front ++ made) so_far.shares_are
@@ -108,8 +108,8 @@ row-more tree losses rule layers i one all policies totals made all_now policies
   where
     keys : map key_of (take (i + 1) layers) ≡ map key_of (take i layers) ++ key_of one ∷ []
     keys =
-        ap (map key_of) (take_more layers i one below)
-        ∙ (map-append key_of (take i layers) (slice_index_or layers i one ∷ [])
+        ap (map key_of) (take_more layers i d below)
+        ∙ (map-append key_of (take i layers) (slice_index_or layers i d ∷ [])
         ∙ ap (λ one. map key_of (take i layers) ++ key_of one ∷ []) (sym one_is))
 
 -- the losses carried up are those of a function of the ids, where it is the same at the places, and the others have none

@@ -12,7 +12,7 @@ use kt_fmtree::Programme;
 use std::alloc::{AllocError, Global};
 
 /// A layer of a top.
-#[derive(Clone, Copy, Debug)]
+#[derive(Clone, Copy)]
 pub struct TopLayer {
     /// The place of the top among the tops, counted from 0.
     pub node: u32,

@@ -19,7 +19,7 @@ use std::alloc::{AllocError, Global};
 const FIRST: u64 = 2_147_483_646;
 
 /// The losses of a record, sidx by sidx from -2 up, with the place of its id.
-#[derive(Debug, Drop)]
+#[derive(Drop)]
 pub(crate) struct PlacedLosses {
     /// The place of the id among those of a programme.
     pub place: usize,

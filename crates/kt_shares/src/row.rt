@@ -16,7 +16,7 @@ use std::alloc::{AllocError, Global};
 use std::marker::Model;
 
 /// What layers have at one sidx.
-#[derive(Debug, Drop)]
+#[derive(Drop)]
 pub struct Row {
     /// The shares of their policy losses, one behind the other.
     shares: Vec<u64>,

@@ -1,5 +1,4 @@
 pub mod PlanLemmas
-pub mod LeafLemmas
 pub mod CoverageLemmas
 pub mod FindLemmas
 pub mod AssemblyLemmas

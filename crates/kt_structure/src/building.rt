@@ -9,12 +9,11 @@ ghost use Rattle.kt_fmtree.specs.Parts.{IsProgramme};
 ghost use Rattle.kt_structure.specs.Plan.{build_levels, build_leaves};
 ghost use Rattle.kt_structure.specs.Structure.{Fits, HasFit, HasStructure, IsStructure, kept_by};
 
-use crate::leaves::places;
 use crate::links::{Link, links_up};
 use crate::outline::{beneath, layers, reached, taken, terms};
 use crate::plan::Plan;
 use crate::structure::Structure;
-use kt_fmtree::{Node, Programme};
+use kt_fmtree::{Node, Programme, places_of};
 use kt_index::ByKey;
 use std::alloc::{AllocError, Global};
 
@@ -42,7 +41,7 @@ fn levels_of(
     let units = copy_of(alloc, tops)?;
     let mut levels = Vec::new(alloc);
     let found = plan.levels(alloc, top, units, &mut levels)?;
-    let leaves = places(alloc, ids, &found)?;
+    let leaves = places_of(alloc, ids, &found)?;
     Ok((levels, leaves))
 }
 

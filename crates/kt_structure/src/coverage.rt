@@ -12,6 +12,7 @@ ghost use Rattle.kt_checks.specs.TableChecks.{tiv_of};
 ghost use Rattle.kt_tree.specs.Programme.{coverage_of, covered_ids};
 ghost use Rattle.kt_structure.specs.Coverages.{climb_rows, rows_for, own_pair};
 
+use kt_checks::tivs as coverage_tivs;
 use kt_index::{SummaryUnit, UnitCoverage, exposures};
 use kt_keys::first_values;
 use kt_rec::{Coverage, FmXref, Item, Tables};
@@ -152,31 +153,6 @@ fn own_pairs(alloc: Global, coverages: &[Coverage]) -> Result<Vec<UnitCoverage>,
             coverage: row.coverage_id,
         })
         .collect(alloc)
-}
-
-/// The coverages with what they are worth.
-fn tiv_pairs(alloc: Global, coverages: &[Coverage]) -> Result<Vec<(u32, u64)>, AllocError>
-    ensures value { IfOk result (λ pairs. pairs.items ≡ map (λ row. (row.coverage_id, row.tiv)) coverages.now) }
-{
-    coverages
-        .iter()
-        .map(|row| (row.coverage_id, row.tiv))
-        .collect(alloc)
-}
-
-/// What each number has in its first pair.
-fn first_tivs(alloc: Global, pairs: &[(u32, u64)]) -> Result<HashMap<u32, u64>, AllocError>
-    ensures value { IfOk result (λ found. (id : ℕ) → get nat_eq found id ≡ lookup (nat_eq id) pairs.now) }
-{
-    first_values(alloc, pairs)
-}
-
-/// What coverages are worth, by coverage.
-fn coverage_tivs(alloc: Global, coverages: &[Coverage]) -> Result<HashMap<u32, u64>, AllocError>
-    ensures value { IfOk result (λ found. (id : ℕ) → unwrap_or (get nat_eq found id) 0 ≡ tiv_of coverages.now id) }
-{
-    let pairs = tiv_pairs(alloc, coverages)?;
-    first_tivs(alloc, &pairs)
 }
 
 /// What the distinct coverages beneath each unit of each level are worth, by level and unit, for ids with their coverages.

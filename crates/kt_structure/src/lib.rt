@@ -4,7 +4,6 @@
 mod building;
 mod coverage;
 pub mod laws;
-mod leaves;
 mod links;
 mod outline;
 mod plan;

@@ -4,19 +4,17 @@ ghost use Rattle.std.specs.Prelude.{◌≡◌, ◌+◌, ◌++◌, ◌*◌, ◌^�
 ghost use Rattle.std.specs.HashMap.{get};
 ghost use Rattle.std.specs.List.{filter, flat_map};
 ghost use Rattle.kt_keys.specs.Keys.{same_pair};
-ghost use Rattle.kt_keys.specs.Climbing.{next_unit};
 ghost use Rattle.kt_rec.specs.Rising.{rising};
-ghost use Rattle.kt_structure.specs.Plan.{link_key, links_up};
+ghost use Rattle.kt_structure.specs.Plan.{link_key, link_of, links_up};
 
 use kt_fmtree::rising;
 use kt_index::{ByKey, Keyed, pair_key};
-use kt_keys::{pair_values, steps_of};
 use kt_rec::FmProgramme;
 use std::alloc::{AllocError, Global};
 use std::collections::HashMap;
 
 /// The losses of a unit come to a unit of a level.
-#[derive(Clone, Copy, Debug, Drop)]
+#[derive(Clone, Copy, Drop)]
 pub(crate) struct Link {
     pub level: u32,
     pub unit: u32,
@@ -108,15 +106,4 @@ pub(crate) fn children(
     let ids = children_of(alloc, found)?;
     let ids = rising(ids)?;
     Ok(ids)
-}
-
-/// The unit that the losses of each unit come to. The key is the next level and the unit.
-pub(crate) fn next_units(
-    alloc: Global,
-    programme: &[FmProgramme],
-) -> Result<HashMap<(u32, u32), u32>, AllocError>
-    ensures value { IfOk result (λ next. (key : ℕ × ℕ) → get same_pair next key ≡ next_unit programme.now key) }
-{
-    let steps = steps_of(alloc, programme)?;
-    pair_values(alloc, &steps)
 }

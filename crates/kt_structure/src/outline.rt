@@ -20,6 +20,13 @@ use kt_rules::Profile;
 use std::alloc::{AllocError, Global};
 use std::collections::HashMap;
 
+/// Whether the losses of an id come to a unit.
+fn is_taken(next: &HashMap<(u32, u32), u32>, id: u32) -> bool
+    ensures value { result ≡ is_some (get same_pair next.now (1, id)) }
+{
+    next.get(&(1, id)).is_some()
+}
+
 /// The ids of a list whose losses come to a unit.
 fn among(
     alloc: Global,
@@ -28,13 +35,10 @@ fn among(
 ) -> Result<Vec<u32>, AllocError>
     ensures value { IfOk result (λ taken. taken.items ≡ filter (λ id. is_some (get same_pair next.now (1, id))) ids.now) }
 {
-    let mut taken = Vec::with_capacity(alloc, ids.len())?;
-    for id in ids {
-        if next.get(&(1, *id)).is_some() {
-            taken.push(*id)?;
-        }
-    }
-    Ok(taken)
+    ids.iter()
+        .copied()
+        .filter(|id| is_taken(next, *id))
+        .collect(alloc)
 }
 
 /// The ids of a list whose losses come to a unit, rising.

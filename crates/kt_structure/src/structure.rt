@@ -9,9 +9,10 @@ ghost use Rattle.kt_structure.specs.Ready.{IsReady};
 ghost use Rattle.kt_structure.specs.Structure.{IsStructure, kept_by};
 
 use crate::coverage::{covered_ids, tivs};
-use crate::links::{Link, next_units};
+use crate::links::Link;
 use crate::outline::layer_links;
 use crate::terms::Terms;
+use kt_checks::next_units;
 use kt_index::ByKey;
 use kt_keys::{policytc, profile, programme, top_level};
 use kt_rec::Tables;

@@ -1,6 +1,6 @@
 use Rattle.std.proofs.Common.{arith}
 use Rattle.std.proofs.lemmas.Grind.{common_steps}
-use Rattle.kt_structure.proofs.leaves.places.Goals as goal
+use Rattle.kt_fmtree.proofs.places.places_of.Goals as goal
 
 pub loop-id-preserved : goal.loop-id-preserved
 loop-id-preserved c = grind (arith, common_steps)

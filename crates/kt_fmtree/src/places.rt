@@ -1,4 +1,4 @@
-//! The places of the ids in the order of the tree.
+//! The places of ids among rising ids.
 //! The rule: docs/FINANCIAL_MODULE.md, "Levels".
 ghost use Rattle.std.specs.Prelude.{◌≡◌, ◌<◌, nat_eq, true, length, map, All, IfOk, slice_index};
 ghost use Rattle.std.specs.List.{AllByRecursion, list_any};
@@ -19,15 +19,15 @@ fn place_of(ids: &[u32], id: u32) -> usize
     }
 }
 
-/// The places of ids among rising ids.
-pub(crate) fn places(alloc: Global, ids: &[u32], leaves: &[u32]) -> Result<Vec<usize>, AllocError>
+/// The places of ids among rising ids that have them. An error is want of memory.
+pub fn places_of(alloc: Global, ids: &[u32], wanted: &[u32]) -> Result<Vec<usize>, AllocError>
     requires rising { IsRising ids.now }
-    requires members { AllByRecursion (λ id. list_any (nat_eq id) ids.now ≡ true) leaves.now }
+    requires members { AllByRecursion (λ id. list_any (nat_eq id) ids.now ≡ true) wanted.now }
     ensures within { IfOk result (λ places. All (λ place. place < length ids.now) places.items) }
-    ensures value { IfOk result (λ places. map (slice_index ids.now) places.items ≡ leaves.now) }
+    ensures value { IfOk result (λ places. map (slice_index ids.now) places.items ≡ wanted.now) }
 {
-    let mut places = Vec::with_capacity(alloc, leaves.len())?;
-    for id in leaves {
+    let mut places = Vec::with_capacity(alloc, wanted.len())?;
+    for id in wanted {
         places.push(place_of(ids, *id))?;
     }
     Ok(places)
