@@ -1,9 +1,9 @@
 -- Ids by rising number, each once.
-use Rattle.std.specs.Prelude.{◌≡◌, ℕ, ◌<◌, ◌≤◌, ◌||◌, Bool, true, false, cond, nat_eq, nat_lt, List, [], ◌∷◌}
+use Rattle.std.specs.Prelude.{◌≡◌, ◌⊎◌, ℕ, ◌<◌, ◌≤◌, ◌||◌, Bool, true, false, cond, nat_eq, nat_lt, List, [], ◌∷◌}
 use Rattle.std.specs.List.{AllByRecursion, IsDistinct, list_any}
 use Rattle.std.specs.Cmp.{nat_eq_equiv}
-use Rattle.std.proofs.Common.{refl, sym, ap, ◌∙◌, arith}
-use Rattle.std.proofs.lemmas.Bool.{eqb-true, eqb-false, le-ltb, lt-ltb, ltb-true, ltb-false, or_left, true≢false}
+use Rattle.std.proofs.Common.{inl, inr, refl, sym, ap, ◌∙◌, arith}
+use Rattle.std.proofs.lemmas.Bool.{cases_lt, eqb-true, eqb-false, le-ltb, lt-ltb, ltb-true, ltb-false, true≢false}
 use Rattle.std.proofs.lemmas.Bool.Decides.{nat_tests}
 
 -- an id among rising ones, where it is not there yet
@@ -97,18 +97,19 @@ unfolding IsRising
 rising-rises [] = tt
 rising-rises (id ∷ ids) = put-rising id (rising ids) (rising-rises ids)
 
+-- a number is not one above it
+apart : (low high : ℕ) → low < high → nat_eq low high ≡ false
+apart low high less = grind (arith, nat_tests)
+
 -- ids that rise are distinct
 pub distinct-from_rising : (ids : List ℕ) → IsRising ids → IsDistinct nat_eq ids
 unfolding IsRising IsDistinct
 distinct-from_rising [] rises = tt
-distinct-from_rising (id ∷ ids) rises = (apart ids rises.0, distinct-from_rising ids rises.1)
+distinct-from_rising (id ∷ ids) rises = (others ids rises.0, distinct-from_rising ids rises.1)
   where
-    apart : (others : List ℕ) → AllByRecursion (λ other. id < other) others → AllByRecursion (λ other. nat_eq id other ≡ false) others
-    apart [] above = tt
-    apart (other ∷ others) above = (one id other above.0, apart others above.1)
-      where
-        one : (low high : ℕ) → low < high → nat_eq low high ≡ false
-        one low high less = grind (arith, nat_tests)
+    others : (ids : List ℕ) → AllByRecursion (λ other. id < other) ids → AllByRecursion (λ other. nat_eq id other ≡ false) ids
+    others [] above = tt
+    others (other ∷ ids) above = (apart id other above.0, others ids above.1)
 
 -- rising ids are distinct
 pub rising-distinct : (ids : List ℕ) → IsDistinct nat_eq (rising ids)
@@ -116,48 +117,36 @@ rising-distinct ids = distinct-from_rising (rising ids) (rising-rises ids)
 
 -- ---- rising ids are told by what is among them
 
--- what is among ids that are above one is above it
-above-member : (low : ℕ) (ids : List ℕ) → AllByRecursion (λ other. low < other) ids → (id : ℕ) → list_any (nat_eq id) ids ≡ true → low < id
-above-member low [] above id member = absurd (true≢false (sym member))
-above-member low (first ∷ ids) above id member = by (nat_eq id first) refl member (above-member low ids above.1 id)
+-- the first is among its own
+first-member : (id : ℕ) (ids : List ℕ) → list_any (nat_eq id) (id ∷ ids) ≡ true
+first-member id ids = ap (λ b. b || list_any (nat_eq id) ids) (nat_eq_equiv.refl id)
+
+-- an id below all is not among them
+below-member : (id : ℕ) (ids : List ℕ) → AllByRecursion (λ other. id < other) ids → list_any (nat_eq id) ids ≡ false
+below-member id [] above = refl
+below-member id (other ∷ ids) above = ap (λ b. b || list_any (nat_eq id) ids) (apart id other above.0) ∙ below-member id ids above.1
+
+-- the first of rising ids is not above one that is among them
+first-least : (x y : ℕ) (xs ys : List ℕ) → AllByRecursion (λ other. y < other) ys → list_any (nat_eq x) (x ∷ xs) ≡ list_any (nat_eq x) (y ∷ ys) → y ≤ x
+first-least x y xs ys above same = by (cases_lt x y)
   where
-    by : (b : Bool) → nat_eq id first ≡ b → (b || list_any (nat_eq id) ids) ≡ true → (list_any (nat_eq id) ids ≡ true → low < id) → low < id
-    by true is member rest = let same = eqb-true id first is in let less = above.0 in omega arith
-    by false is member rest = rest member
+    by : (x < y) ⊎ (y ≤ x) → y ≤ x
+    by (inr least) = least
+    by (inl less) = absurd (true≢false (sym (first-member x xs) ∙ (same ∙ below-member x (y ∷ ys) (less, above-all x y ys (omega arith) above))))
 
 -- two rising lists with the same ids are one
 pub rising-unique : (one other : List ℕ) → IsRising one → IsRising other → ((id : ℕ) → list_any (nat_eq id) one ≡ list_any (nat_eq id) other) → one ≡ other
 unfolding IsRising
 rising-unique [] [] rises rises_too same = refl
-rising-unique [] (first ∷ other) rises rises_too same = absurd (true≢false (sym (same first ∙ or_left (nat_eq first first) _ (nat_eq_equiv.refl first))))
-rising-unique (first ∷ one) [] rises rises_too same = absurd (true≢false (sym (or_left (nat_eq first first) _ (nat_eq_equiv.refl first)) ∙ same first))
-rising-unique (first ∷ one) (second ∷ other) rises rises_too same =
-    let here : first ≡ second = heads in
-    let rest : one ≡ other = rising-unique one other rises.1 rises_too.1 (tails here) in
-    rw (here, rest) refl
+rising-unique [] (y ∷ ys) rises rises_too same = absurd (true≢false (sym (same y ∙ first-member y ys)))
+rising-unique (x ∷ xs) [] rises rises_too same = absurd (true≢false (sym (first-member x xs) ∙ same x))
+rising-unique (x ∷ xs) (y ∷ ys) rises rises_too same = ap (λ id. id ∷ xs) first ∙ ap (λ ids. y ∷ ids) (rising-unique xs ys rises.1 rises_too.1 (λ id. later id (nat_eq id x) refl))
   where
-    heads : first ≡ second
-    heads = by (nat_eq first second) refl (same first) (nat_eq second first) refl (same second)
-      where
-        by : (b : Bool) → nat_eq first second ≡ b → (nat_eq first first || list_any (nat_eq first) one) ≡ (b || list_any (nat_eq first) other) → (c : Bool) → nat_eq second first ≡ c → (c || list_any (nat_eq second) one) ≡ (nat_eq second second || list_any (nat_eq second) other) → first ≡ second
-        by true is e c is_too e_too = eqb-true first second is
-        by false is e true is_too e_too = sym (eqb-true second first is_too)
-        by false is e false is_too e_too =
-            let up = above-member second other rises_too.0 first (sym e ∙ or_left (nat_eq first first) _ (nat_eq_equiv.refl first)) in
-            let down = above-member first one rises.0 second (e_too ∙ or_left (nat_eq second second) _ (nat_eq_equiv.refl second)) in
-            omega arith
+    first : x ≡ y
+    first = let low = first-least x y xs ys rises_too.0 (same x) in let high = first-least y x ys xs rises.0 (sym (same y)) in omega arith
 
-    tails : first ≡ second → (id : ℕ) → list_any (nat_eq id) one ≡ list_any (nat_eq id) other
-    tails here id = by (nat_eq id first) (nat_eq id second) refl refl (same id)
-      where
-        none : (low : ℕ) (ids : List ℕ) → AllByRecursion (λ x. low < x) ids → id ≡ low → list_any (nat_eq id) ids ≡ false
-        none low ids above is = not_member (list_any (nat_eq id) ids) refl
-          where
-            not_member : (b : Bool) → list_any (nat_eq id) ids ≡ b → list_any (nat_eq id) ids ≡ false
-            not_member true member = let less = above-member low ids above id member in absurd (omega arith)
-            not_member false member = member
-
-        by : (b c : Bool) → nat_eq id first ≡ b → nat_eq id second ≡ c → (b || list_any (nat_eq id) one) ≡ (c || list_any (nat_eq id) other) → list_any (nat_eq id) one ≡ list_any (nat_eq id) other
-        by false false is is_too e = e
-        by true c is is_too e = let at = eqb-true id first is in none first one rises.0 at ∙ sym (none second other rises_too.0 (at ∙ here))
-        by false true is is_too e = let at = eqb-true id second is_too in none first one rises.0 (at ∙ sym here) ∙ sym (none second other rises_too.0 at)
+    later : (id : ℕ) (b : Bool) → nat_eq id x ≡ b → list_any (nat_eq id) xs ≡ list_any (nat_eq id) ys
+    later id true is =
+        let own = eqb-true id x is in
+        ap (λ n. list_any (nat_eq n) xs) own ∙ (below-member x xs rises.0 ∙ (sym (below-member y ys rises_too.0) ∙ ap (λ n. list_any (nat_eq n) ys) (sym (own ∙ first))))
+    later id false is = ap (λ b. b || list_any (nat_eq id) xs) (sym is) ∙ (same id ∙ ap (λ b. b || list_any (nat_eq id) ys) (ap (nat_eq id) (sym first) ∙ is))
