@@ -16,7 +16,7 @@ use std::alloc::{AllocError, Global};
 use std::collections::HashMap;
 
 /// An output of a unit, or of an item.
-#[derive(Clone, Copy, Debug, Drop)]
+#[derive(Clone, Copy, Drop)]
 struct UnitOutput {
     agg_id: u32,
     output_id: u32,
@@ -119,7 +119,8 @@ impl OutputIndex {
     fn push_ids(&self, unit: u32, ids: &mut Vec<u32>) -> Result<(), AllocError>
         ensures ok { OnOk result (ids.new.items ≡ ids.old.items ++ ids_at self.now unit) }
     {
-        for row in self.by_unit.of(u64::from(unit)) {
+        let rows = self.by_unit.of(u64::from(unit));
+        for row in rows {
             ids.push(row.output_id)?;
         }
         Ok(())

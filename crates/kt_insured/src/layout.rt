@@ -10,6 +10,7 @@ ghost use Rattle.kt_rec.specs.Rising.{IsRising};
 ghost use Rattle.kt_tree.specs.Tree.{Tree};
 ghost use Rattle.kt_fmtree.specs.Parts.{IsProgramme};
 ghost use Rattle.kt_insured.specs.Index.{AreIndexed};
+ghost use Rattle.kt_insured.specs.Insured.{in_order};
 ghost use Rattle.kt_insured.specs.Layout.{IsLayout, keys_for, outlet_of, place_in};
 ghost use Rattle.kt_shares.specs.Layers.{IsTopLayer, key_of};
 
@@ -23,7 +24,7 @@ use std::collections::HashMap;
 use std::marker::Model;
 
 /// An output that has a loss, and its place in a row of shares.
-#[derive(Clone, Copy, Debug)]
+#[derive(Clone, Copy)]
 pub(crate) struct Outlet {
     /// The output.
     pub(crate) id: u32,
@@ -33,7 +34,7 @@ pub(crate) struct Outlet {
 
 /// Where the loss of each output stands in a row of shares: of the layers of all tops, by top and then by layer, the shares of
 /// each policy loss.
-#[derive(Debug, Drop)]
+#[derive(Drop)]
 pub(crate) struct Layout {
     pub(crate) rule: u32,
     pub(crate) layers: Vec<TopLayer>,
@@ -151,6 +152,21 @@ fn outlets_of(
     Ok(outlets)
 }
 
+/// The outputs that have a place among keys, with it, by rising output.
+fn outlets_for(
+    alloc: Global,
+    outputs: &OutputIndex,
+    keys: &[(u32, u32)],
+) -> Result<Vec<Outlet>, AllocError>
+    ensures value { IfOk result (λ outlets. (all : List FmXref) → AreIndexed all outputs.now → outlets.items ≡ filter_map (outlet_of keys.now) (in_order all)) }
+{
+    let places = places_of(alloc, keys)?;
+    let units = units_of(alloc, keys)?;
+    let found = outputs.of(alloc, &units)?;
+    let outlets = outlets_of(alloc, &places, &found)?;
+    Ok(outlets)
+}
+
 impl Layout {
     /// The layout of outputs for a programme and an allocation rule, 0 to 2. An error is want of memory.
     pub(crate) fn new(
@@ -165,10 +181,7 @@ impl Layout {
     {
         let layers = top_layers(alloc, programme)?;
         let keys = keys_of(alloc, programme, rule, &layers)?;
-        let places = places_of(alloc, &keys)?;
-        let units = units_of(alloc, &keys)?;
-        let found = outputs.of(alloc, &units)?;
-        let outlets = outlets_of(alloc, &places, &found)?;
+        let outlets = outlets_for(alloc, outputs, &keys)?;
         Ok(Layout {
             rule,
             layers,

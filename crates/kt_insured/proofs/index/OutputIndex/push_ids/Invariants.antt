@@ -1,6 +1,5 @@
-use Rattle.std.proofs.Common.{◌≡◌, ◌++◌, map, nat_eq, take}
-use Rattle.std.specs.List.{filter}
+use Rattle.std.proofs.Common.{◌≡◌, ◌++◌, map, take}
 use Rattle.kt_insured.proofs.index.OutputIndex.push_ids.Given as goal
 
 abbrev pub invariant-loop-row : goal.invariant-loop-row
-invariant-loop-row l = l.ids.items ≡ l.fn.ids.items ++ map (λ row. row.output_id) (take l.row-index (filter (λ row. nat_eq row.agg_id l.unit) l.self.by_unit))
+invariant-loop-row l = l.ids.items ≡ l.fn.ids.items ++ map (λ row. row.output_id) (take l.row-index l.rows)

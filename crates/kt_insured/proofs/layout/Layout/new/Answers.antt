@@ -1,11 +1,9 @@
 use Rattle.std.proofs.Common.{◌≡◌, ◌∙◌, ℕ, List, map, ap, subst, sym}
-use Rattle.std.specs.HashMap.{get}
 use Rattle.std.specs.List.{AllByRecursion, filter_map}
-use Rattle.kt_keys.specs.Keys.{same_pair}
 use Rattle.kt_shares.specs.Layers.{IsTopLayer, key_of}
 use Rattle.kt_shares.specs.declared.layers.TopLayer.{TopLayer}
-use Rattle.kt_insured.specs.Layout.{keys, keys_for, outlet_of, place_in}
-use Rattle.kt_insured.proofs.IndexLemmas.{outlets-found}
+use Rattle.kt_insured.specs.Insured.{in_order}
+use Rattle.kt_insured.specs.Layout.{keys, keys_for, outlet_of}
 use Rattle.kt_insured.proofs.layout.Layout.new.Goals as goal
 
 pub keys_of-requires : goal.keys_of-requires
@@ -19,15 +17,8 @@ returns-clause-value c = λ tree all is indexed.
     c.in_ok-keys.ensures.value tree is
     ∙ (ap (λ (layers : List TopLayer). keys_for tree rule (map key_of layers)) c.deref.ensures.value
     ∙ ap (keys_for tree rule) layers_are) in
-    let finds : (key : ℕ × ℕ) → get same_pair c.in_ok-places.places key ≡ place_in (keys tree rule) key =
-    λ key. c.in_ok-places.ensures.value key ∙ ap (λ (found : List (ℕ × ℕ)). place_in found key) (c.deref-2.ensures.value ∙ keys_are) in
-    let units_are : c.in_ok-units.units.items ≡ map (λ key. key.0) (keys tree rule) =
-    c.in_ok-units.ensures.value ∙ ap (map (λ (key : ℕ × ℕ). key.0)) (c.deref-3.ensures.value ∙ keys_are) in
     record {
       layers_are = layers_are;
       layers_within = c.in_ok-layers.ensures.within;
-      outlets_are =
-          c.in_ok-outlets.ensures.value (keys tree rule) finds
-          ∙ (ap (filter_map (outlet_of (keys tree rule))) (c.deref-5.ensures.value ∙ c.in_ok-found.ensures.value)
-          ∙ outlets-found all c.args.outputs.now indexed (keys tree rule) c.deref-4.result.now (c.deref-4.ensures.value ∙ units_are));
+      outlets_are = c.in_ok-outlets.ensures.value all indexed ∙ ap (λ (found : List (ℕ × ℕ)). filter_map (outlet_of found) (in_order all)) (c.deref-2.ensures.value ∙ keys_are);
     }
