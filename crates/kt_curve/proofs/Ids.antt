@@ -3,7 +3,6 @@ use Rattle.std.proofs.Common.{◌≡◌, ◌≢◌, ◌⊎◌, inl, inr, ℕ, �
 use Rattle.std.specs.Prelude.{Bool, true, false, ◌&&◌, ◌||◌, nat_eq, nat_lt, All, ℤ, Some, None}
 use Rattle.std.specs.List.{flat_map, list_any, range_with_len}
 use Rattle.std.specs.Map.{keys_of}
-use Rattle.std.specs.BTreeMap.{is_at}
 use Rattle.std.proofs.lemmas.Bool.{cases_lt}
 use Rattle.std.proofs.lemmas.Bool.Decides.{nat_tests, Decides-eqb}
 use Rattle.std.proofs.lemmas.List.Elements.{All-head, All-tail, All-nil, All-cons, All-weaker}
@@ -14,7 +13,6 @@ use Rattle.std.proofs.lemmas.Map.Entries.{lookup-filter-keys}
 use Rattle.kt_rec.specs.Rising.{IsRising, put, put-member, put-rising, rising-unique}
 use Rattle.kt_rec.specs.declared.perspective.Perspective.{Perspective}
 use Rattle.kt_rec.specs.declared.perspective.CellKey.{CellKey}
-use Rattle.kt_rec.specs.contracts.perspective.CellKeyOrd.TheImpl as key_order
 use Rattle.kt_curve.specs.declared.cell.Cell.{Cell}
 use Rattle.kt_curve.specs.Losses.{KeyLoss, same_key, key_of, total, maximum}
 use Rattle.kt_curve.specs.Grid.{in_set, summary_ids, summary_entries, keys_for, HasSet}
@@ -163,7 +161,7 @@ ids_of_standing p s losses es part stands has_set positive =
 -- what the entries of a summary have at its keys is what all entries have
 pub cell_in_summary : (p : Perspective) (s u : ℕ) (x : ℤ) (t : ℕ) (es part : List (CellKey × Cell)) → HasSet p s part es → cell_at (summary_entries u part) (key_of p s u x t) ≡ cell_at es (key_of p s u x t)
 cell_in_summary p s u x t es part has_set =
-    lookup-filter-keys (is_at (key_order.ghosts.cmp (key_of p s u x t))) (λ key. nat_eq key.summary u) true
+    lookup-filter-keys (same_key (key_of p s u x t)) (λ key. nat_eq key.summary u) true
     (λ k same. ap (λ key. nat_eq key.summary u) (sym (same_exact (key_of p s u x t) k same)) ∙ (Decides-eqb u u).1 refl) part
     ∙ has_set (key_of p s u x t) (is_in_set p s (key_of p s u x t) refl refl)
 

@@ -16,7 +16,9 @@ use Rattle.kt_rec.specs.declared.perspective.CellKey.{CellKey}
 use Rattle.kt_rec.specs.contracts.perspective.CellKeyOrd.TheImpl as key_order
 use Rattle.kt_rec.specs.contracts.perspective.PerspectiveOrd.TheImpl as perspective_order
 use Rattle.kt_curve.specs.declared.cell.Cell.{Cell}
-use Rattle.kt_curve.specs.Grid.{in_set, same_perspective, summary_ids, summary_entries, by_summary}
+use Rattle.kt_curve.specs.Losses.{same_perspective}
+use Rattle.kt_curve.proofs.Keys.{same_perspective_itself}
+use Rattle.kt_curve.specs.Grid.{in_set, summary_ids, summary_entries, by_summary}
 
 -- ---- the order of the summaries
 
@@ -109,12 +111,7 @@ ids_above p s u (key ∷ keys) above =
 -- a key of the set is in it
 pub is_in_set : (p : Perspective) (s : ℕ) (key : CellKey) → key.perspective ≡ p → key.set ≡ s → in_set p s key ≡ true
 is_in_set p s key perspective set =
-    ap (λ q. same_perspective q p && nat_eq key.set s) perspective ∙ ap (λ b. b && nat_eq key.set s) (itself p) ∙ (Decides-eqb key.set s).1 set
-  where
-    itself : (p : Perspective) → same_perspective p p ≡ true
-    itself Gul = refl
-    itself Il = refl
-    itself Ri = refl
+    ap (λ q. same_perspective q p && nat_eq key.set s) perspective ∙ ap (λ b. b && nat_eq key.set s) (same_perspective_itself p) ∙ (Decides-eqb key.set s).1 set
 
 -- a type for keys of a set
 abbrev pub OwnKey : Perspective → ℕ → CellKey × Cell → Type 0

@@ -2,11 +2,10 @@
 use crate::cell::CellStop;
 use crate::cells::Cells;
 
-/// Takes what may be sent to threads and shared by them.
-fn is_shared<T: Send + Sync>(_: &T) {}
+/// Names types that may be sent to threads and shared by them.
+fn are_shared<T: Send + Sync>() {}
 
 /// Each type once.
-pub(crate) fn are_shared(cells: &Cells, stop: &CellStop) {
-    is_shared(cells);
-    is_shared(stop);
+pub(crate) fn cells_are_shared() {
+    are_shared::<(Cells, CellStop)>();
 }

@@ -39,47 +39,16 @@ fn write_together<I: Inputs, K: Sink>(
     ensures files { (I.state inputs.new).held ≡ (I.state inputs.old).held }
     ensures counted { (outputs : OutputsState) (source : SourceState) → Counted (world (I.state inputs.old) outputs source (K.state sink.old)) (world (I.state inputs.new) outputs source (K.state sink.new)) (end_status result) }
 {
+    macro_rules! streams {
+        ($kind:expr) => {
+            each_file(alloc, &mut StreamFiles::new($kind), words, sizes, inputs, sink)
+        };
+    }
     match kind {
-        FileKind::Cdf => {
-            each_file(
-                alloc,
-                &mut StreamFiles::new(CdfStreams),
-                words,
-                sizes,
-                inputs,
-                sink,
-            )
-        }
-        FileKind::Gul => {
-            each_file(
-                alloc,
-                &mut StreamFiles::new(GulStreams),
-                words,
-                sizes,
-                inputs,
-                sink,
-            )
-        }
-        FileKind::Loss => {
-            each_file(
-                alloc,
-                &mut StreamFiles::new(LossStreams),
-                words,
-                sizes,
-                inputs,
-                sink,
-            )
-        }
-        FileKind::Summary => {
-            each_file(
-                alloc,
-                &mut StreamFiles::new(SummaryStreams),
-                words,
-                sizes,
-                inputs,
-                sink,
-            )
-        }
+        FileKind::Cdf => streams!(CdfStreams),
+        FileKind::Gul => streams!(GulStreams),
+        FileKind::Loss => streams!(LossStreams),
+        FileKind::Summary => streams!(SummaryStreams),
         FileKind::Plain => each_file(alloc, &mut PlainBytes, words, sizes, inputs, sink),
     }
 }
