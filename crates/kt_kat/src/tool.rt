@@ -3,9 +3,9 @@
 ghost use Rattle.std.specs.Prelude.{◌≡◌, ◌<◌, ◌+◌, ℕ, List, length, Ok, IfSome};
 ghost use Rattle.kt_out.specs.OutputFiles.{OutputsState};
 ghost use Rattle.kt_out.specs.Reading.{SourceState};
-ghost use Rattle.kt_ends.specs.Ending.{Counted, Ended};
+ghost use Rattle.kt_ends.specs.Ending.{Counted, ToolEnds};
 ghost use Rattle.kt_ends.specs.Stops.{end_status};
-ghost use Rattle.kt_ends.specs.World.{world, Finds};
+ghost use Rattle.kt_ends.specs.World.{world};
 ghost use Rattle.kt_loop.specs.Settling.{IsEnd};
 ghost use Rattle.kt_words.specs.FileNames.{file_names};
 ghost use Rattle.kt_kat.specs.Files.{files_of};
@@ -62,7 +62,7 @@ pub fn kat<I: Inputs, K: Sink>(
 ) -> Result<(), ToolStop>
     requires { 0 < length (file_names words.now) }
     // The source and the output files are none of its objects: whatever they hold and have counted stays so.
-    ensures { (outputs : OutputsState) (source : SourceState) → Ended (Finds kat_uses (world (I.state inputs.old) outputs source (K.state sink.old))) kat_uses (λ files _. kat_outcome (file_names words.now) files) (world (I.state inputs.old) outputs source (K.state sink.old)) (world (I.state inputs.new) outputs source (K.state sink.new)) (end_status result) }
+    ensures { (outputs : OutputsState) (source : SourceState) → ToolEnds kat_uses (λ files _. kat_outcome (file_names words.now) files) (world (I.state inputs.old) outputs source (K.state sink.old)) (world (I.state inputs.new) outputs source (K.state sink.new)) (end_status result) }
 {
     let sizes = match find_sizes(alloc, words, inputs) {
         Ok(sizes) => sizes,
