@@ -1,7 +1,6 @@
 -- The lines of the footprint, event by event.
 use Rattle.std.proofs.Common.{◌≡◌, ℕ, zero, suc, ◌+◌, ◌-◌, ◌*◌, ◌/◌, ◌<◌, List, [], ◌∷◌, ◌++◌, length, take, drop, get_or, Ok, refl, sym, ap, subst, ◌∙◌, arith, add-one, length-drop}
 use Rattle.std.specs.Prelude.{map, All, Result}
-use Rattle.std.proofs.lemmas.List.{append-nil}
 use Rattle.std.proofs.Math.Nat.{div-mul-le_self}
 use Rattle.std.proofs.Math.Seq.{drop-cons, drop-length}
 use Rattle.kt_blocks.specs.Footprint.{AreEvents, IsJudgedFootprint}
@@ -10,7 +9,7 @@ use Rattle.kt_cells.specs.Header.{header_extra}
 use Rattle.kt_cells.specs.Laws.{SlicesGiveSlices}
 use Rattle.kt_cells.specs.Lines.{line, fields_behind, rows_lines, lines_behind}
 use Rattle.kt_cells.specs.Ranges.{IsRow, AreRows}
-use Rattle.kt_cells.specs.Reading.{and_then, and_then-ok}
+use Rattle.kt_cells.specs.Reading.{and_then}
 use Rattle.kt_cells.specs.Records.{record_rows, record_width}
 use Rattle.kt_cells.specs.Texts.{row_texts}
 use Rattle.kt_cells.specs.declared.kind.Kind.{Kind}
@@ -90,19 +89,10 @@ module _ (bytes records : List ℕ) (index : List FootprintIdx) (judged : IsJudg
   }
 
   -- and its text is the heading and their lines
-  pub footprint-text : (start : List ℕ) → start ≡ canon Footprint [] → footprint_csv bytes index ≡ Ok (start ++ rows_lines (kinds_of Footprint) (indexed_rows (rows_or_none (record_rows 2 record_kinds records)) (drop 0 index)))
+  pub footprint-text : (start : List ℕ) → start ≡ line (heading_of Footprint) → footprint_csv bytes index ≡ Ok (start ++ rows_lines (kinds_of Footprint) (indexed_rows (rows_or_none (record_rows 2 record_kinds records)) (drop 0 index)))
   unfolding rows_lines
   footprint-text start head_is =
       let rows : rows_or_none (record_rows 2 record_kinds records) ≡ judged.rows = ap (λ b. rows_or_none (record_rows 2 record_kinds b)) is ∙ ap rows_or_none judged.are.are_read in
-      let head : start ≡ line (heading_of Footprint) = head_is ∙ append-nil (line (heading_of Footprint)) in
       ap (λ found. and_then found (λ file. Ok (canon Footprint (indexed_rows file.1 index)))) judged.are_read
       ∙ ap (λ (read : List (List ℕ)). Ok (line (heading_of Footprint) ++ rows_lines (kinds_of Footprint) (indexed_rows read index))) (sym rows)
-      ∙ ap (λ (text : List ℕ). Ok (text ++ rows_lines (kinds_of Footprint) (indexed_rows (rows_or_none (record_rows 2 record_kinds records)) index))) (sym head)
-
--- the text of a footprint without events is the heading
-pub footprint-heading : (file text : List ℕ) → footprint_csv file [] ≡ Ok text → text ≡ canon Footprint []
-unfolding indexed_rows
-footprint-heading file text made =
-    let found = and_then-ok (bin_rows Footprint file) (λ file. Ok (canon Footprint (indexed_rows file.1 []))) text made in
-    let same : Ok (canon Footprint []) ≡ Ok text = found.2 in
-    cc (same)
+      ∙ ap (λ (text : List ℕ). Ok (text ++ rows_lines (kinds_of Footprint) (indexed_rows (rows_or_none (record_rows 2 record_kinds records)) index))) (sym head_is)
