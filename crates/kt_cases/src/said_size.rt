@@ -1,22 +1,23 @@
 //! Input files of which one says another size than it has.
+//! The language: README.md, "Settings".
 ghost use Rattle.std.specs.Prelude.{None};
 
 use kt_out::{Absent, Fault, Inputs, MemInputs};
 
-/// Input files of which one says another size than it has. A read behind its bytes fails, as in a file that has become
-/// shorter.
+/// Input files of which one says another size than it has. A read behind its bytes fails, as in a file
+/// that has become shorter.
 #[derive(Drop)]
-pub(crate) struct SaidSize {
+pub(crate) struct SaidSize<'a> {
     files: MemInputs,
-    name: String,
+    name: &'a [u8],
     size: u64,
     failed: u64,
     missed: u64,
 }
 
-impl SaidSize {
+impl<'a> SaidSize<'a> {
     /// The file of this name says this size.
-    pub(crate) fn new(files: MemInputs, name: String, size: u64) -> Self {
+    pub(crate) fn new(files: MemInputs, name: &'a [u8], size: u64) -> Self {
         SaidSize {
             files,
             name,
@@ -27,7 +28,7 @@ impl SaidSize {
     }
 }
 
-impl Inputs for SaidSize {
+impl Inputs for SaidSize<'_> {
     ghost state = { λ s. record { held = None; faults = s.failed; misses = s.missed } };
 
     fn faults(&self) -> u64 {
@@ -40,7 +41,7 @@ impl Inputs for SaidSize {
 
     fn size(&mut self, name: &[u8]) -> Result<u64, Absent> {
         match self.files.size(name) {
-            Ok(_) if name == self.name.as_bytes() => Ok(self.size),
+            Ok(_) if name == self.name => Ok(self.size),
             Ok(size) => Ok(size),
             Err(Absent::Missing) => {
                 self.missed = self.missed.saturating_add(1);
