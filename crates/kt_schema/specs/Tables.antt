@@ -8,22 +8,14 @@ use Rattle.kt_cells.specs.declared.kind.Kind.TheVariants as kind
 
 -- a file of the table begins with a header
 abbrev pub has_header : Table → Bool
-has_header table.Events = false
-has_header table.Items = false
 has_header table.Coverages = true
 has_header table.Footprint = true
-has_header table.FootprintIdx = false
 has_header table.Vulnerability = true
 has_header table.DamageBinDict = true
 has_header table.Random = true
-has_header table.FmProgramme = false
-has_header table.FmPolicytc = false
 has_header table.FmProfile = true
-has_header table.FmXref = false
-has_header table.GulSummaryXref = false
-has_header table.FmSummaryXref = false
 has_header table.Occurrence = true
-has_header table.ReturnPeriods = false
+has_header t = false
 
 -- the kinds of the columns
 abbrev pub kinds_of : Table → List Kind
@@ -46,14 +38,12 @@ kinds_of table.ReturnPeriods = kind.Id ∷ []
 
 -- the names of the columns behind the first
 abbrev pub names_behind : Table → List (List ℕ)
-names_behind table.Events = []
 names_behind table.Items = codes "coverage_id" ∷ codes "areaperil_id" ∷ codes "vulnerability_id" ∷ codes "group_id" ∷ []
 names_behind table.Coverages = codes "tiv" ∷ []
 names_behind table.Footprint = codes "areaperil_id" ∷ codes "intensity_bin_id" ∷ codes "prob" ∷ []
 names_behind table.FootprintIdx = codes "offset" ∷ codes "size" ∷ []
 names_behind table.Vulnerability = codes "intensity_bin_id" ∷ codes "damage_bin_id" ∷ codes "prob" ∷ []
 names_behind table.DamageBinDict = codes "bin_from" ∷ codes "bin_to" ∷ codes "interpolation" ∷ codes "interval_type" ∷ []
-names_behind table.Random = []
 names_behind table.FmProgramme = codes "level_id" ∷ codes "to_agg_id" ∷ []
 names_behind table.FmPolicytc = codes "level_id" ∷ codes "agg_id" ∷ codes "policytc_id" ∷ []
 names_behind table.FmProfile = codes "calcrule_id" ∷ codes "deductible1" ∷ codes "deductible2" ∷ codes "deductible3" ∷ codes "attachment1" ∷ codes "limit1" ∷ codes "share1" ∷ codes "share2" ∷ codes "share3" ∷ []
@@ -61,7 +51,7 @@ names_behind table.FmXref = codes "agg_id" ∷ codes "layer_id" ∷ []
 names_behind table.GulSummaryXref = codes "summary_id" ∷ codes "summaryset_id" ∷ []
 names_behind table.FmSummaryXref = codes "summary_id" ∷ codes "summaryset_id" ∷ []
 names_behind table.Occurrence = codes "period_no" ∷ codes "occ_year" ∷ codes "occ_month" ∷ codes "occ_day" ∷ []
-names_behind table.ReturnPeriods = []
+names_behind t = []
 
 -- the name of the first column
 abbrev pub first_name : Table → List ℕ
@@ -88,57 +78,15 @@ heading_of t = first_name t ∷ names_behind t
 
 -- the least number that a header may end with: the number of periods of an occurrence table, else 0
 abbrev pub least_extra : Table → ℕ
-least_extra table.Events = 0
-least_extra table.Items = 0
-least_extra table.Coverages = 0
-least_extra table.Footprint = 0
-least_extra table.FootprintIdx = 0
-least_extra table.Vulnerability = 0
-least_extra table.DamageBinDict = 0
-least_extra table.Random = 0
-least_extra table.FmProgramme = 0
-least_extra table.FmPolicytc = 0
-least_extra table.FmProfile = 0
-least_extra table.FmXref = 0
-least_extra table.GulSummaryXref = 0
-least_extra table.FmSummaryXref = 0
 least_extra table.Occurrence = 1
-least_extra table.ReturnPeriods = 0
+least_extra t = 0
 
 -- the greatest
 abbrev pub most_extra : Table → ℕ
-most_extra table.Events = 0
-most_extra table.Items = 0
-most_extra table.Coverages = 0
-most_extra table.Footprint = 0
-most_extra table.FootprintIdx = 0
-most_extra table.Vulnerability = 0
-most_extra table.DamageBinDict = 0
-most_extra table.Random = 0
-most_extra table.FmProgramme = 0
-most_extra table.FmPolicytc = 0
-most_extra table.FmProfile = 0
-most_extra table.FmXref = 0
-most_extra table.GulSummaryXref = 0
-most_extra table.FmSummaryXref = 0
 most_extra table.Occurrence = 100000
-most_extra table.ReturnPeriods = 0
+most_extra t = 0
 
 -- the first column of the table never falls
 abbrev pub is_ordered : Table → Bool
-is_ordered table.Events = false
-is_ordered table.Items = false
-is_ordered table.Coverages = false
 is_ordered table.Footprint = true
-is_ordered table.FootprintIdx = false
-is_ordered table.Vulnerability = false
-is_ordered table.DamageBinDict = false
-is_ordered table.Random = false
-is_ordered table.FmProgramme = false
-is_ordered table.FmPolicytc = false
-is_ordered table.FmProfile = false
-is_ordered table.FmXref = false
-is_ordered table.GulSummaryXref = false
-is_ordered table.FmSummaryXref = false
-is_ordered table.Occurrence = false
-is_ordered table.ReturnPeriods = false
+is_ordered t = false

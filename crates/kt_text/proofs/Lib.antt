@@ -4,6 +4,7 @@ pub mod PlainLemmas
 pub mod PlainRowLemmas
 pub mod ReaderLemmas
 pub mod RowLemmas
+pub mod RunLemmas
 pub mod ScalingLemmas
 pub mod TrimmingLemmas
 pub mod ValueLemmas

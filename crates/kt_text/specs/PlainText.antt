@@ -1,5 +1,7 @@
 -- Fields that stand in a text as they are, and the ends of lines.
-use Rattle.std.specs.Prelude.{◌≡◌, ℕ, ◌==◌, ◌||◌, Bool, true, false, not, List, [], ◌∷◌, ◌++◌, take, drop}
+use Rattle.std.specs.Prelude.{◌≡◌, ℕ, ◌+◌, ◌<◌, ◌==◌, ◌&&◌, ◌||◌, ◌⊎◌, nat_lt, Bool, true, false, not, List, [], ◌∷◌, ◌++◌, take, drop}
+use Rattle.std.specs.Char.{is_ascii_digit}
+use Rattle.std.specs.List.{prefix_len, position_or_len}
 use Rattle.csv.specs.Writing.{default_writer, needs_quotes}
 use Rattle.csv.specs.Reading.{records, default_config, is_bom, strip_bom}
 use Rattle.csv.specs.Machine.{next_record}
@@ -47,6 +49,22 @@ ends_heading b = (b == 34) || is_line_end b
 abbrev pub begins_with_point : List ℕ → Bool
 begins_with_point [] = false
 begins_with_point (b ∷ rest) = b == 46
+
+-- how many digits stand at the front of a text
+abbrev pub digits_before : List ℕ → ℕ
+digits_before text = prefix_len is_ascii_digit text
+
+-- behind the digits at the front of a text stands a point, and behind it no digit, or more than so many
+abbrev pub LacksDecimals : ℕ → List ℕ → Type 0
+LacksDecimals most text =
+    let whole = digits_before text in
+    (begins_with_point (drop whole text) ≡ true) × ((digits_before (drop (whole + 1) text) ≡ 0) ⊎ (most < digits_before (drop (whole + 1) text)))
+
+-- the first line of a text has a byte or more, no quote, and an end
+abbrev pub has_plain_heading : List ℕ → Bool
+has_plain_heading text =
+    let size = position_or_len ends_heading text in
+    nat_lt 0 size && begins_with_line_end (drop size text)
 
 -- these fields of the first record of a text are read, and the next one begins at the rest
 pub record BeginsField (text : List ℕ) (fields : List (List ℕ)) (rest : List ℕ) : Type 0 where

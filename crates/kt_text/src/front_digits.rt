@@ -1,7 +1,8 @@
 //! The digits at the front of a text.
 
-ghost use Rattle.std.specs.Prelude.{◌≡◌, ◌≤◌, ◌<◌, ◌^◌, length, take};
+ghost use Rattle.std.specs.Prelude.{◌≡◌, ◌≤◌, ◌<◌, ◌^◌, length, min, take};
 ghost use Rattle.std.specs.Str.Parse.{AllDigits, digits_value};
+ghost use Rattle.kt_text.specs.PlainText.{digits_before};
 
 /// As many digits as a number has at most: their value fits 64 bits.
 const MOST: usize = 18;
@@ -23,6 +24,7 @@ pub(crate) fn front_digits(text: &[u8]) -> FrontDigits
     ensures digits { AllDigits 10 (take result.count text.now) }
     ensures bound { result.value < 10 ^ result.count }
     ensures value { result.value ≡ digits_value 10 (take result.count text.now) }
+    ensures all { result.count ≡ min (digits_before text.now) 18 }
 {
     let mut value = 0;
     for (count, byte) in text.iter().enumerate() {

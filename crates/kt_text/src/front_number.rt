@@ -1,8 +1,8 @@
 //! The number at the front of a text, in digits with or without decimals: what nearly every field of a table is.
 
-ghost use Rattle.std.specs.Prelude.{◌≡◌, ◌≤◌, ◌<◌, ◌^◌, ◌+◌, ◌-◌, ◌*◌, ◌⊎◌, Ok, length, take, drop, IfSome};
+ghost use Rattle.std.specs.Prelude.{◌≡◌, ◌≤◌, ◌<◌, ◌^◌, ◌+◌, ◌-◌, ◌*◌, ◌⊎◌, Ok, length, min, take, drop, IfSome, IfNone};
 ghost use Rattle.kt_text.specs.Numbers.{count_value, decimal_value};
-ghost use Rattle.kt_text.specs.PlainText.{IsField, begins_with_point as point_begins};
+ghost use Rattle.kt_text.specs.PlainText.{IsField, LacksDecimals, digits_before, begins_with_point as point_begins};
 
 use crate::front_digits::{FrontDigits, front_digits};
 
@@ -26,6 +26,10 @@ pub fn front_count(text: &[u8]) -> Option<FrontNumber>
     ensures within { IfSome result (λ number. number.size ≤ length text.now) }
     ensures field { IfSome result (λ number. IsField text.now number.size) }
     ensures value { IfSome result (λ number. count_value (take number.size text.now) ≡ Ok number.value) }
+    ensures all { IfSome result (λ number. number.size ≡ min (digits_before text.now) 18) }
+
+    // There is none where no digit stands at the front.
+    ensures none { IfNone result (digits_before text.now ≡ 0) }
 {
     let digits = front_digits(text);
     if digits.count == 0 {
@@ -45,6 +49,9 @@ pub fn front_amount(text: &[u8], scale: usize) -> Option<FrontNumber>
     ensures within { IfSome result (λ number. number.size ≤ length text.now) }
     ensures field { IfSome result (λ number. IsField text.now number.size) }
     ensures value { IfSome result (λ number. decimal_value scale (take number.size text.now) ≡ Ok number.value) }
+
+    // There is none where no digit stands at the front, or more than 11, or a point without decimals or with too many.
+    ensures none { IfNone result ((digits_before text.now ≡ 0) ⊎ ((11 < digits_before text.now) ⊎ LacksDecimals scale text.now)) }
 {
     let whole = front_digits(text);
     if whole.count == 0 || whole.count > MOST_WHOLE {

@@ -1,11 +1,11 @@
 //! Rows that stand in a text without quotes: where their fields begin and end. Nothing is copied.
 
-ghost use Rattle.std.specs.Prelude.{◌≡◌, ◌≤◌, ◌<◌, ℕ, List, true, false, [], length, take, drop, IfSome};
-ghost use Rattle.std.specs.List.{list_any};
+ghost use Rattle.std.specs.Prelude.{◌≡◌, ◌≤◌, ◌<◌, ◌⊎◌, ℕ, List, true, false, cond, [], length, take, drop, IfSome, IfNone};
+ghost use Rattle.std.specs.List.{list_all, list_any, position_or_len};
 ghost use Rattle.csv.specs.Reading.{records, default_config, strip_bom};
 ghost use Rattle.csv.specs.Writing.{default_writer, needs_byte};
 ghost use Rattle.kt_text.specs.Rows.{csv_rows};
-ghost use Rattle.kt_text.specs.PlainText.{csv_records, BeginsField, EndsField, StandsBehind, IsField, is_line_end as ends_line, ends_heading as heading_ends, begins_with_line_end, begins_with_mark, begins_with_row};
+ghost use Rattle.kt_text.specs.PlainText.{csv_records, BeginsField, EndsField, StandsBehind, IsField, is_line_end as ends_line, ends_heading as heading_ends, has_plain_heading, begins_with_comma, begins_with_line_end, begins_with_mark, begins_with_row};
 
 // Whether a byte has a meaning of its own: a comma, a quote or the end of a line.
 fn is_mark(byte: u8) -> bool
@@ -35,6 +35,7 @@ fn ends_heading(byte: u8) -> bool
 pub fn field_length(text: &[u8]) -> usize
     ensures within { result ≤ length text.now }
     ensures field { IsField text.now result }
+    ensures whole { result ≡ position_or_len (needs_byte default_writer) text.now }
 {
     for (place, byte) in text.iter().enumerate() {
         if is_mark(*byte) {
@@ -48,6 +49,7 @@ pub fn field_length(text: &[u8]) -> usize
 fn heading_length(text: &[u8]) -> usize
     ensures within { result ≤ length text.now }
     ensures plain { list_any heading_ends (take result text.now) ≡ false }
+    ensures whole { result ≡ position_or_len heading_ends text.now }
 {
     for (place, byte) in text.iter().enumerate() {
         if ends_heading(*byte) {
@@ -73,6 +75,7 @@ fn row_behind(text: &[u8]) -> Option<&[u8]>
     ensures same { IfSome result (λ rest. records default_config text.now ≡ records default_config rest.now) }
     ensures begins { IfSome result (λ rest. begins_with_row rest.now ≡ true) }
     ensures shorter { IfSome result (λ rest. length rest.now ≤ length text.now) }
+    ensures none { IfNone result (list_all ends_line text.now ≡ true) }
 {
     let mut rest = text;
     while let [first, after @ ..] = rest {
@@ -89,6 +92,9 @@ fn row_behind(text: &[u8]) -> Option<&[u8]>
 pub fn first_field(text: &[u8]) -> Option<&[u8]>
     ensures begins { IfSome result (λ rest. BeginsField text.now [] rest.now) }
     ensures shorter { IfSome result (λ rest. length rest.now < length text.now) }
+
+    // There is none where the text does not begin with the end of a line, or has nothing else.
+    ensures none { IfNone result ((begins_with_line_end text.now ≡ false) ⊎ (list_all ends_line text.now ≡ true)) }
 {
     let [first, after @ ..] = text else {
         return None;
@@ -105,6 +111,9 @@ pub fn first_field(text: &[u8]) -> Option<&[u8]>
 pub fn behind_field(text: &[u8], is_last: bool) -> Option<&[u8]>
     ensures stands { IfSome result (λ rest. (start : List ℕ) (fields : List (List ℕ)) → EndsField start fields text.now → StandsBehind is_last start fields rest.now) }
     ensures shorter { IfSome result (λ rest. length rest.now ≤ length text.now) }
+
+    // There is none where behind the last field no line ends, or behind another no comma stands.
+    ensures none { IfNone result (cond is_last (begins_with_line_end text.now) (begins_with_comma text.now) ≡ false) }
 {
     if is_last {
         at_line_end(text)
@@ -119,6 +128,7 @@ pub fn behind_field(text: &[u8], is_last: bool) -> Option<&[u8]>
 fn behind_comma(text: &[u8]) -> Option<&[u8]>
     ensures stands { IfSome result (λ rest. (start : List ℕ) (fields : List (List ℕ)) → EndsField start fields text.now → BeginsField start fields rest.now) }
     ensures shorter { IfSome result (λ rest. length rest.now ≤ length text.now) }
+    ensures none { IfNone result (begins_with_comma text.now ≡ false) }
 {
     let [first, rest @ ..] = text else {
         return None;
@@ -135,6 +145,7 @@ fn behind_comma(text: &[u8]) -> Option<&[u8]>
 fn at_line_end(text: &[u8]) -> Option<&[u8]>
     ensures stands { IfSome result (λ rest. (start : List ℕ) (fields : List (List ℕ)) → EndsField start fields text.now → StandsBehind true start fields rest.now) }
     ensures shorter { IfSome result (λ rest. length rest.now ≤ length text.now) }
+    ensures none { IfNone result (begins_with_line_end text.now ≡ false) }
 {
     if begins_line_end(text) {
         Some(text)
@@ -164,7 +175,10 @@ fn without_mark(text: &[u8]) -> &[u8]
 /// The text from the end of the heading's line on, if the heading begins the text and has no quotes: its records are
 /// the rows.
 pub fn behind_heading(text: &[u8]) -> Option<&[u8]>
-    ensures { IfSome result (λ rest. csv_rows text.now ≡ csv_records rest.now) }
+    ensures rows { IfSome result (λ rest. csv_rows text.now ≡ csv_records rest.now) }
+
+    // There is none where the text has no such heading.
+    ensures none { IfNone result (has_plain_heading (strip_bom text.now) ≡ false) }
 {
     let whole = without_mark(text);
     let size = heading_length(whole);

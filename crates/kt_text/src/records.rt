@@ -1,8 +1,8 @@
 //! The records of a CSV text, one after the other.
 
-ghost use Rattle.std.specs.Prelude.{◌≡◌, ◌≤◌, ◌<◌, [], length, slice_index_or, IfOk};
+ghost use Rattle.std.specs.Prelude.{◌≡◌, ◌≤◌, ◌<◌, [], length, true, slice_index_or, IfOk, IfErr};
 ghost use Rattle.std.specs.Bool.{MatchBool};
-ghost use Rattle.csv.specs.Reading.{records, default_config, strip_bom};
+ghost use Rattle.csv.specs.Reading.{has_failed, records, default_config, strip_bom};
 ghost use Rattle.csv.specs.Records.{fields_of};
 ghost use Rattle.kt_text.specs.Records.{StandsBetween, TakesRecord, bytes_left, records_left};
 
@@ -23,13 +23,16 @@ pub fn reader_of(alloc: Global, text: &[u8]) -> Reader<&[u8]>
         .from_reader(alloc, text)
 }
 
-/// The next record into `row`, and whether there was one. An error is want of memory: nothing is said of the reader and the
-/// row then, and they are not to be used again.
+/// The next record into `row`, and whether there was one. An error is want of memory: the row has no field then, and the
+/// reader has failed and gives no record more.
 #[tactic(auto, using(crate::proofs::ReaderLemmas::next_is))]
 pub fn next_record(reader: &mut Reader<&[u8]>, row: &mut ByteRecord) -> Result<bool, AllocError>
     requires { StandsBetween reader.old }
-    ensures { IfOk result (λ found. MatchBool found
+    ensures next { IfOk result (λ found. MatchBool found
         (TakesRecord reader.old reader.new (fields_of row.new)) (records_left reader.old ≡ [])) }
+
+    ensures failed { IfErr result (λ _. has_failed reader.new ≡ true) }
+    ensures emptied { IfErr result (λ _. fields_of row.new ≡ []) }
 {
     match reader.read_byte_record(row) {
         Ok(found) => Ok(found),
@@ -37,7 +40,10 @@ pub fn next_record(reader: &mut Reader<&[u8]>, row: &mut ByteRecord) -> Result<b
             // Records of any length are taken, and a slice is read without fault: what is left is want of
             // memory.
             ErrorKind::UnequalLengths { .. } => unreachable!(),
-            _ => Err(AllocError),
+            _ => {
+                row.clear();
+                Err(AllocError)
+            }
         },
     }
 }
