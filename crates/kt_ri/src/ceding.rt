@@ -18,7 +18,7 @@ use std::marker::Model;
 
 /// A programme that cedes losses, with the layers of its tops and the places of the ids that have the shares of their policy
 /// losses. Contracts see the lists of the programme.
-#[derive(Debug, Drop)]
+#[derive(Drop)]
 pub(crate) struct CedingProgramme {
     programme: Programme,
     layers: Vec<TopLayer>,
