@@ -10,7 +10,7 @@ use Rattle.std.proofs.lemmas.Bool.{eqb-true, true≢false}
 use Rattle.std.proofs.lemmas.List.{map-append, take_more, get_or-map}
 use Rattle.std.proofs.lemmas.List.Sums.{sum_by-cons, sum_by-append, sum_by-take-le}
 use Rattle.kt_money.specs.Sharing.{Sharing, share_of, shares_after, share_out}
-use Rattle.kt_tree.specs.Rising.{IsRising}
+use Rattle.kt_rec.specs.Rising.{IsRising}
 use Rattle.kt_tree.specs.Sums.{sum_by-below}
 use Rattle.kt_tree.specs.Sharing.{Part, part_of}
 use Rattle.kt_fmtree.specs.RisingLaws.{not-missed}

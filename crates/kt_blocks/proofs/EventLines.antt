@@ -1,17 +1,15 @@
 -- The lines of the footprint, event by event.
 use Rattle.std.proofs.Common.{◌≡◌, ℕ, zero, suc, ◌+◌, ◌-◌, ◌*◌, ◌/◌, ◌<◌, List, [], ◌∷◌, ◌++◌, length, take, drop, get_or, Ok, refl, sym, ap, subst, ◌∙◌, arith, add-one, length-drop}
 use Rattle.std.specs.Prelude.{map, All, Result}
-use Rattle.std.proofs.lemmas.List.{append-nil}
 use Rattle.std.proofs.Math.Nat.{div-mul-le_self}
 use Rattle.std.proofs.Math.Seq.{drop-cons, drop-length}
-use Rattle.kt_blocks.proofs.LineLemmas.{rows_lines-append}
 use Rattle.kt_blocks.specs.Footprint.{AreEvents, IsJudgedFootprint}
 use Rattle.kt_blocks.specs.Tables.{rows_or_none}
 use Rattle.kt_cells.specs.Header.{header_extra}
 use Rattle.kt_cells.specs.Laws.{SlicesGiveSlices}
 use Rattle.kt_cells.specs.Lines.{line, fields_behind, rows_lines, lines_behind}
 use Rattle.kt_cells.specs.Ranges.{IsRow, AreRows}
-use Rattle.kt_cells.specs.Reading.{and_then, and_then-ok}
+use Rattle.kt_cells.specs.Reading.{and_then}
 use Rattle.kt_cells.specs.Records.{record_rows, record_width}
 use Rattle.kt_cells.specs.Texts.{row_texts}
 use Rattle.kt_cells.specs.declared.kind.Kind.{Kind}
@@ -21,33 +19,12 @@ use Rattle.kt_rec.specs.declared.hazard.FootprintIdx.{FootprintIdx}
 use Rattle.kt_rec.specs.declared.table.Table.TheVariants.{Footprint}
 use Rattle.kt_schema.specs.Conversions.{bin_rows, canon}
 use Rattle.kt_schema.specs.Footprint.{footprint_csv, AreRecords, IsEntryOf, HasRecords, first_record, record_number, entry_rows, indexed_rows}
+use Rattle.kt_schema.specs.FootprintLaws.{AreRows-drop, AreRows-take, entry-within, event_lines, rows_lines-append}
 use Rattle.kt_schema.specs.Tables.{kinds_of, heading_of}
 
 -- the kinds of a record of the file, which leaves the event out
 abbrev pub record_kinds : List Kind
 record_kinds = drop 1 (kinds_of Footprint)
-
--- each line of an event begins with the event
-event_lines : (event : ℕ) (rows : List (List ℕ)) → AreRows record_kinds rows → rows_lines (kinds_of Footprint) (map (λ row. event ∷ row) rows) ≡ lines_behind event record_kinds rows
-unfolding rows_lines lines_behind line fields_behind row_texts AreRows IsRow
-event_lines event [] range = refl
-event_lines event ([] ∷ rows) range = absurd range.0
-event_lines event ((first ∷ rest) ∷ rows) range =
-    ap (λ lines. (count_text event ++ 44 ∷ line (row_texts 0 record_kinds (first ∷ rest))) ++ lines) (event_lines event rows range.1)
-
--- rows in range are so from a place on
-AreRows-drop : (kinds : List Kind) (rows : List (List ℕ)) (first : ℕ) → AreRows kinds rows → AreRows kinds (drop first rows)
-unfolding AreRows
-AreRows-drop kinds rows zero range = range
-AreRows-drop kinds [] (suc first) range = tt
-AreRows-drop kinds (row ∷ rows) (suc first) range = AreRows-drop kinds rows first range.1
-
--- and up to a place
-AreRows-take : (kinds : List Kind) (rows : List (List ℕ)) (count : ℕ) → AreRows kinds rows → AreRows kinds (take count rows)
-unfolding AreRows
-AreRows-take kinds rows zero range = tt
-AreRows-take kinds [] (suc count) range = tt
-AreRows-take kinds (row ∷ rows) (suc count) range = (range.0, AreRows-take kinds rows count range.1)
 
 -- the lines of an event and of those behind it
 index-split : (rows : List (List ℕ)) (index : List FootprintIdx) (n : ℕ) (d : FootprintIdx) → n < length index
@@ -101,13 +78,6 @@ footprint-judged bytes records extra rows header is read range counted =
       counted = many;
     }
 
--- the records of an entry are among those of the file
-entry-within : (bytes rows : ℕ) (entry : FootprintIdx) → IsEntryOf bytes entry → rows ≡ (bytes - 16) / 12 → HasRecords rows entry
-entry-within bytes rows entry names count = record {
-  behind_header = names.behind_header;
-  within = omega (arith, names.behind_header, names.whole_place, names.whole_size, names.within);
-}
-
 module _ (bytes records : List ℕ) (index : List FootprintIdx) (judged : IsJudgedFootprint bytes) (is : records ≡ drop 16 bytes) where
   -- its events can be written
   pub events-ready : All (IsEntryOf (length bytes)) index → AreEvents records index
@@ -119,19 +89,10 @@ module _ (bytes records : List ℕ) (index : List FootprintIdx) (judged : IsJudg
   }
 
   -- and its text is the heading and their lines
-  pub footprint-text : (start : List ℕ) → start ≡ canon Footprint [] → footprint_csv bytes index ≡ Ok (start ++ rows_lines (kinds_of Footprint) (indexed_rows (rows_or_none (record_rows 2 record_kinds records)) (drop 0 index)))
+  pub footprint-text : (start : List ℕ) → start ≡ line (heading_of Footprint) → footprint_csv bytes index ≡ Ok (start ++ rows_lines (kinds_of Footprint) (indexed_rows (rows_or_none (record_rows 2 record_kinds records)) (drop 0 index)))
   unfolding rows_lines
   footprint-text start head_is =
       let rows : rows_or_none (record_rows 2 record_kinds records) ≡ judged.rows = ap (λ b. rows_or_none (record_rows 2 record_kinds b)) is ∙ ap rows_or_none judged.are.are_read in
-      let head : start ≡ line (heading_of Footprint) = head_is ∙ append-nil (line (heading_of Footprint)) in
       ap (λ found. and_then found (λ file. Ok (canon Footprint (indexed_rows file.1 index)))) judged.are_read
       ∙ ap (λ (read : List (List ℕ)). Ok (line (heading_of Footprint) ++ rows_lines (kinds_of Footprint) (indexed_rows read index))) (sym rows)
-      ∙ ap (λ (text : List ℕ). Ok (text ++ rows_lines (kinds_of Footprint) (indexed_rows (rows_or_none (record_rows 2 record_kinds records)) index))) (sym head)
-
--- the text of a footprint without events is the heading
-pub footprint-heading : (file text : List ℕ) → footprint_csv file [] ≡ Ok text → text ≡ canon Footprint []
-unfolding indexed_rows
-footprint-heading file text made =
-    let found = and_then-ok (bin_rows Footprint file) (λ file. Ok (canon Footprint (indexed_rows file.1 []))) text made in
-    let same : Ok (canon Footprint []) ≡ Ok text = found.2 in
-    cc (same)
+      ∙ ap (λ (text : List ℕ). Ok (text ++ rows_lines (kinds_of Footprint) (indexed_rows (rows_or_none (record_rows 2 record_kinds records)) index))) (sym head_is)

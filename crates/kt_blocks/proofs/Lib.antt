@@ -1,5 +1,5 @@
 mod EventLines
-mod Headings
 mod IdLemmas
 mod LineLemmas
 mod Midway
+mod TextLemmas

@@ -10,13 +10,7 @@ use Rattle.kt_cells.specs.Reading.{and_then}
 use Rattle.kt_cells.specs.Records.{record_rows}
 use Rattle.kt_cells.specs.Texts.{row_texts}
 use Rattle.kt_cells.specs.declared.kind.Kind.{Kind}
-
--- the lines of some rows and more are the lines of both
-pub rows_lines-append : (kinds : List Kind) (xs ys : List (List ℕ)) → rows_lines kinds (xs ++ ys) ≡ rows_lines kinds xs ++ rows_lines kinds ys
-unfolding rows_lines
-rows_lines-append kinds [] ys = refl
-rows_lines-append kinds (row ∷ xs) ys =
-    ap (λ more. line (row_texts 0 kinds row) ++ more) (rows_lines-append kinds xs ys) ∙ sym (append_assoc (line (row_texts 0 kinds row)) (rows_lines kinds xs) (rows_lines kinds ys))
+use Rattle.kt_schema.specs.FootprintLaws.{rows_lines-append}
 
 -- the lines from a row on: so many, and those behind them
 lines-split : (kinds : List Kind) (rows : List (List ℕ)) (from count : ℕ) → rows_lines kinds (drop from rows) ≡ rows_lines kinds (take count (drop from rows)) ++ rows_lines kinds (drop (from + count) rows)

@@ -1,22 +1,22 @@
 //! The text of a footprint, from its file and its index, written in blocks.
 //! The rules: docs/COMMANDS.md, "tobin and tocsv".
-ghost use Rattle.std.specs.Prelude.{◌≡◌, IfErr, IfOk, OnOk, All, [], length};
+ghost use Rattle.std.specs.Prelude.{IfErr, OnOk, All, length};
 ghost use Rattle.kt_cells.specs.Stops.{Tells};
 ghost use Rattle.kt_rec.specs.declared.table.Table.TheVariants.{Footprint};
-ghost use Rattle.kt_schema.specs.Conversions.{bin_rows, canon};
+ghost use Rattle.kt_schema.specs.Conversions.{bin_rows};
 ghost use Rattle.kt_schema.specs.Footprint.{IsEntryOf, footprint_csv};
 ghost use Rattle.kt_blocks.specs.Footprint.{IsJudgedFootprint};
 ghost use Rattle.kt_blocks.specs.Progress.{WritesText};
 
 use crate::pieces::{Pieces, write_pieces};
-use crate::slices::{Judged, body, slice};
+use crate::slices::slice;
 use crate::stop::TextStop;
-use crate::tables::empty_file;
+use crate::tables::start_of;
 use kt_cells::{TableStop, push_record_lines, read_header, read_records, slices_give_slices};
 use kt_money::Bytes;
 use kt_out::{Fault, Sink};
-use kt_rec::FootprintIdx;
-use kt_schema::{FOOTPRINT, FOOTPRINT_RECORD, footprint_to_csv};
+use kt_rec::{FootprintIdx, Table};
+use kt_schema::{FOOTPRINT, FOOTPRINT_RECORD, Judged, body};
 use std::alloc::Global;
 
 // How many bytes a record of the footprint file takes.
@@ -66,22 +66,6 @@ impl<'a> Pieces for Events<'a> {
     }
 }
 
-// The heading of the footprint's text: the text of a file without records.
-fn heading(alloc: Global) -> Result<Bytes, TableStop>
-    ensures value { IfOk result (λ text. text ≡ canon Footprint []) }
-
-    ensures memory { IfErr result (λ stop. stop ≡ TableStop.OutOfMemory) }
-{
-    let file = match empty_file(alloc, true, FOOTPRINT.number, 0) {
-        Ok(file) => file,
-        Err(stop) => return Err(stop),
-    };
-    match footprint_to_csv(alloc, file.as_slice(), &[]) {
-        Ok(text) => Ok(text),
-        Err(_) => Err(TableStop::OutOfMemory),
-    }
-}
-
 // Judges a footprint file: its header and all records.
 fn judge(bytes: &[u8]) -> Result<(), TableStop>
     ensures ok { OnOk result (IsJudgedFootprint bytes.now) }
@@ -113,7 +97,7 @@ pub fn write_footprint<K: Sink>(
     if let Err(stop) = judge(bytes) {
         return Err(TextStop::Refused(stop));
     }
-    let start = match heading(alloc) {
+    let start = match start_of(alloc, Table::Footprint) {
         Ok(start) => start,
         Err(stop) => return Err(TextStop::Refused(stop)),
     };

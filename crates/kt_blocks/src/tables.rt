@@ -1,20 +1,18 @@
 //! The text of a table, from its file, written in blocks.
 //! The rules: docs/COMMANDS.md, "tobin and tocsv".
-ghost use Rattle.std.specs.Prelude.{◌≡◌, ◌≢◌, ◌<◌, [], length, min, IfOk, IfErr, OnOk};
+ghost use Rattle.std.specs.Prelude.{◌≡◌, ◌≢◌, ◌<◌, length, min, IfOk, IfErr, OnOk};
+ghost use Rattle.kt_cells.specs.Lines.{line};
 ghost use Rattle.kt_cells.specs.Records.{record_width};
 ghost use Rattle.kt_cells.specs.Stops.{Tells};
-ghost use Rattle.kt_rec.specs.TableNames.{number_of};
-ghost use Rattle.kt_schema.specs.Conversions.{bin_csv, body_of, body_rows, canon, extra_of, header_part};
-ghost use Rattle.kt_schema.specs.Tables.{has_header, kinds_of, least_extra, most_extra};
+ghost use Rattle.kt_schema.specs.Conversions.{bin_csv, bin_rows, body_of, body_rows};
+ghost use Rattle.kt_schema.specs.Tables.{heading_of, kinds_of};
 ghost use Rattle.kt_blocks.specs.Progress.{WritesText};
-ghost use Rattle.kt_blocks.specs.Tables.{IsJudged, IsSchema};
+ghost use Rattle.kt_blocks.specs.Tables.{IsJudged};
 
 use crate::pieces::{Pieces, write_pieces};
-use crate::slices::{Judged, body, slice};
+use crate::slices::slice;
 use crate::stop::TextStop;
-use kt_cells::{
-    Kind, TableStop, push_header, push_record_lines, read_header, read_records, slices_give_slices,
-};
+use kt_cells::{Kind, TableStop, push_record_lines, read_records, slices_give_slices};
 use kt_money::Bytes;
 use kt_out::{Fault, Sink};
 use kt_rec::Table;
@@ -70,69 +68,16 @@ fn lines_of(left: usize) -> usize
     if left < LINES { left } else { LINES }
 }
 
-/// A file without rows.
-pub(crate) fn empty_file(
-    alloc: Global,
-    header: bool,
-    number: u32,
-    least: u32,
-) -> Result<Bytes, TableStop>
-    ensures value { IfOk result (λ file. file ≡ header_part header number least) }
+/// The beginning of a table's text: its heading.
+pub(crate) fn start_of(alloc: Global, table: Table) -> Result<Bytes, TableStop>
+    ensures value { IfOk result (λ text. text ≡ line (heading_of table)) }
 
     ensures memory { IfErr result (λ stop. stop ≡ TableStop.OutOfMemory) }
 {
-    let mut file = Bytes::new(alloc);
-    if header {
-        match push_header(&mut file, number, least) {
-            Ok(()) => Ok(file),
-            Err(_) => Err(TableStop::OutOfMemory),
-        }
-    } else {
-        Ok(file)
-    }
-}
-
-// The heading of a table's text: the text of a file without rows.
-fn heading(
-    alloc: Global,
-    table: Table,
-    header: bool,
-    number: u32,
-    least: u32,
-) -> Result<Bytes, TableStop>
-    requires table { table ≢ Table.Footprint }
-    requires header { header ≡ has_header table }
-    requires number { number ≡ number_of table }
-    requires least { least ≡ least_extra table }
-    ensures value { IfOk result (λ text. text ≡ canon table []) }
-
-    ensures memory { IfErr result (λ stop. stop ≡ TableStop.OutOfMemory) }
-{
-    files_are_read_back();
-    let file = match empty_file(alloc, header, number, least) {
-        Ok(file) => file,
-        Err(stop) => return Err(stop),
-    };
-    match bin_to_csv(alloc, table, file.as_slice()) {
-        Ok(text) => Ok(text),
+    let mut text = Bytes::new(alloc);
+    match text.append(heading(table)) {
+        Ok(()) => Ok(text),
         Err(_) => Err(TableStop::OutOfMemory),
-    }
-}
-
-// Judges the header of a file, if it has one.
-fn judge_header(
-    header: bool,
-    number: u32,
-    least: u32,
-    most: u32,
-    bytes: &[u8],
-) -> Result<u32, TableStop>
-    ensures { result ≡ extra_of header number least most bytes.now }
-{
-    if header {
-        read_header(number, least, most, bytes)
-    } else {
-        Ok(0)
     }
 }
 
@@ -150,7 +95,7 @@ fn judge<const N: usize>(
 
     ensures refused { IfErr result (Tells (body_rows schema.now.header schema.now.number least most 1 schema.now.kinds bytes.now)) }
 {
-    let _extra = judge_header(schema.header, schema.number, least, most, bytes)?;
+    let _extra = extra(schema.header, schema.number, least, most, bytes)?;
     read_records(&schema.kinds, 1, body(schema.header, bytes), &mut Judged)
 }
 
@@ -171,14 +116,14 @@ fn write_lines<const N: usize, K: Sink>(
     requires columns { length schema.now.kinds ≡ N }
     requires wide { 0 < width }
     requires width { width ≡ record_width schema.now.kinds }
-    requires table { table ≢ Table.Footprint }
-    requires schema { IsSchema table schema.now.header schema.now.number least most schema.now.kinds }
+    requires kinds { kinds_of table ≡ schema.now.kinds }
+    requires rows { bin_rows table bytes.now ≡ body_rows schema.now.header schema.now.number least most 1 schema.now.kinds bytes.now }
     ensures { WritesText (bin_csv table bytes.now) (K.state sink.old) (K.state sink.new) result }
 {
     if let Err(stop) = judge(schema, least, most, bytes) {
         return Err(TextStop::Refused(stop));
     }
-    let start = match heading(alloc, table, schema.header, schema.number, least) {
+    let start = match start_of(alloc, table) {
         Ok(start) => start,
         Err(stop) => return Err(TextStop::Refused(stop)),
     };

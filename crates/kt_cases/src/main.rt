@@ -1,24 +1,55 @@
-//! Runs the cases of the data folder: runs of the tools over objects in memory. Prints each answer that is not the expected
-//! one, and how many were compared.
-//! The language of the cases: README.md.
+//! Compares what words, loads and runs of the tools answer with what was worked out by hand, and prints each answer that is
+//! another one, and how many were compared.
+//! The cases: data; how one is written: README.md.
 #![tactic(auto)]
 
+mod adapted;
+mod files;
+mod grids;
+mod not_taken;
 mod runs;
+mod said_size;
 mod script;
+mod seen;
+mod settings;
+mod texts;
+mod words;
 
+use not_taken::NotTaken;
 use script::Script;
+use std::alloc::AllocGlobal;
 use std::fs;
+use std::fs::Files;
+use std::io::Print;
+use std::process::ExitCode;
+use std::thread::Threads;
 
-fn main(rt: HostRuntime) -> anyhow::Result<()> {
+/// The files of the cases.
+const DATA: [&str; 4] = ["words", "loads", "runs", "faults"];
+
+/// Prints what comes of the cases of a file.
+fn compare_all<R: Threads + Sync + AllocGlobal + Files + Print>(
+    rt: &R,
+    name: &str,
+) -> Result<(), NotTaken> {
+    let text = fs::read_to_string(rt, name)?;
     let mut script = Script::new(rt.alloc());
-    let text = fs::read_to_string(&rt, "runs")?;
     for line in text.lines() {
-        match script.take(&rt, line) {
-            Ok(None) => {}
-            Ok(Some(difference)) => println!(rt; "{difference}")?,
-            Err(why) => println!(rt; "{line}: {why:?}")?,
+        match script.take(rt, line) {
+            Ok(()) => {}
+            Err(NotTaken) => println!(rt; "{name}: {line}: not taken")?,
         }
     }
-    println!(rt; "{} answers compared", script.compared())?;
+    print!(rt; "{}", script.differences())?;
+    println!(rt; "{name}: {} answers compared", script.compared())?;
     Ok(())
+}
+
+fn main(rt: HostRuntime) -> ExitCode {
+    for name in DATA {
+        if compare_all(&rt, name).is_err() {
+            return ExitCode::FAILURE;
+        }
+    }
+    ExitCode::SUCCESS
 }

@@ -1,39 +1,31 @@
-//! Runs of the tools over objects in memory.
-//! The language of the cases: README.md, "Runs".
+//! Loads, and runs of the tools over objects of several kinds.
+//! The language: README.md.
 
-use kt_case_files::{BadLine, push_word};
-use kt_out::{MemInputs, Open, SureOutputs, SureSink, SureSource};
-use kt_tools::{Words, run};
+use crate::adapted::{Calls, Reader, Writer};
+use crate::files::Files;
+use crate::not_taken::NotTaken;
+use crate::said_size::SaidSize;
+use crate::seen::{Seen, ended};
+use crate::settings::Settings;
+use kt_checks::Need;
+use kt_ends::status_of;
+use kt_loading::load_tables;
+use kt_out::{
+    Inputs, MemInputs, MemSink, MemSource, Open, Outputs, Sink, Source, StdErr, StdSink, StdSource,
+    SureInputs, SureOutputs, SureSink, SureSource,
+};
+use kt_tools::{Status, Words, run};
 use std::alloc::{AllocError, AllocGlobal, Global};
 use std::thread::Threads;
 
-/// What a run left: its exit status, the output, and the line on standard error.
-#[derive(Drop)]
-pub(crate) struct Seen {
-    status: u8,
-    pub(crate) output: Vec<u8>,
-    line: Vec<u8>,
-}
-
-/// The words of a call.
-fn words_of(alloc: Global, words: &[&str]) -> Result<Words, BadLine> {
-    let mut given = Words::new(alloc);
-    for word in words {
-        let mut bytes = Vec::new(alloc);
-        push_word(&mut bytes, word)?;
-        given.push(&bytes)?;
-    }
-    Ok(given)
-}
-
 /// The exit status of a run. Its clauses end here, so that callers are checked without them.
-fn status_code<R: Threads + Sync + AllocGlobal>(
+fn status_code<R: Threads + Sync + AllocGlobal, I: Inputs, S: Source, K: Sink, E: Sink>(
     rt: &R,
     words: &Words,
-    inputs: &mut MemInputs,
-    source: &mut SureSource,
-    sink: &mut SureSink,
-    err: &mut SureSink,
+    inputs: &mut I,
+    source: &mut S,
+    sink: &mut K,
+    err: &mut E,
 ) -> u8 {
     let alloc = rt.alloc();
     let mut outputs = SureOutputs::new(alloc);
@@ -51,76 +43,150 @@ fn status_code<R: Threads + Sync + AllocGlobal>(
     .code()
 }
 
-/// Runs the words over files and the bytes of the source.
-pub(crate) fn see<R: Threads + Sync + AllocGlobal>(
+/// How a run ends that loads these tables and does no more.
+fn load_status<I: Inputs>(alloc: Global, need: Need, inputs: &mut I) -> Status {
+    match load_tables(alloc, inputs, need) {
+        Ok(_) => Status::Done,
+        Err(stop) => status_of(Err(stop)),
+    }
+}
+
+/// A sink in memory of which this call fails.
+fn mem_sink(alloc: Global, failing: u32, most: u32) -> Result<MemSink, AllocError> {
+    let fails = vec![in alloc; failing as u64]?;
+    Ok(MemSink::new(alloc, fails, most.max(1) as u64))
+}
+
+/// The source of a case.
+fn mem_source(alloc: Global, files: &Files, settings: &Settings) -> Result<MemSource, AllocError> {
+    let fails = vec![in alloc; settings.source as u64]?;
+    let bytes = files.source(settings.cut).to_vec(alloc)?;
+    Ok(MemSource::new(bytes, fails, settings.most.max(1) as u64))
+}
+
+/// A run over objects in memory that fail as they are told to.
+pub(crate) fn run_in_memory<R: Threads + Sync + AllocGlobal>(
     rt: &R,
-    words: &[&str],
-    mut inputs: MemInputs,
-    source: &[u8],
-) -> Result<Seen, BadLine> {
+    words: &Words,
+    files: &Files,
+    settings: &Settings,
+) -> Result<Seen, NotTaken> {
     let alloc = rt.alloc();
-    let words = words_of(alloc, words)?;
-    let mut source = SureSource::new(source.to_vec(alloc)?);
+    let mut sink = mem_sink(alloc, settings.sink, settings.most)?;
+    let mut err = mem_sink(alloc, settings.err, settings.most)?;
+    let mut source = mem_source(alloc, files, settings)?;
+    let mut inputs = files.inputs(settings)?;
+    let code = status_code(rt, words, &mut inputs, &mut source, &mut sink, &mut err);
+    Ok(Seen::new(alloc, code, sink.taken(), err.taken())?)
+}
+
+/// What an output file in memory that never fails has once these bytes were written to it.
+fn written(alloc: Global, bytes: &[u8]) -> Result<Vec<u8>, NotTaken> {
+    let mut outputs = SureOutputs::new(alloc);
+    let mut is_written = outputs.create(b"table.csv").is_ok();
+    if !bytes.is_empty() {
+        is_written &= outputs.append(b"table.csv", bytes).is_ok();
+    }
+    match outputs.get(b"table.csv") {
+        Some(bytes) if is_written => Ok(bytes.to_vec(alloc)?),
+        _ => Err(NotTaken),
+    }
+}
+
+/// A run over objects in memory that never fail, where of the files the events alone are there. What it wrote is seen in an
+/// output file.
+pub(crate) fn run_surely<R: Threads + Sync + AllocGlobal>(
+    rt: &R,
+    words: &Words,
+    files: &Files,
+    settings: &Settings,
+) -> Result<Seen, NotTaken> {
+    let alloc = rt.alloc();
     let mut sink = SureSink::new(alloc);
     let mut err = SureSink::new(alloc);
-    let status = status_code(rt, &words, &mut inputs, &mut source, &mut sink, &mut err);
-    Ok(Seen {
-        status,
-        output: sink.taken().to_vec(alloc)?,
-        line: err.taken().to_vec(alloc)?,
+    let mut source = SureSource::new(files.source(settings.cut).to_vec(alloc)?);
+    let mut inputs = SureInputs::new(alloc);
+    inputs.add(b"input/events.bin", files.get("input/events.bin"))?;
+    let code = status_code(rt, words, &mut inputs, &mut source, &mut sink, &mut err);
+    let output = written(alloc, sink.taken())?;
+    Ok(Seen::new(alloc, code, &output, err.taken())?)
+}
+
+/// The exit status of the last of one or more runs over the adapters of a reader and two writers.
+fn adapted_code<R: Threads + Sync + AllocGlobal>(
+    rt: &R,
+    words: &Words,
+    settings: &Settings,
+    inputs: &mut MemInputs,
+    left: &[u8],
+    output: &mut Vec<u8>,
+    line: &mut Vec<u8>,
+) -> u8 {
+    let mut source = StdSource::new(Reader {
+        calls: Calls::new(settings, settings.source),
+        left,
+    });
+    let mut sink = StdSink::new(Writer {
+        calls: Calls::new(settings, settings.sink),
+        taken: output,
+    });
+    let mut err = StdErr::new(Writer {
+        calls: Calls::new(settings, settings.err),
+        taken: line,
+    });
+    let mut code = 0;
+    for _ in 0..settings.times {
+        code = status_code(rt, words, inputs, &mut source, &mut sink, &mut err);
+    }
+    code
+}
+
+/// One or more runs over the same adapters of the standard streams: the status of the last one.
+pub(crate) fn run_adapted<R: Threads + Sync + AllocGlobal>(
+    rt: &R,
+    words: &Words,
+    files: &Files,
+    settings: &Settings,
+) -> Result<Seen, NotTaken> {
+    let alloc = rt.alloc();
+    let mut output = Vec::new(alloc);
+    let mut line = Vec::new(alloc);
+    let mut inputs = files.inputs(settings)?;
+    let code = adapted_code(
+        rt,
+        words,
+        settings,
+        &mut inputs,
+        files.source(settings.cut),
+        &mut output,
+        &mut line,
+    );
+    Ok(Seen::new(alloc, code, &output, &line)?)
+}
+
+/// What the loads of a case are for.
+fn need_of(files: &Files, settings: &Settings) -> Result<Need, AllocError> {
+    Ok(Need {
+        loaded: files.loaded()?,
+        samples: settings.samples,
+        rule: settings.rule,
+        net: settings.net != 0,
     })
 }
 
-/// Bytes as words of four bytes, in hexadecimal digits.
-fn hex_text(alloc: Global, bytes: &[u8]) -> Result<String, AllocError> {
-    let mut text = String::new(alloc);
-    for (n, byte) in bytes.iter().enumerate() {
-        let blank = if n > 0 && n % 4 == 0 { " " } else { "" };
-        text.push_str(format!(in alloc; "{blank}{byte:02x}")?.as_str())?;
-    }
-    Ok(text)
-}
-
-/// Bytes as a text, with ` | ` between its lines.
-fn line_text(alloc: Global, bytes: &[u8]) -> Result<String, AllocError> {
-    let whole = str::from_utf8(bytes).unwrap_or("no text");
-    let (lines, end) = match whole.strip_suffix('\n') {
-        Some(lines) => (lines, ""),
-        None => (whole, " (no end of line)"),
+/// A load of the tables that `of` gives.
+pub(crate) fn load(alloc: Global, files: &Files, settings: &Settings) -> Result<Seen, NotTaken> {
+    let need = need_of(files, settings)?;
+    let mut inputs = files.inputs(settings)?;
+    let said = files.get("says");
+    let status = if said.is_empty() {
+        load_status(alloc, need, &mut inputs)
+    } else {
+        load_status(
+            alloc,
+            need,
+            &mut SaidSize::new(inputs, said, settings.size as u64),
+        )
     };
-    let mut text = String::new(alloc);
-    for (n, line) in lines.split('\n').enumerate() {
-        let between = if n > 0 { " | " } else { "" };
-        text.push_str(between)?;
-        text.push_str(line)?;
-    }
-    text.push_str(end)?;
-    Ok(text)
-}
-
-impl Seen {
-    /// The exit status, and the line of a refusal.
-    pub(crate) fn status_text(&self, alloc: Global) -> Result<String, AllocError> {
-        if self.line.is_empty() {
-            return format!(in alloc; "{}", self.status);
-        }
-        let line = line_text(alloc, &self.line)?;
-        format!(in alloc; "{} {line}", self.status)
-    }
-
-    /// The output as text, or `none`.
-    pub(crate) fn output_text(&self, alloc: Global) -> Result<String, AllocError> {
-        if self.output.is_empty() {
-            return format!(in alloc; "none");
-        }
-        line_text(alloc, &self.output)
-    }
-
-    /// The output in hexadecimal digits, or `none`.
-    pub(crate) fn output_bytes(&self, alloc: Global) -> Result<String, AllocError> {
-        if self.output.is_empty() {
-            return format!(in alloc; "none");
-        }
-        hex_text(alloc, &self.output)
-    }
+    Ok(ended(alloc, status)?)
 }

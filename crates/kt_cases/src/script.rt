@@ -1,61 +1,41 @@
-//! A script of runs, taken line by line.
+//! A script of cases, taken line by line.
 //! The language of the cases: README.md.
 
-use crate::runs::{Seen, see};
-use kt_case_files::{BadLine, Files, number};
-use kt_out::MemInputs;
-use std::alloc::{AllocError, AllocGlobal, Global};
-use std::thread::Threads;
+ghost use Rattle.std.specs.Prelude.{◌<◌};
 
-/// The names of the files of a run, of reinsurance stages those of the cases.
-const NAMES: [&str; 31] = [
-    "input/events.bin",
-    "input/items.bin",
-    "input/coverages.bin",
-    "static/footprint.bin",
-    "static/footprint.idx",
-    "static/vulnerability.bin",
-    "static/damage_bin_dict.bin",
-    "static/random.bin",
-    "input/fm_programme.bin",
-    "input/fm_policytc.bin",
-    "input/fm_profile.bin",
-    "input/fm_xref.bin",
-    "input/gulsummaryxref.bin",
-    "input/fmsummaryxref.bin",
-    "input/occurrence.bin",
-    "input/returnperiods.bin",
-    "RI_1/fm_programme.bin",
-    "RI_1/fm_policytc.bin",
-    "RI_1/fm_profile.bin",
-    "RI_2/fm_programme.bin",
-    "RI_2/fm_policytc.bin",
-    "RI_2/fm_profile.bin",
-    "RI_4/fm_programme.bin",
-    "RI_4/fm_policytc.bin",
-    "RI_4/fm_profile.bin",
-    "RI_9/fm_programme.bin",
-    "RI_9/fm_policytc.bin",
-    "RI_9/fm_profile.bin",
-    "first",
-    "second",
-    "third",
-];
+use crate::files::Files;
+use crate::grids::values_seen;
+use crate::not_taken::NotTaken;
+use crate::runs::{load, run_adapted, run_in_memory, run_surely};
+use crate::seen::{Seen, is_look};
+use crate::settings::Settings;
+use crate::texts::{numbered, range};
+use crate::words::{words_of, words_seen};
+use kt_schema::{COVERAGES, FOOTPRINT, Schema};
+use kt_tools::Words;
+use std::alloc::{AllocGlobal, Global};
+use std::thread::Threads;
 
 /// The state between two lines.
 #[derive(Drop)]
 pub(crate) struct Script {
     alloc: Global,
+    /// The numbers of all cases, and those of this one.
+    base: Settings,
+    settings: Settings,
+    /// Whether a case has begun.
+    is_case: bool,
+    /// The numbers for which the number of this name is asked, one after the other.
+    first: u32,
+    last: u32,
+    swept: String,
     files: Files,
-    /// The line that began the case; empty before the first one.
+    /// What the last question left, for each number.
+    seen: Vec<Seen>,
+    /// The name of the case.
     name: String,
-    /// The call of the files that fails, counted from 1; 0 for none.
-    failing: u64,
-    /// The bytes of the source where they are what a run wrote.
-    turned: Option<Vec<u8>>,
-    /// What the last run left.
-    seen: Option<Seen>,
-    compared: u64,
+    compared: u32,
+    differences: String,
 }
 
 impl Script {
@@ -63,147 +43,185 @@ impl Script {
     pub(crate) fn new(alloc: Global) -> Self {
         Script {
             alloc,
+            base: Settings::new(),
+            settings: Settings::new(),
+            is_case: false,
+            first: 0,
+            last: 0,
+            swept: String::new(alloc),
             files: Files::new(alloc),
+            seen: Vec::new(alloc),
             name: String::new(alloc),
-            failing: 0,
-            turned: None,
-            seen: None,
             compared: 0,
+            differences: String::new(alloc),
         }
     }
 
     /// How many answers were compared.
-    pub(crate) fn compared(&self) -> u64 {
+    pub(crate) fn compared(&self) -> u32 {
         self.compared
     }
 
-    /// Takes a line. Tells an answer that is not the expected one.
+    /// The answers that are not the wanted ones, a line each.
+    pub(crate) fn differences(&self) -> &str {
+        self.differences.as_str()
+    }
+
+    /// Takes a line.
     pub(crate) fn take<R: Threads + Sync + AllocGlobal>(
         &mut self,
         rt: &R,
         line: &str,
-    ) -> Result<Option<String>, BadLine> {
-        if self.files.take(line)? || line.is_empty() || line.starts_with('#') {
-            return Ok(None);
+    ) -> Result<(), NotTaken> {
+        if line.is_empty() || line.starts_with('#') {
+            return Ok(());
+        }
+        if let Some(row) = line.strip_prefix("  ") {
+            return self.files.add_row(row);
         }
         match line.split_once(" => ") {
-            Some((question, expected)) => self.ask(rt, question, expected),
-            None => {
-                self.change(line)?;
-                Ok(None)
-            }
-        }
-    }
-
-    /// Compares the answer of a question with the expected one.
-    fn ask<R: Threads + Sync + AllocGlobal>(
-        &mut self,
-        rt: &R,
-        question: &str,
-        expected: &str,
-    ) -> Result<Option<String>, BadLine> {
-        let words: Vec<&str> = question.split_whitespace().collect(self.alloc)?;
-        let answer = self.answer(rt, &words)?;
-        self.compared = self.compared.saturating_add(1);
-        if answer.as_str() == expected {
-            return Ok(None);
-        }
-        let name = self.name.as_str();
-        Ok(Some(format!(in self.alloc; "{name}: {question} => {answer}, not {expected}")?))
-    }
-
-    /// Begins a case.
-    fn begin(&mut self, line: &str) -> Result<(), AllocError> {
-        self.name = String::from_str(self.alloc, line)?;
-        self.files.begin();
-        self.failing = 0;
-        self.turned = None;
-        self.seen = None;
-        Ok(())
-    }
-
-    /// The output of the last run is the source of the next one.
-    fn turn(&mut self) -> Result<(), BadLine> {
-        match &self.seen {
-            Some(seen) => {
-                self.turned = Some(seen.output.as_slice().to_vec(self.alloc)?);
-                Ok(())
-            }
-            None => Err(BadLine::TooEarly),
+            Some((question, wanted)) => self.ask(rt, question, wanted),
+            None => self.change(line),
         }
     }
 
     /// Takes a line that changes the case.
-    fn change(&mut self, line: &str) -> Result<(), BadLine> {
-        let words: Vec<&str> = line.split_whitespace().collect(self.alloc)?;
-        match *words.as_slice() {
-            ["case", ..] => self.begin(line)?,
-            ["fails", call] => self.failing = number(call)? as u64,
-            ["turn"] => self.turn()?,
-            _ => return Err(BadLine::NoSuchLine),
+    fn change(&mut self, line: &str) -> Result<(), NotTaken> {
+        let (verb, rest) = line.split_once(' ').unwrap_or((line, ""));
+        match verb {
+            "case" => self.begin(rest),
+            "turn" => self.turn(),
+            "file" | "bytes" | "gone" | "resize" | "of" | "says" => {
+                self.files.change(verb, rest, self.settings.periods)
+            }
+            _ => self.set(line),
+        }
+    }
+
+    /// Begins a case.
+    fn begin(&mut self, name: &str) -> Result<(), NotTaken> {
+        if !self.is_case {
+            self.is_case = true;
+            self.base = self.settings;
+            self.files.keep_base();
+        }
+        self.settings = self.base;
+        self.files.begin();
+        self.sweep("", 0, 0)?;
+        self.seen = Vec::new(self.alloc);
+        self.name = String::from_str(self.alloc, name)?;
+        Ok(())
+    }
+
+    /// What was written is the source of the next run.
+    fn turn(&mut self) -> Result<(), NotTaken> {
+        match self.seen.last() {
+            Some(seen) => self.files.give_bytes("turned", &seen.output),
+            None => Err(NotTaken),
+        }
+    }
+
+    /// The number of this name is each of these.
+    fn sweep(&mut self, name: &str, first: u32, last: u32) -> Result<(), NotTaken> {
+        self.swept = String::from_str(self.alloc, name)?;
+        self.first = first;
+        self.last = last;
+        Ok(())
+    }
+
+    /// Sets a number, or says which numbers it is to be.
+    fn set(&mut self, line: &str) -> Result<(), NotTaken> {
+        let (name, numbers) = line.rsplit_once(' ').unwrap_or(("", line));
+        let (first, last) = range(numbers)?;
+        if !self.settings.set(name, first) {
+            return Err(NotTaken);
+        }
+        if first < last {
+            self.sweep(name, first, last)
+        } else if self.swept.as_str() == name {
+            self.sweep("", 0, 0)
+        } else {
+            Ok(())
+        }
+    }
+
+    /// The values of the source as the text of a table.
+    fn values<const N: usize>(&self, schema: &Schema<N>) -> Result<Seen, NotTaken>
+        requires { N < 100 }
+    {
+        Ok(values_seen(self.alloc, schema, self.files.get("source"))?)
+    }
+
+    /// What a question leaves.
+    fn see<R: Threads + Sync + AllocGlobal>(
+        &self,
+        rt: &R,
+        kind: &str,
+        words: &Words,
+    ) -> Result<Seen, NotTaken> {
+        match kind {
+            "words" => Ok(words_seen(self.alloc, words)?),
+            "coverages" => self.values(&COVERAGES),
+            "footprint" => self.values(&FOOTPRINT),
+            "load" => load(self.alloc, &self.files, &self.settings),
+            "run" => run_in_memory(rt, words, &self.files, &self.settings),
+            "sure" => run_surely(rt, words, &self.files, &self.settings),
+            "std" => run_adapted(rt, words, &self.files, &self.settings),
+            _ => Err(NotTaken),
+        }
+    }
+
+    /// Sees what a question leaves for each number.
+    fn see_all<R: Threads + Sync + AllocGlobal>(
+        &mut self,
+        rt: &R,
+        question: &str,
+    ) -> Result<(), NotTaken> {
+        let (kind, words) = question.split_once(' ').unwrap_or((question, ""));
+        let words = words_of(self.alloc, words)?;
+        self.seen = Vec::new(self.alloc);
+        for number in self.first..=self.last {
+            let _is_swept = self.settings.set(self.swept.as_str(), number);
+            let seen = self.see(rt, kind, &words)?;
+            self.seen.push(seen)?;
         }
         Ok(())
     }
 
-    /// The answer of a question: a run, or what stands after one.
-    fn answer<R: Threads + Sync + AllocGlobal>(
+    /// Compares the answer of a question with the wanted one, for each number.
+    fn ask<R: Threads + Sync + AllocGlobal>(
         &mut self,
         rt: &R,
-        words: &[&str],
-    ) -> Result<String, BadLine> {
-        match *words {
-            ["run", ref words @ ..] => self.run(rt, words),
-            _ => self.look(words),
+        question: &str,
+        wanted: &str,
+    ) -> Result<(), NotTaken> {
+        if !is_look(question) {
+            self.see_all(rt, question)?;
         }
-    }
-
-    /// The files of the case.
-    fn inputs(&self) -> Result<MemInputs, AllocError> {
-        let fails = vec![in self.alloc; self.failing]?;
-        let mut inputs = MemInputs::new(self.alloc, fails, 1 << 20);
-        for name in NAMES {
-            if let Some(bytes) = self.files.get(name.as_bytes()) {
-                inputs.add(name.as_bytes(), bytes)?;
-            }
+        if self.seen.is_empty() {
+            return Err(NotTaken);
         }
-        Ok(inputs)
-    }
-
-    /// The bytes of the source.
-    fn source(&self) -> &[u8] {
-        match &self.turned {
-            Some(bytes) => bytes.as_slice(),
-            None => self.files.source(),
+        for number in self.first..=self.last {
+            self.compare(question, wanted, number)?;
         }
+        Ok(())
     }
 
-    /// The answer of a run.
-    fn run<R: Threads + Sync + AllocGlobal>(
-        &mut self,
-        rt: &R,
-        words: &[&str],
-    ) -> Result<String, BadLine> {
-        let inputs = self.inputs()?;
-        let seen = see(rt, words, inputs, self.source())?;
-        let answer = seen.status_text(self.alloc)?;
-        self.seen = Some(seen);
-        Ok(answer)
-    }
-
-    /// What the last run wrote.
-    fn look(&self, words: &[&str]) -> Result<String, BadLine> {
-        let Some(seen) = &self.seen else {
-            return Err(BadLine::TooEarly);
+    /// Compares the answer for a number with the wanted one.
+    fn compare(&mut self, question: &str, wanted: &str, number: u32) -> Result<(), NotTaken> {
+        let Some(seen) = self.seen.get(number.saturating_sub(self.first) as usize) else {
+            return Err(NotTaken);
         };
-        let answer = match *words {
-            ["text"] => seen.output_text(self.alloc)?,
-            ["bytes"] => seen.output_bytes(self.alloc)?,
-            ["is", "the", "source"] => {
-                let is_same = seen.output.as_slice() == self.files.source();
-                format!(in self.alloc; "{is_same}")?
-            }
-            _ => return Err(BadLine::NoSuchLine),
-        };
-        Ok(answer)
+        let wanted = numbered(self.alloc, wanted, number)?;
+        let answer = seen.look(self.alloc, question, &self.files)?;
+        self.compared = self.compared.saturating_add(1);
+        if answer != wanted {
+            let name = self.name.as_str();
+            let line = format!(in self.alloc;
+                "case {name}: {question} => {answer}, not {wanted}\n"
+            )?;
+            self.differences.push_str(line.as_str())?;
+        }
+        Ok(())
     }
 }

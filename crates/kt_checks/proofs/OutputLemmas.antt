@@ -1,7 +1,8 @@
 -- Steps of a climb from an item to the top level, and of a loop over layers.
 use Rattle.std.proofs.Common.{◌≡◌, ℕ, ◌+◌, ◌-◌, ◌<◌, suc, Bool, refl, ap, sym, ◌∙◌, Option, add-one, arith}
 use Rattle.std.specs.Prelude.{◌||◌, false}
-use Rattle.kt_checks.specs.OutputChecks.{climbed, after, some_layer}
+use Rattle.kt_keys.specs.Climbing.{climbed, after}
+use Rattle.kt_checks.specs.OutputChecks.{some_layer}
 
 -- one level further
 pub climbed-step : (next : ℕ × ℕ → Option ℕ) (levels below unit : ℕ) → below < levels → climbed next (levels - below) (below + 1) unit ≡ after (next (below + 1, unit)) (climbed next (levels - (below + 1)) (below + 1 + 1))

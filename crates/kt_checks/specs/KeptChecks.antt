@@ -14,7 +14,8 @@ use Rattle.kt_keys.specs.Keys.{financial_of, programme_of, policytc_of, profile_
 use Rattle.kt_keys.specs.NameChecks.{output_units}
 use Rattle.kt_keys.specs.Refusals.{is_loaded}
 use Rattle.kt_keys.specs.Units.{top_level, top_targets, is_source, is_target}
-use Rattle.kt_checks.specs.OutputChecks.{climbed, has_output, has_top_layer, next_unit}
+use Rattle.kt_keys.specs.Climbing.{climbed, next_unit}
+use Rattle.kt_checks.specs.OutputChecks.{has_output, has_top_layer}
 use Rattle.kt_checks.specs.ProgrammeChecks.{inputs_of}
 use Rattle.kt_checks.specs.SummaryChecks.{summaries_of}
 use Rattle.kt_checks.specs.TableChecks.{IsPlaced, row_limit, tiv_of}

@@ -16,7 +16,8 @@ use Rattle.kt_keys.specs.Units.{top_level, top_layers}
 use Rattle.kt_checks.specs.CheckLaws.{both, keeps-from_valid, no_row, none_passes, second_fails}
 use Rattle.kt_checks.specs.Checks.{IsValid, KeepsCheck, table_checks, programme_checks}
 use Rattle.kt_checks.specs.KeptChecks.{KeepsOutputs}
-use Rattle.kt_checks.specs.OutputChecks.{climbed, has_output, has_top_layer, lacks_at, lacks_output, next_unit, owes_output, owing_at, some_layer}
+use Rattle.kt_keys.specs.Climbing.{climbed, next_unit}
+use Rattle.kt_checks.specs.OutputChecks.{has_output, has_top_layer, lacks_at, lacks_output, owes_output, owing_at, some_layer}
 
 -- where no layer up to a last one passes a test, each of them fails it
 no_layer : (test : ℕ → Bool) (last layer : ℕ) → some_layer test last ≡ false → 1 ≤ layer → layer ≤ last → test layer ≡ false

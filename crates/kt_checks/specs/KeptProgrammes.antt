@@ -17,7 +17,7 @@ use Rattle.kt_checks.specs.CheckLaws.{all_loaded, both, keeps-from_valid, no_row
 use Rattle.kt_checks.specs.Checks.{HasOnlyNeeded, IsValid, KeepsCheck, table_checks, programme_checks}
 use Rattle.kt_checks.specs.KeptChecks.{ComesToTop, GoesOn, HasPlace, KeepsProgramme, taken_ids}
 use Rattle.kt_checks.specs.KeptTables.{stage_empty}
-use Rattle.kt_checks.specs.OutputChecks.{after, climbed, next_unit}
+use Rattle.kt_keys.specs.Climbing.{after, climbed, next_unit}
 use Rattle.kt_checks.specs.ProgrammeChecks.{inputs_of, is_dead_end, is_rootless, is_unplaced, source_check, target_check, terms_check}
 
 -- a choice that is refused in neither case

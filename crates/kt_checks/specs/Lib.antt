@@ -16,6 +16,7 @@ pub use Rattle.kt_keys.specs.Refusals
 pub use Rattle.kt_keys.specs.Keys
 pub use Rattle.kt_keys.specs.KeyChecks
 pub use Rattle.kt_keys.specs.Units
+pub use Rattle.kt_keys.specs.Climbing
 pub use Rattle.kt_keys.specs.NameChecks
 pub use Rattle.kt_keys.specs.StageLaws
 pub use Rattle.kt_keys.specs.TotalLaws

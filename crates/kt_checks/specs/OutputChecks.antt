@@ -1,7 +1,6 @@
 -- The checks of the outputs that items, or units of the top level, owe.
 use Rattle.std.specs.Prelude.{ℕ, ◌+◌, ◌&&◌, ◌||◌, nat_eq, not, Bool, false, cond, List, map, suc, zero, Option, Some, None}
 use Rattle.std.specs.List.{list_any}
-use Rattle.std.specs.Map.{lookup}
 use Rattle.kt_rec.specs.declared.financial.FmProgramme.{FmProgramme}
 use Rattle.kt_rec.specs.declared.financial.FmPolicytc.{FmPolicytc}
 use Rattle.kt_rec.specs.declared.financial.FmXref.{FmXref}
@@ -9,24 +8,11 @@ use Rattle.kt_rec.specs.declared.table.Table.TheVariants.{FmProgramme as TheProg
 use Rattle.kt_rec.specs.Rows.{Rows}
 use Rattle.kt_keys.specs.declared.need.Need.{Need}
 use Rattle.kt_keys.specs.declared.need.Refusal.{Refusal}
+use Rattle.kt_keys.specs.Climbing.{climbed, next_unit}
 use Rattle.kt_keys.specs.FirstRow.{first_where}
 use Rattle.kt_keys.specs.Refusals.{at_stage, is_loaded, refusal}
 use Rattle.kt_keys.specs.Keys.{programme_of, policytc_of, same_pair}
 use Rattle.kt_keys.specs.Units.{top_level, top_layers}
-
--- the unit that a unit's losses at a level go to
-abbrev pub next_unit : List FmProgramme → ℕ × ℕ → Option ℕ
-next_unit programme unit = lookup (same_pair unit) (map (λ row. ((row.level_id, row.from_agg_id), row.to_agg_id)) programme)
-
--- what follows a unit that may be absent
-abbrev pub after : Option ℕ → (ℕ → Option ℕ) → Option ℕ
-after None follow = None
-after (Some unit) follow = follow unit
-
--- the unit that a unit's losses come to over so many levels, from a level on
-abbrev pub climbed : (ℕ × ℕ → Option ℕ) → ℕ → ℕ → ℕ → Option ℕ
-climbed next zero level unit = Some unit
-climbed next (suc levels) level unit = after (next (level, unit)) (climbed next levels (level + 1))
 
 -- whether one of the layers from 1 to a last one passes a test
 unfoldable pub some_layer : (ℕ → Bool) → ℕ → Bool

@@ -7,11 +7,12 @@ ghost use Rattle.kt_rec.specs.Rows.{rows_of};
 ghost use Rattle.kt_keys.specs.FirstRow.{first_where};
 ghost use Rattle.kt_keys.specs.Keys.{same_pair};
 ghost use Rattle.kt_keys.specs.Units.{top_layers};
-ghost use Rattle.kt_checks.specs.OutputChecks.{next_unit, climbed, has_layer, lacks_output, lacks_at, owes_output, owing_at, missing_output_check};
+ghost use Rattle.kt_keys.specs.Climbing.{next_unit, climbed};
+ghost use Rattle.kt_checks.specs.OutputChecks.{has_layer, lacks_output, lacks_at, owes_output, owing_at, missing_output_check};
 
 use kt_keys::{
-    Need, Refusal, base, has_base, has_both, layers_of_outputs, pair_set, pair_values, policytc,
-    programme, set_of, steps_of, top_layers, top_level, units_of,
+    Need, Refusal, base, has_base, has_both, names_of, pair_set, pair_values, policytc, programme,
+    set_of, steps_of, top_layers, top_level, units_of,
 };
 use kt_rec::{FmPolicytc, FmProgramme, FmXref, Table, Tables};
 use std::alloc::{AllocError, Global};
@@ -122,7 +123,7 @@ fn first_owing(lookups: &Lookups, rule: u32, top: u32, rows: &[FmProgramme]) -> 
 fn owners(alloc: Global, outputs: &[FmXref]) -> Result<HashSet<(u32, u32)>, AllocError>
     ensures value { IfOk result (λ owners. (pair : ℕ × ℕ) → contains same_pair owners pair ≡ list_any (same_pair pair) (map (λ row. (row.agg_id, row.layer_id)) outputs.now)) }
 {
-    let layers = layers_of_outputs(alloc, outputs)?;
+    let layers: Vec<(u32, u32)> = names_of(alloc, outputs)?;
     pair_set(alloc, &layers)
 }
 

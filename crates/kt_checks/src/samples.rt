@@ -4,7 +4,7 @@ ghost use Rattle.kt_rec.specs.Rows.{rows_of};
 ghost use Rattle.kt_checks.specs.SummaryChecks.{CountsSummaries, sample_checks, summaries_of, zero_above, summary_size_check};
 
 use crate::sizes::rows_above;
-use kt_keys::{Need, Refusal, base, distinct_pairs, has_base, item_summaries, output_summaries};
+use kt_keys::{Need, Refusal, base, distinct_pairs, has_base, names_of};
 use kt_rec::{Table, Tables};
 use std::alloc::{AllocError, Global};
 
@@ -21,8 +21,8 @@ pub struct SummaryCounts {
 pub fn summary_counts(alloc: Global, tables: &Tables) -> Result<SummaryCounts, AllocError>
     ensures value { IfOk result (CountsSummaries (rows_of tables.now)) }
 {
-    let by_item = item_summaries(alloc, &tables.gulsummaryxref)?;
-    let by_output = output_summaries(alloc, &tables.fmsummaryxref)?;
+    let by_item: Vec<(u32, u32)> = names_of(alloc, &tables.gulsummaryxref)?;
+    let by_output: Vec<(u32, u32)> = names_of(alloc, &tables.fmsummaryxref)?;
     Ok(SummaryCounts {
         of_items: distinct_pairs(alloc, &by_item)?,
         of_outputs: distinct_pairs(alloc, &by_output)?,

@@ -8,8 +8,8 @@ ghost use Rattle.kt_keys.specs.Refusals.{over_stages};
 ghost use Rattle.kt_checks.specs.ProgrammeChecks.{inputs_of, has_sources, is_rootless, rootless_at, source_check};
 
 use kt_keys::{
-    Need, Refusal, STAGES, has_base, has_financial, item_ids, output_ids, pair_set, programme,
-    set_of, targets_of,
+    Need, Refusal, STAGES, has_base, has_financial, keys_of, pair_set, programme, set_of,
+    targets_of,
 };
 use kt_rec::{FmProgramme, Table, TableId, Tables};
 use std::alloc::{AllocError, Global};
@@ -61,9 +61,9 @@ fn inputs_of(alloc: Global, tables: &Tables, stage: u32) -> Result<Vec<u32>, All
     ensures value { IfOk result (λ inputs. inputs.items ≡ inputs_of (rows_of tables.now) stage) }
 {
     if stage == 0 {
-        item_ids(alloc, &tables.items)
+        keys_of(alloc, &tables.items)
     } else {
-        output_ids(alloc, &tables.fm_xref)
+        keys_of(alloc, &tables.fm_xref)
     }
 }
 

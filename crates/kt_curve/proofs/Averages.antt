@@ -14,13 +14,14 @@ use Rattle.kt_curve.specs.declared.cell.Cell.{Cell}
 use Rattle.kt_curve.specs.Losses.{KeyLoss, Added, total, all_losses, losses_of, pair_losses, is_added, has_cells, loss_at}
 use Rattle.kt_curve.specs.Grid.{summary_ids, summary_entries, HasSet, keys_for, mean_sidx, sample_sidx, moments_of, by_summary}
 use Rattle.kt_curve.specs.Standing.{Standing, cell_at, total_in}
+use Rattle.kt_curve.specs.Amounts.{amount_at}
 use Rattle.kt_curve.specs.Average.{aal_row, aal_rows, average_annual_loss_rows}
 use Rattle.kt_curve.proofs.Ids.{ids_of_standing, totals_of_standing, flat_map_each}
 
 -- ---- losses are above 0
 
 -- a pair that is added up has a loss
-added_some : (pair : Pair) → is_added pair ≡ true → 1 ≤ pair.loss
+pub added_some : (pair : Pair) → is_added pair ≡ true → 1 ≤ pair.loss
 added_some pair added = both (has_cells pair.sidx) (nat_lt 0 pair.loss) pair.loss added (λ e. grind (arith, nat_tests))
   where
     both : (a b : Bool) (loss : ℕ) → a && b ≡ true → (b ≡ true → 1 ≤ loss) → 1 ≤ loss
@@ -56,7 +57,7 @@ rows_same p s n samples u f g means others =
 
 -- the rows of the entries of a set are those of the losses for which they stand
 pub rows_of_standing : (p : Perspective) (s n samples : ℕ) (history : List Added) (es part : List (CellKey × Cell)) → Standing (all_losses history) es → HasSet p s part es →
-    by_summary p s (λ summary group. aal_rows p s n samples (λ key. total_in (cell_at group key)) summary) part ≡ average_annual_loss_rows p s n samples (all_losses history)
+    by_summary p s (λ summary group. aal_rows p s n samples (amount_at false group) summary) part ≡ average_annual_loss_rows p s n samples (all_losses history)
 rows_of_standing p s n samples history es part stands has_set =
     flat_map_each (λ summary. aal_rows p s n samples (λ key. total_in (cell_at (summary_entries summary part) key)) summary) (aal_rows p s n samples (total (all_losses history)))
     (λ summary. rows_same p s n samples summary _ (total (all_losses history)) (totals_of_standing p s summary n (all_losses history) es part mean_sidx stands has_set) (totals_of_standing p s summary n (all_losses history) es part (sample_sidx samples) stands has_set))

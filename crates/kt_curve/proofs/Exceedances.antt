@@ -7,8 +7,8 @@ use Rattle.kt_money.specs.Rounding.{half_up}
 use Rattle.kt_rec.specs.declared.perspective.Perspective.{Perspective}
 use Rattle.kt_rec.specs.declared.perspective.CellKey.{CellKey}
 use Rattle.kt_curve.specs.declared.cell.Cell.{Cell}
-use Rattle.kt_curve.specs.declared.curve.Curve.{Curve}
-use Rattle.kt_curve.specs.declared.curve.Curve.TheVariants.{FullAep, FullOep, SampleAep, SampleOep, WheatAep, WheatOep, WheatmeanAep, WheatmeanOep}
+use Rattle.kt_rec.specs.declared.curve.Curve.{Curve}
+use Rattle.kt_rec.specs.declared.curve.Curve.TheVariants.{FullAep, FullOep, SampleAep, SampleOep, WheatAep, WheatOep, WheatmeanAep, WheatmeanOep}
 use Rattle.kt_curve.specs.Losses.{KeyLoss, Added, all_losses, total, maximum, key_of}
 use Rattle.kt_curve.specs.Grid.{summary_ids, summary_entries, HasSet, keys_for, mean_sidx, sample_sidx, by_summary}
 use Rattle.kt_curve.specs.Standing.{Standing, cell_at, total_in, maximum_in}

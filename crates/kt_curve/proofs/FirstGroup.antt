@@ -1,21 +1,22 @@
 -- The first group of the entries of a set, and the others behind it.
-use Rattle.std.proofs.Common.{◌≡◌, ◌≢◌, ℕ, zero, suc, ◌<◌, ◌≤◌, List, [], ◌∷◌, ◌++◌, length, take, drop, arith, refl, sym, ap, ◌∙◌, cond, append_assoc, subst, take-append-drop}
+use Rattle.std.proofs.Common.{◌≡◌, ◌≢◌, ℕ, zero, suc, ◌<◌, ◌≤◌, List, [], ◌∷◌, ◌++◌, length, take, drop, arith, refl, sym, ap, ◌∙◌, cond, append_assoc, subst, take-append-drop, length-drop, append-nil}
 use Rattle.std.specs.Prelude.{Bool, true, false, ◌&&◌, nat_eq, All, ℤ, Result, Ok, Err, IfOk, Some}
 use Rattle.std.specs.List.{slice_get, filter, AllByRecursion}
 use Rattle.std.specs.List.Sorted.{IsStrictlySortedBy}
 use Rattle.std.specs.Map.{keys_of}
 use Rattle.std.specs.declared.cmp.Ordering.TheVariants.{Less}
+use Rattle.std.proofs.lemmas.Bool.{and_parts}
 use Rattle.std.proofs.lemmas.Bool.Decides.{nat_tests, Decides-eqb}
 use Rattle.std.proofs.lemmas.List.Elements.{All-head, All-tail, All-nil, All-cons, All-take, All-drop, All-weaker}
 use Rattle.std.proofs.lemmas.Map.Keys.{sorted_head, sorted_tail}
 use Rattle.kt_rec.specs.declared.perspective.Perspective.{Perspective}
-use Rattle.kt_rec.specs.declared.perspective.Perspective.TheVariants.{Gul, Il, Ri}
 use Rattle.kt_rec.specs.declared.perspective.CellKey.{CellKey}
 use Rattle.kt_rec.specs.contracts.perspective.CellKeyOrd.TheImpl as key_order
 use Rattle.kt_curve.specs.declared.cell.Cell.{Cell}
-use Rattle.kt_curve.specs.Losses.{key_of}
-use Rattle.kt_curve.specs.Grid.{IsPart, IsGroup, in_set, same_perspective, by_summary, group_length}
+use Rattle.kt_curve.specs.Losses.{key_of, same_perspective}
+use Rattle.kt_curve.specs.Grid.{IsPart, IsGroup, Splits, in_set, by_summary, group_length}
 use Rattle.kt_curve.specs.Standing.{FitsCells}
+use Rattle.kt_curve.proofs.Keys.{perspective_same}
 use Rattle.kt_curve.proofs.Parts.{OwnKey, summary_order, by_summary_split}
 
 -- ---- parts of sorted entries
@@ -167,22 +168,9 @@ next_group p s n samples text e es is =
 
 -- a key that is in a set
 pub in_set_is : (p : Perspective) (s : ℕ) (key : CellKey) → in_set p s key ≡ true → (key.perspective ≡ p) × (key.set ≡ s)
-in_set_is p s key same = both (same_perspective key.perspective p) (nat_eq key.set s) same (perspectives key.perspective p) ((Decides-eqb key.set s).0)
-  where
-    perspectives : (a b : Perspective) → same_perspective a b ≡ true → a ≡ b
-    perspectives Gul Gul e = refl
-    perspectives Gul Il e = cc
-    perspectives Gul Ri e = cc
-    perspectives Il Gul e = cc
-    perspectives Il Il e = refl
-    perspectives Il Ri e = cc
-    perspectives Ri Gul e = cc
-    perspectives Ri Il e = cc
-    perspectives Ri Ri e = refl
-
-    both : {A B : Type 0} (a b : Bool) → a && b ≡ true → (a ≡ true → A) → (b ≡ true → B) → A × B
-    both true b e f g = (f refl, g e)
-    both false b e f g = cc
+in_set_is p s key same =
+    let parts = and_parts (same_perspective key.perspective p) (nat_eq key.set s) same in
+    (perspective_same key.perspective p parts.0, (Decides-eqb key.set s).0 parts.1)
 
 -- what holds of an answer where more holds of it
 pub if_ok : {T E : Type 0} (P Q : T → Type 0) (r : Result T E) → ((x : T) → P x → Q x) → IfOk r P → IfOk r Q
@@ -224,13 +212,30 @@ next_group_of p s n samples text (x ∷ es) e first is =
     let e_is : x ≡ e = cc in
     subst (λ (y : CellKey × Cell). by_summary p s text (x ∷ es) ≡ text y.0.summary (take (group_length y.0.summary (x ∷ es)) (x ∷ es)) ++ by_summary p s text (drop (group_length y.0.summary (x ∷ es)) (x ∷ es))) e_is (next_group p s n samples text x es is)
 
--- one group more of a text
-pub next_text : (p : Perspective) (s n samples k : ℕ) (text : ℕ → List (CellKey × Cell) → List ℕ) (es group later : List (CellKey × Cell)) (e : CellKey × Cell) (out new whole : List ℕ) → Some e ≡ slice_get es 0 → IsPart p s n samples es →
-    k ≡ group_length e.0.summary es → group ≡ take k es → later ≡ drop k es → new ≡ out ++ text e.0.summary group → out ++ by_summary p s text es ≡ whole → new ++ by_summary p s text later ≡ whole
-next_text p s n samples k text es group later e out new whole first part k_is front back more is =
-    let group_is : group ≡ take (group_length e.0.summary es) es = front ∙ ap (λ j. take j es) k_is in
-    let later_is : later ≡ drop (group_length e.0.summary es) es = back ∙ ap (λ j. drop j es) k_is in
-    ap (λ t. t ++ by_summary p s text later) (more ∙ ap (λ g. out ++ text e.0.summary g) group_is)
-    ∙ append_assoc out (text e.0.summary (take (group_length e.0.summary es) es)) (by_summary p s text later)
-    ∙ ap (λ g. out ++ (text e.0.summary (take (group_length e.0.summary es) es) ++ by_summary p s text g)) later_is
-    ∙ ap (λ t. out ++ t) (sym (next_group_of p s n samples text es e first part)) ∙ is
+-- ---- the first group, where it was split off
+
+module _ (p : Perspective) (s n samples : ℕ) (es : List (CellKey × Cell)) (u : ℕ) (group later : List (CellKey × Cell)) (is : Splits es u group later) where
+  -- it is a group
+  pub split_group : IsPart p s n samples es → IsGroup p s n samples u group
+  split_group part = rw (is.group_is, is.summary_is) (first_group_of p s n samples es is.first is.is_first part)
+
+  -- the others are a part
+  pub split_part : IsPart p s n samples es → IsPart p s n samples later
+  split_part part = rw is.later_is (part_drop p s n samples (group_length u es) es part)
+
+  -- they are fewer
+  pub split_fewer : length later < length es
+  split_fewer =
+      let some : 1 ≤ group_length u es = rw is.summary_is (group_length-some is.first.0.summary es is.first is.is_first refl) in
+      omega (arith, ap length is.later_is, length-drop (group_length u es) es, group_length-le u es, some)
+
+  -- the text of the first group, and that of the others behind it
+  pub split_text : (text : ℕ → List (CellKey × Cell) → List ℕ) (out new whole : List ℕ) → IsPart p s n samples es → new ≡ out ++ text u group → out ++ by_summary p s text es ≡ whole → new ++ by_summary p s text later ≡ whole
+  split_text text out new whole part more so_far =
+      ap (λ t. t ++ by_summary p s text later) more
+      ∙ (append_assoc out (text u group) (by_summary p s text later)
+      ∙ (ap (λ t. out ++ t) (rw (is.group_is, is.later_is, is.summary_is) (sym (next_group_of p s n samples text es is.first is.is_first part))) ∙ so_far))
+
+-- no entries have no text
+pub no_text : (p : Perspective) (s : ℕ) (text : ℕ → List (CellKey × Cell) → List ℕ) (es : List (CellKey × Cell)) (out whole : List ℕ) → es ≡ [] → out ++ by_summary p s text es ≡ whole → out ≡ whole
+no_text p s text es out whole none is = sym (append-nil out) ∙ (ap (λ es. out ++ by_summary p s text es) (sym none) ∙ is)

@@ -8,7 +8,8 @@ use Rattle.kt_rec.specs.declared.perspective.CellKey.{CellKey}
 use Rattle.kt_curve.specs.declared.cell.Cell.{Cell}
 use Rattle.kt_curve.specs.declared.row_key.RowKey.{RowKey}
 use Rattle.kt_curve.specs.declared.row.Row.{Row}
-use Rattle.kt_curve.specs.Grid.{set_entries, in_set, same_perspective}
+use Rattle.kt_curve.specs.Losses.{same_perspective}
+use Rattle.kt_curve.specs.Grid.{set_entries, in_set}
 use Rattle.kt_curve.specs.RowCells.{SampleCells}
 use Rattle.kt_curve.specs.Rows.{key_in, row_entries, entries_of}
 

@@ -4,23 +4,21 @@ use Rattle.std.specs.Prelude.{Bool, true, false, ◌&&◌, sum_by, nat_eq, All, 
 use Rattle.std.specs.List.{IsDistinct, AllByRecursion, filter, range_with_len}
 use Rattle.std.proofs.lemmas.List.Concat.{flat_map-cons}
 use Rattle.std.specs.Map.{keys_of}
-use Rattle.std.specs.BTreeMap.{is_at}
-use Rattle.std.specs.Ordering.{eq_by_cmp, int_eq}
+use Rattle.std.specs.Ordering.{int_eq}
 use Rattle.std.proofs.lemmas.List.Sums.{sum_by-cons, sum_by-append}
 use Rattle.std.proofs.lemmas.List.Elements.{All-head, All-tail, All-nil, All-cons}
 use Rattle.std.proofs.lemmas.List.FromFn.{length-map-range_with_len}
 use Rattle.std.proofs.lemmas.Bool.{cases_lt}
 use Rattle.std.proofs.lemmas.Bool.Decides.{nat_tests, Decides-int_eq, Decides-eqb}
 use Rattle.std.proofs.lemmas.Map.{NonePasses, lookup-none}
-use Rattle.std.proofs.lemmas.Map.Keys.{IsDistinct-head, IsDistinct-tail, IsDistinct-from_sorted}
+use Rattle.std.proofs.lemmas.Map.Keys.{IsDistinct-head, IsDistinct-tail}
 use Rattle.kt_rec.specs.declared.perspective.Perspective.{Perspective}
 use Rattle.kt_rec.specs.declared.perspective.CellKey.{CellKey}
-use Rattle.kt_rec.specs.contracts.perspective.CellKeyOrd.TheImpl as key_order
 use Rattle.kt_curve.specs.declared.cell.Cell.{Cell}
 use Rattle.kt_curve.specs.Losses.{same_key, one_if, key_of}
 use Rattle.kt_curve.specs.Grid.{keys_for, sidx_of_kind, is_mean, same_bool, of_kind, IsGroup}
 use Rattle.kt_curve.specs.Standing.{cell_at, sidx_in_range, FitsCells}
-use Rattle.kt_curve.proofs.Keys.{same_exact, same_itself}
+use Rattle.kt_curve.proofs.Keys.{same_exact, same_itself, distinct_sorted}
 
 -- how often a test holds
 abbrev pub times : {K : Type 0} → (K → Bool) → List K → ℕ
@@ -48,15 +46,15 @@ at_choice f true x y = refl
 at_choice f false x y = refl
 
 -- a key that is none of the others is not found among them
-pub not_found : (key : CellKey) (es : List (CellKey × Cell)) → AllByRecursion (λ y. eq_by_cmp key_order.ghosts.cmp key y ≡ false) (keys_of es) → cell_at es key ≡ None
-not_found key es all = lookup-none (is_at (key_order.ghosts.cmp key)) es (none_passes es all)
+pub not_found : (key : CellKey) (es : List (CellKey × Cell)) → AllByRecursion (λ y. same_key key y ≡ false) (keys_of es) → cell_at es key ≡ None
+not_found key es all = lookup-none (same_key key) es (none_passes es all)
   where
-    none_passes : (es : List (CellKey × Cell)) → AllByRecursion (λ y. eq_by_cmp key_order.ghosts.cmp key y ≡ false) (keys_of es) → NonePasses (is_at (key_order.ghosts.cmp key)) es
+    none_passes : (es : List (CellKey × Cell)) → AllByRecursion (λ y. same_key key y ≡ false) (keys_of es) → NonePasses (same_key key) es
     none_passes [] all = tt
     none_passes (x ∷ es) all = (all.0, none_passes es all.1)
 
 -- the sum over all keys is the sum over the entries, each as often as its key is among them
-pub grid_sum : (f : Option Cell → ℕ) → f None ≡ 0 → (es : List (CellKey × Cell)) → IsDistinct (eq_by_cmp key_order.ghosts.cmp) (keys_of es) → (keys : List CellKey) →
+pub grid_sum : (f : Option Cell → ℕ) → f None ≡ 0 → (es : List (CellKey × Cell)) → IsDistinct same_key (keys_of es) → (keys : List CellKey) →
     sum_by (λ key. f (cell_at es key)) keys ≡ sum_by (λ e. times (λ key. same_key key e.0) keys * f (Some e.1)) es
 grid_sum f none [] distinct keys = nothing keys
   where
@@ -64,8 +62,8 @@ grid_sum f none [] distinct keys = nothing keys
     nothing [] = refl
     nothing (k ∷ keys) = sum_by-cons (λ (key : CellKey). f None) k keys ∙ omega (arith, nothing keys)
 grid_sum f none (e ∷ es) distinct keys =
-    let rest = grid_sum f none es (IsDistinct-tail (eq_by_cmp key_order.ghosts.cmp) e.0 (keys_of es) distinct) keys in
-    let missing : cell_at es e.0 ≡ None = not_found e.0 es (IsDistinct-head (eq_by_cmp key_order.ghosts.cmp) e.0 (keys_of es) distinct) in
+    let rest = grid_sum f none es (IsDistinct-tail same_key e.0 (keys_of es) distinct) keys in
+    let missing : cell_at es e.0 ≡ None = not_found e.0 es (IsDistinct-head same_key e.0 (keys_of es) distinct) in
     let zero_there : (k : CellKey) → same_key k e.0 ≡ true → f (cell_at es k) ≡ 0 = λ k same. ap (λ (key : CellKey). f (cell_at es key)) (same_exact k e.0 same) ∙ ap f missing ∙ none in
     let split : sum_by (λ key. f (cell_at (e ∷ es) key)) keys ≡ sum_by (λ key. cond (same_key key e.0) (f (Some e.1)) (f (cell_at es key))) keys =
     sum_by_same (λ key. f (cell_at (e ∷ es) key)) (λ key. cond (same_key key e.0) (f (Some e.1)) (f (cell_at es key))) (λ key. at_choice f (same_key key e.0) (Some e.1) (cell_at es key)) keys in
@@ -192,7 +190,7 @@ pub group_sum_by : (f : Option Cell → ℕ) → f None ≡ 0 → (p : Perspecti
     ((e : CellKey × Cell) → sidx_in_range samples e.0.sidx ≡ true → times (λ x. int_eq x e.0.sidx) sidxs ≡ one_if (test e)) →
     sum_by (λ key. f (cell_at group key)) (keys_for p s u sidxs n) ≡ sum_by (λ e. f (Some e.1)) (filter test group)
 group_sum_by f none p s n samples u group sidxs test is tested =
-    grid_sum f none group (IsDistinct-from_sorted key_order.ghosts.cmp (keys_of group) is.sorted) (keys_for p s u sidxs n)
+    grid_sum f none group (distinct_sorted (keys_of group) is.sorted) (keys_for p s u sidxs n)
     ∙ sum_filter test (λ e. times (λ key. same_key key e.0) (keys_for p s u sidxs n)) (λ e. f (Some e.1)) group (all group is.fitting is.own)
   where
     one : (e : CellKey × Cell) → FitsCells n samples e.0 e.1 → e.0 ≡ key_of p s u e.0.sidx e.0.period →

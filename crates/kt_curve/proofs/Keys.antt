@@ -1,70 +1,119 @@
--- The order of the keys tells all keys apart, and what entries keep when one is put in or taken out.
-use Rattle.std.proofs.Common.{◌≡◌, refl, ap}
-use Rattle.std.specs.Prelude.{ℕ, ℤ, true}
-use Rattle.std.specs.Cmp.{IsTotalOrder}
+-- Which keys are the same, part by part and in their order.
+use Rattle.std.proofs.Common.{◌≡◌, refl, ap, sym, subst, ◌∙◌, arith}
+use Rattle.std.specs.Prelude.{ℕ, ℤ, Bool, true, false, List, ◌&&◌, nat_eq}
+use Rattle.std.specs.Cmp.{IsEquivalence, IsTotalOrder}
+use Rattle.std.specs.List.{IsDistinct}
+use Rattle.std.specs.List.Sorted.{IsStrictlySortedBy}
 use Rattle.std.specs.declared.cmp.Ordering.{Ordering}
 use Rattle.std.specs.declared.cmp.Ordering.TheVariants.{Less, Equal, Greater}
-use Rattle.std.specs.Ordering.{is_eq, ordering_then, ordering_reverse, nat_cmp, int_cmp}
-use Rattle.std.proofs.lemmas.Map.Lookups.{exact_unsigned, exact_signed}
+use Rattle.std.specs.Ordering.{is_eq, ordering_then, nat_cmp, int_cmp, int_eq}
+use Rattle.std.proofs.Math.Path.{fun_ext}
+use Rattle.std.proofs.lemmas.Bool.{and_parts}
+use Rattle.std.proofs.lemmas.Bool.Decides.{nat_tests, Decides-eqb, Decides-int_eq}
+use Rattle.std.proofs.lemmas.Map.Keys.{IsDistinct-from_sorted}
 use Rattle.kt_rec.specs.declared.perspective.Perspective.{Perspective}
 use Rattle.kt_rec.specs.declared.perspective.Perspective.TheVariants.{Gul, Il, Ri}
 use Rattle.kt_rec.specs.declared.perspective.CellKey.{CellKey}
 use Rattle.kt_rec.specs.contracts.perspective.PerspectiveOrd.TheImpl as perspective_order
 use Rattle.kt_rec.specs.contracts.perspective.CellKeyOrd.TheImpl as key_order
 use Rattle.kt_rec.specs.contracts.perspective.CellKeyOrd.TheImpl.Laws.{total-law}
-use Rattle.kt_curve.specs.Losses.{same_key, key_of}
+use Rattle.kt_curve.specs.Losses.{same_key, same_perspective, key_of}
 
--- the keys are in a total order
-pub key_total : IsTotalOrder key_order.ghosts.cmp
-key_total = total-law
+-- ---- part by part
 
--- two orders, one after the other, are equal where both are
-then_equal : (r s : Ordering) → ordering_then r s ≡ Equal → (r ≡ Equal) × (s ≡ Equal)
-then_equal Less s e = cc
-then_equal Equal s e = (refl, e)
-then_equal Greater s e = cc
+-- perspectives with the same name
+pub perspective_same : (a b : Perspective) → same_perspective a b ≡ true → a ≡ b
+perspective_same Gul Gul e = refl
+perspective_same Gul Il e = cc
+perspective_same Gul Ri e = cc
+perspective_same Il Gul e = cc
+perspective_same Il Il e = refl
+perspective_same Il Ri e = cc
+perspective_same Ri Gul e = cc
+perspective_same Ri Il e = cc
+perspective_same Ri Ri e = refl
 
--- perspectives that compare as equal are the same
-perspective_exact : (a b : Perspective) → perspective_order.ghosts.cmp a b ≡ Equal → a ≡ b
-perspective_exact Gul Gul e = refl
-perspective_exact Gul Il e = cc
-perspective_exact Gul Ri e = cc
-perspective_exact Il Gul e = cc
-perspective_exact Il Il e = refl
-perspective_exact Il Ri e = cc
-perspective_exact Ri Gul e = cc
-perspective_exact Ri Il e = cc
-perspective_exact Ri Ri e = refl
+-- a perspective is the same as itself
+pub same_perspective_itself : (a : Perspective) → same_perspective a a ≡ true
+same_perspective_itself Gul = refl
+same_perspective_itself Il = refl
+same_perspective_itself Ri = refl
 
 -- keys with the same parts are the same
 same_parts : (p p' : Perspective) (s s' u u' : ℕ) (x x' : ℤ) (t t' : ℕ) → p ≡ p' → s ≡ s' → u ≡ u' → x ≡ x' → t ≡ t' → key_of p s u x t ≡ key_of p' s' u' x' t'
 same_parts p p' s s' u u' x x' t t' a b c d e = cc
 
--- keys that compare as equal are the same
-pub key_exact : (a b : CellKey) → key_order.ghosts.cmp a b ≡ Equal → a ≡ b
-key_exact a b same =
-    let sets : Ordering = ordering_then (nat_cmp a.set b.set) (ordering_then (nat_cmp a.summary b.summary) (ordering_then (int_cmp a.sidx b.sidx) (nat_cmp a.period b.period))) in
-    let one = then_equal (perspective_order.ghosts.cmp a.perspective b.perspective) sets same in
-    let two = then_equal (nat_cmp a.set b.set) (ordering_then (nat_cmp a.summary b.summary) (ordering_then (int_cmp a.sidx b.sidx) (nat_cmp a.period b.period))) one.1 in
-    let three = then_equal (nat_cmp a.summary b.summary) (ordering_then (int_cmp a.sidx b.sidx) (nat_cmp a.period b.period)) two.1 in
-    let four = then_equal (int_cmp a.sidx b.sidx) (nat_cmp a.period b.period) three.1 in
-    same_parts a.perspective b.perspective a.set b.set a.summary b.summary a.sidx b.sidx a.period b.period
-    (perspective_exact a.perspective b.perspective one.0) (exact_unsigned a.set b.set two.0) (exact_unsigned a.summary b.summary three.0) (exact_signed a.sidx b.sidx four.0) (exact_unsigned a.period b.period four.1)
-
--- as a test
+-- keys that are the same by the test are one
 pub same_exact : (a b : CellKey) → same_key a b ≡ true → a ≡ b
-same_exact a b same = key_exact a b (equal (key_order.ghosts.cmp a b) same)
-  where
-    equal : (r : Ordering) → is_eq r ≡ true → r ≡ Equal
-    equal Less e = cc
-    equal Equal e = refl
-    equal Greater e = cc
+same_exact a b same =
+    let one = and_parts (same_perspective a.perspective b.perspective) (nat_eq a.set b.set && (nat_eq a.summary b.summary && (int_eq a.sidx b.sidx && nat_eq a.period b.period))) same in
+    let two = and_parts (nat_eq a.set b.set) (nat_eq a.summary b.summary && (int_eq a.sidx b.sidx && nat_eq a.period b.period)) one.1 in
+    let three = and_parts (nat_eq a.summary b.summary) (int_eq a.sidx b.sidx && nat_eq a.period b.period) two.1 in
+    let four = and_parts (int_eq a.sidx b.sidx) (nat_eq a.period b.period) three.1 in
+    same_parts a.perspective b.perspective a.set b.set a.summary b.summary a.sidx b.sidx a.period b.period
+    (perspective_same a.perspective b.perspective one.0) ((Decides-eqb a.set b.set).0 two.0) ((Decides-eqb a.summary b.summary).0 three.0) ((Decides-int_eq a.sidx b.sidx).0 four.0) ((Decides-eqb a.period b.period).0 four.1)
 
 -- a key is the same as itself
 pub same_itself : (key : CellKey) → same_key key key ≡ true
-same_itself key = ap is_eq (reflexive (key_order.ghosts.cmp key key) (key_total.antisymm key key))
+same_itself key = all _ _ _ _ _ (same_perspective_itself key.perspective) ((Decides-eqb key.set key.set).1 refl) ((Decides-eqb key.summary key.summary).1 refl) ((Decides-int_eq key.sidx key.sidx).1 refl) ((Decides-eqb key.period key.period).1 refl)
   where
-    reflexive : (r : Ordering) → r ≡ ordering_reverse r → r ≡ Equal
-    reflexive Less e = cc
-    reflexive Equal e = refl
-    reflexive Greater e = cc
+    all : (a b c d e : Bool) → a ≡ true → b ≡ true → c ≡ true → d ≡ true → e ≡ true → (a && (b && (c && (d && e)))) ≡ true
+    all a b c d e p q r s t = rw (p, q, r, s, t) refl
+
+-- the test is an equivalence
+pub key_equiv : IsEquivalence same_key
+key_equiv = record { refl = same_itself; symm = λ x y. both x y (same_key x y) (same_key y x) refl refl; congr = λ x y z same. ap (λ k. same_key k z) (same_exact x y same) }
+  where
+    back : (x y : CellKey) → same_key x y ≡ true → same_key y x ≡ true
+    back x y same = subst (λ (k : CellKey). same_key k x ≡ true) (same_exact x y same) (same_itself x)
+
+    both : (x y : CellKey) (a b : Bool) → same_key x y ≡ a → same_key y x ≡ b → a ≡ b
+    both x y true b is other = sym (back x y is) ∙ other
+    both x y false true is other = sym is ∙ back y x other
+    both x y false false is other = refl
+
+-- ---- in their order
+
+-- the keys are in a total order
+pub key_total : IsTotalOrder key_order.ghosts.cmp
+key_total = total-law
+
+-- five orders, one after the other, are equal where all are
+equal_then : (p q r s t : Ordering) → is_eq (ordering_then p (ordering_then q (ordering_then r (ordering_then s t)))) ≡ is_eq p && (is_eq q && (is_eq r && (is_eq s && is_eq t)))
+equal_then Less q r s t = refl
+equal_then Greater q r s t = refl
+equal_then Equal Less r s t = refl
+equal_then Equal Greater r s t = refl
+equal_then Equal Equal Less s t = refl
+equal_then Equal Equal Greater s t = refl
+equal_then Equal Equal Equal Less t = refl
+equal_then Equal Equal Equal Greater t = refl
+equal_then Equal Equal Equal Equal t = refl
+
+-- perspectives compare as equal where they are the same
+perspective_order_same : (a b : Perspective) → is_eq (perspective_order.ghosts.cmp a b) ≡ same_perspective a b
+perspective_order_same Gul Gul = refl
+perspective_order_same Gul Il = refl
+perspective_order_same Gul Ri = refl
+perspective_order_same Il Gul = refl
+perspective_order_same Il Il = refl
+perspective_order_same Il Ri = refl
+perspective_order_same Ri Gul = refl
+perspective_order_same Ri Il = refl
+perspective_order_same Ri Ri = refl
+
+-- keys compare as equal where the test holds
+pub same_order : (a b : CellKey) → is_eq (key_order.ghosts.cmp a b) ≡ same_key a b
+same_order a b =
+    equal_then (perspective_order.ghosts.cmp a.perspective b.perspective) (nat_cmp a.set b.set) (nat_cmp a.summary b.summary) (int_cmp a.sidx b.sidx) (nat_cmp a.period b.period)
+    ∙ all _ _ _ _ _ _ _ _ _ (perspective_order_same a.perspective b.perspective) (number a.set b.set) (number a.summary b.summary) (number a.period b.period)
+  where
+    number : (x y : ℕ) → is_eq (nat_cmp x y) ≡ nat_eq x y
+    number x y = grind (arith, nat_tests)
+
+    all : (p p' q q' r r' s t t' : Bool) → p ≡ p' → q ≡ q' → r ≡ r' → t ≡ t' → p && (q && (r && (s && t))) ≡ p' && (q' && (r' && (s && t')))
+    all p p' q q' r r' s t t' a b c d = cc
+
+-- keys that rise differ
+pub distinct_sorted : (keys : List CellKey) → IsStrictlySortedBy key_order.ghosts.cmp keys → IsDistinct same_key keys
+distinct_sorted keys sorted = subst (λ (same : CellKey → CellKey → Bool). IsDistinct same keys) (fun_ext (λ a. fun_ext (λ b. same_order a b))) (IsDistinct-from_sorted key_order.ghosts.cmp keys sorted)

@@ -17,7 +17,7 @@ use Rattle.kt_curve.specs.Standing.{cell_at, most_total, FitsCells}
 use Rattle.kt_curve.specs.Amounts.{amount_in, amounts_of, of_period, of_sample}
 use Rattle.kt_curve.specs.Exceedance.{ranked_loss, sidx_values, period_means, rank_means}
 use Rattle.kt_curve.proofs.Grids.{at_choice, length_keys, single_times}
-use Rattle.kt_curve.proofs.Moments.{few_by}
+use Rattle.kt_curve.proofs.Moments.{few_by, length_amounts}
 use Rattle.kt_curve.proofs.Periods.{period_sum}
 
 -- ---- lists by place
@@ -92,16 +92,11 @@ means_of_periods p s n samples u group maxima sums is len at =
 
 -- ---- the means of the ranks
 
--- as many amounts as entries
-amounts_length : (maxima : Bool) (es : List (CellKey × Cell)) → length (map (λ (e : CellKey × Cell). amount_in maxima (Some e.1)) es) ≡ length es
-amounts_length maxima [] = refl
-amounts_length maxima (e ∷ es) = ap suc (amounts_length maxima es)
-
 -- a sample has at most as many amounts as there are periods
 pub sample_few : (p : Perspective) (s n samples u : ℕ) (group : List (CellKey × Cell)) (maxima : Bool) (sample : ℕ) → IsGroup p s n samples u group → length (amounts_of maxima (of_sample sample) group) ≤ n
 sample_few p s n samples u group maxima sample is =
     let few = few_by p s n samples u group (pos sample ∷ []) (of_sample sample) is (λ e within. single_times (pos sample) e.0.sidx) in
-    omega (arith, amounts_length maxima (filter (of_sample sample) group), few, length_keys p s u n (pos sample ∷ []))
+    omega (arith, length_amounts maxima (filter (of_sample sample) group), few, length_keys p s u n (pos sample ∷ []))
 
 -- the means of the sums of the ranks
 pub means_of_ranks : (p : Perspective) (s n samples u : ℕ) (amount : CellKey → ℕ) (sums : List ℕ) → length sums ≡ n →

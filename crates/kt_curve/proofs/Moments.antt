@@ -15,7 +15,8 @@ use Rattle.kt_curve.specs.declared.cell.Cell.{Cell}
 use Rattle.kt_curve.specs.Grid.{keys_for, sidx_of_kind, of_kind, IsGroup, moments_of, sample_sidx, mean_sidx}
 use Rattle.std.specs.Ordering.{int_eq}
 use Rattle.kt_curve.specs.Losses.{one_if}
-use Rattle.kt_curve.specs.Standing.{cell_at, total_in, most_total, FitsCells, sidx_in_range}
+use Rattle.kt_curve.specs.Standing.{cell_at, sidx_in_range}
+use Rattle.kt_curve.specs.Amounts.{amount_in, amount_at, amounts_of}
 use Rattle.kt_curve.proofs.Grids.{group_sum, group_sum_by, kind_times, times, length_keys}
 
 -- a sum over what a function gives
@@ -67,41 +68,41 @@ spread count amounts few =
     let one = rw squares at (squares-sum-le amounts) in
     omega (arith, one, mul-le (length amounts) (sum_by (λ amount. amount * amount) amounts) count (sum_by (λ amount. amount * amount) amounts) few (omega arith))
 
--- the amounts of a group are within their bounds
-pub group_most : (p : Perspective) (s n samples u : ℕ) (group : List (CellKey × Cell)) (mean : Bool) → IsGroup p s n samples u group →
-    All (λ amount. amount ≤ most_total) (map (λ (entry : CellKey × Cell). total_in (Some entry.1)) (filter (of_kind mean) group))
-group_most p s n samples u group mean is =
-    All-map (λ amount. amount ≤ most_total) (λ (entry : CellKey × Cell). total_in (Some entry.1)) (filter (of_kind mean) group)
-    (All-filter (of_kind mean) (λ (entry : CellKey × Cell). entry.1.total ≤ most_total) group
-    (All-weaker (λ (e : CellKey × Cell). FitsCells n samples e.0 e.1) (λ (e : CellKey × Cell). e.1.total ≤ most_total) (λ e fits. fits.most) group is.fitting))
-
 -- the mean and the deviation of so many amounts with this sum and this sum of squares
 abbrev moments : ℕ → ℕ → ℕ → MeanSd
 moments count total squares = record { mean = mean_of count total; sd = deviation_of count total squares }
 
 -- the mean and the deviation of all periods are those of the amounts that are there
-pub group_moments : (p : Perspective) (s n samples u : ℕ) (group : List (CellKey × Cell)) (mean : Bool) (count : ℕ) → IsGroup p s n samples u group →
-    moments_of count (map (λ key. total_in (cell_at group key)) (keys_for p s u (sidx_of_kind mean samples) n)) ≡ moments_of count (map (λ (entry : CellKey × Cell). total_in (Some entry.1)) (filter (of_kind mean) group))
-group_moments p s n samples u group mean count is = same_moments count _ _ _ _ sums squares
+pub group_moments : (p : Perspective) (s n samples u : ℕ) (group : List (CellKey × Cell)) (maxima mean : Bool) (count : ℕ) → IsGroup p s n samples u group →
+    moments_of count (map (amount_at maxima group) (keys_for p s u (sidx_of_kind mean samples) n)) ≡ moments_of count (amounts_of maxima (of_kind mean) group)
+group_moments p s n samples u group maxima mean count is = same_moments count _ _ _ _ sums squares
   where
     same_moments : (n a b c d : ℕ) → a ≡ b → c ≡ d → moments n a c ≡ moments n b d
     same_moments n a b c d e f = cc
 
-    sums : sum (map (λ key. total_in (cell_at group key)) (keys_for p s u (sidx_of_kind mean samples) n)) ≡ sum (map (λ (entry : CellKey × Cell). total_in (Some entry.1)) (filter (of_kind mean) group))
-    sums =
-        sum-map (λ key. total_in (cell_at group key)) (keys_for p s u (sidx_of_kind mean samples) n) ∙ group_sum total_in refl p s n samples u group mean is
-        ∙ sym (sum-map (λ (entry : CellKey × Cell). total_in (Some entry.1)) (filter (of_kind mean) group))
+    nothing : (maxima : Bool) → amount_in maxima None * amount_in maxima None ≡ 0
+    nothing true = refl
+    nothing false = refl
 
-    squares : sum_by (λ amount. amount * amount) (map (λ key. total_in (cell_at group key)) (keys_for p s u (sidx_of_kind mean samples) n)) ≡ sum_by (λ amount. amount * amount) (map (λ (entry : CellKey × Cell). total_in (Some entry.1)) (filter (of_kind mean) group))
+    none : (maxima : Bool) → amount_in maxima None ≡ 0
+    none true = refl
+    none false = refl
+
+    sums : sum (map (amount_at maxima group) (keys_for p s u (sidx_of_kind mean samples) n)) ≡ sum (amounts_of maxima (of_kind mean) group)
+    sums =
+        sum-map (amount_at maxima group) (keys_for p s u (sidx_of_kind mean samples) n) ∙ group_sum (amount_in maxima) (none maxima) p s n samples u group mean is
+        ∙ sym (sum-map (λ (entry : CellKey × Cell). amount_in maxima (Some entry.1)) (filter (of_kind mean) group))
+
+    squares : sum_by (λ amount. amount * amount) (map (amount_at maxima group) (keys_for p s u (sidx_of_kind mean samples) n)) ≡ sum_by (λ amount. amount * amount) (amounts_of maxima (of_kind mean) group)
     squares =
-        sum_by_map (λ amount. amount * amount) (λ key. total_in (cell_at group key)) (keys_for p s u (sidx_of_kind mean samples) n)
-        ∙ group_sum (λ o. total_in o * total_in o) refl p s n samples u group mean is
-        ∙ sym (sum_by_map (λ amount. amount * amount) (λ (entry : CellKey × Cell). total_in (Some entry.1)) (filter (of_kind mean) group))
+        sum_by_map (λ amount. amount * amount) (amount_at maxima group) (keys_for p s u (sidx_of_kind mean samples) n)
+        ∙ group_sum (λ o. amount_in maxima o * amount_in maxima o) (nothing maxima) p s n samples u group mean is
+        ∙ sym (sum_by_map (λ amount. amount * amount) (λ (entry : CellKey × Cell). amount_in maxima (Some entry.1)) (filter (of_kind mean) group))
 
 -- as many amounts as entries
-pub length_amounts : (es : List (CellKey × Cell)) → length (map (λ (entry : CellKey × Cell). total_in (Some entry.1)) es) ≡ length es
-length_amounts [] = refl
-length_amounts (e ∷ es) = ap suc (length_amounts es)
+pub length_amounts : (maxima : Bool) (es : List (CellKey × Cell)) → length (map (λ (entry : CellKey × Cell). amount_in maxima (Some entry.1)) es) ≡ length es
+length_amounts maxima [] = refl
+length_amounts maxima (e ∷ es) = ap suc (length_amounts maxima es)
 
 -- a mean and a deviation
 abbrev pair : ℕ → ℕ → MeanSd

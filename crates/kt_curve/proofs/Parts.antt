@@ -1,21 +1,24 @@
 -- The entries of a perspective and set, summary by summary.
 use Rattle.std.proofs.Common.{◌≡◌, ◌⊎◌, inl, inr, ℕ, ◌<◌, ◌≤◌, List, [], ◌∷◌, ◌++◌, arith, refl, sym, ap, ◌∙◌, cond}
 use Rattle.std.specs.Prelude.{Bool, true, false, ◌&&◌, nat_eq, nat_lt, All}
-use Rattle.std.specs.List.{flat_map}
+use Rattle.std.specs.List.{AllByRecursion, flat_map}
 use Rattle.std.specs.Map.{keys_of}
 use Rattle.std.specs.declared.cmp.Ordering.{Ordering}
 use Rattle.std.specs.declared.cmp.Ordering.TheVariants.{Less, Equal, Greater}
 use Rattle.std.specs.Ordering.{ordering_then, nat_cmp, int_cmp}
 use Rattle.std.proofs.lemmas.Bool.Decides.{nat_tests, Decides-eqb}
-use Rattle.std.proofs.lemmas.List.Elements.{All-head, All-tail, All-nil, All-cons, All-weaker}
+use Rattle.std.proofs.lemmas.List.Elements.{All-head, All-tail, All-nil, All-cons, All-from_recursion, All-weaker}
 use Rattle.std.proofs.lemmas.List.Concat.{flat_map-cons}
+use Rattle.kt_rec.specs.Rising.{put, put-again, put-all, put-first}
 use Rattle.kt_rec.specs.declared.perspective.Perspective.{Perspective}
 use Rattle.kt_rec.specs.declared.perspective.Perspective.TheVariants.{Gul, Il, Ri}
 use Rattle.kt_rec.specs.declared.perspective.CellKey.{CellKey}
 use Rattle.kt_rec.specs.contracts.perspective.CellKeyOrd.TheImpl as key_order
 use Rattle.kt_rec.specs.contracts.perspective.PerspectiveOrd.TheImpl as perspective_order
 use Rattle.kt_curve.specs.declared.cell.Cell.{Cell}
-use Rattle.kt_curve.specs.Grid.{in_set, same_perspective, with_id, summary_ids, summary_entries, by_summary}
+use Rattle.kt_curve.specs.Losses.{same_perspective}
+use Rattle.kt_curve.proofs.Keys.{same_perspective_itself}
+use Rattle.kt_curve.specs.Grid.{in_set, summary_ids, summary_entries, by_summary}
 
 -- ---- the order of the summaries
 
@@ -95,51 +98,20 @@ entries_behind u v (e ∷ front) back below own =
     ap (λ b. cond b (e ∷ summary_entries v (front ++ back)) (summary_entries v (front ++ back))) apart
     ∙ entries_behind u v front back below (All-tail (λ (e : CellKey × Cell). e.0.summary ≡ u) e front own)
 
--- ids above one stay so
-with_id_above : (u id : ℕ) (ids : List ℕ) → u < id → All (λ i. u < i) ids → All (λ i. u < i) (with_id id ids)
-with_id_above u id [] below above = All-cons (λ i. u < i) id [] below above
-with_id_above u id (i ∷ ids) below above =
-    by_tests (nat_lt id i) (nat_eq id i) (with_id_above u id ids below (All-tail (λ i. u < i) i ids above))
-  where
-    by_tests : (less same : Bool) → All (λ i. u < i) (with_id id ids) → All (λ i. u < i) (cond less (id ∷ i ∷ ids) (cond same (i ∷ ids) (i ∷ with_id id ids)))
-    by_tests true same later = All-cons (λ i. u < i) id (i ∷ ids) below above
-    by_tests false true later = above
-    by_tests false false later = All-cons (λ i. u < i) i (with_id id ids) (All-head (λ i. u < i) i ids above) later
-
 -- the ids among keys above one
-pub ids_above : (p : Perspective) (s u : ℕ) (keys : List CellKey) → All (λ key. u < key.summary) keys → All (λ i. u < i) (summary_ids p s keys)
-ids_above p s u [] above = All-nil _
+ids_above : (p : Perspective) (s u : ℕ) (keys : List CellKey) → All (λ key. u < key.summary) keys → AllByRecursion (λ i. u < i) (summary_ids p s keys)
+ids_above p s u [] above = tt
 ids_above p s u (key ∷ keys) above =
     by_set (in_set p s key) (ids_above p s u keys (All-tail (λ (key : CellKey). u < key.summary) key keys above))
   where
-    by_set : (b : Bool) → All (λ i. u < i) (summary_ids p s keys) → All (λ i. u < i) (cond b (with_id key.summary (summary_ids p s keys)) (summary_ids p s keys))
-    by_set true later = with_id_above u key.summary (summary_ids p s keys) (All-head (λ (key : CellKey). u < key.summary) key keys above) later
+    by_set : (b : Bool) → AllByRecursion (λ i. u < i) (summary_ids p s keys) → AllByRecursion (λ i. u < i) (cond b (put key.summary (summary_ids p s keys)) (summary_ids p s keys))
+    by_set true later = put-all (λ i. u < i) key.summary (summary_ids p s keys) (All-head (λ (key : CellKey). u < key.summary) key keys above) later
     by_set false later = later
-
--- an id below all others comes first
-with_id_first : (u : ℕ) (ids : List ℕ) → All (λ i. u < i) ids → with_id u ids ≡ u ∷ ids
-with_id_first u [] above = refl
-with_id_first u (i ∷ ids) above =
-    let head = All-head (λ i. u < i) i ids above in
-    let less : nat_lt u i ≡ true = grind (arith, nat_tests) in
-    ap (λ b. cond b (u ∷ i ∷ ids) (cond (nat_eq u i) (i ∷ ids) (i ∷ with_id u ids))) less
-
--- an id that is first already
-with_id_again : (u : ℕ) (ids : List ℕ) → with_id u (u ∷ ids) ≡ u ∷ ids
-with_id_again u ids =
-    let less : nat_lt u u ≡ false = grind (arith, nat_tests) in
-    let same : nat_eq u u ≡ true = grind (arith, nat_tests) in
-    ap (λ b. cond b (u ∷ u ∷ ids) (cond (nat_eq u u) (u ∷ ids) (u ∷ with_id u ids))) less ∙ ap (λ b. cond b (u ∷ ids) (u ∷ with_id u ids)) same
 
 -- a key of the set is in it
 pub is_in_set : (p : Perspective) (s : ℕ) (key : CellKey) → key.perspective ≡ p → key.set ≡ s → in_set p s key ≡ true
 is_in_set p s key perspective set =
-    ap (λ q. same_perspective q p && nat_eq key.set s) perspective ∙ ap (λ b. b && nat_eq key.set s) (itself p) ∙ (Decides-eqb key.set s).1 set
-  where
-    itself : (p : Perspective) → same_perspective p p ≡ true
-    itself Gul = refl
-    itself Il = refl
-    itself Ri = refl
+    ap (λ q. same_perspective q p && nat_eq key.set s) perspective ∙ ap (λ b. b && nat_eq key.set s) (same_perspective_itself p) ∙ (Decides-eqb key.set s).1 set
 
 -- a type for keys of a set
 abbrev pub OwnKey : Perspective → ℕ → CellKey × Cell → Type 0
@@ -150,9 +122,9 @@ pub ids_split : (p : Perspective) (s u : ℕ) (e : CellKey × Cell) (front back 
     summary_ids p s (keys_of ((e ∷ front) ++ back)) ≡ u ∷ summary_ids p s (keys_of back)
 ids_split p s u e [] back set own above =
     let head = All-head (OwnKey p s) e [] set in
-    ap (λ b. cond b (with_id e.0.summary (summary_ids p s (keys_of back))) (summary_ids p s (keys_of back))) (is_in_set p s e.0 head.0 head.1)
-    ∙ ap (λ i. with_id i (summary_ids p s (keys_of back))) (All-head (λ (e : CellKey × Cell). e.0.summary ≡ u) e [] own)
-    ∙ with_id_first u (summary_ids p s (keys_of back)) (ids_above p s u (keys_of back) (all_keys back above))
+    ap (λ b. cond b (put e.0.summary (summary_ids p s (keys_of back))) (summary_ids p s (keys_of back))) (is_in_set p s e.0 head.0 head.1)
+    ∙ ap (λ i. put i (summary_ids p s (keys_of back))) (All-head (λ (e : CellKey × Cell). e.0.summary ≡ u) e [] own)
+    ∙ put-first u (summary_ids p s (keys_of back)) (ids_above p s u (keys_of back) (all_keys back above))
   where
     all_keys : (es : List (CellKey × Cell)) → All (λ e. u < e.0.summary) es → All (λ key. u < key.summary) (keys_of es)
     all_keys [] above = All-nil _
@@ -160,9 +132,9 @@ ids_split p s u e [] back set own above =
 ids_split p s u e (f ∷ front) back set own above =
     let head = All-head (OwnKey p s) e (f ∷ front) set in
     let later = ids_split p s u f front back (All-tail (OwnKey p s) e (f ∷ front) set) (All-tail (λ (e : CellKey × Cell). e.0.summary ≡ u) e (f ∷ front) own) above in
-    ap (λ b. cond b (with_id e.0.summary (summary_ids p s (keys_of ((f ∷ front) ++ back)))) (summary_ids p s (keys_of ((f ∷ front) ++ back)))) (is_in_set p s e.0 head.0 head.1)
-    ∙ ap (λ i. with_id i (summary_ids p s (keys_of ((f ∷ front) ++ back)))) (All-head (λ (e : CellKey × Cell). e.0.summary ≡ u) e (f ∷ front) own)
-    ∙ ap (with_id u) later ∙ with_id_again u (summary_ids p s (keys_of back))
+    ap (λ b. cond b (put e.0.summary (summary_ids p s (keys_of ((f ∷ front) ++ back)))) (summary_ids p s (keys_of ((f ∷ front) ++ back)))) (is_in_set p s e.0 head.0 head.1)
+    ∙ ap (λ i. put i (summary_ids p s (keys_of ((f ∷ front) ++ back)))) (All-head (λ (e : CellKey × Cell). e.0.summary ≡ u) e (f ∷ front) own)
+    ∙ ap (put u) later ∙ put-again u (summary_ids p s (keys_of back))
 
 -- texts that are the same for each of a list
 pub flat_map_same : {X : Type 0} (f g : X → List ℕ) (xs : List X) → All (λ x. f x ≡ g x) xs → flat_map f xs ≡ flat_map g xs
@@ -178,7 +150,7 @@ by_summary_split p s u text e front back set own above =
     let text_of = λ (v : ℕ). text v (summary_entries v ((e ∷ front) ++ back)) in
     ap (flat_map text_of) ids ∙ flat_map-cons text_of u (summary_ids p s (keys_of back))
     ∙ ap (λ es. text u es ++ flat_map text_of (summary_ids p s (keys_of back))) (entries_split u (e ∷ front) back own above)
-    ∙ ap (λ t. text u (e ∷ front) ++ t) (flat_map_same text_of (λ v. text v (summary_entries v back)) (summary_ids p s (keys_of back)) (behind (summary_ids p s (keys_of back)) (ids_above p s u (keys_of back) (all_keys back above))))
+    ∙ ap (λ t. text u (e ∷ front) ++ t) (flat_map_same text_of (λ v. text v (summary_entries v back)) (summary_ids p s (keys_of back)) (behind (summary_ids p s (keys_of back)) (All-from_recursion (λ i. u < i) _ (ids_above p s u (keys_of back) (all_keys back above)))))
   where
     all_keys : (es : List (CellKey × Cell)) → All (λ e. u < e.0.summary) es → All (λ key. u < key.summary) (keys_of es)
     all_keys [] above = All-nil _

@@ -1,6 +1,6 @@
 -- The sum over the samples of one period is the sum over the entries of that period.
 use Rattle.std.proofs.Common.{◌≡◌, ℕ, ◌+◌, ◌*◌, ◌<◌, ◌≤◌, List, [], ◌∷◌, ◌++◌, map, length, take, get_or, cond, ⊎_elim, arith, refl, sym, ap, ◌∙◌}
-use Rattle.std.specs.Prelude.{Bool, true, false, ◌&&◌, nat_eq, All, ℤ, Option, Some, None, sum, sum_by}
+use Rattle.std.specs.Prelude.{Bool, true, false, ◌&&◌, nat_eq, All, ℤ, pos, negsuc, Option, Some, None, sum, sum_by}
 use Rattle.std.specs.List.{filter}
 use Rattle.std.specs.Ordering.{int_eq}
 use Rattle.std.specs.Map.{keys_of}
@@ -8,18 +8,17 @@ use Rattle.std.proofs.lemmas.Bool.{cases_lt}
 use Rattle.std.proofs.lemmas.Nat.{mul-le}
 use Rattle.std.proofs.Math.Nat.{mul-div-le}
 use Rattle.kt_money.specs.Rounding.{half_up}
-use Rattle.std.proofs.lemmas.List.{take_more}
-use Rattle.std.proofs.lemmas.List.Sums.{sum_by-cons}
-use Rattle.std.proofs.lemmas.List.Elements.{All-head, All-tail, All-nil, All-cons}
-use Rattle.std.proofs.lemmas.Map.Keys.{IsDistinct-from_sorted}
+use Rattle.std.proofs.lemmas.List.{take_more, map-append}
+use Rattle.std.proofs.lemmas.List.Sums.{sum_by-cons, sum_by-append}
+use Rattle.std.proofs.lemmas.List.Elements.{All-head, All-tail, All-nil, All-cons, filter-append}
 use Rattle.kt_rec.specs.declared.perspective.Perspective.{Perspective}
 use Rattle.kt_rec.specs.declared.perspective.CellKey.{CellKey}
-use Rattle.kt_rec.specs.contracts.perspective.CellKeyOrd.TheImpl as key_order
 use Rattle.kt_curve.specs.declared.cell.Cell.{Cell}
 use Rattle.kt_curve.specs.Losses.{one_if, same_key, key_of}
-use Rattle.kt_curve.specs.Grid.{IsGroup, sample_sidx, is_mean, same_bool}
+use Rattle.kt_curve.proofs.Keys.{distinct_sorted}
+use Rattle.kt_curve.specs.Grid.{IsGroup, sample_sidx, is_mean, same_bool, of_kind}
 use Rattle.kt_curve.specs.Standing.{cell_at, FitsCells}
-use Rattle.kt_curve.specs.Amounts.{of_period, amount_in, amounts_of}
+use Rattle.kt_curve.specs.Amounts.{of_period, of_sample, amount_in, amounts_of}
 use Rattle.kt_curve.proofs.Grids.{grid_sum, sum_filter, times, times_map, times_same, same_by_parts, kind_times}
 use Rattle.kt_curve.proofs.Moments.{sum_by_map}
 
@@ -56,7 +55,7 @@ pub period_sum : (f : Option Cell → ℕ) → f None ≡ 0 → (p : Perspective
     sum_by (λ x. f (cell_at group (key_of p s u x t))) (sample_sidx samples) ≡ sum_by (λ e. f (Some e.1)) (filter (of_period t) group)
 period_sum f none p s n samples u group t is =
     sym (sum_by_map (λ key. f (cell_at group key)) (λ x. key_of p s u x t) (sample_sidx samples))
-    ∙ grid_sum f none group (IsDistinct-from_sorted key_order.ghosts.cmp (keys_of group) is.sorted) (map (λ x. key_of p s u x t) (sample_sidx samples))
+    ∙ grid_sum f none group (distinct_sorted (keys_of group) is.sorted) (map (λ x. key_of p s u x t) (sample_sidx samples))
     ∙ sum_filter (of_period t) (λ e. times (λ key. same_key key e.0) (map (λ x. key_of p s u x t) (sample_sidx samples))) (λ e. f (Some e.1)) group (all group is.fitting is.own)
   where
     one : (e : CellKey × Cell) → FitsCells n samples e.0 e.1 → e.0 ≡ key_of p s u e.0.sidx e.0.period →
@@ -74,24 +73,43 @@ period_sum f none p s n samples u group t is =
         (all es (All-tail (λ (e : CellKey × Cell). FitsCells n samples e.0 e.1) e es fits) (All-tail (λ (e : CellKey × Cell). e.0 ≡ key_of p s u e.0.sidx e.0.period) e es own))
 
 -- the amounts of one entry more
+pub amounts_next : (maxima : Bool) (test : CellKey × Cell → Bool) (es : List (CellKey × Cell)) (i : ℕ) (d : CellKey × Cell) → i < length es →
+    amounts_of maxima test (take (i + 1) es) ≡ amounts_of maxima test (take i es) ++ cond (test (get_or es i d)) (amount_in maxima (Some (get_or es i d).1) ∷ []) []
+amounts_next maxima test es i d inside =
+    ap (amounts_of maxima test) (take_more es i d inside)
+    ∙ (ap (map (λ (entry : CellKey × Cell). amount_in maxima (Some entry.1))) (filter-append test (take i es) (get_or es i d ∷ []))
+    ∙ (map-append (λ (entry : CellKey × Cell). amount_in maxima (Some entry.1)) (filter test (take i es)) (filter test (get_or es i d ∷ []))
+    ∙ ap (λ more. amounts_of maxima test (take i es) ++ more) (last (test (get_or es i d)) (get_or es i d))))
+  where
+    last : (b : Bool) (e : CellKey × Cell) → map (λ (entry : CellKey × Cell). amount_in maxima (Some entry.1)) (cond b (e ∷ []) []) ≡ cond b (amount_in maxima (Some e.1) ∷ []) []
+    last true e = refl
+    last false e = refl
+
+-- and their sum
 pub amounts_more : (maxima : Bool) (test : CellKey × Cell → Bool) (es : List (CellKey × Cell)) (i : ℕ) (d : CellKey × Cell) → i < length es →
     sum (amounts_of maxima test (take (i + 1) es)) ≡ sum (amounts_of maxima test (take i es)) + cond (test (get_or es i d)) (amount_in maxima (Some (get_or es i d).1)) 0
 amounts_more maxima test es i d inside =
-    ap (λ zs. sum (amounts_of maxima test zs)) (take_more es i d inside) ∙ at_end (take i es) (get_or es i d)
+    ap sum (amounts_next maxima test es i d inside)
+    ∙ (sum_by-append (λ (x : ℕ). x) (amounts_of maxima test (take i es)) (cond (test (get_or es i d)) (amount_in maxima (Some (get_or es i d).1) ∷ []) [])
+    ∙ ap (λ more. sum (amounts_of maxima test (take i es)) + more) (last (test (get_or es i d)) (amount_in maxima (Some (get_or es i d).1))))
   where
-    at_end : (zs : List (CellKey × Cell)) (e : CellKey × Cell) → sum (amounts_of maxima test (zs ++ e ∷ [])) ≡ sum (amounts_of maxima test zs) + cond (test e) (amount_in maxima (Some e.1)) 0
-    at_end [] e = by_test (test e)
-      where
-        by_test : (b : Bool) → sum (map (λ (entry : CellKey × Cell). amount_in maxima (Some entry.1)) (cond b (e ∷ []) [])) ≡ 0 + cond b (amount_in maxima (Some e.1)) 0
-        by_test true = refl
-        by_test false = refl
-    at_end (z ∷ zs) e = by_test (test z) (at_end zs e)
-      where
-        by_test : (b : Bool) → sum (amounts_of maxima test (zs ++ e ∷ [])) ≡ sum (amounts_of maxima test zs) + cond (test e) (amount_in maxima (Some e.1)) 0 →
-            sum (map (λ (entry : CellKey × Cell). amount_in maxima (Some entry.1)) (cond b (z ∷ filter test (zs ++ e ∷ [])) (filter test (zs ++ e ∷ []))))
-            ≡ sum (map (λ (entry : CellKey × Cell). amount_in maxima (Some entry.1)) (cond b (z ∷ filter test zs) (filter test zs))) + cond (test e) (amount_in maxima (Some e.1)) 0
-        by_test true later = omega (arith, later, sum_by-cons (λ (x : ℕ). x) (amount_in maxima (Some z.1)) (amounts_of maxima test (zs ++ e ∷ [])), sum_by-cons (λ (x : ℕ). x) (amount_in maxima (Some z.1)) (amounts_of maxima test zs))
-        by_test false later = later
+    last : (b : Bool) (x : ℕ) → sum (cond b (x ∷ []) []) ≡ cond b x 0
+    last true x = sum_by-cons (λ (x : ℕ). x) x [] ∙ omega arith
+    last false x = refl
+
+-- the samples among the entries of a sample are these entries
+pub amounts_sample : (maxima : Bool) (sample : ℕ) (es : List (CellKey × Cell)) → amounts_of maxima (of_kind false) (filter (of_sample sample) es) ≡ amounts_of maxima (of_sample sample) es
+amounts_sample maxima sample [] = refl
+amounts_sample maxima sample (e ∷ es) = by (of_sample sample e) refl (amounts_sample maxima sample es)
+  where
+    sampled : (x : ℤ) → int_eq x (pos sample) ≡ true → same_bool (is_mean x) false ≡ true
+    sampled (pos n) same = refl
+    sampled (negsuc n) same = cc
+
+    by : (b : Bool) → of_sample sample e ≡ b → amounts_of maxima (of_kind false) (filter (of_sample sample) es) ≡ amounts_of maxima (of_sample sample) es
+        → amounts_of maxima (of_kind false) (cond b (e ∷ filter (of_sample sample) es) (filter (of_sample sample) es)) ≡ map (λ (entry : CellKey × Cell). amount_in maxima (Some entry.1)) (cond b (e ∷ filter (of_sample sample) es) (filter (of_sample sample) es))
+    by false is later = later
+    by true is later = rw (sampled e.0.sidx is) (ap (λ more. amount_in maxima (Some e.1) ∷ more) later)
 
 -- the mean of a sum that is at most so many times an amount is at most the amount
 pub mean-le : (total samples most : ℕ) → 1 ≤ samples → total ≤ samples * most → half_up total samples ≤ most

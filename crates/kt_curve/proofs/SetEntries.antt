@@ -5,12 +5,10 @@ use Rattle.std.specs.Option.{option_or}
 use Rattle.std.specs.List.{AllByRecursion, IsDistinct}
 use Rattle.std.specs.List.Sorted.{IsStrictlySortedBy, IsPermutation, IsSortedByKey}
 use Rattle.std.specs.Map.{keys_of}
-use Rattle.std.specs.BTreeMap.{is_at}
 use Rattle.std.specs.declared.cmp.Ordering.{Ordering}
 use Rattle.std.specs.declared.cmp.Ordering.TheVariants.{Less, Equal, Greater}
 use Rattle.std.specs.Ordering.{is_lt, is_eq, ordering_reverse}
 use Rattle.std.proofs.lemmas.Bool.Decides.{nat_tests}
-use Rattle.std.proofs.lemmas.Cmp.{eq_by_cmp_equiv}
 use Rattle.std.proofs.lemmas.List.Elements.{All-head, All-tail, All-nil, All-cons, All-append, All-filter, All-weaker, filter_passes}
 use Rattle.std.proofs.lemmas.List.Sorted.{IsPermutation-map, IsPermutation-sym, All-permutation, Contains-permutation}
 use Rattle.std.proofs.lemmas.Map.Keys.{IsDistinct-head, IsDistinct-tail, IsDistinct-IsPermutation}
@@ -30,7 +28,7 @@ use Rattle.kt_curve.specs.Amounts.{sample_of}
 use Rattle.kt_curve.specs.Grid.{set_entries, in_set, IsPart, HasSet}
 use Rattle.kt_curve.specs.RowCells.{SampleCells, CellFits, RowFits, IsRising, cell_in}
 use Rattle.kt_curve.specs.Rows.{sidx_of, key_in, row_entries, entries_of, row_keys, Apart, IsTable}
-use Rattle.kt_curve.proofs.Keys.{key_total, same_exact}
+use Rattle.kt_curve.proofs.Keys.{key_equiv, key_total, same_exact, same_order}
 use Rattle.kt_curve.proofs.RowCells.{cell_absent}
 use Rattle.kt_curve.proofs.OneRow.{row_cell}
 use Rattle.kt_curve.proofs.Tables.{nowhere, found_append}
@@ -122,7 +120,7 @@ strict (e ∷ []) ordered distinct = (tt, tt)
 strict (e ∷ x ∷ es) ordered distinct =
     let tail = strict (x ∷ es) (λ k j d same within. ordered (suc k) (suc j) d (ap suc same) (omega (arith, within))) (IsDistinct-tail same_key e.0 (keys_of (x ∷ es)) distinct) in
     let apart = IsDistinct-head same_key e.0 (keys_of (x ∷ es)) distinct in
-    let first : key_order.ghosts.cmp e.0 x.0 ≡ Less = less (key_order.ghosts.cmp e.0 x.0) (key_order.ghosts.cmp x.0 e.0) (key_total.antisymm x.0 e.0) apart.0 (ordered 0 1 e refl (omega arith)) in
+    let first : key_order.ghosts.cmp e.0 x.0 ≡ Less = less (key_order.ghosts.cmp e.0 x.0) (key_order.ghosts.cmp x.0 e.0) (key_total.antisymm x.0 e.0) (same_order e.0 x.0 ∙ apart.0) (ordered 0 1 e refl (omega arith)) in
     ((first, all first (keys_of es) tail.0), tail)
   where
     less : (r back : Ordering) → back ≡ ordering_reverse r → is_eq r ≡ false → is_lt back ≡ false → r ≡ Less
@@ -139,14 +137,14 @@ pub found_permuted : (es fs : List Entry) → IsPermutation es fs → IsDistinct
 found_permuted es fs moved apart q = by_answers (cell_at es q) (cell_at fs q) refl refl
   where
     back : IsDistinct same_key (keys_of fs)
-    back = IsDistinct-IsPermutation same_key (λ x y. (eq_by_cmp_equiv key_total).symm x y) (keys_of es) (keys_of fs) (IsPermutation-map (λ (e : Entry). e.0) es fs moved) apart
+    back = IsDistinct-IsPermutation same_key (λ x y. (key_equiv).symm x y) (keys_of es) (keys_of fs) (IsPermutation-map (λ (e : Entry). e.0) es fs moved) apart
 
     by_answers : (o p : Option Cell) → cell_at es q ≡ o → cell_at fs q ≡ p → p ≡ o
     by_answers (Some v) p there is =
-        sym is ∙ lookup-from_Contains (eq_by_cmp_equiv key_total) q v fs back (Contains-permutation es fs (q, v) moved (Contains-from_lookup same_exact q v es there))
+        sym is ∙ lookup-from_Contains (key_equiv) q v fs back (Contains-permutation es fs (q, v) moved (Contains-from_lookup same_exact q v es there))
     by_answers None None there is = refl
     by_answers None (Some v) there is =
-        let found : cell_at es q ≡ Some v = lookup-from_Contains (eq_by_cmp_equiv key_total) q v es apart (Contains-permutation fs es (q, v) (IsPermutation-sym es fs moved) (Contains-from_lookup same_exact q v fs is)) in
+        let found : cell_at es q ≡ Some v = lookup-from_Contains (key_equiv) q v es apart (Contains-permutation fs es (q, v) (IsPermutation-sym es fs moved) (Contains-from_lookup same_exact q v fs is)) in
         let wrong : None ≡ Some v = sym there ∙ found in cc
 
 -- the entries of a set, sorted
@@ -167,14 +165,14 @@ sorted_part p s n samples held rows index found sorted table found_is moved in_o
     gathered = rw found_is (IsDistinct-keys_filter same_key (λ entry. in_set p s entry.0) (entries_of rows) (distinct n samples rows table.apart table.fits))
 
     apart : IsDistinct same_key (keys_of sorted)
-    apart = IsDistinct-IsPermutation same_key (λ x y. (eq_by_cmp_equiv key_total).symm x y) (keys_of found) (keys_of sorted) (IsPermutation-map (λ (e : Entry). e.0) found sorted moved) gathered
+    apart = IsDistinct-IsPermutation same_key (λ x y. (key_equiv).symm x y) (keys_of found) (keys_of sorted) (IsPermutation-map (λ (e : Entry). e.0) found sorted moved) gathered
 
 -- they have for each key of the set what all entries have
 pub sorted_found : (p : Perspective) (s n samples held : ℕ) (rows : List Row) (index : List (IndexKey × ℕ)) (found sorted : List Entry) → IsTable n samples held index rows → found ≡ set_entries p s (entries_of rows) → IsPermutation found sorted →
     HasSet p s sorted (entries_of rows)
 sorted_found p s n samples held rows index found sorted table found_is moved key own =
     found_permuted found sorted moved gathered key ∙ ap (λ (es : List Entry). cell_at es key) found_is
-    ∙ lookup-filter-keys (is_at (key_order.ghosts.cmp key)) (λ k. in_set p s k) true (λ k same. ap (in_set p s) (sym (same_exact key k same)) ∙ own) (entries_of rows)
+    ∙ lookup-filter-keys (same_key key) (λ k. in_set p s k) true (λ k same. ap (in_set p s) (sym (same_exact key k same)) ∙ own) (entries_of rows)
   where
     gathered : IsDistinct same_key (keys_of found)
     gathered = rw found_is (IsDistinct-keys_filter same_key (λ entry. in_set p s entry.0) (entries_of rows) (distinct n samples rows table.apart table.fits))

@@ -7,11 +7,15 @@ use Rattle.std.specs.Ordering.{int_eq}
 use Rattle.kt_rec.specs.declared.perspective.CellKey.{CellKey}
 use Rattle.kt_curve.specs.declared.cell.Cell.{Cell}
 use Rattle.kt_curve.specs.Grid.{is_mean, same_bool}
-use Rattle.kt_curve.specs.Standing.{total_in, maximum_in}
+use Rattle.kt_curve.specs.Standing.{cell_at, total_in, maximum_in}
 
 -- the maximum of a key's cell, or its total; 0 where it has none
 abbrev pub amount_in : Bool → Option Cell → ℕ
 amount_in maxima found = if maxima then maximum_in found else total_in found
+
+-- the amount that entries have for a key
+abbrev pub amount_at : Bool → List (CellKey × Cell) → CellKey → ℕ
+amount_at maxima entries key = amount_in maxima (cell_at entries key)
 
 -- the amounts of the entries that pass a test
 abbrev pub amounts_of : Bool → (CellKey × Cell → Bool) → List (CellKey × Cell) → List ℕ

@@ -1,17 +1,17 @@
 -- The values of a summary in all periods, zeros included, and their mean and deviation.
 -- The rules: docs/CALCULATION.md, "Average annual loss".
-use Rattle.std.specs.Prelude.{Bool, true, false, ◌&&◌, nat_eq, nat_lt, suc, if◌then◌else◌, ◌≤◌, ◌≡◌, All, ℕ, ◌*◌, ℤ, pos, negsuc, List, [], ◌∷◌, map, sum, sum_by}
+use Rattle.std.specs.Prelude.{Bool, true, false, ◌&&◌, nat_eq, suc, if◌then◌else◌, ◌≤◌, ◌≡◌, All, ℕ, ◌*◌, ℤ, pos, negsuc, List, [], ◌∷◌, map, sum, sum_by, take, drop, Some, slice_get}
 use Rattle.std.specs.List.{flat_map, range_with_len, filter}
 use Rattle.kt_money.specs.Rounding.{mean_of, deviation_of}
 use Rattle.kt_money.specs.declared.moments.MeanSd.{MeanSd}
+use Rattle.kt_rec.specs.Rising.{put}
 use Rattle.kt_rec.specs.declared.perspective.Perspective.{Perspective}
-use Rattle.kt_rec.specs.declared.perspective.Perspective.TheVariants.{Gul, Il, Ri}
 use Rattle.kt_rec.specs.declared.perspective.CellKey.{CellKey}
 use Rattle.kt_curve.specs.declared.cell.Cell.{Cell}
 use Rattle.kt_rec.specs.contracts.perspective.CellKeyOrd.TheImpl as key_order
 use Rattle.std.specs.List.Sorted.{IsStrictlySortedBy}
 use Rattle.std.specs.Map.{keys_of}
-use Rattle.kt_curve.specs.Losses.{key_of}
+use Rattle.kt_curve.specs.Losses.{key_of, same_perspective}
 use Rattle.kt_curve.specs.Standing.{FitsCells, cell_at}
 
 -- the sidx of the mean alone
@@ -41,13 +41,6 @@ keys_for perspective set summary sidxs periods = flat_map (λ sidx. map (key_of 
 abbrev pub moments_of : ℕ → List ℕ → MeanSd
 moments_of count amounts = record { mean = mean_of count (sum amounts); sd = deviation_of count (sum amounts) (sum_by (λ amount. amount * amount) amounts) }
 
--- whether two perspectives are the same
-abbrev pub same_perspective : Perspective → Perspective → Bool
-same_perspective Gul Gul = true
-same_perspective Il Il = true
-same_perspective Ri Ri = true
-same_perspective one other = false
-
 -- whether a key is of a perspective and set
 abbrev pub in_set : Perspective → ℕ → CellKey → Bool
 in_set perspective set key = same_perspective key.perspective perspective && nat_eq key.set set
@@ -60,15 +53,10 @@ set_entries perspective set entries = filter (λ entry. in_set perspective set e
 abbrev pub summary_entries : ℕ → List (CellKey × Cell) → List (CellKey × Cell)
 summary_entries summary entries = filter (λ entry. nat_eq entry.0.summary summary) entries
 
--- an id put into a rising list of ids, unless it is there
-abbrev pub with_id : ℕ → List ℕ → List ℕ
-with_id id [] = id ∷ []
-with_id id (first ∷ later) = if nat_lt id first then id ∷ first ∷ later else (if nat_eq id first then first ∷ later else first ∷ with_id id later)
-
 -- the summary ids of a perspective and set among these keys, each once and rising
 abbrev pub summary_ids : Perspective → ℕ → List CellKey → List ℕ
 summary_ids perspective set [] = []
-summary_ids perspective set (key ∷ keys) = if in_set perspective set key then with_id key.summary (summary_ids perspective set keys) else summary_ids perspective set keys
+summary_ids perspective set (key ∷ keys) = if in_set perspective set key then put key.summary (summary_ids perspective set keys) else summary_ids perspective set keys
 
 -- the entries of one summary, within the bounds of their cells
 pub record IsGroup (perspective : Perspective) (set periods samples summary : ℕ) (group : List (CellKey × Cell)) : Type 0 where
@@ -111,3 +99,11 @@ by_summary perspective set text entries = flat_map (λ summary. text summary (su
 abbrev pub group_length : ℕ → List (CellKey × Cell) → ℕ
 group_length summary [] = 0
 group_length summary (entry ∷ entries) = if nat_eq entry.0.summary summary then suc (group_length summary entries) else 0
+
+-- the entries of the first summary, and those of the others
+pub record Splits (entries : List (CellKey × Cell)) (summary : ℕ) (group later : List (CellKey × Cell)) : Type 0 where
+  pub first : CellKey × Cell
+  pub is_first : Some first ≡ slice_get entries 0
+  pub summary_is : summary ≡ first.0.summary
+  pub group_is : group ≡ take (group_length summary entries) entries
+  pub later_is : later ≡ drop (group_length summary entries) entries

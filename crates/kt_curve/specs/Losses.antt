@@ -2,10 +2,10 @@
 -- The rules: docs/CALCULATION.md, "Periods".
 use Rattle.std.specs.Prelude.{ℕ, zero, suc, ℤ, pos, negsuc, Bool, true, false, ◌&&◌, ◌+◌, List, [], ◌∷◌, ◌++◌, map, sum_by, nat_eq, nat_lt, if◌then◌else◌}
 use Rattle.std.specs.List.{flat_map}
-use Rattle.std.specs.Ordering.{is_eq}
+use Rattle.std.specs.Ordering.{int_eq}
 use Rattle.std.specs.Prelude.{max}
-use Rattle.kt_rec.specs.contracts.perspective.CellKeyOrd.TheImpl as key_order
 use Rattle.kt_rec.specs.declared.perspective.Perspective.{Perspective}
+use Rattle.kt_rec.specs.declared.perspective.Perspective.TheVariants.{Gul, Il, Ri}
 use Rattle.kt_rec.specs.declared.perspective.CellKey.{CellKey}
 use Rattle.kt_rec.specs.declared.periods.Occurrence.{Occurrence}
 use Rattle.kt_stream.specs.declared.entry.Pair.{Pair}
@@ -55,9 +55,17 @@ losses_of added = flat_map (pair_losses added.perspective added.set added.entry.
 abbrev pub all_losses : List Added → List KeyLoss
 all_losses history = flat_map losses_of history
 
--- whether two keys are the same
+-- whether two perspectives are the same
+abbrev pub same_perspective : Perspective → Perspective → Bool
+same_perspective Gul Gul = true
+same_perspective Il Il = true
+same_perspective Ri Ri = true
+same_perspective one other = false
+
+-- whether two keys are the same: in each of their parts
 abbrev pub same_key : CellKey → CellKey → Bool
-same_key one other = is_eq (key_order.ghosts.cmp one other)
+same_key one other =
+    same_perspective one.perspective other.perspective && (nat_eq one.set other.set && (nat_eq one.summary other.summary && (int_eq one.sidx other.sidx && nat_eq one.period other.period)))
 
 -- the total of a key: the sum of the losses that fall to it
 abbrev pub total : List KeyLoss → CellKey → ℕ

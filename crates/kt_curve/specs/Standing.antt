@@ -1,14 +1,12 @@
 -- What kept cells stand for: the totals and maxima of a list of losses.
 -- The rules: docs/CALCULATION.md, "Periods".
 use Rattle.std.specs.Prelude.{ℕ, zero, suc, ℤ, pos, negsuc, Bool, true, false, ◌&&◌, ◌+◌, ◌≤◌, ◌≡◌, List, [], ◌∷◌, ◌++◌, length, max, nat_eq, nat_lt, nat_le, if◌then◌else◌, Option, Some, None}
-use Rattle.std.specs.BTreeMap.{is_at}
 use Rattle.std.specs.Map.{lookup}
-use Rattle.kt_rec.specs.contracts.perspective.CellKeyOrd.TheImpl as key_order
 use Rattle.kt_rec.specs.declared.perspective.CellKey.{CellKey}
 use Rattle.kt_curve.specs.declared.cell.Cell.{Cell}
 use Rattle.kt_curve.specs.declared.cell.CellStop.{CellStop}
 use Rattle.kt_curve.specs.declared.cell.CellStop.TheVariants as cell_stop
-use Rattle.kt_curve.specs.Losses.{KeyLoss, Added, all_losses, total, maximum, opens, cell_count}
+use Rattle.kt_curve.specs.Losses.{KeyLoss, Added, all_losses, same_key, total, maximum, opens, cell_count}
 
 -- the most cells
 abbrev pub most_cells : ℕ
@@ -41,7 +39,7 @@ cell_of sum greatest = if nat_eq sum 0 then None else Some (record { total = sum
 
 -- the cell that entries have for a key
 abbrev pub cell_at : List (CellKey × Cell) → CellKey → Option Cell
-cell_at entries key = lookup (is_at (key_order.ghosts.cmp key)) entries
+cell_at entries key = lookup (same_key key) entries
 
 -- the total of a key's cell, 0 where it has none
 abbrev pub total_in : Option Cell → ℕ

@@ -2,13 +2,13 @@
 //! The rules: docs/CALCULATION.md, "Kinds of exceedance curves".
 ghost use Rattle.std.specs.Prelude.{◌≡◌, ◌≤◌, ◌+◌, ◌*◌, ◌<◌, ℕ, map, sum, length, slice_index, All, IfOk, Some};
 ghost use Rattle.kt_curve.specs.Grid.{of_kind, IsGroup};
-ghost use Rattle.kt_rec.specs.declared.perspective.Perspective.{Perspective};
 ghost use Rattle.kt_money.specs.Rounding.{half_up};
 ghost use Rattle.kt_curve.specs.Standing.{most_total};
 ghost use Rattle.kt_curve.specs.Amounts.{amount_in, amounts_of, of_period, of_sample};
 
 use crate::average::{is_mean, is_same};
 use crate::cell::Cell;
+use crate::group::Group;
 use crate::samples::sample_entries;
 use kt_money::{OutOfMemory, div_half_up};
 use kt_rec::CellKey;
@@ -24,54 +24,47 @@ pub(crate) fn amount(cell: &Cell, maxima: bool) -> u64
 /// The amounts of the means, or those of all samples. An error is want of memory.
 pub(crate) fn kind_amounts(
     alloc: Global,
-    group: &[(CellKey, Cell)],
+    entries: &[(CellKey, Cell)],
     mean: bool,
     maxima: bool,
 ) -> Result<Vec<u64>, OutOfMemory>
-    ensures { IfOk result (λ found. found.items ≡ amounts_of maxima (of_kind mean) group.now) }
+    ensures { IfOk result (λ found. found.items ≡ amounts_of maxima (of_kind mean) entries.now) }
 {
-    group
-        .iter()
-        .filter(|entry| is_same(is_mean(&entry.0), mean))
-        .map(|entry| amount(&entry.1, maxima))
-        .collect(alloc)
+    let mut found = Vec::new(alloc);
+    for entry in entries {
+        if is_same(is_mean(&entry.0), mean) {
+            found.push(amount(&entry.1, maxima))?;
+        }
+    }
+    Ok(found)
 }
 
 /// The amounts of one sample. An error is want of memory.
 pub(crate) fn sample_amounts(
     alloc: Global,
-    group: &[(CellKey, Cell)],
+    group: &Group<'_>,
     sample: u32,
-    maxima: bool,
 ) -> Result<Vec<u64>, OutOfMemory>
-    requires group { (perspective : Perspective) × (set : ℕ) × (periods : ℕ) × (samples : ℕ) × (summary : ℕ) × IsGroup perspective set periods samples summary group.now }
+    requires group { IsGroup group.now.perspective group.now.set group.now.periods group.now.samples group.now.summary group.now.entries.now }
     requires sample { 1 ≤ sample }
-    ensures { IfOk result (λ found. found.items ≡ amounts_of maxima (of_sample sample) group.now) }
+    ensures { IfOk result (λ found. found.items ≡ amounts_of group.now.maxima (of_sample sample) group.now.entries.now) }
 {
-    sample_entries(group, sample)
-        .iter()
-        .map(|entry| amount(&entry.1, maxima))
-        .collect(alloc)
+    kind_amounts(alloc, sample_entries(group, sample), false, group.maxima)
 }
 
 /// Adds up the samples of each period. An error is want of memory.
-pub(crate) fn period_sums(
-    alloc: Global,
-    group: &[(CellKey, Cell)],
-    periods: u32,
-    maxima: bool,
-) -> Result<Vec<u128>, OutOfMemory>
-    requires within { All (λ entry. (1 ≤ entry.0.period) × (entry.0.period ≤ periods)) group.now }
-    ensures len { IfOk result (λ sums. length sums.items ≡ periods) }
-    ensures sums { IfOk result (λ sums. (place : ℕ) → place < periods → slice_index sums.items place ≡ sum (amounts_of maxima (of_period (place + 1)) group.now)) }
+pub(crate) fn period_sums(alloc: Global, group: &Group<'_>) -> Result<Vec<u128>, OutOfMemory>
+    requires within { All (λ entry. (1 ≤ entry.0.period) × (entry.0.period ≤ group.now.periods)) group.now.entries.now }
+    ensures len { IfOk result (λ sums. length sums.items ≡ group.now.periods) }
+    ensures sums { IfOk result (λ sums. (place : ℕ) → place < group.now.periods → slice_index sums.items place ≡ sum (amounts_of group.now.maxima (of_period (place + 1)) group.now.entries.now)) }
 {
-    let mut sums = vec![in alloc; 0u128; periods as usize]?;
-    for entry in group {
+    let mut sums = vec![in alloc; 0u128; group.periods as usize]?;
+    for entry in group.entries {
         if is_mean(&entry.0) {
             continue;
         }
         let place = entry.0.period as usize - 1;
-        sums[place] += u128::from(amount(&entry.1, maxima));
+        sums[place] += u128::from(amount(&entry.1, group.maxima));
     }
     Ok(sums)
 }

@@ -1,17 +1,16 @@
 //! The table of average annual losses.
 //! The rules: docs/CALCULATION.md, "Average annual loss"; docs/OUTPUTS.md, "Average annual loss table".
-ghost use Rattle.std.specs.Prelude.{◌≡◌, ◌+◌, ◌*◌, ◌≤◌, ◌^◌, ℕ, List, ◌++◌, map, sum, sum_by, length, All, IfOk, OnOk, OnErr, Some, if◌then◌else◌};
-ghost use Rattle.std.specs.List.{filter};
+ghost use Rattle.std.specs.Prelude.{◌≡◌, ◌+◌, ◌*◌, ◌≤◌, ◌^◌, false, List, ◌++◌, map, sum, sum_by, length, All, IfOk, OnOk, OnErr, if◌then◌else◌};
 ghost use Rattle.kt_money.specs.Rounding.{mean_of, deviation_of};
-ghost use Rattle.kt_curve.specs.Grid.{is_mean, of_kind, sidx_of_kind, keys_for, moments_of, IsGroup, IsPart, by_summary, same_bool};
+ghost use Rattle.kt_curve.specs.Grid.{is_mean, sidx_of_kind, keys_for, moments_of, IsGroup, IsPart, by_summary, same_bool};
 ghost use Rattle.kt_curve.specs.Losses.{Added, all_losses};
-ghost use Rattle.kt_curve.specs.Standing.{StandsFor, cell_at, total_in, most_total};
-ghost use Rattle.kt_rec.specs.declared.perspective.Perspective.{Perspective};
+ghost use Rattle.kt_curve.specs.Standing.{StandsFor, most_total};
+ghost use Rattle.kt_curve.specs.Amounts.{amount_at};
 ghost use Rattle.kt_curve.specs.Average.{aal_heading_text, aal_row, aal_rows, average_annual_loss_rows};
 
-use crate::cell::Cell;
+use crate::amounts::kind_amounts;
 use crate::cells::Cells;
-use crate::group::group_length;
+use crate::group::{Group, Part, split_first};
 use kt_money::{Bytes, MeanSd, OutOfMemory, Row, mean_sd};
 use kt_rec::{CellKey, Perspective};
 use std::alloc::Global;
@@ -35,17 +34,6 @@ pub(crate) fn is_same(one: bool, other: bool) -> bool
     ensures value { result ≡ same_bool one other }
 {
     if one { other } else { !other }
-}
-
-/// The totals of the means, or of the samples. An error is want of memory.
-fn totals(alloc: Global, group: &[(CellKey, Cell)], mean: bool) -> Result<Vec<u64>, OutOfMemory>
-    ensures { IfOk result (λ found. found.items ≡ map (λ entry. total_in (Some entry.1)) (filter (of_kind mean) group.now)) }
-{
-    group
-        .iter()
-        .filter(|entry| is_same(is_mean(&entry.0), mean))
-        .map(|entry| entry.1.total)
-        .collect(alloc)
 }
 
 /// The mean and the deviation of `count` amounts, those that are not listed being 0.
@@ -80,21 +68,14 @@ pub(crate) fn count_of(periods: u32, samples: u32, mean: bool) -> u64
     }
 }
 
-/// The mean and the deviation of a summary's totals over all periods: those of the mean, or those of all samples. An error
+/// The mean and the deviation of a summary's amounts over all periods: those of the mean, or those of all samples. An error
 /// is want of memory.
-fn group_moments(
-    alloc: Global,
-    group: &[(CellKey, Cell)],
-    periods: u32,
-    samples: u32,
-    mean: bool,
-) -> Result<MeanSd, OutOfMemory>
-    requires { (perspective : Perspective) × (set : ℕ) × (summary : ℕ) × IsGroup perspective set periods samples summary group.now }
-    ensures { IfOk result (λ moments. (perspective : Perspective) (set summary : ℕ) → IsGroup perspective set periods samples summary group.now →
-        moments ≡ moments_of (if mean then periods else periods * samples) (map (λ key. total_in (cell_at group.now key)) (keys_for perspective set summary (sidx_of_kind mean samples) periods))) }
+fn group_moments(alloc: Global, group: &Group<'_>, mean: bool) -> Result<MeanSd, OutOfMemory>
+    requires { IsGroup group.now.perspective group.now.set group.now.periods group.now.samples group.now.summary group.now.entries.now }
+    ensures { IfOk result (λ moments. moments ≡ moments_of (if mean then group.now.periods else group.now.periods * group.now.samples) (map (amount_at group.now.maxima group.now.entries.now) (keys_for group.now.perspective group.now.set group.now.summary (sidx_of_kind mean group.now.samples) group.now.periods))) }
 {
-    let amounts = totals(alloc, group, mean)?;
-    let count = count_of(periods, samples, mean);
+    let amounts = kind_amounts(alloc, group.entries, mean, group.maxima)?;
+    let count = count_of(group.periods, group.samples, mean);
     Ok(moments(amounts.as_slice(), count))
 }
 
@@ -115,41 +96,33 @@ fn append_row(out: &mut Bytes, summary: u32, kind: u32, moments: MeanSd) -> Resu
 }
 
 /// Appends the two rows of a summary. An error is want of memory.
-fn append_summary(
-    out: &mut Bytes,
-    alloc: Global,
-    summary: u32,
-    group: &[(CellKey, Cell)],
-    periods: u32,
-    samples: u32,
-) -> Result<(), OutOfMemory>
-    requires { (perspective : Perspective) × (set : ℕ) × IsGroup perspective set periods samples summary group.now }
-    ensures ok { OnOk result ((perspective : Perspective) (set : ℕ) → IsGroup perspective set periods samples summary group.now →
-        out.new ≡ out.old ++ aal_rows perspective set periods samples (λ key. total_in (cell_at group.now key)) summary) }
+fn append_summary(out: &mut Bytes, alloc: Global, group: &Group<'_>) -> Result<(), OutOfMemory>
+    requires group { IsGroup group.now.perspective group.now.set group.now.periods group.now.samples group.now.summary group.now.entries.now }
+    ensures ok { OnOk result (out.new ≡ out.old ++ aal_rows group.now.perspective group.now.set group.now.periods group.now.samples (amount_at group.now.maxima group.now.entries.now) group.now.summary) }
 {
-    let analytical = group_moments(alloc, group, periods, samples, true)?;
-    let sample = group_moments(alloc, group, periods, samples, false)?;
-    append_row(out, summary, 1, analytical)?;
-    append_row(out, summary, 2, sample)
+    let analytical = group_moments(alloc, group, true)?;
+    let sample = group_moments(alloc, group, false)?;
+    append_row(out, group.summary, 1, analytical)?;
+    append_row(out, group.summary, 2, sample)
 }
 
 /// Appends the rows of a perspective and set, summary by summary. An error is want of memory.
-fn append_rows(
-    out: &mut Bytes,
-    alloc: Global,
-    entries: &[(CellKey, Cell)],
-    periods: u32,
-    samples: u32,
-) -> Result<(), OutOfMemory>
-    requires { (perspective : Perspective) × (set : ℕ) × IsPart perspective set periods samples entries.now }
-    ensures ok { OnOk result ((perspective : Perspective) (set : ℕ) → IsPart perspective set periods samples entries.now →
-        out.new ≡ out.old ++ by_summary perspective set (λ summary group. aal_rows perspective set periods samples (λ key. total_in (cell_at group key)) summary) entries.now) }
+fn append_rows(out: &mut Bytes, alloc: Global, part: &Part<'_>) -> Result<(), OutOfMemory>
+    requires part { IsPart part.now.perspective part.now.set part.now.periods part.now.samples part.now.entries.now }
+    ensures ok { OnOk result (out.new ≡ out.old ++ by_summary part.now.perspective part.now.set (λ summary group. aal_rows part.now.perspective part.now.set part.now.periods part.now.samples (amount_at false group) summary) part.now.entries.now) }
 {
-    let mut rest = entries;
-    while let Some(first) = rest.first() {
-        let summary = first.0.summary;
-        let (group, later) = rest.split_at(group_length(summary, rest));
-        append_summary(out, alloc, summary, group, periods, samples)?;
+    let mut rest = part.entries;
+    'groups: while let Some((summary, entries, later)) = split_first(rest) {
+        let group = Group {
+            perspective: part.perspective,
+            set: part.set,
+            summary,
+            entries,
+            periods: part.periods,
+            samples: part.samples,
+            maxima: false,
+        };
+        append_summary(out, alloc, &group)?;
         rest = later;
     }
     Ok(())
@@ -177,14 +150,8 @@ fn set_text(cells: &Cells, perspective: Perspective, set: u32) -> Result<Bytes, 
     ensures { IfOk result (λ text. (history : List Added) → StandsFor history cells.now → text ≡ average_annual_loss_rows perspective set cells.now.periods cells.now.samples (all_losses history)) }
 {
     let entries = cells.set_entries(perspective, set)?;
+    let part = cells.part(perspective, set, entries.as_slice());
     let mut text = Bytes::new(cells.alloc());
-    let (periods, samples) = (cells.periods(), cells.samples());
-    append_rows(
-        &mut text,
-        cells.alloc(),
-        entries.as_slice(),
-        periods,
-        samples,
-    )?;
+    append_rows(&mut text, cells.alloc(), &part)?;
     Ok(text)
 }

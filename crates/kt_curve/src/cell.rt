@@ -8,7 +8,7 @@ use kt_rec::CellKey;
 use kt_stream::Pair;
 
 /// The losses of one key, in cents.
-#[derive(Clone, Copy, Debug, PartialEq)]
+#[derive(Clone, Copy)]
 pub(crate) struct Cell {
     /// The sum of the losses.
     pub(crate) total: u64,
@@ -17,7 +17,7 @@ pub(crate) struct Cell {
 }
 
 /// A loss that was added to the cell of its key, so that it can be taken back.
-#[derive(Clone, Copy, Debug)]
+#[derive(Clone, Copy)]
 pub(crate) struct Change {
     /// The key.
     pub(crate) key: CellKey,

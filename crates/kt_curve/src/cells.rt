@@ -7,6 +7,7 @@ ghost use Rattle.kt_curve.specs.Grid.{IsPart, HasSet};
 ghost use Rattle.kt_curve.specs.Journal.{Adds};
 
 use crate::cell::{Cell, CellStop, adds_any};
+use crate::group::Part;
 use crate::rows::Rows;
 use kt_money::OutOfMemory;
 use kt_rec::{CellKey, Occurrence, Perspective};
@@ -95,20 +96,6 @@ impl Cells {
         self.rows.alloc()
     }
 
-    /// The number of periods.
-    pub(crate) fn periods(&self) -> u32
-        ensures value { result ≡ self.now.periods }
-    {
-        self.rows.periods()
-    }
-
-    /// The number of samples.
-    pub(crate) fn samples(&self) -> u32
-        ensures value { result ≡ self.now.samples }
-    {
-        self.rows.samples()
-    }
-
     /// The entries of a perspective and set, by rising key. An error is want of memory.
     pub(crate) fn set_entries(
         &self,
@@ -119,5 +106,25 @@ impl Cells {
         ensures found { IfOk result (λ found. HasSet perspective set found.items self.now.entries) }
     {
         self.rows.set_entries(perspective, set)
+    }
+
+    /// The entries of a perspective and set, as those of these cells.
+    pub(crate) fn part<'a>(
+        &self,
+        perspective: Perspective,
+        set: u32,
+        entries: &'a [(CellKey, Cell)],
+    ) -> Part<'a>
+        ensures of_set { (result.perspective ≡ perspective) × (result.set ≡ set) }
+        ensures size { (result.periods ≡ self.now.periods) × (result.samples ≡ self.now.samples) }
+        ensures entries { result.entries.now ≡ entries.now }
+    {
+        Part {
+            perspective,
+            set,
+            entries,
+            periods: self.rows.periods(),
+            samples: self.rows.samples(),
+        }
     }
 }

@@ -1,34 +1,16 @@
 //! The full and wheat curves of a summary.
 //! The rules: docs/CALCULATION.md, "Kinds of exceedance curves"; docs/OUTPUTS.md, "Exceedance curve tables".
-ghost use Rattle.std.specs.Prelude.{◌≡◌, ◌+◌, ◌*◌, ◌≤◌, ℕ, ◌++◌, map, pos, if◌then◌else◌, All, OnOk, true};
-ghost use Rattle.kt_rec.specs.declared.perspective.Perspective.{Perspective};
+ghost use Rattle.std.specs.Prelude.{◌≡◌, ◌+◌, ◌*◌, ◌≤◌, ◌++◌, map, pos, if◌then◌else◌, All, OnOk, true};
 ghost use Rattle.kt_curve.specs.Grid.{IsGroup, keys_for, sidx_of_kind};
-ghost use Rattle.kt_curve.specs.Standing.{cell_at};
-ghost use Rattle.kt_curve.specs.Amounts.{amount_in};
+ghost use Rattle.kt_curve.specs.Amounts.{amount_at};
 ghost use Rattle.kt_curve.specs.Exceedance.{full_rows, wheat_rows, curve_rows, sidx_values};
 
 use crate::amounts::{kind_amounts, sample_amounts};
 use crate::average::count_of;
-use crate::cell::Cell;
 use crate::exceedance::append_values;
+use crate::group::Group;
 use kt_money::{Bytes, OutOfMemory};
-use kt_rec::CellKey;
 use std::alloc::Global;
-
-/// A summary's entries, and what a curve takes of them.
-#[derive(Clone, Copy)]
-pub(crate) struct Group<'a> {
-    /// The summary id.
-    pub(crate) summary: u32,
-    /// Its entries.
-    pub(crate) entries: &'a [(CellKey, Cell)],
-    /// The number of periods.
-    pub(crate) periods: u32,
-    /// The number of samples.
-    pub(crate) samples: u32,
-    /// Whether the maxima are taken, or the totals.
-    pub(crate) maxima: bool,
-}
 
 /// Appends the rows of one type of a full curve. An error is want of memory.
 fn append_kind(
@@ -39,10 +21,9 @@ fn append_kind(
     mean: bool,
     returns: &[u32],
 ) -> Result<(), OutOfMemory>
-    requires group { (perspective : Perspective) × (set : ℕ) × IsGroup perspective set group.now.periods group.now.samples group.now.summary group.now.entries.now }
+    requires group { IsGroup group.now.perspective group.now.set group.now.periods group.now.samples group.now.summary group.now.entries.now }
     requires returns { All (λ period. 1 ≤ period) returns.now }
-    ensures ok { OnOk result ((perspective : Perspective) (set : ℕ) → IsGroup perspective set group.now.periods group.now.samples group.now.summary group.now.entries.now →
-        out.new ≡ out.old ++ curve_rows group.now.summary column (if mean then group.now.periods else group.now.periods * group.now.samples) (map (λ key. amount_in group.now.maxima (cell_at group.now.entries.now key)) (keys_for perspective set group.now.summary (sidx_of_kind mean group.now.samples) group.now.periods)) returns.now) }
+    ensures ok { OnOk result (out.new ≡ out.old ++ curve_rows group.now.summary column (if mean then group.now.periods else group.now.periods * group.now.samples) (map (amount_at group.now.maxima group.now.entries.now) (keys_for group.now.perspective group.now.set group.now.summary (sidx_of_kind mean group.now.samples) group.now.periods)) returns.now) }
 {
     let mut values = kind_amounts(alloc, group.entries, mean, group.maxima)?;
     let count = count_of(group.periods, group.samples, mean);
@@ -53,8 +34,7 @@ fn append_kind(
         count,
         values.as_mut_slice(),
         returns,
-    )?;
-    Ok(())
+    )
 }
 
 /// Appends the rows of a full curve. An error is want of memory.
@@ -64,14 +44,12 @@ pub(crate) fn append_full(
     group: &Group<'_>,
     returns: &[u32],
 ) -> Result<(), OutOfMemory>
-    requires group { (perspective : Perspective) × (set : ℕ) × IsGroup perspective set group.now.periods group.now.samples group.now.summary group.now.entries.now }
+    requires group { IsGroup group.now.perspective group.now.set group.now.periods group.now.samples group.now.summary group.now.entries.now }
     requires returns { All (λ period. 1 ≤ period) returns.now }
-    ensures ok { OnOk result ((perspective : Perspective) (set : ℕ) → IsGroup perspective set group.now.periods group.now.samples group.now.summary group.now.entries.now →
-        out.new ≡ out.old ++ full_rows perspective set group.now.periods group.now.samples (λ key. amount_in group.now.maxima (cell_at group.now.entries.now key)) returns.now group.now.summary) }
+    ensures ok { OnOk result (out.new ≡ out.old ++ full_rows group.now.perspective group.now.set group.now.periods group.now.samples (amount_at group.now.maxima group.now.entries.now) returns.now group.now.summary) }
 {
     append_kind(out, alloc, group, 1, true, returns)?;
-    append_kind(out, alloc, group, 2, false, returns)?;
-    Ok(())
+    append_kind(out, alloc, group, 2, false, returns)
 }
 
 /// Appends the rows of one sample's curve. An error is want of memory.
@@ -82,13 +60,12 @@ fn append_sample(
     sample: u32,
     returns: &[u32],
 ) -> Result<(), OutOfMemory>
-    requires group { (perspective : Perspective) × (set : ℕ) × IsGroup perspective set group.now.periods group.now.samples group.now.summary group.now.entries.now }
+    requires group { IsGroup group.now.perspective group.now.set group.now.periods group.now.samples group.now.summary group.now.entries.now }
     requires sample { 1 ≤ sample }
     requires returns { All (λ period. 1 ≤ period) returns.now }
-    ensures ok { OnOk result ((perspective : Perspective) (set : ℕ) → IsGroup perspective set group.now.periods group.now.samples group.now.summary group.now.entries.now →
-        out.new ≡ out.old ++ curve_rows group.now.summary sample group.now.periods (sidx_values perspective set group.now.periods (λ key. amount_in group.now.maxima (cell_at group.now.entries.now key)) group.now.summary (pos sample)) returns.now) }
+    ensures ok { OnOk result (out.new ≡ out.old ++ curve_rows group.now.summary sample group.now.periods (sidx_values group.now.perspective group.now.set group.now.periods (amount_at group.now.maxima group.now.entries.now) group.now.summary (pos sample)) returns.now) }
 {
-    let mut values = sample_amounts(alloc, group.entries, sample, group.maxima)?;
+    let mut values = sample_amounts(alloc, group, sample)?;
     append_values(
         out,
         group.summary,
@@ -96,8 +73,7 @@ fn append_sample(
         u64::from(group.periods),
         values.as_mut_slice(),
         returns,
-    )?;
-    Ok(())
+    )
 }
 
 /// Appends the rows of the curves of all samples. An error is want of memory.
@@ -107,10 +83,9 @@ pub(crate) fn append_wheat(
     group: &Group<'_>,
     returns: &[u32],
 ) -> Result<(), OutOfMemory>
-    requires group { (perspective : Perspective) × (set : ℕ) × IsGroup perspective set group.now.periods group.now.samples group.now.summary group.now.entries.now }
+    requires group { IsGroup group.now.perspective group.now.set group.now.periods group.now.samples group.now.summary group.now.entries.now }
     requires returns { All (λ period. 1 ≤ period) returns.now }
-    ensures ok { OnOk result ((perspective : Perspective) (set : ℕ) → IsGroup perspective set group.now.periods group.now.samples group.now.summary group.now.entries.now →
-        out.new ≡ out.old ++ wheat_rows perspective set group.now.periods group.now.samples (λ key. amount_in group.now.maxima (cell_at group.now.entries.now key)) returns.now group.now.summary) }
+    ensures ok { OnOk result (out.new ≡ out.old ++ wheat_rows group.now.perspective group.now.set group.now.periods group.now.samples (amount_at group.now.maxima group.now.entries.now) returns.now group.now.summary) }
 {
     for sample in 1..group.samples + 1 {
         append_sample(out, alloc, group, sample, returns)?;

@@ -1,21 +1,18 @@
 //! The tables of exceedance curves.
 //! The rules: docs/CALCULATION.md, "Exceedance curves"; docs/OUTPUTS.md, "Exceedance curve tables".
-ghost use Rattle.std.specs.Prelude.{◌≡◌, ◌≤◌, ℕ, List, ◌++◌, All, IfOk, OnOk, OnErr};
-ghost use Rattle.kt_rec.specs.declared.perspective.Perspective.{Perspective};
+ghost use Rattle.std.specs.Prelude.{◌≡◌, ◌≤◌, List, ◌++◌, All, IfOk, OnOk, OnErr};
 ghost use Rattle.kt_curve.specs.Grid.{IsGroup, IsPart, by_summary};
 ghost use Rattle.kt_curve.specs.Losses.{Added, all_losses};
-ghost use Rattle.kt_curve.specs.Standing.{StandsFor, cell_at};
-ghost use Rattle.kt_curve.specs.Amounts.{amount_in};
+ghost use Rattle.kt_curve.specs.Standing.{StandsFor};
+ghost use Rattle.kt_curve.specs.Amounts.{amount_at};
 ghost use Rattle.kt_curve.specs.Exceedance.{lec_heading_text, by_sidx, takes_maxima, lec_rows, exceedance_rows};
 
-use crate::cell::Cell;
 use crate::cells::Cells;
-use crate::curve::Curve;
-use crate::group::group_length;
-use crate::kinds::{Group, append_full, append_wheat};
+use crate::group::{Group, Part, split_first};
+use crate::kinds::{append_full, append_wheat};
 use crate::mean_curves::{append_period_means, append_rank_means};
 use kt_money::{Bytes, OutOfMemory};
-use kt_rec::{CellKey, Perspective};
+use kt_rec::{Curve, Perspective};
 use std::alloc::Global;
 
 /// Whether the table of a curve names a sidx in each row, or a type.
@@ -54,10 +51,9 @@ fn append_group(
     curve: Curve,
     returns: &[u32],
 ) -> Result<(), OutOfMemory>
-    requires group { (perspective : Perspective) × (set : ℕ) × IsGroup perspective set group.now.periods group.now.samples group.now.summary group.now.entries.now }
+    requires group { IsGroup group.now.perspective group.now.set group.now.periods group.now.samples group.now.summary group.now.entries.now }
     requires returns { All (λ period. 1 ≤ period) returns.now }
-    ensures ok { OnOk result ((perspective : Perspective) (set : ℕ) → IsGroup perspective set group.now.periods group.now.samples group.now.summary group.now.entries.now →
-        out.new ≡ out.old ++ lec_rows curve perspective set group.now.periods group.now.samples (λ key. amount_in group.now.maxima (cell_at group.now.entries.now key)) returns.now group.now.summary) }
+    ensures ok { OnOk result (out.new ≡ out.old ++ lec_rows curve group.now.perspective group.now.set group.now.periods group.now.samples (amount_at group.now.maxima group.now.entries.now) returns.now group.now.summary) }
 {
     match curve {
         Curve::FullAep | Curve::FullOep => append_full(out, alloc, group, returns),
@@ -71,27 +67,24 @@ fn append_group(
 fn append_groups(
     out: &mut Bytes,
     alloc: Global,
-    entries: &[(CellKey, Cell)],
-    periods: u32,
-    samples: u32,
+    part: &Part<'_>,
     curve: Curve,
     returns: &[u32],
 ) -> Result<(), OutOfMemory>
-    requires part { (perspective : Perspective) × (set : ℕ) × IsPart perspective set periods samples entries.now }
+    requires part { IsPart part.now.perspective part.now.set part.now.periods part.now.samples part.now.entries.now }
     requires returns { All (λ period. 1 ≤ period) returns.now }
-    ensures ok { OnOk result ((perspective : Perspective) (set : ℕ) → IsPart perspective set periods samples entries.now →
-        out.new ≡ out.old ++ by_summary perspective set (λ summary group. lec_rows curve perspective set periods samples (λ key. amount_in (takes_maxima curve) (cell_at group key)) returns.now summary) entries.now) }
+    ensures ok { OnOk result (out.new ≡ out.old ++ by_summary part.now.perspective part.now.set (λ summary group. lec_rows curve part.now.perspective part.now.set part.now.periods part.now.samples (amount_at (takes_maxima curve) group) returns.now summary) part.now.entries.now) }
 {
     let maxima = takes_maxima(curve);
-    let mut rest = entries;
-    while let Some(first) = rest.first() {
-        let summary = first.0.summary;
-        let (entries, later) = rest.split_at(group_length(summary, rest));
+    let mut rest = part.entries;
+    'groups: while let Some((summary, entries, later)) = split_first(rest) {
         let group = Group {
+            perspective: part.perspective,
+            set: part.set,
             summary,
             entries,
-            periods,
-            samples,
+            periods: part.periods,
+            samples: part.samples,
             maxima,
         };
         append_group(out, alloc, &group, curve, returns)?;
@@ -112,17 +105,9 @@ fn set_curves(
     ensures { IfOk result (λ text. (history : List Added) → StandsFor history cells.now → text ≡ exceedance_rows curve perspective set cells.now.periods cells.now.samples (all_losses history) returns.now) }
 {
     let entries = cells.set_entries(perspective, set)?;
+    let part = cells.part(perspective, set, entries.as_slice());
     let mut text = Bytes::new(cells.alloc());
-    let (periods, samples) = (cells.periods(), cells.samples());
-    append_groups(
-        &mut text,
-        cells.alloc(),
-        entries.as_slice(),
-        periods,
-        samples,
-        curve,
-        returns,
-    )?;
+    append_groups(&mut text, cells.alloc(), &part, curve, returns)?;
     Ok(text)
 }
 

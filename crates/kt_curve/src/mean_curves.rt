@@ -2,16 +2,15 @@
 //! The rules: docs/CALCULATION.md, "Kinds of exceedance curves"; docs/OUTPUTS.md, "Exceedance curve tables".
 ghost use Rattle.std.specs.Prelude.{◌≡◌, ◌+◌, ◌*◌, ◌≤◌, ◌^◌, ℕ, List, ◌++◌, map, length, slice_index, sum_by, All, OnOk};
 ghost use Rattle.kt_money.specs.Rounding.{half_up};
-ghost use Rattle.kt_rec.specs.declared.perspective.Perspective.{Perspective};
 ghost use Rattle.kt_curve.specs.Grid.{IsGroup, sample_sidx};
-ghost use Rattle.kt_curve.specs.Standing.{cell_at, most_total};
-ghost use Rattle.kt_curve.specs.Amounts.{amount_in};
+ghost use Rattle.kt_curve.specs.Standing.{most_total};
+ghost use Rattle.kt_curve.specs.Amounts.{amount_at};
 ghost use Rattle.kt_curve.specs.Ranks.{SameRanks};
 ghost use Rattle.kt_curve.specs.Exceedance.{curve_rows, sidx_values, ranked_loss, period_means, rank_means};
 
 use crate::amounts::{means, period_sums, sample_amounts};
 use crate::exceedance::{append_values, rank};
-use crate::kinds::Group;
+use crate::group::Group;
 use kt_money::{Bytes, OutOfMemory};
 use std::alloc::Global;
 
@@ -38,8 +37,7 @@ fn append_means(
         u64::from(group.periods),
         values.as_mut_slice(),
         returns,
-    )?;
-    Ok(())
+    )
 }
 
 /// Appends the rows of the curve of the samples' means in each period. An error is want of memory.
@@ -49,14 +47,12 @@ pub(crate) fn append_period_means(
     group: &Group<'_>,
     returns: &[u32],
 ) -> Result<(), OutOfMemory>
-    requires group { (perspective : Perspective) × (set : ℕ) × IsGroup perspective set group.now.periods group.now.samples group.now.summary group.now.entries.now }
+    requires group { IsGroup group.now.perspective group.now.set group.now.periods group.now.samples group.now.summary group.now.entries.now }
     requires returns { All (λ period. 1 ≤ period) returns.now }
-    ensures ok { OnOk result ((perspective : Perspective) (set : ℕ) → IsGroup perspective set group.now.periods group.now.samples group.now.summary group.now.entries.now →
-        out.new ≡ out.old ++ curve_rows group.now.summary 2 group.now.periods (period_means perspective set group.now.periods group.now.samples (λ key. amount_in group.now.maxima (cell_at group.now.entries.now key)) group.now.summary) returns.now) }
+    ensures ok { OnOk result (out.new ≡ out.old ++ curve_rows group.now.summary 2 group.now.periods (period_means group.now.perspective group.now.set group.now.periods group.now.samples (amount_at group.now.maxima group.now.entries.now) group.now.summary) returns.now) }
 {
-    let sums = period_sums(alloc, group.entries, group.periods, group.maxima)?;
-    append_means(out, alloc, group, sums.as_slice(), returns)?;
-    Ok(())
+    let sums = period_sums(alloc, group)?;
+    append_means(out, alloc, group, sums.as_slice(), returns)
 }
 
 /// Adds values to sums, place by place.
@@ -86,16 +82,15 @@ fn add_ranked(sums: &mut [u128], values: &mut [u64])
 
 /// Adds the losses of each rank over all samples to sums that are 0. An error is want of memory.
 fn add_samples(alloc: Global, group: &Group<'_>, sums: &mut [u128]) -> Result<(), OutOfMemory>
-    requires group { (perspective : Perspective) × (set : ℕ) × IsGroup perspective set group.now.periods group.now.samples group.now.summary group.now.entries.now }
+    requires group { IsGroup group.now.perspective group.now.set group.now.periods group.now.samples group.now.summary group.now.entries.now }
     requires len { length sums.old ≡ group.now.periods }
     requires none { (place : ℕ) → slice_index sums.old place ≡ 0 }
     ensures len { length sums.new ≡ group.now.periods }
     ensures most { OnOk result ((place : ℕ) → slice_index sums.new place ≤ group.now.samples * most_total) }
-    ensures sums { OnOk result ((perspective : Perspective) (set : ℕ) → IsGroup perspective set group.now.periods group.now.samples group.now.summary group.now.entries.now →
-        (place : ℕ) → slice_index sums.new place ≡ sum_by (λ sidx. ranked_loss (sidx_values perspective set group.now.periods (λ key. amount_in group.now.maxima (cell_at group.now.entries.now key)) group.now.summary sidx) place) (sample_sidx group.now.samples)) }
+    ensures sums { OnOk result ((place : ℕ) → slice_index sums.new place ≡ sum_by (λ sidx. ranked_loss (sidx_values group.now.perspective group.now.set group.now.periods (amount_at group.now.maxima group.now.entries.now) group.now.summary sidx) place) (sample_sidx group.now.samples)) }
 {
     for sample in 1..group.samples + 1 {
-        let mut values = sample_amounts(alloc, group.entries, sample, group.maxima)?;
+        let mut values = sample_amounts(alloc, group, sample)?;
         add_ranked(sums, values.as_mut_slice());
     }
     Ok(())
@@ -108,14 +103,12 @@ pub(crate) fn append_rank_means(
     group: &Group<'_>,
     returns: &[u32],
 ) -> Result<(), OutOfMemory>
-    requires group { (perspective : Perspective) × (set : ℕ) × IsGroup perspective set group.now.periods group.now.samples group.now.summary group.now.entries.now }
+    requires group { IsGroup group.now.perspective group.now.set group.now.periods group.now.samples group.now.summary group.now.entries.now }
     requires returns { All (λ period. 1 ≤ period) returns.now }
-    ensures ok { OnOk result ((perspective : Perspective) (set : ℕ) → IsGroup perspective set group.now.periods group.now.samples group.now.summary group.now.entries.now →
-        out.new ≡ out.old ++ curve_rows group.now.summary 2 group.now.periods (rank_means perspective set group.now.periods group.now.samples (λ key. amount_in group.now.maxima (cell_at group.now.entries.now key)) group.now.summary) returns.now) }
+    ensures ok { OnOk result (out.new ≡ out.old ++ curve_rows group.now.summary 2 group.now.periods (rank_means group.now.perspective group.now.set group.now.periods group.now.samples (amount_at group.now.maxima group.now.entries.now) group.now.summary) returns.now) }
 {
     let mut zeros = vec![in alloc; 0u128; group.periods as usize]?;
     let sums = zeros.as_mut_slice();
     add_samples(alloc, group, sums)?;
-    append_means(out, alloc, group, sums, returns)?;
-    Ok(())
+    append_means(out, alloc, group, sums, returns)
 }

@@ -6,7 +6,7 @@ ghost use Rattle.kt_curve.specs.Rows.{perspective_number, index_key, row_of, key
 use kt_rec::{CellKey, Perspective};
 
 /// Which row: what one summary of a perspective and set has in one period.
-#[derive(Clone, Copy, Debug)]
+#[derive(Clone, Copy)]
 pub(crate) struct RowKey {
     pub(crate) perspective: Perspective,
     pub(crate) set: u32,
@@ -15,7 +15,7 @@ pub(crate) struct RowKey {
 }
 
 /// The key of a row in the index: its perspective as a number, 0 for ground-up, 1 for insured and 2 for net losses.
-#[derive(Clone, Copy, Debug, PartialEq, Eq, Hash)]
+#[derive(Clone, Copy, PartialEq, Eq, Hash)]
 pub(crate) struct IndexKey {
     perspective: u32,
     set: u32,

@@ -38,7 +38,7 @@ impl Model for Rows {
 }
 
 /// Where a summary's row of a period stands.
-#[derive(Clone, Copy, Debug)]
+#[derive(Clone, Copy)]
 pub(crate) struct Spot {
     /// The period.
     pub(crate) period: u32,

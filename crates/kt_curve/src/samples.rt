@@ -1,12 +1,12 @@
 //! The entries of one sample.
 //! The rules: docs/CALCULATION.md, "Kinds of exceedance curves".
-ghost use Rattle.std.specs.Prelude.{◌≡◌, ◌-◌, ◌≤◌, ℕ, length, take, drop};
+ghost use Rattle.std.specs.Prelude.{◌≡◌, ◌-◌, ◌≤◌, length, take, drop};
 ghost use Rattle.std.specs.List.{filter};
-ghost use Rattle.kt_rec.specs.declared.perspective.Perspective.{Perspective};
 ghost use Rattle.kt_curve.specs.Grid.{IsGroup};
 ghost use Rattle.kt_curve.specs.Amounts.{of_sample, sample_of, SampleEnds};
 
 use crate::cell::Cell;
+use crate::group::Group;
 use kt_rec::CellKey;
 
 /// The sample of a key, and 0 for the mean.
@@ -17,12 +17,16 @@ pub(crate) fn sample_of(key: &CellKey) -> u32
 }
 
 /// The places at which the entries of a sample begin and end.
-fn ends(group: &[(CellKey, Cell)], sample: u32) -> (usize, usize)
-    requires { (perspective : Perspective) × (set : ℕ) × (periods : ℕ) × (samples : ℕ) × (summary : ℕ) × IsGroup perspective set periods samples summary group.now }
-    ensures value { SampleEnds group.now sample result.0 result.1 }
+fn ends(group: &Group<'_>, sample: u32) -> (usize, usize)
+    requires { IsGroup group.now.perspective group.now.set group.now.periods group.now.samples group.now.summary group.now.entries.now }
+    ensures value { SampleEnds group.now.entries.now sample result.0 result.1 }
 {
-    let start = group.partition_point(|entry| sample_of(&entry.0) < sample);
-    let end = group.partition_point(|entry| sample_of(&entry.0) <= sample);
+    let start = group
+        .entries
+        .partition_point(|entry| sample_of(&entry.0) < sample);
+    let end = group
+        .entries
+        .partition_point(|entry| sample_of(&entry.0) <= sample);
     (start, end)
 }
 
@@ -36,11 +40,11 @@ fn entries_between(entries: &[(CellKey, Cell)], start: usize, end: usize) -> &[(
 }
 
 /// The entries of a sample, from 1 up, which stand together.
-pub(crate) fn sample_entries(group: &[(CellKey, Cell)], sample: u32) -> &[(CellKey, Cell)]
-    requires group { (perspective : Perspective) × (set : ℕ) × (periods : ℕ) × (samples : ℕ) × (summary : ℕ) × IsGroup perspective set periods samples summary group.now }
+pub(crate) fn sample_entries<'a>(group: &Group<'a>, sample: u32) -> &'a [(CellKey, Cell)]
+    requires group { IsGroup group.now.perspective group.now.set group.now.periods group.now.samples group.now.summary group.now.entries.now }
     requires sample { 1 ≤ sample }
-    ensures value { result.now ≡ filter (of_sample sample) group.now }
+    ensures value { result.now ≡ filter (of_sample sample) group.now.entries.now }
 {
     let (start, end) = ends(group, sample);
-    entries_between(group, start, end)
+    entries_between(group.entries, start, end)
 }

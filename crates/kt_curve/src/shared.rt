@@ -1,14 +1,11 @@
 //! The types of this crate may be sent to threads and shared by them.
 use crate::cell::CellStop;
 use crate::cells::Cells;
-use crate::curve::Curve;
 
-/// Takes what may be sent to threads and shared by them.
-fn is_shared<T: Send + Sync>(_: &T) {}
+/// Names types that may be sent to threads and shared by them.
+fn are_shared<T: Send + Sync>() {}
 
 /// Each type once.
-pub(crate) fn are_shared(cells: &Cells, stop: &CellStop, curve: &Curve) {
-    is_shared(cells);
-    is_shared(stop);
-    is_shared(curve);
+pub(crate) fn cells_are_shared() {
+    are_shared::<(Cells, CellStop)>();
 }

@@ -21,6 +21,10 @@ abbrev pub plt_row : RowType → MeanSd → SummaryRecord → Occurrence → Lis
 plt_row kind moments entry at =
     table_line (count_text entry.summary ∷ count_text (type_number kind) ∷ count_text entry.event ∷ count_text at.period_no ∷ money_text moments.mean ∷ money_text moments.sd ∷ money_text entry.exposure ∷ count_text at.occ_year ∷ count_text at.occ_month ∷ count_text at.occ_day ∷ [])
 
+-- the last columns of a row: the date of the occurrence
+abbrev pub date_columns : Occurrence → List ℕ
+date_columns at = table_line (count_text at.occ_year ∷ count_text at.occ_month ∷ count_text at.occ_day ∷ [])
+
 -- the two rows of a record for an occurrence: the analytical one, and that of the samples
 abbrev pub period_loss_rows : ℕ → SummaryRecord → Occurrence → List ℕ
 period_loss_rows samples entry at =

@@ -8,7 +8,7 @@ use kt_money::{MeanSd, mean_sd};
 use kt_stream::Pair;
 
 /// The two means and deviations of a summary record, one for each type of row, in cents.
-#[derive(Clone, Copy, Debug)]
+#[derive(Clone, Copy)]
 pub(crate) struct LossMoments {
     /// Type 1: those that were computed from the distributions.
     pub(crate) analytical: MeanSd,

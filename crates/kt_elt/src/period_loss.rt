@@ -1,8 +1,8 @@
 //! The rows of a summary record in the period loss table: two for each occurrence of its event.
 //! The rules: docs/OUTPUTS.md, "Period loss table".
-ghost use Rattle.std.specs.Prelude.{◌≡◌, ◌+◌, ◌≤◌, ◌++◌, length, OnOk, OnErr};
+ghost use Rattle.std.specs.Prelude.{◌≡◌, ◌+◌, ◌≤◌, ℕ, ◌++◌, length, take, OnOk, OnErr};
 ghost use Rattle.kt_elt.specs.Losses.{FitsSamples, analytical_moments, sample_moments};
-ghost use Rattle.kt_elt.specs.PeriodLoss.{plt_row, period_loss_rows, period_losses};
+ghost use Rattle.kt_elt.specs.PeriodLoss.{date_columns, plt_row, period_loss_rows, period_losses};
 
 use crate::moments::{LossMoments, loss_moments};
 use crate::row_type::RowType;
@@ -12,6 +12,9 @@ use kt_stream::SummaryRecord;
 
 /// The most bytes that one row has.
 const PLT_ROW_BYTES: usize = 200;
+
+/// The most bytes that the date in a row has, with the LF behind it.
+const DATE_BYTES: usize = 63;
 
 /// Appends the two rows of a record for an occurrence. An error is want of memory.
 /// The record has `samples` samples, as that of `elt_text`.
@@ -41,7 +44,10 @@ pub fn plt_record_text(
     occurrences: &[Occurrence],
 ) -> Result<(), OutOfMemory>
     requires { FitsSamples samples entry.now.pairs }
-    ensures { OnOk result (out.new ≡ out.old ++ period_losses samples entry.now occurrences.now) }
+
+    ensures ok { OnOk result (out.new ≡ out.old ++ period_losses samples entry.now occurrences.now) }
+
+    ensures front { OnErr result ((count : ℕ) × (out.new ≡ out.old ++ period_losses samples entry.now (take count occurrences.now))) }
 {
     let moments = loss_moments(samples, entry.pairs.as_slice());
     for at in occurrences {
@@ -102,12 +108,7 @@ fn put_plt_row(
     requires { length row.old + PLT_ROW_BYTES ≤ ROW_BYTES }
     ensures value { row.new ≡ plt_row kind moments entry.now at.now ++ row.old }
 {
-    row.put_byte(b'\n');
-    row.put_count(u64::from(at.occ_day));
-    row.put_byte(b',');
-    row.put_count(u64::from(at.occ_month));
-    row.put_byte(b',');
-    row.put_count(u64::from(at.occ_year));
+    put_date(row, at);
     row.put_byte(b',');
     row.put_money(entry.exposure);
     row.put_byte(b',');
@@ -122,4 +123,18 @@ fn put_plt_row(
     row.put_byte(kind.digit());
     row.put_byte(b',');
     row.put_count(u64::from(entry.summary));
+}
+
+/// Puts the date of an occurrence in front, the last columns of a row.
+fn put_date(row: &mut Row, at: &Occurrence)
+    requires { length row.old + DATE_BYTES ≤ ROW_BYTES }
+    ensures value { row.new ≡ date_columns at.now ++ row.old }
+    ensures room { length row.new ≤ length row.old + DATE_BYTES }
+{
+    row.put_byte(b'\n');
+    row.put_count(u64::from(at.occ_day));
+    row.put_byte(b',');
+    row.put_count(u64::from(at.occ_month));
+    row.put_byte(b',');
+    row.put_count(u64::from(at.occ_year));
 }

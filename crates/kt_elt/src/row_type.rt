@@ -5,7 +5,7 @@ ghost use Rattle.kt_money.specs.NumberText.{count_text};
 ghost use Rattle.kt_elt.specs.RowType.{type_number};
 
 /// The type of a row: where its mean and its deviation come from.
-#[derive(Clone, Copy, Debug)]
+#[derive(Clone, Copy)]
 pub(crate) enum RowType {
     /// Type 1: computed from the distributions.
     Analytical,

@@ -7,7 +7,7 @@ ghost use Rattle.kt_elt.specs.Sidx.{role_of};
 use kt_stream::Pair;
 
 /// What the loss of a pair is.
-#[derive(Clone, Copy, Debug)]
+#[derive(Clone, Copy)]
 pub(crate) enum Role {
     /// The mean that was computed from the distributions: sidx -1.
     Mean,

@@ -1,28 +1,45 @@
 -- How a run ends, its report included.
 -- The rules: docs/REFUSALS.md, "Statuses" and "Texts".
 use Rattle.std.proofs.Common.{subst, sym, refl, inl, inr}
-use Rattle.std.specs.Prelude.{◌≡◌, ◌⊎◌, ℕ, true, List, [], ◌∷◌, ◌++◌, Option, Some, None, IfSome, IsSomeAnd}
+use Rattle.std.specs.Prelude.{◌≡◌, ◌⊎◌, ℕ, true, List, [], ◌∷◌, ◌++◌, Option, Some, None, Result, Ok, Err, IfSome, IsSomeAnd}
 use Rattle.std.proofs.lemmas.List.{append-nil}
 use Rattle.kt_out.specs.NamedFiles.{File, FileMap}
+use Rattle.kt_out.specs.OutputFiles.{OutputsState}
 use Rattle.kt_out.specs.Writing.{SinkState}
-use Rattle.kt_ends.specs.Ending.{Verdict, Gained, GainedFront, AreFronts, Made, PartlyMade, AllMade, NoCount, Counted, AtEnd, Ended, IsMissing}
+use Rattle.kt_ends.specs.Ending.{Verdict, SinkGains, GainedFront, AreFronts, FilesMade, PartlyMade, AllMade, NoCount, Counted, AtEnd, Ended, ToolEnds, IsMissing}
 use Rattle.kt_ends.specs.Outcome.{Outcome}
-use Rattle.kt_ends.specs.Report.{Reported, LacksMemory, MayLackMemory, SaysWhy, CountedBy, LosesMissing}
-use Rattle.kt_ends.specs.World.{World, Uses, KeepsOthers}
-use Rattle.kt_ends.specs.declared.status.Refusal.{Refusal}
+use Rattle.kt_ends.specs.Report.{AnswersWords, IsNoWords, Reported, LacksMemory, MayLackMemory, SaysWhy, CountedBy, LosesMissing}
+use Rattle.kt_ends.specs.Stops.{end_status}
+use Rattle.kt_ends.specs.World.{World, Uses, Finds, KeepsOthers}
 use Rattle.kt_ends.specs.declared.status.Refusal.TheVariants as refusal
 use Rattle.kt_ends.specs.declared.status.Status.{Status}
 use Rattle.kt_ends.specs.declared.status.Status.TheVariants as status
+use Rattle.kt_ends.specs.declared.tool_stop.ToolStop.{ToolStop}
+use Rattle.kt_ends.specs.declared.tool_stop.ToolStop.TheVariants as tool
+use Rattle.kt_words.specs.declared.command.Command.{Command}
+use Rattle.kt_words.specs.declared.stop.WordStop.{WordStop}
 
--- How a run ends that finds these files and bytes and makes this outcome of them: as its tool did, with a line on standard error, or for want of memory for that line.
-pub record RunEnded (found : FileMap → List ℕ → Type 0) (uses : Uses) (made : FileMap → List ℕ → Outcome) (before after : World) (err err_now : SinkState) (answer : Status) : Type 0 where
-  pub verdict : (files : FileMap) (source : List ℕ) → found files source → Verdict (made files source).status answer
-  pub output : (files : FileMap) (source : List ℕ) → found files source → IfSome before.sink.taken (λ taken. Gained (made files source).output taken after.sink.taken answer)
-  pub files : (files : FileMap) (source : List ℕ) → found files source → IfSome before.outputs.written (λ written. IsSomeAnd after.outputs.written (λ now. Made (made files source).files written now answer))
-  pub counted : CountedBy found made before after answer
-  pub line : SaysWhy found made err err_now answer
+-- How a run ends by the command that its words are, or the first faulty word, and by what its outcome is: the objects outside
+-- before and after it, standard error before and after it, and its answer.
+pub record RunEnded (read : Result Command WordStop) (uses : Uses) (made : FileMap → List ℕ → Outcome) (before after : World) (err err_now : SinkState) (answer : Status) : Type 0 where
+  -- Done, Words and Refused are what the outcome of the words, the files and the source says.
+  pub verdict : (files : FileMap) (source : List ℕ) → Finds uses before files source → Verdict (made files source).status answer
+  -- The sink gains the outcome's output; after a fault or for want of memory some front of it.
+  pub output : (files : FileMap) (source : List ℕ) → Finds uses before files source → SinkGains (made files source).output before.sink after.sink answer
+  -- Each of the outcome's files stands for its text; after a fault or for want of memory some front of them was made, each with a front of its text.
+  pub files : (files : FileMap) (source : List ℕ) → Finds uses before files source → FilesMade (made files source).files before.outputs after.outputs answer
+  -- Faulty words are answered by the first faulty one, whatever the objects are.
+  pub words : AnswersWords read answer
+  -- A fault or a miss was counted exactly where it is answered, or where memory was wanting for the line of a missing file.
+  pub counted : CountedBy (Finds uses before) made before after answer
+  -- Standard error gains the line of a refusal, and nothing else; for want of memory some front of it.
+  pub line : SaysWhy (Finds uses before) made err err_now answer
+  -- What the command does not use is as it was, and no call changes what the input files hold.
+  pub unchanged : KeepsOthers uses before after
+  -- A run that is done has read a source that it uses to its end.
   pub at_end : uses.source ≡ true → AtEnd before.source.left after.source.left answer
-  pub kept : KeepsOthers uses before after
+
+-- ---- what a settled run has written is a front of itself
 
 -- all of an output is a front of it
 whole_front : (output : List ℕ) (taken now : Option (List ℕ)) → IfSome taken (λ before. now ≡ Some (before ++ output)) → IfSome taken (λ before. GainedFront output before now)
@@ -39,80 +56,79 @@ whole_files wanted None now made = tt
 whole_files wanted (Some files) None made = made
 whole_files wanted (Some files) (Some after) made = record { made = wanted; fronts = all_fronts wanted; holds = λ name. inl (made name) }
 
--- where a refusal lacks the memory for its line, nothing was counted but maybe the miss that it is for
-lost_refusal : (found : FileMap → List ℕ → Type 0) (made : FileMap → List ℕ → Outcome) (before after : World) (why : Refusal) → ((files : FileMap) (source : List ℕ) → found files source → (made files source).status ≡ status.Refused why) → Counted before after (status.Refused why) → NoCount before after ⊎ LosesMissing found made before after
-lost_refusal found made before after (refusal.Missing name) is counted = inr (record { missed = counted; own = λ files source finds. subst IsMissing (sym (is files source finds)) tt })
-lost_refusal found made before after (refusal.Stream stop) is counted = inl counted
-lost_refusal found made before after (refusal.UnknownId byte) is counted = inl counted
-lost_refusal found made before after (refusal.LossSum byte) is counted = inl counted
-lost_refusal found made before after (refusal.Row event row why) is counted = inl counted
-lost_refusal found made before after (refusal.Cells event held) is counted = inl counted
-lost_refusal found made before after (refusal.Period event key held more) is counted = inl counted
-lost_refusal found made before after (refusal.File file stop) is counted = inl counted
-lost_refusal found made before after (refusal.HeaderDiffers file) is counted = inl counted
-lost_refusal found made before after (refusal.TooLarge name) is counted = inl counted
-lost_refusal found made before after (refusal.NotProfile name) is counted = inl counted
-lost_refusal found made before after (refusal.WrongTable name number) is counted = inl counted
-lost_refusal found made before after (refusal.WrongVersion name number) is counted = inl counted
-lost_refusal found made before after (refusal.CutRecord name row) is counted = inl counted
-lost_refusal found made before after (refusal.Bad name row column cause) is counted = inl counted
-lost_refusal found made before after (refusal.Check number name row) is counted = inl counted
+front_gained : (output : List ℕ) (before after : SinkState) (end : Status) → SinkGains output before after end → SinkGains output before after status.NoMemory
+front_gained output before after status.ReadFault gained = gained
+front_gained output before after status.WriteFault gained = gained
+front_gained output before after status.NoMemory gained = gained
+front_gained output before after end gained = whole_front output before.taken after.taken gained
 
--- memory is wanting for the line of the status to which the tool came
-lacking : (found : FileMap → List ℕ → Type 0) (uses : Uses) (made : FileMap → List ℕ → Outcome) (before after : World) (err err_now : SinkState) (wanted : Status) → Ended found uses made before after wanted → MayLackMemory wanted → LacksMemory wanted err err_now → RunEnded found uses made before after err err_now status.NoMemory
-lacking found uses made before after err err_now status.Done ended may lacks = absurd may
-lacking found uses made before after err err_now (status.Words stop) ended may lacks = record {
-  verdict = λ files source finds. tt;
-  output = λ files source finds. whole_front (made files source).output before.sink.taken after.sink.taken (ended.output files source finds);
-  files = λ files source finds. whole_files (made files source).files before.outputs.written after.outputs.written (ended.files files source finds);
-  counted = inl ended.counted;
-  line = record { wanted = status.Words stop; own = ended.verdict; lacks = lacks };
-  at_end = λ used. tt;
-  kept = ended.kept;
-}
-lacking found uses made before after err err_now (status.Refused why) ended may lacks = record {
-  verdict = λ files source finds. tt;
-  output = λ files source finds. whole_front (made files source).output before.sink.taken after.sink.taken (ended.output files source finds);
-  files = λ files source finds. whole_files (made files source).files before.outputs.written after.outputs.written (ended.files files source finds);
-  counted = lost_refusal found made before after why ended.verdict ended.counted;
-  line = record { wanted = status.Refused why; own = ended.verdict; lacks = lacks };
-  at_end = λ used. tt;
-  kept = ended.kept;
-}
-lacking found uses made before after err err_now status.ReadFault ended may lacks = absurd may
-lacking found uses made before after err err_now status.WriteFault ended may lacks = absurd may
-lacking found uses made before after err err_now status.NoMemory ended may lacks = record {
-  verdict = ended.verdict;
-  output = ended.output;
-  files = ended.files;
-  counted = inl ended.counted;
-  line = record { wanted = status.NoMemory; own = ended.verdict; lacks = lacks };
-  at_end = λ used. tt;
-  kept = ended.kept;
-}
+some_made : (wanted : List File) (before after : OutputsState) (end : Status) → FilesMade wanted before after end → FilesMade wanted before after status.NoMemory
+some_made wanted before after status.ReadFault made = made
+some_made wanted before after status.WriteFault made = made
+some_made wanted before after status.NoMemory made = made
+some_made wanted before after end made = whole_files wanted before.written after.written made
 
--- a tool's end with what standard error gained by the same answer
-with_line : (found : FileMap → List ℕ → Type 0) (uses : Uses) (made : FileMap → List ℕ → Outcome) (before after : World) (err err_now : SinkState) (answer : Status) → CountedBy found made before after answer → SaysWhy found made err err_now answer → Ended found uses made before after answer → RunEnded found uses made before after err err_now answer
-with_line found uses made before after err err_now answer counted line ended = record {
-  verdict = ended.verdict;
-  output = ended.output;
-  files = ended.files;
-  counted = counted;
-  line = line;
-  at_end = ended.at_end;
-  kept = ended.kept;
-}
+-- ---- the answer for words
 
--- a run ends as its tool did and its report says
-pub run_ends : (found : FileMap → List ℕ → Type 0) (uses : Uses) (made : FileMap → List ℕ → Outcome) (before after : World) (err err_now : SinkState) (wanted answer : Status) → Ended found uses made before after wanted → Reported wanted answer err err_now → RunEnded found uses made before after err err_now answer
-run_ends found uses made before after err err_now wanted status.Done ended reported =
-    let same = subst (Ended found uses made before after) reported.0 ended in with_line found uses made before after err err_now status.Done same.counted reported.1 same
-run_ends found uses made before after err err_now wanted (status.Words stop) ended reported =
-    let same = subst (Ended found uses made before after) reported.0 ended in with_line found uses made before after err err_now (status.Words stop) same.counted reported.1 same
-run_ends found uses made before after err err_now wanted (status.Refused why) ended reported =
-    let same = subst (Ended found uses made before after) reported.0 ended in with_line found uses made before after err err_now (status.Refused why) same.counted reported.1 same
-run_ends found uses made before after err err_now wanted status.ReadFault ended reported =
-    let same = subst (Ended found uses made before after) reported.0 ended in with_line found uses made before after err err_now status.ReadFault same.counted reported.1 same
-run_ends found uses made before after err err_now wanted status.WriteFault ended reported =
-    let same = subst (Ended found uses made before after) reported.0 ended in with_line found uses made before after err err_now status.WriteFault same.counted reported.1 same
-run_ends found uses made before after err err_now wanted status.NoMemory ended reported = lacking found uses made before after err err_now wanted ended reported.may reported
+-- the status of a tool is none of faulty words
+pub no_words : (end : Result (Unit {0}) ToolStop) → IsNoWords (end_status end)
+no_words (Ok done) = tt
+no_words (Err (tool.Refused why)) = tt
+no_words (Err tool.ReadFault) = tt
+no_words (Err tool.WriteFault) = tt
+no_words (Err tool.NoMemory) = tt
+
+memory_answers : (read : Result Command WordStop) → AnswersWords read status.NoMemory
+memory_answers (Ok command) = tt
+memory_answers (Err stop) = tt
+
+-- what is reported answers as the run did
+reported_words : (read : Result Command WordStop) (wanted answer : Status) (before after : SinkState) → AnswersWords read wanted → Reported wanted answer before after → AnswersWords read answer
+reported_words read wanted status.NoMemory before after answers reported = memory_answers read
+reported_words read wanted answer before after answers reported = subst (AnswersWords read) reported.0 answers
+
+-- ---- the end with its report
+
+module _ (read : Result Command WordStop) (uses : Uses) (made : FileMap → List ℕ → Outcome) (before after : World) (err err_now : SinkState) where
+  -- where memory is wanting for the line of a refusal, nothing was counted but maybe the miss that it is for
+  lost : (wanted : Status) → MayLackMemory wanted → ((files : FileMap) (source : List ℕ) → Finds uses before files source → Verdict (made files source).status wanted) → Counted before after wanted → CountedBy (Finds uses before) made before after status.NoMemory
+  lost status.Done may own counted = absurd may
+  lost status.ReadFault may own counted = absurd may
+  lost status.WriteFault may own counted = absurd may
+  lost (status.Refused (refusal.Missing name)) may own counted = inr (record { missed = counted; own = λ files source finds. subst IsMissing (sym (own files source finds)) tt })
+  lost wanted may own counted = inl counted
+
+  -- memory is wanting for the line of the status to which the tool came
+  lacking : (wanted : Status) → ToolEnds uses made before after wanted → LacksMemory wanted err err_now → AnswersWords read status.NoMemory → RunEnded read uses made before after err err_now status.NoMemory
+  lacking wanted ended lacks answers = record {
+    verdict = λ files source finds. tt;
+    output = λ files source finds. front_gained (made files source).output before.sink after.sink wanted (ended.output files source finds);
+    files = λ files source finds. some_made (made files source).files before.outputs after.outputs wanted (ended.files files source finds);
+    words = answers;
+    counted = lost wanted lacks.may ended.verdict ended.counted;
+    line = record { wanted = wanted; own = ended.verdict; lacks = lacks };
+    unchanged = ended.kept;
+    at_end = λ used. tt;
+  }
+
+  -- a tool's end with what standard error gained by the same answer
+  with_line : (answer : Status) → CountedBy (Finds uses before) made before after answer → SaysWhy (Finds uses before) made err err_now answer → ToolEnds uses made before after answer → AnswersWords read answer → RunEnded read uses made before after err err_now answer
+  with_line answer counted line ended answers = record {
+    verdict = ended.verdict;
+    output = ended.output;
+    files = ended.files;
+    words = answers;
+    counted = counted;
+    line = line;
+    unchanged = ended.kept;
+    at_end = ended.at_end;
+  }
+
+  by_answer : (wanted answer : Status) → ToolEnds uses made before after wanted → Reported wanted answer err err_now → AnswersWords read answer → RunEnded read uses made before after err err_now answer
+  by_answer wanted status.NoMemory ended reported answers = lacking wanted ended reported answers
+  by_answer wanted answer ended reported answers =
+      let same = subst (ToolEnds uses made before after) reported.0 ended in with_line answer same.counted reported.1 same answers
+
+  -- a run ends as its tool did and its report says
+  pub run_ends : (wanted answer : Status) → ToolEnds uses made before after wanted → AnswersWords read wanted → Reported wanted answer err err_now → RunEnded read uses made before after err err_now answer
+  run_ends wanted answer ended answers reported = by_answer wanted answer ended reported (reported_words read wanted answer err err_now answers reported)

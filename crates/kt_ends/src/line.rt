@@ -8,9 +8,8 @@ ghost use Rattle.kt_ends.specs.declared.status.Refusal.TheVariants as refusal;
 
 use crate::status::{Refusal, Status};
 use kt_cells::Cause;
-use kt_foot::RowCause;
 use kt_money::{Bytes, OutOfMemory, push_count, push_money};
-use kt_rec::Name;
+use kt_rec::{Name, RowCause};
 use kt_stream::{RecordCause, StreamStop};
 use kt_words::WordCause;
 use std::alloc::Global;

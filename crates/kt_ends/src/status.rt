@@ -4,8 +4,7 @@ ghost use Rattle.std.specs.Prelude.{◌≡◌};
 ghost use Rattle.kt_ends.specs.Status.{status_code};
 
 use kt_cells::Cause;
-use kt_foot::RowCause;
-use kt_rec::{CellKey, Name};
+use kt_rec::{CellKey, Name, RowCause};
 use kt_stream::StreamStop;
 use kt_words::WordStop;
 

@@ -9,7 +9,7 @@ use Rattle.std.proofs.lemmas.List.Kept.{Contains-dedup_nat, Contains-from_dedup}
 use Rattle.std.proofs.lemmas.List.Sorted.{list_any-IsPermutation}
 use Rattle.std.proofs.lemmas.Map.Keys.{IsStrictlyIncreasing-dedup}
 use Rattle.std.proofs.lemmas.Map.Views.{list_any-from_Contains, Contains-from_any}
-use Rattle.kt_tree.specs.Rising.{rising, IsRising, rising-member, rising-rises, rising-unique, above-all}
+use Rattle.kt_rec.specs.Rising.{rising, IsRising, rising-member, rising-rises, rising-unique, above-all}
 
 -- numbers that are each below the next rise
 rises-from_strict : (xs : List ℕ) → IsStrictlyIncreasing xs → IsRising xs

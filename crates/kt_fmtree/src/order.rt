@@ -1,6 +1,6 @@
 //! Ids by rising number, each once.
 ghost use Rattle.std.specs.Prelude.{◌≡◌, IfOk};
-ghost use Rattle.kt_tree.specs.Rising.{rising};
+ghost use Rattle.kt_rec.specs.Rising.{rising};
 
 use std::alloc::AllocError;
 

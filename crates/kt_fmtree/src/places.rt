@@ -2,7 +2,7 @@
 //! The rule: docs/FINANCIAL_MODULE.md, "Levels".
 ghost use Rattle.std.specs.Prelude.{◌≡◌, ◌<◌, nat_eq, true, length, map, All, IfOk, slice_index};
 ghost use Rattle.std.specs.List.{AllByRecursion, list_any};
-ghost use Rattle.kt_tree.specs.Rising.{IsRising};
+ghost use Rattle.kt_rec.specs.Rising.{IsRising};
 
 use std::alloc::{AllocError, Global};
 

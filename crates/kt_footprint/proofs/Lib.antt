@@ -1,2 +1,5 @@
 pub mod Gathering
 pub mod RoundTripLemmas
+pub mod IndexLemmas
+pub mod CheckLemmas
+pub mod GoRoundLemmas

@@ -8,3 +8,4 @@ pub mod StruckLemmas
 pub mod GroupLemmas
 pub mod FinalLemmas
 pub mod GoodLemmas
+pub mod CutLemmas

@@ -72,6 +72,10 @@ ground_up_loss rows cut event cdfs row place =
     let loss : Item → ℕ = λ other. raw_loss rows event cdfs other place in
     final_loss cut (item_tiv rows row) (coverage_total loss rows.items row.coverage_id) (total_before loss rows.items row) (loss row) place
 
+-- the ground-up losses of a coverage's items at a place, added
+abbrev pub coverage_loss : Rows → Bool → ℕ → List Cdf → ℕ → ℕ → ℕ
+coverage_loss rows cut event cdfs coverage place = coverage_total (λ row. ground_up_loss rows cut event cdfs row place) rows.items coverage
+
 -- ---- the records
 
 -- the pair of a place, where its loss is above 0

@@ -9,5 +9,4 @@ pub mod Sums
 pub mod Gathered
 pub mod StruckItems
 pub mod Groups
-pub mod CutLaws
 pub mod Examples

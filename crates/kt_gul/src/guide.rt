@@ -18,7 +18,7 @@ const GROUP_BITS: u32 = 12;
 const GROUP: u64 = 4_096_000_000;
 
 /// The damage of a bin as a line over the random numbers: both are parts of the whole.
-#[derive(Clone, Copy, Debug)]
+#[derive(Clone, Copy)]
 struct Line {
     damage: f64,
     slope: f64,
@@ -26,7 +26,7 @@ struct Line {
 }
 
 /// What is guessed from, of one distribution.
-#[derive(Debug, Drop)]
+#[derive(Drop)]
 pub(crate) struct Guide {
     /// For each group the first bin that ends in it or above.
     places: Vec<usize>,
@@ -59,10 +59,11 @@ impl Guide {
         let mut places = Vec::with_capacity(alloc, GROUPS)?;
         let mut lines = Vec::with_capacity(alloc, bins.len())?;
         let mut before = 0.0;
-        for (place, (bin, damage)) in bins.iter().zip(dictionary.iter()).enumerate() {
+        for place in 0..bins.len().min(dictionary.len()) {
+            let bin = bins[place];
             let groups = (bin.prob_to / GROUP).min(GROUPS as u64 - 1) as usize + 1;
             places.resize(groups.max(places.len()), place)?;
-            lines.push(line_of(bin, damage, before))?;
+            lines.push(line_of(&bin, &dictionary[place], before))?;
             before = nearest_u64_to_f64(bin.prob_to);
         }
         Ok(Guide { places, lines })

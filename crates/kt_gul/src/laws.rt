@@ -1,11 +1,18 @@
 //! Theorems about ground-up losses, as functions with an empty body.
 //! The rules: docs/CALCULATION.md, "Coverage cut".
-ghost use Rattle.std.specs.Prelude.{◌≡◌, ℕ, List};
-ghost use Rattle.kt_money.specs.Sharing.{share_out};
-ghost use Rattle.kt_gul.specs.CutLaws.{parts_by_place};
+ghost use Rattle.std.specs.Prelude.{◌≡◌, ◌<◌, ◌≤◌, ℕ, List, true, false};
+ghost use Rattle.kt_checks.specs.TableChecks.{tiv_of};
+ghost use Rattle.kt_rec.specs.declared.exposure.Item.{Item};
+ghost use Rattle.kt_stream.specs.declared.entry.Cdf.{Cdf};
+ghost use Rattle.kt_gul.specs.GroundUp.{coverage_loss, ground_up_loss};
 
-/// The parts that the cut gives to the items of a coverage in order, each by the losses before it, are the shares of the
-/// insured value by the losses.
-pub fn parts_are_shares()
-    ensures { (tiv : ℕ) (losses : List ℕ) → parts_by_place tiv losses ≡ share_out tiv losses }
-{}
+use kt_tables::Portfolio;
+
+/// The insured value of a coverage is shared out to its items to the cent: where the losses without the cut pass it, those
+/// with the cut add exactly to it, and elsewhere they are the same; at each place but the first, that of the deviation.
+pub fn items_share_the_insured_value(portfolio: &Portfolio)
+    ensures shared { (event coverage place : ℕ) (cdfs : List Cdf) → 1 ≤ place → tiv_of portfolio.now.rows.coverages coverage < coverage_loss portfolio.now.rows false event cdfs coverage place → coverage_loss portfolio.now.rows true event cdfs coverage place ≡ tiv_of portfolio.now.rows.coverages coverage }
+    ensures plain { (event coverage place : ℕ) (cdfs : List Cdf) (row : Item) → 1 ≤ place → coverage_loss portfolio.now.rows false event cdfs coverage place ≤ tiv_of portfolio.now.rows.coverages coverage → row.coverage_id ≡ coverage → ground_up_loss portfolio.now.rows true event cdfs row place ≡ ground_up_loss portfolio.now.rows false event cdfs row place }
+{
+    portfolio.is_valid();
+}

@@ -12,7 +12,7 @@ use kt_stream::Bin;
 const WHOLE: u128 = 1_000_000_000_000_000_000;
 
 /// The mean and the deviation of a damage, in units of 10^-18 of the insured value.
-#[derive(Clone, Copy, Debug)]
+#[derive(Clone, Copy)]
 pub struct DamageMoments {
     /// The mean.
     pub(crate) mean: u64,

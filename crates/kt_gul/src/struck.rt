@@ -13,7 +13,7 @@ use kt_tables::Portfolio;
 use std::alloc::{AllocError, Global};
 
 /// An item that an event strikes. They stand by coverage, and then by id.
-#[derive(Clone, Copy, Debug, Drop)]
+#[derive(Clone, Copy, Drop)]
 pub struct StruckItem {
     /// The item.
     pub(crate) item: Item,

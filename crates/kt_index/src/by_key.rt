@@ -17,7 +17,7 @@ pub trait Keyed: Copy + Drop {
 }
 
 /// Rows by rising key. Contracts see the list of the rows in that order.
-#[derive(Debug, Drop)]
+#[derive(Drop)]
 pub struct ByKey<T: Keyed> {
     rows: Vec<T>,
 }

@@ -13,7 +13,7 @@ use std::alloc::{AllocError, Global};
 use std::collections::{HashMap, HashSet};
 
 /// A unit whose losses are added to a summary of a set.
-#[derive(Clone, Copy, Debug, PartialEq, Eq, Drop)]
+#[derive(Clone, Copy, Drop)]
 pub struct SummaryUnit {
     /// The summary set.
     pub set: u32,
@@ -24,7 +24,7 @@ pub struct SummaryUnit {
 }
 
 /// A coverage that an item or a unit is of.
-#[derive(Clone, Copy, Debug, PartialEq, Eq, Drop)]
+#[derive(Clone, Copy, Drop)]
 pub struct UnitCoverage {
     /// The item or unit.
     pub unit: u32,

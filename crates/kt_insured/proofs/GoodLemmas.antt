@@ -6,12 +6,12 @@ use Rattle.std.specs.Map.{lookup}
 use Rattle.std.proofs.lemmas.List.Elements.{All-from_recursion, recursion_from_All}
 use Rattle.kt_rec.specs.Ranges.{IsFmXref}
 use Rattle.kt_rec.specs.declared.financial.FmXref.{FmXref}
-use Rattle.kt_checks.specs.OutputChecks.{climbed}
+use Rattle.kt_keys.specs.Climbing.{climbed}
 use Rattle.kt_stream.specs.declared.entry.LossRecord.{LossRecord}
 use Rattle.kt_stream.specs.Losses.{IsLoss}
 use Rattle.kt_stream.specs.Pairs.{IsId}
 use Rattle.kt_runs.specs.RunLosses.{AreWithin, event_of, run_loss}
-use Rattle.kt_tree.specs.Rising.{rising}
+use Rattle.kt_rec.specs.Rising.{rising}
 use Rattle.kt_tree.specs.Sharing.{allocated}
 use Rattle.kt_tree.specs.SharingLaws.{allocated-sum}
 use Rattle.kt_tree.specs.Sums.{sum_by-agree}

@@ -9,8 +9,8 @@ use Rattle.std.specs.Map.{lookup}
 use Rattle.std.proofs.lemmas.Bool.{or_left, or_right}
 use Rattle.kt_rec.specs.declared.financial.FmXref.{FmXref}
 use Rattle.kt_keys.specs.Keys.{same_pair}
-use Rattle.kt_struck.specs.Members.{any-of, member-filter}
-use Rattle.kt_tree.specs.Rising.{rising, rising-member, rising-rises, rising-unique}
+use Rattle.kt_tree.specs.Members.{any-of, member-filter}
+use Rattle.kt_rec.specs.Rising.{rising, rising-member, rising-rises, rising-unique}
 use Rattle.kt_fmtree.specs.RisingLaws.{rising-filter}
 use Rattle.kt_structure.proofs.CoverageLemmas.{list_any-flat_map}
 use Rattle.kt_insured.specs.Index.{AreIndexed, ids_at, unit_output}

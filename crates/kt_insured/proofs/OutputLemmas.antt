@@ -9,7 +9,7 @@ use Rattle.std.proofs.lemmas.Bool.{eqb-true}
 use Rattle.std.proofs.lemmas.Grind.{flat_map-append}
 use Rattle.std.proofs.lemmas.List.{length-append, length-map}
 use Rattle.kt_keys.specs.Keys.{same_pair}
-use Rattle.kt_checks.specs.OutputChecks.{climbed}
+use Rattle.kt_keys.specs.Climbing.{climbed}
 use Rattle.kt_tree.specs.Sharing.{allocated}
 use Rattle.kt_tree.specs.Tree.{Tree, beneath, comes_to, is_unit, policy_loss}
 use Rattle.kt_shares.specs.LookupLaws.{filter-absent, lookup-none, zip-append}

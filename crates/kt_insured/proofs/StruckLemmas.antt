@@ -6,14 +6,14 @@ use Rattle.std.specs.List.{cons_option, filter, filter_map, flat_map, list_any, 
 use Rattle.std.proofs.lemmas.List.Elements.{filter_map-append}
 use Rattle.std.proofs.lemmas.List.Sums.{sum_by-cons}
 use Rattle.kt_rec.specs.declared.financial.FmXref.{FmXref}
-use Rattle.kt_checks.specs.OutputChecks.{climbed}
+use Rattle.kt_keys.specs.Climbing.{climbed}
 use Rattle.kt_stream.specs.declared.entry.LossRecord.{LossRecord}
 use Rattle.kt_runs.specs.RunLosses.{event_of}
 use Rattle.kt_runs.specs.Sidx.{pairs_of}
-use Rattle.kt_struck.specs.Members.{any-of, member-filter}
-use Rattle.kt_struck.specs.Struck.{is_struck, struck}
-use Rattle.kt_struck.specs.StruckLaws.{climbed-other, climbed-struck, policy_loss-none, policy_loss-struck, struck-is}
-use Rattle.kt_struck.specs.StruckSharing.{allocated-struck, part-none}
+use Rattle.kt_tree.specs.Members.{any-of, member-filter}
+use Rattle.kt_tree.specs.Struck.{is_struck, struck}
+use Rattle.kt_tree.specs.StruckLaws.{climbed-other, climbed-struck, policy_loss-none, policy_loss-struck, struck-is}
+use Rattle.kt_tree.specs.StruckSharing.{allocated-struck, part-none}
 use Rattle.kt_tree.specs.Tree.{Tree, IsTree, comes_to, is_unit, policy_loss}
 use Rattle.kt_shares.specs.Shares.{ids_of, insured_range, layers_of, part_of_id, record_with, sample_range, shares, taken_loss}
 use Rattle.kt_shares.specs.SharesLaws.{shares-sum}

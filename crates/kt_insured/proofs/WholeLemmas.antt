@@ -7,8 +7,9 @@ use Rattle.kt_rec.specs.Rows.{Rows}
 use Rattle.kt_rec.specs.declared.financial.FmXref.{FmXref}
 use Rattle.kt_keys.specs.Keys.{same_pair}
 use Rattle.kt_checks.specs.CheckLaws.{same_pair_equiv}
-use Rattle.kt_checks.specs.OutputChecks.{climbed, has_output}
-use Rattle.kt_tree.specs.OutputLaws.{HasOutputs}
+use Rattle.kt_keys.specs.Climbing.{climbed}
+use Rattle.kt_checks.specs.OutputChecks.{has_output}
+use Rattle.kt_structure.specs.OutputLaws.{HasOutputs}
 use Rattle.kt_tree.specs.Programme.{tree_of}
 use Rattle.kt_tree.specs.Sharing.{allocated}
 use Rattle.kt_tree.specs.SharingLaws.{allocated-sum}

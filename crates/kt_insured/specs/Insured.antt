@@ -4,11 +4,11 @@ use Rattle.std.specs.Prelude.{ℕ, suc, zero, ◌&&◌, cond, nat_eq, List, map,
 use Rattle.std.specs.List.{filter_map, list_any, sum, sum_by}
 use Rattle.std.specs.Map.{lookup}
 use Rattle.kt_rec.specs.declared.financial.FmXref.{FmXref}
-use Rattle.kt_checks.specs.OutputChecks.{climbed}
+use Rattle.kt_keys.specs.Climbing.{climbed}
 use Rattle.kt_stream.specs.declared.entry.LossRecord.{LossRecord}
 use Rattle.kt_runs.specs.RunLosses.{event_of}
 use Rattle.kt_runs.specs.Sidx.{pairs_of}
-use Rattle.kt_tree.specs.Rising.{rising}
+use Rattle.kt_rec.specs.Rising.{rising}
 use Rattle.kt_tree.specs.Tree.{Tree, policy_loss}
 use Rattle.kt_shares.specs.Shares.{insured_range, layers_of, part_of_id, record_with, sample_range, shares, taken_loss}
 use Rattle.kt_insured.specs.declared.sums.LayerSum.{LayerSum}

@@ -4,7 +4,7 @@ ghost use Rattle.std.specs.Prelude.{◌≡◌, ◌++◌, ℕ, nat_eq, map, IfOk,
 ghost use Rattle.std.specs.HashMap.{get};
 ghost use Rattle.std.specs.List.{filter, filter_map, flat_map};
 ghost use Rattle.std.specs.Map.{lookup};
-ghost use Rattle.kt_tree.specs.Rising.{rising};
+ghost use Rattle.kt_rec.specs.Rising.{rising};
 ghost use Rattle.kt_insured.specs.Index.{AreIndexed, ids_at, unit_output};
 
 use kt_fmtree::rising;

@@ -2,7 +2,7 @@
 //! The rule: docs/FINANCIAL_MODULE.md, "Insured losses".
 ghost use Rattle.std.specs.Prelude.{◌≡◌, ◌≤◌, map, All, IfOk};
 ghost use Rattle.kt_stream.specs.Losses.{IsLoss};
-ghost use Rattle.kt_runs.specs.RunLosses.{AreWithin, event_of};
+ghost use Rattle.kt_runs.specs.RunLosses.{AreWithin};
 ghost use Rattle.kt_tree.specs.Programme.{tree_of};
 ghost use Rattle.kt_tree.specs.Tree.{Tree};
 ghost use Rattle.kt_fmtree.specs.Parts.{IsProgramme};
@@ -17,21 +17,11 @@ use crate::made::Insured;
 use crate::outputs::records_of;
 use crate::sums::sums_of;
 use kt_fmtree::Programme;
-use kt_runs::RunEntry;
+use kt_runs::{RunEntry, event_of};
 use kt_shares::{ids_of, table_of};
 use kt_structure::Structure;
 use kt_tables::Portfolio;
 use std::alloc::{AllocError, Global};
-
-/// The event of the records of a run, 0 where there is none.
-fn event_of<T: RunEntry>(records: &[T]) -> u32
-    ensures value { result ≡ event_of (map T.entry_of records.now) }
-{
-    match records {
-        [] => 0,
-        [first, ..] => first.entry().event,
-    }
-}
 
 /// The insured losses of the records of a run, by a programme of the ids that have losses.
 fn insured_of<T: RunEntry>(

@@ -1,17 +1,17 @@
 -- How `kat` ends.
 use Rattle.std.proofs.Common.{◌≡◌, ◌⊎◌, ℕ, List, [], ◌∷◌, Option, Some, None, Result, Ok, Err, refl, sym, ap, ◌∙◌, subst, inl, inr}
-use Rattle.std.specs.Prelude.{IfSome, IsSomeAnd}
+use Rattle.std.specs.Prelude.{IfSome}
 use Rattle.std.proofs.lemmas.Bool.{false≢true}
 use Rattle.kt_out.specs.Counts.{Rose}
 use Rattle.kt_out.specs.InputFiles.{InputsState, CountsFault}
-use Rattle.kt_out.specs.NamedFiles.{File, FileMap}
+use Rattle.kt_out.specs.NamedFiles.{FileMap}
 use Rattle.kt_out.specs.OutputFiles.{OutputsState}
 use Rattle.kt_out.specs.Reading.{SourceState}
 use Rattle.kt_out.specs.Writing.{SinkState}
 use Rattle.kt_stream.specs.declared.kind.Shape.{Shape}
 use Rattle.kt_stream.specs.Stream.{Form}
-use Rattle.kt_ends.specs.Ending.{Made, PartlyMade, NoFault, NoCount, Counted, Ended}
-use Rattle.kt_ends.specs.Endings.{UnderWay, nothing, ends_for_memory, ends_missing, ends_refused, ends_unread_files}
+use Rattle.kt_ends.specs.Ending.{NoFault, NoCount, Counted, ToolEnds}
+use Rattle.kt_ends.specs.Endings.{UnderWay, makes_none, nothing, ends_for_memory, ends_missing, ends_refused, ends_unread_files}
 use Rattle.kt_ends.specs.Outcome.{Outcome}
 use Rattle.kt_ends.specs.Stops.{stop_status}
 use Rattle.kt_ends.specs.World.{Finds, world}
@@ -70,13 +70,10 @@ module _ (before now : InputsState) (outputs : OutputsState) (source : SourceSta
   write_rose (inr rose) = inr (rose.0, rose.1 ∙ same)
 
   on_from : (end : Status) → Counted (world before outputs source sink_mid) (world now outputs source sink_now) end → Counted (world before outputs source sink) (world now outputs source sink_now) end
-  on_from status.Done counted = no_count counted
-  on_from (status.Words why) counted = no_count counted
   on_from (status.Refused (refusal.Missing name)) counted = record { faults = no_fault counted.faults; missed = counted.missed }
-  on_from (status.Refused why) counted = no_count counted
   on_from status.ReadFault counted = record { rose = counted.rose; writes = record { outputs = counted.writes.outputs; sink = counted.writes.sink ∙ same }; misses = counted.misses }
   on_from status.WriteFault counted = record { rose = write_rose counted.rose; reads = record { inputs = counted.reads.inputs; source = counted.reads.source }; misses = counted.misses }
-  on_from status.NoMemory counted = no_count counted
+  on_from end counted = no_count counted
 
 -- what was counted behind calls that counted nothing was counted in all
 pub counted_from : (before mid now : InputsState) (outputs : OutputsState) (source : SourceState) (sink sink_mid sink_now : SinkState) (end : Status) → mid ≡ before → sink_mid.faults ≡ sink.faults → Counted (world mid outputs source sink_mid) (world now outputs source sink_now) end → Counted (world before outputs source sink) (world now outputs source sink_now) end
@@ -91,18 +88,6 @@ counted_none before now outputs source sink sink_now same same_faults = record {
 }
 
 -- ---- the files that a run makes: none
-
-none_partly : (files : FileMap) → PartlyMade [] files files
-none_partly files = record { made = []; fronts = tt; holds = λ name. inl refl }
-
-files_as_before : (written : Option FileMap) (end : Status) → IfSome written (λ files. IsSomeAnd written (λ now. Made [] files now end))
-files_as_before None end = tt
-files_as_before (Some files) status.Done = λ name. refl
-files_as_before (Some files) (status.Words why) = λ name. refl
-files_as_before (Some files) (status.Refused why) = λ name. refl
-files_as_before (Some files) status.ReadFault = none_partly files
-files_as_before (Some files) status.WriteFault = none_partly files
-files_as_before (Some files) status.NoMemory = none_partly files
 
 joined_none : {E : Type 0} (form : Form E) (shape : Shape) (contents : List (List ℕ)) → (joined_files form shape contents).files ≡ []
 joined_none form shape [] = refl
@@ -146,14 +131,14 @@ module _ (names : List (List ℕ)) (before now : InputsState) (outputs : Outputs
   made files bytes = kat_outcome names files
 
   -- files were found, and what is made of them was made
-  pub ends_together : (end : Status) → IfSome before.held (λ files. IsEnd (kat_outcome names files) sink.taken sink_now.taken end) → Counted (world before outputs source sink) (world now outputs source sink_now) end → now.held ≡ before.held → Ended found kat_uses made (world before outputs source sink) (world now outputs source sink_now) end
+  pub ends_together : (end : Status) → IfSome before.held (λ files. IsEnd (kat_outcome names files) sink.taken sink_now.taken end) → Counted (world before outputs source sink) (world now outputs source sink_now) end → now.held ≡ before.held → ToolEnds kat_uses made (world before outputs source sink) (world now outputs source sink_now) end
   ends_together end ended counted held =
       let told : (files : FileMap) (bytes : List ℕ) → found files bytes → IsEnd (kat_outcome names files) sink.taken sink_now.taken end =
       λ files bytes finds. subst (λ (known : Option FileMap). IfSome known (λ files. IsEnd (kat_outcome names files) sink.taken sink_now.taken end)) (finds.files_told refl) ended in
       record {
         verdict = λ files bytes finds. (told files bytes finds).verdict;
         output = λ files bytes finds. (told files bytes finds).output;
-        files = λ files bytes finds. subst (λ (wanted : List File). IfSome outputs.written (λ written. IsSomeAnd outputs.written (λ after. Made wanted written after end))) (sym (outcome_none (files_of names files))) (files_as_before outputs.written end);
+        files = λ files bytes finds. makes_none (kat_outcome names files).files end outputs outputs (outcome_none (files_of names files)) refl;
         counted = counted;
         at_end = λ used. absurd (false≢true used);
         kept = record { files = held; inputs = λ unused. absurd (false≢true (sym unused)); outputs = λ unused. refl; source = λ unused. refl; sink = λ unused. absurd (false≢true (sym unused)) };
@@ -169,7 +154,7 @@ module _ (names : List (List ℕ)) (before now : InputsState) (outputs : Outputs
       ap by_files told
 
   -- a file was not found
-  pub ends_unfound : (T : Type 0) (why : ToolStop) → IfSome before.held (λ files. TellsRefusal (files_of names files) why) → Looked {T = T} before now (Err why) → Ended (Finds kat_uses (world before outputs source sink)) kat_uses (λ files bytes. kat_outcome names files) (world before outputs source sink) (world now outputs source sink) (stop_status why)
+  pub ends_unfound : (T : Type 0) (why : ToolStop) → IfSome before.held (λ files. TellsRefusal (files_of names files) why) → Looked {T = T} before now (Err why) → ToolEnds kat_uses (λ files bytes. kat_outcome names files) (world before outputs source sink) (world now outputs source sink) (stop_status why)
   ends_unfound T (stop.Refused (refusal.Missing name)) tells looked = ends_missing _ kat_uses _ _ _ name refl looked refl refl refl (refused_is (refusal.Missing name) tells)
   ends_unfound T (stop.Refused why) tells looked = ends_refused _ kat_uses _ _ _ why (λ missing. missing) (way looked) (refused_is why tells)
   ends_unfound T stop.ReadFault tells looked = ends_unread_files _ kat_uses _ _ _ refl looked refl refl refl
@@ -177,8 +162,8 @@ module _ (names : List (List ℕ)) (before now : InputsState) (outputs : Outputs
   ends_unfound T stop.NoMemory tells looked = ends_for_memory _ kat_uses _ _ _ (way looked)
 
   -- the first file could not be read
-  pub ends_unread : CountsFault before now → Ended (Finds kat_uses (world before outputs source sink)) kat_uses (λ files bytes. kat_outcome names files) (world before outputs source sink) (world now outputs source sink) status.ReadFault
+  pub ends_unread : CountsFault before now → ToolEnds kat_uses (λ files bytes. kat_outcome names files) (world before outputs source sink) (world now outputs source sink) status.ReadFault
   ends_unread failed = ends_unread_files _ kat_uses _ _ _ refl failed refl refl refl
 
-  pub ends_wanting : now ≡ before → Ended (Finds kat_uses (world before outputs source sink)) kat_uses (λ files bytes. kat_outcome names files) (world before outputs source sink) (world now outputs source sink) status.NoMemory
+  pub ends_wanting : now ≡ before → ToolEnds kat_uses (λ files bytes. kat_outcome names files) (world before outputs source sink) (world now outputs source sink) status.NoMemory
   ends_wanting same = ends_for_memory _ kat_uses _ _ _ (way same)

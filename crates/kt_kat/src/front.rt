@@ -9,7 +9,7 @@ use kt_loop::read_piece;
 use kt_out::{Fault, Inputs};
 
 /// What files are: bytes of any kind, or streams of one kind.
-#[derive(Clone, Copy, Debug, PartialEq, Eq)]
+#[derive(Clone, Copy)]
 pub enum FileKind {
     /// Bytes of any kind.
     Plain,

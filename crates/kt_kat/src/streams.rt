@@ -2,7 +2,7 @@
 //! The rules: docs/COMMANDS.md, "kat".
 ghost use Rattle.std.specs.Prelude.{◌≡◌, ◌≤◌, None, OnOk, OnErr};
 ghost use Rattle.kt_kat.specs.Joining.{same_head, or_head};
-ghost use Rattle.kt_kat.specs.Stage.{file_stop};
+ghost use Rattle.kt_kat.specs.Stage.{file_stop, refused_file};
 
 use crate::file_step::FileStep;
 use crate::kinds::JoinedKind;
@@ -14,7 +14,7 @@ use kt_stream::{Head, put_head};
 use std::alloc::Global;
 
 /// What is written of one of several streams: the header of the first, and the records of each.
-#[derive(Clone, Copy)]
+#[derive(Drop)]
 struct JoinedStream<M> {
     kind: M,
     first: Option<Head>,
@@ -75,15 +75,22 @@ impl<M: JoinedKind> Stage<Head, M::Record, ()> for JoinedStream<M> {
     }
 }
 
-/// A stop at the file of this number: what refuses its stream refuses the file.
+/// What refuses the stream of the file of this number refuses the file.
+fn file_refusal(number: u32, refusal: Refusal) -> Refusal
+    ensures { result ≡ refused_file number refusal }
+{
+    match refusal {
+        Refusal::Stream(stop) => Refusal::File { file: number, stop },
+        other => other,
+    }
+}
+
+/// A stop at the file of this number.
 fn in_file(number: u32, stop: ToolStop) -> ToolStop
     ensures { result ≡ file_stop number stop }
 {
     match stop {
-        ToolStop::Refused(Refusal::Stream(stop)) => ToolStop::Refused(Refusal::File {
-            file: number,
-            stop,
-        }),
+        ToolStop::Refused(refusal) => ToolStop::Refused(file_refusal(number, refusal)),
         other => other,
     }
 }
@@ -99,7 +106,7 @@ fn first_of(first: Option<Head>, head: Option<Head>) -> Option<Head>
 }
 
 /// Writes the streams of files as one stream of their kind.
-#[derive(Clone, Copy)]
+#[derive(Drop)]
 pub(crate) struct StreamFiles<M> {
     kind: M,
     first: Option<Head>,

@@ -3,9 +3,9 @@
 ghost use Rattle.std.specs.Prelude.{◌≡◌, ◌<◌, ◌+◌, ℕ, List, length, Ok, IfSome};
 ghost use Rattle.kt_out.specs.OutputFiles.{OutputsState};
 ghost use Rattle.kt_out.specs.Reading.{SourceState};
-ghost use Rattle.kt_ends.specs.Ending.{Counted, Ended};
+ghost use Rattle.kt_ends.specs.Ending.{Counted, ToolEnds};
 ghost use Rattle.kt_ends.specs.Stops.{end_status};
-ghost use Rattle.kt_ends.specs.World.{world, Finds};
+ghost use Rattle.kt_ends.specs.World.{world};
 ghost use Rattle.kt_loop.specs.Settling.{IsEnd};
 ghost use Rattle.kt_words.specs.FileNames.{file_names};
 ghost use Rattle.kt_kat.specs.Files.{files_of};
@@ -39,47 +39,16 @@ fn write_together<I: Inputs, K: Sink>(
     ensures files { (I.state inputs.new).held ≡ (I.state inputs.old).held }
     ensures counted { (outputs : OutputsState) (source : SourceState) → Counted (world (I.state inputs.old) outputs source (K.state sink.old)) (world (I.state inputs.new) outputs source (K.state sink.new)) (end_status result) }
 {
+    macro_rules! streams {
+        ($kind:expr) => {
+            each_file(alloc, &mut StreamFiles::new($kind), words, sizes, inputs, sink)
+        };
+    }
     match kind {
-        FileKind::Cdf => {
-            each_file(
-                alloc,
-                &mut StreamFiles::new(CdfStreams),
-                words,
-                sizes,
-                inputs,
-                sink,
-            )
-        }
-        FileKind::Gul => {
-            each_file(
-                alloc,
-                &mut StreamFiles::new(GulStreams),
-                words,
-                sizes,
-                inputs,
-                sink,
-            )
-        }
-        FileKind::Loss => {
-            each_file(
-                alloc,
-                &mut StreamFiles::new(LossStreams),
-                words,
-                sizes,
-                inputs,
-                sink,
-            )
-        }
-        FileKind::Summary => {
-            each_file(
-                alloc,
-                &mut StreamFiles::new(SummaryStreams),
-                words,
-                sizes,
-                inputs,
-                sink,
-            )
-        }
+        FileKind::Cdf => streams!(CdfStreams),
+        FileKind::Gul => streams!(GulStreams),
+        FileKind::Loss => streams!(LossStreams),
+        FileKind::Summary => streams!(SummaryStreams),
         FileKind::Plain => each_file(alloc, &mut PlainBytes, words, sizes, inputs, sink),
     }
 }
@@ -93,7 +62,7 @@ pub fn kat<I: Inputs, K: Sink>(
 ) -> Result<(), ToolStop>
     requires { 0 < length (file_names words.now) }
     // The source and the output files are none of its objects: whatever they hold and have counted stays so.
-    ensures { (outputs : OutputsState) (source : SourceState) → Ended (Finds kat_uses (world (I.state inputs.old) outputs source (K.state sink.old))) kat_uses (λ files _. kat_outcome (file_names words.now) files) (world (I.state inputs.old) outputs source (K.state sink.old)) (world (I.state inputs.new) outputs source (K.state sink.new)) (end_status result) }
+    ensures { (outputs : OutputsState) (source : SourceState) → ToolEnds kat_uses (λ files _. kat_outcome (file_names words.now) files) (world (I.state inputs.old) outputs source (K.state sink.old)) (world (I.state inputs.new) outputs source (K.state sink.new)) (end_status result) }
 {
     let sizes = match find_sizes(alloc, words, inputs) {
         Ok(sizes) => sizes,

@@ -1,3 +1,4 @@
 pub mod FirstRowLemmas
 pub mod RisingLemmas
 pub mod LookupLemmas
+pub mod RefusalLemmas

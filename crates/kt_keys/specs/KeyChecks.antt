@@ -13,57 +13,13 @@ use Rattle.kt_keys.specs.Keys.{programme_of, policytc_of, profile_of, same_pair,
 abbrev pub key_check : {K : Type 0} → (K → K → Bool) → Need → ℕ → Table → List K → Option Refusal
 key_check same need stage table keys = refusal 2 (at_stage stage table) (is_loaded need stage table) (repeated_at same keys)
 
--- check 2 of events
-abbrev pub event_keys : Rows → Need → Option Refusal
-event_keys rows need = key_check nat_eq need 0 Events (map (λ row. row.event_id) rows.events)
-
--- check 2 of items
-abbrev pub item_keys : Rows → Need → Option Refusal
-item_keys rows need = key_check nat_eq need 0 Items (map (λ row. row.item_id) rows.items)
-
--- check 2 of coverages
-abbrev pub coverage_keys : Rows → Need → Option Refusal
-coverage_keys rows need = key_check nat_eq need 0 Coverages (map (λ row. row.coverage_id) rows.coverages)
-
--- check 2 of the footprint's index
-abbrev pub index_keys : Rows → Need → Option Refusal
-index_keys rows need = key_check nat_eq need 0 FootprintIdx (map (λ row. row.event_id) rows.footprint_idx)
-
--- check 2 of `vulnerability`
-abbrev pub vulnerability_keys : Rows → Need → Option Refusal
-vulnerability_keys rows need = key_check same_triple need 0 Vulnerability (map (λ row. (row.vulnerability_id, row.intensity_bin_id, row.damage_bin_id)) rows.vulnerability)
-
--- check 2 of `fm_xref`
-abbrev pub output_keys : Rows → Need → Option Refusal
-output_keys rows need = key_check nat_eq need 0 FmXref (map (λ row. row.output_id) rows.fm_xref)
-
--- check 2 of `gulsummaryxref`
-abbrev pub item_summary_keys : Rows → Need → Option Refusal
-item_summary_keys rows need = key_check same_pair need 0 GulSummaryXref (map (λ row. (row.item_id, row.summaryset_id)) rows.gulsummaryxref)
-
--- check 2 of `fmsummaryxref`
-abbrev pub output_summary_keys : Rows → Need → Option Refusal
-output_summary_keys rows need = key_check same_pair need 0 FmSummaryXref (map (λ row. (row.output_id, row.summaryset_id)) rows.fmsummaryxref)
-
--- check 2 of `returnperiods`
-abbrev pub return_period_keys : Rows → Need → Option Refusal
-return_period_keys rows need = key_check nat_eq need 0 ReturnPeriods (map (λ row. row.return_period) rows.returnperiods)
-
--- check 2 of `fm_programme` of the base, at 0, or of a stage
-abbrev pub source_keys : Rows → Need → ℕ → Option Refusal
-source_keys rows need stage = key_check same_pair need stage FmProgramme (map (λ row. (row.from_agg_id, row.level_id)) (programme_of rows stage))
-
--- check 2 of `fm_policytc` of the base, at 0, or of a stage
-abbrev pub terms_keys : Rows → Need → ℕ → Option Refusal
-terms_keys rows need stage = key_check same_triple need stage FmPolicytc (map (λ row. (row.layer_id, row.level_id, row.agg_id)) (policytc_of rows stage))
-
--- check 2 of `fm_profile` of the base, at 0, or of a stage
-abbrev pub profile_keys : Rows → Need → ℕ → Option Refusal
-profile_keys rows need stage = key_check nat_eq need stage FmProfile (map (λ row. row.policytc_id) (profile_of rows stage))
-
 -- what check 2 refuses in each financial table of the base, at 0, or of a stage
 abbrev pub programme_key_refusals : Rows → Need → ℕ → List (Option Refusal)
-programme_key_refusals rows need stage = source_keys rows need stage ∷ terms_keys rows need stage ∷ profile_keys rows need stage ∷ []
+programme_key_refusals rows need stage =
+    key_check same_pair need stage FmProgramme (map (λ row. (row.from_agg_id, row.level_id)) (programme_of rows stage))
+    ∷ key_check same_triple need stage FmPolicytc (map (λ row. (row.layer_id, row.level_id, row.agg_id)) (policytc_of rows stage))
+    ∷ key_check nat_eq need stage FmProfile (map (λ row. row.policytc_id) (profile_of rows stage))
+    ∷ []
 
 -- check 2 of the financial tables of the base, at 0, or of a stage
 abbrev pub programme_keys : Rows → Need → ℕ → Option Refusal
@@ -72,16 +28,16 @@ programme_keys rows need stage = first_of (programme_key_refusals rows need stag
 -- what check 2 refuses in each table, and in the stages
 abbrev pub key_refusals : Rows → Need → List (Option Refusal)
 key_refusals rows need =
-    event_keys rows need
-    ∷ item_keys rows need
-    ∷ coverage_keys rows need
-    ∷ index_keys rows need
-    ∷ vulnerability_keys rows need
+    key_check nat_eq need 0 Events (map (λ row. row.event_id) rows.events)
+    ∷ key_check nat_eq need 0 Items (map (λ row. row.item_id) rows.items)
+    ∷ key_check nat_eq need 0 Coverages (map (λ row. row.coverage_id) rows.coverages)
+    ∷ key_check nat_eq need 0 FootprintIdx (map (λ row. row.event_id) rows.footprint_idx)
+    ∷ key_check same_triple need 0 Vulnerability (map (λ row. (row.vulnerability_id, row.intensity_bin_id, row.damage_bin_id)) rows.vulnerability)
     ∷ programme_keys rows need 0
-    ∷ output_keys rows need
-    ∷ item_summary_keys rows need
-    ∷ output_summary_keys rows need
-    ∷ return_period_keys rows need
+    ∷ key_check nat_eq need 0 FmXref (map (λ row. row.output_id) rows.fm_xref)
+    ∷ key_check same_pair need 0 GulSummaryXref (map (λ row. (row.item_id, row.summaryset_id)) rows.gulsummaryxref)
+    ∷ key_check same_pair need 0 FmSummaryXref (map (λ row. (row.output_id, row.summaryset_id)) rows.fmsummaryxref)
+    ∷ key_check nat_eq need 0 ReturnPeriods (map (λ row. row.return_period) rows.returnperiods)
     ∷ over_stages (λ later. programme_keys rows need (later + 1)) 9
     ∷ []
 

@@ -3,6 +3,7 @@ pub mod Refusals
 pub mod Keys
 pub mod KeyChecks
 pub mod Units
+pub mod Climbing
 pub mod NameChecks
 pub mod StageLaws
 pub mod TotalLaws

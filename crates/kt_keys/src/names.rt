@@ -1,17 +1,36 @@
 //! The checks of what a table names but another table lacks.
-ghost use Rattle.std.specs.Prelude.{◌≡◌, ◌<◌, ◌&&◌, IfOk};
+ghost use Rattle.std.specs.Prelude.{◌≡◌, ◌<◌, ◌&&◌, map, nat_eq, IfOk};
 ghost use Rattle.kt_rec.specs.declared.table.Table.TheVariants.{FmPolicytc, FmProfile};
 ghost use Rattle.kt_rec.specs.Rows.{rows_of};
-ghost use Rattle.kt_keys.specs.Refusals.{is_loaded, over_stages};
+ghost use Rattle.kt_keys.specs.FirstRow.{unknown_at};
+ghost use Rattle.kt_keys.specs.Refusals.{is_loaded, over_stages, refusal};
 ghost use Rattle.kt_keys.specs.NameChecks.{coverage_check, damage_check, profile_check, output_units, has_units, output_unit_check, item_summary_check, output_summary_check, summary_checks};
 
-use crate::columns;
+use crate::keyed::{KeyedRow, keys_of};
+use crate::naming::{Naming, names_of};
 use crate::need::{Need, Refusal};
 use crate::rows::first_unknown;
 use crate::stages::{STAGES, base, has_both, has_financial, policytc, profile};
 use crate::units::top_targets;
 use kt_rec::{Table, TableId, Tables};
 use std::alloc::{AllocError, Global};
+
+/// The check with a number of rows that name what another table lacks.
+fn name_check<K: KeyedRow<u32>, R: Naming<u32>>(
+    alloc: Global,
+    number: u32,
+    table: TableId,
+    made: bool,
+    known: &[K],
+    rows: &[R],
+) -> Result<Option<Refusal>, AllocError>
+    ensures value { IfOk result (λ found. found ≡ refusal number table made (unknown_at nat_eq (map K.key_of known.now) (map R.named_of rows.now))) }
+{
+    let known = keys_of(alloc, known)?;
+    let named: Vec<u32> = names_of(alloc, rows)?;
+    let row = first_unknown(alloc, &known, &named)?;
+    Ok(Refusal::of(number, table, made, row))
+}
 
 /// Check 4: the coverage of an item is not in the coverages. The error is want of memory.
 pub fn coverage_check(
@@ -21,11 +40,15 @@ pub fn coverage_check(
 ) -> Result<Option<Refusal>, AllocError>
     ensures value { IfOk result (λ found. found ≡ coverage_check (rows_of tables.now) need.now) }
 {
-    let known = columns::coverage_ids(alloc, &tables.coverages)?;
-    let named = columns::coverages_of_items(alloc, &tables.items)?;
-    let row = first_unknown(alloc, &known, &named)?;
     let made = has_both(need, Table::Items, Table::Coverages);
-    Ok(Refusal::of(4, base(Table::Items), made, row))
+    name_check(
+        alloc,
+        4,
+        base(Table::Items),
+        made,
+        &tables.coverages,
+        &tables.items,
+    )
 }
 
 /// Check 7: the damage bin of a vulnerability is not in the dictionary. The error is want of memory.
@@ -36,11 +59,16 @@ pub fn damage_check(
 ) -> Result<Option<Refusal>, AllocError>
     ensures value { IfOk result (λ found. found ≡ damage_check (rows_of tables.now) need.now) }
 {
-    let known = columns::damage_bins(alloc, &tables.damage_bin_dict)?;
-    let named = columns::damages(alloc, &tables.vulnerability)?;
-    let row = first_unknown(alloc, &known, &named)?;
     let made = has_both(need, Table::Vulnerability, Table::DamageBinDict);
-    Ok(Refusal::of(7, base(Table::Vulnerability), made, row))
+    let bins = &tables.damage_bin_dict;
+    name_check(
+        alloc,
+        7,
+        base(Table::Vulnerability),
+        made,
+        bins,
+        &tables.vulnerability,
+    )
 }
 
 /// Whether the policy terms and the profiles of the base, at 0, or of a stage are loaded.
@@ -61,19 +89,19 @@ fn profile_check(
     requires { stage < 10 }
     ensures value { IfOk result (λ found. found ≡ profile_check (rows_of tables.now) need.now stage) }
 {
-    let known = columns::profile_ids(alloc, profile(tables, stage))?;
-    let named = columns::profiles_of_terms(alloc, policytc(tables, stage))?;
-    let row = first_unknown(alloc, &known, &named)?;
     let made = has_profiles(need, stage);
-    Ok(Refusal::of(
+    let terms = TableId {
+        stage,
+        table: Table::FmPolicytc,
+    };
+    name_check(
+        alloc,
         14,
-        TableId {
-            stage,
-            table: Table::FmPolicytc,
-        },
+        terms,
         made,
-        row,
-    ))
+        profile(tables, stage),
+        policytc(tables, stage),
+    )
 }
 
 /// Check 14: the profile of policy terms is not in the profiles. The error is want of memory.
@@ -99,7 +127,7 @@ fn output_units(alloc: Global, tables: &Tables, rule: u32) -> Result<Vec<u32>, A
     if rule == 0 {
         top_targets(alloc, tables)
     } else {
-        columns::item_ids(alloc, &tables.items)
+        keys_of(alloc, &tables.items)
     }
 }
 
@@ -112,7 +140,7 @@ pub fn output_unit_check(
     ensures value { IfOk result (λ found. found ≡ output_unit_check (rows_of tables.now) need.now) }
 {
     let known = output_units(alloc, tables, need.rule)?;
-    let named = columns::owners_of_outputs(alloc, &tables.fm_xref)?;
+    let named: Vec<u32> = names_of(alloc, &tables.fm_xref)?;
     let row = first_unknown(alloc, &known, &named)?;
     Ok(Refusal::of(15, base(Table::FmXref), has_units(need), row))
 }
@@ -140,11 +168,15 @@ fn item_summary_check(
 ) -> Result<Option<Refusal>, AllocError>
     ensures value { IfOk result (λ found. found ≡ item_summary_check (rows_of tables.now) need.now) }
 {
-    let known = columns::item_ids(alloc, &tables.items)?;
-    let named = columns::items_of_summaries(alloc, &tables.gulsummaryxref)?;
-    let row = first_unknown(alloc, &known, &named)?;
     let made = has_both(need, Table::GulSummaryXref, Table::Items);
-    Ok(Refusal::of(17, base(Table::GulSummaryXref), made, row))
+    name_check(
+        alloc,
+        17,
+        base(Table::GulSummaryXref),
+        made,
+        &tables.items,
+        &tables.gulsummaryxref,
+    )
 }
 
 /// Check 17 of outputs: a summary is of no output.
@@ -155,11 +187,15 @@ fn output_summary_check(
 ) -> Result<Option<Refusal>, AllocError>
     ensures value { IfOk result (λ found. found ≡ output_summary_check (rows_of tables.now) need.now) }
 {
-    let known = columns::output_ids(alloc, &tables.fm_xref)?;
-    let named = columns::outputs_of_summaries(alloc, &tables.fmsummaryxref)?;
-    let row = first_unknown(alloc, &known, &named)?;
     let made = has_both(need, Table::FmSummaryXref, Table::FmXref);
-    Ok(Refusal::of(17, base(Table::FmSummaryXref), made, row))
+    name_check(
+        alloc,
+        17,
+        base(Table::FmSummaryXref),
+        made,
+        &tables.fm_xref,
+        &tables.fmsummaryxref,
+    )
 }
 
 /// Check 17: a summary is of no item, or of no output. The error is want of memory.

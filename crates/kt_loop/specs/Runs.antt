@@ -60,10 +60,23 @@ IsRun key [] = Unit {0}
 IsRun key (last ∷ []) = Unit {0}
 IsRun key (first ∷ (second ∷ later)) = (goes_on (key first.entry) (key second.entry) ≡ true) × IsRun key (second ∷ later)
 
--- these runs are the records, each in one of them and in their order
+-- a run ends where the next begins: with a record that does not go on it
+abbrev pub EndsBefore : {E : Type 0} → (E → RunKey) → List (Placed E) → List (List (Placed E)) → Type 0
+EndsBefore key run [] = Unit {0}
+EndsBefore key run ([] ∷ later) = ⊥
+EndsBefore key run ((next ∷ more) ∷ later) = joins key run next ≡ false
+
+-- no run is empty, and none goes on in the next
+abbrev pub AreLongest : {E : Type 0} → (E → RunKey) → List (List (Placed E)) → Type 0
+AreLongest key [] = Unit {0}
+AreLongest key ([] ∷ later) = ⊥
+AreLongest key ((first ∷ more) ∷ later) = EndsBefore key (first ∷ more) later × AreLongest key later
+
+-- these runs are the records, each in one of them and in their order, and they are the longest
 pub record AreRuns {E : Type 0} (key : E → RunKey) (runs : List (List (Placed E))) (entries : List (Placed E)) : Type 0 where
   pub whole : flat_map (λ run. run) runs ≡ entries
   pub each : AllByRecursion (IsRun key) runs
+  pub longest : AreLongest key runs
 
 -- a distribution stands in a run by its event, its areaperil and its vulnerability
 abbrev pub cdf_key : Cdf → RunKey

@@ -4,7 +4,7 @@ use crate::reader::StreamReader;
 use kt_stream::{Entry, Head, Placed, RecordReader, StreamStop, laws};
 
 /// The header of a stream, with what else is known of its records.
-#[derive(Clone, Copy, Debug, PartialEq, Eq)]
+#[derive(Clone, Copy)]
 pub struct KnownHead<B> {
     /// What the stream's header says.
     pub head: Head,

@@ -51,8 +51,8 @@ pub fn what_is_read_with_more_known_can_be_taken<E: Entry, B>()
     what_is_read_fits::<E>();
 }
 
-/// The runs of a list of records, one after the other, are these records, and in each run each record goes on the one
-/// before it.
+/// The runs of a list of records, one after the other, are these records; each has a record, in each run each record goes
+/// on the one before it, and the first of a run does not go on the run before.
 pub fn runs_are_the_records<E>()
     ensures { (key : E → RunKey) (entries : List (Placed E)) → AreRuns key (runs_of key entries) entries }
 {}

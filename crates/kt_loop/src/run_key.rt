@@ -6,7 +6,7 @@ ghost use Rattle.kt_loop.specs.Runs.{goes_on};
 use kt_stream::{Cdf, LossRecord, SummaryRecord};
 
 /// The event of a record and its id: one number, or two, of which the first counts most.
-#[derive(Clone, Copy, Debug, PartialEq, Eq)]
+#[derive(Clone, Copy)]
 pub struct RunKey {
     /// The event's id.
     pub event: u32,

@@ -10,7 +10,7 @@ use Rattle.kt_rec.specs.declared.hazard.FootRow.{FootRow}
 use Rattle.kt_rec.specs.declared.hazard.Vulnerability.{Vulnerability}
 use Rattle.kt_tables.specs.Lookups.{damages_at}
 use Rattle.kt_model.specs.Distribution.{chance_of}
-use Rattle.kt_foot.specs.FootRows.{areaperil_total}
+use Rattle.kt_rec.specs.FootRows.{areaperil_total}
 use Rattle.kt_model.specs.Scratch.{AreChances, chance_at, chance_in}
 
 -- a sum over what a filter keeps

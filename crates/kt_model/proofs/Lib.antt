@@ -2,5 +2,7 @@ pub mod ChanceLemmas
 pub mod AddLemmas
 pub mod BinLemmas
 pub mod RecordLemmas
+mod SeenLemmas
+mod JudgeLemmas
 mod Worked
 pub mod PairLemmas

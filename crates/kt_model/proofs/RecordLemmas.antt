@@ -20,7 +20,7 @@ use Rattle.kt_stream.specs.declared.entry.Bin.{Bin}
 use Rattle.kt_stream.specs.declared.entry.Cdf.{Cdf}
 use Rattle.kt_tables.specs.Lookups.{item_pairs, pair_of, pair_order}
 use Rattle.kt_model.specs.Distribution.{bins_behind, meets, chance_of, distribution_of, record_with, record_of, distributions_of}
-use Rattle.kt_foot.specs.FootRows.{areaperil_total}
+use Rattle.kt_rec.specs.FootRows.{areaperil_total}
 
 -- bins make a record
 record_some : (event : ℕ) (pair : ℕ × ℕ) (bins : List Bin) → nat_eq (length bins) 0 ≡ false → record_with event pair bins ≡ Some (record { event = event; areaperil = pair.0; vulnerability = pair.1; bins = bins })

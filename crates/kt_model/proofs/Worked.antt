@@ -2,10 +2,10 @@
 use Rattle.std.proofs.Common.{◌≡◌, List, [], ◌∷◌, ◌++◌, refl, None, Some}
 use Rattle.kt_rec.specs.Rows.{Rows, no_rows}
 use Rattle.kt_rec.specs.declared.hazard.FootRow.{FootRow}
-use Rattle.kt_foot.specs.declared.foot_rows.ModelStop.TheVariants as stop
-use Rattle.kt_foot.specs.declared.foot_rows.RowCause.TheVariants as cause
+use Rattle.kt_rec.specs.declared.foot_rows.ModelStop.TheVariants as stop
+use Rattle.kt_rec.specs.declared.foot_rows.RowCause.TheVariants as cause
 use Rattle.kt_model.specs.Distribution.{distributions_of}
-use Rattle.kt_foot.specs.FootRows.{first_refused_row}
+use Rattle.kt_rec.specs.FootRows.{first_refused_row}
 
 -- an item at areaperil 1 with vulnerability 1, a damage bin at each of two intensities, and four bins
 

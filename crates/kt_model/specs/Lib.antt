@@ -1,2 +1,3 @@
 pub mod Distribution
 pub mod Scratch
+pub mod Seen

@@ -4,8 +4,10 @@
 mod bins;
 mod chances;
 mod event;
+mod foot_rows;
 mod pairs;
 mod shared;
 
 pub use event::distributions;
-pub use kt_foot::{ModelStop, RowCause};
+pub use foot_rows::check_rows;
+pub use kt_rec::{ModelStop, RowCause};

@@ -57,11 +57,12 @@ impl<'a, R: Files> Folder<'a, R> {
 }
 
 // Opens a file for reading. Its name is copied first, so that want of memory opens nothing. What is
-// no file, as a folder is none, is not opened and is a fault.
+// no file, as a folder is none, is not opened and is a fault. The system is asked for a text alone, so a name that
+// is none is not found.
 fn open<R: Files>(rt: &R, alloc: Global, name: &[u8]) -> Result<NamedFile<R::File>, Absent> {
     let name = name.to_vec(alloc).map_err(|_| Absent::OutOfMemory)?;
     let Ok(path) = str::from_utf8(&name) else {
-        return Err(Absent::Failed);
+        return Err(Absent::Missing);
     };
     let found = fs::metadata(rt, path).map_err(absence_of_error)?;
     if !found.is_file() {

@@ -6,9 +6,6 @@ ghost use Rattle.kt_out.specs.Adapters.{ok_or_failed};
 ghost use Rattle.kt_out.specs.Reading.{Reads};
 ghost use Rattle.kt_out.specs.Writing.{Writes};
 
-#[cfg(test)]
-mod tests;
-
 use crate::{Failed, Fault, Sink, Source};
 use std::io::{ErrorKind, Read, Write};
 use std::marker::Model;

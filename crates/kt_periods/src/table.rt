@@ -5,9 +5,9 @@ ghost use Rattle.kt_curve.specs.Losses.{Added, all_losses};
 ghost use Rattle.kt_curve.specs.Standing.{StandsFor};
 ghost use Rattle.kt_periods.specs.PeriodTables.{table_text};
 
-use kt_curve::{Cells, Curve, aal_heading, aal_text, lec_heading, lec_text};
+use kt_curve::{Cells, aal_heading, aal_text, lec_heading, lec_text};
 use kt_money::{Bytes, OutOfMemory};
-use kt_rec::Perspective;
+use kt_rec::{Curve, Perspective};
 
 /// A table of a summary stream over all periods.
 #[derive(Clone, Copy, Debug, PartialEq)]

@@ -12,11 +12,11 @@ ghost use Rattle.kt_rec.specs.declared.table.Table.TheVariants as table;
 
 use crate::stage::PeriodLosses;
 use crate::table::PeriodTable;
-use kt_curve::Curve;
 use kt_ends::ToolStop;
 use kt_loop::laws::what_is_read_can_be_taken;
 use kt_loop::run_stage;
 use kt_out::{Sink, Source};
+use kt_rec::Curve;
 use kt_stream::{SummaryReader, SummaryRecord};
 use kt_tables::Portfolio;
 use std::alloc::Global;

@@ -1,8 +1,10 @@
 //! The rows of the tables, and the names and sets of tables.
 #![tactic(auto)]
 
+mod curve;
 mod exposure;
 mod financial;
+mod foot_rows;
 mod hazard;
 mod name;
 mod periods;
@@ -13,8 +15,10 @@ mod table;
 mod table_set;
 mod tables;
 
+pub use curve::Curve;
 pub use exposure::{Coverage, Item};
 pub use financial::{FmPolicytc, FmProfile, FmProgramme, FmXref};
+pub use foot_rows::{ModelStop, RowCause};
 pub use hazard::{DamageBin, Event, FootRow, Footprint, FootprintIdx, Random, Vulnerability};
 pub use name::Name;
 pub use periods::{Occurrence, ReturnPeriod};

@@ -1,5 +1,7 @@
 //! The types of this crate may be sent to threads and shared by them.
+use crate::curve::Curve;
 use crate::financial::FmProfile;
+use crate::foot_rows::{ModelStop, RowCause};
 use crate::hazard::FootRow;
 use crate::name::Name;
 use crate::perspective::CellKey;
@@ -17,6 +19,9 @@ pub(crate) fn are_shared(
     key: &CellKey,
     row: &FootRow,
     profile: &FmProfile,
+    curve: &Curve,
+    stop: &ModelStop,
+    cause: &RowCause,
 ) {
     is_shared(tables);
     is_shared(set);
@@ -24,4 +29,7 @@ pub(crate) fn are_shared(
     is_shared(key);
     is_shared(row);
     is_shared(profile);
+    is_shared(curve);
+    is_shared(stop);
+    is_shared(cause);
 }

@@ -9,13 +9,13 @@ use Rattle.kt_rec.specs.Rows.{FinancialRows, Rows}
 use Rattle.kt_rec.specs.declared.financial.FmPolicytc.{FmPolicytc}
 use Rattle.kt_keys.specs.Keys.{no_financial, policytc_of, programme_of}
 use Rattle.kt_keys.specs.Units.{top_level}
-use Rattle.kt_checks.specs.OutputChecks.{climbed}
+use Rattle.kt_keys.specs.Climbing.{climbed}
 use Rattle.kt_tree.specs.Programme.{layers_in, or_first, tree_of}
-use Rattle.kt_tree.specs.Rising.{IsRising, distinct-from_rising, put, rising, rising-rises}
+use Rattle.kt_rec.specs.Rising.{IsRising, distinct-from_rising, rising, rising-all, rising-rises}
 use Rattle.kt_tree.specs.Sharing.{allocated}
 use Rattle.kt_tree.specs.Sums.{each_then, sum_by-flat_map, sum_by-one}
 use Rattle.kt_tree.specs.Tree.{Tree, IsTree, beneath, comes_to, is_unit}
-use Rattle.kt_struck.specs.Struck.{is_struck, struck}
+use Rattle.kt_tree.specs.Struck.{is_struck, struck}
 use Rattle.kt_fmtree.specs.RisingLaws.{rising-filter}
 use Rattle.kt_fmtree.specs.Parts.{Parts, IsProgramme}
 use Rattle.kt_shares.specs.LookupLaws.{filter-absent, lookup-none}
@@ -36,20 +36,6 @@ rising-few low (layer ∷ layers) rises least are most =
     let rest = rising-few (layer + 1) layers rises.1 (each_then (λ other. layer < other) (λ other. layer + 1 ≤ other) (λ other less. omega arith) layers rises.0) are.1 (omega arith) in
     omega arith
 
--- what holds of each of some ids holds of them by rising number
-each-put : (P : ℕ → Type 0) (id : ℕ) (ids : List ℕ) → P id → AllByRecursion P ids → AllByRecursion P (put id ids)
-each-put P id [] here all = (here, tt)
-each-put P id (first ∷ ids) here all = by (nat_lt id first) (nat_eq id first) (each-put P id ids here all.1)
-  where
-    by : (below same : Bool) → AllByRecursion P (put id ids) → AllByRecursion P (cond below (id ∷ (first ∷ ids)) (cond same (first ∷ ids) (first ∷ put id ids)))
-    by true same rest = (here, all)
-    by false true rest = all
-    by false false rest = (all.0, rest)
-
-each-rising : (P : ℕ → Type 0) (ids : List ℕ) → AllByRecursion P ids → AllByRecursion P (rising ids)
-each-rising P [] all = tt
-each-rising P (id ∷ ids) all = each-put P id (rising ids) all.0 (each-rising P ids all.1)
-
 -- the layers of rows are layers
 layers-each : (test : FmPolicytc → Bool) (rows : List FmPolicytc) → AllByRecursion IsFmPolicytc rows → AllByRecursion IsLayer (map (λ row. row.layer_id) (filter test rows))
 layers-each test [] all = tt
@@ -67,7 +53,7 @@ layers-few rows all level unit = by (rising (map (λ row. row.layer_id) (filter 
     test row = nat_eq row.level_id level && nat_eq row.agg_id unit
 
     are : AllByRecursion IsLayer (rising (map (λ row. row.layer_id) (filter test rows)))
-    are = each-rising IsLayer (map (λ row. row.layer_id) (filter test rows)) (layers-each test rows all)
+    are = rising-all IsLayer (map (λ row. row.layer_id) (filter test rows)) (layers-each test rows all)
 
     many : length (rising (map (λ row. row.layer_id) (filter test rows))) ≤ 50
     many =

@@ -6,9 +6,9 @@ use Rattle.std.proofs.lemmas.List.Sums.{sum_by-cons}
 use Rattle.kt_stream.specs.declared.entry.LossRecord.{LossRecord}
 use Rattle.kt_runs.specs.RunLosses.{loss_of}
 use Rattle.kt_runs.specs.Sidx.{pairs_of}
-use Rattle.kt_struck.specs.Struck.{is_struck, struck}
-use Rattle.kt_struck.specs.StruckLaws.{policy_loss-none}
-use Rattle.kt_struck.specs.StruckSharing.{allocated-struck}
+use Rattle.kt_tree.specs.Struck.{is_struck, struck}
+use Rattle.kt_tree.specs.StruckLaws.{policy_loss-none}
+use Rattle.kt_tree.specs.StruckSharing.{allocated-struck}
 use Rattle.kt_tree.specs.Sharing.{allocated}
 use Rattle.kt_tree.specs.SharingLaws.{allocated-sum}
 use Rattle.kt_tree.specs.Sums.{sum_by-agree, sum_by-filter, sum_by-flat_map}

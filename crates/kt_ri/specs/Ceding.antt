@@ -2,7 +2,7 @@
 -- The rule: docs/FINANCIAL_MODULE.md, "Reinsurance".
 use Rattle.std.specs.Prelude.{◌≡◌, ℕ, ◌≤◌, ◌<◌, false, nat_eq, List, length, map, All, Option, Some, None, slice_index}
 use Rattle.std.specs.List.{AllByRecursion, flat_map, list_any}
-use Rattle.kt_tree.specs.Rising.{IsRising}
+use Rattle.kt_rec.specs.Rising.{IsRising}
 use Rattle.kt_tree.specs.Tree.{Tree, beneath}
 use Rattle.kt_fmtree.specs.Parts.{Parts, IsProgramme}
 use Rattle.kt_shares.specs.Layers.{IsTopLayer, key_of}

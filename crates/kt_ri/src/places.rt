@@ -2,7 +2,7 @@
 //! The rule: docs/FINANCIAL_MODULE.md, "Reinsurance".
 ghost use Rattle.std.specs.Prelude.{◌≡◌, IfOk, slice_index_or, []};
 ghost use Rattle.std.specs.List.{AllByRecursion, flat_map};
-ghost use Rattle.kt_tree.specs.Rising.{IsRising};
+ghost use Rattle.kt_rec.specs.Rising.{IsRising};
 ghost use Rattle.kt_fmtree.specs.Parts.{HasProgramme};
 ghost use Rattle.kt_shares.specs.Layers.{IsTopLayer};
 ghost use Rattle.kt_ri.specs.Ceding.{AreLayers, ArePlaces, IsPlaceOf};

@@ -5,7 +5,7 @@ ghost use Rattle.kt_stream.specs.Losses.{IsLoss};
 ghost use Rattle.kt_runs.specs.RunLosses.{AreWithin};
 ghost use Rattle.kt_tree.specs.Tree.{Tree};
 ghost use Rattle.kt_fmtree.specs.Parts.{IsProgramme};
-ghost use Rattle.kt_struck.specs.Struck.{struck};
+ghost use Rattle.kt_tree.specs.Struck.{struck};
 ghost use Rattle.kt_shares.specs.Shares.{ids_of};
 ghost use Rattle.kt_ri.specs.Stages.{HasStage, IsStage};
 ghost use Rattle.kt_ri.specs.Reinsurance.{ceded_records, net_records};

@@ -1,6 +1,7 @@
 //! What a record of a run is held in.
 //! The rule: docs/STREAMS.md, "Runs".
-ghost use Rattle.std.specs.Prelude.{◌≡◌};
+ghost use Rattle.std.specs.Prelude.{◌≡◌, map};
+ghost use Rattle.kt_runs.specs.RunLosses.{event_of};
 
 use kt_stream::{LossRecord, Placed};
 
@@ -29,5 +30,15 @@ impl RunEntry for Placed<LossRecord> {
 
     fn entry(&self) -> &LossRecord {
         &self.entry
+    }
+}
+
+/// The event of the records of a run, 0 where there is none.
+pub fn event_of<T: RunEntry>(records: &[T]) -> u32
+    ensures value { result ≡ event_of (map T.entry_of records.now) }
+{
+    match records {
+        [] => 0,
+        [first, ..] => first.entry().event,
     }
 }

@@ -1,5 +1,6 @@
 pub mod Conversions
 pub mod Footprint
+pub mod FootprintLaws
 pub mod Index
 pub mod Laws
 pub mod Loading

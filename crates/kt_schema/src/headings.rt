@@ -7,7 +7,7 @@ use kt_rec::Table;
 
 /// The first line of a table's text: the names of its columns.
 #[tactic(auto, unfolding(kt_cells::specs::Lines::line, kt_cells::specs::Lines::fields_behind))]
-pub(crate) fn heading(table: Table) -> &'static [u8]
+pub fn heading(table: Table) -> &'static [u8]
     ensures { result.now ≡ line (heading_of table) }
 {
     match table {

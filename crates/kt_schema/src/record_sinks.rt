@@ -53,7 +53,7 @@ impl RowSink<4> for FootprintRecords {
 
 /// Takes rows and keeps none: what is read is judged, and no more.
 #[derive(Clone, Copy, Debug)]
-pub(crate) struct Judged;
+pub struct Judged;
 
 impl<const N: usize> RowSink<N> for Judged {
     ghost use Rattle.std.specs.Prelude.{⊤};

@@ -4,9 +4,6 @@ ghost use Rattle.kt_cells.specs.Reading.{table_rows};
 ghost use Rattle.kt_cells.specs.Stops.{Tells};
 ghost use Rattle.kt_cells.specs.Texts.{text_value};
 
-#[cfg(test)]
-mod tests;
-
 use crate::schema::{FOOTPRINT, Schema};
 use kt_cells::{TableStop, Values, read_grid};
 use kt_text::Grid;

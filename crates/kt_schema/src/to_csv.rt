@@ -15,8 +15,8 @@ use std::alloc::Global;
 /// The greatest number of periods.
 pub const MOST_PERIODS: u32 = 100_000;
 
-// The number that the header of a file ends with, 0 where it has no header.
-pub(crate) fn extra(
+/// The number that the header of a file ends with, from `least` to `most`; 0 where it has no header.
+pub fn extra(
     header: bool,
     number: u32,
     least: u32,
@@ -32,8 +32,8 @@ pub(crate) fn extra(
     }
 }
 
-// What stands behind the header of a file.
-pub(crate) fn body(header: bool, bytes: &[u8]) -> &[u8]
+/// What stands behind the header of a file.
+pub fn body(header: bool, bytes: &[u8]) -> &[u8]
     ensures { result.now ≡ body_of header bytes.now }
 {
     if header {

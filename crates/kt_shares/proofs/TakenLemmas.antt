@@ -14,7 +14,7 @@ use Rattle.kt_stream.specs.declared.entry.Pair.{Pair}
 use Rattle.kt_runs.specs.Adding.{Holds, IsAdded}
 use Rattle.kt_runs.specs.RunLosses.{loss_of, run_loss}
 use Rattle.kt_runs.specs.Sidx.{sidx_at}
-use Rattle.kt_tree.specs.Rising.{IsRising}
+use Rattle.kt_rec.specs.Rising.{IsRising}
 use Rattle.kt_tree.specs.Sums.{each_append, sum_by-below, sum_by-swap}
 use Rattle.kt_fmtree.specs.Carried.{loss_by}
 use Rattle.kt_fmtree.specs.RisingLaws.{not-missed}

@@ -8,9 +8,9 @@ use Rattle.std.proofs.Math.Path.{fun_ext}
 use Rattle.std.proofs.lemmas.List.Sums.{sum_by-cons}
 use Rattle.kt_stream.specs.declared.entry.LossRecord.{LossRecord}
 use Rattle.kt_runs.specs.RunLosses.{loss_of}
-use Rattle.kt_struck.specs.Members.{member-filter}
-use Rattle.kt_struck.specs.Struck.{is_struck, struck}
-use Rattle.kt_struck.specs.StruckLaws.{struck-id}
+use Rattle.kt_tree.specs.Members.{member-filter}
+use Rattle.kt_tree.specs.Struck.{is_struck, struck}
+use Rattle.kt_tree.specs.StruckLaws.{struck-id}
 use Rattle.kt_tree.specs.Tree.{Tree, IsTree}
 use Rattle.kt_shares.specs.Shares.{id_loss, ids_of, taken_loss}
 

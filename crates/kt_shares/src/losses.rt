@@ -7,7 +7,7 @@ ghost use Rattle.kt_stream.specs.Pairs.{IsPair};
 ghost use Rattle.kt_runs.specs.Adding.{Holds};
 ghost use Rattle.kt_runs.specs.RunLosses.{AreWithin, loss_of};
 ghost use Rattle.kt_runs.specs.Sidx.{sidx_at};
-ghost use Rattle.kt_tree.specs.Rising.{IsRising};
+ghost use Rattle.kt_rec.specs.Rising.{IsRising};
 ghost use Rattle.kt_shares.specs.Shares.{ids_of};
 ghost use Rattle.kt_shares.specs.Taken.{ArePlaced, IsPlacing, IsWithin, placed_loss, placed_sum};
 

@@ -1,5 +1,6 @@
 -- How the records of some bytes are gathered, whatever bytes follow.
-use Rattle.std.proofs.Common.{◌≡◌, ℕ, ◌+◌, ◌≤◌, List, [], ◌∷◌, ◌++◌, length, drop, Option, Some, None, refl, ap, ◌∙◌, arith, add-zero}
+use Rattle.std.proofs.Common.{◌≡◌, ℕ, ◌+◌, ◌≤◌, List, [], ◌∷◌, ◌++◌, length, drop, Option, Some, None, Result, Ok, Err, refl, sym, ap, ◌∙◌, arith, add-zero}
+use Rattle.std.specs.Prelude.{IfOk}
 use Rattle.std.proofs.lemmas.List.{drop-append-le, length-drop, drop-drop, append-nil}
 use Rattle.kt_stream.specs.declared.entry.Placed.{Placed}
 use Rattle.kt_stream.specs.declared.kind.Head.{Head}
@@ -80,13 +81,23 @@ moves_as None form shape whole other start bytes head records used same moves = 
 moves_as (Some stop) form shape whole other start bytes head records used same moves = record { kind = moves.kind; onward = λ more. same more ∙ moves.onward more }
 
 -- from a header on
-pub moved_header : {E : Type 0} (form : Form E) (shape : Shape) (h : Head) (start : ℕ) (bytes : List ℕ) (moved : Moved E) → header_in shape.kind bytes ≡ Got h
-    → Moves E form shape (behind_header form shape h start bytes (header_size shape.kind)) start bytes moved → Moves E form shape (from_start form shape None start bytes) start bytes moved
+pub moved_header : {E F : Type 0} (form : Form E) (shape : Shape) (h : Head) (start : ℕ) (bytes : List ℕ) (result : Result (Moved E) F) → header_in shape.kind bytes ≡ Got h
+    → IfOk result (λ moved. Moves E form shape (behind_header form shape h start bytes (header_size shape.kind)) start bytes moved) → IfOk result (λ moved. Moves E form shape (from_start form shape None start bytes) start bytes moved)
 unfolding reads_on
-moved_header form shape h start bytes moved is moves = record {
+moved_header form shape h start bytes (Err want) is moves = tt
+moved_header form shape h start bytes (Ok moved) is moves = record {
   within = moves.within;
   by = moves_as moved.stop form shape (behind_header form shape h start bytes (header_size shape.kind)) (from_start form shape None start bytes) start bytes moved.head moved.records.items moved.used (λ more.
       rw (kept_got (header_in shape.kind bytes) _ h is (header_kept shape.kind bytes more), drop-append-le (header_size shape.kind) bytes more (header_got shape.kind bytes h is).long) refl) moves.by;
+}
+
+-- behind a header
+pub moved_here : {E F : Type 0} (form : Form E) (shape : Shape) (h : Head) (start : ℕ) (bytes : List ℕ) (result : Result (Moved E) F)
+    → IfOk result (λ moved. Moves E form shape (behind_header form shape h start bytes 0) start bytes moved) → IfOk result (λ moved. Moves E form shape (from_start form shape (Some h) start bytes) start bytes moved)
+moved_here form shape h start bytes (Err want) moves = tt
+moved_here form shape h start bytes (Ok moved) moves = record {
+  within = moves.within;
+  by = moves_as moved.stop form shape (behind_header form shape h start bytes 0) (from_start form shape (Some h) start bytes) start bytes moved.head moved.records.items moved.used (λ more. ap (λ at. reads_on form shape (Some h) at (bytes ++ more)) (sym (add-zero start))) moves.by;
 }
 
 -- a header that is not whole

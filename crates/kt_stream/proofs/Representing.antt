@@ -1,6 +1,7 @@
 -- A reader stands for the bytes that it was given, piece by piece.
 use Rattle.std.proofs.Common.{◌≡◌, ℕ, ◌+◌, ◌-◌, ◌≤◌, ◌<◌, List, [], ◌∷◌, ◌++◌, length, take, drop, Option, Some, None, Result, Ok, Err, refl, sym, ap, ◌∙◌, append_assoc, arith}
-use Rattle.std.specs.Prelude.{MatchResult}
+use Rattle.std.specs.Prelude.{MatchResult, IfOk}
+use Rattle.kt_stream.specs.declared.reader.Next.{Next}
 use Rattle.std.proofs.lemmas.List.{length-append, length-take-le, length-drop, append-nil, take-append-drop}
 use Rattle.std.proofs.Math.Seq.{take-append_seam}
 use Rattle.kt_stream.specs.declared.entry.Placed.{Placed}
@@ -15,7 +16,7 @@ use Rattle.kt_stream.specs.declared.read.Read.TheVariants.{Short}
 use Rattle.kt_stream.specs.Header.{first_head}
 use Rattle.kt_stream.specs.Stream.{Form, End, Whole, Partial, Refused, Stream, Walk, walk, records_in, after, reads_on, overlong, too_long, within_room, stream_of, stream_limit, refusal}
 use Rattle.kt_stream.specs.Reader.{Reading, refused, goes_on, stream_by, stream_from, rest_end, end_by, stop_or_too_long, IsAt, Represents, Stands, IsFurther, Absorbs, Extends, Feeds}
-use Rattle.kt_stream.specs.Gather.{MovesBy}
+use Rattle.kt_stream.specs.Gather.{MovesBy, kept}
 use Rattle.kt_stream.proofs.Room.{room_within, room_beyond, room_moves, room_refuses}
 
 -- ---- a piece
@@ -75,6 +76,11 @@ joined_absorbs form old piece bytes new is absorbs = record {
   rests = absorbs.rests;
   place = further_as new.stop (new.start + length new.pending) (old.start + 0 + length bytes) (old.start + length old.pending + length piece) (omega (arith, length-append old.pending piece, ap length is)) absorbs.place;
 }
+
+-- the same of a call that may want memory
+pub if_joined : {E F : Type 0} (form : Form E) (old : Reading E) (piece bytes : List ℕ) (result : Result (Next E) F) → bytes ≡ old.pending ++ piece → IfOk result (λ next. Absorbs E form (emptied old) bytes (kept old next)) → IfOk result (λ next. Absorbs E form old piece (kept old next))
+if_joined form old piece bytes (Ok next) is absorbs = joined_absorbs form old piece bytes (kept old next) is absorbs
+if_joined form old piece bytes (Err want) is absorbs = tt
 
 rests_too_long : (head : Option Head) (pending : List ℕ) → too_long (rest_end head pending) ≡ Refused TooLong
 rests_too_long None pending = refl

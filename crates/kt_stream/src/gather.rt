@@ -91,11 +91,11 @@ pub fn read_on<E: Entry>(
     ensures { IfOk result (λ moved. Moves E E.form shape (λ more. reads_on E.form shape head start (bytes.now ++ more)) start bytes.now moved) }
 {
     match head {
-        Some(head) => Ok(gather(alloc, shape, head, start, bytes, 0, hint)?),
+        Some(head) => gather(alloc, shape, head, start, bytes, 0, hint),
         None => match header_of(shape.kind, bytes) {
             Read::Got(head) => {
                 let from = header_length(shape.kind);
-                Ok(gather(alloc, shape, head, start, bytes, from, hint)?)
+                gather(alloc, shape, head, start, bytes, from, hint)
             }
             Read::Short => Ok(Moved {
                 head: None,

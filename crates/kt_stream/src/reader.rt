@@ -207,12 +207,12 @@ impl<E: Entry> RecordReader<E> {
         ensures { IfOk result (λ next. Absorbs E E.form self.now piece.now (kept self.now next)) }
     {
         if self.pending.is_empty() {
-            return Ok(self.reading(piece)?);
+            return self.reading(piece);
         }
         let mut bytes = Vec::with_capacity(self.alloc, self.pending.len() + piece.len())?;
         bytes.extend_from_slice(self.pending.as_slice())?;
         bytes.extend_from_slice(piece)?;
-        Ok(self.reading(bytes.as_slice())?)
+        self.reading(bytes.as_slice())
     }
 
     /// What a piece of any length comes to.
@@ -222,7 +222,7 @@ impl<E: Entry> RecordReader<E> {
     {
         let room = self.room();
         if piece.len() <= room {
-            return Ok(self.absorbing(piece)?);
+            return self.absorbing(piece);
         }
         let mut next = self.absorbing(&piece[..room])?;
         next.stop = Some(or_too_long(next.stop));

@@ -5,9 +5,9 @@ use Rattle.std.proofs.Math.Path.{fun_ext}
 use Rattle.std.specs.List.{All, AllByRecursion, filter, filter_map, list_any}
 use Rattle.kt_rec.specs.Rows.{Rows}
 use Rattle.kt_keys.specs.Keys.{policytc_of}
-use Rattle.kt_checks.specs.OutputChecks.{climbed}
+use Rattle.kt_keys.specs.Climbing.{climbed}
 use Rattle.kt_tree.specs.Sums.{each_then, each_member, each_flat_map}
-use Rattle.kt_tree.specs.Rising.{IsRising}
+use Rattle.kt_rec.specs.Rising.{IsRising}
 use Rattle.kt_tree.specs.Tree.{Tree, is_unit, beneath}
 use Rattle.kt_tree.specs.Programme.{layers_in, or_first}
 use Rattle.kt_fmtree.specs.Parts.{Parts, IsNode, IsProgramme, nodes_at, units_at}

@@ -7,7 +7,7 @@ use Rattle.std.proofs.lemmas.Bool.{eqb-true}
 use Rattle.std.proofs.lemmas.Bool.Decides.{nat_tests}
 use Rattle.std.proofs.lemmas.List.Folds.{list_any-append}
 use Rattle.kt_rec.specs.declared.exposure.Coverage.{Coverage}
-use Rattle.kt_checks.specs.OutputChecks.{climbed, after}
+use Rattle.kt_keys.specs.Climbing.{climbed, after}
 use Rattle.kt_checks.specs.TableChecks.{tiv_of}
 use Rattle.kt_checks.specs.Worth.{total_is}
 use Rattle.kt_index.specs.declared.exposure.SummaryUnit.{SummaryUnit}

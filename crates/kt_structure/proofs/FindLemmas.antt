@@ -16,8 +16,8 @@ use Rattle.kt_keys.specs.Keys.{same_triple, programme_of}
 use Rattle.kt_keys.specs.Units.{top_level}
 use Rattle.kt_index.specs.Exposure.{IsTotalOf, summary_covers}
 use Rattle.kt_checks.specs.TableChecks.{tiv_of}
-use Rattle.kt_checks.specs.OutputChecks.{next_unit}
-use Rattle.kt_tree.specs.Rising.{put, rising, IsRising, rising-member, rising-rises, rising-unique}
+use Rattle.kt_keys.specs.Climbing.{next_unit}
+use Rattle.kt_rec.specs.Rising.{rising, IsRising, rising-member, rising-rises, rising-unique}
 use Rattle.kt_tree.specs.Tree.{is_unit}
 use Rattle.kt_fmtree.specs.RisingLaws.{rising-filter}
 use Rattle.kt_tree.specs.Programme.{terms_or_none, with_id, profile_with, terms_in, covered_ids, has_coverage, tiv_beneath}
@@ -70,20 +70,6 @@ linked-rows {X = X} f level unit small (row ∷ rows) all =
 pub linked-are : {X : Type 0} (f : X → Link) (links : List Link) (rows : List X) → ((key : ℕ) → filter (λ row. nat_eq (link_key row) key) links ≡ filter (λ row. nat_eq (link_key row) key) (map f rows)) → AllByRecursion (λ row. (f row).unit < 2 ^ 32) rows → (level unit : ℕ) → unit < 2 ^ 32 → linked links level unit ≡ rising (map (λ row. (f row).child) (filter (λ row. nat_eq (f row).level level && nat_eq (f row).unit unit) rows))
 linked-are f links rows kept small level unit fits =
     ap (λ found. rising (map (λ row. row.child) found)) (kept (level * 2 ^ 32 + unit)) ∙ ap rising (linked-rows f level unit fits rows small)
-
--- what holds of ids holds of them rising
-put-all : (P : ℕ → Type 0) (id : ℕ) (ids : List ℕ) → P id → AllByRecursion P ids → AllByRecursion P (put id ids)
-put-all P id [] here all = (here, tt)
-put-all P id (first ∷ ids) here all = by (nat_lt id first) (nat_eq id first) (put-all P id ids here all.1)
-  where
-    by : (below same : Bool) → AllByRecursion P (put id ids) → AllByRecursion P (cond below (id ∷ (first ∷ ids)) (cond same (first ∷ ids) (first ∷ put id ids)))
-    by true same rest = (here, all)
-    by false true rest = all
-    by false false rest = (all.0, rest)
-
-pub rising-all : (P : ℕ → Type 0) (ids : List ℕ) → AllByRecursion P ids → AllByRecursion P (rising ids)
-rising-all P [] all = tt
-rising-all P (id ∷ ids) all = put-all P id (rising ids) all.0 (rising-all P ids all.1)
 
 -- what holds of rows holds of those that pass a test, and of what is taken of them
 pub each-filter : {X : Type 0} (P : ℕ → Type 0) (take_of : X → ℕ) (test : X → Bool) (rows : List X) → AllByRecursion (λ row. P (take_of row)) rows → AllByRecursion P (map take_of (filter test rows))

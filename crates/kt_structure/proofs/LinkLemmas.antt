@@ -5,7 +5,7 @@ use Rattle.std.specs.Cmp.{nat_eq_equiv}
 use Rattle.std.specs.List.{AllByRecursion, cons_option, filter, filter_map, flat_map, list_any}
 use Rattle.std.proofs.lemmas.Bool.{eqb-true}
 use Rattle.std.proofs.lemmas.Bool.Decides.{nat_tests}
-use Rattle.kt_checks.specs.OutputChecks.{climbed, after}
+use Rattle.kt_keys.specs.Climbing.{climbed, after}
 use Rattle.kt_tree.specs.Sums.{each_flat_map}
 use Rattle.kt_tree.specs.Tree.{is_unit}
 use Rattle.kt_tree.specs.TreeLaws.{climbed-last}

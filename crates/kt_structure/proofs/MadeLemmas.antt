@@ -8,19 +8,19 @@ use Rattle.kt_rec.specs.Rows.{Rows}
 use Rattle.kt_rec.specs.declared.financial.FmProgramme.{FmProgramme}
 use Rattle.kt_keys.specs.Keys.{policytc_of, profile_of as profiles_of, programme_of}
 use Rattle.kt_keys.specs.Units.{top_level, top_targets}
-use Rattle.kt_checks.specs.OutputChecks.{after, climbed, next_unit}
-use Rattle.kt_tree.specs.Programme.{ids_in, or_first, tiv_beneath, tree_of}
-use Rattle.kt_tree.specs.ProgrammeLaws.{tree_of-is}
-use Rattle.kt_tree.specs.Rising.{IsRising, rising, rising-member, rising-rises}
+use Rattle.kt_keys.specs.Climbing.{after, climbed, next_unit}
+use Rattle.kt_tree.specs.Programme.{or_first, tiv_beneath, tree_of}
+use Rattle.kt_structure.specs.ProgrammeLaws.{tree_of-is}
+use Rattle.kt_rec.specs.Rising.{rising-member, rising-rises}
 use Rattle.kt_tree.specs.Tree.{is_unit}
 use Rattle.kt_tree.specs.TreeLaws.{climbed-last}
-use Rattle.kt_structure.specs.Plan.{AreTerms, found_terms, layer_link, link_key, link_of, linked}
+use Rattle.kt_structure.specs.Plan.{AreTerms, found_terms, layer_link, link_key, linked}
 use Rattle.kt_structure.specs.Ready.{IsReady}
-use Rattle.kt_structure.specs.Structure.{Fits, Kept, IsStructure}
+use Rattle.kt_structure.specs.Structure.{Kept, IsStructure}
 use Rattle.kt_structure.specs.declared.links.Link.{Link}
 use Rattle.kt_structure.specs.declared.terms.Terms.{Terms}
 use Rattle.kt_structure.proofs.AssemblyLemmas.{layers-found}
-use Rattle.kt_structure.proofs.FindLemmas.{each-filter, linked-are, rising-all, terms-found}
+use Rattle.kt_structure.proofs.FindLemmas.{terms-found}
 
 module _ (programme : List FmProgramme) where
   -- the units that losses go to fit 32 bits
@@ -100,35 +100,3 @@ structure-made rows stage ready kept terms links top_is next_is terms_are of_tab
       tops_rise = rising-rises (top_targets programme);
       children_rise = λ level unit. rising-rises (map (λ row. row.from_agg_id) (filter (λ row. nat_eq row.level_id level && nat_eq row.to_agg_id unit) programme));
     }
-
--- the links of all rows of a programme fit the tree of the tables
-pub whole-fits : (rows : Rows) (stage : ℕ) → IsReady rows stage → (kept : Kept) → IsStructure (tree_of rows stage) kept → (links : List Link) (ids tops : List ℕ)
-    → ((key : ℕ) → filter (λ row. nat_eq (link_key row) key) links ≡ filter (λ row. nat_eq (link_key row) key) (map link_of (programme_of rows stage)))
-    → ids ≡ ids_in (programme_of rows stage) → tops ≡ rising (top_targets (programme_of rows stage)) → Fits (tree_of rows stage) kept links ids tops
-whole-fits rows stage ready kept is links ids tops by_key ids_are tops_are =
-    let programme = programme_of rows stage in
-    record {
-      is = is.is;
-      top_level_is = is.top_level_is;
-      profiles_are = is.profiles_are;
-      layer_profiles_are = is.layer_profiles_are;
-      tivs_are = is.tivs_are;
-      layers_are = is.layers_are;
-      children_are = λ level unit least most small. linked-are link_of links programme by_key (recursion_from_All (λ row. row.to_agg_id < 2 ^ 32) programme (λ k d below. let is = ready.programme k d below in let most = is.to_agg_id.most in omega arith)) level unit small;
-      children_fit = children;
-      ids_are = ids_are;
-      ids_rise = subst IsRising (sym ids_are) is.ids_rise;
-      tops_are = tops_are;
-      tops_fit = subst (AllByRecursion (λ unit. unit < 2 ^ 32)) (sym tops_are) (rising-all (λ unit. unit < 2 ^ 32) (top_targets programme) (each-filter (λ unit. unit < 2 ^ 32) (λ (row : FmProgramme). row.to_agg_id) (λ row. nat_eq row.level_id (top_level programme)) programme (recursion_from_All (λ row. row.to_agg_id < 2 ^ 32) programme (λ k d below. let is = ready.programme k d below in let most = is.to_agg_id.most in omega arith))));
-      beneath_are = λ top. λ i. filter (λ id. is_unit top (climbed (is.next_is i) (is.top_level_is i) 1 id)) (ids_are i);
-    }
-  where
-    mapped : (programme : List FmProgramme) → AllByRecursion (λ row. row.from_agg_id < 2 ^ 32) programme → AllByRecursion (λ (row : Link). row.child < 2 ^ 32) (map link_of programme)
-    mapped [] all = tt
-    mapped (row ∷ programme) all = (all.0, mapped programme all.1)
-
-    children : (level unit : ℕ) → AllByRecursion (λ child. child < 2 ^ 32) (linked links level unit)
-    children level unit =
-        rising-all (λ child. child < 2 ^ 32) _ (subst (λ (found : List Link). AllByRecursion (λ child. child < 2 ^ 32) (map (λ row. row.child) found)) (sym (by_key (level * 2 ^ 32 + unit)))
-        (each-filter (λ child. child < 2 ^ 32) (λ (row : Link). row.child) (λ row. nat_eq (link_key row) (level * 2 ^ 32 + unit)) (map link_of (programme_of rows stage))
-        (mapped (programme_of rows stage) (recursion_from_All (λ row. row.from_agg_id < 2 ^ 32) (programme_of rows stage) (λ k d below. let is = ready.programme k d below in let most = is.from_agg_id.most in omega arith)))))

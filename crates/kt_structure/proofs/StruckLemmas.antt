@@ -4,18 +4,18 @@ use Rattle.std.specs.Prelude.{◌&&◌, ◌||◌, is_some}
 use Rattle.std.specs.Cmp.{nat_eq_equiv}
 use Rattle.std.proofs.lemmas.Bool.{eqb-true}
 use Rattle.std.specs.List.{AllByRecursion, filter, filter_map, flat_map, list_any}
-use Rattle.kt_checks.specs.OutputChecks.{climbed}
-use Rattle.kt_struck.specs.Members.{filter-both, member-filter}
-use Rattle.kt_struck.specs.Struck.{is_struck, struck, struck_children}
-use Rattle.kt_struck.specs.StruckLaws.{climbed-struck, struck-id, struck-is}
-use Rattle.kt_tree.specs.Rising.{IsRising, rising, rising-member, rising-rises, rising-unique}
+use Rattle.kt_keys.specs.Climbing.{climbed}
+use Rattle.kt_tree.specs.Members.{filter-both, member-filter}
+use Rattle.kt_tree.specs.Struck.{is_struck, struck, struck_children}
+use Rattle.kt_tree.specs.StruckLaws.{climbed-struck, struck-id, struck-is}
+use Rattle.kt_rec.specs.Rising.{IsRising, rising, rising-all, rising-member, rising-rises, rising-unique}
 use Rattle.kt_tree.specs.Sums.{each_then}
 use Rattle.kt_tree.specs.Tree.{Tree, beneath, comes_to, is_unit}
 use Rattle.kt_fmtree.specs.RisingLaws.{rising-filter}
 use Rattle.kt_structure.specs.Plan.{link_key, linked, links_up}
 use Rattle.kt_structure.specs.Structure.{Fits, Kept, IsStructure}
 use Rattle.kt_structure.specs.declared.links.Link.{Link}
-use Rattle.kt_structure.proofs.FindLemmas.{each-filter, linked-are, rising-all}
+use Rattle.kt_structure.proofs.FindLemmas.{each-filter, linked-are}
 use Rattle.kt_structure.proofs.LinkLemmas.{all-small, children-among, reached-among, reached-small}
 
 module _ (tree : Tree) (kept : Kept) (is : IsStructure tree kept) (ids : List ℕ) (fit : AllByRecursion (λ id. id < 2 ^ 32) ids) where

@@ -1,3 +1,5 @@
+pub mod ProgrammeLaws
+pub mod OutputLaws
 pub mod Plan
 pub mod Coverages
 pub mod Ready

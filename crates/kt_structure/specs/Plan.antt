@@ -3,13 +3,12 @@ use Rattle.std.specs.Prelude.{◌≡◌, ℕ, zero, suc, ◌+◌, ◌*◌, ◌^�
 use Rattle.std.specs.List.{AllByRecursion, filter, flat_map}
 use Rattle.std.specs.Map.{lookup}
 use Rattle.std.specs.HashMap.{get}
-use Rattle.kt_rec.specs.declared.financial.FmProgramme.{FmProgramme}
 use Rattle.kt_rec.specs.declared.financial.FmPolicytc.{FmPolicytc}
 use Rattle.kt_rec.specs.declared.financial.FmProfile.{FmProfile}
 use Rattle.kt_keys.specs.Keys.{same_pair, same_triple}
 use Rattle.kt_rules.specs.declared.profile.Profile.{Profile}
 use Rattle.kt_tree.specs.Programme.{terms_or_none, profile_with, with_id}
-use Rattle.kt_tree.specs.Rising.{rising}
+use Rattle.kt_rec.specs.Rising.{rising}
 use Rattle.kt_tree.specs.Tree.{Tree, IsTree}
 use Rattle.kt_structure.specs.declared.links.Link.{Link}
 use Rattle.kt_fmtree.specs.declared.node.Node.{Node}
@@ -25,10 +24,6 @@ link_and level child (Some unit) rest = record { level = level; unit = unit; chi
 abbrev pub links_up : (ℕ × ℕ → Option ℕ) → ℕ → ℕ → ℕ → List Link
 links_up next zero level unit = []
 links_up next (suc levels) level unit = link_and level unit (next (level, unit)) (links_up next levels (level + 1))
-
--- the link of a row of a programme
-abbrev pub link_of : FmProgramme → Link
-link_of row = record { level = row.level_id; unit = row.to_agg_id; child = row.from_agg_id }
 
 -- the key of a link: the level, and then the unit that losses come to
 abbrev pub link_key : Link → ℕ

@@ -15,7 +15,7 @@ use Rattle.kt_rules.specs.Profiles.{IsProfile, profile_of}
 use Rattle.kt_rules.specs.RuleLaws.{profile_of-is}
 use Rattle.kt_tables.specs.Portfolio.{PortfolioRows, IsPortfolio}
 use Rattle.kt_tables.specs.PortfolioLaws.{coverages_distinct, coverages_within, keys_kept, sizes_kept}
-use Rattle.kt_tree.specs.ProgrammeLaws.{HasTree}
+use Rattle.kt_structure.specs.ProgrammeLaws.{HasTree}
 
 -- the rows make a tree, and are in their ranges
 pub record IsReady (rows : Rows) (stage : ℕ) : Type 0 where

@@ -4,10 +4,10 @@ use Rattle.std.specs.Prelude.{◌≡◌, ℕ, ◌≤◌, ◌<◌, ◌^◌, true,
 use Rattle.std.specs.HashMap.{get}
 use Rattle.std.specs.List.{AllByRecursion, filter, list_any}
 use Rattle.kt_keys.specs.Keys.{same_pair}
-use Rattle.kt_checks.specs.OutputChecks.{climbed}
+use Rattle.kt_keys.specs.Climbing.{climbed}
 use Rattle.kt_rules.specs.declared.profile.Profile.{Profile}
 use Rattle.kt_tree.specs.Programme.{or_first}
-use Rattle.kt_tree.specs.Rising.{IsRising}
+use Rattle.kt_rec.specs.Rising.{IsRising}
 use Rattle.kt_tree.specs.Tree.{Tree, IsTree, beneath, is_unit}
 use Rattle.kt_structure.specs.Plan.{found_terms, linked}
 use Rattle.kt_structure.specs.declared.links.Link.{Link}

@@ -2,27 +2,19 @@
 //! The rule: docs/FINANCIAL_MODULE.md, "Levels".
 ghost use Rattle.std.specs.Prelude.{◌≡◌, ◌<◌, nat_eq, true, length, map, All, IfOk, slice_index};
 ghost use Rattle.std.specs.List.{AllByRecursion, list_any};
-ghost use Rattle.kt_rec.specs.Rows.{rows_of};
-ghost use Rattle.kt_rec.specs.declared.table.Table.TheVariants as table;
-ghost use Rattle.kt_keys.specs.Refusals.{is_loaded};
-ghost use Rattle.kt_tree.specs.Programme.{tree_of};
-ghost use Rattle.kt_struck.specs.Struck.{struck};
-ghost use Rattle.kt_tree.specs.Rising.{IsRising};
+ghost use Rattle.kt_tree.specs.Struck.{struck};
+ghost use Rattle.kt_rec.specs.Rising.{IsRising};
 ghost use Rattle.kt_tree.specs.Tree.{Tree};
 ghost use Rattle.kt_fmtree.specs.Parts.{IsProgramme};
 ghost use Rattle.kt_structure.specs.Plan.{build_levels, build_leaves};
-ghost use Rattle.kt_structure.specs.Ready.{IsReady};
 ghost use Rattle.kt_structure.specs.Structure.{Fits, HasFit, HasStructure, IsStructure, kept_by};
 
-use crate::links::{Link, links, links_up};
-use crate::outline::{beneath, ids, layers, reached, taken, terms, tops};
+use crate::links::{Link, links_up};
+use crate::outline::{beneath, layers, reached, taken, terms};
 use crate::plan::Plan;
-use crate::structure::{Structure, structure_at};
+use crate::structure::Structure;
 use kt_fmtree::{Node, Programme, places_of};
 use kt_index::ByKey;
-use kt_keys::programme;
-use kt_rec::Tables;
-use kt_tables::Portfolio;
 use std::alloc::{AllocError, Global};
 
 /// A copy of ids.
@@ -86,35 +78,4 @@ impl Structure {
         let made = self.made(alloc, &links, taken, reached)?;
         Ok(made)
     }
-}
-
-/// The whole programme of a stage.
-fn whole_at(alloc: Global, tables: &Tables, stage: u32) -> Result<Programme, AllocError>
-    requires stage { stage < 10 }
-    requires ready { IsReady (rows_of tables.now) stage }
-    ensures value { IfOk result (IsProgramme (tree_of (rows_of tables.now) stage)) }
-{
-    let structure = structure_at(alloc, tables, stage)?;
-    let rows = programme(tables, stage);
-    let links = links(alloc, rows)?;
-    let ids = ids(alloc, rows)?;
-    let tops = tops(alloc, rows)?;
-    let made = structure.made(alloc, &links, ids, tops)?;
-    Ok(made)
-}
-
-/// The whole programme of the base, at 0, or of a reinsurance stage, 1 to 9, whose `fm_programme` must be loaded. An error is
-/// want of memory.
-pub fn programme_of(
-    alloc: Global,
-    portfolio: &Portfolio,
-    stage: u32,
-) -> Result<Programme, AllocError>
-    requires stage { stage < 10 }
-    requires loaded { is_loaded portfolio.now.need stage table.FmProgramme ≡ true }
-    ensures value { IfOk result (IsProgramme (tree_of portfolio.now.rows stage)) }
-{
-    portfolio.is_valid();
-    let made = whole_at(alloc, portfolio.tables(), stage)?;
-    Ok(made)
 }

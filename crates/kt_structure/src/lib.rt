@@ -3,6 +3,7 @@
 
 mod building;
 mod coverage;
+pub mod laws;
 mod links;
 mod outline;
 mod plan;
@@ -10,5 +11,4 @@ mod shared;
 mod structure;
 mod terms;
 
-pub use building::programme_of;
 pub use structure::Structure;

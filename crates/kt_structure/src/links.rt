@@ -4,7 +4,7 @@ ghost use Rattle.std.specs.Prelude.{◌≡◌, ◌+◌, ◌++◌, ◌*◌, ◌^�
 ghost use Rattle.std.specs.HashMap.{get};
 ghost use Rattle.std.specs.List.{filter, flat_map};
 ghost use Rattle.kt_keys.specs.Keys.{same_pair};
-ghost use Rattle.kt_tree.specs.Rising.{rising};
+ghost use Rattle.kt_rec.specs.Rising.{rising};
 ghost use Rattle.kt_structure.specs.Plan.{link_key, link_of, links_up};
 
 use kt_fmtree::rising;
@@ -29,32 +29,6 @@ impl Keyed for Link {
     fn key(&self) -> u64 {
         pair_key(self.level, self.unit)
     }
-}
-
-/// The link of a row.
-fn link_of(row: &FmProgramme) -> Link
-    ensures value { result ≡ link_of row.now }
-{
-    Link {
-        level: row.level_id,
-        unit: row.to_agg_id,
-        child: row.from_agg_id,
-    }
-}
-
-/// The links of the rows of a programme.
-fn rows_of(alloc: Global, programme: &[FmProgramme]) -> Result<Vec<Link>, AllocError>
-    ensures value { IfOk result (λ links. links.items ≡ map link_of programme.now) }
-{
-    programme.iter().map(|row| link_of(row)).collect(alloc)
-}
-
-/// The links of a programme, by the units that losses come to.
-pub(crate) fn links(alloc: Global, programme: &[FmProgramme]) -> Result<ByKey<Link>, AllocError>
-    ensures kept { IfOk result (λ links. (key : ℕ) → filter (λ row. nat_eq (link_key row) key) links ≡ filter (λ row. nat_eq (link_key row) key) (map link_of programme.now)) }
-{
-    let rows = rows_of(alloc, programme)?;
-    ByKey::new(alloc, &rows)
 }
 
 /// Puts the links from an id up to its top behind others.

@@ -3,12 +3,11 @@
 ghost use Rattle.std.specs.Prelude.{◌≡◌, ℕ, nat_eq, map, option_map, is_some, IfOk};
 ghost use Rattle.std.specs.List.{filter, filter_map};
 ghost use Rattle.std.specs.HashMap.{get};
-ghost use Rattle.kt_checks.specs.OutputChecks.{climbed};
+ghost use Rattle.kt_keys.specs.Climbing.{climbed};
 ghost use Rattle.kt_keys.specs.Keys.{same_pair};
-ghost use Rattle.kt_tree.specs.Programme.{ids_in, or_first};
-ghost use Rattle.kt_keys.specs.Units.{top_targets};
+ghost use Rattle.kt_tree.specs.Programme.{or_first};
 ghost use Rattle.kt_structure.specs.Plan.{found_terms, layer_link, link_key, linked};
-ghost use Rattle.kt_tree.specs.Rising.{rising, IsRising};
+ghost use Rattle.kt_rec.specs.Rising.{rising, IsRising};
 ghost use Rattle.kt_tree.specs.Tree.{is_unit};
 
 use crate::links::{Link, children};
@@ -16,51 +15,10 @@ use crate::terms::Terms;
 use kt_checks::climbed;
 use kt_fmtree::rising;
 use kt_index::ByKey;
-use kt_keys::top_level;
-use kt_rec::{FmPolicytc, FmProgramme};
+use kt_rec::FmPolicytc;
 use kt_rules::Profile;
 use std::alloc::{AllocError, Global};
 use std::collections::HashMap;
-
-/// The units from which losses come at level 1.
-fn sources(alloc: Global, programme: &[FmProgramme]) -> Result<Vec<u32>, AllocError>
-    ensures value { IfOk result (λ ids. ids.items ≡ map (λ row. row.from_agg_id) (filter (λ row. nat_eq row.level_id 1) programme.now)) }
-{
-    programme
-        .iter()
-        .filter(|row| row.level_id == 1)
-        .map(|row| row.from_agg_id)
-        .collect(alloc)
-}
-
-/// The ids whose losses a programme takes, rising.
-pub(crate) fn ids(alloc: Global, programme: &[FmProgramme]) -> Result<Vec<u32>, AllocError>
-    ensures value { IfOk result (λ ids. ids.items ≡ ids_in programme.now) }
-{
-    let ids = sources(alloc, programme)?;
-    let ids = rising(ids)?;
-    Ok(ids)
-}
-
-/// The units of a level that losses go to.
-fn targets(alloc: Global, programme: &[FmProgramme], level: u32) -> Result<Vec<u32>, AllocError>
-    ensures value { IfOk result (λ units. units.items ≡ map (λ row. row.to_agg_id) (filter (λ row. nat_eq row.level_id level) programme.now)) }
-{
-    programme
-        .iter()
-        .filter(|row| row.level_id == level)
-        .map(|row| row.to_agg_id)
-        .collect(alloc)
-}
-
-/// The units of the top level, rising.
-pub(crate) fn tops(alloc: Global, programme: &[FmProgramme]) -> Result<Vec<u32>, AllocError>
-    ensures value { IfOk result (λ units. units.items ≡ rising (top_targets programme.now)) }
-{
-    let units = targets(alloc, programme, top_level(programme))?;
-    let units = rising(units)?;
-    Ok(units)
-}
 
 /// Whether the losses of an id come to a unit.
 fn is_taken(next: &HashMap<(u32, u32), u32>, id: u32) -> bool

@@ -10,7 +10,8 @@ use Rattle.kt_stream.specs.Losses.{IsLoss}
 use Rattle.kt_stream.specs.Pairs.{BeginsAbove, IsId, IsPair, IsSidx, RisingSidx}
 use Rattle.kt_stream.specs.Summary.{IsSummary}
 use Rattle.kt_runs.specs.RunLosses.{AreWithin, run_loss}
-use Rattle.kt_sum.specs.Summaries.{end_place, found_summaries, insert_id, least_place, members, places, record_with, rising, sidx_range, summaries_by, summary_of_run}
+use Rattle.kt_rec.specs.Rising.{rising, rising-all}
+use Rattle.kt_sum.specs.Summaries.{end_place, found_summaries, least_place, members, places, record_with, sidx_range, summaries_by, summary_of_run}
 use Rattle.kt_runs.specs.RunLosses.{event_of}
 use Rattle.kt_runs.specs.Sidx.{pair_of, pairs_of, sidx_at}
 use Rattle.kt_sum.proofs.GroupLemmas.{members_within}
@@ -59,21 +60,6 @@ record_good event summary exposure samples [] event_is summary_is few each rise 
 record_good event summary exposure samples (pair ∷ pairs) event_is summary_is few each rise later good =
     (record { event = event_is; summary = summary_is; exposure = few; pairs = record { some = omega arith; each = each; rising = rise } }, good)
 
--- what holds of an id and of others holds of each where it is put among them
-insert_each : (P : ℕ → Type 0) (id : ℕ) (ids : List ℕ) → P id → AllByRecursion P ids → AllByRecursion P (insert_id id ids)
-insert_each P id [] is each = (is, tt)
-insert_each P id (other ∷ ids) is each = by (nat_lt id other) (nat_eq id other) (insert_each P id ids is each.1)
-  where
-    by : (a b : Bool) → AllByRecursion P (insert_id id ids) → AllByRecursion P (cond a (id ∷ other ∷ ids) (cond b (other ∷ ids) (other ∷ insert_id id ids)))
-    by true b rest = (is, each)
-    by false true rest = each
-    by false false rest = (each.0, rest)
-
--- and of each where they are put in order
-rising_each : (P : ℕ → Type 0) (ids : List ℕ) → AllByRecursion P ids → AllByRecursion P (rising ids)
-rising_each P [] each = tt
-rising_each P (id ∷ ids) each = insert_each P id (rising ids) each.0 (rising_each P ids each.1)
-
 module _ (find : ℕ → Option ℕ) (exposure : ℕ → ℕ) (known : (id summary : ℕ) → find id ≡ Some summary → IsId summary) (bounded : (summary : ℕ) → exposure summary ≤ 100000000000000) where
   -- the summaries to which records come are ids
   found_ids : (records : List LossRecord) → AllByRecursion IsId (found_summaries find records)
@@ -103,4 +89,4 @@ module _ (find : ℕ → Option ℕ) (exposure : ℕ → ℕ) (known : (id summa
   summaries_good samples (entry ∷ records) within are =
       let each = recursion_from_All (IsLoss samples) (entry ∷ records) are in
       All-from_recursion (IsSummary samples) (summaries_by find exposure (entry ∷ records))
-      (ids_good samples (entry ∷ records) each.0.event within each (rising (found_summaries find (entry ∷ records))) (rising_each IsId (found_summaries find (entry ∷ records)) (found_ids (entry ∷ records))))
+      (ids_good samples (entry ∷ records) each.0.event within each (rising (found_summaries find (entry ∷ records))) (rising-all IsId (found_summaries find (entry ∷ records)) (found_ids (entry ∷ records))))

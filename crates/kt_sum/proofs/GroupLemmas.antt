@@ -10,7 +10,8 @@ use Rattle.kt_stream.specs.declared.entry.LossRecord.{LossRecord}
 use Rattle.kt_stream.specs.declared.entry.SummaryRecord.{SummaryRecord}
 use Rattle.kt_sum.specs.declared.mapped.Mapped.{Mapped}
 use Rattle.kt_runs.specs.RunLosses.{loss_of, run_loss}
-use Rattle.kt_sum.specs.Summaries.{is_summary, members, rising, summary_of_run}
+use Rattle.kt_rec.specs.Rising.{rising}
+use Rattle.kt_sum.specs.Summaries.{is_summary, members, summary_of_run}
 use Rattle.kt_runs.specs.Sidx.{pair_of, pairs_of, sidx_at}
 use Rattle.kt_runs.specs.Adding.{Holds}
 use Rattle.kt_sum.specs.Mapping.{IsGroupEnd, IsLeft, of_summary, record_at}

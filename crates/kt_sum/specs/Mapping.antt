@@ -5,7 +5,8 @@ use Rattle.std.specs.List.Sorted.{IsNonDecreasingBy}
 use Rattle.kt_stream.specs.declared.entry.LossRecord.{LossRecord}
 use Rattle.kt_stream.specs.declared.entry.SummaryRecord.{SummaryRecord}
 use Rattle.kt_sum.specs.declared.mapped.Mapped.{Mapped}
-use Rattle.kt_sum.specs.Summaries.{members, found_summaries, rising, summary_of_run, summaries_by}
+use Rattle.kt_rec.specs.Rising.{rising}
+use Rattle.kt_sum.specs.Summaries.{members, found_summaries, summary_of_run, summaries_by}
 
 -- no record
 abbrev pub no_record : LossRecord

@@ -1,7 +1,8 @@
 -- The summaries of a run: what the losses of its records come to in each summary of a set.
 -- The rules: docs/CALCULATION.md, "Summaries"; docs/STREAMS.md, "Records".
-use Rattle.std.specs.Prelude.{ℕ, ◌+◌, ◌-◌, Bool, false, cond, nat_eq, nat_lt, min, max, ℤ, List, [], ◌∷◌, map, Option, None, Some}
+use Rattle.std.specs.Prelude.{ℕ, ◌+◌, ◌-◌, Bool, false, nat_eq, min, max, ℤ, List, [], ◌∷◌, map, Option, None, Some}
 use Rattle.std.specs.List.{filter, filter_map, flat_map, fold, range_with_len}
+use Rattle.kt_rec.specs.Rising.{rising}
 use Rattle.kt_rec.specs.Rows.{Rows}
 use Rattle.kt_rec.specs.declared.perspective.Perspective.{Perspective}
 use Rattle.kt_stream.specs.declared.entry.LossRecord.{LossRecord}
@@ -47,16 +48,6 @@ members find records summary = filter (λ entry. is_summary summary (find entry.
 -- the summaries to which records come
 abbrev pub found_summaries : (ℕ → Option ℕ) → List LossRecord → List ℕ
 found_summaries find records = filter_map (λ entry. find entry.id) records
-
--- an id among rising ids
-abbrev pub insert_id : ℕ → List ℕ → List ℕ
-insert_id id [] = id ∷ []
-insert_id id (other ∷ ids) = cond (nat_lt id other) (id ∷ other ∷ ids) (cond (nat_eq id other) (other ∷ ids) (other ∷ insert_id id ids))
-
--- ids rising, each once
-abbrev pub rising : List ℕ → List ℕ
-rising [] = []
-rising (id ∷ ids) = insert_id id (rising ids)
 
 -- the record of a summary, where there are pairs
 abbrev pub record_with : ℕ → ℕ → ℕ → List Pair → Option SummaryRecord

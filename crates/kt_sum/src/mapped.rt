@@ -11,7 +11,7 @@ use kt_tables::Portfolio;
 use std::alloc::{AllocError, Global};
 
 /// A record that comes to a summary.
-#[derive(Clone, Copy, Debug, Drop)]
+#[derive(Clone, Copy, Drop)]
 pub struct Mapped {
     /// The summary.
     pub(crate) summary: u32,

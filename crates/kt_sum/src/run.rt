@@ -7,7 +7,6 @@ ghost use Rattle.kt_stream.specs.Losses.{IsLoss};
 ghost use Rattle.kt_stream.specs.Summary.{IsSummary};
 ghost use Rattle.kt_tables.specs.Lookups.{exposure_of, summary_in};
 ghost use Rattle.kt_runs.specs.RunLosses.{AreWithin};
-ghost use Rattle.kt_runs.specs.RunLosses.{event_of};
 ghost use Rattle.kt_sum.specs.Summaries.{members, summary_of_run, run_summaries};
 ghost use Rattle.kt_runs.specs.Adding.{Holds};
 ghost use Rattle.kt_sum.specs.Adding.{IsSpan};
@@ -17,20 +16,10 @@ use crate::group::{group_end, group_pairs};
 use crate::mapped::{Mapped, mapped_in_order};
 use crate::span::span_of;
 use kt_rec::Perspective;
-use kt_runs::{RunEntry, zeros};
+use kt_runs::{RunEntry, event_of, zeros};
 use kt_stream::{LossRecord, Placed, Records, SummaryRecord};
 use kt_tables::Portfolio;
 use std::alloc::{AllocError, Global};
-
-/// The event of the records of a run, 0 where there is none.
-fn event_of<T: RunEntry>(records: &[T]) -> u32
-    ensures value { result ≡ event_of (map T.entry_of records.now) }
-{
-    match records {
-        [] => 0,
-        [first, ..] => first.entry().event,
-    }
-}
 
 /// Appends the record of a summary, to which the records of a group come, where there are pairs. The sums are 0 before and
 /// afterwards.

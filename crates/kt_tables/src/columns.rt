@@ -1,72 +1,106 @@
-//! Columns of tables, with the keys that they are looked up by.
+//! What is taken of each row of a table, with the keys that it is looked up by.
 ghost use Rattle.std.specs.Prelude.{◌≡◌, map, IfOk};
 
 use crate::place::Place;
-use kt_index::SummaryUnit;
-use kt_rec::{Event, FmSummaryXref, FootprintIdx, GulSummaryXref, ReturnPeriod};
+use kt_index::{SummaryUnit, UnitCoverage};
+use kt_rec::{FmSummaryXref, FmXref, FootprintIdx, GulSummaryXref, Item};
 use std::alloc::{AllocError, Global};
 
-/// The events in table order.
-pub(crate) fn event_ids(alloc: Global, rows: &[Event]) -> Result<Vec<u32>, AllocError>
-    ensures value { IfOk result (λ ids. ids.items ≡ map (λ row. row.event_id) rows.now) }
-{
-    rows.iter().map(|row| row.event_id).collect(alloc)
+/// A row of which a part is taken.
+pub(crate) trait Part<T> {
+    // The part.
+    ghost part_of: { Self → T };
+
+    /// The part.
+    fn part(&self) -> T
+        ensures { result ≡ part_of self.now };
 }
 
-/// The return periods in table order.
-pub(crate) fn return_periods(alloc: Global, rows: &[ReturnPeriod]) -> Result<Vec<u32>, AllocError>
-    ensures value { IfOk result (λ periods. periods.items ≡ map (λ row. row.return_period) rows.now) }
-{
-    rows.iter().map(|row| row.return_period).collect(alloc)
-}
-
-/// The events with the places of their records.
-pub(crate) fn places_of(
+/// The part of each row. The error is want of memory.
+pub(crate) fn parts_of<T: Copy + Drop, R: Part<T>>(
     alloc: Global,
-    rows: &[FootprintIdx],
-) -> Result<Vec<(u32, Place)>, AllocError>
-    ensures value { IfOk result (λ places. places.items ≡ map (λ row. (row.event_id, record { at = row.offset; size = row.size })) rows.now) }
+    rows: &[R],
+) -> Result<Vec<T>, AllocError>
+    ensures value { IfOk result (λ parts. parts.items ≡ map R.part_of rows.now) }
 {
-    rows.iter()
-        .map(|row| {
-            let FootprintIdx {
-                event_id,
-                offset: at,
-                size,
-            } = *row;
-            (event_id, Place { at, size })
-        })
-        .collect(alloc)
+    rows.iter().map(|row| row.part()).collect(alloc)
 }
 
-/// The summaries of items.
-pub(crate) fn item_rows(
-    alloc: Global,
-    rows: &[GulSummaryXref],
-) -> Result<Vec<SummaryUnit>, AllocError>
-    ensures value { IfOk result (λ found. found.items ≡ map (λ row. record { set = row.summaryset_id; summary = row.summary_id; unit = row.item_id }) rows.now) }
-{
-    rows.iter()
-        .map(|row| SummaryUnit {
-            set: row.summaryset_id,
-            summary: row.summary_id,
-            unit: row.item_id,
-        })
-        .collect(alloc)
+/// An event with the place of its records.
+impl Part<(u32, Place)> for FootprintIdx {
+    ghost part_of = { λ row. (row.event_id, record { at = row.offset; size = row.size }) };
+
+    fn part(&self) -> (u32, Place) {
+        let FootprintIdx {
+            event_id,
+            offset: at,
+            size,
+        } = *self;
+        (event_id, Place { at, size })
+    }
 }
 
-/// The summaries of outputs.
-pub(crate) fn output_rows(
-    alloc: Global,
-    rows: &[FmSummaryXref],
-) -> Result<Vec<SummaryUnit>, AllocError>
-    ensures value { IfOk result (λ found. found.items ≡ map (λ row. record { set = row.summaryset_id; summary = row.summary_id; unit = row.output_id }) rows.now) }
-{
-    rows.iter()
-        .map(|row| SummaryUnit {
-            set: row.summaryset_id,
-            summary: row.summary_id,
-            unit: row.output_id,
-        })
-        .collect(alloc)
+/// The summary of an item.
+impl Part<SummaryUnit> for GulSummaryXref {
+    ghost part_of = { λ row. record { set = row.summaryset_id; summary = row.summary_id; unit = row.item_id } };
+
+    fn part(&self) -> SummaryUnit {
+        SummaryUnit {
+            set: self.summaryset_id,
+            summary: self.summary_id,
+            unit: self.item_id,
+        }
+    }
+}
+
+/// The summary of an output.
+impl Part<SummaryUnit> for FmSummaryXref {
+    ghost part_of = { λ row. record { set = row.summaryset_id; summary = row.summary_id; unit = row.output_id } };
+
+    fn part(&self) -> SummaryUnit {
+        SummaryUnit {
+            set: self.summaryset_id,
+            summary: self.summary_id,
+            unit: self.output_id,
+        }
+    }
+}
+
+/// The coverage of an item.
+impl Part<UnitCoverage> for Item {
+    ghost part_of = { λ row. record { unit = row.item_id; coverage = row.coverage_id } };
+
+    fn part(&self) -> UnitCoverage {
+        UnitCoverage {
+            unit: self.item_id,
+            coverage: self.coverage_id,
+        }
+    }
+}
+
+/// What an output is for.
+impl Part<(u32, u32)> for FmXref {
+    ghost part_of = { λ row. (row.output_id, row.agg_id) };
+
+    fn part(&self) -> (u32, u32) {
+        (self.output_id, self.agg_id)
+    }
+}
+
+/// The set of a summary.
+impl Part<u32> for SummaryUnit {
+    ghost part_of = { λ row. row.set };
+
+    fn part(&self) -> u32 {
+        self.set
+    }
+}
+
+/// The unit of a summary with its set, and the summary.
+impl Part<((u32, u32), u32)> for SummaryUnit {
+    ghost part_of = { λ row. ((row.unit, row.set), row.summary) };
+
+    fn part(&self) -> ((u32, u32), u32) {
+        ((self.unit, self.set), self.summary)
+    }
 }

@@ -1,44 +1,23 @@
 //! The exposures of the summaries of items and of outputs.
 //! The rules: docs/CALCULATION.md, "Summary".
-ghost use Rattle.std.specs.Prelude.{◌≡◌, ℕ, nat_eq, map, option_map, IfOk};
+ghost use Rattle.std.specs.Prelude.{◌≡◌, ℕ, nat_eq, option_map, IfOk};
 ghost use Rattle.std.specs.List.{filter_map};
 ghost use Rattle.std.specs.HashMap.{get};
 ghost use Rattle.kt_rec.specs.Rows.{rows_of};
 ghost use Rattle.kt_rec.specs.declared.perspective.Perspective.TheVariants as perspective;
 ghost use Rattle.kt_keys.specs.Keys.{same_pair};
-ghost use Rattle.kt_checks.specs.OutputChecks.{climbed};
+ghost use Rattle.kt_keys.specs.Climbing.{climbed};
 ghost use Rattle.kt_index.specs.Exposure.{unit_covers};
 ghost use Rattle.kt_tables.specs.Lookups.{item_summary_rows, output_summary_rows, lies_beneath, unit_has};
 ghost use Rattle.kt_tables.specs.Kept.{AreTivs, AreAddable, AreExposures};
 
+use crate::columns::parts_of;
 use kt_checks::{climbed, next_units};
 use kt_index::{SummaryUnit, UnitCoverage, exposures};
 use kt_keys::{first_values, programme, top_level};
-use kt_rec::{FmXref, Item, Tables};
+use kt_rec::{Item, Tables};
 use std::alloc::{AllocError, Global};
 use std::collections::HashMap;
-
-/// The coverages of items.
-fn item_coverages(alloc: Global, items: &[Item]) -> Result<Vec<UnitCoverage>, AllocError>
-    ensures value { IfOk result (λ pairs. pairs.items ≡ map (λ row. record { unit = row.item_id; coverage = row.coverage_id }) items.now) }
-{
-    items
-        .iter()
-        .map(|row| UnitCoverage {
-            unit: row.item_id,
-            coverage: row.coverage_id,
-        })
-        .collect(alloc)
-}
-
-/// What each output is for.
-fn output_pairs(alloc: Global, rows: &[FmXref]) -> Result<Vec<(u32, u32)>, AllocError>
-    ensures value { IfOk result (λ pairs. pairs.items ≡ map (λ row. (row.output_id, row.agg_id)) rows.now) }
-{
-    rows.iter()
-        .map(|row| (row.output_id, row.agg_id))
-        .collect(alloc)
-}
 
 /// The unit of a summary of an output, where the output is known.
 fn output_unit(units: &HashMap<u32, u32>, row: &SummaryUnit) -> Option<SummaryUnit>
@@ -111,7 +90,7 @@ fn unit_coverages(
     if rule == 0 {
         beneath(alloc, tables)
     } else {
-        item_coverages(alloc, &tables.items)
+        parts_of(alloc, &tables.items)
     }
 }
 
@@ -127,7 +106,7 @@ pub(crate) fn item_exposures(
     requires tivs { AreTivs (rows_of tables.now) tivs.now }
     ensures value { IfOk result (λ found. (rule : ℕ) → AreExposures perspective.Gul (rows_of tables.now) rule found) }
 {
-    let pairs = item_coverages(alloc, &tables.items)?;
+    let pairs = parts_of(alloc, &tables.items)?;
     exposures(alloc, rows, &pairs, tivs)
 }
 
@@ -144,7 +123,7 @@ pub(crate) fn output_exposures(
     requires tivs { AreTivs (rows_of tables.now) tivs.now }
     ensures value { IfOk result (AreExposures perspective.Il (rows_of tables.now) rule) }
 {
-    let pairs = output_pairs(alloc, &tables.fm_xref)?;
+    let pairs = parts_of(alloc, &tables.fm_xref)?;
     let aggs = first_values(alloc, &pairs)?;
     let units = output_units(alloc, &aggs, rows)?;
     let coverages = unit_coverages(alloc, tables, rule)?;

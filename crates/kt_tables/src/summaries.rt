@@ -1,7 +1,8 @@
 //! The summaries of items or of outputs, by set and id, with their exposures.
-ghost use Rattle.std.specs.Prelude.{◌≡◌, map, IfOk};
+ghost use Rattle.std.specs.Prelude.{◌≡◌, IfOk};
 ghost use Rattle.kt_tables.specs.Kept.{AreSummaries};
 
+use crate::columns::parts_of;
 use kt_index::SummaryUnit;
 use kt_keys::{pair_values, set_of};
 use std::alloc::{AllocError, Global};
@@ -18,22 +19,6 @@ pub(crate) struct Summaries {
     pub(crate) exposures: HashMap<(u32, u32), u64>,
 }
 
-/// The sets of the rows.
-fn sets_of(alloc: Global, rows: &[SummaryUnit]) -> Result<Vec<u32>, AllocError>
-    ensures value { IfOk result (λ sets. sets.items ≡ map (λ row. row.set) rows.now) }
-{
-    rows.iter().map(|row| row.set).collect(alloc)
-}
-
-/// The ids of the rows with their sets, and their summaries.
-fn pairs_of(alloc: Global, rows: &[SummaryUnit]) -> Result<Vec<((u32, u32), u32)>, AllocError>
-    ensures value { IfOk result (λ pairs. pairs.items ≡ map (λ row. ((row.unit, row.set), row.summary)) rows.now) }
-{
-    rows.iter()
-        .map(|row| ((row.unit, row.set), row.summary))
-        .collect(alloc)
-}
-
 impl Summaries {
     /// The summaries of rows with their exposures. An error is want of memory.
     pub(crate) fn new(
@@ -44,8 +29,8 @@ impl Summaries {
         ensures value { IfOk result (AreSummaries rows.now) }
         ensures exposures { IfOk result (λ summaries. summaries.exposures ≡ exposures) }
     {
-        let sets = sets_of(alloc, rows)?;
-        let pairs = pairs_of(alloc, rows)?;
+        let sets: Vec<u32> = parts_of(alloc, rows)?;
+        let pairs: Vec<((u32, u32), u32)> = parts_of(alloc, rows)?;
         Ok(Summaries {
             sets: set_of(alloc, &sets)?,
             by_id: pair_values(alloc, &pairs)?,

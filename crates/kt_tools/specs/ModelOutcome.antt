@@ -6,9 +6,9 @@ use Rattle.kt_out.specs.NamedFiles.{FileMap}
 use Rattle.kt_ends.specs.Outcome.{Outcome}
 use Rattle.kt_ends.specs.declared.status.Refusal.{Refusal}
 use Rattle.kt_ends.specs.declared.status.Refusal.TheVariants.{Row}
-use Rattle.kt_foot.specs.FootRows.{first_refused_row}
-use Rattle.kt_foot.specs.declared.foot_rows.ModelStop.{ModelStop}
-use Rattle.kt_foot.specs.declared.foot_rows.ModelStop.TheVariants as stop
+use Rattle.kt_rec.specs.FootRows.{first_refused_row}
+use Rattle.kt_rec.specs.declared.foot_rows.ModelStop.{ModelStop}
+use Rattle.kt_rec.specs.declared.foot_rows.ModelStop.TheVariants as stop
 use Rattle.kt_keys.specs.declared.need.Need.{Need}
 use Rattle.kt_load.specs.EventRows.{event_rows, footprint_name}
 use Rattle.kt_load.specs.FileNames.{table_at}

@@ -25,10 +25,10 @@ use Rattle.kt_periods.specs.PeriodTables.{aal_rows_outcome, lec_rows_outcome}
 use Rattle.kt_fmcalc.specs.Losses.{insured_rows_outcome, net_rows_outcome}
 use Rattle.kt_fmcalc.specs.Needs.{insured_need, net_need}
 use Rattle.kt_kat.specs.Outcome.{kat_outcome}
-use Rattle.kt_tools.specs.PeriodOutcome.{curve_need, curve_of}
+use Rattle.kt_tools.specs.PeriodOutcome.{curve_need}
 use Rattle.kt_words.specs.FileNames.{file_names}
 use Rattle.kt_words.specs.declared.command.Conversion.{Conversion}
-use Rattle.kt_words.specs.declared.command.CurveLetter.{CurveLetter}
+use Rattle.kt_rec.specs.declared.curve.Curve.{Curve}
 use Rattle.kt_words.specs.declared.stop.WordStop.{WordStop}
 use Rattle.kt_ends.specs.declared.status.Refusal.TheVariants.{TooLarge, Check}
 use Rattle.kt_ends.specs.declared.status.Status.TheVariants.{Words, Refused}
@@ -87,8 +87,8 @@ abbrev pub aal_outcome : FileMap → List ℕ → Outcome
 aal_outcome files source = with_tables (loaded files (need_of table.Occurrence)) (λ rows. aal_rows_outcome rows source)
 
 -- the exceedance curve of a letter of a summary stream, by the occurrences and return periods among the tables
-abbrev pub lec_outcome : CurveLetter → FileMap → List ℕ → Outcome
-lec_outcome letter files source = with_tables (loaded files curve_need) (λ rows. lec_rows_outcome (curve_of letter) rows source)
+abbrev pub lec_outcome : Curve → FileMap → List ℕ → Outcome
+lec_outcome curve files source = with_tables (loaded files curve_need) (λ rows. lec_rows_outcome curve rows source)
 
 -- the damage distributions of the events of the source, by the tables and the footprint
 abbrev pub model_outcome : FileMap → List ℕ → Outcome
@@ -106,7 +106,7 @@ tool_outcome words (Summarycalc items set rule) files source = summary_outcome i
 tool_outcome words (Eltcalc heading) files source = elt_outcome heading source
 tool_outcome words (Pltcalc heading) files source = plt_outcome heading files source
 tool_outcome words Aalcalc files source = aal_outcome files source
-tool_outcome words (Leccalc letter) files source = lec_outcome letter files source
+tool_outcome words (Leccalc curve) files source = lec_outcome curve files source
 tool_outcome words Kat files source = kat_outcome (file_names words) files
 tool_outcome words Getmodel files source = model_outcome files source
 tool_outcome words (Gulcalc samples cut) files source = gul_outcome samples cut files source

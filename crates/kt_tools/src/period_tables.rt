@@ -5,35 +5,17 @@ ghost use Rattle.kt_ends.specs.Stops.{end_status};
 ghost use Rattle.kt_ends.specs.World.{world};
 ghost use Rattle.kt_out.specs.OutputFiles.{OutputsState};
 ghost use Rattle.kt_tools.specs.Outcome.{aal_outcome, lec_outcome};
-ghost use Rattle.kt_tools.specs.PeriodOutcome.{curve_need as tables_needed, curve_of as curve_named};
+ghost use Rattle.kt_tools.specs.PeriodOutcome.{curve_need as tables_needed};
 ghost use Rattle.kt_tools.specs.Uses.{ToolEnds, command_uses};
 ghost use Rattle.kt_words.specs.declared.command.Command.TheVariants as Command;
 
 use kt_checks::Need;
-use kt_curve::Curve;
 use kt_ends::ToolStop;
 use kt_loading::{load_tables, need_of, with_table};
 use kt_out::{Inputs, Sink, Source};
 use kt_periods::{write_average_annual_losses, write_exceedance_curve};
-use kt_rec::{Table, TableSet};
-use kt_words::CurveLetter;
+use kt_rec::{Curve, Table, TableSet};
 use std::alloc::Global;
-
-/// The curve of a letter.
-fn curve_of(letter: CurveLetter) -> Curve
-    ensures { result ≡ curve_named letter }
-{
-    match letter {
-        CurveLetter::FullAep => Curve::FullAep,
-        CurveLetter::FullOep => Curve::FullOep,
-        CurveLetter::SampleAep => Curve::SampleAep,
-        CurveLetter::SampleOep => Curve::SampleOep,
-        CurveLetter::WheatAep => Curve::WheatAep,
-        CurveLetter::WheatOep => Curve::WheatOep,
-        CurveLetter::WheatmeanAep => Curve::WheatmeanAep,
-        CurveLetter::WheatmeanOep => Curve::WheatmeanOep,
-    }
-}
 
 /// What a curve needs of the tables: the occurrences and the return periods.
 fn curve_need() -> Need
@@ -70,17 +52,17 @@ pub fn aalcalc<I: Inputs, S: Source, K: Sink>(
 /// Nothing is written where the tables, the stream or a record are refused.
 pub fn leccalc<I: Inputs, S: Source, K: Sink>(
     alloc: Global,
-    letter: CurveLetter,
+    curve: Curve,
     inputs: &mut I,
     source: &mut S,
     sink: &mut K,
 ) -> Result<(), ToolStop>
     // The output files are none of its objects.
-    ensures { (outputs : OutputsState) → ToolEnds (command_uses (Command.Leccalc letter)) (lec_outcome letter) (world (I.state inputs.old) outputs (S.state source.old) (K.state sink.old)) (world (I.state inputs.new) outputs (S.state source.new) (K.state sink.new)) (end_status result) }
+    ensures { (outputs : OutputsState) → ToolEnds (command_uses (Command.Leccalc curve)) (lec_outcome curve) (world (I.state inputs.old) outputs (S.state source.old) (K.state sink.old)) (world (I.state inputs.new) outputs (S.state source.new) (K.state sink.new)) (end_status result) }
 {
     let portfolio = match load_tables(alloc, inputs, curve_need()) {
         Ok(portfolio) => portfolio,
         Err(stop) => return Err(stop),
     };
-    write_exceedance_curve(alloc, curve_of(letter), &portfolio, source, sink)
+    write_exceedance_curve(alloc, curve, &portfolio, source, sink)
 }

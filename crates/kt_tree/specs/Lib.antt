@@ -3,9 +3,11 @@ pub mod Tree
 pub mod TreeLaws
 pub mod Sharing
 pub mod SharingLaws
-pub mod Rising
 pub mod Programme
 pub mod ExampleRows
 pub mod Examples
-pub mod ProgrammeLaws
-pub mod OutputLaws
+pub mod Struck
+pub mod Members
+pub mod StruckLaws
+pub mod StruckSharing
+pub mod StruckExamples

@@ -10,10 +10,10 @@ use Rattle.kt_rec.specs.declared.financial.FmPolicytc.{FmPolicytc}
 use Rattle.kt_rec.specs.declared.financial.FmProfile.{FmProfile}
 use Rattle.kt_keys.specs.Keys.{programme_of, policytc_of, profile_of as profiles_of, same_triple}
 use Rattle.kt_keys.specs.Units.{top_level, top_targets}
-use Rattle.kt_checks.specs.OutputChecks.{climbed, next_unit}
+use Rattle.kt_keys.specs.Climbing.{climbed, next_unit}
 use Rattle.kt_rules.specs.Profiles.{profile_of}
 use Rattle.kt_rules.specs.declared.profile.Profile.{Profile}
-use Rattle.kt_tree.specs.Rising.{rising}
+use Rattle.kt_rec.specs.Rising.{rising}
 use Rattle.kt_tree.specs.Tree.{Tree, is_unit}
 
 -- ---- units

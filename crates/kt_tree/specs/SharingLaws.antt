@@ -5,7 +5,7 @@ use Rattle.std.specs.Cmp.{nat_eq_equiv}
 use Rattle.std.proofs.Common.{refl, sym, ap, subst, ◌∙◌, arith, eq-zero-or-pos, inl, inr}
 use Rattle.std.proofs.lemmas.Bool.{eqb-true, eqb-false}
 use Rattle.std.proofs.lemmas.List.Sums.{sum_by-cons, sum-map}
-use Rattle.kt_checks.specs.OutputChecks.{climbed, after}
+use Rattle.kt_keys.specs.Climbing.{climbed, after}
 use Rattle.kt_money.specs.Sharing.{share_of, shares_after, share_out}
 use Rattle.kt_money.specs.SharingLaws.{share_out-adds, share_of-zero}
 use Rattle.kt_tree.specs.Sums.{sum_by-agree, sum_by-swap, sum_by-one, sum_by-flat_map, each_then, each_member, each_flat_map, member_filter, distinct_filter}

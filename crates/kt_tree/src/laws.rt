@@ -1,15 +1,12 @@
-//! Theorems about the tree of a programme, as functions with an empty body.
+//! Theorems about the tree of a programme, and that of its struck units, as functions with an empty body.
 //! The rules: docs/FINANCIAL_MODULE.md, "Levels", "Policy losses", "Allocation".
-ghost use Rattle.std.specs.Prelude.{◌≡◌, ◌≤◌, ℕ, slice_index};
-ghost use Rattle.std.specs.List.{sum};
-ghost use Rattle.kt_rec.specs.Rows.{Rows};
-ghost use Rattle.kt_checks.specs.KeptChecks.{KeepsOutputs};
+ghost use Rattle.std.specs.Prelude.{◌≡◌, ◌≤◌, ℕ, List, false, nat_eq, slice_index, unwrap_or};
+ghost use Rattle.std.specs.List.{list_any, sum, zip};
+ghost use Rattle.std.specs.Map.{lookup};
 ghost use Rattle.kt_rules.specs.Amounts.{total};
 ghost use Rattle.kt_tree.specs.Tree.{Tree, IsTree, carry_of, ground_up, policy_loss, beneath};
 ghost use Rattle.kt_tree.specs.Sharing.{allocated};
-ghost use Rattle.kt_tree.specs.Programme.{tree_of};
-ghost use Rattle.kt_tree.specs.OutputLaws.{HasOutputs};
-ghost use Rattle.kt_tree.specs.ProgrammeLaws.{HasTree};
+ghost use Rattle.kt_tree.specs.Struck.{is_struck, struck};
 
 /// The four amounts of a unit add to the ground-up loss beneath it.
 pub fn the_amounts_add_to_the_loss_beneath()
@@ -31,12 +28,22 @@ pub fn an_id_without_a_loss_gets_nothing()
     ensures { (tree : Tree) → IsTree tree → (losses : ℕ → ℕ) (top layer rule place : ℕ) → losses (slice_index (beneath tree top) place) ≡ 0 → slice_index (allocated tree losses rule top layer) place ≡ 0 }
 {}
 
-/// Where the rows of a programme are right, they make a tree that hangs together.
-pub fn right_rows_make_a_tree()
-    ensures { (rows : Rows) (stage : ℕ) → HasTree rows stage → IsTree (tree_of rows stage) }
+/// The units that the losses of some ids come to make a tree that hangs together.
+pub fn the_struck_units_make_a_tree()
+    ensures { (tree : Tree) → IsTree tree → (ids : List ℕ) → IsTree (struck tree ids) }
 {}
 
-/// Where an output stands for each layer by the rows of the tables, as check 16 has it, one stands for each layer of the tree.
-pub fn each_layer_has_an_output()
-    ensures { (rows : Rows) (rule : ℕ) → KeepsOutputs rows rule → HasOutputs rows rule }
+/// Where the other ids have no loss, each policy loss is what it was.
+pub fn no_policy_loss_changes()
+    ensures { (tree : Tree) → IsTree tree → (ids : List ℕ) (losses : ℕ → ℕ) → ((id : ℕ) → list_any (nat_eq id) ids ≡ false → losses id ≡ 0) → (top layer : ℕ) → policy_loss (struck tree ids) losses top layer ≡ policy_loss tree losses top layer }
+{}
+
+/// Then a top that the losses of none of these ids come to has no policy loss.
+pub fn an_unstruck_top_has_no_policy_loss()
+    ensures { (tree : Tree) → IsTree tree → (ids : List ℕ) (losses : ℕ → ℕ) → ((id : ℕ) → list_any (nat_eq id) ids ≡ false → losses id ≡ 0) → (top layer : ℕ) → is_struck tree ids tree.top_level top ≡ false → policy_loss tree losses top layer ≡ 0 }
+{}
+
+/// And each id has of a policy loss what it had, by both rules of allocation.
+pub fn no_part_changes()
+    ensures { (tree : Tree) → IsTree tree → (ids : List ℕ) (losses : ℕ → ℕ) → ((id : ℕ) → list_any (nat_eq id) ids ≡ false → losses id ≡ 0) → (rule top layer id : ℕ) → unwrap_or (lookup (nat_eq id) (zip (beneath (struck tree ids) top) (allocated (struck tree ids) losses rule top layer))) 0 ≡ unwrap_or (lookup (nat_eq id) (zip (beneath tree top) (allocated tree losses rule top layer))) 0 }
 {}

@@ -10,8 +10,8 @@ use Rattle.kt_words.specs.Reading.{given_by}
 use Rattle.kt_words.specs.Tools.{known_tool}
 use Rattle.kt_words.specs.declared.command.Command.{Command}
 use Rattle.kt_words.specs.declared.command.Command.TheVariants as command
-use Rattle.kt_words.specs.declared.command.CurveLetter.{CurveLetter}
-use Rattle.kt_words.specs.declared.command.CurveLetter.TheVariants.{FullAep, FullOep, SampleAep, SampleOep, WheatAep, WheatOep, WheatmeanAep, WheatmeanOep}
+use Rattle.kt_rec.specs.declared.curve.Curve.{Curve}
+use Rattle.kt_rec.specs.declared.curve.Curve.TheVariants.{FullAep, FullOep, SampleAep, SampleOep, WheatAep, WheatOep, WheatmeanAep, WheatmeanOep}
 use Rattle.kt_words.specs.declared.command.Conversion.{Conversion}
 use Rattle.kt_words.specs.declared.command.Conversion.TheVariants.{ToFile, ToText}
 use Rattle.kt_words.specs.declared.given.Given.{Given}
@@ -70,7 +70,7 @@ set_given given =
     else (if is_given given 53 then 5 else (if is_given given 54 then 6 else (if is_given given 55 then 7 else (if is_given given 56 then 8 else 9)))))))
 
 -- the curve whose letter was given: of F f S s W w M m one was, and m is left where it is none of the others
-abbrev pub curve_given : Given → CurveLetter
+abbrev pub curve_given : Given → Curve
 curve_given given =
     if is_given given 70 then FullAep else (if is_given given 102 then FullOep else (if is_given given 83 then SampleAep else (if is_given given 115 then SampleOep
     else (if is_given given 87 then WheatAep else (if is_given given 119 then WheatOep else (if is_given given 77 then WheatmeanAep else WheatmeanOep))))))

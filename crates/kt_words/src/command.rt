@@ -15,7 +15,7 @@ use crate::stop::{WordCause, WordStop};
 use crate::tool::{Tool, read_tool};
 use crate::value::Value;
 use crate::words::Words;
-use kt_rec::Table;
+use kt_rec::{Curve, Table};
 
 /// A way from one form of a table to the other.
 #[derive(Clone, Copy, Debug, PartialEq, Eq)]
@@ -32,28 +32,6 @@ pub enum Conversion {
         /// The table.
         table: Table,
     },
-}
-
-/// The letter of a loss exceedance curve. In upper case it ranks the totals of the periods (aep), in lower case their greatest
-/// losses (oep).
-#[derive(Clone, Copy, Debug, PartialEq, Eq)]
-pub enum CurveLetter {
-    /// `F`: full, by totals.
-    FullAep,
-    /// `f`: full, by greatest losses.
-    FullOep,
-    /// `S`: the mean of the samples of each period, by totals.
-    SampleAep,
-    /// `s`: the mean of the samples of each period, by greatest losses.
-    SampleOep,
-    /// `W`: each sample by itself, by totals.
-    WheatAep,
-    /// `w`: each sample by itself, by greatest losses.
-    WheatOep,
-    /// `M`: the mean of the samples at each rank, by totals.
-    WheatmeanAep,
-    /// `m`: the mean of the samples at each rank, by greatest losses.
-    WheatmeanOep,
 }
 
 /// What the words ask for.
@@ -95,7 +73,7 @@ pub enum Command {
     /// A loss exceedance curve of a summary stream.
     Leccalc {
         /// Which curve.
-        curve: CurveLetter,
+        curve: Curve,
     },
     /// The streams of some files as one. The names of the files are all words behind the first.
     Kat,
@@ -201,31 +179,31 @@ fn set_given(given: &Given) -> u32
 }
 
 /// The first curve whose letter was given, in the order of the letters F f S s W w M; `m` where none of these was.
-fn curve_given(given: &Given) -> CurveLetter
+fn curve_given(given: &Given) -> Curve
     ensures { result ≡ curve_given given.now }
 {
     if given.has(b'F') {
-        return CurveLetter::FullAep;
+        return Curve::FullAep;
     }
     if given.has(b'f') {
-        return CurveLetter::FullOep;
+        return Curve::FullOep;
     }
     if given.has(b'S') {
-        return CurveLetter::SampleAep;
+        return Curve::SampleAep;
     }
     if given.has(b's') {
-        return CurveLetter::SampleOep;
+        return Curve::SampleOep;
     }
     if given.has(b'W') {
-        return CurveLetter::WheatAep;
+        return Curve::WheatAep;
     }
     if given.has(b'w') {
-        return CurveLetter::WheatOep;
+        return Curve::WheatOep;
     }
     if given.has(b'M') {
-        CurveLetter::WheatmeanAep
+        Curve::WheatmeanAep
     } else {
-        CurveLetter::WheatmeanOep
+        Curve::WheatmeanOep
     }
 }
 

@@ -12,7 +12,7 @@ mod tool;
 mod value;
 mod words;
 
-pub use command::{Command, Conversion, CurveLetter, read_command};
+pub use command::{Command, Conversion, read_command};
 pub use reading::judge_words;
 pub use stop::{WordCause, WordStop};
 pub use tool::Tool;

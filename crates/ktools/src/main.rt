@@ -4,8 +4,6 @@
 #![tactic(auto)]
 
 mod arguments;
-#[cfg(test)]
-mod tests;
 
 use arguments::words_of;
 use kt_out::{DirInputs, Open, StdErr, StdSink, StdSource, SureOutputs};

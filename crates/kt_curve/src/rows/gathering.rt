@@ -3,7 +3,8 @@
 ghost use Rattle.std.specs.Prelude.{◌≡◌, ◌≤◌, ◌&&◌, ℕ, ◌++◌, IfOk, OnOk, nat_eq};
 ghost use Rattle.kt_curve.specs.RowCells.{RowFits};
 ghost use Rattle.kt_curve.specs.Rows.{row_entries, entries_of};
-ghost use Rattle.kt_curve.specs.Grid.{IsPart, HasSet, set_entries, same_perspective};
+ghost use Rattle.kt_curve.specs.Grid.{IsPart, HasSet, set_entries};
+ghost use Rattle.kt_curve.specs.Losses.{same_perspective};
 
 use super::Rows;
 use crate::cell::Cell;

@@ -3,10 +3,10 @@ ghost use Rattle.std.specs.Prelude.{IfOk};
 ghost use Rattle.kt_rec.specs.Rows.{rows_of};
 ghost use Rattle.kt_tables.specs.Kept.{AreDamages, ArePlaces, AreHazardLookups};
 
-use crate::columns;
+use crate::columns::parts_of;
 use crate::place::Place;
 use kt_index::{ByKey, is_by_key};
-use kt_keys::first_values;
+use kt_keys::{first_values, keys_of};
 use kt_rec::{Tables, Vulnerability};
 use std::alloc::{AllocError, Global};
 use std::collections::HashMap;
@@ -26,7 +26,7 @@ pub(crate) struct HazardLookups {
 fn places(alloc: Global, tables: &Tables) -> Result<HashMap<u32, Place>, AllocError>
     ensures value { IfOk result (ArePlaces (rows_of tables.now)) }
 {
-    let pairs = columns::places_of(alloc, &tables.footprint_idx)?;
+    let pairs = parts_of(alloc, &tables.footprint_idx)?;
     first_values(alloc, &pairs)
 }
 
@@ -46,7 +46,7 @@ impl HazardLookups {
         ensures value { IfOk result (AreHazardLookups (rows_of tables.now)) }
     {
         Ok(HazardLookups {
-            event_ids: columns::event_ids(alloc, &tables.events)?,
+            event_ids: keys_of(alloc, &tables.events)?,
             places: places(alloc, tables)?,
             damages: damages(alloc, tables)?,
         })

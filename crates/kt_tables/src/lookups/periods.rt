@@ -3,8 +3,8 @@ ghost use Rattle.std.specs.Prelude.{IfOk};
 ghost use Rattle.kt_rec.specs.Rows.{rows_of};
 ghost use Rattle.kt_tables.specs.Kept.{ArePeriodLookups};
 
-use crate::columns;
 use kt_index::ByKey;
+use kt_keys::keys_of;
 use kt_rec::{Occurrence, Tables};
 use std::alloc::{AllocError, Global};
 
@@ -24,7 +24,7 @@ impl PeriodLookups {
     {
         Ok(PeriodLookups {
             occurrences: ByKey::new(alloc, &tables.occurrence)?,
-            return_periods: columns::return_periods(alloc, &tables.returnperiods)?,
+            return_periods: keys_of(alloc, &tables.returnperiods)?,
         })
     }
 }

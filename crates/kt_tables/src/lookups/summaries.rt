@@ -4,7 +4,7 @@ ghost use Rattle.kt_rec.specs.Rows.{rows_of};
 ghost use Rattle.kt_rec.specs.declared.perspective.Perspective.TheVariants as perspective;
 ghost use Rattle.kt_tables.specs.Kept.{AreAddable, AreTivs, AreSummariesOf, AreSummaryLookups};
 
-use crate::columns;
+use crate::columns::parts_of;
 use crate::exposures::{item_exposures, output_exposures};
 use crate::summaries::Summaries;
 use kt_checks::tivs;
@@ -33,7 +33,7 @@ fn of_items(
     requires tivs { AreTivs (rows_of tables.now) tivs.now }
     ensures value { IfOk result (λ found. (rule : ℕ) → AreSummariesOf perspective.Gul (rows_of tables.now) rule found) }
 {
-    let rows = columns::item_rows(alloc, &tables.gulsummaryxref)?;
+    let rows = parts_of(alloc, &tables.gulsummaryxref)?;
     let exposures = item_exposures(alloc, tables, &rows, tivs)?;
     Summaries::new(alloc, &rows, exposures)
 }
@@ -49,7 +49,7 @@ fn of_outputs(
     requires tivs { AreTivs (rows_of tables.now) tivs.now }
     ensures value { IfOk result (AreSummariesOf perspective.Il (rows_of tables.now) rule) }
 {
-    let rows = columns::output_rows(alloc, &tables.fmsummaryxref)?;
+    let rows = parts_of(alloc, &tables.fmsummaryxref)?;
     let exposures = output_exposures(alloc, tables, rule, &rows, tivs)?;
     Summaries::new(alloc, &rows, exposures)
 }

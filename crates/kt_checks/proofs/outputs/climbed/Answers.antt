@@ -1,7 +1,7 @@
 use Rattle.std.proofs.Common.{◌≡◌, ◌+◌, ◌-◌, ◌<◌, ap, sym, ◌∙◌, Some, arith}
 use Rattle.std.specs.HashMap.{get}
 use Rattle.kt_keys.specs.Keys.{same_pair}
-use Rattle.kt_checks.specs.OutputChecks.{climbed, after}
+use Rattle.kt_keys.specs.Climbing.{climbed, after}
 use Rattle.kt_checks.proofs.OutputLemmas.{climbed-step}
 use Rattle.kt_checks.proofs.outputs.climbed.Goals as goal
 

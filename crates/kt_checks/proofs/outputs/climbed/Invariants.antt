@@ -1,7 +1,7 @@
 use Rattle.std.proofs.Common.{◌≡◌, ◌+◌, ◌-◌}
 use Rattle.std.specs.HashMap.{get}
 use Rattle.kt_keys.specs.Keys.{same_pair}
-use Rattle.kt_checks.specs.OutputChecks.{climbed}
+use Rattle.kt_keys.specs.Climbing.{climbed}
 use Rattle.kt_checks.proofs.outputs.climbed.Given as goal
 
 abbrev pub invariant-loop-below : goal.invariant-loop-below

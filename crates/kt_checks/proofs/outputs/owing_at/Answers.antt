@@ -6,7 +6,8 @@ use Rattle.std.specs.HashSet.{contains}
 use Rattle.kt_keys.specs.FirstRow.{first_where}
 use Rattle.kt_keys.specs.Keys.{same_pair}
 use Rattle.kt_keys.specs.Units.{top_level, top_layers}
-use Rattle.kt_checks.specs.OutputChecks.{next_unit, lacks_output, owes_output, owing_at}
+use Rattle.kt_keys.specs.Climbing.{next_unit}
+use Rattle.kt_checks.specs.OutputChecks.{lacks_output, owes_output, owing_at}
 use Rattle.kt_checks.proofs.outputs.owing_at.Goals as goal
 
 pub returns : goal.returns

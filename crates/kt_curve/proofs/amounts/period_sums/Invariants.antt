@@ -6,7 +6,7 @@ use Rattle.kt_curve.proofs.amounts.period_sums.Given as goal
 
 abbrev pub invariant-loop-entry : goal.invariant-loop-entry
 invariant-loop-entry l = record {
-  len : length l.sums.items ≡ l.periods;
-  sums : (place : ℕ) → place < l.periods → slice_index l.sums.items place ≡ sum (amounts_of l.maxima (of_period (place + 1)) (take l.entry-index l.group));
+  len : length l.sums.items ≡ l.group.periods;
+  sums : (place : ℕ) → place < l.group.periods → slice_index l.sums.items place ≡ sum (amounts_of l.group.maxima (of_period (place + 1)) (take l.entry-index l.group.entries.now));
   bound : (place : ℕ) → slice_index l.sums.items place ≤ l.entry-index * 2 ^ 64;
 }

@@ -1,18 +1,16 @@
 -- The rows of the first summaries are there.
-use Rattle.std.proofs.Common.{◌≡◌, ℕ, ◌++◌, length}
-use Rattle.kt_rec.specs.declared.perspective.Perspective.{Perspective}
+use Rattle.std.proofs.Common.{◌≡◌, ◌++◌, length, false}
 use Rattle.kt_curve.specs.Grid.{IsPart, by_summary}
-use Rattle.kt_curve.specs.Standing.{cell_at, total_in}
+use Rattle.kt_curve.specs.Amounts.{amount_at}
 use Rattle.kt_curve.specs.Average.{aal_rows}
 use Rattle.kt_curve.proofs.average.append_rows.Given as goal
 
-abbrev pub invariant-loop-first : goal.invariant-loop-first
-invariant-loop-first l = record {
-  part : (perspective : Perspective) (set : ℕ) → IsPart perspective set l.periods l.samples l.entries → IsPart perspective set l.periods l.samples l.rest;
-  text : (perspective : Perspective) (set : ℕ) → IsPart perspective set l.periods l.samples l.entries →
-      l.out ++ by_summary perspective set (λ summary group. aal_rows perspective set l.periods l.samples (λ key. total_in (cell_at group key)) summary) l.rest
-      ≡ l.fn.out ++ by_summary perspective set (λ summary group. aal_rows perspective set l.periods l.samples (λ key. total_in (cell_at group key)) summary) l.entries;
+abbrev pub invariant-groups : goal.invariant-groups
+invariant-groups l = record {
+  part : IsPart l.part.perspective l.part.set l.part.periods l.part.samples l.rest;
+  text : l.out ++ by_summary l.part.perspective l.part.set (λ summary group. aal_rows l.part.perspective l.part.set l.part.periods l.part.samples (amount_at false group) summary) l.rest
+      ≡ l.fn.out ++ by_summary l.part.perspective l.part.set (λ summary group. aal_rows l.part.perspective l.part.set l.part.periods l.part.samples (amount_at false group) summary) l.part.entries.now;
 }
 
-abbrev pub decreases-loop-first : goal.decreases-loop-first
-decreases-loop-first l = length l.rest
+abbrev pub decreases-groups : goal.decreases-groups
+decreases-groups l = length l.rest

@@ -1,21 +1,19 @@
 -- The rows of one type of a full curve.
 use Rattle.std.proofs.Common.{ℕ, List, map, ◌∙◌}
 use Rattle.kt_curve.specs.Grid.{of_kind}
-use Rattle.kt_curve.specs.Standing.{cell_at}
-use Rattle.kt_curve.specs.Amounts.{amount_in, amounts_of}
+use Rattle.kt_curve.specs.Amounts.{amount_at, amounts_of}
 use Rattle.kt_curve.specs.Grid.{keys_for, sidx_of_kind}
-use Rattle.kt_curve.proofs.Curves.{ranks_of_kind, amounts_most, ranks_of_equal, rows_of_count}
+use Rattle.kt_curve.proofs.Curves.{on_more, ranks_of_kind, amounts_most, ranks_of_equal, rows_of_count}
 use Rattle.kt_curve.proofs.kinds.append_kind.Goals as goal
 
 pub append_values-requires-clause-most : goal.append_values-requires-clause-most
 append_values-requires-clause-most c =
-    rw (c.as_mut_slice.ensures.value, c.in_ok-values.ensures) (amounts_most c.requires.group.0 c.requires.group.1 _ _ _ _ c.args.group.now.maxima (of_kind c.args.mean) c.requires.group.2)
+    rw (c.as_mut_slice.ensures.value, c.in_ok-values.ensures) (amounts_most c.args.group.now.perspective c.args.group.now.set _ _ _ _ c.args.group.now.maxima (of_kind c.args.mean) c.requires.group)
 
 pub returns : goal.returns
 returns c = record {
-  ok = λ perspective set is.
-      let whole : List ℕ = map (λ key. amount_in c.args.group.now.maxima (cell_at c.args.group.now.entries.now key)) (keys_for perspective set c.args.group.now.summary (sidx_of_kind c.args.mean c.args.group.now.samples) c.args.group.now.periods) in
-      let ranks = ranks_of_kind perspective set c.args.group.now.periods c.args.group.now.samples c.args.group.now.summary c.args.group.now.entries.now c.args.group.now.maxima c.args.mean is in
+  ok = let whole : List ℕ = map (amount_at c.args.group.now.maxima c.args.group.now.entries.now) (keys_for c.args.group.now.perspective c.args.group.now.set c.args.group.now.summary (sidx_of_kind c.args.mean c.args.group.now.samples) c.args.group.now.periods) in
+      let ranks = ranks_of_kind c.args.group.now.perspective c.args.group.now.set c.args.group.now.periods c.args.group.now.samples c.args.group.now.summary c.args.group.now.entries.now c.args.group.now.maxima c.args.mean c.requires.group in
       let taken = ranks_of_equal c.as_mut_slice.result.now (amounts_of c.args.group.now.maxima (of_kind c.args.mean) c.args.group.now.entries.now) whole (c.as_mut_slice.ensures.value ∙ c.in_ok-values.ensures) ranks in
-      rows_of_count _ _ _ _ _ _ whole _ (c.in_ok-append_values.ensures.ok whole taken) c.count_of-count.ensures;
+      on_more c.append_values.result (λ rows. rows_of_count _ _ _ _ _ _ whole _ (rows whole taken) c.count_of-count.ensures) c.append_values.ensures.ok;
 }

@@ -2,8 +2,8 @@
 use Rattle.std.proofs.Common.{◌≡◌, ◌-◌, ℕ, List, map, length, ap, ◌∙◌, arith}
 use Rattle.std.specs.Prelude.{ℤ, pos, sum_by}
 use Rattle.std.specs.List.{range_with_len}
-use Rattle.kt_curve.specs.Standing.{cell_at, most_total}
-use Rattle.kt_curve.specs.Amounts.{amount_in, amounts_of, of_sample}
+use Rattle.kt_curve.specs.Standing.{most_total}
+use Rattle.kt_curve.specs.Amounts.{amount_at, amounts_of, of_sample}
 use Rattle.kt_curve.specs.Exceedance.{ranked_loss, sidx_values}
 use Rattle.kt_curve.proofs.Curves.{ranks_of_sample, amounts_most, ranks_of_equal}
 use Rattle.kt_curve.proofs.Means.{sample_few, sample_more, bound_more}
@@ -11,27 +11,27 @@ use Rattle.kt_curve.proofs.mean_curves.add_samples.Goals as goal
 
 pub add_ranked-requires-clause-few : goal.add_ranked-requires-clause-few
 add_ranked-requires-clause-few c =
-    let few = sample_few c.requires.group.0 c.requires.group.1 c.args.group.now.periods c.args.group.now.samples c.args.group.now.summary c.args.group.now.entries.now c.args.group.now.maxima c.loop-sample.sample c.requires.group.2 in
+    let few = sample_few c.args.group.now.perspective c.args.group.now.set c.args.group.now.periods c.args.group.now.samples c.args.group.now.summary c.args.group.now.entries.now c.args.group.now.maxima c.loop-sample.sample c.requires.group in
     let taken : length c.as_mut_slice.result.now ≡ length (amounts_of c.args.group.now.maxima (of_sample c.loop-sample.sample) c.args.group.now.entries.now) = ap length (c.as_mut_slice.ensures.value ∙ c.in_ok-values.ensures) in
     omega (arith, few, taken, c.loop-sample.invariant.len)
 
 pub add_ranked-requires-clause-most : goal.add_ranked-requires-clause-most
 add_ranked-requires-clause-most c =
-    rw (c.as_mut_slice.ensures.value, c.in_ok-values.ensures) (amounts_most c.requires.group.0 c.requires.group.1 _ _ _ _ c.args.group.now.maxima (of_sample c.loop-sample.sample) c.requires.group.2)
+    rw (c.as_mut_slice.ensures.value, c.in_ok-values.ensures) (amounts_most c.args.group.now.perspective c.args.group.now.set _ _ _ _ c.args.group.now.maxima (of_sample c.loop-sample.sample) c.requires.group)
 
 pub loop-sample-preserved : goal.loop-sample-preserved
 loop-sample-preserved c = record {
   len = c.add_ranked.ensures.len ∙ c.loop-sample.invariant.len;
   most = λ place. bound_more most_total c.loop-sample.sample _ _ c.loop-sample.auto.sample (c.loop-sample.invariant.most place) (c.add_ranked.ensures.most place);
-  sums = λ perspective set is place.
-      let whole : ℤ → List ℕ = sidx_values perspective set c.args.group.now.periods (λ key. amount_in c.args.group.now.maxima (cell_at c.args.group.now.entries.now key)) c.args.group.now.summary in
-      let ranks = ranks_of_sample perspective set c.args.group.now.periods c.args.group.now.samples c.args.group.now.summary c.args.group.now.entries.now c.args.group.now.maxima c.loop-sample.sample is in
+  sums = λ place.
+      let whole : ℤ → List ℕ = sidx_values c.args.group.now.perspective c.args.group.now.set c.args.group.now.periods (amount_at c.args.group.now.maxima c.args.group.now.entries.now) c.args.group.now.summary in
+      let ranks = ranks_of_sample c.args.group.now.perspective c.args.group.now.set c.args.group.now.periods c.args.group.now.samples c.args.group.now.summary c.args.group.now.entries.now c.args.group.now.maxima c.loop-sample.sample c.requires.group in
       let taken = ranks_of_equal c.as_mut_slice.result.now (amounts_of c.args.group.now.maxima (of_sample c.loop-sample.sample) c.args.group.now.entries.now) (whole (pos c.loop-sample.sample)) (c.as_mut_slice.ensures.value ∙ c.in_ok-values.ensures) ranks in
-      sample_more (λ sidx. ranked_loss (whole sidx) place) c.loop-sample.sample _ _ c.loop-sample.auto.sample (c.loop-sample.invariant.sums perspective set is place) (c.add_ranked.ensures.sums (whole (pos c.loop-sample.sample)) taken place);
+      sample_more (λ sidx. ranked_loss (whole sidx) place) c.loop-sample.sample _ _ c.loop-sample.auto.sample (c.loop-sample.invariant.sums place) (c.add_ranked.ensures.sums (whole (pos c.loop-sample.sample)) taken place);
 }
 
 pub returns-clause-sums : goal.returns-clause-sums
-returns-clause-sums c = λ perspective set is place.
-    let all : c.loop-sample.sample - 1 ≡ c.args.group.now.samples = omega (arith, is.some_samples, c.loop-sample.auto.sample-end (omega arith), c.loop-sample-test.false) in
-    c.loop-sample.invariant.sums perspective set is place
-    ∙ ap (λ k. sum_by (λ sidx. ranked_loss (sidx_values perspective set c.args.group.now.periods (λ key. amount_in c.args.group.now.maxima (cell_at c.args.group.now.entries.now key)) c.args.group.now.summary sidx) place) (map pos (range_with_len 1 k))) all
+returns-clause-sums c = λ place.
+    let all : c.loop-sample.sample - 1 ≡ c.args.group.now.samples = omega (arith, c.requires.group.some_samples, c.loop-sample.auto.sample-end (omega arith), c.loop-sample-test.false) in
+    c.loop-sample.invariant.sums place
+    ∙ ap (λ k. sum_by (λ sidx. ranked_loss (sidx_values c.args.group.now.perspective c.args.group.now.set c.args.group.now.periods (amount_at c.args.group.now.maxima c.args.group.now.entries.now) c.args.group.now.summary sidx) place) (map pos (range_with_len 1 k))) all

@@ -8,8 +8,8 @@ use Rattle.kt_curve.proofs.samples.ends.Goals as goal
 
 pub returns : goal.returns
 returns c =
-    let entries = c.args.group.now in
-    let rising = samples_rise c.requires.0 c.requires.1 c.requires.2 c.requires.3 c.requires.4 entries c.requires.5 in
+    let entries = c.args.group.now.entries.now in
+    let rising = samples_rise c.args.group.now.perspective c.args.group.now.set c.args.group.now.periods c.args.group.now.samples c.args.group.now.summary entries c.requires in
     record {
       value = record {
         start_within = search rules;

@@ -1,4 +1,5 @@
-use Rattle.std.proofs.Common.{ℕ, List, ◌≤◌, ◌+◌, ◌++◌, length, ap, ◌∙◌, sym, subst}
+use Rattle.std.proofs.Common.{ℕ, List, ◌≤◌, ◌+◌, ◌++◌, length, ap, ◌∙◌, sym, subst, arith}
+use Rattle.std.proofs.lemmas.Grind.{common_steps}
 use Rattle.std.specs.List.{All}
 use Rattle.kt_gul.specs.declared.struck.StruckItem.{StruckItem}
 use Rattle.kt_gul.proofs.CoverageLemmas.{row_from_map, added_more}
@@ -18,3 +19,12 @@ loop-struck-preserved c =
     (subst (λ (row : List ℕ). All (λ loss. loss ≤ 100200100000000) row) (sym c.deref.ensures.value) c.in_ok-row.ensures.most)
     (c.in_ok-extend_from_slice.ensures.items ∙ ap (λ (row : List ℕ). losses ++ row) (c.deref-in-loop-struck.ensures.value ∙ sym c.deref.ensures.value))
     c.add_to.ensures.value
+
+pub add_to-requires-clause-fits : goal.add_to-requires-clause-fits
+add_to-requires-clause-fits c = grind (arith, common_steps)
+
+pub struck_losses-requires : goal.struck_losses-requires
+struck_losses-requires c = grind (arith, common_steps)
+
+pub returns : goal.returns
+returns c = grind (arith, common_steps)

@@ -1,4 +1,5 @@
 use Rattle.std.proofs.Common.{◌≡◌, ℕ, List, ◌<◌, ◌+◌, length, take, slice_index, slice_index_or, arith, ap, ◌∙◌, sym, subst}
+use Rattle.std.proofs.lemmas.Grind.{common_steps}
 use Rattle.kt_gul.specs.declared.struck.StruckItem.{StruckItem}
 use Rattle.kt_gul.specs.Coverage.{IsRow}
 use Rattle.kt_gul.specs.GroundUp.{raw_loss}
@@ -64,3 +65,12 @@ loop-struck-preserved c =
       pushed = pushed_more rows c.args.event c.args.cdfs.now group (c.args.samples + 2) i none _ _ _ _ here below c.split_at.ensures.back sums;
       records_are = records_more rows c.args.event c.args.cdfs.now group c.args.cut c.args.samples i none c.in_ok-pairs.pairs c.args.records.now.items c.loop-struck.records.items _ below pairs c.loop-struck.invariant.records_are c.in_ok-push_record.ensures.ok;
     }
+
+pub loop-struck-init : goal.loop-struck-init
+loop-struck-init c = grind (arith, common_steps)
+
+pub returns : goal.returns
+returns c = grind (arith, common_steps)
+
+pub item_pairs-requires-clause-losses : goal.item_pairs-requires-clause-losses
+item_pairs-requires-clause-losses c = grind (arith, common_steps)

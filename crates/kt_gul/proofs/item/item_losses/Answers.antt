@@ -1,4 +1,5 @@
 use Rattle.std.proofs.Common.{length, arith}
+use Rattle.std.proofs.lemmas.Grind.{common_steps}
 use Rattle.kt_tables.specs.Lookups.{random_place}
 use Rattle.kt_gul.specs.GroundUp.{loss_by}
 use Rattle.kt_gul.proofs.ItemLemmas.{sample_is, made_more}
@@ -17,3 +18,12 @@ loop-sample-preserved c =
     (c.next_place-place.ensures.value c.args.event c.args.item.group_id made here.place_is)
     c.next_place-place.ensures.within
     (omega (arith, c.sampled_loss.ensures.most, c.tiv-tiv.ensures.value, c.requires.ranges.value))
+
+pub loop-sample-init : goal.loop-sample-init
+loop-sample-init c = grind (arith, common_steps)
+
+pub random_at-random-requires : goal.random_at-random-requires
+random_at-random-requires c = grind (arith, common_steps)
+
+pub returns : goal.returns
+returns c = grind (arith, common_steps)

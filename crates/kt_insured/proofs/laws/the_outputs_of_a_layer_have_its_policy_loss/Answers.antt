@@ -1,7 +1,7 @@
 use Rattle.std.proofs.Common.{arith}
 use Rattle.kt_structure.specs.Ready.{ready}
-use Rattle.kt_tree.specs.OutputLaws.{outputs_of-tree}
-use Rattle.kt_tree.specs.ProgrammeLaws.{tree_of-is}
+use Rattle.kt_structure.specs.OutputLaws.{outputs_of-tree}
+use Rattle.kt_structure.specs.ProgrammeLaws.{tree_of-is}
 use Rattle.kt_insured.proofs.WholeLemmas.{rows-whole}
 use Rattle.kt_insured.proofs.laws.the_outputs_of_a_layer_have_its_policy_loss.Goals as goal
 

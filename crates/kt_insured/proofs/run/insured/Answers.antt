@@ -2,9 +2,9 @@ use Rattle.std.proofs.Common.{◌≡◌, ◌∙◌, ℕ, List, map, ap, sym, sub
 use Rattle.std.specs.Prelude.{All}
 use Rattle.kt_stream.specs.Losses.{IsLoss}
 use Rattle.kt_stream.specs.declared.entry.LossRecord.{LossRecord}
-use Rattle.kt_struck.specs.Struck.{is_struck, struck}
+use Rattle.kt_tree.specs.Struck.{is_struck, struck}
 use Rattle.kt_tree.specs.Programme.{tree_of}
-use Rattle.kt_tree.specs.Rising.{IsRising}
+use Rattle.kt_rec.specs.Rising.{IsRising}
 use Rattle.kt_fmtree.specs.RisingLaws.{rising-filter}
 use Rattle.kt_insured.specs.Insured.{insured_records, layer_sums}
 use Rattle.kt_insured.specs.declared.sums.LayerSum.{LayerSum}

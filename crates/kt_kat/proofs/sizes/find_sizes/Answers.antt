@@ -1,4 +1,5 @@
 use Rattle.std.proofs.Common.{◌≡◌, ◌∙◌, ◌+◌, ℕ, List, [], ◌∷◌, ◌++◌, length, drop, subst, sym, ap, arith}
+use Rattle.std.proofs.lemmas.Grind.{common_steps}
 use Rattle.std.specs.Prelude.{IfSome}
 use Rattle.std.proofs.lemmas.List.{length-append}
 use Rattle.kt_out.specs.InputFiles.{InputsState}
@@ -22,3 +23,9 @@ words-preserved g c =
           (next_found (g.I.Inputs.state c.args.inputs.now).held (drop 1 c.args.words.now) c.args.words.now c.word.result.now c.words.n c.words.sizes.items c.in-Ok.size c.word.ensures.value c.words.invariant.found
           (subst (λ (state : InputsState). IfSome state.held (λ files. IsFound c.word.result.now (files c.word.result.now) c.in-Ok.size)) c.words.invariant.inputs c.in-Ok.ensures.found));
     }
+
+pub words-init : goal.words-init
+words-init g c = grind (arith, common_steps)
+
+pub returns : goal.returns
+returns g c = grind (arith, common_steps)

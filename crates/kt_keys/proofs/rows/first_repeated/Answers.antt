@@ -1,6 +1,5 @@
 -- One more key is looked at, and is none before it: the set has it too.
-use Rattle.std.proofs.Common.{◌≡◌, ◌<◌, length, take, ap, sym, ◌∙◌, arith, false}
-use Rattle.std.specs.Prelude.{not}
+use Rattle.std.proofs.Common.{◌≡◌, ◌<◌, length, sym, ◌∙◌, arith, false}
 use Rattle.std.specs.List.{list_any}
 use Rattle.std.specs.HashSet.{contains}
 use Rattle.kt_keys.proofs.FirstRowLemmas.{member-step, refused-step, not_true}

@@ -1,4 +1,5 @@
-use Rattle.std.proofs.Common.{subst, List, [], sym, ◌∙◌}
+use Rattle.std.proofs.Common.{subst, List, [], sym, ◌∙◌, arith}
+use Rattle.std.proofs.lemmas.Grind.{common_steps}
 use Rattle.kt_stream.specs.declared.entry.Placed.{Placed}
 use Rattle.kt_loop.proofs.Stepping.{counts_behind}
 use Rattle.kt_loop.proofs.Taking.{nothing_taken, come_new, refused_new}
@@ -22,3 +23,12 @@ returns-clause-course g c before course standing =
 pub returns-clause-counted : goal.returns-clause-counted
 returns-clause-counted g c beside =
     counts_behind (Unit {0}) _ _ _ _ _ _ c.take_held-2.result (c.in_default-open_stage.ensures.counted beside).of_inputs (c.in_default-open_stage.ensures.counted beside).of_sink (c.take_held-2.ensures.counted beside)
+
+pub returns-in_default-clause-course : goal.returns-in_default-clause-course
+returns-in_default-clause-course g c = grind (arith, common_steps)
+
+pub returns-then-was_open-clause-course : goal.returns-then-was_open-clause-course
+returns-then-was_open-clause-course g c = grind (arith, common_steps)
+
+pub returns-clause-taken : goal.returns-clause-taken
+returns-clause-taken g c = grind (arith, common_steps)

@@ -1,4 +1,5 @@
 use Rattle.std.proofs.Common.{◌+◌, [], ◌++◌, Option, Err, refl, sym, ap, subst, ◌∙◌, take, length, arith}
+use Rattle.std.proofs.lemmas.Grind.{common_steps}
 use Rattle.kt_out.specs.InputFiles.{InputsState}
 use Rattle.kt_out.specs.Reading.{GivesKnown}
 use Rattle.kt_stream.specs.declared.stop.StreamStop.{StreamStop}
@@ -119,3 +120,15 @@ pub returns-clause-counted : goal.returns-clause-counted
 returns-clause-counted g c reads =
     counts_on (Unit {0}) _ _ _ reads _ _ _ c.finish.result c.pieces.invariant.inputs c.pieces.invariant.faults
     (counts_alone (Unit {0}) _ _ (g.I.Inputs.state c.pieces.inputs) reads _ _ c.finish.result (c.requires.alone no_inputs c.pieces.beside) (c.requires.alone no_inputs c.finish.new.beside) (c.finish.ensures.counted no_inputs))
+
+pub returns-in_default-clause-counted : goal.returns-in_default-clause-counted
+returns-in_default-clause-counted g c = grind (arith, common_steps)
+
+pub returns-in_default-clause-settled : goal.returns-in_default-clause-settled
+returns-in_default-clause-settled g c = grind (arith, common_steps)
+
+pub returns-in_default-clause-read : goal.returns-in_default-clause-read
+returns-in_default-clause-read g c = grind (arith, common_steps)
+
+pub returns-in-Err-OutOfMemory-clause-counted : goal.returns-in-Err-OutOfMemory-clause-counted
+returns-in-Err-OutOfMemory-clause-counted g c = grind (arith, common_steps)

@@ -1,4 +1,5 @@
 use Rattle.std.proofs.Common.{ℕ, [], ◌++◌, Option, Err, refl, ap, subst, ◌∙◌, take, length, arith}
+use Rattle.std.proofs.lemmas.Grind.{common_steps}
 use Rattle.kt_out.specs.Reading.{GivesKnown}
 use Rattle.kt_stream.specs.declared.stop.StreamStop.{StreamStop}
 use Rattle.kt_loop.specs.Reading.{FeedsBy}
@@ -93,3 +94,12 @@ pub turn-requires-clause-stood : goal.turn-requires-clause-stood
 turn-requires-clause-stood g c =
     let fresh = c.requires.fresh in
     record { contents = fresh.contents; fed = c.turns.invariant.going.fed; stands = c.turns.invariant.going.represented fresh.contents fresh.stands; good = c.requires.good fresh.contents [] fresh.stands }
+
+pub returns-in_default-clause-counted : goal.returns-in_default-clause-counted
+returns-in_default-clause-counted g c = grind (arith, common_steps)
+
+pub returns-in_default-clause-settled : goal.returns-in_default-clause-settled
+returns-in_default-clause-settled g c = grind (arith, common_steps)
+
+pub returns-in-Err-read-clause-counted : goal.returns-in-Err-read-clause-counted
+returns-in-Err-read-clause-counted g c = grind (arith, common_steps)

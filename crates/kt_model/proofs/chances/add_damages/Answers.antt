@@ -1,4 +1,5 @@
 use Rattle.std.proofs.Common.{ap, ◌∙◌, ◌*◌, arith}
+use Rattle.std.proofs.lemmas.Grind.{common_steps}
 use Rattle.std.proofs.Common.{◌≡◌, ◌≤◌, get_or, length}
 use Rattle.kt_rec.specs.declared.hazard.Vulnerability.{Vulnerability}
 use Rattle.kt_model.proofs.AddLemmas.{each_more, total_more_row}
@@ -16,3 +17,18 @@ loop-damage-preserved c =
       each = λ bin within. each_more c.loop-damage.chances damages i none c.args.prob _ c.loop-damage-test.true range.0 most amount bin _ (c.loop-damage.invariant.each bin within);
       total = total_more_row c.loop-damage.chances damages i none c.args.prob _ c.loop-damage-test.true range.0 most amount _ c.loop-damage.invariant.total;
     }
+
+pub overflow_sub-chances : goal.overflow_sub-chances
+overflow_sub-chances c = grind (arith, common_steps)
+
+pub overflow_mul-chances : goal.overflow_mul-chances
+overflow_mul-chances c = grind (arith, common_steps)
+
+pub overflow_add-chances : goal.overflow_add-chances
+overflow_add-chances c = grind (arith, common_steps)
+
+pub loop-damage-init : goal.loop-damage-init
+loop-damage-init c = grind (arith, common_steps)
+
+pub returns : goal.returns
+returns c = grind (arith, common_steps)

@@ -1,4 +1,5 @@
-use Rattle.std.proofs.Common.{rules, ◌∙◌, ◌+◌, ℕ, List, ap, subst, sym, length, get_or, nat_eq}
+use Rattle.std.proofs.Common.{rules, ◌∙◌, ◌+◌, ℕ, List, ap, subst, sym, length, get_or, nat_eq, arith}
+use Rattle.std.proofs.lemmas.Grind.{common_steps}
 use Rattle.std.specs.Prelude.{All}
 use Rattle.std.specs.List.{sum}
 use Rattle.std.specs.List.Sorted.{IsNonDecreasingBy}
@@ -68,3 +69,9 @@ loop-place-preserved-in-Continue-branch-3 c =
       fits = λ is. subst (All (IsCdf most)) (sym c.in_ok-push.ensures.ok)
           (All-push (IsCdf most) c.loop-place.records _ (c.loop-place.invariant.fits is) (record_fits c.args.event most (get_or pairs i (0, 0)) bins is ids (asked ∙ c.if-not-is_empty.true) c.in_ok-bins.ensures.fits.1 c.requires.kept.few c.in_ok-bins.ensures.fits.0));
     }
+
+pub returns : goal.returns
+returns c = grind (arith, common_steps)
+
+pub pair_bins-requires : goal.pair_bins-requires
+pair_bins-requires c = grind (arith, common_steps)

@@ -3,7 +3,7 @@ use Rattle.std.specs.Prelude.{All}
 use Rattle.kt_runs.specs.RunLosses.{AreWithin}
 use Rattle.kt_stream.specs.Losses.{IsLoss}
 use Rattle.kt_stream.specs.declared.entry.LossRecord.{LossRecord}
-use Rattle.kt_struck.specs.Struck.{struck}
+use Rattle.kt_tree.specs.Struck.{struck}
 use Rattle.kt_shares.specs.Shares.{ids_of}
 use Rattle.kt_ri.proofs.NetLemmas.{net-good, net-within}
 use Rattle.kt_ri.proofs.StruckLemmas.{behind-struck}

@@ -1,4 +1,5 @@
 use Rattle.std.proofs.Common.{◌≡◌, ◌+◌, ◌-◌, ◌<◌, List, length, take, slice_index_or, not, pos, ap, subst, sym, arith, ◌∙◌}
+use Rattle.std.proofs.lemmas.Grind.{common_steps}
 use Rattle.std.proofs.lemmas.List.{take_all}
 use Rattle.kt_stream.specs.declared.entry.Pair.{Pair}
 use Rattle.kt_runs.specs.Adding.{IsAdded}
@@ -55,3 +56,9 @@ returns-clause-kept c = λ records run_are done.
     let are = c.as_slice-pair-items.ensures.value in
     let all = take_all c.loop-pair.pair-index c.as_slice-pair-items.result.now (omega (arith, c.loop-pair-test.false)) ∙ are in
     run_kept c.args.samples c.args.entry.now c.requires.entry c.args.sums.now c.requires.sums records run_are c.loop-pair.sums (subst (λ (pairs : List Pair). IsAdded 2147483646 c.args.sums.now pairs c.loop-pair.sums) all c.loop-pair.invariant.added) c.loop-pair.invariant.few
+
+pub overflow_add-sum : goal.overflow_add-sum
+overflow_add-sum c = grind (arith, common_steps)
+
+pub returns-then-sum-gt-MOST-clause-kept : goal.returns-then-sum-gt-MOST-clause-kept
+returns-then-sum-gt-MOST-clause-kept c = grind (arith, common_steps)

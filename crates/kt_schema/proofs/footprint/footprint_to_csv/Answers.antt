@@ -7,7 +7,8 @@ use Rattle.kt_cells.specs.Records.{record_rows, record_width}
 use Rattle.kt_schema.specs.Conversions.{canon}
 use Rattle.kt_schema.specs.Footprint.{indexed_rows}
 use Rattle.kt_schema.specs.Tables.{kinds_of}
-use Rattle.kt_schema.proofs.FootprintLemmas.{entry-within, records-are}
+use Rattle.kt_schema.specs.FootprintLaws.{entry-within}
+use Rattle.kt_schema.proofs.FootprintLemmas.{records-are}
 use Rattle.kt_schema.proofs.footprint.footprint_to_csv.Goals as goal
 
 pub push_events-requires : goal.push_events-requires

@@ -1,5 +1,5 @@
 use Rattle.std.proofs.Common.{◌++◌, ◌∙◌, ℕ, List, map, ap, sym, subst, arith, refl, slice_index_or}
-use Rattle.kt_tree.specs.Rising.{IsRising}
+use Rattle.kt_rec.specs.Rising.{IsRising}
 use Rattle.kt_shares.proofs.LayerLemmas.{layer_at, layers-step, place-le}
 use Rattle.kt_shares.proofs.layers.layers_by_top.Goals as goal
 

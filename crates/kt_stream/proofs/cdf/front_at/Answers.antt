@@ -10,3 +10,9 @@ returns-in-Some-outside c = grind (arith, common_steps)
 
 pub returns : goal.returns
 returns c = grind (arith, common_steps)
+
+pub returns-in-Some-id_fault : goal.returns-in-Some-id_fault
+returns-in-Some-id_fault c = grind (arith, common_steps)
+
+pub returns-then-bytes-lt-FRONT : goal.returns-then-bytes-lt-FRONT
+returns-then-bytes-lt-FRONT c = grind (arith, common_steps)

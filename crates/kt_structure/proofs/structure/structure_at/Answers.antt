@@ -8,7 +8,7 @@ use Rattle.kt_rec.specs.declared.financial.FmProfile.{FmProfile}
 use Rattle.kt_rec.specs.declared.financial.FmProgramme.{FmProgramme}
 use Rattle.kt_keys.specs.Keys.{same_pair, profile_of as profiles_of}
 use Rattle.kt_keys.specs.Units.{top_level}
-use Rattle.kt_checks.specs.OutputChecks.{next_unit}
+use Rattle.kt_keys.specs.Climbing.{next_unit}
 use Rattle.kt_structure.specs.Plan.{AreTerms, layer_link, link_key}
 use Rattle.kt_structure.proofs.FindLemmas.{tivs-beneath}
 use Rattle.kt_structure.proofs.MadeLemmas.{structure-made}

@@ -1,4 +1,5 @@
 use Rattle.std.proofs.Common.{List, ◌+◌, ◌<◌, length, map, slice_index_or, ap, subst, sym, arith, ◌∙◌}
+use Rattle.std.proofs.lemmas.Grind.{common_steps}
 use Rattle.std.proofs.lemmas.List.{length-map}
 use Rattle.kt_stream.specs.declared.entry.LossRecord.{LossRecord}
 use Rattle.kt_stream.specs.declared.entry.Pair.{Pair}
@@ -39,3 +40,15 @@ add_pairs-requires-clause-fits g c = λ k below.
       named_within sidx (map entry_of c.args.records.now) c.args.group.now c.loop-mapped.mapped-index none c.loop-mapped-test.true,
       c.requires.fits k (omega (arith, here.width_is)),
     )
+
+pub bounds-records-mapped : goal.bounds-records-mapped
+bounds-records-mapped g c = grind (arith, common_steps)
+
+pub loop-mapped-init : goal.loop-mapped-init
+loop-mapped-init g c = grind (arith, common_steps)
+
+pub loop-mapped-preserved : goal.loop-mapped-preserved
+loop-mapped-preserved g c = grind (arith, common_steps)
+
+pub returns : goal.returns
+returns g c = grind (arith, common_steps)

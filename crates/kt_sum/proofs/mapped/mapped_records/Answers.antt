@@ -1,4 +1,5 @@
 use Rattle.std.proofs.Common.{◌<◌, length, map, sym, ap, arith, ◌∙◌}
+use Rattle.std.proofs.lemmas.Grind.{common_steps}
 use Rattle.std.proofs.lemmas.List.{length-map}
 use Rattle.kt_stream.specs.declared.entry.LossRecord.{LossRecord}
 use Rattle.kt_tables.specs.Lookups.{summary_in}
@@ -20,3 +21,9 @@ loop-place-preserved g c =
       | in-Some+in_ok-push w ↦ rw (w.mapped-is) (mapped_some find records i entry below c.loop-place.mapped.items c.loop-place.invariant w.in-Some.summary (id_is ∙ (sym c.summary_of.ensures.value ∙ w.in-Some.is)) _ w.in_ok-push.ensures.items)
       | in_default w ↦ rw (w.mapped-is) (mapped_none find records i entry below c.loop-place.mapped.items c.loop-place.invariant (id_is ∙ (sym c.summary_of.ensures.value ∙ w.in_default.is)))
     ]
+
+pub loop-place-init : goal.loop-place-init
+loop-place-init g c = grind (arith, common_steps)
+
+pub returns : goal.returns
+returns g c = grind (arith, common_steps)

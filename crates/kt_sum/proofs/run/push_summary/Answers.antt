@@ -1,4 +1,5 @@
 use Rattle.std.proofs.Common.{List, length, map, sym, ap, arith, ◌∙◌}
+use Rattle.std.proofs.lemmas.Grind.{common_steps}
 use Rattle.std.proofs.lemmas.Bool.{eqb-false, eqb-true}
 use Rattle.kt_stream.specs.declared.entry.Pair.{Pair}
 use Rattle.kt_tables.specs.Lookups.{exposure_of, summary_in}
@@ -20,3 +21,12 @@ returns-else-not-is_empty-clause-ok g c =
     skipped (summary_in c.args.perspective c.args.portfolio.now.rows c.args.set) (exposure_of c.args.perspective c.args.portfolio.now.rows c.args.portfolio.now.need.rule c.args.set) (map g.T.RunEntry.entry_of c.args.records.now) c.args.summary c.args.group.now c.requires.members
     c.args.least (length c.args.sums.now) c.requires.span.range_is c.in_ok-pairs.pairs c.in_ok-pairs.ensures.value
     c.args.made.now.items (ap (λ (pairs : List Pair). length pairs) (sym c.as_slice.ensures.value) ∙ eqb-true (length c.as_slice.result.now) 0 (sym c.is_empty.ensures ∙ c.if-not-is_empty.false))
+
+pub group_pairs-requires-clause-within : goal.group_pairs-requires-clause-within
+group_pairs-requires-clause-within g c = grind (arith, common_steps)
+
+pub returns-else-not-is_empty-clause-zeros : goal.returns-else-not-is_empty-clause-zeros
+returns-else-not-is_empty-clause-zeros g c = grind (arith, common_steps)
+
+pub returns-in_ok-push-clause-zeros : goal.returns-in_ok-push-clause-zeros
+returns-in_ok-push-clause-zeros g c = grind (arith, common_steps)

@@ -1,4 +1,5 @@
 use Rattle.std.proofs.Common.{◌+◌, ◌<◌, length, map, min, max, arith}
+use Rattle.std.proofs.lemmas.Grind.{common_steps}
 use Rattle.std.proofs.lemmas.List.{length-map}
 use Rattle.kt_runs.specs.HeldLaws.{entry_at}
 use Rattle.kt_sum.proofs.SpanLemmas.{end_more}
@@ -17,3 +18,6 @@ loop-held-preserved g c =
       last = end_more (λ last place. max last (place + 1)) 0 _ _ records i c.entry.result.now c.as_slice.result.now below is c.as_slice.ensures.value here.last c.widened-ends.ensures.last;
       within = c.widened-ends.ensures.within;
     }
+
+pub returns : goal.returns
+returns g c = grind (arith, common_steps)

@@ -9,7 +9,7 @@ use Rattle.kt_rec.specs.declared.exposure.Item.{Item}
 use Rattle.kt_rec.specs.declared.financial.FmProgramme.{FmProgramme}
 use Rattle.kt_keys.specs.Keys.{same_pair, programme_of}
 use Rattle.kt_keys.specs.Units.{top_level}
-use Rattle.kt_checks.specs.OutputChecks.{climbed, next_unit}
+use Rattle.kt_keys.specs.Climbing.{climbed, next_unit}
 use Rattle.kt_index.specs.declared.exposure.UnitCoverage.{UnitCoverage}
 use Rattle.kt_index.specs.Exposure.{unit_covers}
 use Rattle.kt_tables.specs.Lookups.{is_unit, lies_beneath, top_unit}

@@ -12,10 +12,10 @@ pub returns-else-rule-eq0 : goal.returns-else-rule-eq0
 returns-else-rule-eq0 c = record {
   value =
       let rows = rows_of c.args.tables.now in
-      IfOk-weaker c.item_coverages.result _ (λ pairs. (unit : ℕ) (coverage : ℕ) → unit_covers pairs.items unit coverage ≡ unit_has rows c.args.rule unit coverage)
+      IfOk-weaker c.parts_of.result _ (λ pairs. (unit : ℕ) (coverage : ℕ) → unit_covers pairs.items unit coverage ≡ unit_has rows c.args.rule unit coverage)
       (λ pairs is unit coverage. ap (λ (list : List UnitCoverage). unit_covers list unit coverage) is
       ∙ (item-unit c.deref.result.now unit coverage
       ∙ (ap (λ (items : List Item). item_has items unit coverage) c.deref.ensures.value
       ∙ unit-not_zero rows c.args.rule unit coverage c.if-rule-eq0.false)))
-      c.item_coverages.ensures.value;
+      c.parts_of.ensures.value;
 }

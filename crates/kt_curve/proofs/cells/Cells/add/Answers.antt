@@ -1,5 +1,6 @@
 -- A record's losses, in the rows of its occurrences.
-use Rattle.std.proofs.Common.{◌≡◌, [], sym, ap}
+use Rattle.std.proofs.Common.{◌≡◌, [], sym, ap, arith}
+use Rattle.std.proofs.lemmas.Grind.{common_steps}
 use Rattle.std.specs.List.{flat_map}
 use Rattle.kt_curve.specs.Losses.{Added, all_losses, losses_of, pair_losses}
 use Rattle.kt_curve.specs.Standing.{Standing, first_stop}
@@ -33,3 +34,12 @@ returns-then-not-adds_any-clause-added c = λ history stands.
     let none = rw c.as_slice-pairs.ensures.value at (sym c.if-not-adds_any.ensures) in
     let empty : losses_of added ≡ [] = no_losses c.args.perspective c.args.set c.args.entry.now.summary c.args.at.now c.args.entry.now.pairs none in
     (ap (first_stop (all_losses history)) empty, rw (all_losses_push history added, empty, append_nil (all_losses history)) stands)
+
+pub returns-in-Err-clause-added : goal.returns-in-Err-clause-added
+returns-in-Err-clause-added c = grind (arith, common_steps)
+
+pub returns-in-Err-with_capacity-clause-added : goal.returns-in-Err-with_capacity-clause-added
+returns-in-Err-with_capacity-clause-added c = grind (arith, common_steps)
+
+pub add_pairs-requires : goal.add_pairs-requires
+add_pairs-requires c = grind (arith, common_steps)

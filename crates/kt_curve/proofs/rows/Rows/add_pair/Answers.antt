@@ -1,25 +1,16 @@
 -- The losses of a pair, occurrence by occurrence.
 use Rattle.std.proofs.Common.{◌≡◌, inl, inr, ◌≤◌, ℕ, arith, sym, ap, ◌∙◌, ⊎_elim}
-use Rattle.std.specs.Prelude.{true, false, Bool, ◌&&◌, nat_lt}
-use Rattle.std.proofs.lemmas.Bool.Decides.{nat_tests}
+use Rattle.std.proofs.lemmas.Grind.{common_steps}
 use Rattle.kt_rec.specs.declared.perspective.CellKey.{CellKey}
-use Rattle.kt_stream.specs.declared.entry.Pair.{Pair}
 use Rattle.kt_curve.specs.declared.rows.Spot.{Spot}
-use Rattle.kt_curve.specs.Losses.{is_added, has_cells}
 use Rattle.kt_curve.specs.Rows.{spot_loss}
+use Rattle.kt_curve.proofs.Averages.{added_some}
 use Rattle.kt_curve.proofs.Walks.{pair_more, pair_stop, returns_stop}
 use Rattle.kt_curve.proofs.rows.Rows.add_pair.Goals as goal
 
 -- no row
 abbrev none : Spot
 none = record { period = 0; row = 0 }
-
-added_some : (pair : Pair) → is_added pair ≡ true → 1 ≤ pair.loss
-added_some pair added = both (has_cells pair.sidx) (nat_lt 0 pair.loss) pair.loss added (λ e. grind (arith, nat_tests))
-  where
-    both : (a b : Bool) (loss : ℕ) → a && b ≡ true → (b ≡ true → 1 ≤ loss) → 1 ≤ loss
-    both true b loss e f = f e
-    both false b loss e f = cc
 
 pub loop-spot-preserved : goal.loop-spot-preserved
 loop-spot-preserved c =
@@ -41,3 +32,9 @@ returns-in-Err-clause-step c = λ before done going.
       ⊎_elim (λ e. inl e) (λ found. inr (pair_stop (spot_loss c.args.perspective c.args.set c.args.summary c.args.pair.now) c.args.spots.now c.loop-spot.spot-index none (record { key = c.key_of-key.result; loss = c.args.pair.now.loss }) before done c.in-Err.stop (omega arith) (ap (λ (k : CellKey). record { key = k; loss = c.args.pair.now.loss }) (sym c.key_of-key.ensures.value)) g.clear found)) s.0,
       returns_stop before _ _ _ _ _ g s.1 (c.in-Err.ensures.noted _ g.stands),
     )
+
+pub put-requires-clause-row : goal.put-requires-clause-row
+put-requires-clause-row c = grind (arith, common_steps)
+
+pub put-requires-clause-some : goal.put-requires-clause-some
+put-requires-clause-some c = added_some c.args.pair.now c.requires.added

@@ -1,5 +1,6 @@
 -- The losses of a record, pair by pair.
 use Rattle.std.proofs.Common.{◌≡◌, inl, inr, pos, List, [], arith, ◌∙◌, refl, ⊎_elim, cond}
+use Rattle.std.proofs.lemmas.Grind.{common_steps}
 use Rattle.std.specs.Prelude.{true, false, Bool}
 use Rattle.kt_stream.specs.declared.entry.Pair.{Pair}
 use Rattle.kt_curve.specs.Losses.{KeyLoss}
@@ -51,3 +52,9 @@ loop-pair-preserved-then-not-is_added c =
       going = λ before stands.
           going_passed (spot_losses c.args.perspective c.args.set c.args.summary c.args.spots.now) c.args.pairs.now c.loop-pair.pair-index none before _ _ (omega arith) (passed _ _ c.if-not-is_added.ensures) (now.going before stands);
     }
+
+pub returns-clause-step : goal.returns-clause-step
+returns-clause-step c = grind (arith, common_steps)
+
+pub add_pair-requires : goal.add_pair-requires
+add_pair-requires c = grind (arith, common_steps)

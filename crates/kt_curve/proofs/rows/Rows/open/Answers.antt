@@ -1,5 +1,6 @@
 -- A row with no cells behind the others.
-use Rattle.std.proofs.Common.{◌≡◌, ap, ◌∙◌, length, cond}
+use Rattle.std.proofs.Common.{◌≡◌, ap, ◌∙◌, length, cond, arith}
+use Rattle.std.proofs.lemmas.Grind.{common_steps}
 use Rattle.std.specs.Prelude.{Some}
 use Rattle.std.specs.Map.{lookup}
 use Rattle.kt_curve.specs.declared.row_key.IndexKey.{IndexKey}
@@ -28,3 +29,15 @@ pub returns-in-Ok-clause-ok : goal.returns-in-Ok-clause-ok
 returns-in-Ok-clause-ok c =
     let missing = rw (← c.self.view_is) at c.requires.absent in
     rw (c.in_ok-push.ensures.items, c.len-place.ensures, c.self.inside.rows.ok.0) (place_last c.self.inside.rows.items c.new.result c.args.key c.new.ensures.key missing)
+
+pub invariant_of-self : goal.invariant_of-self
+invariant_of-self c = grind (arith, common_steps)
+
+pub returns-clause-entries : goal.returns-clause-entries
+returns-clause-entries c = grind (arith, common_steps)
+
+pub returns-clause-rows : goal.returns-clause-rows
+returns-clause-rows c = grind (arith, common_steps)
+
+pub returns-in_err-push-clause-rows : goal.returns-in_err-push-clause-rows
+returns-in_err-push-clause-rows c = grind (arith, common_steps)

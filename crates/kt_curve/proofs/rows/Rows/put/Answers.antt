@@ -1,5 +1,6 @@
 -- One loss put in: the entries stand for one more, and the rows stay within their bounds.
 use Rattle.std.proofs.Common.{◌≡◌, ◌≤◌, ◌+◌, ℕ, [], ◌∷◌, ◌++◌, arith, inl, inr, refl, sym, ap, ◌∙◌, length, set}
+use Rattle.std.proofs.lemmas.Grind.{common_steps}
 use Rattle.std.specs.Prelude.{Some}
 use Rattle.std.proofs.lemmas.List.Elements.{All-push}
 use Rattle.kt_curve.specs.declared.cell.Change.{Change}
@@ -136,3 +137,12 @@ pub returns-clause-step : goal.returns-clause-step
 returns-clause-step c = λ losses stands.
     let kept = c.in-Err-set.ensures.err in
     (inl refl, rw (entries_same c.self.inside.rows.items c.args.row c.index_mut.result.now c.set.new.self c.index_mut.ensures.value (row_same c.index_mut.result.now c.set.new.self kept.0 kept.1)) (rw (← c.self.view_is) at stands))
+
+pub refusal-requires-clause-loss : goal.refusal-requires-clause-loss
+refusal-requires-clause-loss c = grind (arith, common_steps)
+
+pub returns-in-Ok-set-clause-size : goal.returns-in-Ok-set-clause-size
+returns-in-Ok-set-clause-size c = grind (arith, common_steps)
+
+pub returns-clause-noted : goal.returns-clause-noted
+returns-clause-noted c = grind (arith, common_steps)

@@ -1,5 +1,6 @@
 -- The row of one occurrence more.
 use Rattle.std.proofs.Common.{◌∙◌, arith, refl}
+use Rattle.std.proofs.lemmas.Grind.{common_steps}
 use Rattle.std.proofs.lemmas.List.Elements.{All-push, All-weaker}
 use Rattle.kt_rec.specs.declared.periods.Occurrence.{Occurrence}
 use Rattle.kt_curve.specs.declared.rows.Spot.{Spot}
@@ -22,3 +23,12 @@ loop-occurrence-preserved c =
           (λ (spot : Spot) there. c.in_ok-row.ensures.rows (row_for c.args.perspective c.args.set c.args.summary spot.period) spot.row there) _ now.spots) c.in_ok-row.ensures.ok);
       periods = rw c.in_ok-push.ensures.items (periods_more c.args.at.now c.loop-occurrence.occurrence-index c.loop-occurrence.spots.items _ none (omega arith) now.periods refl);
     }
+
+pub loop-occurrence-init : goal.loop-occurrence-init
+loop-occurrence-init c = grind (arith, common_steps)
+
+pub returns-clause-periods : goal.returns-clause-periods
+returns-clause-periods c = grind (arith, common_steps)
+
+pub row-requires : goal.row-requires
+row-requires c = grind (arith, common_steps)

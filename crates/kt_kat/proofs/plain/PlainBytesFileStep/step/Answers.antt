@@ -1,4 +1,5 @@
-use Rattle.std.proofs.Common.{◌+◌, sym, ap, subst, ◌∙◌, take, length}
+use Rattle.std.proofs.Common.{◌+◌, sym, ap, subst, ◌∙◌, take, length, arith}
+use Rattle.std.proofs.lemmas.Grind.{common_steps}
 use Rattle.std.specs.Prelude.{IfSome}
 use Rattle.kt_out.specs.InputFiles.{InputsState}
 use Rattle.kt_out.specs.Reading.{GivesKnown}
@@ -37,3 +38,9 @@ pieces-preserved g c =
       within = c.in-Ok-read_piece.ensures.within.2;
       copied = copied_more _ _ _ _ _ c.read_piece.new.block (take c.in-Ok-read_piece.read c.deref.result.now) c.pieces.at c.in-Ok-read_piece.read (file_bytes (g.I.Inputs.state c.args.inputs.now).held c.args.name.now) c.pieces.invariant.copied moved piece c.in_default-write_all.ensures.moved.moved;
     }
+
+pub pieces-init : goal.pieces-init
+pieces-init g c = grind (arith, common_steps)
+
+pub returns-clause-ended : goal.returns-clause-ended
+returns-clause-ended g c = grind (arith, common_steps)

@@ -1,4 +1,5 @@
-use Rattle.std.proofs.Common.{refl, sym, ap, ◌∙◌}
+use Rattle.std.proofs.Common.{refl, sym, ap, ◌∙◌, arith}
+use Rattle.std.proofs.lemmas.Grind.{common_steps}
 use Rattle.kt_loop.specs.InputFile.{file_bytes}
 use Rattle.kt_loop.specs.RecordStreams.{contents_of}
 use Rattle.kt_kat.specs.Joining.{or_head}
@@ -22,3 +23,9 @@ pub returns-clause-stands : goal.returns-clause-stands
 returns-clause-stands g c state is =
     header_known g.M.Record.Entry.form g.M.JoinedKind.shape c.args.self.now.first state c.args.number (file_bytes (g.I.Inputs.state c.args.inputs.now).held c.args.name.now) is c.run_over_file.new.reader c.first_of-self.result (c.first_of-self.ensures ∙ ap (or_head c.args.self.now.first) c.head.ensures.value)
     (c.in_default.ensures.read (contents_of g.M.Record.Entry.form g.M.JoinedKind.shape) (record { is = ap (contents_of g.M.Record.Entry.form) (sym c.reader-reader.ensures.shape); represents = c.reader-reader.ensures.value }))
+
+pub run_over_file-requires-clause-fresh : goal.run_over_file-requires-clause-fresh
+run_over_file-requires-clause-fresh g c = grind (arith, common_steps)
+
+pub returns-clause-counted : goal.returns-clause-counted
+returns-clause-counted g c outputs source = c.in_default.ensures.counted outputs source

@@ -1,4 +1,5 @@
-use Rattle.std.proofs.Common.{◌≡◌, List, sym, ap, ◌∙◌}
+use Rattle.std.proofs.Common.{◌≡◌, List, sym, ap, ◌∙◌, arith}
+use Rattle.std.proofs.lemmas.Grind.{common_steps}
 use Rattle.kt_stream.specs.declared.entry.Placed.{Placed}
 use Rattle.kt_loop.specs.Runs.{joins}
 use Rattle.kt_loop.proofs.RunLists.{run_longer}
@@ -27,3 +28,12 @@ pub judge_next-requires-clause-rising : goal.judge_next-requires-clause-rising
 judge_next-requires-clause-rising g c =
     run_longer g.E.RunRecord.key c.args.self.now.run.items (record { at = c.args.at; entry = c.args.entry }) c.requires.ready.1.1
     (ap (λ (run : List (Placed g.row.E.Denot)). joins g.E.RunRecord.key run (record { at = c.args.at; entry = c.args.entry })) (sym c.as_slice.ensures.value) ∙ sym c.joins_run.ensures ∙ c.if-joins_run.true)
+
+pub judge_next-requires-2-clause-rising : goal.judge_next-requires-2-clause-rising
+judge_next-requires-2-clause-rising g c = grind (arith, common_steps)
+
+pub judge_next-requires-2-clause-good : goal.judge_next-requires-2-clause-good
+judge_next-requires-2-clause-good g c = grind (arith, common_steps)
+
+pub returns-in-Err-clause-step : goal.returns-in-Err-clause-step
+returns-in-Err-clause-step g c = grind (arith, common_steps)

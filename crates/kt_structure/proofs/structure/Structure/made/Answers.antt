@@ -2,8 +2,8 @@ use Rattle.std.proofs.Common.{◌≡◌, ◌∙◌, ◌<◌, List, ℕ, map, len
 use Rattle.std.specs.HashMap.{get}
 use Rattle.std.specs.List.{All, AllByRecursion, filter, list_any}
 use Rattle.kt_keys.specs.Keys.{same_pair}
-use Rattle.kt_checks.specs.OutputChecks.{climbed}
-use Rattle.kt_tree.specs.Rising.{IsRising}
+use Rattle.kt_keys.specs.Climbing.{climbed}
+use Rattle.kt_rec.specs.Rising.{IsRising}
 use Rattle.kt_tree.specs.Tree.{is_unit}
 use Rattle.kt_fmtree.specs.Parts.{Parts, IsProgramme}
 use Rattle.kt_structure.specs.Plan.{build_leaves, build_levels, found_terms}

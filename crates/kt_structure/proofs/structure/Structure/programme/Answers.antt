@@ -1,5 +1,5 @@
 use Rattle.std.proofs.Common.{arith}
-use Rattle.kt_struck.specs.Struck.{struck}
+use Rattle.kt_tree.specs.Struck.{struck}
 use Rattle.kt_structure.specs.Structure.{kept_by}
 use Rattle.kt_structure.proofs.StruckLemmas.{fits-each, struck-fits}
 use Rattle.kt_structure.proofs.structure.Structure.programme.Goals as goal

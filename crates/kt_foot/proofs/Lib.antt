@@ -1,2 +1,0 @@
-mod SeenLemmas
-mod JudgeLemmas

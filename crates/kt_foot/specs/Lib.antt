@@ -1,2 +1,0 @@
-pub mod FootRows
-pub mod Seen

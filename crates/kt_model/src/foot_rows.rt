@@ -1,0 +1,85 @@
+//! The check of the footprint rows of an event.
+//! The rules: docs/CHECKS.md, "Footprint rows of an event".
+ghost use Rattle.std.specs.Prelude.{◌≡◌, ◌≤◌, ◌⊎◌, ℕ, List, [], ◌∷◌, ◌++◌, None, Some, OnOk, IfOk, IfErr};
+ghost use Rattle.kt_rec.specs.FootRows.{areaperil_total, field_cause, row_cause, first_refused_row};
+ghost use Rattle.kt_model.specs.Seen.{IsSeen};
+ghost use Rattle.kt_rec.specs.declared.foot_rows.ModelStop.TheVariants.{OutOfMemory};
+ghost use Rattle.kt_rec.specs.declared.hazard.FootRow.{FootRow};
+
+use kt_rec::{FootRow, ModelStop, RowCause};
+use std::alloc::{AllocError, Global};
+use std::collections::{HashMap, HashSet};
+
+/// Why the fields of a row are refused.
+fn field_cause(row: &FootRow) -> Option<RowCause>
+    ensures value { result ≡ field_cause row.now }
+{
+    if row.areaperil < 1 || row.areaperil > 2_147_483_647 {
+        return Some(RowCause::Areaperil);
+    }
+    if row.intensity < 1 || row.intensity > 10_000 {
+        return Some(RowCause::Intensity);
+    }
+    if row.prob > 1_000_000 {
+        return Some(RowCause::Prob);
+    }
+    None
+}
+
+/// What was seen of the rows so far: the pairs of areaperil and intensity, and the probabilities of each areaperil together.
+#[derive(Drop)]
+struct Seen {
+    pairs: HashSet<(u32, u32)>,
+    totals: HashMap<u32, u64>,
+}
+
+impl Seen {
+    /// Nothing was seen.
+    fn new(alloc: Global) -> Seen
+        ensures value { IsSeen [] result }
+    {
+        Seen {
+            pairs: HashSet::new(alloc),
+            totals: HashMap::new(alloc),
+        }
+    }
+
+    /// Sees one more row, and says why it is refused behind those seen so far.
+    fn see(&mut self, row: &FootRow) -> Result<Option<RowCause>, AllocError>
+        ensures cause { (rows : List FootRow) → IsSeen rows self.old → IfOk result (λ cause. cause ≡ row_cause rows row.now) }
+        ensures seen { (rows : List FootRow) → IsSeen rows self.old → IfOk result (λ cause. cause ≡ None → IsSeen (rows ++ row.now ∷ []) self.new) }
+    {
+        if let Some(cause) = field_cause(row) {
+            return Ok(Some(cause));
+        }
+        if !self.pairs.insert((row.areaperil, row.intensity))? {
+            return Ok(Some(RowCause::Twice));
+        }
+        let before = self.totals.get(&row.areaperil).copied().unwrap_or(0);
+        let total = before.saturating_add(u64::from(row.prob));
+        if total > 1_001_000 {
+            return Ok(Some(RowCause::Sum));
+        }
+        self.totals.insert(row.areaperil, total)?;
+        Ok(None)
+    }
+}
+
+/// Judges the rows of an event's footprint: the first that is refused, with its cause, or want of memory.
+pub fn check_rows(alloc: Global, rows: &[FootRow]) -> Result<(), ModelStop>
+    ensures ok { OnOk result (first_refused_row rows.now ≡ None) }
+    ensures within { OnOk result ((areaperil : ℕ) → areaperil_total rows.now areaperil ≤ 1001000) }
+
+    ensures refused { IfErr result (λ stop. (first_refused_row rows.now ≡ Some stop) ⊎ (stop ≡ OutOfMemory)) }
+{
+    let mut seen = Seen::new(alloc);
+    for (index, row) in rows.iter().enumerate() {
+        if let Some(cause) = seen.see(row)? {
+            return Err(ModelStop::Row {
+                row: index as u64 + 1,
+                cause,
+            });
+        }
+    }
+    Ok(())
+}

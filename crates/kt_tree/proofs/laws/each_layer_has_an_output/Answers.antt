@@ -1,5 +1,0 @@
-use Rattle.kt_tree.specs.OutputLaws.{outputs_of-tree}
-use Rattle.kt_tree.proofs.laws.each_layer_has_an_output.Goals as goal
-
-pub returns : goal.returns
-returns c = outputs_of-tree
