@@ -1,24 +1,22 @@
 -- The lines of the footprint, event by event.
-use Rattle.std.proofs.Common.{◌≡◌, ℕ, zero, suc, ◌+◌, ◌-◌, ◌*◌, ◌/◌, ◌<◌, List, [], ◌∷◌, ◌++◌, length, take, drop, get_or, Ok, refl, sym, ap, subst, ◌∙◌, arith, add-one, length-drop}
-use Rattle.std.specs.Prelude.{map, All, Result}
+use Rattle.std.proofs.Common.{◌≡◌, ℕ, ◌+◌, ◌-◌, ◌*◌, ◌/◌, ◌<◌, List, [], ◌∷◌, ◌++◌, length, take, drop, get_or, Ok, sym, ap, subst, ◌∙◌, arith, add-one, length-drop}
+use Rattle.std.specs.Prelude.{All, Result}
 use Rattle.std.proofs.Math.Nat.{div-mul-le_self}
 use Rattle.std.proofs.Math.Seq.{drop-cons, drop-length}
 use Rattle.kt_blocks.specs.Footprint.{AreEvents, IsJudgedFootprint}
 use Rattle.kt_blocks.specs.Tables.{rows_or_none}
 use Rattle.kt_cells.specs.Header.{header_extra}
 use Rattle.kt_cells.specs.Laws.{SlicesGiveSlices}
-use Rattle.kt_cells.specs.Lines.{line, fields_behind, rows_lines, lines_behind}
-use Rattle.kt_cells.specs.Ranges.{IsRow, AreRows}
+use Rattle.kt_cells.specs.Lines.{line, rows_lines, lines_behind}
+use Rattle.kt_cells.specs.Ranges.{AreRows}
 use Rattle.kt_cells.specs.Reading.{and_then}
 use Rattle.kt_cells.specs.Records.{record_rows, record_width}
-use Rattle.kt_cells.specs.Texts.{row_texts}
 use Rattle.kt_cells.specs.declared.kind.Kind.{Kind}
 use Rattle.kt_cells.specs.declared.stop.TableStop.{TableStop}
-use Rattle.kt_money.specs.NumberText.{count_text}
 use Rattle.kt_rec.specs.declared.hazard.FootprintIdx.{FootprintIdx}
 use Rattle.kt_rec.specs.declared.table.Table.TheVariants.{Footprint}
-use Rattle.kt_schema.specs.Conversions.{bin_rows, canon}
-use Rattle.kt_schema.specs.Footprint.{footprint_csv, AreRecords, IsEntryOf, HasRecords, first_record, record_number, entry_rows, indexed_rows}
+use Rattle.kt_schema.specs.Conversions.{canon}
+use Rattle.kt_schema.specs.Footprint.{footprint_csv, AreRecords, IsEntryOf, first_record, record_number, entry_rows, indexed_rows}
 use Rattle.kt_schema.specs.FootprintLaws.{AreRows-drop, AreRows-take, entry-within, event_lines, rows_lines-append}
 use Rattle.kt_schema.specs.Tables.{kinds_of, heading_of}
 

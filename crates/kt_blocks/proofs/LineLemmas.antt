@@ -1,14 +1,13 @@
 -- The lines of some records behind others.
-use Rattle.std.proofs.Common.{◌≡◌, ℕ, ◌+◌, ◌-◌, ◌*◌, ◌/◌, ◌≤◌, List, [], ◌∷◌, ◌++◌, length, take, drop, Ok, refl, sym, ap, ◌∙◌, arith, append_assoc, length-drop, drop-drop}
+use Rattle.std.proofs.Common.{◌≡◌, ℕ, ◌+◌, ◌-◌, ◌*◌, ◌/◌, ◌≤◌, List, [], ◌++◌, length, take, drop, Ok, sym, ap, ◌∙◌, arith, length-drop, drop-drop}
 use Rattle.std.specs.Prelude.{min}
 use Rattle.std.proofs.lemmas.List.{take_min, take-append-drop}
 use Rattle.std.proofs.Math.ListN.{drop_of_length-le}
 use Rattle.kt_blocks.specs.Tables.{AreLines, rows_or_none}
 use Rattle.kt_cells.specs.Laws.{SlicesGiveSlices}
-use Rattle.kt_cells.specs.Lines.{line, rows_lines}
+use Rattle.kt_cells.specs.Lines.{rows_lines}
 use Rattle.kt_cells.specs.Reading.{and_then}
 use Rattle.kt_cells.specs.Records.{record_rows}
-use Rattle.kt_cells.specs.Texts.{row_texts}
 use Rattle.kt_cells.specs.declared.kind.Kind.{Kind}
 use Rattle.kt_schema.specs.FootprintLaws.{rows_lines-append}
 

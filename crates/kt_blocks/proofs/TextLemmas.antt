@@ -1,5 +1,5 @@
 -- The files and texts of all tables but the footprint.
-use Rattle.std.proofs.Common.{◌≡◌, ◌*◌, ℕ, Bool, List, ◌++◌, Ok, drop, refl, sym, ap, ◌∙◌}
+use Rattle.std.proofs.Common.{◌≡◌, ◌*◌, ℕ, Bool, List, ◌++◌, Ok, drop, sym, ap, ◌∙◌}
 use Rattle.kt_blocks.specs.Tables.{IsJudged, rows_or_none}
 use Rattle.kt_cells.specs.Lines.{line, rows_lines}
 use Rattle.kt_cells.specs.Reading.{and_then, Tells-and_then}

@@ -5,7 +5,7 @@ use kt_cells::TableStop;
 use kt_out::Fault;
 
 /// Why the text of a file was not written, or not to its end.
-#[derive(Debug, Drop)]
+#[derive(Drop)]
 pub enum TextStop {
     /// The file is refused, or no memory was there: nothing is written.
     Refused(TableStop),

@@ -5,7 +5,7 @@ ghost use Rattle.kt_cells.specs.Kinds.{width, under, is_ppm, is_rule, lowest, hi
 use crate::stop::Cause;
 
 /// A term of a profile whose unit goes by the calculation rule.
-#[derive(Clone, Copy, Debug, PartialEq, Eq)]
+#[derive(Clone, Copy)]
 pub enum Term {
     /// `deductible1`.
     Deductible,
@@ -14,7 +14,7 @@ pub enum Term {
 }
 
 /// The kind of a column.
-#[derive(Clone, Copy, Debug, PartialEq, Eq)]
+#[derive(Clone, Copy)]
 pub enum Kind {
     /// A number that names something, 1 to 2,147,483,647.
     Id,

@@ -7,7 +7,7 @@ use kt_text::BadText;
 use std::alloc::{AllocError, AllocFailed};
 
 /// What is wrong with a row or a field.
-#[derive(Clone, Copy, Debug, PartialEq, Eq)]
+#[derive(Clone, Copy)]
 pub enum Cause {
     /// The row has another number of fields than the table has columns.
     Columns,
@@ -28,7 +28,7 @@ pub enum Cause {
 }
 
 /// Why a table is refused: the first place that is wrong.
-#[derive(Clone, Copy, Debug, PartialEq, Eq)]
+#[derive(Clone, Copy)]
 pub enum TableStop {
     /// The bytes are too few for a header, or do not begin with its mark.
     NotProfile,

@@ -9,7 +9,7 @@ use kt_rec::{Table, Tables};
 use std::alloc::{AllocError, Global};
 
 /// The numbers of distinct summaries, each with its set.
-#[derive(Clone, Copy, Debug, PartialEq, Eq, Drop)]
+#[derive(Clone, Copy, Drop)]
 pub struct SummaryCounts {
     /// Of items, in `gulsummaryxref`.
     pub of_items: u64,

@@ -28,7 +28,7 @@ pub(crate) struct Change {
 }
 
 /// Why cells refuse a record.
-#[derive(Clone, Copy, Debug, PartialEq)]
+#[derive(Clone, Copy)]
 pub enum CellStop {
     /// The next loss needs one more cell than the 20,000,000 that are held.
     Cells {

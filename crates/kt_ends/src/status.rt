@@ -10,7 +10,7 @@ use kt_words::WordStop;
 
 /// Why a run was refused: the first bad record or exceeded limit. A table is named by its file; that of
 /// the source is `source`.
-#[derive(Debug, Drop)]
+#[derive(Drop)]
 pub enum Refusal {
     /// The stream is refused.
     Stream(StreamStop),
@@ -122,7 +122,7 @@ pub enum Refusal {
 }
 
 /// How a run ended.
-#[derive(Debug, Drop)]
+#[derive(Drop)]
 pub enum Status {
     /// The input was read to its end, and all output was taken.
     Done,

@@ -9,7 +9,7 @@ use kt_out::Fault;
 use std::alloc::AllocError;
 
 /// Why a tool did not come to its end.
-#[derive(Debug, Drop)]
+#[derive(Drop)]
 pub enum ToolStop {
     /// The input is refused.
     Refused(Refusal),

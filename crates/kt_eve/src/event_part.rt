@@ -5,7 +5,7 @@ ghost use Rattle.std.specs.Result.{result_map_both};
 ghost use Rattle.kt_eve.specs.Parts.{end_of_part, part_or_none};
 
 /// There is no such part: its number is 0, or above the number of parts.
-#[derive(Clone, Copy, Debug, PartialEq, Eq)]
+#[derive(Clone, Copy)]
 pub struct BadPart;
 
 /// Part p of n of the events, of which none is moved: those from the position

@@ -5,7 +5,7 @@ use crate::sums::LayerSum;
 use kt_stream::{LossRecord, Records};
 
 /// The insured losses of a run.
-#[derive(Debug, Drop)]
+#[derive(Drop)]
 pub struct Insured {
     /// The records of the outputs, by rising output.
     pub records: Records<LossRecord>,

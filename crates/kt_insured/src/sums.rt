@@ -10,7 +10,7 @@ use kt_stream::Records;
 use std::alloc::{AllocError, Global};
 
 /// What the policy losses of a layer add to over the samples, and what its outputs have of them.
-#[derive(Clone, Copy, Debug, PartialEq, Eq)]
+#[derive(Clone, Copy)]
 pub struct LayerSum {
     /// The event.
     pub event: u32,

@@ -7,7 +7,7 @@ use kt_rec::{Table, TableId, TableSet};
 use std::alloc::AllocError;
 
 /// What a command needs of the tables.
-#[derive(Clone, Copy, Debug)]
+#[derive(Clone, Copy)]
 pub struct Need {
     /// The tables of the command. A check is made where all tables that it names are here.
     pub loaded: TableSet,
@@ -32,7 +32,7 @@ impl Need {
 }
 
 /// What a check refuses.
-#[derive(Clone, Copy, Debug, PartialEq, Eq, Drop)]
+#[derive(Clone, Copy, Drop)]
 pub struct Refusal {
     /// The number of the check, 1 to 21.
     pub number: u32,
@@ -55,7 +55,7 @@ impl Refusal {
 }
 
 /// Why tables do not make a portfolio.
-#[derive(Clone, Copy, Debug, PartialEq, Eq, Drop)]
+#[derive(Clone, Copy, Drop)]
 pub enum CheckStop {
     /// A check refuses a table.
     Check {

@@ -9,7 +9,7 @@ use kt_rec::Name;
 use std::alloc::AllocError;
 
 /// Why the tables of a run are not loaded: the first that is missing, too large or bad, or that a check refuses.
-#[derive(Debug, Drop)]
+#[derive(Drop)]
 pub enum LoadStop {
     /// There is no file of this name. Comes only where the inputs counted a miss.
     Missing {

@@ -8,7 +8,7 @@ use std::marker::Model;
 pub type OutOfMemory = AllocError;
 
 /// Bytes in their order, as the text of a table or the content of a stream.
-#[derive(Debug, Drop)]
+#[derive(Drop)]
 pub struct Bytes {
     bytes: Vec<u8>,
 }

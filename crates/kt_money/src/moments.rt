@@ -6,7 +6,7 @@ use crate::quotient::divide;
 use crate::square_root::isqrt;
 
 /// Mean and standard deviation of some amounts, in cents.
-#[derive(Clone, Copy, Debug, PartialEq)]
+#[derive(Clone, Copy)]
 pub struct MeanSd {
     /// The mean, to the nearest cent, halves up.
     pub mean: u64,

@@ -12,7 +12,7 @@ pub const ROW_BYTES: usize = 256;
 
 /// A row of text on the stack. Each call puts its text in front of what is there, so a row is filled from its last
 /// field to its first, and then appended to `Bytes` as a whole: half the time of an append for each field.
-#[derive(Debug, Drop)]
+#[derive(Drop)]
 pub struct Row {
     bytes: [u8; ROW_BYTES],
     start: usize,

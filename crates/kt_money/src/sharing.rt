@@ -8,7 +8,7 @@ use std::marker::Model;
 
 /// A total in cents that is shared out over weights, one after the other. The shares of all weights add to the total,
 /// and a weight of 0 has a share of 0.
-#[derive(Debug, Drop)]
+#[derive(Drop)]
 pub struct ShareOut {
     total: u64,
     weights: u128,

@@ -4,11 +4,11 @@ ghost use Rattle.std.specs.Prelude.{◌≡◌};
 use std::alloc::{AllocError, AllocFailed};
 
 /// A read failed. The object's count of faults rose in that call.
-#[derive(Clone, Copy, Debug, PartialEq, Eq)]
+#[derive(Clone, Copy)]
 pub struct Failed;
 
 /// Why a write, or a read from a file, moved no byte.
-#[derive(Clone, Copy, Debug, PartialEq, Eq)]
+#[derive(Clone, Copy)]
 pub enum Fault {
     /// The object failed: its count of faults rose in that call.
     Failed,
@@ -17,7 +17,7 @@ pub enum Fault {
 }
 
 /// Why the size of a file was not found.
-#[derive(Clone, Copy, Debug, PartialEq, Eq)]
+#[derive(Clone, Copy)]
 pub enum Absent {
     /// The object failed: its count of faults rose in that call.
     Failed,

@@ -10,7 +10,7 @@ use kt_money::{Bytes, OutOfMemory};
 use kt_rec::{Curve, Perspective};
 
 /// A table of a summary stream over all periods.
-#[derive(Clone, Copy, Debug, PartialEq)]
+#[derive(Clone, Copy)]
 pub(crate) enum PeriodTable {
     /// The average annual loss of each summary.
     AverageAnnualLoss,

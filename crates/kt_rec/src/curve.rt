@@ -3,7 +3,7 @@
 
 /// Which losses a curve ranks, and how it takes the samples. An aep curve ranks the totals of the periods, an oep curve the
 /// greatest losses.
-#[derive(Clone, Copy, Debug, PartialEq, Eq)]
+#[derive(Clone, Copy, Debug)]
 pub enum Curve {
     /// Letter F: the totals of the mean, and those of all samples in one.
     FullAep,

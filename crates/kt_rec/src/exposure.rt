@@ -1,7 +1,7 @@
 //! What is insured: items and the coverages that they belong to.
 
 /// A row of `items`: a risk at a place, with the vulnerability that turns hazard into damage.
-#[derive(Clone, Copy, Debug, PartialEq, Eq)]
+#[derive(Clone, Copy)]
 pub struct Item {
     /// The item.
     pub item_id: u32,
@@ -16,7 +16,7 @@ pub struct Item {
 }
 
 /// A row of `coverages`.
-#[derive(Clone, Copy, Debug, PartialEq, Eq)]
+#[derive(Clone, Copy)]
 pub struct Coverage {
     /// The coverage.
     pub coverage_id: u32,

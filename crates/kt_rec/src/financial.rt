@@ -1,7 +1,7 @@
 //! The financial terms: how losses are added up, and what an insurer pays of them.
 
 /// A row of `fm_programme`: the losses of one unit go into those of another.
-#[derive(Clone, Copy, Debug, PartialEq, Eq)]
+#[derive(Clone, Copy)]
 pub struct FmProgramme {
     /// The unit whose losses are added.
     pub from_agg_id: u32,
@@ -12,7 +12,7 @@ pub struct FmProgramme {
 }
 
 /// A row of `fm_policytc`: the terms of a layer of a unit.
-#[derive(Clone, Copy, Debug, PartialEq, Eq)]
+#[derive(Clone, Copy)]
 pub struct FmPolicytc {
     /// The layer, 1 to 50.
     pub layer_id: u32,
@@ -26,7 +26,7 @@ pub struct FmPolicytc {
 
 /// A row of `fm_profile`: a calculation rule and its terms. Whether `deductible1` and `limit1` are cents or parts per
 /// million goes by the rule.
-#[derive(Clone, Copy, Debug, PartialEq, Eq)]
+#[derive(Clone, Copy)]
 pub struct FmProfile {
     /// The profile.
     pub policytc_id: u32,
@@ -51,7 +51,7 @@ pub struct FmProfile {
 }
 
 /// A row of `fm_xref`: an output of the financial module.
-#[derive(Clone, Copy, Debug, PartialEq, Eq)]
+#[derive(Clone, Copy)]
 pub struct FmXref {
     /// The output.
     pub output_id: u32,

@@ -5,7 +5,7 @@ ghost use Rattle.std.specs.Prelude.{◌≡◌};
 use std::alloc::AllocError;
 
 /// Why a row of an event's footprint is refused.
-#[derive(Clone, Copy, Debug, PartialEq, Eq)]
+#[derive(Clone, Copy)]
 pub enum RowCause {
     /// The areaperil is not from 1 to 2,147,483,647.
     Areaperil,
@@ -20,7 +20,7 @@ pub enum RowCause {
 }
 
 /// Why an event has no distributions.
-#[derive(Clone, Copy, Debug, PartialEq, Eq)]
+#[derive(Clone, Copy)]
 pub enum ModelStop {
     /// A row of its footprint is refused.
     Row {

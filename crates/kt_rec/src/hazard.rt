@@ -1,14 +1,14 @@
 //! What strikes: events, their footprints, and the damage that an intensity does.
 
 /// A row of `events`.
-#[derive(Clone, Copy, Debug, PartialEq, Eq)]
+#[derive(Clone, Copy)]
 pub struct Event {
     /// The event.
     pub event_id: u32,
 }
 
 /// A row of `footprint`: the probability of an intensity at a place in an event.
-#[derive(Clone, Copy, Debug, PartialEq, Eq)]
+#[derive(Clone, Copy)]
 pub struct Footprint {
     /// The event.
     pub event_id: u32,
@@ -21,7 +21,7 @@ pub struct Footprint {
 }
 
 /// A row of `footprint_idx`: where the records of an event stand in the footprint file.
-#[derive(Clone, Copy, Debug, PartialEq, Eq)]
+#[derive(Clone, Copy)]
 pub struct FootprintIdx {
     /// The event.
     pub event_id: u32,
@@ -32,7 +32,7 @@ pub struct FootprintIdx {
 }
 
 /// A row of `vulnerability`: the probability of a damage at an intensity.
-#[derive(Clone, Copy, Debug, PartialEq, Eq)]
+#[derive(Clone, Copy)]
 pub struct Vulnerability {
     /// The vulnerability.
     pub vulnerability_id: u32,
@@ -45,7 +45,7 @@ pub struct Vulnerability {
 }
 
 /// A row of `damage_bin_dict`: a range of damage, as parts of the insured value.
-#[derive(Clone, Copy, Debug, PartialEq, Eq)]
+#[derive(Clone, Copy)]
 pub struct DamageBin {
     /// The damage bin, 1 to 1,000.
     pub bin_index: u32,
@@ -60,14 +60,14 @@ pub struct DamageBin {
 }
 
 /// A row of `random`.
-#[derive(Clone, Copy, Debug, PartialEq, Eq)]
+#[derive(Clone, Copy)]
 pub struct Random {
     /// A random number in parts per million.
     pub random: u32,
 }
 
 /// A row of the footprint of one event.
-#[derive(Clone, Copy, Debug, PartialEq, Eq)]
+#[derive(Clone, Copy)]
 pub struct FootRow {
     /// The area and peril.
     pub areaperil: u32,

@@ -1,7 +1,7 @@
 //! When events occur, and the return periods of a loss curve.
 
 /// A row of `occurrence`: an event occurs in a period, on a date.
-#[derive(Clone, Copy, Debug, PartialEq, Eq)]
+#[derive(Clone, Copy)]
 pub struct Occurrence {
     /// The event.
     pub event_id: u32,
@@ -16,7 +16,7 @@ pub struct Occurrence {
 }
 
 /// A row of `returnperiods`.
-#[derive(Clone, Copy, Debug, PartialEq, Eq)]
+#[derive(Clone, Copy)]
 pub struct ReturnPeriod {
     /// The return period, in periods.
     pub return_period: u32,

@@ -1,7 +1,7 @@
 //! How losses are summed for reports.
 
 /// A row of `gulsummaryxref`: the summary of an item in a summary set.
-#[derive(Clone, Copy, Debug, PartialEq, Eq)]
+#[derive(Clone, Copy)]
 pub struct GulSummaryXref {
     /// The item.
     pub item_id: u32,
@@ -12,7 +12,7 @@ pub struct GulSummaryXref {
 }
 
 /// A row of `fmsummaryxref`: the summary of an output in a summary set.
-#[derive(Clone, Copy, Debug, PartialEq, Eq)]
+#[derive(Clone, Copy)]
 pub struct FmSummaryXref {
     /// The output.
     pub output_id: u32,

@@ -3,7 +3,7 @@ ghost use Rattle.std.specs.Prelude.{◌≡◌, codes};
 ghost use Rattle.kt_rec.specs.TableNames.{number_of, name_of, file_of};
 
 /// A table.
-#[derive(Clone, Copy, Debug, PartialEq, Eq, PartialOrd, Ord)]
+#[derive(Clone, Copy, Debug)]
 pub enum Table {
     /// The events of a run.
     Events = 1,
@@ -97,7 +97,7 @@ impl Table {
 }
 
 /// A table of the base, or of a reinsurance stage. Its order is that of loading: the base by number, then stage by stage.
-#[derive(Clone, Copy, Debug, PartialEq, Eq, PartialOrd, Ord)]
+#[derive(Clone, Copy)]
 pub struct TableId {
     /// 0 for the base; a stage, 1 to 9, has `fm_programme`, `fm_policytc` and `fm_profile` alone.
     pub stage: u32,

@@ -9,7 +9,7 @@ use crate::table::TableId;
 const PLACES: usize = 160;
 
 /// A set of tables of the base and of the stages. Contracts see it by `is_in`.
-#[derive(Clone, Copy, Debug)]
+#[derive(Clone, Copy)]
 pub struct TableSet {
     present: [bool; PLACES],
 }

@@ -13,7 +13,7 @@ use std::alloc::Global;
 pub const PROGRAMMES: usize = 10;
 
 /// The three financial tables of the base or of a reinsurance stage.
-#[derive(Debug, Drop)]
+#[derive(Drop)]
 pub struct FinancialTables {
     /// The rows of `fm_programme`.
     pub programme: Vec<FmProgramme>,
@@ -24,7 +24,7 @@ pub struct FinancialTables {
 }
 
 /// The rows of each table. What is not loaded is an empty list or 0.
-#[derive(Debug, Drop)]
+#[derive(Drop)]
 pub struct Tables {
     /// The rows of `events`.
     pub events: Vec<Event>,

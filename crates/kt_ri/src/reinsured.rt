@@ -20,7 +20,7 @@ use kt_structure::Structure;
 use std::alloc::{AllocError, Global};
 
 /// The losses of a run behind a stage.
-#[derive(Debug, Drop)]
+#[derive(Drop)]
 pub struct Reinsured {
     /// What is left of the records, in their order.
     pub net: Records<LossRecord>,

@@ -2,7 +2,7 @@
 //! The rule: docs/FINANCIAL_MODULE.md, "The four amounts".
 
 /// A loss and the amounts that terms took from it, in cents. Each rule keeps the sum of the four.
-#[derive(Clone, Copy, Debug, PartialEq, Eq)]
+#[derive(Clone, Copy)]
 pub struct Carry {
     /// The loss that is left to the insurer.
     pub loss: u64,

@@ -7,7 +7,7 @@ ghost use Rattle.kt_rules.specs.Profiles.{is_good, profile_of, IsProfile};
 use kt_rec::FmProfile;
 
 /// A calculation rule and its terms.
-#[derive(Clone, Copy, Debug, PartialEq, Eq)]
+#[derive(Clone, Copy)]
 pub struct Profile {
     /// The rule, 1 to 26 or 100.
     pub rule: u32,
@@ -30,7 +30,7 @@ pub struct Profile {
 }
 
 /// A row has an unknown rule, or a term out of its range.
-#[derive(Clone, Copy, Debug, PartialEq, Eq)]
+#[derive(Clone, Copy)]
 pub struct BadProfile;
 
 /// The most cents of a term.

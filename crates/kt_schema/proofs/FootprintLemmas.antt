@@ -1,22 +1,19 @@
 -- The lines of the footprint, event by event.
-use Rattle.std.proofs.Common.{◌≡◌, ℕ, zero, suc, ◌+◌, ◌-◌, ◌*◌, ◌/◌, ◌<◌, List, [], ◌∷◌, ◌++◌, length, take, drop, get_or, refl, ap, arith, append_assoc}
-use Rattle.std.specs.Prelude.{map, Result, Ok}
+use Rattle.std.proofs.Common.{◌≡◌, ℕ, ◌+◌, ◌*◌, ◌/◌, ◌<◌, List, ◌∷◌, ◌++◌, length, take, drop, get_or, refl, arith, append_assoc}
+use Rattle.std.specs.Prelude.{Result, Ok}
 use Rattle.std.proofs.Math.Nat.{div-mul-le_self}
 use Rattle.kt_rec.specs.declared.hazard.FootprintIdx.{FootprintIdx}
 use Rattle.kt_rec.specs.declared.table.Table.TheVariants.{Footprint}
-use Rattle.kt_cells.specs.Lines.{line, fields_behind, rows_lines, lines_behind}
+use Rattle.kt_cells.specs.Lines.{rows_lines, lines_behind}
 use Rattle.kt_cells.specs.Laws.{SlicesGiveSlices}
-use Rattle.kt_cells.specs.Ranges.{IsRow, AreRows}
+use Rattle.kt_cells.specs.Ranges.{AreRows}
 use Rattle.kt_cells.specs.Reading.{and_then}
 use Rattle.kt_cells.specs.Records.{record_rows, record_width}
 use Rattle.kt_cells.specs.Stops.{Tells}
 use Rattle.kt_cells.specs.declared.stop.TableStop.{TableStop}
 use Rattle.kt_cells.specs.declared.stop.TableStop.TheVariants as stop
-use Rattle.kt_cells.specs.Texts.{row_texts}
-use Rattle.kt_cells.specs.declared.kind.Kind.{Kind}
-use Rattle.kt_money.specs.NumberText.{count_text}
 use Rattle.kt_schema.specs.FootprintLaws.{AreRows-drop, AreRows-take, event_lines, rows_lines-append}
-use Rattle.kt_schema.specs.Footprint.{AreRecords, IsEntryOf, HasRecords, first_record, record_number, entry_rows, indexed_rows}
+use Rattle.kt_schema.specs.Footprint.{AreRecords, HasRecords, first_record, record_number, entry_rows, indexed_rows}
 use Rattle.kt_schema.specs.Index.{footprint_width}
 use Rattle.kt_schema.specs.Tables.{kinds_of}
 use Rattle.kt_schema.proofs.IndexLemmas.{drop-step}

@@ -52,7 +52,7 @@ impl RowSink<4> for FootprintRecords {
 }
 
 /// Takes rows and keeps none: what is read is judged, and no more.
-#[derive(Clone, Copy, Debug)]
+#[derive(Clone, Copy)]
 pub struct Judged;
 
 impl<const N: usize> RowSink<N> for Judged {

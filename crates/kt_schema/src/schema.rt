@@ -3,7 +3,7 @@
 use kt_cells::{Kind, Term};
 
 /// A table of `N` columns.
-#[derive(Clone, Copy, Debug, PartialEq, Eq)]
+#[derive(Clone, Copy)]
 pub struct Schema<const N: usize> {
     /// The table's number.
     pub number: u32,

@@ -6,7 +6,7 @@ use std::alloc::{AllocError, Global};
 use std::marker::Model;
 
 /// The loss of one sidx.
-#[derive(Clone, Copy, Debug, PartialEq, Eq)]
+#[derive(Clone, Copy)]
 pub struct Pair {
     /// -1 for the mean, -2 for the standard deviation, 1 and up for the samples.
     pub sidx: i32,
@@ -15,7 +15,7 @@ pub struct Pair {
 }
 
 /// A list, of records or of what one record has. Contracts see the list.
-#[derive(Debug, Drop)]
+#[derive(Drop)]
 pub struct Records<T> {
     items: Vec<T>,
 }
@@ -75,7 +75,7 @@ impl<T: Drop> Records<T> {
 pub type Pairs = Records<Pair>;
 
 /// A bin of a damage distribution.
-#[derive(Clone, Copy, Debug, PartialEq, Eq)]
+#[derive(Clone, Copy)]
 pub struct Bin {
     /// The cumulative probability up to this bin's upper end, at most 1,002,001,000,000.
     pub prob_to: u64,
@@ -87,7 +87,7 @@ pub struct Bin {
 pub type Bins = Records<Bin>;
 
 /// The damage distribution of one area peril and vulnerability in one event.
-#[derive(Debug, Drop)]
+#[derive(Drop)]
 pub struct Cdf {
     /// The event's id, from 1 to 2,147,483,647.
     pub event: u32,
@@ -100,7 +100,7 @@ pub struct Cdf {
 }
 
 /// The losses of one item, or of one output of a programme, in one event.
-#[derive(Debug, Drop)]
+#[derive(Drop)]
 pub struct LossRecord {
     /// The event's id, from 1 to 2,147,483,647.
     pub event: u32,
@@ -111,7 +111,7 @@ pub struct LossRecord {
 }
 
 /// The losses of one summary id in one event.
-#[derive(Debug, Drop)]
+#[derive(Drop)]
 pub struct SummaryRecord {
     /// The event's id, from 1 to 2,147,483,647.
     pub event: u32,
@@ -124,7 +124,7 @@ pub struct SummaryRecord {
 }
 
 /// A record, and the byte of the stream at which it begins.
-#[derive(Debug, Drop)]
+#[derive(Drop)]
 pub struct Placed<R> {
     /// The first byte of the record, counted from 0 in the whole stream.
     pub at: u64,

@@ -18,7 +18,7 @@ use std::alloc::{AllocError, Global};
 const ID: usize = 4;
 
 /// The id of an event.
-#[derive(Clone, Copy, Debug, PartialEq, Eq, Drop)]
+#[derive(Clone, Copy, Drop)]
 pub struct EventId {
     /// From 1 to 2,147,483,647.
     pub event: u32,

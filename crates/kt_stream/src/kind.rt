@@ -4,7 +4,7 @@ ghost use Rattle.std.specs.Prelude.{◌≡◌};
 ghost use Rattle.kt_stream.specs.Header.{id_of};
 
 /// The kind of a stream.
-#[derive(Clone, Copy, Debug, PartialEq, Eq)]
+#[derive(Clone, Copy)]
 pub enum StreamKind {
     /// Damage distributions.
     Cdf,
@@ -34,7 +34,7 @@ impl StreamKind {
 }
 
 /// The header of a stream.
-#[derive(Clone, Copy, Debug, PartialEq, Eq)]
+#[derive(Clone, Copy)]
 pub struct Head {
     /// The number of samples, from 1 to 1,000; 0 where the kind has no such field.
     pub samples: u32,

@@ -8,7 +8,7 @@ use crate::read::{HeaderFault, Misfit};
 use std::alloc::AllocError;
 
 /// What is wrong with a field of a record.
-#[derive(Clone, Copy, Debug, PartialEq, Eq)]
+#[derive(Clone, Copy)]
 pub enum RecordCause {
     /// An id is not 1 to 2,147,483,647.
     Id,
@@ -31,7 +31,7 @@ pub enum RecordCause {
 }
 
 /// Why a stream is refused.
-#[derive(Clone, Copy, Debug, PartialEq, Eq)]
+#[derive(Clone, Copy)]
 pub enum StreamStop {
     /// The type in bytes 1 to 3 is not 101.
     NotProfile,

@@ -1,7 +1,7 @@
 //! Where the records of an event stand in the footprint file.
 
 /// The place of the records of an event in the footprint file.
-#[derive(Clone, Copy, Debug, PartialEq, Eq, Drop)]
+#[derive(Clone, Copy, Drop)]
 pub struct Place {
     /// The byte at which the first record begins.
     pub at: u64,

@@ -1,7 +1,7 @@
 //! Why a text stands for no number.
 
 /// Why a text stands for no number. Where several causes hold, the one that is listed first is told.
-#[derive(Clone, Copy, Debug, PartialEq, Eq)]
+#[derive(Clone, Copy)]
 pub enum BadText {
     /// The text has not the form of a number.
     NotANumber,

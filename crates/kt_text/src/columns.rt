@@ -13,7 +13,7 @@ use csv::{ByteRecord, Reader};
 use std::alloc::{AllocError, AllocFailed, Global};
 
 /// Why the fields of a text are not given.
-#[derive(Clone, Copy, Debug, PartialEq, Eq)]
+#[derive(Clone, Copy)]
 pub enum FieldStop {
     /// A row has another number of fields than the table has columns.
     Columns {

@@ -10,7 +10,7 @@ use crate::front_digits::{FrontDigits, front_digits};
 const MOST_WHOLE: usize = 11;
 
 /// A number at the front of a text, and how many bytes write it.
-#[derive(Clone, Copy, Debug, PartialEq, Eq)]
+#[derive(Clone, Copy)]
 pub struct FrontNumber {
     /// How many bytes write it, at least one.
     pub size: usize,

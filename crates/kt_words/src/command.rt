@@ -18,7 +18,7 @@ use crate::words::Words;
 use kt_rec::{Curve, Table};
 
 /// A way from one form of a table to the other.
-#[derive(Clone, Copy, Debug, PartialEq, Eq)]
+#[derive(Clone, Copy, Debug)]
 pub enum Conversion {
     /// From text to file.
     ToFile {
@@ -35,7 +35,7 @@ pub enum Conversion {
 }
 
 /// What the words ask for.
-#[derive(Clone, Copy, Debug, PartialEq, Eq)]
+#[derive(Clone, Copy, Debug)]
 pub enum Command {
     /// Insured losses.
     Fmcalc {

@@ -2,7 +2,7 @@
 //! The rules: docs/COMMANDS.md, "Words".
 
 /// Why a word is refused.
-#[derive(Clone, Copy, Debug, PartialEq, Eq)]
+#[derive(Clone, Copy)]
 pub enum WordCause {
     /// A word is wanted that is not there.
     Missing,
@@ -25,7 +25,7 @@ pub enum WordCause {
 }
 
 /// The first faulty word, and why it is refused.
-#[derive(Clone, Copy, Debug, PartialEq, Eq)]
+#[derive(Clone, Copy)]
 pub struct WordStop {
     /// The number of the word, counted from 1; of a missing word, the number that it would have.
     pub word: u32,

@@ -9,7 +9,7 @@ use crate::stop::WordCause;
 use crate::value::LONGEST_WORD;
 
 /// A tool.
-#[derive(Clone, Copy, Debug, PartialEq, Eq)]
+#[derive(Clone, Copy)]
 pub enum Tool {
     /// `eve`: the events of a part of the event list.
     Eve,

@@ -9,7 +9,7 @@ use std::marker::Model;
 pub const WORDS_LIMIT: usize = 4_294_967_294;
 
 /// A list of byte strings: the words of a call after the program's name.
-#[derive(Debug, Drop)]
+#[derive(Drop)]
 pub struct Words {
     alloc: Global,
     items: Vec<Vec<u8>>,
