@@ -34,12 +34,6 @@ pub sum_by-map : {X Y : Type 0} (f : Y → ℕ) (g : X → Y) (xs : List X) → 
 sum_by-map f g [] = refl
 sum_by-map f g (x ∷ xs) = omega (arith, sum_by-cons f (g x) (map g xs), sum_by-cons (λ y. f (g y)) x xs, sum_by-map f g xs)
 
--- what holds of each holds of the one in a place
-pub each-at : {X : Type 0} (P : X → Type 0) (xs : List X) → AllByRecursion P xs → (k : ℕ) (d : X) → k < length xs → P (get_or xs k d)
-each-at P [] all k d below = absurd (omega arith)
-each-at P (x ∷ xs) all zero d below = all.0
-each-at P (x ∷ xs) all (suc k) d below = each-at P xs all.1 k d (omega arith)
-
 -- ---- one level, part by part
 
 -- how far a level has been given down

@@ -14,8 +14,8 @@ use kt_fmtree::Programme;
 use kt_money::ShareOut;
 use std::alloc::{AllocError, Global};
 
-/// As many zeros.
-fn zeros(alloc: Global, width: usize) -> Result<Vec<u64>, AllocError>
+/// As many zeros. An error is want of memory.
+pub fn zeros(alloc: Global, width: usize) -> Result<Vec<u64>, AllocError>
     ensures value { IfOk result (λ zeros. zeros.items ≡ replicate width 0) }
 {
     vec![in alloc; 0; width]
@@ -84,8 +84,8 @@ pub(crate) fn parts_by_id(
     Ok(amounts)
 }
 
-/// Weights added, which add to at most 10^16.
-fn total_of(weights: &[u64]) -> u64
+/// Weights or amounts in cents, added, which add to at most 10^16.
+pub fn total_of(weights: &[u64]) -> u64
     requires { sum weights.now ≤ 10 ^ 16 }
     ensures value { result ≡ sum weights.now }
 {

@@ -20,7 +20,7 @@ use Rattle.kt_shares.specs.RecordLaws.{record-good}
 use Rattle.kt_shares.specs.RowLaws.{rows-are}
 use Rattle.kt_shares.specs.Shares.{insured_range, layers_of, part_of_id, record_with, sample_range}
 use Rattle.kt_shares.specs.Table.{row_place}
-use Rattle.kt_ri.specs.Ceded.{AreCeded, AreRows, IsPlaceIn, ceded_in, ceded_pairs, net_pairs}
+use Rattle.kt_ri.specs.Ceded.{AreCeded, AreRows, IsPlaceIn, ceded_in, pairs_behind, part_behind}
 use Rattle.kt_ri.specs.Ceding.{IsPlaceOf}
 use Rattle.kt_ri.specs.Reinsurance.{ceded_at, ceded_loss, net_record, net_records}
 
@@ -61,15 +61,11 @@ module _ (tree : Tree) (parts : Parts) (is : IsProgramme tree parts) (rule sampl
   ceded-at None none row below = sym (ceded-none tree _ rule id (subst (λ ids. list_any (nat_eq id) ids ≡ false) is.ids_are none))
   ceded-at (Some place) found row below = are tree is row place below found.0 ∙ ap (λ id. ceded_at tree rule records id (sidx_at (row_place row))) found.1
 
-  -- the pairs of a record are those of its net losses
-  pub net-are : (place : Option ℕ) → IsPlaceOf parts.ids id place → (pairs : List Pair) → net_pairs rows samples place pairs ≡ pairs_of (λ sidx. loss_of sidx pairs - ceded_at tree rule records id sidx) (insured_range samples)
-  net-are place found pairs =
-      rows-are samples (λ row. loss_of (sidx_at (row_place row)) pairs - ceded_in rows place row) (λ sidx. loss_of sidx pairs - ceded_at tree rule records id sidx)
-      (λ row below. ap (λ n. loss_of (sidx_at (row_place row)) pairs - n) (ceded-at place found row below))
-
-  -- and of its ceded losses
-  pub ceded-are : (place : Option ℕ) → IsPlaceOf parts.ids id place → ceded_pairs rows samples place ≡ pairs_of (ceded_at tree rule records id) (insured_range samples)
-  ceded-are place found = rows-are samples (ceded_in rows place) (ceded_at tree rule records id) (ceded-at place found)
+  -- the pairs of a record are those of its net losses, or of its ceded ones
+  pub behind-are : (place : Option ℕ) → IsPlaceOf parts.ids id place → (left : Bool) (pairs : List Pair) → pairs_behind left rows samples place pairs ≡ pairs_of (λ sidx. part_behind left (loss_of sidx pairs) (ceded_at tree rule records id sidx)) (insured_range samples)
+  behind-are place found left pairs =
+      rows-are samples (λ row. part_behind left (loss_of (sidx_at (row_place row)) pairs) (ceded_in rows place row)) (λ sidx. part_behind left (loss_of sidx pairs) (ceded_at tree rule records id sidx))
+      (λ row below. ap (part_behind left (loss_of (sidx_at (row_place row)) pairs)) (ceded-at place found row below))
 
 -- ---- net losses are records of a stream
 

@@ -1,5 +1,5 @@
 -- What is left of a run by the tree of its struck units is what is left by the whole tree.
-use Rattle.std.proofs.Common.{◌≡◌, ℕ, ◌-◌, Bool, true, false, cond, nat_eq, ℤ, List, [], ◌∷◌, map, refl, sym, ap, ◌∙◌, arith}
+use Rattle.std.proofs.Common.{◌≡◌, ℕ, Bool, true, false, cond, nat_eq, ℤ, List, [], ◌∷◌, map, refl, sym, ap, ◌∙◌, arith}
 use Rattle.std.proofs.Math.Path.{fun_ext}
 use Rattle.std.specs.List.{filter, filter_map, sum_by}
 use Rattle.std.proofs.lemmas.List.Sums.{sum_by-cons}
@@ -17,7 +17,8 @@ use Rattle.kt_tree.specs.TreeLaws.{each}
 use Rattle.kt_shares.specs.LookupLaws.{lookup-few}
 use Rattle.kt_shares.specs.Shares.{ids_of, insured_range, layers_of, part_of_id, record_with, taken_loss}
 use Rattle.kt_shares.specs.StruckLaws.{taken-quiet, taken-struck}
-use Rattle.kt_ri.specs.Reinsurance.{ceded_at, ceded_loss, ceded_records, net_records}
+use Rattle.kt_ri.specs.Ceded.{part_behind, records_behind}
+use Rattle.kt_ri.specs.Reinsurance.{ceded_at, ceded_loss}
 
 module _ (tree : Tree) (is : IsTree tree) (rule samples : ℕ) (records : List LossRecord) where
   abbrev below : Tree
@@ -59,10 +60,6 @@ module _ (tree : Tree) (is : IsTree tree) (rule samples : ℕ) (records : List L
       by top true here = refl
       by top false other = none top other (tree.layers top)
 
-  -- the net records are those by the whole tree
-  pub net-struck : net_records below rule samples records ≡ net_records tree rule samples records
-  net-struck = ap (λ made. filter_map made records) (fun_ext (λ (entry : LossRecord). ap (λ (loss : ℤ → ℕ). record_with entry.event entry.id (pairs_of loss (insured_range samples))) (fun_ext (λ (sidx : ℤ). ap (λ ceded. loss_of sidx entry.pairs - ceded) (ceded-same entry.id sidx)))))
-
-  -- and so are the ceded ones
-  pub ceded-struck : ceded_records below rule samples records ≡ ceded_records tree rule samples records
-  ceded-struck = ap (λ made. filter_map made records) (fun_ext (λ (entry : LossRecord). ap (λ (loss : ℤ → ℕ). record_with entry.event entry.id (pairs_of loss (insured_range samples))) (fun_ext (ceded-same entry.id))))
+  -- the net and the ceded records are those by the whole tree
+  pub behind-struck : (left : Bool) → records_behind left below rule samples records ≡ records_behind left tree rule samples records
+  behind-struck left = ap (λ made. filter_map made records) (fun_ext (λ (entry : LossRecord). ap (λ (loss : ℤ → ℕ). record_with entry.event entry.id (pairs_of loss (insured_range samples))) (fun_ext (λ (sidx : ℤ). ap (part_behind left (loss_of sidx entry.pairs)) (ceded-same entry.id sidx)))))

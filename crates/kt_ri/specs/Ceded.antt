@@ -1,13 +1,14 @@
 -- What the ids of a programme cede of the losses of a run, row by row.
 -- The rule: docs/FINANCIAL_MODULE.md, "Reinsurance".
-use Rattle.std.specs.Prelude.{◌≡◌, ℕ, ◌+◌, ◌-◌, ◌<◌, ◌^◌, cond, nat_eq, List, [], length, All, Option, Some, None, slice_index, slice_index_or}
-use Rattle.std.specs.List.{sum_by, zip}
+use Rattle.std.specs.Prelude.{◌≡◌, ℕ, ◌+◌, ◌-◌, ◌<◌, ◌^◌, Bool, cond, nat_eq, List, [], length, All, Option, Some, None, slice_index, slice_index_or}
+use Rattle.std.specs.List.{filter_map, sum_by, zip}
 use Rattle.kt_stream.specs.declared.entry.LossRecord.{LossRecord}
 use Rattle.kt_stream.specs.declared.entry.Pair.{Pair}
 use Rattle.kt_runs.specs.RunLosses.{loss_of}
-use Rattle.kt_runs.specs.Sidx.{sidx_at}
+use Rattle.kt_runs.specs.Sidx.{pairs_of, sidx_at}
 use Rattle.kt_tree.specs.Tree.{Tree}
 use Rattle.kt_fmtree.specs.Parts.{Parts, IsProgramme}
+use Rattle.kt_shares.specs.Shares.{insured_range, record_with}
 use Rattle.kt_shares.specs.Table.{pairs_by_row, row_place}
 use Rattle.kt_ri.specs.Reinsurance.{ceded_at}
 
@@ -41,10 +42,19 @@ abbrev pub IsPlaceIn : List (List ℕ) → Option ℕ → ℕ → Type 0
 IsPlaceIn rows None row = Unit {0}
 IsPlaceIn rows (Some place) row = (row < length rows) × (place < length (slice_index_or rows row []))
 
--- what is left of a record row by row
-abbrev pub net_pairs : List (List ℕ) → ℕ → Option ℕ → List Pair → List Pair
-net_pairs rows samples place pairs = pairs_by_row (λ row. loss_of (sidx_at (row_place row)) pairs - ceded_in rows place row) (samples + 1)
+-- what is left of a loss of which so much is ceded, or that
+abbrev pub part_behind : Bool → ℕ → ℕ → ℕ
+part_behind left loss ceded = cond left (loss - ceded) ceded
 
--- what its id cedes row by row
-abbrev pub ceded_pairs : List (List ℕ) → ℕ → Option ℕ → List Pair
-ceded_pairs rows samples place = pairs_by_row (ceded_in rows place) (samples + 1)
+-- what is left of a record, or what its id cedes, row by row
+abbrev pub pairs_behind : Bool → List (List ℕ) → ℕ → Option ℕ → List Pair → List Pair
+pairs_behind left rows samples place pairs = pairs_by_row (λ row. part_behind left (loss_of (sidx_at (row_place row)) pairs) (ceded_in rows place row)) (samples + 1)
+
+-- as a record: the net record, or the ceded one
+abbrev pub record_behind : Bool → Tree → ℕ → ℕ → List LossRecord → LossRecord → Option LossRecord
+record_behind left tree rule samples records entry =
+    record_with entry.event entry.id (pairs_of (λ sidx. part_behind left (loss_of sidx entry.pairs) (ceded_at tree rule records entry.id sidx)) (insured_range samples))
+
+-- those of a run
+abbrev pub records_behind : Bool → Tree → ℕ → ℕ → List LossRecord → List LossRecord
+records_behind left tree rule samples records = filter_map (record_behind left tree rule samples records) records

@@ -1,13 +1,13 @@
 //! The places of ids among those of a programme.
 //! The rule: docs/FINANCIAL_MODULE.md, "Reinsurance".
-ghost use Rattle.std.specs.Prelude.{◌≡◌, ◌<◌, ◌++◌, nat_eq, true, length, map, All, IfOk, OnOk, slice_index, slice_index_or, []};
-ghost use Rattle.std.specs.List.{AllByRecursion, list_any, flat_map};
+ghost use Rattle.std.specs.Prelude.{◌≡◌, IfOk, slice_index_or, []};
+ghost use Rattle.std.specs.List.{AllByRecursion, flat_map};
 ghost use Rattle.kt_rec.specs.Rising.{IsRising};
 ghost use Rattle.kt_fmtree.specs.Parts.{HasProgramme};
 ghost use Rattle.kt_shares.specs.Layers.{IsTopLayer};
 ghost use Rattle.kt_ri.specs.Ceding.{AreLayers, ArePlaces, IsPlaceOf};
 
-use kt_fmtree::Programme;
+use kt_fmtree::{Programme, places_of};
 use kt_shares::TopLayer;
 use std::alloc::{AllocError, Global};
 
@@ -36,23 +36,6 @@ fn owners_of(
         owners.extend_from_slice(programme.beneath(one.node))?;
     }
     Ok(owners)
-}
-
-/// The places of ids among rising ids that have them.
-fn places_of(alloc: Global, ids: &[u32], owners: &[u32]) -> Result<Vec<usize>, AllocError>
-    requires rising { IsRising ids.now }
-    requires members { AllByRecursion (λ id. list_any (nat_eq id) ids.now ≡ true) owners.now }
-    ensures within { IfOk result (λ places. All (λ place. place < length ids.now) places.items) }
-    ensures value { IfOk result (λ places. map (slice_index ids.now) places.items ≡ owners.now) }
-{
-    let mut places = Vec::with_capacity(alloc, owners.len())?;
-    for id in owners {
-        match place_of(ids, *id) {
-            Some(place) => places.push(place)?,
-            None => unreachable!(),
-        }
-    }
-    Ok(places)
 }
 
 /// The places of the ids that have the shares in a row of layers.

@@ -1,6 +1,6 @@
 //! The losses of a run behind one stage.
 //! The rule: docs/FINANCIAL_MODULE.md, "Reinsurance".
-ghost use Rattle.std.specs.Prelude.{◌≡◌, ◌⊎◌, ◌≤◌, map, All, IfOk};
+ghost use Rattle.std.specs.Prelude.{◌≡◌, ◌⊎◌, ◌≤◌, true, map, All, IfOk};
 ghost use Rattle.kt_stream.specs.Losses.{IsLoss};
 ghost use Rattle.kt_runs.specs.RunLosses.{AreWithin};
 ghost use Rattle.kt_tree.specs.Tree.{Tree};
@@ -12,7 +12,7 @@ ghost use Rattle.kt_ri.specs.Reinsurance.{ceded_records, net_records};
 
 use crate::ceded::ceded_of;
 use crate::ceding::{CedingProgramme, ceding_of};
-use crate::net::{ceded_records, net_of};
+use crate::net::records_behind;
 use kt_runs::RunEntry;
 use kt_shares::ids_of;
 use kt_stream::{LossRecord, Records};
@@ -29,7 +29,7 @@ pub struct Reinsured {
 }
 
 /// The programme that cedes the losses of a run: of the units that they come to.
-pub(crate) fn ceding_for<T: RunEntry>(
+fn ceding_for<T: RunEntry>(
     alloc: Global,
     stage: &Structure,
     records: &[T],
@@ -40,6 +40,58 @@ pub(crate) fn ceding_for<T: RunEntry>(
     let ids = ids_of(alloc, records)?;
     let programme = stage.programme(alloc, &ids)?;
     let made = ceding_of(alloc, programme)?;
+    Ok(made)
+}
+
+/// What a programme leaves of the losses of a run, and what it cedes, where that is asked for.
+fn behind<T: RunEntry>(
+    alloc: Global,
+    ceding: &CedingProgramme,
+    samples: u32,
+    rule: u32,
+    records: &[T],
+    with_ceded: bool,
+) -> Result<Reinsured, AllocError>
+    requires samples { samples ≤ 1000 }
+    requires rule { (rule ≡ 1) ⊎ (rule ≡ 2) }
+    requires records { All (IsLoss samples) (map T.entry_of records.now) }
+    requires within { AreWithin (map T.entry_of records.now) }
+    ensures net { IfOk result (λ made. (tree : Tree) → IsProgramme tree ceding.now → made.net ≡ net_records tree rule samples (map T.entry_of records.now)) }
+    ensures ceded { IfOk result (λ made. (tree : Tree) → IsProgramme tree ceding.now → with_ceded ≡ true → made.ceded ≡ ceded_records tree rule samples (map T.entry_of records.now)) }
+{
+    let rows = ceded_of(alloc, ceding, samples, rule, records)?;
+    let net = records_behind(alloc, ceding, samples, &rows, records, true)?;
+    if !with_ceded {
+        return Ok(Reinsured {
+            net,
+            ceded: Records::new(alloc),
+        });
+    }
+    let ceded = records_behind(alloc, ceding, samples, &rows, records, false)?;
+    Ok(Reinsured { net, ceded })
+}
+
+/// What a stage leaves of the losses of a run, and what it cedes, where that is asked for.
+pub(crate) fn behind_stage<T: RunEntry>(
+    alloc: Global,
+    stage: &Structure,
+    samples: u32,
+    rule: u32,
+    records: &[T],
+    with_ceded: bool,
+) -> Result<Reinsured, AllocError>
+    requires stage { HasStage stage.now }
+    requires samples { samples ≤ 1000 }
+    requires rule { (rule ≡ 1) ⊎ (rule ≡ 2) }
+    requires records { All (IsLoss samples) (map T.entry_of records.now) }
+    requires within { AreWithin (map T.entry_of records.now) }
+    ensures net { IfOk result (λ made. (tree : Tree) → IsStage tree stage.now → made.net ≡ net_records tree rule samples (map T.entry_of records.now)) }
+    ensures ceded { IfOk result (λ made. (tree : Tree) → IsStage tree stage.now → with_ceded ≡ true → made.ceded ≡ ceded_records tree rule samples (map T.entry_of records.now)) }
+    ensures good { IfOk result (λ made. All (IsLoss samples) made.net) }
+    ensures within { IfOk result (λ made. AreWithin made.net) }
+{
+    let ceding = ceding_for(alloc, stage, records)?;
+    let made = behind(alloc, &ceding, samples, rule, records, with_ceded)?;
     Ok(made)
 }
 
@@ -63,9 +115,5 @@ pub fn one_stage<T: RunEntry>(
     ensures good { IfOk result (λ made. All (IsLoss samples) made.net) }
     ensures within { IfOk result (λ made. AreWithin made.net) }
 {
-    let ceding = ceding_for(alloc, stage, records)?;
-    let rows = ceded_of(alloc, &ceding, samples, rule, records)?;
-    let net = net_of(alloc, &ceding, samples, &rows, records)?;
-    let ceded = ceded_records(alloc, &ceding, samples, &rows, records)?;
-    Ok(Reinsured { net, ceded })
+    behind_stage(alloc, stage, samples, rule, records, true)
 }

@@ -7,9 +7,7 @@ ghost use Rattle.kt_tree.specs.Tree.{Tree};
 ghost use Rattle.kt_ri.specs.Reinsurance.{net_records, reinsured};
 ghost use Rattle.kt_ri.specs.Stages.{AreStages, HasStage, IsStage};
 
-use crate::ceded::ceded_of;
-use crate::net::net_of;
-use crate::reinsured::ceding_for;
+use crate::reinsured::behind_stage;
 use kt_stream::{LossRecord, Pairs, Records};
 use kt_structure::Structure;
 use std::alloc::{AllocError, Global};
@@ -48,27 +46,6 @@ fn copy_of(alloc: Global, records: &[LossRecord]) -> Result<Records<LossRecord>,
     Ok(copy)
 }
 
-/// What a stage leaves of the losses of a run, by allocation rule 2.
-fn left_by(
-    alloc: Global,
-    stage: &Structure,
-    samples: u32,
-    records: &[LossRecord],
-) -> Result<Records<LossRecord>, AllocError>
-    requires stage { HasStage stage.now }
-    requires samples { samples ≤ 1000 }
-    requires records { All (IsLoss samples) records.now }
-    requires within { AreWithin records.now }
-    ensures net { IfOk result (λ net. (tree : Tree) → IsStage tree stage.now → net ≡ net_records tree 2 samples records.now) }
-    ensures good { IfOk result (λ net. All (IsLoss samples) net) }
-    ensures within { IfOk result (λ net. AreWithin net) }
-{
-    let ceding = ceding_for(alloc, stage, records)?;
-    let rows = ceded_of(alloc, &ceding, samples, 2, records)?;
-    let net = net_of(alloc, &ceding, samples, &rows, records)?;
-    Ok(net)
-}
-
 /// What stages leave of the losses of one run, by allocation rule 2, each stage on what the one before leaves. Without a stage the
 /// records stay as they are. The losses of the run add to at most 10^16 cents at each sidx. An error is want of memory.
 pub fn reinsure(
@@ -87,7 +64,8 @@ pub fn reinsure(
 {
     let mut net = copy_of(alloc, records)?;
     for stage in stages {
-        net = left_by(alloc, stage, samples, net.as_slice())?;
+        let made = behind_stage(alloc, stage, samples, 2, net.as_slice(), false)?;
+        net = made.net;
     }
     Ok(net)
 }

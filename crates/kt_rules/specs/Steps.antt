@@ -1,4 +1,4 @@
--- The steps of the table of rules, and what they make of the four amounts.
+-- The steps of the rules, and what they make of the four amounts.
 use Rattle.std.specs.Prelude.{ℕ, ◌&&◌, Bool, true, List, [], ◌∷◌}
 use Rattle.kt_money.specs.Rounding.{ppm_part}
 use Rattle.kt_rules.specs.declared.carry.Carry.{Carry}

@@ -1,6 +1,6 @@
 //! The policy losses of the layers at one sidx, and what they are shared out to.
 //! The rule: docs/FINANCIAL_MODULE.md, "Insured losses".
-ghost use Rattle.std.specs.Prelude.{◌≡◌, ◌≤◌, ◌^◌, ℕ, [], ◌∷◌, length, map, replicate, slice_index, IfOk};
+ghost use Rattle.std.specs.Prelude.{◌≡◌, ◌≤◌, ◌^◌, ℕ, [], ◌∷◌, map, slice_index, IfOk};
 ghost use Rattle.std.specs.List.{AllByRecursion, sum};
 ghost use Rattle.kt_tree.specs.Tree.{Tree, policy_loss};
 ghost use Rattle.kt_fmtree.specs.Carried.{AreCarried, IsCarriedBy};
@@ -10,7 +10,7 @@ ghost use Rattle.kt_shares.specs.Layers.{IsTopLayer, key_of};
 ghost use Rattle.kt_shares.specs.Row.{row_for};
 
 use crate::layers::TopLayer;
-use kt_alloc::allocate;
+use kt_alloc::{allocate, total_of, zeros};
 use kt_fmtree::{Levels, Programme};
 use std::alloc::{AllocError, Global};
 use std::marker::Model;
@@ -57,13 +57,6 @@ impl Row {
     }
 }
 
-/// What ids have of no policy loss.
-fn no_shares(alloc: Global, ids: &[u32]) -> Result<Vec<u64>, AllocError>
-    ensures value { IfOk result (λ made. made.items ≡ replicate (length ids.now) 0) }
-{
-    vec![in alloc; 0; ids.len()]
-}
-
 /// A policy loss that stays whole.
 fn whole(alloc: Global, policy: u64) -> Result<Vec<u64>, AllocError>
     ensures value { IfOk result (λ made. made.items ≡ policy ∷ []) }
@@ -95,7 +88,7 @@ fn shares_of(
     }
     let ids = programme.beneath(one.node);
     if policy == 0 {
-        let none = no_shares(alloc, ids)?;
+        let none = zeros(alloc, ids.len())?;
         return Ok(none);
     }
     if ids.len() == 1 {
@@ -104,18 +97,6 @@ fn shares_of(
     }
     let made = allocate(alloc, programme, levels, one.node, one.layer, rule)?;
     Ok(made)
-}
-
-/// Amounts added, which add to at most 10^16.
-fn total_of(amounts: &[u64]) -> u64
-    requires { sum amounts.now ≤ 10 ^ 16 }
-    ensures value { result ≡ sum amounts.now }
-{
-    let mut all = 0;
-    for amount in amounts {
-        all += *amount;
-    }
-    all
 }
 
 /// What layers have, from what is carried up to their tops.

@@ -6,6 +6,7 @@ use Rattle.std.specs.HashMap.{get}
 use Rattle.std.specs.Map.{lookup}
 use Rattle.std.specs.Cmp.{nat_eq_equiv}
 use Rattle.std.proofs.lemmas.Bool.{eqb-true}
+use Rattle.std.proofs.lemmas.List.Elements.{recursion_from_All}
 use Rattle.kt_rec.specs.declared.financial.FmPolicytc.{FmPolicytc}
 use Rattle.kt_rec.specs.declared.financial.FmProfile.{FmProfile}
 use Rattle.kt_rec.specs.Ranges.{IsFmPolicytc}
@@ -22,7 +23,7 @@ use Rattle.kt_fmtree.specs.RisingLaws.{rising-filter}
 use Rattle.kt_tree.specs.Programme.{terms_or_none, with_id, profile_with, terms_in, covered_ids, has_coverage, tiv_beneath}
 use Rattle.kt_structure.proofs.CoverageLemmas.{found-beneath}
 use Rattle.kt_structure.specs.Coverages.{rows_for, own_pair}
-use Rattle.kt_structure.specs.Ready.{IsReady, each-from}
+use Rattle.kt_structure.specs.Ready.{IsReady}
 use Rattle.kt_structure.specs.Plan.{link_key, linked, found_terms, AreTerms}
 use Rattle.kt_structure.specs.declared.links.Link.{Link}
 use Rattle.kt_structure.specs.declared.terms.Terms.{Terms}
@@ -138,4 +139,4 @@ tivs-beneath rows stage ready next top covered coverages next_is top_is covered_
 
 -- the units of terms fit 32 bits
 pub fits-agg : (rows : List FmPolicytc) → All IsFmPolicytc rows → AllByRecursion (λ row. row.agg_id < 2 ^ 32) rows
-fits-agg rows all = each-from (λ row. row.agg_id < 2 ^ 32) rows (λ k d below. let is = all k d below in let most = is.agg_id.most in omega arith)
+fits-agg rows all = recursion_from_All (λ row. row.agg_id < 2 ^ 32) rows (λ k d below. let is = all k d below in let most = is.agg_id.most in omega arith)

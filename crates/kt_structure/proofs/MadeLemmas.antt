@@ -3,6 +3,7 @@ use Rattle.std.proofs.Common.{◌≡◌, ℕ, zero, suc, ◌+◌, ◌^◌, ◌<�
 use Rattle.std.specs.Prelude.{◌&&◌, ◌||◌}
 use Rattle.std.specs.Cmp.{nat_eq_equiv}
 use Rattle.std.specs.List.{AllByRecursion, filter, list_any}
+use Rattle.std.proofs.lemmas.List.Elements.{recursion_from_All}
 use Rattle.kt_rec.specs.Rows.{Rows}
 use Rattle.kt_rec.specs.declared.financial.FmProgramme.{FmProgramme}
 use Rattle.kt_keys.specs.Keys.{policytc_of, profile_of as profiles_of, programme_of}
@@ -14,7 +15,7 @@ use Rattle.kt_rec.specs.Rising.{rising-member, rising-rises}
 use Rattle.kt_tree.specs.Tree.{is_unit}
 use Rattle.kt_tree.specs.TreeLaws.{climbed-last}
 use Rattle.kt_structure.specs.Plan.{AreTerms, found_terms, layer_link, link_key, linked}
-use Rattle.kt_structure.specs.Ready.{IsReady, each-from}
+use Rattle.kt_structure.specs.Ready.{IsReady}
 use Rattle.kt_structure.specs.Structure.{Kept, IsStructure}
 use Rattle.kt_structure.specs.declared.links.Link.{Link}
 use Rattle.kt_structure.specs.declared.terms.Terms.{Terms}
@@ -92,7 +93,7 @@ structure-made rows stage ready kept terms links top_is next_is terms_are of_tab
       layer_profiles_are = λ top layer. ap (λ found. found layer (top_level programme) top) terms_are ∙ terms-found (policytc_of rows stage) (profiles_of rows stage) terms of_tables layer (top_level programme) top;
       tivs_are = tivs;
       layers_are = λ top fits. ap (λ found. found top) layers_are ∙ (ap (λ n. or_first (linked links n top)) top_is ∙ layers-found rows stage ready links by_key (top_level programme) top fits);
-      small = next-fits programme (each-from (λ row. row.to_agg_id < 2 ^ 32) programme (λ k d below. let is = ready.programme k d below in let most = is.to_agg_id.most in omega arith));
+      small = next-fits programme (recursion_from_All (λ row. row.to_agg_id < 2 ^ 32) programme (λ k d below. let is = ready.programme k d below in let most = is.to_agg_id.most in omega arith));
       taken = λ id member. taken-next programme programme id (sym (rising-member (map (λ row. row.from_agg_id) (filter (λ row. nat_eq row.level_id 1) programme)) id) ∙ member);
       reached = λ id top climbs. rising-member (top_targets programme) top ∙ reached-top programme (top_level programme) id top ready.has.levels climbs;
       ids_rise = rising-rises (map (λ row. row.from_agg_id) (filter (λ row. nat_eq row.level_id 1) programme));

@@ -4,6 +4,7 @@ use Rattle.std.specs.Cmp.{nat_eq_equiv}
 use Rattle.std.proofs.lemmas.Bool.{cases_eq}
 use Rattle.std.proofs.lemmas.Bool.Decides.{nat_tests}
 use Rattle.std.proofs.lemmas.List.{map-append, get_or_push}
+use Rattle.std.proofs.lemmas.List.Elements.{All-from_recursion}
 use Rattle.std.proofs.Math.ListN.{get_or-append}
 use Rattle.std.specs.List.{All, AllByRecursion, flat_map}
 use Rattle.kt_tree.specs.Sums.{each_flat_map}
@@ -161,15 +162,10 @@ units_from-small tree plan finds (suc level) at units small = by (nat_eq at (suc
     by true rest = small
     by false rest = rest
 
--- what holds of each by recursion holds at each place
-at-each : {X : Type 0} (P : X → Type 0) (xs : List X) → AllByRecursion P xs → All P xs
-at-each P [] all = λ k d below. absurd (omega arith)
-at-each P (x ∷ xs) all = λ k d below. elim k as (λ n. n < length (x ∷ xs) → P (get_or (x ∷ xs) n d)) [ zero ↦ λ _. all.0 | suc n ↦ λ b. at-each P xs all.1 n d (omega arith) ] below
-
 -- the nodes of each level are those of a tree
 pub levels-are : (tree : Tree) (plan : Plan) → Finds tree plan → (units : List ℕ) → AllByRecursion (λ unit. unit < 2 ^ 32) units → (at : ℕ) → at < tree.top_level → All (IsNode tree (suc at) (units_from plan tree.top_level units at)) (get_or (build_levels plan tree.top_level units) at [])
 levels-are tree plan finds units small at below =
     let upper = units_from plan tree.top_level units (suc at) in
     let nodes = nodes_from-are tree plan finds (suc at) (omega arith) (omega arith) [] upper (units_from-small tree plan finds tree.top_level (suc at) units small) in
     subst (λ ns. All (IsNode tree (suc at) (units_from plan tree.top_level units at)) ns) (sym (build_levels-at plan tree.top_level at units below))
-    (subst (λ bs. All (IsNode tree (suc at) bs) (nodes_from plan (suc at) 0 upper)) (sym (units_from-next plan tree.top_level at units below)) (at-each _ _ nodes))
+    (subst (λ bs. All (IsNode tree (suc at) bs) (nodes_from plan (suc at) 0 upper)) (sym (units_from-next plan tree.top_level at units below)) (All-from_recursion _ _ nodes))

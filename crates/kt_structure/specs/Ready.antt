@@ -1,7 +1,8 @@
 -- What the tables of a programme keep, so that it can be made.
 use Rattle.std.specs.Prelude.{◌≡◌, ℕ, suc, ◌≤◌, ◌<◌, true, max, List, [], ◌∷◌, length, All, slice_index_or}
-use Rattle.std.specs.List.{AllByRecursion, fold}
+use Rattle.std.specs.List.{fold}
 use Rattle.std.proofs.Common.{arith}
+use Rattle.std.proofs.lemmas.List.Elements.{recursion_from_All}
 use Rattle.kt_rec.specs.Ranges.{IsCoverage, IsFmProgramme, IsFmPolicytc, IsFmProfile}
 use Rattle.kt_rec.specs.Rows.{Rows}
 use Rattle.kt_rec.specs.declared.financial.FmProgramme.{FmProgramme}
@@ -25,11 +26,6 @@ pub record IsReady (rows : Rows) (stage : ℕ) : Type 0 where
   pub coverages : All IsCoverage rows.coverages
   pub few : length rows.coverages ≤ 100000
 
--- what holds at each place holds of each
-pub each-from : {X : Type 0} (P : X → Type 0) (xs : List X) → All P xs → AllByRecursion P xs
-each-from P [] all = tt
-each-from P (x ∷ xs) all = (all 0 x (omega arith), each-from P xs (λ k d below. all (suc k) d (omega arith)))
-
 -- a programme with a row has a level
 has-level : (programme : List FmProgramme) → All IsFmProgramme programme → 0 < length programme → 0 < top_level programme
 has-level [] ranges some = absurd (omega arith)
@@ -52,7 +48,7 @@ ready portfolio valid stage below loaded =
       has = record {
         levels = has-level (programme_of portfolio.rows stage) ranges.programme (sizes.programmes stage below loaded);
         sources = ((keys_kept portfolio valid).financial stage below).programme;
-        profiles = each-from (λ row. IsProfile (profile_of row)) (profiles_of portfolio.rows stage) (λ k d inside. profile_of-is (slice_index_or (profiles_of portfolio.rows stage) k d) (ranges.profile k d inside));
+        profiles = recursion_from_All (λ row. IsProfile (profile_of row)) (profiles_of portfolio.rows stage) (λ k d inside. profile_of-is (slice_index_or (profiles_of portfolio.rows stage) k d) (ranges.profile k d inside));
         coverages = coverages_distinct portfolio valid;
         values = sizes.values;
       };

@@ -6,19 +6,19 @@ use Rattle.kt_stream.specs.Losses.{IsLoss}
 use Rattle.kt_stream.specs.declared.entry.LossRecord.{LossRecord}
 use Rattle.kt_shares.specs.RecordLaws.{one-few}
 use Rattle.kt_shares.specs.RowLaws.{made-more}
-use Rattle.kt_ri.specs.Reinsurance.{net_record}
-use Rattle.kt_ri.proofs.net.net_of.Goals as goal
+use Rattle.kt_ri.specs.Ceded.{record_behind}
+use Rattle.kt_ri.proofs.net.records_behind.Goals as goal
 
-pub push_net-requires-clause-entry : goal.push_net-requires-clause-entry
-push_net-requires-clause-entry g c =
+pub push_behind-requires-clause-entry : goal.push_behind-requires-clause-entry
+push_behind-requires-clause-entry g c =
     let entry_of = g.T.RunEntry.entry_of in
     let entry = c.entry.result.now in
     let below : c.loop-held.held-index < length (map entry_of c.args.records.now) = omega (arith, c.loop-held-test.true, length-map c.args.records.now entry_of) in
     let is = entry_at entry_of c.args.records.now c.loop-held.held-index c.held-item.result entry c.loop-held-test.true c.held-item.is c.entry.ensures entry in
     subst (IsLoss c.args.samples) (sym is) (c.requires.records c.loop-held.held-index entry below)
 
-pub push_net-requires-clause-few : goal.push_net-requires-clause-few
-push_net-requires-clause-few g c =
+pub push_behind-requires-clause-few : goal.push_behind-requires-clause-few
+push_behind-requires-clause-few g c =
     let entry_of = g.T.RunEntry.entry_of in
     let entry = c.entry.result.now in
     let below : c.loop-held.held-index < length (map entry_of c.args.records.now) = omega (arith, c.loop-held-test.true, length-map c.args.records.now entry_of) in
@@ -33,8 +33,8 @@ loop-held-preserved g c = λ tree rule is are.
     let i = c.loop-held.held-index in
     let below : i < length records = omega (arith, c.loop-held-test.true, length-map c.args.records.now entry_of) in
     let here = entry_at entry_of c.args.records.now i c.held-item.result entry c.loop-held-test.true c.held-item.is c.entry.ensures entry in
-    made-more (net_record tree rule c.args.samples records) records c.loop-held.made.items c.push_net.new.made.items i entry below (c.loop-held.invariant tree rule is are)
-    (c.in_ok-push_net.ensures.ok tree rule records is are ∙ ap (λ (entry : LossRecord). c.loop-held.made.items ++ cons_option (net_record tree rule c.args.samples records entry) []) here)
+    made-more (record_behind c.args.left tree rule c.args.samples records) records c.loop-held.made.items c.push_behind.new.made.items i entry below (c.loop-held.invariant tree rule is are)
+    (c.in_ok-push_behind.ensures.ok tree rule records is are ∙ ap (λ (entry : LossRecord). c.loop-held.made.items ++ cons_option (record_behind c.args.left tree rule c.args.samples records entry) []) here)
 
 pub returns : goal.returns
 returns g c = record {
@@ -42,5 +42,5 @@ returns g c = record {
       let entry_of = g.T.RunEntry.entry_of in
       let records = map entry_of c.args.records.now in
       let past : length records ≤ c.loop-held.held-index = omega (arith, c.loop-held-test.false, length-map c.args.records.now entry_of) in
-      c.from_vec.ensures.value ∙ (c.loop-held.invariant tree rule is are ∙ ap (filter_map (net_record tree rule c.args.samples records)) (take_all c.loop-held.held-index records past));
+      c.from_vec.ensures.value ∙ (c.loop-held.invariant tree rule is are ∙ ap (filter_map (record_behind c.args.left tree rule c.args.samples records)) (take_all c.loop-held.held-index records past));
 }

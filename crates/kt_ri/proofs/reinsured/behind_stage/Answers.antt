@@ -1,28 +1,23 @@
-use Rattle.std.proofs.Common.{◌∙◌, List, map, sym, subst}
+use Rattle.std.proofs.Common.{◌∙◌, List, map, sym, subst, true, false}
 use Rattle.std.specs.Prelude.{All}
 use Rattle.kt_runs.specs.RunLosses.{AreWithin}
 use Rattle.kt_stream.specs.Losses.{IsLoss}
 use Rattle.kt_stream.specs.declared.entry.LossRecord.{LossRecord}
 use Rattle.kt_tree.specs.Struck.{struck}
 use Rattle.kt_shares.specs.Shares.{ids_of}
-use Rattle.kt_ri.specs.Ceded.{AreCeded}
 use Rattle.kt_ri.proofs.NetLemmas.{net-good, net-within}
-use Rattle.kt_ri.proofs.StruckLemmas.{ceded-struck, net-struck}
-use Rattle.kt_ri.proofs.reinsured.one_stage.Goals as goal
+use Rattle.kt_ri.proofs.StruckLemmas.{behind-struck}
+use Rattle.kt_ri.proofs.reinsured.behind_stage.Goals as goal
 
 pub returns-clause-net : goal.returns-clause-net
 returns-clause-net g c = λ tree is.
     let records = map g.T.RunEntry.entry_of c.args.records.now in
-    let ceded = subst (λ rows. AreCeded c.in_ok-ceding.ceding c.args.rule c.args.samples records (map (λ row. row.items) rows)) (sym c.deref.ensures.value) c.in_ok-rows.ensures.value in
-    c.in_ok-net.ensures.value (struck tree (ids_of records)) c.args.rule (c.in_ok-ceding.ensures.value tree is) ceded
-    ∙ net-struck tree is.is.is c.args.rule c.args.samples records
+    c.in_ok-made.ensures.net (struck tree (ids_of records)) (c.in_ok-ceding.ensures.value tree is) ∙ behind-struck tree is.is.is c.args.rule c.args.samples records true
 
 pub returns-clause-ceded : goal.returns-clause-ceded
-returns-clause-ceded g c = λ tree is.
+returns-clause-ceded g c = λ tree is asked.
     let records = map g.T.RunEntry.entry_of c.args.records.now in
-    let ceded = subst (λ rows. AreCeded c.in_ok-ceding.ceding c.args.rule c.args.samples records (map (λ row. row.items) rows)) (sym c.deref-2.ensures.value) c.in_ok-rows.ensures.value in
-    c.in_ok-ceded.ensures.value (struck tree (ids_of records)) c.args.rule (c.in_ok-ceding.ensures.value tree is) ceded
-    ∙ ceded-struck tree is.is.is c.args.rule c.args.samples records
+    c.in_ok-made.ensures.ceded (struck tree (ids_of records)) (c.in_ok-ceding.ensures.value tree is) asked ∙ behind-struck tree is.is.is c.args.rule c.args.samples records false
 
 pub returns-clause-good : goal.returns-clause-good
 returns-clause-good g c =
