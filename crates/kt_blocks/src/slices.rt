@@ -28,7 +28,7 @@ pub(crate) fn slice(records: &[u8], width: usize, first: usize, count: usize) ->
 }
 
 /// Takes rows and keeps none: what is read is judged, and no more.
-#[derive(Clone, Copy, Debug)]
+#[derive(Clone, Copy)]
 pub(crate) struct Judged;
 
 impl<const N: usize> RowSink<N> for Judged {
