@@ -1,6 +1,6 @@
 -- The first group of the entries of a set, and the others behind it.
 use Rattle.std.proofs.Common.{◌≡◌, ◌≢◌, ℕ, zero, suc, ◌<◌, ◌≤◌, List, [], ◌∷◌, ◌++◌, length, take, drop, arith, refl, sym, ap, ◌∙◌, cond, append_assoc, subst, take-append-drop, length-drop, append-nil}
-use Rattle.std.specs.Prelude.{Bool, true, false, ◌&&◌, nat_eq, All, ℤ, Result, Ok, Err, IfOk, Some}
+use Rattle.std.specs.Prelude.{Bool, true, false, nat_eq, All, ℤ, Result, Ok, Err, IfOk, Some}
 use Rattle.std.specs.List.{slice_get, filter, AllByRecursion}
 use Rattle.std.specs.List.Sorted.{IsStrictlySortedBy}
 use Rattle.std.specs.Map.{keys_of}

@@ -1,9 +1,8 @@
 -- The mean and the deviation over all periods, from the amounts that are there.
 use Rattle.std.proofs.Common.{◌≡◌, ℕ, suc, ◌+◌, ◌*◌, ◌≤◌, List, [], ◌∷◌, length, map, arith, refl, sym, ap, ◌∙◌, cond}
-use Rattle.std.specs.Prelude.{Bool, true, false, sum, sum_by, All, ℤ, pos, Option, Some, None, is_some}
+use Rattle.std.specs.Prelude.{Bool, true, false, sum, sum_by, ℤ, pos, Option, Some, None, is_some}
 use Rattle.std.specs.List.{filter}
 use Rattle.std.proofs.lemmas.List.Sums.{sum_by-cons, sum-map}
-use Rattle.std.proofs.lemmas.List.Elements.{All-map, All-filter, All-weaker}
 use Rattle.std.proofs.lemmas.List.FromFn.{length-map-range_with_len}
 use Rattle.std.proofs.lemmas.Nat.{mul-le}
 use Rattle.kt_money.specs.declared.moments.MeanSd.{MeanSd}

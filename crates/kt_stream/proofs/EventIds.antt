@@ -1,5 +1,5 @@
 -- The ids of events, as they are read, and as they are read back.
-use Rattle.std.proofs.Common.{◌≡◌, ℕ, ◌+◌, ◌≤◌, ◌<◌, ◌^◌, List, [], ◌∷◌, ◌++◌, length, drop, refl, sym, ap, subst, ◌∙◌, arith, inl}
+use Rattle.std.proofs.Common.{◌≡◌, ℕ, ◌≤◌, ◌<◌, ◌^◌, List, [], ◌∷◌, ◌++◌, length, drop, refl, sym, ap, subst, ◌∙◌, arith, inl}
 use Rattle.byteorder.specs.Endian.{little_bytes}
 use Rattle.byteorder.specs.Numbers.{length-bytes_low_first}
 use Rattle.kt_stream.specs.declared.event_id.EventId.{EventId}
@@ -9,10 +9,10 @@ use Rattle.kt_stream.specs.declared.read.Read.TheVariants.{Got}
 use Rattle.kt_stream.specs.declared.stop.RecordCause.TheVariants.{Id}
 use Rattle.kt_stream.specs.EventIds.{event_fields, event_of, event_in, event_bytes, event_form}
 use Rattle.kt_stream.specs.Pairs.{IsId, misfit}
-use Rattle.kt_stream.specs.Read.{fields_in, fields_then, width_of, AreJudged}
+use Rattle.kt_stream.specs.Read.{fields_in, fields_then, AreJudged}
 use Rattle.kt_stream.specs.Stream.{AreBytes, IsLawful}
 use Rattle.kt_stream.proofs.Cases.{bind_got, got_is, kept_then}
-use Rattle.kt_stream.proofs.Fields.{FieldsRead, between_bounds, between_none, fields_kept, fields_got, fields_back}
+use Rattle.kt_stream.proofs.Fields.{between_bounds, between_none, fields_kept, fields_got, fields_back}
 
 -- what is known of an id that was read
 record EventRead (bytes : List ℕ) (entry : EventId) : Type 0 where

@@ -7,7 +7,7 @@ use Rattle.kt_stream.specs.declared.kind.StreamKind.{StreamKind}
 use Rattle.kt_stream.specs.declared.kind.StreamKind.TheVariants.{Cdf, Gul, Loss, Summary, Events}
 use Rattle.kt_stream.specs.declared.read.HeaderFault.{HeaderFault}
 use Rattle.kt_stream.specs.declared.read.HeaderFault.TheVariants.{NotProfile, WrongStream, BadSamples, BadSet}
-use Rattle.kt_stream.specs.declared.read.Read.TheVariants.{Got, Short}
+use Rattle.kt_stream.specs.declared.read.Read.TheVariants.{Got}
 use Rattle.kt_stream.specs.Read.{fields_in, fields_then, AreJudged, AreSmall}
 use Rattle.kt_stream.specs.Header.{id_of, mark_judge, header_fields, header_size, head_of, header_in, IsHead, header_bytes}
 use Rattle.kt_stream.specs.Stream.{Kept, AreBytes}

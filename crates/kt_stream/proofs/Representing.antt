@@ -14,7 +14,7 @@ use Rattle.kt_stream.specs.declared.kind.StreamKind.{StreamKind}
 use Rattle.kt_stream.specs.declared.kind.StreamKind.TheVariants.{Cdf, Gul, Loss, Summary, Events}
 use Rattle.kt_stream.specs.declared.read.Read.TheVariants.{Short}
 use Rattle.kt_stream.specs.Header.{first_head}
-use Rattle.kt_stream.specs.Stream.{Form, End, Whole, Partial, Refused, Stream, Walk, walk, records_in, after, reads_on, overlong, too_long, within_room, stream_of, stream_limit, refusal}
+use Rattle.kt_stream.specs.Stream.{Form, End, Whole, Refused, Stream, Walk, walk, records_in, after, reads_on, overlong, too_long, within_room, stream_of, stream_limit, refusal}
 use Rattle.kt_stream.specs.Reader.{Reading, refused, goes_on, stream_by, stream_from, rest_end, end_by, stop_or_too_long, IsAt, Represents, Stands, IsFurther, Absorbs, Extends, Feeds}
 use Rattle.kt_stream.specs.Gather.{MovesBy, kept}
 use Rattle.kt_stream.proofs.Room.{room_within, room_beyond, room_moves, room_refuses}

@@ -8,7 +8,7 @@ use Rattle.kt_stream.specs.declared.kind.StreamKind.TheVariants.{Events}
 use Rattle.kt_stream.specs.declared.read.Misfit.{Misfit}
 use Rattle.kt_stream.specs.declared.read.Read.{Read}
 use Rattle.kt_stream.specs.declared.read.Read.TheVariants.{Got}
-use Rattle.kt_stream.specs.Pairs.{id_field, IsId}
+use Rattle.kt_stream.specs.Pairs.{id_field}
 use Rattle.kt_stream.specs.Read.{◌>>=◌, Field, fields_in}
 use Rattle.kt_stream.specs.Stream.{Form}
 

@@ -1,4 +1,5 @@
 use Rattle.std.proofs.Common.{◌≡◌, ◌+◌, ℕ, List, subst, arith}
+use Rattle.std.proofs.lemmas.Grind.{common_steps}
 use Rattle.kt_out.specs.Writing.{WritesAll}
 use Rattle.kt_blocks.proofs.Midway.{midway_memory, midway_more, midway_ends}
 use Rattle.kt_blocks.proofs.pieces.write_pieces.Goals as goal
@@ -17,3 +18,9 @@ returns g c =
     midway_ends (Unit {0}) _ (g.K.Sink.state c.loop-index.sink) _ _ c.loop-index.out (g.P.Pieces.rest c.args.pieces.now c.loop-index.index) c.write_all.result c.loop-index.invariant
     (rw last c.count-index-end.ensures.end)
     (subst (λ (piece : List ℕ). WritesAll {T = Unit {0}} (g.K.Sink.state c.loop-index.sink) (g.K.Sink.state c.write_all.new.sink) piece c.write_all.result) c.as_slice.ensures.value c.write_all.ensures.moved)
+
+pub loop-index-init : goal.loop-index-init
+loop-index-init g c = grind (arith, common_steps)
+
+pub loop-index-preserved : goal.loop-index-preserved
+loop-index-preserved g c = grind (arith, common_steps)

@@ -1,5 +1,5 @@
 -- The rows of the first samples are there.
-use Rattle.std.proofs.Common.{◌≡◌, ◌-◌, ℕ, ◌++◌}
+use Rattle.std.proofs.Common.{◌≡◌, ◌-◌, ◌++◌}
 use Rattle.std.specs.Prelude.{pos}
 use Rattle.std.specs.List.{flat_map, range_with_len}
 use Rattle.kt_curve.specs.Amounts.{amount_at}

@@ -1,6 +1,5 @@
 use Rattle.std.proofs.Common.{zero, suc, arith}
 use Rattle.std.proofs.lemmas.List.Elements.{recursion_from_All}
-use Rattle.kt_rec.specs.declared.exposure.Item.{Item}
 use Rattle.kt_tables.specs.PortfolioLaws.{items_distinct}
 use Rattle.kt_gul.proofs.CutLemmas.{cut_adds, cut_keeps}
 use Rattle.kt_gul.proofs.laws.items_share_the_insured_value.Goals as goal
