@@ -1,12 +1,7 @@
--- Which exceedance curve a letter names, and what it needs of the tables.
+-- Which exceedance curve a letter names.
 -- The rules: docs/COMMANDS.md, "aalcalc" and "leccalc".
-use Rattle.std.specs.Prelude.{false}
 use Rattle.kt_curve.specs.declared.curve.Curve.{Curve}
 use Rattle.kt_curve.specs.declared.curve.Curve.TheVariants as curve
-use Rattle.kt_keys.specs.declared.need.Need.{Need}
-use Rattle.kt_load.specs.FileNames.{table_at}
-use Rattle.kt_rec.specs.TableSet.{no_tables, with_table}
-use Rattle.kt_rec.specs.declared.table.Table.TheVariants as table
 use Rattle.kt_words.specs.declared.command.CurveLetter.{CurveLetter}
 use Rattle.kt_words.specs.declared.command.CurveLetter.TheVariants as letter
 
@@ -20,7 +15,3 @@ curve_of letter.WheatAep = curve.WheatAep
 curve_of letter.WheatOep = curve.WheatOep
 curve_of letter.WheatmeanAep = curve.WheatmeanAep
 curve_of letter.WheatmeanOep = curve.WheatmeanOep
-
--- the tables: the occurrences and the return periods
-abbrev pub curve_need : Need
-curve_need = record { loaded = with_table (with_table no_tables (table_at 0 table.Occurrence)) (table_at 0 table.ReturnPeriods); samples = 0; rule = 0; net = false }

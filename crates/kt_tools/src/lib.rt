@@ -2,15 +2,13 @@
 #![tactic(auto)]
 
 mod convert;
-mod eltcalc;
 mod eve;
-mod fmcalc;
 mod footprint;
 mod getmodel;
 mod gulcalc;
+mod need;
 mod period_tables;
-mod pltcalc;
-mod summarycalc;
+mod stops;
 mod top_call;
 mod whole_source;
 
