@@ -5,7 +5,6 @@ use Rattle.std.specs.Prelude.{ℕ, ◌+◌, Bool, true, false, cond, nat_eq, Lis
 use Rattle.std.specs.List.{list_any}
 use Rattle.kt_checks.specs.Checks.{samples_refusal}
 use Rattle.kt_ends.specs.Outcome.{Outcome}
-use Rattle.kt_ends.specs.World.{Uses}
 use Rattle.kt_ends.specs.declared.status.Refusal.{Refusal}
 use Rattle.kt_ends.specs.declared.status.Refusal.TheVariants as refusal
 use Rattle.kt_keys.specs.declared.need.Refusal.{Refusal as CheckRefusal}
@@ -84,7 +83,3 @@ abbrev pub judged_outcome : LossTable → PortfolioRows → List ℕ → Outcome
 judged_outcome table portfolio source =
     let contents = loss_contents table.items source in
     judged_behind table portfolio contents.head contents
-
--- it reads the files and the source, and writes to the sink
-abbrev pub uses_losses : Uses
-uses_losses = record { inputs = true; outputs = false; source = true; sink = true }

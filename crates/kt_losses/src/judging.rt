@@ -1,13 +1,10 @@
 //! The stage over losses: judges each record, and hands each closed run to its tool.
 //! The rules: docs/STREAMS.md, "Tools over losses".
-ghost use Rattle.std.specs.Prelude.{◌≡◌, ℕ, nat_eq};
-ghost use Rattle.kt_ends.specs.Ending.{Ended};
-ghost use Rattle.kt_ends.specs.Stops.{end_status};
-ghost use Rattle.kt_ends.specs.World.{Finds, world};
-ghost use Rattle.kt_losses.specs.Judged.{judged_outcome, losses_kind, uses_losses};
+ghost use Rattle.std.specs.Prelude.{◌≡◌, ℕ, nat_eq, true};
+ghost use Rattle.kt_ends.specs.Ending.{StreamToolEnds};
+ghost use Rattle.kt_loop.specs.Running.{stream_uses};
+ghost use Rattle.kt_losses.specs.Judged.{judged_outcome, losses_kind};
 ghost use Rattle.kt_losses.specs.Standing.{IsCheckStop};
-ghost use Rattle.kt_out.specs.InputFiles.{InputsState};
-ghost use Rattle.kt_out.specs.OutputFiles.{OutputsState};
 
 use crate::known::known_ids;
 use crate::table::LossTool;
@@ -130,7 +127,7 @@ impl<'a, T: LossTool> RunStage<Head, LossRecord, ()> for JudgedLosses<'a, T> {
 /// Reads a stream of losses and writes what a tool makes of it by a portfolio: what stands at the header, and then what each
 /// closed run gives. At the header the checks by the stream's number of samples come first. A record is refused whose id is none
 /// of an item, or of an output, or that takes the losses of a sidx in its run past 10^16 cents.
-pub fn write_losses<T: LossTool + Drop, S: Source, K: Sink>(
+pub(crate) fn write_losses<T: LossTool + Drop, S: Source, K: Sink>(
     alloc: Global,
     portfolio: &Portfolio,
     tool: T,
@@ -138,7 +135,7 @@ pub fn write_losses<T: LossTool + Drop, S: Source, K: Sink>(
     sink: &mut K,
 ) -> Result<(), ToolStop>
     requires { T.serves portfolio.now tool }
-    ensures { (inputs : InputsState) (outputs : OutputsState) → Ended (Finds uses_losses (world inputs outputs (S.state source.old) (K.state sink.old))) uses_losses (λ _ bytes. judged_outcome (T.table tool) portfolio.now bytes) (world inputs outputs (S.state source.old) (K.state sink.old)) (world inputs outputs (S.state source.new) (K.state sink.new)) (end_status result) }
+    ensures { StreamToolEnds (stream_uses true) (λ _ bytes. judged_outcome (T.table tool) portfolio.now bytes) (S.state source.old) (S.state source.new) (K.state sink.old) (K.state sink.new) result }
 {
     runs_give_their_text::<Head, LossRecord, (T, Portfolio)>();
     what_is_read_can_be_taken::<LossRecord>();

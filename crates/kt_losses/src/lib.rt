@@ -1,12 +1,17 @@
 //! Tools over streams of losses: each record is judged by the ids that there are and by what its run adds to, and each closed run
-//! is handed to the tool.
+//! is handed to the tool: insured losses, losses net of what layers take, summaries.
 #![tactic(auto)]
 
+mod heading;
+mod insured;
 mod judging;
 mod known;
+mod net;
 mod putting;
+mod summaries;
 mod table;
 
-pub use judging::write_losses;
+pub use insured::write_insured;
+pub use net::write_net;
 pub use putting::put_losses;
-pub use table::LossTool;
+pub use summaries::write_summaries;

@@ -1,6 +1,6 @@
 //! A tool over losses: what it writes at the header, and for each closed run.
 //! The rules: docs/STREAMS.md, "Tools over losses".
-ghost use Rattle.std.specs.Prelude.{◌≡◌, ◌++◌, List, OnOk, map};
+ghost use Rattle.std.specs.Prelude.{◌≡◌, ◌++◌, List, OnErr, OnOk, map};
 ghost use Rattle.std.specs.List.{AllByRecursion};
 ghost use Rattle.kt_loop.specs.Runs.{IsRun, loss_key};
 ghost use Rattle.kt_losses.specs.Standing.{AreKnown};
@@ -15,7 +15,7 @@ use kt_tables::Portfolio;
 use std::alloc::AllocError;
 
 /// What a tool makes of a stream of losses.
-pub trait LossTool {
+pub(crate) trait LossTool {
     ghost use Rattle.kt_losses.specs.Judged.{LossTable};
     ghost use Rattle.kt_tables.specs.Portfolio.{PortfolioRows};
 
@@ -29,13 +29,14 @@ pub trait LossTool {
     fn of_items(&self) -> bool
         ensures { result ≡ (table self.now).items };
 
-    /// Appends what stands at the header. An error is want of memory.
+    /// Appends what stands at the header. An error is want of memory, and nothing is appended then.
     fn put_heading(&self, head: Head, out: &mut Bytes) -> Result<(), AllocError>
         requires { IsHead Gul head }
-        ensures { OnOk result (out.new ≡ out.old ++ (table self.now).heading head) };
+        ensures ok { OnOk result (out.new ≡ out.old ++ (table self.now).heading head) }
+        ensures unchanged { OnErr result (out.new ≡ out.old) };
 
     /// Appends what the records of a run give. Their ids are known, and their losses add to at most 10^16 cents at each sidx. An
-    /// error is want of memory.
+    /// error is want of memory, and nothing is appended then.
     fn put_run(
         &self,
         portfolio: &Portfolio,
@@ -49,5 +50,6 @@ pub trait LossTool {
         requires rising { IsRun loss_key run.now }
         requires known { AreKnown (table self.now).items portfolio.now.rows run.now }
         requires within { AreWithin (map (λ placed. placed.entry) run.now) }
-        ensures { OnOk result (out.new ≡ out.old ++ (table self.now).text portfolio.now head (map (λ placed. placed.entry) run.now)) };
+        ensures ok { OnOk result (out.new ≡ out.old ++ (table self.now).text portfolio.now head (map (λ placed. placed.entry) run.now)) }
+        ensures unchanged { OnErr result (out.new ≡ out.old) };
 }

@@ -2,3 +2,5 @@ pub mod Adding
 pub mod PeriodTables
 pub mod Standing
 pub mod Examples
+pub mod EventLossTable
+pub mod PeriodLossTable

@@ -1,12 +1,11 @@
 -- The tables of a summary stream over all periods: average annual losses, and exceedance curves.
 -- The rules: docs/COMMANDS.md, "aalcalc" and "leccalc".
-use Rattle.std.specs.Prelude.{ℕ, true, false, List, [], ◌∷◌, ◌++◌, Option, Some, None, Result, Ok, Err}
+use Rattle.std.specs.Prelude.{ℕ, List, [], ◌∷◌, ◌++◌, Option, Some, None, Result, Ok, Err}
 use Rattle.kt_curve.specs.Average.{aal_heading_text, average_annual_loss_rows}
 use Rattle.kt_curve.specs.Exceedance.{lec_heading_text, by_sidx, exceedance_rows}
 use Rattle.kt_curve.specs.Losses.{Added, KeyLoss, all_losses}
 use Rattle.kt_rec.specs.declared.curve.Curve.{Curve}
 use Rattle.kt_ends.specs.Outcome.{Outcome}
-use Rattle.kt_ends.specs.World.{Uses}
 use Rattle.kt_ends.specs.declared.status.Refusal.{Refusal}
 use Rattle.kt_ends.specs.declared.status.Refusal.TheVariants.{Stream}
 use Rattle.kt_ends.specs.declared.status.Status.TheVariants.{Done, Refused}
@@ -25,10 +24,6 @@ use Rattle.kt_stream.specs.declared.entry.SummaryRecord.{SummaryRecord}
 use Rattle.kt_stream.specs.declared.kind.Head.{Head}
 use Rattle.kt_stream.specs.declared.stop.StreamStop.{StreamStop}
 use Rattle.kt_tables.specs.Lookups.{return_periods_of}
-
--- the objects that the tools use: the tables, the stream and what is written
-abbrev pub period_uses : Uses
-period_uses = record { inputs = true; outputs = false; source = true; sink = true }
 
 -- the names of a table's columns, and then its rows of a set, over so many periods and samples, at these return periods
 abbrev pub table_text : PeriodTable → ℕ → ℕ → ℕ → List ℕ → List KeyLoss → List ℕ

@@ -1,8 +1,12 @@
-//! The tools that make average annual losses and exceedance curves of a summary stream.
+//! The tables of a summary stream: event losses, period losses, average annual losses and exceedance curves.
 #![tactic(auto)]
 
+mod event_losses;
+mod period_losses;
 mod stage;
 mod table;
 mod tools;
 
+pub use event_losses::write_event_losses;
+pub use period_losses::write_period_losses;
 pub use tools::{write_average_annual_losses, write_exceedance_curve};

@@ -1,13 +1,10 @@
 //! The tools over the tables of a portfolio: average annual losses, and exceedance curves.
 //! The rules: docs/COMMANDS.md, "aalcalc" and "leccalc".
 ghost use Rattle.std.specs.Prelude.{◌≡◌, true};
-ghost use Rattle.kt_ends.specs.Ending.{Ended};
-ghost use Rattle.kt_ends.specs.Stops.{end_status};
-ghost use Rattle.kt_ends.specs.World.{Finds, world};
+ghost use Rattle.kt_ends.specs.Ending.{StreamToolEnds};
 ghost use Rattle.kt_keys.specs.Refusals.{is_loaded};
-ghost use Rattle.kt_out.specs.InputFiles.{InputsState};
-ghost use Rattle.kt_out.specs.OutputFiles.{OutputsState};
-ghost use Rattle.kt_periods.specs.PeriodTables.{aal_rows_outcome, lec_rows_outcome, period_outcome, period_uses};
+ghost use Rattle.kt_loop.specs.Running.{stream_uses};
+ghost use Rattle.kt_periods.specs.PeriodTables.{aal_rows_outcome, lec_rows_outcome, period_outcome};
 ghost use Rattle.kt_rec.specs.declared.table.Table.TheVariants as table;
 
 use crate::stage::PeriodLosses;
@@ -30,7 +27,7 @@ fn write_table<S: Source, K: Sink>(
     sink: &mut K,
 ) -> Result<(), ToolStop>
     requires loaded { is_loaded portfolio.now.need 0 table.Occurrence ≡ true }
-    ensures { (inputs : InputsState) (outputs : OutputsState) → Ended (Finds period_uses (world inputs outputs (S.state source.old) (K.state sink.old))) period_uses (λ _ bytes. period_outcome kind portfolio.now.rows bytes) (world inputs outputs (S.state source.old) (K.state sink.old)) (world inputs outputs (S.state source.new) (K.state sink.new)) (end_status result) }
+    ensures { StreamToolEnds (stream_uses true) (λ _ bytes. period_outcome kind portfolio.now.rows bytes) (S.state source.old) (S.state source.new) (K.state sink.old) (K.state sink.new) result }
 {
     what_is_read_can_be_taken::<SummaryRecord>();
     let mut reader = SummaryReader::new(alloc);
@@ -52,7 +49,7 @@ pub fn write_average_annual_losses<S: Source, K: Sink>(
     sink: &mut K,
 ) -> Result<(), ToolStop>
     requires loaded { is_loaded portfolio.now.need 0 table.Occurrence ≡ true }
-    ensures { (inputs : InputsState) (outputs : OutputsState) → Ended (Finds period_uses (world inputs outputs (S.state source.old) (K.state sink.old))) period_uses (λ _ bytes. aal_rows_outcome portfolio.now.rows bytes) (world inputs outputs (S.state source.old) (K.state sink.old)) (world inputs outputs (S.state source.new) (K.state sink.new)) (end_status result) }
+    ensures { StreamToolEnds (stream_uses true) (λ _ bytes. aal_rows_outcome portfolio.now.rows bytes) (S.state source.old) (S.state source.new) (K.state sink.old) (K.state sink.new) result }
 {
     write_table(
         alloc,
@@ -73,7 +70,7 @@ pub fn write_exceedance_curve<S: Source, K: Sink>(
     sink: &mut K,
 ) -> Result<(), ToolStop>
     requires loaded { is_loaded portfolio.now.need 0 table.Occurrence ≡ true }
-    ensures { (inputs : InputsState) (outputs : OutputsState) → Ended (Finds period_uses (world inputs outputs (S.state source.old) (K.state sink.old))) period_uses (λ _ bytes. lec_rows_outcome curve portfolio.now.rows bytes) (world inputs outputs (S.state source.old) (K.state sink.old)) (world inputs outputs (S.state source.new) (K.state sink.new)) (end_status result) }
+    ensures { StreamToolEnds (stream_uses true) (λ _ bytes. lec_rows_outcome curve portfolio.now.rows bytes) (S.state source.old) (S.state source.new) (K.state sink.old) (K.state sink.new) result }
 {
     write_table(
         alloc,

@@ -24,10 +24,7 @@ use Rattle.kt_stream.specs.Reader.{IsPlaced}
 use Rattle.kt_stream.specs.declared.entry.Cdf.{Cdf}
 use Rattle.kt_stream.specs.declared.entry.Placed.{Placed}
 use Rattle.kt_stream.specs.declared.kind.Head.{Head}
-use Rattle.kt_keys.specs.Refusals.{is_loaded}
-use Rattle.kt_keys.specs.declared.need.Need.{Need}
-use Rattle.kt_rec.specs.declared.table.Table.TheVariants as table
-use Rattle.kt_tools.specs.GulOutcome.{GulOptions, gul_need, gul_runs, run_losses}
+use Rattle.kt_tools.specs.GulOutcome.{GulOptions, gul_runs, run_losses}
 
 -- the keys of two pairs are in the order of the pairs
 key_rises : (one two other next : ℕ) → two < 2 ^ 32 → next < 2 ^ 32 → (nat_lt one other || (nat_eq one other && nat_lt two next)) ≡ true → one * 2 ^ 32 + two < other * 2 ^ 32 + next
@@ -74,22 +71,6 @@ module _ (bins : ℕ) (head : Head) where
 pub losses_of_run : (rows : Rows) (options : GulOptions) (run : List (Placed Cdf)) (first : Placed Cdf) → 0 < length run → first ≡ get_or run 0 first → run_losses rows options (bare run) ≡ flat_map loss_bytes (ground_up_records rows options.0 options.1 first.entry.event (bare run))
 losses_of_run rows options [] first some is = absurd (omega arith)
 losses_of_run rows options (placed ∷ later) first some is = ap (λ (one : Placed Cdf). flat_map loss_bytes (ground_up_records rows options.0 options.1 one.entry.event (bare (placed ∷ later)))) (sym is)
-
--- the tables that the tool stands on are loaded
-pub record GulLoaded (need : Need) : Type 0 where
-  pub random : is_loaded need 0 table.Random ≡ true
-  pub bins : is_loaded need 0 table.DamageBinDict ≡ true
-
-loads_random : (samples : ℕ) → is_loaded (gul_need samples) 0 table.Random ≡ true
-unfolding is_loaded
-loads_random samples = refl
-
-loads_bins : (samples : ℕ) → is_loaded (gul_need samples) 0 table.DamageBinDict ≡ true
-unfolding is_loaded
-loads_bins samples = refl
-
-pub gul_loaded : (samples : ℕ) (need : Need) → need ≡ gul_need samples → GulLoaded need
-gul_loaded samples need is = subst GulLoaded (sym is) (record { random = loads_random samples; bins = loads_bins samples })
 
 -- records without their places, one behind the others
 bare_push : (run : List (Placed Cdf)) (placed : Placed Cdf) → bare (run ++ placed ∷ []) ≡ bare run ++ placed.entry ∷ []

@@ -1,10 +1,9 @@
-pub mod Fitting
 pub mod Reading
 pub mod Converting
 pub mod EveLemmas
 pub mod FootprintLemmas
+pub mod NeedLemmas
 pub mod Running
-pub mod SummaryLemmas
-mod PeriodLemmas
+pub mod TableEnds
 mod GulLemmas
 mod ModelLemmas

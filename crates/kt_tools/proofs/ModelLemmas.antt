@@ -1,20 +1,14 @@
 -- How the tool of damage distributions takes an event.
 use Rattle.std.proofs.Common.{◌≡◌, ℕ, List, [], refl, sym, subst, Option, None, Some, Result, Ok, Err}
-use Rattle.std.specs.Prelude.{IfSome, IsSomeAnd, length, true, unwrap_or}
+use Rattle.std.specs.Prelude.{IfSome, IsSomeAnd, length, unwrap_or}
 use Rattle.kt_ends.specs.declared.tool_stop.ToolStop.{ToolStop}
 use Rattle.kt_ends.specs.declared.tool_stop.ToolStop.TheVariants as tool
 use Rattle.kt_ends.specs.declared.status.Refusal.{Refusal}
 use Rattle.kt_load.specs.EventRows.{HasFootprint, footprint_name}
-use Rattle.kt_keys.specs.Refusals.{is_loaded}
-use Rattle.kt_load.specs.FootprintSize.{footprint_size-known}
-use Rattle.kt_load.specs.Loaded.{loaded}
-use Rattle.kt_rec.specs.declared.table.Table.TheVariants as table
-use Rattle.kt_tables.specs.Portfolio.{PortfolioRows}
 use Rattle.kt_loop.specs.Calculation.{Step}
 use Rattle.kt_loop.specs.Steps.{StepsBy}
 use Rattle.kt_out.specs.NamedFiles.{FileMap}
-use Rattle.kt_tools.specs.ModelOutcome.{model_need}
-use Rattle.kt_tools.specs.ModelStage.{HoldsFootprint, IsModelReady}
+use Rattle.kt_tools.specs.ModelStage.{HoldsFootprint}
 
 -- the footprint's file is there where files are known
 pub has_footprint : (held : Option FileMap) (size : ℕ) (files : FileMap) → held ≡ Some files → HasFootprint held size → files footprint_name ≡ Some (unwrap_or (files footprint_name) [])
@@ -23,28 +17,6 @@ has_footprint held size files known has = by_file (files footprint_name) (subst 
     by_file : (file : Option (List ℕ)) → IsSomeAnd file (λ bytes. length bytes ≡ size) → file ≡ Some (unwrap_or file [])
     by_file None is = absurd is
     by_file (Some bytes) is = refl
-
--- what the tool loads is loaded
-loads_bins : is_loaded model_need 0 table.DamageBinDict ≡ true
-unfolding is_loaded
-loads_bins = refl
-
-loads_footprint : is_loaded model_need 0 table.Footprint ≡ true
-unfolding is_loaded
-loads_footprint = refl
-
-loads_index : is_loaded model_need 0 table.FootprintIdx ≡ true
-unfolding is_loaded
-loads_index = refl
-
--- a portfolio that was loaded for the tool
-pub model_ready : (portfolio : PortfolioRows) (held : Option FileMap) → portfolio.need ≡ model_need → IfSome held (λ files. loaded files model_need ≡ Ok portfolio.rows) → IsModelReady portfolio held
-model_ready portfolio held need are = record {
-  bins = subst (λ n. is_loaded n 0 table.DamageBinDict ≡ true) (sym need) loads_bins;
-  footprint = subst (λ n. is_loaded n 0 table.Footprint ≡ true) (sym need) loads_footprint;
-  index = subst (λ n. is_loaded n 0 table.FootprintIdx ≡ true) (sym need) loads_index;
-  file = footprint_size-known held model_need portfolio.rows are refl;
-}
 
 -- a step that stays at a state stands where that state does
 pub steps_as : {S T : Type 0} (step : Step S Refusal) (made : S) (stands : S → Type 0) (text text_now : List ℕ) (result : Result T ToolStop) → stands made → StepsBy step (λ next. next ≡ made) text text_now result → StepsBy step stands text text_now result

@@ -17,7 +17,7 @@ use Rattle.kt_ends.specs.Stops.{fault_stop, stop_status}
 use Rattle.kt_ends.specs.declared.status.Status.TheVariants as status
 use Rattle.kt_ends.specs.declared.tool_stop.ToolStop.{ToolStop}
 use Rattle.kt_ends.specs.declared.tool_stop.ToolStop.TheVariants.{Refused, ReadFault, WriteFault, NoMemory}
-use Rattle.kt_loading.specs.Loading.{table_stop}
+use Rattle.kt_tools.specs.Loading.{table_stop}
 
 -- a source has at most so many bytes
 abbrev pub source_limit : ℕ

@@ -1,35 +1,22 @@
 -- The ground-up losses of a stream of damage distributions.
 -- The rules: docs/COMMANDS.md, "gulcalc".
-use Rattle.std.specs.Prelude.{ℕ, Bool, false, List, [], ◌∷◌, length, None, Ok}
+use Rattle.std.specs.Prelude.{ℕ, Bool, List, [], ◌∷◌, length, None, Ok}
 use Rattle.std.specs.List.{flat_map}
 use Rattle.kt_ends.specs.Outcome.{Outcome}
 use Rattle.kt_ends.specs.declared.status.Refusal.{Refusal}
 use Rattle.kt_gul.specs.GroundUp.{ground_up_records}
-use Rattle.kt_keys.specs.declared.need.Need.{Need}
-use Rattle.kt_load.specs.FileNames.{table_at}
 use Rattle.kt_loop.specs.ByRun.{RunCalculation, by_run}
 use Rattle.kt_loop.specs.Contents.{Contents}
 use Rattle.kt_loop.specs.Outcome.{outcome}
 use Rattle.kt_loop.specs.RecordStreams.{contents_of}
 use Rattle.kt_loop.specs.Runs.{cdf_key}
 use Rattle.kt_rec.specs.Rows.{Rows}
-use Rattle.kt_rec.specs.TableSet.{no_tables, with_table}
-use Rattle.kt_rec.specs.declared.table.Table.TheVariants as table
 use Rattle.kt_stream.specs.Bins.{cdf_form, cdf_shape}
 use Rattle.kt_stream.specs.Header.{header_bytes}
 use Rattle.kt_stream.specs.Losses.{loss_bytes}
 use Rattle.kt_stream.specs.declared.entry.Cdf.{Cdf}
 use Rattle.kt_stream.specs.declared.kind.Head.{Head}
 use Rattle.kt_stream.specs.declared.kind.StreamKind.TheVariants.{Gul}
-
--- the tables of the exposure, of the damage bins and of the random numbers, for so many samples
-abbrev pub gul_need : ℕ → Need
-gul_need samples = record {
-  loaded = with_table (with_table (with_table (with_table no_tables (table_at 0 table.Items)) (table_at 0 table.Coverages)) (table_at 0 table.DamageBinDict)) (table_at 0 table.Random);
-  samples = samples;
-  rule = 0;
-  net = false;
-}
 
 -- the number of samples, and whether a coverage's losses are cut
 abbrev pub GulOptions : Type 0
@@ -57,6 +44,6 @@ abbrev pub cdf_contents : Rows → List ℕ → Contents Head Cdf
 cdf_contents rows source = contents_of cdf_form (cdf_shape (length rows.damage_bin_dict)) source
 
 -- the ground-up losses of the distributions of the source, run by run, by the rows of the tables
-abbrev pub gul_rows_outcome : ℕ → Bool → Rows → List ℕ → Outcome
-gul_rows_outcome samples cut rows source =
+abbrev pub gul_outcome : ℕ → Bool → Rows → List ℕ → Outcome
+gul_outcome samples cut rows source =
     outcome (by_run cdf_key (gul_runs (λ head. rows))) (record { kept = (samples, cut); run = [] }) (cdf_contents rows source)

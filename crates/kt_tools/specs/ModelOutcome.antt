@@ -1,6 +1,6 @@
 -- The damage distributions of the events of a stream.
 -- The rules: docs/COMMANDS.md, "getmodel".
-use Rattle.std.specs.Prelude.{ℕ, List, [], false, Option, None, Some, Ok, Err, unwrap_or}
+use Rattle.std.specs.Prelude.{ℕ, List, [], Option, None, Some, Ok, Err, unwrap_or}
 use Rattle.std.specs.List.{flat_map}
 use Rattle.kt_out.specs.NamedFiles.{FileMap}
 use Rattle.kt_ends.specs.Outcome.{Outcome}
@@ -9,32 +9,19 @@ use Rattle.kt_ends.specs.declared.status.Refusal.TheVariants.{Row}
 use Rattle.kt_rec.specs.FootRows.{first_refused_row}
 use Rattle.kt_rec.specs.declared.foot_rows.ModelStop.{ModelStop}
 use Rattle.kt_rec.specs.declared.foot_rows.ModelStop.TheVariants as stop
-use Rattle.kt_keys.specs.declared.need.Need.{Need}
 use Rattle.kt_load.specs.EventRows.{event_rows, footprint_name}
-use Rattle.kt_load.specs.FileNames.{table_at}
 use Rattle.kt_loop.specs.Calculation.{Calculation, Step}
 use Rattle.kt_loop.specs.Outcome.{outcome}
 use Rattle.kt_loop.specs.RecordStreams.{contents_of}
 use Rattle.kt_model.specs.Distribution.{distributions_of}
 use Rattle.kt_rec.specs.Rows.{Rows}
-use Rattle.kt_rec.specs.TableSet.{no_tables, with_table}
 use Rattle.kt_rec.specs.declared.hazard.FootRow.{FootRow}
-use Rattle.kt_rec.specs.declared.table.Table.TheVariants as table
 use Rattle.kt_stream.specs.Bins.{cdf_bytes}
 use Rattle.kt_stream.specs.EventIds.{event_form, event_shape}
 use Rattle.kt_stream.specs.Header.{header_bytes}
 use Rattle.kt_stream.specs.declared.event_id.EventId.{EventId}
 use Rattle.kt_stream.specs.declared.kind.Head.{Head}
 use Rattle.kt_stream.specs.declared.kind.StreamKind.TheVariants.{Cdf}
-
--- the tables of the hazard and of the items
-abbrev pub model_need : Need
-model_need = record {
-  loaded = with_table (with_table (with_table (with_table (with_table no_tables (table_at 0 table.Items)) (table_at 0 table.Footprint)) (table_at 0 table.FootprintIdx)) (table_at 0 table.Vulnerability)) (table_at 0 table.DamageBinDict);
-  samples = 0;
-  rule = 0;
-  net = false;
-}
 
 -- what distributions are made of: the rows of the tables, and the bytes of the footprint's file
 pub record ModelTables : Type 0 where
@@ -68,6 +55,6 @@ model_calculation = record {
 }
 
 -- the distributions of the events of the source, by the rows of the tables and the footprint's file, up to the first refused id or row
-abbrev pub model_rows_outcome : FileMap → Rows → List ℕ → Outcome
-model_rows_outcome files rows source =
+abbrev pub model_outcome : FileMap → Rows → List ℕ → Outcome
+model_outcome files rows source =
     outcome model_calculation (model_tables rows (unwrap_or (files footprint_name) [])) (contents_of event_form event_shape source)

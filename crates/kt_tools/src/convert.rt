@@ -4,21 +4,18 @@ ghost use Rattle.std.specs.Prelude.{◌≡◌, ℕ, List, Result, IfOk, IfErr, O
 ghost use Rattle.kt_blocks.specs.Progress.{WritesText};
 ghost use Rattle.kt_cells.specs.Stops.{Tells};
 ghost use Rattle.kt_cells.specs.declared.stop.TableStop.{TableStop};
-ghost use Rattle.kt_ends.specs.Stops.{end_status};
-ghost use Rattle.kt_ends.specs.World.{world};
-ghost use Rattle.kt_out.specs.InputFiles.{InputsState};
-ghost use Rattle.kt_out.specs.OutputFiles.{OutputsState};
+ghost use Rattle.kt_ends.specs.Ending.{StreamToolEnds};
 ghost use Rattle.kt_tools.specs.Converting.{EndsText, IsTableStop, other_form};
 ghost use Rattle.kt_tools.specs.Outcome.{convert_outcome};
-ghost use Rattle.kt_tools.specs.Uses.{ToolEnds, command_uses};
+ghost use Rattle.kt_tools.specs.Uses.{command_uses};
 ghost use Rattle.kt_words.specs.Command.{IsConversion};
 ghost use Rattle.kt_words.specs.declared.command.Command.TheVariants as Command;
 
+use crate::stops::table_stop;
 use crate::whole_source::{read_whole, source_label};
 use kt_blocks::{TextStop, write_csv};
 use kt_cells::TableStop;
 use kt_ends::{ToolStop, write_stop};
-use kt_loading::table_stop;
 use kt_money::Bytes;
 use kt_out::{Sink, Source, write_all};
 use kt_schema::csv_to_bin;
@@ -86,8 +83,7 @@ pub fn convert<S: Source, K: Sink>(
     sink: &mut K,
 ) -> Result<(), ToolStop>
     requires { IsConversion conversion }
-    // The files are none of its objects: whatever they hold and have counted stays so.
-    ensures { (inputs : InputsState) (outputs : OutputsState) → ToolEnds (command_uses (Command.Convert conversion)) (λ _ bytes. convert_outcome conversion bytes) (world inputs outputs (S.state source.old) (K.state sink.old)) (world inputs outputs (S.state source.new) (K.state sink.new)) (end_status result) }
+    ensures { StreamToolEnds (command_uses (Command.Convert conversion)) (λ _ bytes. convert_outcome conversion bytes) (S.state source.old) (S.state source.new) (K.state sink.old) (K.state sink.new) result }
 {
     let bytes = match read_whole(alloc, source) {
         Ok(bytes) => bytes,

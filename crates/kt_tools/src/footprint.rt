@@ -2,16 +2,12 @@
 //! The rules: docs/COMMANDS.md, "tobin and tocsv".
 ghost use Rattle.std.specs.Prelude.{◌≡◌, Some, None, OnOk, IfErr, length};
 ghost use Rattle.kt_checks.specs.TableChecks.{is_misplaced};
-ghost use Rattle.kt_ends.specs.Ending.{Ended};
-ghost use Rattle.kt_ends.specs.Stops.{end_status};
-ghost use Rattle.kt_ends.specs.World.{world};
+ghost use Rattle.kt_ends.specs.Ending.{StreamToolEnds};
 ghost use Rattle.kt_keys.specs.FirstRow.{first_where};
-ghost use Rattle.kt_out.specs.InputFiles.{InputsState};
-ghost use Rattle.kt_out.specs.OutputFiles.{OutputsState};
 ghost use Rattle.kt_tools.specs.Converting.{StopsText};
 ghost use Rattle.kt_tools.specs.FootprintText.{IsPlaceStop, text_of};
-ghost use Rattle.kt_tools.specs.Outcome.{footprint_text, footprint_outcome};
-ghost use Rattle.kt_tools.specs.Uses.{ToolEnds, command_uses};
+ghost use Rattle.kt_tools.specs.Outcome.{footprint_text};
+ghost use Rattle.kt_tools.specs.Uses.{command_uses};
 ghost use Rattle.kt_words.specs.declared.command.Command.TheVariants as Command;
 
 use crate::convert::text_end;
@@ -20,9 +16,9 @@ use kt_blocks::write_footprint;
 use kt_checks::first_misplaced;
 use kt_ends::{Refusal, ToolStop};
 use kt_load::file_name;
-use kt_loading::{load_tables, need_of};
-use kt_out::{Inputs, Sink, Source};
+use kt_out::{Sink, Source};
 use kt_rec::{FootprintIdx, Table, TableId};
+use kt_tables::Portfolio;
 use std::alloc::Global;
 
 /// The check of the index for the size of the footprint.
@@ -65,7 +61,7 @@ fn write_text<S: Source, K: Sink>(
     source: &mut S,
     sink: &mut K,
 ) -> Result<(), ToolStop>
-    ensures { (inputs : InputsState) (outputs : OutputsState) → Ended (λ _ bytes. (S.state source.old).left ≡ Some bytes) (command_uses Command.FootprintText) (λ _ bytes. footprint_text index.now bytes) (world inputs outputs (S.state source.old) (K.state sink.old)) (world inputs outputs (S.state source.new) (K.state sink.new)) (end_status result) }
+    ensures { StreamToolEnds (command_uses Command.FootprintText) (λ _ bytes. footprint_text index.now bytes) (S.state source.old) (S.state source.new) (K.state sink.old) (K.state sink.new) result }
 {
     let bytes = match read_whole(alloc, source) {
         Ok(bytes) => bytes,
@@ -77,24 +73,15 @@ fn write_text<S: Source, K: Sink>(
     text_end(alloc, write_footprint(alloc, bytes.as_slice(), index, sink))
 }
 
-/// Loads the footprint's index, reads the whole source, the footprint, and writes its text.
-pub fn footprint_to_text<I: Inputs, S: Source, K: Sink>(
+/// Reads the whole source, the footprint, and writes its text by the index of a portfolio.
+pub(crate) fn footprint_to_text<S: Source, K: Sink>(
     alloc: Global,
-    inputs: &mut I,
+    portfolio: &Portfolio,
     source: &mut S,
     sink: &mut K,
 ) -> Result<(), ToolStop>
-    // The output files are none of its objects.
-    ensures { (outputs : OutputsState) → ToolEnds (command_uses Command.FootprintText) footprint_outcome (world (I.state inputs.old) outputs (S.state source.old) (K.state sink.old)) (world (I.state inputs.new) outputs (S.state source.new) (K.state sink.new)) (end_status result) }
+    ensures { StreamToolEnds (command_uses Command.FootprintText) (λ _ bytes. footprint_text portfolio.now.rows.footprint_idx bytes) (S.state source.old) (S.state source.new) (K.state sink.old) (K.state sink.new) result }
 {
-    let portfolio = match load_tables(alloc, inputs, need_of(Table::FootprintIdx)) {
-        Ok(portfolio) => portfolio,
-        Err(stop) => return Err(stop),
-    };
-    write_text(
-        alloc,
-        portfolio.tables().footprint_idx.as_slice(),
-        source,
-        sink,
-    )
+    let index = portfolio.tables().footprint_idx.as_slice();
+    write_text(alloc, index, source, sink)
 }

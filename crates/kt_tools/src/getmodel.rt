@@ -2,51 +2,31 @@
 //! The rules: docs/COMMANDS.md, "getmodel".
 ghost use Rattle.std.specs.Prelude.{◌≡◌, ◌++◌, true, OnOk, IfErr};
 ghost use Rattle.std.specs.List.{flat_map};
-ghost use Rattle.kt_ends.specs.Ending.{Ended};
+ghost use Rattle.kt_ends.specs.Ending.{ToolEnds};
 ghost use Rattle.kt_ends.specs.Stops.{end_status};
-ghost use Rattle.kt_ends.specs.World.{Finds, world};
+ghost use Rattle.kt_ends.specs.World.{world};
 ghost use Rattle.kt_keys.specs.Refusals.{is_loaded};
 ghost use Rattle.kt_loop.specs.Steps.{StepsBy};
 ghost use Rattle.kt_out.specs.OutputFiles.{OutputsState};
 ghost use Rattle.kt_rec.specs.declared.table.Table.TheVariants as table;
 ghost use Rattle.kt_stream.specs.Bins.{cdf_bytes};
-ghost use Rattle.kt_tools.specs.ModelOutcome.{ModelTables, model_need as needs, model_rows_outcome, rows_step};
+ghost use Rattle.kt_tools.specs.ModelOutcome.{ModelTables, model_outcome, rows_step};
 ghost use Rattle.kt_tools.specs.ModelStage.{IsModelReady, IsRowStop};
-ghost use Rattle.kt_tools.specs.Outcome.{model_outcome};
-ghost use Rattle.kt_tools.specs.Uses.{ToolEnds, command_uses};
+ghost use Rattle.kt_tools.specs.Uses.{command_uses};
 ghost use Rattle.kt_words.specs.declared.command.Command.TheVariants as Command;
 
-use kt_checks::Need;
+use crate::stops::load_stop;
 use kt_ends::{Refusal, ToolStop};
 use kt_load::foot_rows;
-use kt_loading::{load_stop, load_tables, with_table};
 use kt_loop::laws::what_is_read_can_be_taken;
 use kt_loop::{Stage, run_stage};
 use kt_model::{ModelStop, distributions};
 use kt_money::{Bytes, OutOfMemory};
 use kt_out::{Inputs, Sink, Source};
-use kt_rec::{FootRow, Table, TableSet};
+use kt_rec::FootRow;
 use kt_stream::{Cdf, EventId, EventReader, Head, StreamKind, put_cdf, put_head};
 use kt_tables::Portfolio;
 use std::alloc::Global;
-
-/// What the tool needs: the items, the footprint and its index, vulnerabilities and damage bins.
-fn model_need() -> Need
-    ensures { result ≡ needs }
-{
-    let items = with_table(TableSet::new(), Table::Items);
-    let footprint = with_table(with_table(items, Table::Footprint), Table::FootprintIdx);
-    let damage = with_table(
-        with_table(footprint, Table::Vulnerability),
-        Table::DamageBinDict,
-    );
-    Need {
-        loaded: damage,
-        samples: 0,
-        rule: 0,
-        net: false,
-    }
-}
 
 /// Appends distributions, one after the other.
 fn put_cdfs(out: &mut Bytes, records: &[Cdf]) -> Result<(), OutOfMemory>
@@ -146,7 +126,7 @@ impl<'a, I: Inputs> Stage<Head, EventId, I> for Distributions<'a> {
 }
 
 /// Reads the ids of events and writes their damage distributions by a portfolio and the footprint's file.
-fn write_distributions<I: Inputs, S: Source, K: Sink>(
+pub(crate) fn write_distributions<I: Inputs, S: Source, K: Sink>(
     alloc: Global,
     portfolio: &Portfolio,
     inputs: &mut I,
@@ -154,27 +134,11 @@ fn write_distributions<I: Inputs, S: Source, K: Sink>(
     sink: &mut K,
 ) -> Result<(), ToolStop>
     requires ready { IsModelReady portfolio.now (I.state inputs.old).held }
-    ensures { (outputs : OutputsState) → Ended (Finds (command_uses Command.Getmodel) (world (I.state inputs.old) outputs (S.state source.old) (K.state sink.old))) (command_uses Command.Getmodel) (λ files bytes. model_rows_outcome files portfolio.now.rows bytes) (world (I.state inputs.old) outputs (S.state source.old) (K.state sink.old)) (world (I.state inputs.new) outputs (S.state source.new) (K.state sink.new)) (end_status result) }
+    // The output files are none of its objects.
+    ensures { (outputs : OutputsState) → ToolEnds (command_uses Command.Getmodel) (λ files bytes. model_outcome files portfolio.now.rows bytes) (world (I.state inputs.old) outputs (S.state source.old) (K.state sink.old)) (world (I.state inputs.new) outputs (S.state source.new) (K.state sink.new)) (end_status result) }
 {
     what_is_read_can_be_taken::<EventId>();
     let mut reader = EventReader::new(alloc);
     let mut stage = Distributions { alloc, portfolio };
     run_stage(alloc, &mut reader, &mut stage, inputs, source, sink)
-}
-
-/// Loads the tables of the hazard and of the items, reads the ids of events and writes their damage distributions.
-pub fn getmodel<I: Inputs, S: Source, K: Sink>(
-    alloc: Global,
-    inputs: &mut I,
-    source: &mut S,
-    sink: &mut K,
-) -> Result<(), ToolStop>
-    // The output files are none of its objects.
-    ensures { (outputs : OutputsState) → ToolEnds (command_uses Command.Getmodel) model_outcome (world (I.state inputs.old) outputs (S.state source.old) (K.state sink.old)) (world (I.state inputs.new) outputs (S.state source.new) (K.state sink.new)) (end_status result) }
-{
-    let portfolio = match load_tables(alloc, inputs, model_need()) {
-        Ok(portfolio) => portfolio,
-        Err(stop) => return Err(stop),
-    };
-    write_distributions(alloc, &portfolio, inputs, source, sink)
 }

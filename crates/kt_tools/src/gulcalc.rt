@@ -1,46 +1,24 @@
 //! The tool that makes the ground-up losses of a stream of damage distributions.
 //! The rules: docs/COMMANDS.md, "gulcalc".
 ghost use Rattle.std.specs.Prelude.{◌≡◌, ◌++◌, ◌≤◌, true, length, OnOk, IfOk};
-ghost use Rattle.kt_ends.specs.Ending.{Ended};
-ghost use Rattle.kt_ends.specs.Stops.{end_status};
-ghost use Rattle.kt_ends.specs.World.{Finds, world};
+ghost use Rattle.kt_ends.specs.Ending.{StreamToolEnds};
 ghost use Rattle.kt_keys.specs.Refusals.{is_loaded};
 ghost use Rattle.kt_loop.specs.Runs.{bare};
-ghost use Rattle.kt_out.specs.InputFiles.{InputsState};
-ghost use Rattle.kt_out.specs.OutputFiles.{OutputsState};
 ghost use Rattle.kt_rec.specs.declared.table.Table.TheVariants as table;
-ghost use Rattle.kt_tools.specs.GulOutcome.{gul_need as needs, gul_rows_outcome};
-ghost use Rattle.kt_tools.specs.Outcome.{gul_outcome};
-ghost use Rattle.kt_tools.specs.Uses.{ToolEnds, command_uses};
+ghost use Rattle.kt_tools.specs.GulOutcome.{gul_outcome};
+ghost use Rattle.kt_tools.specs.Uses.{command_uses};
 ghost use Rattle.kt_words.specs.declared.command.Command.TheVariants as Command;
 
-use kt_checks::Need;
 use kt_ends::ToolStop;
 use kt_gul::ground_up;
-use kt_loading::{load_tables, with_table};
 use kt_loop::laws::{runs_give_their_text, what_is_read_with_more_known_can_be_taken};
 use kt_loop::{KnownHead, KnownReader, RunStage, run_by_run};
 use kt_losses::put_losses;
 use kt_money::Bytes;
-use kt_out::{Inputs, Sink, Source};
-use kt_rec::{Table, TableSet};
+use kt_out::{Sink, Source};
 use kt_stream::{Bin, Bins, Cdf, CdfReader, Head, Placed, StreamKind, put_head};
 use kt_tables::Portfolio;
 use std::alloc::{AllocError, Global};
-
-/// What the tool needs: the items, the coverages, the damage bins and the random numbers, for so many samples.
-fn gul_need(samples: u32) -> Need
-    ensures { result ≡ needs samples }
-{
-    let exposure = with_table(with_table(TableSet::new(), Table::Items), Table::Coverages);
-    let loaded = with_table(with_table(exposure, Table::DamageBinDict), Table::Random);
-    Need {
-        loaded,
-        samples,
-        rule: 0,
-        net: false,
-    }
-}
 
 /// The same bins.
 fn copy_bins(alloc: Global, bins: &[Bin]) -> Result<Bins, AllocError>
@@ -157,7 +135,7 @@ fn bin_count(portfolio: &Portfolio) -> u32
 }
 
 /// Reads a stream of distributions and writes their ground-up losses by a portfolio.
-fn write_losses<S: Source, K: Sink>(
+pub(crate) fn write_ground_up<S: Source, K: Sink>(
     alloc: Global,
     samples: u32,
     cut: bool,
@@ -169,7 +147,7 @@ fn write_losses<S: Source, K: Sink>(
     requires bins { is_loaded portfolio.now.need 0 table.DamageBinDict ≡ true }
     requires some { 1 ≤ samples }
     requires few { samples ≤ 1000 }
-    ensures { (inputs : InputsState) (outputs : OutputsState) → Ended (Finds (command_uses (Command.Gulcalc samples cut)) (world inputs outputs (S.state source.old) (K.state sink.old))) (command_uses (Command.Gulcalc samples cut)) (λ _ bytes. gul_rows_outcome samples cut portfolio.now.rows bytes) (world inputs outputs (S.state source.old) (K.state sink.old)) (world inputs outputs (S.state source.new) (K.state sink.new)) (end_status result) }
+    ensures { StreamToolEnds (command_uses (Command.Gulcalc samples cut)) (λ _ bytes. gul_outcome samples cut portfolio.now.rows bytes) (S.state source.old) (S.state source.new) (K.state sink.old) (K.state sink.new) result }
 {
     portfolio.keeps_damage();
     runs_give_their_text::<Head, Cdf, (u32, bool)>();
@@ -186,26 +164,4 @@ fn write_losses<S: Source, K: Sink>(
         cut,
     };
     run_by_run(alloc, &mut reader, stage, &mut (), source, sink)
-}
-
-/// Loads the tables of the exposure, of the damage bins and of the random numbers, reads a stream of distributions and
-/// writes their ground-up losses.
-pub fn gulcalc<I: Inputs, S: Source, K: Sink>(
-    alloc: Global,
-    samples: u32,
-    cut: bool,
-    inputs: &mut I,
-    source: &mut S,
-    sink: &mut K,
-) -> Result<(), ToolStop>
-    requires some { 1 ≤ samples }
-    requires few { samples ≤ 1000 }
-    // The output files are none of its objects.
-    ensures { (outputs : OutputsState) → ToolEnds (command_uses (Command.Gulcalc samples cut)) (gul_outcome samples cut) (world (I.state inputs.old) outputs (S.state source.old) (K.state sink.old)) (world (I.state inputs.new) outputs (S.state source.new) (K.state sink.new)) (end_status result) }
-{
-    let portfolio = match load_tables(alloc, inputs, gul_need(samples)) {
-        Ok(portfolio) => portfolio,
-        Err(stop) => return Err(stop),
-    };
-    write_losses(alloc, samples, cut, &portfolio, source, sink)
 }

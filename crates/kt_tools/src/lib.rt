@@ -2,15 +2,12 @@
 #![tactic(auto)]
 
 mod convert;
-mod eltcalc;
 mod eve;
-mod fmcalc;
 mod footprint;
 mod getmodel;
 mod gulcalc;
-mod period_tables;
-mod pltcalc;
-mod summarycalc;
+mod need;
+mod stops;
 mod top_call;
 mod whole_source;
 

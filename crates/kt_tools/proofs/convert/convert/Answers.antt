@@ -1,16 +1,13 @@
 use Rattle.std.proofs.Common.{ℕ, List, refl}
 use Rattle.kt_ends.specs.Outcome.{Outcome}
-use Rattle.kt_ends.specs.World.{Finds, world}
 use Rattle.kt_tools.specs.Converting.{converted, other_form}
 use Rattle.kt_tools.specs.Uses.{command_uses}
 use Rattle.kt_words.specs.declared.command.Command.TheVariants.{Convert}
-use Rattle.kt_tools.proofs.Converting.{ends_text}
+use Rattle.kt_tools.proofs.Converting.{ends_text, ends_unread}
 use Rattle.kt_tools.proofs.convert.convert.Goals as goal
 
 pub returns : goal.returns
 returns g c inputs outputs =
-    let uses = command_uses (Convert c.args.conversion) in
-    let found = Finds uses (world inputs outputs (g.S.Source.state c.args.source.now) (g.K.Sink.state c.args.sink.now)) in
     let made : List ℕ → Outcome = λ bytes. converted (other_form c.args.conversion bytes) in
-    ends_text found uses made inputs outputs _ _ _ (record { source = refl; sink = refl; told = λ files bytes finds. finds.source_told refl }) (other_form c.args.conversion c.in-Ok.bytes.items) (g.K.Sink.state c.write_form.new.sink) c.in-Ok.bytes.items c.write_form.result c.text_end.result c.in-Ok.ensures.value refl
+    ends_text (command_uses (Convert c.args.conversion)) made inputs outputs _ _ _ (record { source = refl; sink = refl }) (other_form c.args.conversion c.in-Ok.bytes.items) (g.K.Sink.state c.write_form.new.sink) c.in-Ok.bytes.items c.write_form.result c.text_end.result c.in-Ok.ensures.value refl
     (rw c.as_slice.ensures.value at c.write_form.ensures) c.text_end.ensures

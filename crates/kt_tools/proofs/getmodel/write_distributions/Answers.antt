@@ -9,7 +9,7 @@ use Rattle.kt_stream.specs.Pairs.{IsId}
 use Rattle.kt_stream.specs.Reader.{IsPlaced}
 use Rattle.kt_stream.specs.declared.event_id.EventId.{EventId}
 use Rattle.kt_stream.specs.declared.kind.Shape.{Shape}
-use Rattle.kt_tools.specs.ModelOutcome.{model_rows_outcome, model_tables}
+use Rattle.kt_tools.specs.ModelOutcome.{model_outcome, model_tables}
 use Rattle.kt_tools.proofs.ModelLemmas.{has_footprint}
 use Rattle.kt_tools.proofs.getmodel.write_distributions.Goals as goal
 
@@ -25,7 +25,7 @@ pub returns : goal.returns
 returns g c outputs =
     let rows = c.args.portfolio.now.rows in
     let held = (g.I.Inputs.state c.args.inputs.now).held in
-    c.run_stage.ensures.ended true (λ files bytes. model_rows_outcome files rows bytes) (g.I.Inputs.state c.args.inputs.now) outputs (contents_of event_form event_shape)
+    c.run_stage.ensures.ended true (λ files bytes. model_outcome files rows bytes) (g.I.Inputs.state c.args.inputs.now) outputs (contents_of event_form event_shape)
     (record { is = ap (contents_of event_form) (sym c.new-reader.ensures.shape); represents = c.new-reader.ensures.value }) (λ unused. cc)
     (λ files bytes finds. record {
       start = model_tables rows (unwrap_or (files footprint_name) []);

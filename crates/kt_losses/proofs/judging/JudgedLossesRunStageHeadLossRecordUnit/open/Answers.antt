@@ -7,4 +7,4 @@ use Rattle.kt_losses.proofs.judging.JudgedLossesRunStageHeadLossRecordUnit.open.
 pub returns-clause-step : goal.returns-clause-step
 returns-clause-step g c = λ made at.
     opens_good g.T.LossTool.table made c.args.head _ _ (ap (λ (portfolio : PortfolioRows). answer_of (samples_refusal portfolio.rows portfolio.need c.args.head.samples)) (sym at.1) ∙ (sym c.samples_fit.ensures.exact ∙ c.in_default.is)) _ at _ _
-    (c.in_ok-put_heading.ensures ∙ ap (λ tool. c.args.out.now ++ (g.T.LossTool.table tool).heading c.args.head) at.0)
+    (c.in_ok-put_heading.ensures.ok ∙ ap (λ tool. c.args.out.now ++ (g.T.LossTool.table tool).heading c.args.head) at.0)

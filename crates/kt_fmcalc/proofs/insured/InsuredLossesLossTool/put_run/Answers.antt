@@ -1,5 +1,0 @@
-use Rattle.kt_fmcalc.proofs.Tables.{entries_are_losses}
-use Rattle.kt_fmcalc.proofs.insured.InsuredLossesLossTool.put_run.Goals as goal
-
-pub insured-requires-clause-records : goal.insured-requires-clause-records
-insured-requires-clause-records c = entries_are_losses c.args.head.samples c.args.run.now c.requires.good

@@ -1,0 +1,89 @@
+//! The period loss table of a summary stream.
+//! The rules: docs/COMMANDS.md, "pltcalc".
+ghost use Rattle.std.specs.Prelude.{true};
+ghost use Rattle.kt_ends.specs.Ending.{StreamToolEnds};
+ghost use Rattle.kt_loop.specs.Running.{stream_uses};
+ghost use Rattle.kt_periods.specs.PeriodLossTable.{plt_outcome};
+
+use kt_elt::{plt_heading, plt_record_text};
+use kt_ends::ToolStop;
+use kt_loop::laws::{records_give_their_rows, what_is_read_can_be_taken};
+use kt_loop::{Stage, run_stage};
+use kt_money::Bytes;
+use kt_out::{Sink, Source};
+use kt_stream::{Head, SummaryReader, SummaryRecord};
+use kt_tables::Portfolio;
+use std::alloc::Global;
+
+/// The period loss table of a summary stream, with or without the names of its columns.
+#[derive(Drop)]
+struct PeriodRows<'a> {
+    heading: bool,
+    portfolio: &'a Portfolio,
+}
+
+impl<'a> Stage<Head, SummaryRecord, ()> for PeriodRows<'a> {
+    ghost use Rattle.std.specs.Prelude.{◌≡◌};
+    ghost use Rattle.kt_stream.specs.Header.{IsHead};
+    ghost use Rattle.kt_stream.specs.Reader.{IsPlaced};
+    ghost use Rattle.kt_stream.specs.Summary.{IsSummary, summary_form, summary_shape};
+    ghost use Rattle.kt_stream.specs.declared.entry.SummaryRecord.{SummaryRecord};
+    ghost use Rattle.kt_stream.specs.declared.kind.StreamKind.TheVariants.{Summary};
+    ghost use Rattle.kt_periods.specs.PeriodLossTable.{HeadingAndPortfolio, plt_calculation};
+
+    ghost State = { HeadingAndPortfolio };
+
+    ghost calculation = { plt_calculation };
+
+    ghost is_at = { λ made stage _. (stage.heading ≡ made.0) × (stage.portfolio.now ≡ made.1) };
+
+    ghost is_ready = { λ _ _ _. Unit {0} };
+
+    ghost accepts = { IsHead Summary };
+
+    ghost is_good = { IsPlaced SummaryRecord summary_form (λ shape samples entry. IsSummary samples entry) summary_shape };
+
+    ghost inputs = { λ others _. others };
+
+    fn open(&mut self, _beside: &mut (), _head: Head, out: &mut Bytes) -> Result<(), ToolStop> {
+        if self.heading {
+            out.append(plt_heading())?;
+        }
+        Ok(())
+    }
+
+    fn take(
+        &mut self,
+        _beside: &mut (),
+        head: Head,
+        _at: u64,
+        entry: SummaryRecord,
+        out: &mut Bytes,
+    ) -> Result<(), ToolStop> {
+        let occurrences = self.portfolio.occurrences(entry.event);
+        plt_record_text(out, head.samples, &entry, occurrences)?;
+        Ok(())
+    }
+
+    fn end(&mut self, _beside: &mut (), _head: Head, _out: &mut Bytes) -> Result<(), ToolStop> {
+        Ok(())
+    }
+}
+
+/// Reads a summary stream and writes its period loss table by the occurrences of a portfolio, with or without the names of its
+/// columns.
+pub fn write_period_losses<S: Source, K: Sink>(
+    alloc: Global,
+    heading: bool,
+    portfolio: &Portfolio,
+    source: &mut S,
+    sink: &mut K,
+) -> Result<(), ToolStop>
+    ensures { StreamToolEnds (stream_uses true) (λ _ bytes. plt_outcome heading portfolio.now bytes) (S.state source.old) (S.state source.new) (K.state sink.old) (K.state sink.new) result }
+{
+    records_give_their_rows::<Head, SummaryRecord, (bool, Portfolio)>();
+    what_is_read_can_be_taken::<SummaryRecord>();
+    let mut reader = SummaryReader::new(alloc);
+    let mut stage = PeriodRows { heading, portfolio };
+    run_stage(alloc, &mut reader, &mut stage, &mut (), source, sink)
+}

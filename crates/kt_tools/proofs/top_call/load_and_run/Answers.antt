@@ -1,0 +1,25 @@
+use Rattle.std.proofs.Common.{◌≡◌, Some, Ok, ap, subst, sym, ◌∙◌}
+use Rattle.std.specs.Prelude.{IfSome}
+use Rattle.kt_keys.specs.declared.need.Need.{Need}
+use Rattle.kt_load.specs.Loaded.{loaded}
+use Rattle.kt_out.specs.InputFiles.{InputsState}
+use Rattle.kt_tools.specs.Loading.{IsOfFiles}
+use Rattle.kt_tools.proofs.TableEnds.{ends_over, ends_unloaded}
+use Rattle.kt_tools.proofs.top_call.load_and_run.Goals as goal
+
+pub run_tool-requires-clause-need : goal.run_tool-requires-clause-need
+run_tool-requires-clause-need g c = c.requires.need ∙ ap (λ (need : Need). Some need) (sym c.in-Ok.ensures.need)
+
+pub run_tool-requires-clause-tables : goal.run_tool-requires-clause-tables
+run_tool-requires-clause-tables g c =
+    subst (λ (state : InputsState). IsOfFiles state c.in-Ok.portfolio) (sym c.in-Ok.ensures.inputs)
+    (subst (λ (need : Need). IfSome (g.I.Inputs.state c.args.inputs.now).held (λ files. loaded files need ≡ Ok c.in-Ok.portfolio.rows)) (sym c.in-Ok.ensures.need) c.in-Ok.ensures.exact)
+
+pub returns-in-Ok : goal.returns-in-Ok
+returns-in-Ok g c words outputs =
+    ends_over words c.args.command c.args.need c.requires.need (g.I.Inputs.state c.args.inputs.now) (g.I.Inputs.state c.load.new.inputs) outputs (g.S.Source.state c.args.source.now) (g.K.Sink.state c.args.sink.now) c.in-Ok.portfolio c.in-Ok.ensures.need c.in-Ok.ensures.inputs c.in-Ok.ensures.exact _ _ (c.run_tool.ensures words outputs)
+
+pub returns-in-Err : goal.returns-in-Err
+returns-in-Err g c words outputs =
+    rw c.load_stop.ensures
+    (ends_unloaded words c.args.command c.args.need c.requires.need (g.I.Inputs.state c.args.inputs.now) (g.I.Inputs.state c.load.new.inputs) outputs (g.S.Source.state c.args.source.now) (g.K.Sink.state c.args.sink.now) c.in-Err.stop c.in-Err.ensures.exact c.in-Err.ensures.inputs)
