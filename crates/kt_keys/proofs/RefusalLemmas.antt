@@ -1,5 +1,5 @@
 -- What check 2 refuses in several tables.
-use Rattle.std.proofs.Common.{◌≡◌, ℕ, Bool, List, map, Option, ap, ◌∙◌}
+use Rattle.std.proofs.Common.{◌≡◌, Bool, List, map, Option, ap, ◌∙◌}
 use Rattle.std.specs.Option.{option_or}
 use Rattle.kt_rec.specs.declared.table.Table.{Table}
 use Rattle.kt_keys.specs.declared.need.Need.{Need}
