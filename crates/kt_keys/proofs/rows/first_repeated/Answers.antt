@@ -1,9 +1,5 @@
 -- One more key is looked at, and is none before it: the set has it too.
-<<<<<<< HEAD
-use Rattle.std.proofs.Common.{◌≡◌, ◌<◌, length, sym, ◌∙◌, arith, false}
-=======
 use Rattle.std.proofs.Common.{◌≡◌, ◌<◌, length, sym, ◌∙◌, arith, false, true}
->>>>>>> 36066f1065df35d70905d5a7e8c62cdec22861c1
 use Rattle.std.specs.List.{list_any}
 use Rattle.std.specs.HashSet.{contains}
 use Rattle.kt_keys.proofs.FirstRowLemmas.{member-step, refused-here, refused-step, not_false, not_true}
