@@ -2,16 +2,17 @@
 //! The language: README.md.
 ghost use Rattle.std.specs.Prelude.{◌<◌};
 
+use crate::not_taken::NotTaken;
 use crate::seen::{Seen, ended};
 use kt_ends::status_of;
 use kt_loading::table_stop;
 use kt_rec::Name;
 use kt_schema::{Schema, TableStop, schema_rows};
 use kt_text::{FieldStop, Grid, fields};
-use std::alloc::{AllocError, Global};
+use std::alloc::Global;
 
 /// The refusal of a text.
-fn refused(alloc: Global, stop: TableStop) -> Result<Seen, AllocError> {
+fn refused(alloc: Global, stop: TableStop) -> Result<Seen, NotTaken> {
     let mut name = Name::new(alloc);
     name.append(b"source")?;
     ended(alloc, status_of(Err(table_stop(name, stop))))
@@ -22,7 +23,7 @@ fn rows_seen<const N: usize>(
     alloc: Global,
     schema: &Schema<N>,
     grid: &Grid<N>,
-) -> Result<Seen, AllocError>
+) -> Result<Seen, NotTaken>
     requires { N < 100 }
 {
     match schema_rows(alloc, schema, grid) {
@@ -36,7 +37,7 @@ pub(crate) fn values_seen<const N: usize>(
     alloc: Global,
     schema: &Schema<N>,
     text: &[u8],
-) -> Result<Seen, AllocError>
+) -> Result<Seen, NotTaken>
     requires { N < 100 }
 {
     match fields::<N>(alloc, text) {
@@ -44,6 +45,6 @@ pub(crate) fn values_seen<const N: usize>(
         Err(FieldStop::Columns { row }) => {
             Ok(Seen::of_text(alloc, format!(in alloc; "row {row}: columns")?))
         }
-        Err(FieldStop::OutOfMemory) => Err(AllocError),
+        Err(FieldStop::OutOfMemory) => Err(NotTaken),
     }
 }

@@ -27,6 +27,13 @@ use std::thread::Threads;
 /// The files of the cases.
 const DATA: [&str; 4] = ["words", "loads", "runs", "faults"];
 
+/// Prints the differences of a script, and how many answers were compared.
+fn print_end<R: Print>(rt: &R, name: &str, script: &Script) -> Result<(), NotTaken> {
+    print!(rt; "{}", script.differences())?;
+    println!(rt; "{name}: {} answers compared", script.compared())?;
+    Ok(())
+}
+
 /// Prints what comes of the cases of a file.
 fn compare_all<R: Threads + Sync + AllocGlobal + Files + Print>(
     rt: &R,
@@ -35,14 +42,9 @@ fn compare_all<R: Threads + Sync + AllocGlobal + Files + Print>(
     let text = fs::read_to_string(rt, name)?;
     let mut script = Script::new(rt.alloc());
     for line in text.lines() {
-        match script.take(rt, line) {
-            Ok(()) => {}
-            Err(NotTaken) => println!(rt; "{name}: {line}: not taken")?,
-        }
+        script.take(rt, line)?;
     }
-    print!(rt; "{}", script.differences())?;
-    println!(rt; "{name}: {} answers compared", script.compared())?;
-    Ok(())
+    print_end(rt, name, &script)
 }
 
 fn main(rt: HostRuntime) -> ExitCode {

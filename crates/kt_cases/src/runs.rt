@@ -77,7 +77,7 @@ pub(crate) fn run_in_memory<R: Threads + Sync + AllocGlobal>(
     let mut source = mem_source(alloc, files, settings)?;
     let mut inputs = files.inputs(settings)?;
     let code = status_code(rt, words, &mut inputs, &mut source, &mut sink, &mut err);
-    Ok(Seen::new(alloc, code, sink.taken(), err.taken())?)
+    Seen::new(alloc, code, sink.taken(), err.taken())
 }
 
 /// What an output file in memory that never fails has once these bytes were written to it.
@@ -109,7 +109,7 @@ pub(crate) fn run_surely<R: Threads + Sync + AllocGlobal>(
     inputs.add(b"input/events.bin", files.get("input/events.bin"))?;
     let code = status_code(rt, words, &mut inputs, &mut source, &mut sink, &mut err);
     let output = written(alloc, sink.taken())?;
-    Ok(Seen::new(alloc, code, &output, err.taken())?)
+    Seen::new(alloc, code, &output, err.taken())
 }
 
 /// The exit status of the last of one or more runs over the adapters of a reader and two writers.
@@ -161,7 +161,7 @@ pub(crate) fn run_adapted<R: Threads + Sync + AllocGlobal>(
         &mut output,
         &mut line,
     );
-    Ok(Seen::new(alloc, code, &output, &line)?)
+    Seen::new(alloc, code, &output, &line)
 }
 
 /// What the loads of a case are for.
@@ -188,5 +188,5 @@ pub(crate) fn load(alloc: Global, files: &Files, settings: &Settings) -> Result<
             &mut SaidSize::new(inputs, said, settings.size as u64),
         )
     };
-    Ok(ended(alloc, status)?)
+    ended(alloc, status)
 }

@@ -67,8 +67,25 @@ impl Script {
         self.differences.as_str()
     }
 
-    /// Takes a line.
+    /// Takes a line, or tells that it is not taken. An error is want of memory.
     pub(crate) fn take<R: Threads + Sync + AllocGlobal>(
+        &mut self,
+        rt: &R,
+        line: &str,
+    ) -> Result<(), NotTaken> {
+        match self.take_line(rt, line) {
+            Ok(()) => Ok(()),
+            Err(NotTaken) => {
+                self.differences.push_str("not taken: ")?;
+                self.differences.push_str(line)?;
+                self.differences.push_str("\n")?;
+                Ok(())
+            }
+        }
+    }
+
+    /// Takes a line.
+    fn take_line<R: Threads + Sync + AllocGlobal>(
         &mut self,
         rt: &R,
         line: &str,
@@ -149,7 +166,7 @@ impl Script {
     fn values<const N: usize>(&self, schema: &Schema<N>) -> Result<Seen, NotTaken>
         requires { N < 100 }
     {
-        Ok(values_seen(self.alloc, schema, self.files.get("source"))?)
+        values_seen(self.alloc, schema, self.files.get("source"))
     }
 
     /// What a question leaves.
@@ -160,7 +177,7 @@ impl Script {
         words: &Words,
     ) -> Result<Seen, NotTaken> {
         match kind {
-            "words" => Ok(words_seen(self.alloc, words)?),
+            "words" => words_seen(self.alloc, words),
             "coverages" => self.values(&COVERAGES),
             "footprint" => self.values(&FOOTPRINT),
             "load" => load(self.alloc, &self.files, &self.settings),

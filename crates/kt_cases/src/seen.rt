@@ -2,9 +2,9 @@
 //! The language: README.md.
 
 use crate::files::Files;
-use kt_ends::report;
+use crate::not_taken::NotTaken;
+use kt_ends::{Status, report};
 use kt_out::SureSink;
-use kt_ends::Status;
 use std::alloc::{AllocError, Global};
 
 /// What a question left: its answer, and the output where there was a run.
@@ -87,7 +87,7 @@ impl Seen {
         code: u8,
         output: &[u8],
         line: &[u8],
-    ) -> Result<Self, AllocError> {
+    ) -> Result<Self, NotTaken> {
         Ok(Seen {
             answer: status_text(alloc, code, line)?,
             output: output.to_vec(alloc)?,
@@ -115,7 +115,7 @@ impl Seen {
 }
 
 /// What a run leaves that writes nothing and ends so.
-pub(crate) fn ended(alloc: Global, status: Status) -> Result<Seen, AllocError> {
+pub(crate) fn ended(alloc: Global, status: Status) -> Result<Seen, NotTaken> {
     let mut err = SureSink::new(alloc);
     let code = report(alloc, status, &mut err).code();
     Seen::new(alloc, code, &[], err.taken())

@@ -7,7 +7,7 @@ use crate::seen::{Seen, ended};
 use crate::texts::push_word;
 use kt_ends::Status;
 use kt_words::{Tool, Words, judge_words, read_command};
-use std::alloc::{AllocError, Global};
+use std::alloc::Global;
 
 /// The words of a call.
 pub(crate) fn words_of(alloc: Global, written: &str) -> Result<Words, NotTaken> {
@@ -21,7 +21,7 @@ pub(crate) fn words_of(alloc: Global, written: &str) -> Result<Words, NotTaken> 
 }
 
 /// The command that the words are, or the refusal of the first faulty one.
-fn command_seen(alloc: Global, words: &Words) -> Result<Seen, AllocError> {
+fn command_seen(alloc: Global, words: &Words) -> Result<Seen, NotTaken> {
     match read_command(words) {
         Ok(command) => Ok(Seen::of_text(alloc, format!(in alloc; "{command:?}")?)),
         Err(stop) => ended(alloc, Status::Words(stop)),
@@ -29,7 +29,7 @@ fn command_seen(alloc: Global, words: &Words) -> Result<Seen, AllocError> {
 }
 
 /// What the words of a tool to come would be answered.
-fn judged_seen(alloc: Global, tool: Tool, words: &Words) -> Result<Seen, AllocError>
+fn judged_seen(alloc: Global, tool: Tool, words: &Words) -> Result<Seen, NotTaken>
     requires { 0 < length words.now }
 {
     match judge_words(tool, words) {
@@ -52,7 +52,7 @@ fn tool_to_come(words: &Words) -> Option<Tool>
 }
 
 /// What words are answered. Of a tool to come, which is an unknown tool, also what they would be once it is built.
-pub(crate) fn words_seen(alloc: Global, words: &Words) -> Result<Seen, AllocError> {
+pub(crate) fn words_seen(alloc: Global, words: &Words) -> Result<Seen, NotTaken> {
     let mut seen = command_seen(alloc, words)?;
     if let Some(tool) = tool_to_come(words) {
         let later = judged_seen(alloc, tool, words)?;
