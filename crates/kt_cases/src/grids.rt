@@ -5,10 +5,10 @@ ghost use Rattle.std.specs.Prelude.{◌<◌};
 use crate::not_taken::NotTaken;
 use crate::seen::{Seen, ended};
 use kt_ends::status_of;
-use kt_loading::table_stop;
 use kt_rec::Name;
 use kt_schema::{Schema, TableStop, schema_rows};
 use kt_text::{FieldStop, Grid, fields};
+use kt_tools::table_stop;
 use std::alloc::Global;
 
 /// The refusal of a text.

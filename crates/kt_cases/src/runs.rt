@@ -9,12 +9,12 @@ use crate::seen::{Seen, ended};
 use crate::settings::Settings;
 use kt_checks::Need;
 use kt_ends::status_of;
-use kt_loading::load_tables;
+use kt_load::load as load_tables;
 use kt_out::{
     Inputs, MemInputs, MemSink, MemSource, Open, Outputs, Sink, Source, StdErr, StdSink, StdSource,
     SureInputs, SureOutputs, SureSink, SureSource,
 };
-use kt_tools::{Status, Words, run};
+use kt_tools::{Status, Words, load_stop, run};
 use std::alloc::{AllocError, AllocGlobal, Global};
 use std::thread::Threads;
 
@@ -47,7 +47,7 @@ fn status_code<R: Threads + Sync + AllocGlobal, I: Inputs, S: Source, K: Sink, E
 fn load_status<I: Inputs>(alloc: Global, need: Need, inputs: &mut I) -> Status {
     match load_tables(alloc, inputs, need) {
         Ok(_) => Status::Done,
-        Err(stop) => status_of(Err(stop)),
+        Err(stop) => status_of(Err(load_stop(stop))),
     }
 }
 

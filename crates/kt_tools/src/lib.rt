@@ -13,4 +13,5 @@ mod whole_source;
 
 pub use kt_ends::{Refusal, Status};
 pub use kt_words::{WordCause, WordStop, Words};
+pub use stops::{load_stop, table_stop};
 pub use top_call::run;

@@ -9,7 +9,7 @@ use kt_load::LoadStop;
 use kt_rec::Name;
 
 /// How the refusal of a table ends a tool, by the name of its file.
-pub(crate) fn table_stop(name: Name, stop: TableStop) -> ToolStop
+pub fn table_stop(name: Name, stop: TableStop) -> ToolStop
     ensures { result ≡ stop_of_table name stop }
 {
     match stop {
@@ -30,7 +30,7 @@ pub(crate) fn table_stop(name: Name, stop: TableStop) -> ToolStop
 }
 
 /// How a refusal of the tables ends a tool.
-pub(crate) fn load_stop(stop: LoadStop) -> ToolStop
+pub fn load_stop(stop: LoadStop) -> ToolStop
     ensures { result ≡ stop_of stop }
 {
     match stop {
