@@ -5,7 +5,7 @@ ghost use Rattle.std.specs.HashMap.{get};
 ghost use Rattle.std.specs.List.{filter, flat_map};
 ghost use Rattle.kt_keys.specs.Keys.{same_pair};
 ghost use Rattle.kt_rec.specs.Rising.{rising};
-ghost use Rattle.kt_structure.specs.Plan.{link_key, link_of, links_up};
+ghost use Rattle.kt_structure.specs.Plan.{link_key, links_up};
 
 use kt_fmtree::rising;
 use kt_index::{ByKey, Keyed, pair_key};
