@@ -1,5 +1,4 @@
-use Rattle.std.proofs.Common.{List, length, drop, get_or, subst, ◌<◌, ◌+◌, arith}
-use Rattle.std.proofs.lemmas.Grind.{common_steps}
+use Rattle.std.proofs.Common.{List, length, drop, get_or, subst, ◌<◌, ◌+◌}
 use Rattle.std.proofs.lemmas.List.{drop_more}
 use Rattle.kt_stream.specs.declared.entry.Bin.{Bin}
 use Rattle.kt_gul.specs.MomentSums.{AreSums}
@@ -14,21 +13,3 @@ loop-bin-preserved c =
     let inside : i < length bins = c.loop-bin-test.true in
     let here = subst (λ (rest : List Bin). AreSums bins rest c.loop-bin.before c.loop-bin.means c.loop-bin.squares) (drop_more bins i none inside) c.loop-bin.invariant in
     rw (c.from-in-loop-bin.ensures, c.from-in-loop-bin-2.ensures, c.from.ensures) (sums_more bins (get_or bins i none) (drop (i + 1) bins) c.loop-bin.before c.loop-bin.means c.loop-bin.squares here)
-
-pub overflow_sub-part : goal.overflow_sub-part
-overflow_sub-part c = grind (arith, common_steps)
-
-pub overflow_mul-part : goal.overflow_mul-part
-overflow_mul-part c = grind (arith, common_steps)
-
-pub overflow_add-means : goal.overflow_add-means
-overflow_add-means c = grind (arith, common_steps)
-
-pub overflow_mul-squares : goal.overflow_mul-squares
-overflow_mul-squares c = grind (arith, common_steps)
-
-pub overflow_add-squares : goal.overflow_add-squares
-overflow_add-squares c = grind (arith, common_steps)
-
-pub deviation-requires : goal.deviation-requires
-deviation-requires c = grind (arith, common_steps)
