@@ -1,0 +1,5 @@
+pub mod Events
+pub mod Files
+pub mod Reached
+pub mod Outcome
+pub mod Rounds

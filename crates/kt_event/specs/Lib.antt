@@ -1,0 +1,4 @@
+pub mod Terms
+pub mod Needs
+pub mod Losses
+pub mod Plan

@@ -1,0 +1,215 @@
+//! One event through all stages.
+//! The rules: docs/CALCULATION.md; docs/FINANCIAL_MODULE.md; docs/REFUSALS.md, "Order".
+ghost use Rattle.std.specs.Prelude.{◌≡◌, ◌⊎◌, ◌++◌, ◌≤◌, ℤ, true, map, All, IfOk, IfErr, None, OnOk, Some};
+ghost use Rattle.std.specs.List.{flat_map};
+ghost use Rattle.kt_rec.specs.FootRows.{first_refused_row};
+ghost use Rattle.kt_rec.specs.declared.foot_rows.ModelStop.TheVariants.{OutOfMemory};
+ghost use Rattle.kt_runs.specs.RunLosses.{AreWithin, run_loss};
+ghost use Rattle.kt_stream.specs.Losses.{IsLoss};
+ghost use Rattle.kt_stream.specs.Pairs.{IsId};
+ghost use Rattle.kt_event.specs.Losses.{AreSummaries, block_of_losses, event_result, ground_up_of, insured_of, layers_up_to, set_summaries, summaries_of};
+ghost use Rattle.kt_event.specs.Plan.{IsBase, IsOrMemory, IsPlan, terms_of};
+ghost use Rattle.kt_event.specs.Terms.{has_insured, has_net, net_sets, output_perspectives, sets_of};
+
+use crate::block::{EventBlock, Summaries};
+use crate::owed::{ground_up_losses_are_within, insured_losses_are_within};
+use crate::plan::{Base, Plan};
+use kt_gul::ground_up;
+use kt_insured::{LayerSum, insured};
+use kt_model::distributions;
+use kt_rec::{FootRow, ModelStop, Perspective};
+use kt_ri::reinsure;
+use kt_stream::{LossRecord, Records};
+use kt_sum::summarise;
+use kt_tables::Portfolio;
+use std::alloc::{AllocError, Global};
+
+/// The number of summary sets that a perspective may have.
+const SETS: u32 = 9;
+
+/// Puts the summaries of losses behind others: those of each set that their perspective has, by rising set.
+fn put_summaries(
+    alloc: Global,
+    portfolio: &Portfolio,
+    samples: u32,
+    perspective: Perspective,
+    losses: &[LossRecord],
+    made: &mut Records<Summaries>,
+) -> Result<(), AllocError>
+    requires losses { All (IsLoss samples) losses.now }
+    requires within { AreWithin losses.now }
+    requires good { AreSummaries samples made.old }
+    ensures ok { OnOk result (made.new ≡ made.old ++ map (summaries_of portfolio.now.rows portfolio.now.need.rule losses.now) (sets_of portfolio.now.rows perspective)) }
+    ensures good { OnOk result (AreSummaries samples made.new) }
+{
+    for place in 0..SETS {
+        let set = place + 1;
+        if portfolio.has_set(perspective, set) {
+            let records = summarise(alloc, portfolio, perspective, set, losses)?;
+            made.push(Summaries {
+                perspective,
+                set,
+                records,
+            })?;
+        }
+    }
+    Ok(())
+}
+
+/// Puts the summaries of the losses net of reinsurance behind others, where the run has such losses.
+fn put_net_summaries(
+    alloc: Global,
+    portfolio: &Portfolio,
+    plan: &Plan,
+    insured: &[LossRecord],
+    made: &mut Records<Summaries>,
+) -> Result<(), AllocError>
+    requires plan { IsPlan portfolio.now plan.now }
+    requires insured { has_insured (terms_of plan.now).last ≡ true }
+    requires losses { All (IsLoss (terms_of plan.now).samples) insured.now }
+    requires within { AreWithin insured.now }
+    requires good { AreSummaries (terms_of plan.now).samples made.old }
+    ensures ok { (losses : _) → insured.now ≡ insured_of (terms_of plan.now) portfolio.now.rows losses → OnOk result (made.new ≡ made.old ++ map (set_summaries (terms_of plan.now) portfolio.now.rows losses) (net_sets portfolio.now.rows (terms_of plan.now).last)) }
+    ensures good { OnOk result (AreSummaries (terms_of plan.now).samples made.new) }
+{
+    if plan.terms.has_net() {
+        let net = reinsure(alloc, &plan.stages, plan.terms.samples, insured)?;
+        put_summaries(
+            alloc,
+            portfolio,
+            plan.terms.samples,
+            Perspective::Ri,
+            net.as_slice(),
+            made,
+        )?;
+    }
+    Ok(())
+}
+
+/// Puts the summaries of the insured losses of an event behind others, and those of its net losses, and answers the sums of the
+/// layers.
+fn put_insured_summaries(
+    alloc: Global,
+    portfolio: &Portfolio,
+    plan: &Plan,
+    base: &Base,
+    losses: &[LossRecord],
+    made: &mut Records<Summaries>,
+) -> Result<Records<LayerSum>, AllocError>
+    requires plan { IsPlan portfolio.now plan.now }
+    requires base { IsBase portfolio.now.rows base.now }
+    requires insured { has_insured (terms_of plan.now).last ≡ true }
+    requires losses { All (IsLoss (terms_of plan.now).samples) losses.now }
+    requires within { (sidx : ℤ) → run_loss sidx losses.now ≤ 200000000000000 }
+    requires good { AreSummaries (terms_of plan.now).samples made.old }
+    ensures layers { IfOk result (λ layers. layers ≡ layers_up_to (terms_of plan.now).last (terms_of plan.now) portfolio.now.rows losses.now) }
+    ensures ok { OnOk result (made.new ≡ made.old ++ map (set_summaries (terms_of plan.now) portfolio.now.rows losses.now) (flat_map (sets_of portfolio.now.rows) (output_perspectives (terms_of plan.now).last))) }
+    ensures good { OnOk result (AreSummaries (terms_of plan.now).samples made.new) }
+{
+    let terms = &plan.terms;
+    insured_losses_are_within(portfolio);
+    let insured = insured(
+        alloc,
+        portfolio,
+        &base.structure,
+        &base.outputs,
+        terms.samples,
+        terms.rule,
+        losses,
+    )?;
+    put_summaries(
+        alloc,
+        portfolio,
+        terms.samples,
+        Perspective::Il,
+        insured.records.as_slice(),
+        made,
+    )?;
+    put_net_summaries(alloc, portfolio, plan, insured.records.as_slice(), made)?;
+    Ok(insured.layers)
+}
+
+/// What an event gives, by its ground-up losses.
+fn block_of(
+    alloc: Global,
+    portfolio: &Portfolio,
+    plan: &Plan,
+    event: u32,
+    losses: &[LossRecord],
+) -> Result<EventBlock, AllocError>
+    requires plan { IsPlan portfolio.now plan.now }
+    requires losses { All (IsLoss (terms_of plan.now).samples) losses.now }
+    requires within { (sidx : ℤ) → run_loss sidx losses.now ≤ 200000000000000 }
+    ensures value { IfOk result (λ block. block ≡ block_of_losses (terms_of plan.now) portfolio.now.rows event losses.now) }
+    ensures good { IfOk result (λ block. AreSummaries (terms_of plan.now).samples block.summaries) }
+{
+    let mut summaries = Records::new(alloc);
+    put_summaries(
+        alloc,
+        portfolio,
+        plan.terms.samples,
+        Perspective::Gul,
+        losses,
+        &mut summaries,
+    )?;
+    let layers = match &plan.base {
+        Some(base) => put_insured_summaries(alloc, portfolio, plan, base, losses, &mut summaries)?,
+        None => Records::new(alloc),
+    };
+    Ok(EventBlock {
+        event,
+        summaries,
+        layers,
+    })
+}
+
+/// The ground-up losses of an event with these footprint rows.
+fn event_losses(
+    alloc: Global,
+    portfolio: &Portfolio,
+    plan: &Plan,
+    event: u32,
+    rows: &[FootRow],
+) -> Result<Records<LossRecord>, ModelStop>
+    requires event { IsId event }
+    requires plan { IsPlan portfolio.now plan.now }
+    ensures value { IfOk result (λ losses. losses ≡ ground_up_of (terms_of plan.now) portfolio.now.rows event rows.now) }
+    ensures good { IfOk result (λ losses. All (IsLoss (terms_of plan.now).samples) losses) }
+    ensures within { IfOk result (λ losses. (sidx : ℤ) → run_loss sidx losses ≤ 200000000000000) }
+    ensures ok { OnOk result (first_refused_row rows.now ≡ None) }
+
+    // The first refused row, or want of memory.
+    ensures refused { IfErr result (λ stop. (first_refused_row rows.now ≡ Some stop) ⊎ (stop ≡ OutOfMemory)) }
+{
+    let distributions = distributions(alloc, portfolio, event, rows)?;
+    ground_up_losses_are_within(portfolio);
+    let losses = ground_up(
+        alloc,
+        portfolio,
+        plan.terms.samples,
+        plan.terms.cut,
+        event,
+        distributions.as_slice(),
+    )?;
+    Ok(losses)
+}
+
+/// What an event with these footprint rows gives: its summaries in each set of the run's perspectives, and the sums of the
+/// layers where there are insured losses. An error is the first refused row with its cause, or want of memory. The portfolio was
+/// loaded for the terms of the plan, which is its own.
+pub fn event_block(
+    alloc: Global,
+    portfolio: &Portfolio,
+    plan: &Plan,
+    event: u32,
+    rows: &[FootRow],
+) -> Result<EventBlock, ModelStop>
+    requires event { IsId event }
+    requires plan { IsPlan portfolio.now plan.now }
+    ensures exact { IsOrMemory (event_result (terms_of plan.now) portfolio.now.rows event rows.now) result }
+    ensures good { IfOk result (λ block. AreSummaries (terms_of plan.now).samples block.summaries) }
+{
+    let losses = event_losses(alloc, portfolio, plan, event, rows)?;
+    let block = block_of(alloc, portfolio, plan, event, losses.as_slice())?;
+    Ok(block)
+}

@@ -1,0 +1,2 @@
+pub mod OutputFiles
+pub mod Parts

@@ -1,0 +1,26 @@
+-- The blocks of a round, one more at a time.
+use Rattle.std.proofs.Common.{◌≡◌, ℕ, zero, suc, ◌+◌, List, [], ◌∷◌, ◌++◌, length, refl, sym, ap, subst, ◌∙◌, append_assoc, append-nil, arith}
+use Rattle.kt_part.specs.Folding.{AreGiven, Folded}
+
+-- one block more is given for the next number
+given-more : {B : Type 0} (gives : ℕ → B → Type 0) (first : ℕ) (blocks : List B) (block : B) → AreGiven gives first blocks → gives (first + length blocks) block → AreGiven gives first (blocks ++ block ∷ [])
+given-more gives first [] block given is = (subst (λ (n : ℕ). gives n block) (omega arith) is, tt)
+given-more gives first (one ∷ blocks) block given is = (given.0, given-more gives (suc first) blocks block given.1 (subst (λ (n : ℕ). gives n block) (omega arith) is))
+
+module _ {B : Type 0} (gives : ℕ → B → Type 0) (before : List B) where
+  -- no block yet
+  pub none : (stands : List B → Type 0) → stands before → Folded gives stands before 0
+  none stands stand = record { blocks = []; many = refl; given = tt; stand = subst stands (sym (append-nil before)) stand }
+
+  -- one block more is taken
+  pub one-more : (stands now : List B → Type 0) (count : ℕ) (folded : Folded gives stands before count) (block : B) → gives count block → now ((before ++ folded.blocks) ++ block ∷ []) → Folded gives now before (count + 1)
+  one-more stands now count folded block is stand = record {
+    blocks = folded.blocks ++ block ∷ [];
+    many = sym (more folded.blocks) ∙ omega (arith, folded.many);
+    given = given-more gives 0 folded.blocks block folded.given (subst (λ (n : ℕ). gives n block) (omega (arith, folded.many)) is);
+    stand = subst now (append_assoc before folded.blocks (block ∷ [])) stand;
+  }
+    where
+      more : (blocks : List B) → suc (length blocks) ≡ length (blocks ++ block ∷ [])
+      more [] = refl
+      more (one ∷ blocks) = ap suc (more blocks)

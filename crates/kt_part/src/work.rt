@@ -1,0 +1,21 @@
+//! What makes the blocks of a round.
+ghost use Rattle.std.specs.Prelude.{◌<◌, ℕ, IfOk};
+
+use std::alloc::AllocError;
+
+/// Makes a block for each number, the same whichever blocks were made before.
+pub trait Work {
+    /// What is made.
+    type Block: Drop;
+
+    /// The blocks that may be made for a number.
+    ghost gives: { Self → ℕ → Self.Block → Type 0 };
+
+    /// A number that no number of a block reaches.
+    ghost most: { Self → ℕ };
+
+    /// Makes the block of a number. An error is want of memory.
+    fn work(&self, k: u32) -> Result<Self::Block, AllocError>
+        requires { k < most self.now }
+        ensures { IfOk result (gives self.now k) };
+}
