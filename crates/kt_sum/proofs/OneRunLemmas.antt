@@ -1,5 +1,5 @@
 -- The records of summaries are one run: of the event of the run, and by strictly rising summaries.
-use Rattle.std.proofs.Common.{◌≡◌, ℕ, List, [], ◌∷◌, map, Option, Some, sym, ap}
+use Rattle.std.proofs.Common.{◌≡◌, ℕ, List, [], ◌∷◌, map, Option, Some, sym, ap, subst, arith}
 use Rattle.std.specs.Prelude.{All}
 use Rattle.std.specs.List.Sorted.{IsStrictlyIncreasing}
 use Rattle.std.proofs.lemmas.List.Elements.{All-from_recursion}
@@ -43,3 +43,10 @@ module _ (find : ℕ → Option ℕ) (exposure : ℕ → ℕ) (records : List Lo
   summaries_climb =
       increasing (λ (entry : SummaryRecord). entry.summary) (summaries_by find exposure records)
       (made_climbs (summary_of_run find exposure records) (λ id. id) (λ entry. entry.summary) (λ summary entry is. (made_of summary entry is).1) (rising (found_summaries find records)) (climbs_from (rising (found_summaries find records)) (rising-rises (found_summaries find records))))
+
+-- so they are of an event of which all records are
+pub summaries_of_same : (find : ℕ → Option ℕ) (exposure : ℕ → ℕ) (records : List LossRecord) (event : ℕ) → All (λ entry. entry.event ≡ event) records → All (λ entry. entry.event ≡ event) (summaries_by find exposure records)
+summaries_of_same find exposure [] event are = All-from_recursion (λ (entry : SummaryRecord). entry.event ≡ event) [] tt
+summaries_of_same find exposure (entry ∷ records) event are =
+    let first : entry.event ≡ event = are 0 entry (omega arith) in
+    subst (λ event. All (λ (made : SummaryRecord). made.event ≡ event) (summaries_by find exposure (entry ∷ records))) first (summaries_of_event find exposure (entry ∷ records))

@@ -16,6 +16,7 @@ use kt_tables::Portfolio;
 pub fn summaries_are_of_a_stream(portfolio: &Portfolio)
     ensures good { (perspective : Perspective) (set samples : ℕ) (records : List LossRecord) → AreWithin records → All (IsLoss samples) records → All (IsSummary samples) (run_summaries perspective portfolio.now.rows portfolio.now.need.rule set records) }
     ensures event { (perspective : Perspective) (rule set : ℕ) (records : List LossRecord) → All (λ entry. entry.event ≡ event_of records) (run_summaries perspective portfolio.now.rows rule set records) }
+    ensures same_event { (perspective : Perspective) (rule set event : ℕ) (records : List LossRecord) → All (λ entry. entry.event ≡ event) records → All (λ entry. entry.event ≡ event) (run_summaries perspective portfolio.now.rows rule set records) }
     ensures rising { (perspective : Perspective) (rule set : ℕ) (records : List LossRecord) → IsStrictlyIncreasing (map (λ entry. entry.summary) (run_summaries perspective portfolio.now.rows rule set records)) }
 {
     portfolio.keeps_summaries();
