@@ -7,7 +7,7 @@ use Rattle.kt_shares.specs.RecordLaws.{map-same}
 use Rattle.kt_ri.specs.Reinsurance.{net_records}
 use Rattle.kt_ri.specs.Stages.{IsStage}
 use Rattle.kt_ri.proofs.StageLemmas.{left-all, left-more}
-use Rattle.kt_ri.proofs.stages.reinsure.Goals as goal
+use Rattle.kt_ri.proofs.stages.behind_stages.Goals as goal
 
 pub behind_stage-requires-clause-records : goal.behind_stage-requires-clause-records
 behind_stage-requires-clause-records c = subst (λ (net : List LossRecord). All (IsLoss c.args.samples) net) (sym (map-same c.as_slice.result.now ∙ c.as_slice.ensures.value)) c.loop-stage.invariant.good
