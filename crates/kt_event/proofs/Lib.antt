@@ -1,0 +1,3 @@
+mod NeedLemmas
+mod SetLemmas
+mod StageLemmas
