@@ -3,6 +3,7 @@
 //! and the current folder.
 #![tactic(auto)]
 
+mod appending;
 mod dir_inputs;
 mod fault;
 mod folder;
@@ -16,6 +17,7 @@ mod source;
 mod std_streams;
 mod writing;
 
+pub use appending::append_all;
 pub use dir_inputs::DirInputs;
 pub use fault::{Absent, Failed, Fault};
 pub use gate::{Gate, Open};
