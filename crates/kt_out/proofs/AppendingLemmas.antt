@@ -1,9 +1,9 @@
 -- A text that is appended in parts.
-use Rattle.std.proofs.Common.{◌≡◌, ℕ, zero, suc, ◌+◌, ◌-◌, ◌<◌, ◌≤◌, List, [], ◌∷◌, ◌++◌, take, drop, length, Option, None, Some, Ok, Err, refl, sym, ap, subst, ◌∙◌, arith}
+use Rattle.std.proofs.Common.{◌≡◌, ℕ, zero, suc, ◌+◌, ◌<◌, ◌≤◌, List, [], ◌∷◌, ◌++◌, take, drop, length, Option, None, Some, Ok, Err, refl, sym, subst, ◌∙◌, arith}
 use Rattle.std.specs.Prelude.{unwrap_or}
 use Rattle.std.proofs.Math.Seq.{take-add}
 use Rattle.std.proofs.lemmas.List.{append-nil}
-use Rattle.kt_out.specs.Appending.{lengthened, Lengthens, AppendsText, appends_twice}
+use Rattle.kt_out.specs.Appending.{lengthened, AppendsText, appends_twice}
 use Rattle.kt_out.specs.NamedFiles.{FileMap}
 use Rattle.kt_out.specs.OutputFiles.{Appends}
 use Rattle.kt_out.specs.declared.fault.Fault.{Fault}
