@@ -22,7 +22,7 @@ pub use dir_inputs::DirInputs;
 pub use fault::{Absent, Failed, Fault};
 pub use gate::{Gate, Open};
 pub use inputs::Inputs;
-pub use memory::{MemInputs, MemSink, MemSource, SureInputs, SureOutputs, SureSink, SureSource};
+pub use memory::{MemInputs, MemOutputs, MemSink, MemSource, SureInputs, SureOutputs, SureSink, SureSource};
 pub use outputs::Outputs;
 pub use sink::Sink;
 pub use source::Source;
