@@ -114,3 +114,15 @@ module _ (tree : Tree) (rule samples : ℕ) (records : List LossRecord) where
   -- and where the ids of the records rise, so do theirs
   pub net-rises : IsRising (map (λ entry. entry.id) records) → IsRising (map (λ entry. entry.id) (net_records tree rule samples records))
   net-rises rises = rising-made (λ (entry : LossRecord). entry.id) (λ (entry : LossRecord). entry.id) (net_record tree rule samples records) (λ entry. record-id entry.event entry.id (pairs_of (kept entry) (insured_range samples))) records rises
+
+  -- and what is known of the ids of the records is known of theirs
+  pub net-known : (known : ℕ → Bool) → All (λ entry. known entry.id ≡ true) records → All (λ entry. known entry.id ≡ true) (net_records tree rule samples records)
+  net-known known all = All-from_recursion _ (net_records tree rule samples records) (over records (recursion_from_All _ records all))
+    where
+      one : (event id : ℕ) (pairs : List Pair) → known id ≡ true → (later : List LossRecord) → AllByRecursion (λ (entry : LossRecord). known entry.id ≡ true) later → AllByRecursion (λ (entry : LossRecord). known entry.id ≡ true) (cons_option (record_with event id pairs) later)
+      one event id [] is later more = more
+      one event id (pair ∷ pairs) is later more = (is, more)
+
+      over : (entries : List LossRecord) → AllByRecursion (λ (entry : LossRecord). known entry.id ≡ true) entries → AllByRecursion (λ (entry : LossRecord). known entry.id ≡ true) (filter_map (net_record tree rule samples records) entries)
+      over [] all = tt
+      over (entry ∷ entries) all = one entry.event entry.id (pairs_of (kept entry) (insured_range samples)) all.0 (filter_map (net_record tree rule samples records) entries) (over entries all.1)
