@@ -1,2 +1,6 @@
+pub mod Sets
 pub mod OutputFiles
 pub mod Parts
+pub mod Endings
+pub mod Sublists
+pub mod DistinctNames
