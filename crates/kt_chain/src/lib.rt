@@ -1,13 +1,15 @@
-// A library with one function.
+//! A run of all stages over a portfolio: its events round by round, and the files that it makes.
 #![tactic(auto)]
 
-ghost use Rattle.std.specs.Prelude.{◌≡◌};
-ghost use Rattle.kt_chain.specs.Echo.{echo_of};
+mod fold;
+mod options;
+mod part;
+mod rounds;
+mod rows;
+mod run;
+mod shared;
+mod texts;
+mod work;
 
-// The `ensures` clause is the contract: what `echo` returns is `echo_of` of its argument, a definition
-// in `specs/Echo.antt`, which a caller's clause can cite too.
-pub fn echo(x: usize) -> usize
-    ensures { result ≡ echo_of x }
-{
-    x
-}
+pub use options::ChainOptions;
+pub use run::run_chain;

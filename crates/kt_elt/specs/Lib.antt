@@ -3,3 +3,4 @@ pub mod Losses
 pub mod RowType
 pub mod EventLoss
 pub mod PeriodLoss
+pub mod Fitting

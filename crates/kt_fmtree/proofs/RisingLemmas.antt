@@ -1,7 +1,7 @@
 -- What is sorted and has each number once is rising.
-use Rattle.std.proofs.Common.{◌≡◌, ℕ, suc, ◌+◌, ◌<◌, Bool, true, false, List, [], ◌∷◌, length, get_or, nat_eq, eqb, refl, sym, ◌∙◌, subst, arith}
-use Rattle.std.specs.List.{AllByRecursion, dedup, list_any}
-use Rattle.std.specs.List.Sorted.{IsPermutation, IsSorted, IsStrictlyIncreasing}
+use Rattle.std.proofs.Common.{◌≡◌, ℕ, Bool, true, false, List, nat_eq, eqb, refl, sym, ◌∙◌}
+use Rattle.std.specs.List.{dedup, list_any}
+use Rattle.std.specs.List.Sorted.{IsPermutation, IsSorted}
 use Rattle.std.specs.Ordering.{nat_cmp}
 use Rattle.std.specs.Cmp.{nat_eq_equiv}
 use Rattle.std.proofs.lemmas.Bool.{eqb-true, true≢false}
@@ -9,19 +9,8 @@ use Rattle.std.proofs.lemmas.List.Kept.{Contains-dedup_nat, Contains-from_dedup}
 use Rattle.std.proofs.lemmas.List.Sorted.{list_any-IsPermutation}
 use Rattle.std.proofs.lemmas.Map.Keys.{IsStrictlyIncreasing-dedup}
 use Rattle.std.proofs.lemmas.Map.Views.{list_any-from_Contains, Contains-from_any}
-use Rattle.kt_rec.specs.Rising.{rising, IsRising, rising-member, rising-rises, rising-unique, above-all}
-
--- numbers that are each below the next rise
-rises-from_strict : (xs : List ℕ) → IsStrictlyIncreasing xs → IsRising xs
-unfolding IsRising
-rises-from_strict [] strict = tt
-rises-from_strict (x ∷ xs) strict =
-    let rest = rises-from_strict xs (λ k below. let e : suc k + 1 ≡ suc (k + 1) = omega arith in subst (λ n. get_or xs k 0 < get_or (x ∷ xs) n 0) e (strict (suc k) (omega arith))) in
-    (first xs rest (λ some. strict 0 (omega arith)), rest)
-  where
-    first : (xs : List ℕ) → IsRising xs → (0 < length xs → x < get_or xs 0 0) → AllByRecursion (λ other. x < other) xs
-    first [] rises below = tt
-    first (y ∷ ys) rises below = let less = below (omega arith) in (less, above-all x y ys (omega arith) rises.0)
+use Rattle.kt_rec.specs.Rising.{rising, rising-member, rising-rises, rising-unique}
+use Rattle.kt_fmtree.specs.RisingLaws.{rises-from_strict}
 
 -- what is sorted, with each number once, are the rising numbers
 pub sorted-rising : (xs sorted : List ℕ) → IsPermutation xs sorted → IsSorted nat_cmp sorted → dedup eqb sorted ≡ rising xs

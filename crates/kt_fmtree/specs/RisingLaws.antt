@@ -1,12 +1,12 @@
--- The places of rising ids are found by halving.
-use Rattle.std.specs.Prelude.{◌≡◌, ℕ, zero, suc, ◌<◌, ◌≤◌, Bool, true, false, cond, List, [], ◌∷◌, length, nat_eq, Err, ◌||◌}
-use Rattle.std.specs.List.{AllByRecursion, filter, list_any}
-use Rattle.std.specs.List.Sorted.{IsBinarySearchResult}
+-- The places of rising ids are found by halving; and what is made of rising ids, each once at the most, rises.
+use Rattle.std.specs.Prelude.{◌≡◌, ℕ, zero, suc, ◌+◌, ◌<◌, ◌≤◌, Bool, true, false, cond, List, [], ◌∷◌, length, map, nat_eq, Err, Option, None, Some, ◌||◌}
+use Rattle.std.specs.List.{AllByRecursion, cons_option, filter, filter_map, list_any}
+use Rattle.std.specs.List.Sorted.{IsBinarySearchResult, IsStrictlyIncreasing}
 use Rattle.std.specs.Ordering.{nat_cmp}
-use Rattle.std.proofs.Common.{get_or, refl, sym, arith, inl, inr}
+use Rattle.std.proofs.Common.{get_or, refl, sym, subst, arith, inl, inr}
 use Rattle.std.proofs.lemmas.Bool.{eqb-true, true≢false, cases_lt}
 use Rattle.std.proofs.lemmas.List.Sorted.{searched}
-use Rattle.kt_rec.specs.Rising.{IsRising}
+use Rattle.kt_rec.specs.Rising.{IsRising, above-all}
 
 -- rising ids do not fall
 pub rising-order : (ids : List ℕ) → IsRising ids → (i j : ℕ) → i ≤ j → j < length ids → get_or ids i 0 ≤ get_or ids j 0
@@ -58,3 +58,50 @@ rising-filter test (id ∷ ids) rises = by (test id) (rising-filter test ids ris
     by : (b : Bool) → IsRising (filter test ids) → IsRising (cond b (id ∷ filter test ids) (filter test ids))
     by true passed = (above ids rises.0, passed)
     by false passed = passed
+
+-- ---- each below the next
+
+-- numbers that are each below the next rise
+pub rises-from_strict : (xs : List ℕ) → IsStrictlyIncreasing xs → IsRising xs
+unfolding IsRising
+rises-from_strict [] strict = tt
+rises-from_strict (x ∷ xs) strict =
+    let rest = rises-from_strict xs (λ k below. let e : suc k + 1 ≡ suc (k + 1) = omega arith in subst (λ n. get_or xs k 0 < get_or (x ∷ xs) n 0) e (strict (suc k) (omega arith))) in
+    (first xs rest (λ some. strict 0 (omega arith)), rest)
+  where
+    first : (xs : List ℕ) → IsRising xs → (0 < length xs → x < get_or xs 0 0) → AllByRecursion (λ other. x < other) xs
+    first [] rises below = tt
+    first (y ∷ ys) rises below = let less = below (omega arith) in (less, above-all x y ys (omega arith) rises.0)
+
+-- and numbers that rise are each below the next
+pub strict-from_rises : (xs : List ℕ) → IsRising xs → IsStrictlyIncreasing xs
+unfolding IsRising
+strict-from_rises [] rises k below = absurd (omega arith)
+strict-from_rises (x ∷ []) rises k below = absurd (omega arith)
+strict-from_rises (x ∷ y ∷ xs) rises zero below = rises.0.0
+strict-from_rises (x ∷ y ∷ xs) rises (suc k) below = let e : suc (k + 1) ≡ suc k + 1 = omega arith in subst (λ n. get_or (y ∷ xs) k 0 < get_or (x ∷ y ∷ xs) n 0) e (strict-from_rises (y ∷ xs) rises.1 k (omega arith))
+
+-- ---- what is made of rising ids
+
+-- what may be made of an id has that id
+abbrev pub KeepsId : {Y : Type 0} → (Y → ℕ) → ℕ → Option Y → Type 0
+KeepsId id_of id None = Unit {0}
+KeepsId id_of id (Some y) = id_of y ≡ id
+
+-- what is made of some whose ids rise, each with its id, has rising ids
+pub rising-made : {X Y : Type 0} (id_of : X → ℕ) (own : Y → ℕ) (make : X → Option Y) → ((x : X) → KeepsId own (id_of x) (make x)) → (xs : List X) → IsRising (map id_of xs) → IsRising (map own (filter_map make xs))
+unfolding IsRising
+rising-made id_of own make keeps [] rises = tt
+rising-made {X = X} {Y = Y} id_of own make keeps (x ∷ xs) rises = by (make x) (keeps x) (rising-made id_of own make keeps xs rises.1)
+  where
+    kept : (P : ℕ → Type 0) (rest : List X) → AllByRecursion P (map id_of rest) → AllByRecursion P (map own (filter_map make rest))
+    kept P [] all = tt
+    kept P (next ∷ rest) all = step (make next) (keeps next) (kept P rest all.1)
+      where
+        step : (made : Option Y) → KeepsId own (id_of next) made → AllByRecursion P (map own (filter_map make rest)) → AllByRecursion P (map own (cons_option made (filter_map make rest)))
+        step None same more = more
+        step (Some y) same more = (subst P (sym same) all.0, more)
+
+    by : (made : Option Y) → KeepsId own (id_of x) made → IsRising (map own (filter_map make xs)) → IsRising (map own (cons_option made (filter_map make xs)))
+    by None same rest = rest
+    by (Some y) same rest = (subst (λ n. AllByRecursion (λ other. n < other) (map own (filter_map make xs))) (sym same) (kept (λ other. id_of x < other) xs rises.0), rest)

@@ -159,7 +159,7 @@ module _ (made : Item → Option LossRecord) (own_id : (row : Item) (entry : Los
 -- ---- items by rising id
 
 -- what holds of all holds behind an insertion
-insert_each : (P : Item → Type 0) (row : Item) (rows : List Item) → P row → AllByRecursion P rows → AllByRecursion P (insert_by_id row rows)
+pub insert_each : (P : Item → Type 0) (row : Item) (rows : List Item) → P row → AllByRecursion P rows → AllByRecursion P (insert_by_id row rows)
 insert_each P row [] one each = (one, tt)
 insert_each P row (other ∷ rows) one each = by (nat_lt row.item_id other.item_id) (insert_each P row rows one each.1)
   where
@@ -167,7 +167,7 @@ insert_each P row (other ∷ rows) one each = by (nat_lt row.item_id other.item_
     by true rest = (one, each)
     by false rest = (each.0, rest)
 
-by_id_each : (P : Item → Type 0) (rows : List Item) → AllByRecursion P rows → AllByRecursion P (by_id rows)
+pub by_id_each : (P : Item → Type 0) (rows : List Item) → AllByRecursion P rows → AllByRecursion P (by_id rows)
 by_id_each P [] each = tt
 by_id_each P (row ∷ rows) each = insert_each P row (by_id rows) each.0 (by_id_each P rows each.1)
 
@@ -180,7 +180,7 @@ insert_sum g row (other ∷ rows) = by (nat_lt row.item_id other.item_id) (inser
     by true rest = sum_by-cons g row (other ∷ rows)
     by false rest = omega (arith, sum_by-cons g other (insert_by_id row rows), sum_by-cons g other rows, rest)
 
-by_id_sum : (g : Item → ℕ) (rows : List Item) → sum_by g (by_id rows) ≡ sum_by g rows
+pub by_id_sum : (g : Item → ℕ) (rows : List Item) → sum_by g (by_id rows) ≡ sum_by g rows
 by_id_sum g [] = refl
 by_id_sum g (row ∷ rows) = insert_sum g row (by_id rows) ∙ (ap (λ n. g row + n) (by_id_sum g rows) ∙ sym (sum_by-cons g row rows))
 
@@ -228,7 +228,7 @@ record_none rows samples cut event cdfs row none =
     ap (record_with event row.item_id) (pairs_none (ground_up_loss rows cut event cdfs row) samples (λ place. final_none cut _ _ _ _ place (raw_loss-none rows event cdfs row place none)))
 
 -- a record has the id that it is made with
-record_id : (event id : ℕ) (pairs : List Pair) (entry : LossRecord) → record_with event id pairs ≡ Some entry → entry.id ≡ id
+pub record_id : (event id : ℕ) (pairs : List Pair) (entry : LossRecord) → record_with event id pairs ≡ Some entry → entry.id ≡ id
 record_id event id [] entry is = absurd cc
 record_id event id (pair ∷ pairs) entry is = sym (ap (λ (entry : LossRecord). entry.id) (same _ entry is))
   where

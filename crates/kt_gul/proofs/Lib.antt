@@ -7,5 +7,8 @@ pub mod CoverageLemmas
 pub mod StruckLemmas
 pub mod GroupLemmas
 pub mod FinalLemmas
+pub mod BoundLemmas
 pub mod GoodLemmas
+pub mod WithinLemmas
+pub mod RunLemmas
 pub mod CutLemmas

@@ -8,5 +8,7 @@ pub mod RunLemmas
 pub mod WholeLemmas
 pub mod RecordLemmas
 pub mod TotalLemmas
+pub mod WithinLemmas
+pub mod OrderLemmas
 pub mod StruckLemmas
 pub mod IndexLemmas

@@ -1,5 +1,5 @@
 -- The records of a run have what its outputs have, sidx by sidx.
-use Rattle.std.proofs.Common.{◌≡◌, ℕ, zero, suc, ◌+◌, ◌<◌, Bool, true, false, cond, nat_eq, ℤ, pos, negsuc, List, [], ◌∷◌, map, refl, sym, ap, subst, ◌∙◌, arith}
+use Rattle.std.proofs.Common.{◌≡◌, ℕ, zero, suc, ◌+◌, ◌<◌, ◌≤◌, Bool, true, false, cond, nat_eq, ℤ, pos, negsuc, List, [], ◌∷◌, map, refl, sym, ap, subst, ◌∙◌, arith}
 use Rattle.std.specs.Cmp.{nat_eq_equiv}
 use Rattle.std.specs.List.{AllByRecursion, IsDistinct, list_any, range_with_len, sum_by}
 use Rattle.std.specs.Map.{lookup}
@@ -14,8 +14,9 @@ use Rattle.kt_stream.specs.declared.entry.Pair.{Pair}
 use Rattle.kt_runs.specs.RunLosses.{event_of, loss_of, run_loss}
 use Rattle.kt_runs.specs.Sidx.{pair_of, pairs_of}
 use Rattle.kt_rec.specs.Rising.{rising, rising-distinct, rising-member}
-use Rattle.kt_tree.specs.Sums.{each_member, each_then, sum_by-agree, sum_by-one, sum_by-swap}
+use Rattle.kt_tree.specs.Sums.{each_member, each_then, sum_by-agree, sum_by-below, sum_by-one, sum_by-swap}
 use Rattle.kt_tree.specs.Tree.{Tree}
+use Rattle.kt_shares.specs.PairLaws.{pairs-le}
 use Rattle.kt_shares.specs.Shares.{id_loss, insured_range, record_with, taken_loss}
 use Rattle.kt_insured.specs.Insured.{in_order, insured_records, output_record}
 use Rattle.kt_insured.specs.Whole.{has_share, outputs_loss, records_loss}
@@ -104,6 +105,21 @@ module _ (outputs : List FmXref) (once : IsDistinct nat_eq (map (λ row. row.out
         each output =
             record-loss test sidx (event_of records) output.output_id (pairs_of (loss_for tree rule records output) (insured_range samples))
             ∙ ap (λ amount. cond (test output.output_id) amount 0) (own (loss_for tree rule records output))
+
+    -- at no sidx they have more than the outputs have there
+    pub made-few : (sidx : ℤ) → run_loss sidx (insured_records tree rule samples outputs records) ≤ sum_by (λ output. loss_for tree rule records output sidx) outputs
+    made-few sidx =
+        omega (
+          arith,
+          sum_by-made (λ (entry : LossRecord). loss_of sidx entry.pairs) (output_record tree rule samples records) (in_order outputs),
+          sum_by-below (λ output. amount_of (λ (entry : LossRecord). loss_of sidx entry.pairs) (output_record tree rule samples records output)) (λ output. loss_for tree rule records output sidx) (in_order outputs) each,
+          order-sum (λ output. loss_for tree rule records output sidx),
+        )
+      where
+        each : (output : FmXref) → amount_of (λ (entry : LossRecord). loss_of sidx entry.pairs) (output_record tree rule samples records output) ≤ loss_for tree rule records output sidx
+        each output =
+            let own = record-loss (λ id. true) sidx (event_of records) output.output_id (pairs_of (loss_for tree rule records output) (insured_range samples)) in
+            omega (arith, own, pairs-le (loss_for tree rule records output) sidx samples)
 
     -- what they have together is what the outputs have
     pub made-all : AllByRecursion (λ sidx. run_loss sidx (insured_records tree rule samples outputs records) ≡ sum_by (λ output. loss_for tree rule records output sidx) outputs) (insured_range samples)

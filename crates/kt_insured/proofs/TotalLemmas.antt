@@ -24,7 +24,7 @@ use Rattle.kt_insured.proofs.SumLemmas.{each-of, either-none, mapped-each, sum_b
 -- ---- the layers of the tops
 
 -- amounts of the layers, top by top
-layers-sum : (tree : Tree) (amount : ℕ × ℕ → ℕ) → sum_by amount (layers_of tree) ≡ sum_by (λ top. sum_by (λ layer. amount (top, layer)) (tree.layers top)) tree.tops
+pub layers-sum : (tree : Tree) (amount : ℕ × ℕ → ℕ) → sum_by amount (layers_of tree) ≡ sum_by (λ top. sum_by (λ layer. amount (top, layer)) (tree.layers top)) tree.tops
 layers-sum tree amount =
     sum_by-flat_map amount (λ top. map (λ layer. (top, layer)) (tree.layers top)) tree.tops
     ∙ sum_by-agree (λ top. sum_by amount (map (λ layer. (top, layer)) (tree.layers top))) (λ top. sum_by (λ layer. amount (top, layer)) (tree.layers top)) tree.tops (each-of _ (λ top. sum_by-mapped amount (λ layer. (top, layer)) (tree.layers top)) tree.tops)

@@ -1,13 +1,16 @@
 //! Theorems about the outputs of a portfolio, as functions that do nothing.
 //! The rule: docs/FINANCIAL_MODULE.md, "Insured losses".
-ghost use Rattle.std.specs.Prelude.{◌≡◌, ℕ, nat_eq, true, List, All};
+ghost use Rattle.std.specs.Prelude.{◌≡◌, ◌≤◌, ℕ, ℤ, nat_eq, true, List, All, map};
 ghost use Rattle.std.specs.List.{list_any, sum_by};
+ghost use Rattle.std.specs.List.Sorted.{IsStrictlyIncreasing};
+ghost use Rattle.kt_rec.specs.declared.financial.FmXref.{FmXref};
 ghost use Rattle.kt_rec.specs.declared.table.Table.TheVariants as table;
 ghost use Rattle.kt_keys.specs.Refusals.{is_loaded};
+ghost use Rattle.kt_stream.specs.Losses.{IsLoss};
 ghost use Rattle.kt_stream.specs.declared.entry.LossRecord.{LossRecord};
-ghost use Rattle.kt_runs.specs.RunLosses.{run_loss};
+ghost use Rattle.kt_runs.specs.RunLosses.{AreWithin, event_of, run_loss};
 ghost use Rattle.kt_tree.specs.Programme.{tree_of};
-ghost use Rattle.kt_tree.specs.Tree.{policy_loss};
+ghost use Rattle.kt_tree.specs.Tree.{Tree, policy_loss};
 ghost use Rattle.kt_shares.specs.Shares.{id_loss, insured_range, layers_of, taken_loss};
 ghost use Rattle.kt_insured.specs.Insured.{insured_records, output_loss};
 ghost use Rattle.kt_insured.specs.Whole.{outputs_loss, records_loss};
@@ -67,3 +70,30 @@ pub fn the_records_of_a_run_have_all_policy_losses(portfolio: &Portfolio)
     portfolio.keeps_keys();
     all_outputs_have_all_policy_losses(portfolio);
 }
+
+/// Insured losses keep the limit of a run: where its losses add to at most 2 * 10^14 cents at each sidx, they add to at most 10^16.
+/// A top has at most 50 layers, no policy loss is above the loss beneath its top, and what lies beneath different tops is apart.
+pub fn insured_losses_are_within(portfolio: &Portfolio)
+    requires programme { is_loaded portfolio.now.need 0 table.FmProgramme ≡ true }
+    requires terms { is_loaded portfolio.now.need 0 table.FmPolicytc ≡ true }
+    requires outputs { is_loaded portfolio.now.need 0 table.FmXref ≡ true }
+    ensures within { (samples : ℕ) (records : List LossRecord) → ((sidx : ℤ) → run_loss sidx records ≤ 200000000000000) → AreWithin (insured_records (tree_of portfolio.now.rows 0) portfolio.now.need.rule samples portfolio.now.rows.fm_xref records) }
+{
+    portfolio.is_valid();
+    portfolio.keeps_keys();
+    all_outputs_have_all_policy_losses(portfolio);
+}
+
+/// By any rule they are records that a stream may have, where those of the run are and keep its limit.
+pub fn insured_losses_are_records_of_a_stream(portfolio: &Portfolio)
+    requires programme { is_loaded portfolio.now.need 0 table.FmProgramme ≡ true }
+    ensures good { (rule samples : ℕ) (records : List LossRecord) → All (IsLoss samples) records → AreWithin records → All (IsLoss samples) (insured_records (tree_of portfolio.now.rows 0) rule samples portfolio.now.rows.fm_xref records) }
+{
+    portfolio.is_valid();
+}
+
+/// They are a run of their own, whatever the tree and the outputs: of the event of the run, each id once, by rising id.
+pub fn insured_losses_are_a_run()
+    ensures event { (tree : Tree) (rule samples : ℕ) (outputs : List FmXref) (records : List LossRecord) → All (λ entry. entry.event ≡ event_of records) (insured_records tree rule samples outputs records) }
+    ensures rising { (tree : Tree) (rule samples : ℕ) (outputs : List FmXref) (records : List LossRecord) → IsStrictlyIncreasing (map (λ entry. entry.id) (insured_records tree rule samples outputs records)) }
+{}

@@ -6,3 +6,5 @@ mod SeenLemmas
 mod JudgeLemmas
 mod Worked
 pub mod PairLemmas
+pub mod TotalLemmas
+pub mod OneRunLemmas

@@ -5,6 +5,7 @@ mod bins;
 mod chances;
 mod event;
 mod foot_rows;
+pub mod laws;
 mod pairs;
 mod shared;
 

@@ -1,3 +1,2 @@
 pub mod WholeTables
-pub mod Fitting
 pub mod Stepping

@@ -17,6 +17,7 @@ use Rattle.kt_periods.specs.Adding.{added_of, all_added, record_refusal, first_r
 use Rattle.kt_periods.specs.declared.table.PeriodTable.{PeriodTable}
 use Rattle.kt_periods.specs.declared.table.PeriodTable.TheVariants.{AverageAnnualLoss, ExceedanceCurve}
 use Rattle.kt_rec.specs.Rows.{Rows}
+use Rattle.kt_rec.specs.declared.perspective.Perspective.{Perspective}
 use Rattle.kt_rec.specs.declared.perspective.Perspective.TheVariants.{Gul}
 use Rattle.kt_stream.specs.Summary.{summary_form, summary_shape}
 use Rattle.kt_stream.specs.declared.entry.Placed.{Placed}
@@ -25,15 +26,18 @@ use Rattle.kt_stream.specs.declared.kind.Head.{Head}
 use Rattle.kt_stream.specs.declared.stop.StreamStop.{StreamStop}
 use Rattle.kt_tables.specs.Lookups.{return_periods_of}
 
--- the names of a table's columns, and then its rows of a set, over so many periods and samples, at these return periods
-abbrev pub table_text : PeriodTable → ℕ → ℕ → ℕ → List ℕ → List KeyLoss → List ℕ
-table_text AverageAnnualLoss set periods samples returns losses = aal_heading_text ++ average_annual_loss_rows Gul set periods samples losses
-table_text (ExceedanceCurve curve) set periods samples returns losses =
-    lec_heading_text (by_sidx curve) ++ exceedance_rows curve Gul set periods samples losses returns
+-- the names of a table's columns, and then its rows of a set of a perspective, over so many periods and samples, at these
+-- return periods
+abbrev pub table_text : PeriodTable → Perspective → ℕ → ℕ → ℕ → List ℕ → List KeyLoss → List ℕ
+table_text AverageAnnualLoss perspective set periods samples returns losses =
+    aal_heading_text ++ average_annual_loss_rows perspective set periods samples losses
+table_text (ExceedanceCurve curve) perspective set periods samples returns losses =
+    lec_heading_text (by_sidx curve) ++ exceedance_rows curve perspective set periods samples losses returns
 
--- the table of the set and the samples of a stream, by the losses of all its records
+-- the table of the set and the samples of a stream, by the losses of all its records; its rows are looked for among ground-up
+-- losses, whatever the stream shows
 abbrev pub stream_table : PeriodTable → Rows → Head → List KeyLoss → List ℕ
-stream_table kind rows head losses = table_text kind head.set rows.periods head.samples (return_periods_of rows) losses
+stream_table kind rows head losses = table_text kind Gul head.set rows.periods head.samples (return_periods_of rows) losses
 
 -- ---- step by step
 

@@ -3,10 +3,14 @@
 
 mod event_losses;
 mod period_losses;
+mod shared;
 mod stage;
+mod stop;
 mod table;
 mod tools;
 
 pub use event_losses::write_event_losses;
 pub use period_losses::write_period_losses;
+pub use stop::cell_stop;
+pub use table::{PeriodTable, append_table};
 pub use tools::{write_average_annual_losses, write_exceedance_curve};

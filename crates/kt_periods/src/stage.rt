@@ -1,12 +1,9 @@
 //! The records of a summary stream, added up over the periods.
 //! The rules: docs/CALCULATION.md, "Periods"; docs/REFUSALS.md, "Order".
-ghost use Rattle.std.specs.Prelude.{◌≡◌};
-ghost use Rattle.kt_ends.specs.declared.tool_stop.ToolStop.{ToolStop};
-ghost use Rattle.kt_periods.specs.Standing.{cell_tool_stop};
-
+use crate::stop::cell_stop;
 use crate::table::{PeriodTable, append_table};
-use kt_curve::{CellStop, Cells};
-use kt_ends::{Refusal, ToolStop};
+use kt_curve::Cells;
+use kt_ends::ToolStop;
 use kt_loop::Stage;
 use kt_money::Bytes;
 use kt_rec::Perspective;
@@ -23,22 +20,6 @@ pub(crate) struct PeriodLosses<'a> {
     pub(crate) portfolio: &'a Portfolio,
     /// The cells, once the header is there.
     pub(crate) cells: Option<Cells>,
-}
-
-/// How the tool ends where the cells refuse a record of an event.
-fn cell_stop(event: u32, stop: CellStop) -> ToolStop
-    ensures { result ≡ cell_tool_stop event stop }
-{
-    match stop {
-        CellStop::Cells { held } => ToolStop::Refused(Refusal::Cells { event, held }),
-        CellStop::Period { key, held, more } => ToolStop::Refused(Refusal::Period {
-            event,
-            key,
-            held,
-            more,
-        }),
-        CellStop::OutOfMemory => ToolStop::NoMemory,
-    }
 }
 
 impl<'a> Stage<Head, SummaryRecord, ()> for PeriodLosses<'a> {
@@ -96,7 +77,7 @@ impl<'a> Stage<Head, SummaryRecord, ()> for PeriodLosses<'a> {
         let Some(cells) = &self.cells else {
             unreachable!()
         };
-        append_table(out, self.kind, cells, head.set, returns)?;
+        append_table(out, self.kind, cells, Perspective::Gul, head.set, returns)?;
         Ok(())
     }
 }

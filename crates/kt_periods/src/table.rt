@@ -11,33 +11,34 @@ use kt_rec::{Curve, Perspective};
 
 /// A table of a summary stream over all periods.
 #[derive(Clone, Copy)]
-pub(crate) enum PeriodTable {
+pub enum PeriodTable {
     /// The average annual loss of each summary.
     AverageAnnualLoss,
     /// An exceedance curve of each summary.
     ExceedanceCurve(Curve),
 }
 
-/// Appends the names of a table's columns, and then its rows of a set: those of the cells, at these return periods where it
-/// is a curve. An error is want of memory.
-pub(crate) fn append_table(
+/// Appends the names of a table's columns, and then its rows of a set of a perspective: those of the cells, at these return
+/// periods where it is a curve. An error is want of memory.
+pub fn append_table(
     out: &mut Bytes,
     kind: PeriodTable,
     cells: &Cells,
+    perspective: Perspective,
     set: u32,
     returns: &[u32],
 ) -> Result<(), OutOfMemory>
     requires { All (λ period. 1 ≤ period) returns.now }
-    ensures ok { (history : List Added) → StandsFor history cells.now → OnOk result (out.new ≡ out.old ++ table_text kind set cells.now.periods cells.now.samples returns.now (all_losses history)) }
+    ensures ok { (history : List Added) → StandsFor history cells.now → OnOk result (out.new ≡ out.old ++ table_text kind perspective set cells.now.periods cells.now.samples returns.now (all_losses history)) }
 {
     match kind {
         PeriodTable::AverageAnnualLoss => {
             out.append(aal_heading())?;
-            aal_text(out, cells, Perspective::Gul, set)
+            aal_text(out, cells, perspective, set)
         }
         PeriodTable::ExceedanceCurve(curve) => {
             out.append(lec_heading(curve))?;
-            lec_text(out, cells, Perspective::Gul, set, curve, returns)
+            lec_text(out, cells, perspective, set, curve, returns)
         }
     }
 }

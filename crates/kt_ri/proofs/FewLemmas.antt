@@ -26,58 +26,7 @@ use Rattle.kt_ri.specs.Reinsurance.{ceded_loss}
 
 -- ---- the layers of a top
 
--- rising layers from a least one up are not more than there are numbers to 50
-rising-few : (low : ℕ) (layers : List ℕ) → IsRising layers → AllByRecursion (λ layer. low ≤ layer) layers → AllByRecursion IsLayer layers → low ≤ 51 → length layers + low ≤ 51
-unfolding IsRising
-rising-few low [] rises least are most = omega arith
-rising-few low (layer ∷ layers) rises least are most =
-    let first = least.0 in
-    let here = are.0.most in
-    let rest = rising-few (layer + 1) layers rises.1 (each_then (λ other. layer < other) (λ other. layer + 1 ≤ other) (λ other less. omega arith) layers rises.0) are.1 (omega arith) in
-    omega arith
-
--- the layers of rows are layers
-layers-each : (test : FmPolicytc → Bool) (rows : List FmPolicytc) → AllByRecursion IsFmPolicytc rows → AllByRecursion IsLayer (map (λ row. row.layer_id) (filter test rows))
-layers-each test [] all = tt
-layers-each test (row ∷ rows) all = by (test row) (layers-each test rows all.1)
-  where
-    by : (b : Bool) → AllByRecursion IsLayer (map (λ row. row.layer_id) (filter test rows)) → AllByRecursion IsLayer (map (λ row. row.layer_id) (cond b (row ∷ filter test rows) (filter test rows)))
-    by true rest = (all.0.layer_id, rest)
-    by false rest = rest
-
--- a top has at most 50 layers
-layers-few : (rows : List FmPolicytc) → AllByRecursion IsFmPolicytc rows → (level unit : ℕ) → length (layers_in rows level unit) ≤ 50
-layers-few rows all level unit = by (rising (map (λ row. row.layer_id) (filter test rows))) many
-  where
-    test : FmPolicytc → Bool
-    test row = nat_eq row.level_id level && nat_eq row.agg_id unit
-
-    are : AllByRecursion IsLayer (rising (map (λ row. row.layer_id) (filter test rows)))
-    are = rising-all IsLayer (map (λ row. row.layer_id) (filter test rows)) (layers-each test rows all)
-
-    many : length (rising (map (λ row. row.layer_id) (filter test rows))) ≤ 50
-    many =
-        let all = rising-few 1 (rising (map (λ row. row.layer_id) (filter test rows))) (rising-rises (map (λ row. row.layer_id) (filter test rows))) (each_then IsLayer (λ layer. 1 ≤ layer) (λ layer is. is.least) _ are) are (omega arith) in
-        omega arith
-
-    by : (layers : List ℕ) → length layers ≤ 50 → length (or_first layers) ≤ 50
-    by [] few = omega arith
-    by (layer ∷ layers) few = few
-
--- the terms of a stage are in their ranges
-terms-each : (rows : Rows) → AreInRange rows → (stage : ℕ) → AllByRecursion IsFmPolicytc (policytc_of rows stage)
-terms-each rows are stage = from rows.financial (recursion_from_All AreFinancial rows.financial are.financial) stage
-  where
-    from : (all : List FinancialRows) → AllByRecursion AreFinancial all → (stage : ℕ) → AllByRecursion IsFmPolicytc (slice_index_or all stage no_financial).policytc
-    from [] are stage = tt
-    from (one ∷ all) are zero = recursion_from_All IsFmPolicytc one.policytc are.0.policytc
-    from (one ∷ all) are (suc stage) = from all are.1 stage
-
--- a top of a stage of the tables has few layers
-pub stage-few : (rows : Rows) → AreInRange rows → (stage top : ℕ) → length ((tree_of rows stage).layers top) ≤ 50
-stage-few rows are stage top = layers-few (policytc_of rows stage) (terms-each rows are stage) (top_level (programme_of rows stage)) top
-
--- so the programme of its struck units has
+-- where a top of a tree has few layers, so have those of the programme of its struck units
 pub struck-few : (tree : Tree) → IsRising tree.tops → ((top : ℕ) → length (tree.layers top) ≤ 50) → (ids : List ℕ) (parts : Parts) → IsProgramme (struck tree ids) parts → HasFewLayers parts
 struck-few tree rises few ids parts is = record {
   tops_rise = subst IsRising (sym is.tops_are) (rising-filter (is_struck tree ids tree.top_level) tree.tops rises);

@@ -7,6 +7,7 @@ use Rattle.std.proofs.lemmas.Bool.Decides.{Decides-int_eq}
 use Rattle.std.proofs.lemmas.Int.{ints}
 use Rattle.std.proofs.lemmas.List.Elements.{All-from_recursion, recursion_from_All}
 use Rattle.std.proofs.lemmas.List.Sums.{sum_by-cons}
+use Rattle.kt_rec.specs.Rising.{IsRising}
 use Rattle.kt_stream.specs.declared.entry.LossRecord.{LossRecord}
 use Rattle.kt_stream.specs.declared.entry.Pair.{Pair}
 use Rattle.kt_stream.specs.Losses.{IsLoss}
@@ -15,8 +16,10 @@ use Rattle.kt_runs.specs.Sidx.{pair_of, pairs_of, sidx_at}
 use Rattle.kt_tree.specs.Sharing.{allocated}
 use Rattle.kt_tree.specs.Tree.{Tree, beneath, comes_to}
 use Rattle.kt_fmtree.specs.Parts.{Parts, IsProgramme}
+use Rattle.kt_fmtree.specs.RisingLaws.{rising-made}
 use Rattle.kt_shares.specs.LookupLaws.{lookup-none}
-use Rattle.kt_shares.specs.RecordLaws.{record-good}
+use Rattle.kt_shares.specs.PairLaws.{pairs-le}
+use Rattle.kt_shares.specs.RecordLaws.{record-event, record-good, record-id}
 use Rattle.kt_shares.specs.RowLaws.{rows-are}
 use Rattle.kt_shares.specs.Shares.{insured_range, layers_of, part_of_id, record_with, sample_range}
 use Rattle.kt_shares.specs.Table.{row_place}
@@ -67,50 +70,7 @@ module _ (tree : Tree) (parts : Parts) (is : IsProgramme tree parts) (rule sampl
       rows-are samples (λ row. part_behind left (loss_of (sidx_at (row_place row)) pairs) (ceded_in rows place row)) (λ sidx. part_behind left (loss_of sidx pairs) (ceded_at tree rule records id sidx))
       (λ row below. ap (part_behind left (loss_of (sidx_at (row_place row)) pairs)) (ceded-at place found row below))
 
--- ---- net losses are records of a stream
-
--- a record of net losses has at no sidx more than the record had
-module _ (loss : ℤ → ℕ) where
-  -- at a sidx below those of samples there is nothing
-  samples-none : (sidx : ℤ) (a n : ℕ) → ((k : ℕ) → a ≤ k → int_eq (pos k) sidx ≡ false) → loss_of sidx (pairs_of loss (map pos (range_with_len a n))) ≡ 0
-  samples-none sidx a zero apart = refl
-  samples-none sidx a (suc n) apart = by (loss (pos a)) (samples-none sidx (a + 1) n (λ k low. apart k (omega arith)))
-    where
-      by : (amount : ℕ) → loss_of sidx (pairs_of loss (map pos (range_with_len (a + 1) n))) ≡ 0 → loss_of sidx (cons_option (pair_of (pos a) amount) (pairs_of loss (map pos (range_with_len (a + 1) n)))) ≡ 0
-      by zero rest = rest
-      by (suc less) rest =
-          omega (
-            arith,
-            sum_by-cons (λ (pair : Pair). cond (int_eq pair.sidx sidx) pair.loss 0) (record { sidx = pos a; loss = suc less }) (pairs_of loss (map pos (range_with_len (a + 1) n))),
-            rest,
-            ap (λ b. cond b (suc less) 0) (apart a (omega arith)),
-          )
-
-  other-sidx : (one other : ℤ) → (one ≡ other → ⊥) → int_eq one other ≡ false
-  other-sidx one other differ = by (int_eq one other) refl
-    where
-      by : (b : Bool) → int_eq one other ≡ b → b ≡ false
-      by true is = absurd (differ ((Decides-int_eq one other).0 is))
-      by false is = refl
-
-  -- one pair in front of pairs that have at most that, or nothing at its sidx
-  front-le : (sidx one : ℤ) (pairs : List Pair) → loss_of sidx pairs ≤ loss sidx → (one ≡ sidx → loss_of sidx pairs ≡ 0) → loss_of sidx (cons_option (pair_of one (loss one)) pairs) ≤ loss sidx
-  front-le sidx one pairs rest none = by (loss one) refl
-    where
-      here : (less : ℕ) → loss one ≡ suc less → (b : Bool) → int_eq one sidx ≡ b → cond b (suc less) 0 + loss_of sidx pairs ≤ loss sidx
-      here less is true same = let e = (Decides-int_eq one sidx).0 same in omega (arith, none e, is, ap loss e)
-      here less is false apart = omega (arith, rest)
-
-      by : (amount : ℕ) → loss one ≡ amount → loss_of sidx (cons_option (pair_of one amount) pairs) ≤ loss sidx
-      by zero is = rest
-      by (suc less) is = omega (arith, sum_by-cons (λ (pair : Pair). cond (int_eq pair.sidx sidx) pair.loss 0) (record { sidx = one; loss = suc less }) pairs, here less is (int_eq one sidx) refl)
-
-  samples-le : (sidx : ℤ) (a n : ℕ) → loss_of sidx (pairs_of loss (map pos (range_with_len a n))) ≤ loss sidx
-  samples-le sidx a zero = omega arith
-  samples-le sidx a (suc n) = front-le sidx (pos a) (pairs_of loss (map pos (range_with_len (a + 1) n))) (samples-le sidx (a + 1) n) (λ same. samples-none sidx (a + 1) n (λ k low. other-sidx (pos k) sidx (λ also. omega (arith, ints, also, same, low))))
-
-  pub pairs-le : (sidx : ℤ) (samples : ℕ) → loss_of sidx (pairs_of loss (insured_range samples)) ≤ loss sidx
-  pairs-le sidx samples = front-le sidx (negsuc 0) (pairs_of loss (sample_range samples)) (samples-le sidx 1 samples) (λ same. samples-none sidx 1 samples (λ k low. other-sidx (pos k) sidx (λ also. omega (arith, ints, also, same))))
+-- ---- net losses are records of a stream, and a run
 
 module _ (tree : Tree) (rule samples : ℕ) (records : List LossRecord) where
   -- what a record keeps at a sidx
@@ -145,3 +105,15 @@ module _ (tree : Tree) (rule samples : ℕ) (records : List LossRecord) where
       over (entry ∷ entries) all few =
           record-good samples (kept entry) (λ sidx. omega (arith, few sidx, sum_by-cons (λ (entry : LossRecord). loss_of sidx entry.pairs) entry entries)) entry.event entry.id all.0.event all.0.id (filter_map (net_record tree rule samples records) entries)
           (over entries all.1 (λ sidx. omega (arith, few sidx, sum_by-cons (λ (entry : LossRecord). loss_of sidx entry.pairs) entry entries)))
+
+  -- their event is that of the records
+  pub net-event : (event : ℕ) → All (λ entry. entry.event ≡ event) records → All (λ entry. entry.event ≡ event) (net_records tree rule samples records)
+  net-event event same = All-from_recursion _ (net_records tree rule samples records) (over records (recursion_from_All _ records same))
+    where
+      over : (entries : List LossRecord) → AllByRecursion (λ (entry : LossRecord). entry.event ≡ event) entries → AllByRecursion (λ (entry : LossRecord). entry.event ≡ event) (filter_map (net_record tree rule samples records) entries)
+      over [] all = tt
+      over (entry ∷ entries) all = record-event event entry.event entry.id (pairs_of (kept entry) (insured_range samples)) all.0 (filter_map (net_record tree rule samples records) entries) (over entries all.1)
+
+  -- and where the ids of the records rise, so do theirs
+  pub net-rises : IsRising (map (λ entry. entry.id) records) → IsRising (map (λ entry. entry.id) (net_records tree rule samples records))
+  net-rises rises = rising-made (λ (entry : LossRecord). entry.id) (λ (entry : LossRecord). entry.id) (net_record tree rule samples records) (λ entry. record-id entry.event entry.id (pairs_of (kept entry) (insured_range samples))) records rises

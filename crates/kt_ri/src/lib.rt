@@ -3,6 +3,7 @@
 
 mod ceded;
 mod ceding;
+pub mod laws;
 mod net;
 mod places;
 mod reinsured;

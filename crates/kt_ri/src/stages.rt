@@ -46,6 +46,29 @@ fn copy_of(alloc: Global, records: &[LossRecord]) -> Result<Records<LossRecord>,
     Ok(copy)
 }
 
+/// What stages leave of losses, by allocation rule 2, each stage on what the one before leaves.
+fn behind_stages(
+    alloc: Global,
+    stages: &[Structure],
+    samples: u32,
+    losses: Records<LossRecord>,
+) -> Result<Records<LossRecord>, AllocError>
+    requires stages { All HasStage stages.now }
+    requires samples { samples ≤ 1000 }
+    requires records { All (IsLoss samples) losses }
+    requires within { AreWithin losses }
+    ensures net { IfOk result (λ net. (trees : List Tree) → AreStages trees stages.now → net ≡ reinsured trees samples losses) }
+    ensures good { IfOk result (λ net. All (IsLoss samples) net) }
+    ensures within { IfOk result (λ net. AreWithin net) }
+{
+    let mut net = losses;
+    for stage in stages {
+        let made = behind_stage(alloc, stage, samples, 2, net.as_slice(), false)?;
+        net = made.net;
+    }
+    Ok(net)
+}
+
 /// What stages leave of the losses of one run, by allocation rule 2, each stage on what the one before leaves. Without a stage the
 /// records stay as they are. The losses of the run add to at most 10^16 cents at each sidx. An error is want of memory.
 pub fn reinsure(
@@ -62,10 +85,11 @@ pub fn reinsure(
     ensures good { IfOk result (λ net. All (IsLoss samples) net) }
     ensures within { IfOk result (λ net. AreWithin net) }
 {
-    let mut net = copy_of(alloc, records)?;
-    for stage in stages {
-        let made = behind_stage(alloc, stage, samples, 2, net.as_slice(), false)?;
-        net = made.net;
-    }
+    let [first, later @ ..] = stages else {
+        let copy = copy_of(alloc, records)?;
+        return Ok(copy);
+    };
+    let made = behind_stage(alloc, first, samples, 2, records, false)?;
+    let net = behind_stages(alloc, later, samples, made.net)?;
     Ok(net)
 }

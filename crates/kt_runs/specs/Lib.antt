@@ -5,4 +5,5 @@ pub mod RunSums
 pub mod SidxLaws
 pub mod LossLaws
 pub mod HeldLaws
+pub mod RunLaws
 pub mod Examples

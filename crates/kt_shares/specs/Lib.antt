@@ -7,6 +7,7 @@ pub mod HoldsLaws
 pub mod LookupLaws
 pub mod SharesLaws
 pub mod RowLaws
+pub mod PairLaws
 pub mod RecordLaws
 pub mod TableLaws
 pub mod StruckLaws

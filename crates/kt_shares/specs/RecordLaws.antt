@@ -11,6 +11,7 @@ use Rattle.kt_stream.specs.Losses.{IsLoss}
 use Rattle.kt_stream.specs.Pairs.{BeginsAbove, IsId, IsPair, IsSidx, RisingSidx}
 use Rattle.kt_runs.specs.RunLosses.{AreWithin, loss_of}
 use Rattle.kt_runs.specs.Sidx.{pair_of, pairs_of}
+use Rattle.kt_fmtree.specs.RisingLaws.{KeepsId}
 use Rattle.kt_shares.specs.Shares.{insured_range, record_with, sample_range}
 
 -- records that are held in themselves
@@ -22,6 +23,16 @@ map-same (entry ∷ records) = ap (λ later. entry ∷ later) (map-same records)
 pub one-few : (records : List LossRecord) → AreWithin records → (i : ℕ) (d : LossRecord) → i < length records → (entry : LossRecord) → entry ≡ slice_index_or records i d → (sidx : ℤ) → loss_of sidx entry.pairs ≤ 10000000000000000
 one-few records within i d below entry is sidx =
     omega (arith, within sidx, get_or-le-sum_by (λ (one : LossRecord). loss_of sidx one.pairs) records i d below, ap (λ (one : LossRecord). loss_of sidx one.pairs) is)
+
+-- a record that is made has its id
+pub record-id : (event id : ℕ) (pairs : List Pair) → KeepsId (λ (entry : LossRecord). entry.id) id (record_with event id pairs)
+record-id event id [] = tt
+record-id event id (pair ∷ pairs) = refl
+
+-- and its event, as those behind it have
+pub record-event : (event own id : ℕ) (pairs : List Pair) → own ≡ event → (later : List LossRecord) → AllByRecursion (λ (entry : LossRecord). entry.event ≡ event) later → AllByRecursion (λ (entry : LossRecord). entry.event ≡ event) (cons_option (record_with own id pairs) later)
+record-event event own id [] same later all = all
+record-event event own id (pair ∷ pairs) same later all = (same, all)
 
 -- no loss gives no pair
 pub pairs-none : (loss : ℤ → ℕ) → ((sidx : ℤ) → loss sidx ≡ 0) → (range : List ℤ) → pairs_of loss range ≡ []

@@ -5,3 +5,4 @@ pub mod SpanLemmas
 pub mod GoodLemmas
 pub mod MapLemmas
 pub mod RunLemmas
+pub mod OneRunLemmas

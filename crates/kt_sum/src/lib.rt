@@ -2,6 +2,7 @@
 #![tactic(auto)]
 
 mod group;
+pub mod laws;
 mod mapped;
 mod run;
 mod span;

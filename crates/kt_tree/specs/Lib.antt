@@ -1,9 +1,11 @@
 pub mod Sums
 pub mod Tree
 pub mod TreeLaws
+pub mod TopLaws
 pub mod Sharing
 pub mod SharingLaws
 pub mod Programme
+pub mod FewLayers
 pub mod ExampleRows
 pub mod Examples
 pub mod Struck

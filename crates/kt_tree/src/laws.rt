@@ -1,7 +1,7 @@
 //! Theorems about the tree of a programme, and that of its struck units, as functions with an empty body.
 //! The rules: docs/FINANCIAL_MODULE.md, "Levels", "Policy losses", "Allocation".
-ghost use Rattle.std.specs.Prelude.{◌≡◌, ◌≤◌, ℕ, List, false, nat_eq, slice_index, unwrap_or};
-ghost use Rattle.std.specs.List.{list_any, sum, zip};
+ghost use Rattle.std.specs.Prelude.{◌≡◌, ◌≤◌, ◌*◌, ℕ, List, false, length, nat_eq, slice_index, unwrap_or};
+ghost use Rattle.std.specs.List.{IsDistinct, list_any, sum, sum_by, zip};
 ghost use Rattle.std.specs.Map.{lookup};
 ghost use Rattle.kt_rules.specs.Amounts.{total};
 ghost use Rattle.kt_tree.specs.Tree.{Tree, IsTree, carry_of, ground_up, policy_loss, beneath};
@@ -16,6 +16,16 @@ pub fn the_amounts_add_to_the_loss_beneath()
 /// The policy loss of a layer is not above the ground-up loss beneath its top.
 pub fn no_policy_loss_is_above_the_loss_beneath()
     ensures { (tree : Tree) → IsTree tree → (losses : ℕ → ℕ) (top layer : ℕ) → policy_loss tree losses top layer ≤ ground_up tree losses tree.top_level top }
+{}
+
+/// The ground-up losses beneath all tops are not above those of all ids: an id comes to one top at the most.
+pub fn the_losses_beneath_all_tops_are_within_those_of_all_ids()
+    ensures { (tree : Tree) → IsTree tree → IsDistinct nat_eq tree.tops → (losses : ℕ → ℕ) → sum_by (ground_up tree losses tree.top_level) tree.tops ≤ sum_by losses tree.ids }
+{}
+
+/// So where no top has more than 50 layers, the policy losses of all layers are not above 50 times the losses of all ids.
+pub fn all_policy_losses_are_within_fifty_times_the_losses()
+    ensures { (tree : Tree) → IsTree tree → IsDistinct nat_eq tree.tops → ((top : ℕ) → length (tree.layers top) ≤ 50) → (losses : ℕ → ℕ) → sum_by (λ top. sum_by (policy_loss tree losses top) (tree.layers top)) tree.tops ≤ 50 * sum_by losses tree.ids }
 {}
 
 /// What the ids beneath a top get of the policy loss of a layer adds to it.

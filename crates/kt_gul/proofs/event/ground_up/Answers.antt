@@ -29,6 +29,5 @@ returns-clause-value c =
 
 pub returns-clause-good : goal.returns-clause-good
 returns-clause-good c =
-    let order = read_order c.args.portfolio.now.rows c.args.cdfs.now _ _ _ _ c.in_ok-struck.ensures.value c.deref.ensures.value c.in_ok-struck-2.ensures.permutation c.as_slice.ensures.value c.as_slice.ensures.rising in
-    subst (λ (records : List LossRecord). All (IsLoss c.args.samples) records) (sym c.from_vec.ensures.value) (records_good c.args.portfolio.now.rows c.args.samples c.args.cut c.args.event c.args.cdfs.now c.as_slice.result.now c.in_ok-records.records.items _ order
-    c.requires.event c.is_valid.ensures.valid.in_range.items c.in_ok-records.ensures.value c.in_ok-sort_by_id.ensures.permutation)
+    subst (λ (records : List LossRecord). All (IsLoss c.args.samples) records) (sym (returns-clause-value c))
+    (records_good c.args.portfolio.now.rows c.args.samples c.args.cut c.args.event c.args.cdfs.now c.is_valid.ensures.valid.in_range c.requires.cdfs c.requires.event)

@@ -1,30 +1,18 @@
-use Rattle.std.proofs.Common.{◌∙◌, List, ap, sym, subst}
-use Rattle.std.specs.Prelude.{All}
-use Rattle.kt_runs.specs.RunLosses.{AreWithin}
-use Rattle.kt_stream.specs.Losses.{IsLoss}
-use Rattle.kt_stream.specs.declared.entry.LossRecord.{LossRecord}
+use Rattle.std.proofs.Common.{◌∙◌, ap, sym, subst, arith}
 use Rattle.kt_shares.specs.RecordLaws.{map-same}
 use Rattle.kt_ri.specs.Reinsurance.{net_records}
-use Rattle.kt_ri.specs.Stages.{IsStage}
-use Rattle.kt_ri.proofs.StageLemmas.{left-all, left-more}
+use Rattle.kt_ri.specs.Stages.{HasStage, IsStage}
+use Rattle.kt_ri.proofs.StageLemmas.{first-left, later-each, left-all}
 use Rattle.kt_ri.proofs.stages.reinsure.Goals as goal
 
-pub behind_stage-requires-clause-records : goal.behind_stage-requires-clause-records
-behind_stage-requires-clause-records c = subst (λ (net : List LossRecord). All (IsLoss c.args.samples) net) (sym (map-same c.as_slice.result.now ∙ c.as_slice.ensures.value)) c.loop-stage.invariant.good
+pub returns-in_default-clause-net : goal.returns-in_default-clause-net
+returns-in_default-clause-net c = λ trees are. c.in_ok-copy.ensures.value ∙ sym (left-all c.args.samples c.args.stages.now 0 c.args.records.now trees are (omega (arith, c.in_default.len_below)))
 
-pub behind_stage-requires-clause-within : goal.behind_stage-requires-clause-within
-behind_stage-requires-clause-within c = subst AreWithin (sym (map-same c.as_slice.result.now ∙ c.as_slice.ensures.value)) c.loop-stage.invariant.within
-
-pub loop-stage-preserved : goal.loop-stage-preserved
-loop-stage-preserved c = record {
-  left = λ trees are.
-      left-more c.args.samples c.args.stages.now c.loop-stage.stage-index c.stage-item.result c.loop-stage.net c.in_ok-made.made.net c.loop-stage-test.true
-      (λ tree is. c.in_ok-made.ensures.net tree (subst (IsStage tree) (sym c.stage-item.is) is) ∙ ap (net_records tree 2 c.args.samples) (map-same c.as_slice.result.now ∙ c.as_slice.ensures.value))
-      trees are
-      ∙ c.loop-stage.invariant.left trees are;
-  good = c.in_ok-made.ensures.good;
-  within = c.in_ok-made.ensures.within;
-}
+pub behind_stages-requires-clause-stages : goal.behind_stages-requires-clause-stages
+behind_stages-requires-clause-stages c = later-each HasStage c.args.stages.now c.in-len1-up.len_at_least c.requires.stages
 
 pub returns-clause-net : goal.returns-clause-net
-returns-clause-net c = λ trees are. sym (left-all c.args.samples c.args.stages.now c.loop-stage.stage-index c.loop-stage.net trees are c.loop-stage-test.false) ∙ c.loop-stage.invariant.left trees are
+returns-clause-net c =
+    first-left c.args.samples c.args.stages.now c.first-item.result c.args.records.now c.in_ok-made.made.net c.in_ok-net.net c.in-len1-up.len_at_least
+    (λ tree is. c.in_ok-made.ensures.net tree (subst (IsStage tree) (sym c.first-item.is) is) ∙ ap (net_records tree 2 c.args.samples) (map-same c.args.records.now))
+    c.in_ok-net.ensures.net

@@ -1,4 +1,4 @@
-use Rattle.kt_periods.proofs.Fitting.{fits_rows}
+use Rattle.kt_elt.specs.Fitting.{fits_rows}
 use Rattle.kt_periods.proofs.event_losses.EventLossesStageHeadSummaryRecordUnit.take.Goals as goal
 
 pub elt_text-requires : goal.elt_text-requires

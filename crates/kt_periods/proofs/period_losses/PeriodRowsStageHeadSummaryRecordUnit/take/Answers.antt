@@ -1,4 +1,4 @@
-use Rattle.kt_periods.proofs.Fitting.{fits_rows}
+use Rattle.kt_elt.specs.Fitting.{fits_rows}
 use Rattle.kt_periods.proofs.period_losses.PeriodRowsStageHeadSummaryRecordUnit.take.Goals as goal
 
 pub plt_record_text-requires : goal.plt_record_text-requires

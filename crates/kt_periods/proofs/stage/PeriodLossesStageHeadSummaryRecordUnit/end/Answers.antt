@@ -1,6 +1,6 @@
 use Rattle.std.proofs.Common.{ℕ, ◌≤◌, List, subst, sym}
 use Rattle.std.specs.Prelude.{All}
-use Rattle.kt_periods.proofs.Fitting.{fits_returns}
+use Rattle.kt_periods.specs.Fitting.{fits_returns}
 use Rattle.kt_periods.proofs.stage.PeriodLossesStageHeadSummaryRecordUnit.end.Goals as goal
 
 pub append_table-requires : goal.append_table-requires

@@ -3,7 +3,7 @@ use Rattle.std.specs.Prelude.{All}
 use Rattle.kt_curve.specs.Journal.{Adds}
 use Rattle.kt_rec.specs.declared.periods.Occurrence.{Occurrence}
 use Rattle.kt_rec.specs.declared.perspective.Perspective.TheVariants.{Gul}
-use Rattle.kt_periods.proofs.Fitting.{fits_periods}
+use Rattle.kt_periods.specs.Fitting.{fits_periods}
 use Rattle.kt_periods.proofs.Stepping.{cells_are, cells_stand, takes_on, takes_to_refusal}
 use Rattle.kt_periods.specs.Standing.{StandsAt}
 use Rattle.kt_tables.specs.Lookups.{occurrences_of}
@@ -30,4 +30,4 @@ pub returns-clause-step : goal.returns-clause-step
 returns-clause-step c = λ state at.
     let stands = cells_stand state.history c.args.self.now.cells c.in-Some.cells at.holds c.in-Some.is in
     let adds = subst (λ (rows : List Occurrence). Adds state.history (record { perspective = Gul; set = c.args.head.set; entry = c.args.entry; at = rows }) (Err c.in-Err.stop) c.add.new.self) c.occurrences-occurrences.ensures.value (c.in-Err.ensures.added state.history stands) in
-    rw c.cell_stop.ensures (takes_to_refusal c.args.head state (record { at = c.args._at; entry = c.args.entry }) c.args.self.now.kind c.args.self.now.portfolio.now.rows at.same_kind at.same_rows c.args._out.now c.in-Err.stop (λ next. StandsAt next c.args.self.now.kind c.args.self.now.portfolio.now.rows (Some c.add.new.self)) adds.0)
+    rw c.cell_stop.ensures.value (takes_to_refusal c.args.head state (record { at = c.args._at; entry = c.args.entry }) c.args.self.now.kind c.args.self.now.portfolio.now.rows at.same_kind at.same_rows c.args._out.now c.in-Err.stop (λ next. StandsAt next c.args.self.now.kind c.args.self.now.portfolio.now.rows (Some c.add.new.self)) adds.0)

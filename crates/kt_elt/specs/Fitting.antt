@@ -1,26 +1,23 @@
--- A record that was read, and the occurrences of its event, fit the rows and the cells.
-use Rattle.std.proofs.Common.{ℕ, ◌≤◌, ◌^◌, ℤ, pos, ◌<ℤ◌, ◌≤ℤ◌, List, [], ◌∷◌, arith}
-use Rattle.std.specs.Prelude.{All, AllPairs, nat_eq}
+-- A summary record of a stream fits the samples of the stream.
+-- The rules: docs/STREAMS.md, "Records"; docs/OUTPUTS.md, "Event loss table".
+use Rattle.std.specs.Prelude.{ℕ, ◌≤◌, ◌^◌, ℤ, pos, ◌<ℤ◌, ◌≤ℤ◌, List, [], ◌∷◌, All, AllPairs}
 use Rattle.std.specs.List.{AllByRecursion}
+use Rattle.std.proofs.Common.{arith}
 use Rattle.std.proofs.lemmas.Int.{ints}
 use Rattle.std.proofs.lemmas.List.Kept.{AllPairs-cons}
-use Rattle.std.proofs.lemmas.List.Elements.{All-filter, All-from_recursion, All-map}
-use Rattle.kt_rec.specs.Ranges.{AreInRange}
-use Rattle.kt_rec.specs.Rows.{Rows}
-use Rattle.kt_rec.specs.declared.periods.Occurrence.{Occurrence}
-use Rattle.kt_rec.specs.declared.periods.ReturnPeriod.{ReturnPeriod}
+use Rattle.std.proofs.lemmas.List.Elements.{All-from_recursion}
 use Rattle.kt_stream.specs.declared.entry.Pair.{Pair}
-use Rattle.kt_elt.specs.Losses.{FitsSamples}
 use Rattle.kt_stream.specs.declared.entry.SummaryRecord.{SummaryRecord}
 use Rattle.kt_stream.specs.Pairs.{IsPair, BeginsAbove, RisingSidx}
 use Rattle.kt_stream.specs.Summary.{IsSummary}
-use Rattle.kt_tables.specs.Lookups.{occurrences_of, return_periods_of}
-use Rattle.kt_tables.specs.Portfolio.{KeepsPeriods}
+use Rattle.kt_elt.specs.Losses.{FitsSamples}
 
+-- the sidx of pairs
 within_samples : (samples : ℕ) (pairs : List Pair) → AllByRecursion (IsPair samples) pairs → AllByRecursion (λ (pair : Pair). pair.sidx ≤ℤ pos samples) pairs
 within_samples samples [] all = tt
 within_samples samples (pair ∷ pairs) all = (all.0.sidx.highest, within_samples samples pairs all.1)
 
+-- the losses of pairs
 within_losses : (samples : ℕ) (pairs : List Pair) → AllByRecursion (IsPair samples) pairs → AllByRecursion (λ (pair : Pair). pair.loss ≤ 10 ^ 16) pairs
 within_losses samples [] all = tt
 within_losses samples (pair ∷ pairs) all = (all.0.most, within_losses samples pairs all.1)
@@ -33,9 +30,11 @@ fits_samples samples pairs all = All-from_recursion (λ (pair : Pair). pair.sidx
 pub fits_losses : (samples : ℕ) (pairs : List Pair) → AllByRecursion (IsPair samples) pairs → All (λ (pair : Pair). pair.loss ≤ 10 ^ 16) pairs
 fits_losses samples pairs all = All-from_recursion (λ (pair : Pair). pair.loss ≤ 10 ^ 16) pairs (within_losses samples pairs all)
 
+-- the order of sidx
 int_trans : (a b c : ℤ) → a <ℤ b → b <ℤ c → a <ℤ c
 int_trans a b c p q = omega (arith, ints)
 
+-- a pair is above a sidx
 abbrev above : ℤ → Pair → Type 0
 above sidx pair = sidx <ℤ pair.sidx
 
@@ -49,6 +48,7 @@ all_above : (sidx : ℤ) (pairs : List Pair) → BeginsAbove sidx pairs → Risi
 all_above sidx [] begins rising = tt
 all_above sidx (pair ∷ pairs) begins rising = (begins, rises_above sidx pair.sidx pairs begins (all_above pair.sidx pairs rising.0 rising.1))
 
+-- where sidx rise, each pair is below the later ones
 rising_pairs : (pairs : List Pair) → RisingSidx pairs → AllPairs (λ (earlier later : Pair). earlier.sidx <ℤ later.sidx) pairs
 rising_pairs [] rising = λ i j d less inside. absurd (omega arith)
 rising_pairs (pair ∷ pairs) rising =
@@ -63,11 +63,3 @@ fits_rows samples entry some few summary = record {
   within = fits_samples samples entry.pairs summary.pairs.each;
   losses = fits_losses samples entry.pairs summary.pairs.each;
 }
-
--- each occurrence is in a period
-pub fits_periods : (rows : Rows) → KeepsPeriods rows → (event : ℕ) → All (λ (row : Occurrence). (1 ≤ row.period_no) × (row.period_no ≤ rows.periods)) (occurrences_of rows event)
-fits_periods rows keeps event = All-filter (λ (row : Occurrence). nat_eq row.event_id event) (λ (row : Occurrence). (1 ≤ row.period_no) × (row.period_no ≤ rows.periods)) rows.occurrence keeps.each
-
--- each return period is above 0
-pub fits_returns : (rows : Rows) → AreInRange rows → All (λ (period : ℕ). 1 ≤ period) (return_periods_of rows)
-fits_returns rows range = All-map (λ (period : ℕ). 1 ≤ period) (λ (row : ReturnPeriod). row.return_period) rows.returnperiods (λ k d below. (range.returnperiods k d below).least)

@@ -1,0 +1,175 @@
+//! The events of a run, round by round.
+//! The rules: docs/REFUSALS.md, "Order"; docs/OUTPUTS.md, "Files of a run".
+ghost use Rattle.std.specs.Prelude.{◌≡◌, ◌++◌, ◌≤◌, ◌*◌, ℕ, List, [], All, IfErr, IfOk, IfSome, length};
+ghost use Rattle.std.specs.List.{flat_map};
+ghost use Rattle.kt_files.specs.OutputFiles.{output_name};
+ghost use Rattle.kt_files.specs.Parts.{block_text};
+ghost use Rattle.kt_files.specs.declared.file.OutputFile.{OutputFile};
+ghost use Rattle.kt_load.specs.EventRows.{HasFootprint};
+ghost use Rattle.kt_out.specs.OutputFiles.{CountsOutput};
+ghost use Rattle.kt_outputs.specs.Files.{Makes, files_with};
+ghost use Rattle.kt_stream.specs.Pairs.{IsId};
+ghost use Rattle.kt_tables.specs.Lookups.{event_ids};
+ghost use Rattle.kt_chain.specs.Events.{RunInput};
+ghost use Rattle.kt_chain.specs.Rounds.{IsEventRefusal, IsRunStop, blocks_of, ids_of};
+ghost use Rattle.kt_chain.specs.Runs.{AreGivenRows, Counts, FoldsTo, IsFolded, IsRunOf, RoundGoes, RoundMakes};
+
+use crate::fold::RunFold;
+use crate::part::EventRows;
+use crate::rows::round_rows;
+use crate::texts::RoundTexts;
+use crate::work::RoundWork;
+use kt_ends::{Refusal, ToolStop, write_stop};
+use kt_event::Plan;
+use kt_files::OutputFile;
+use kt_out::{Fault, Inputs, Outputs};
+use kt_outputs::append_texts;
+use kt_part::{RoundStop, fold_blocks};
+use kt_tables::Portfolio;
+use std::alloc::{AllocError, Global};
+use std::marker::Model;
+
+/// The parts of a round.
+const PARTS: usize = 16;
+
+/// What all rounds of a run share. Contracts see the portfolio, the terms, the files and the size of a part.
+#[derive(Drop)]
+pub(crate) struct Run<'a> {
+    pub(crate) alloc: Global,
+    pub(crate) portfolio: &'a Portfolio,
+    pub(crate) plan: &'a Plan,
+    pub(crate) files: &'a [OutputFile],
+    pub(crate) batch: u32,
+}
+
+impl<'a> Model for Run<'a> {
+    ghost use Rattle.kt_chain.specs.Runs.{IsRun, RunShares};
+    ghost use Rattle.kt_event.specs.Plan.{terms_of};
+
+    ghost Value = { RunShares };
+
+    ghost view = { λ r. record { portfolio = r.portfolio.now; terms = terms_of r.plan.now; files = r.files.now; batch = r.batch } };
+
+    ghost invariant = { λ r. IsRun r.portfolio.now r.plan.now r.files.now r.batch };
+}
+
+/// Folds the parts of a round, and answers why one of its events is refused, if one is. An error is want of memory.
+fn fold_round(
+    run: &Run<'_>,
+    fold: &mut RunFold<'_>,
+    given: &[EventRows],
+) -> Result<Option<Refusal>, AllocError>
+    requires events { All (λ one. IsId one.event) given.now }
+    requires few { length given.now ≤ 16 * run.now.batch }
+    requires samples { fold.old.cells.samples ≡ run.now.terms.samples }
+    ensures folds { IfOk result (λ refusal. (input : RunInput) (done : List ℕ) → input.terms ≡ run.now.terms → input.rows ≡ run.now.portfolio.rows → AreGivenRows input given.now → IsFolded input done fold.old → FoldsTo input done (ids_of given.now) refusal fold.new) }
+    ensures why { IfOk result (λ refusal. IfSome refusal IsEventRefusal) }
+    ensures samples { fold.new.cells.samples ≡ fold.old.cells.samples }
+{
+    let count = given.len().div_ceil(run.batch as usize) as u32;
+    let work = RoundWork {
+        alloc: run.alloc,
+        portfolio: run.portfolio,
+        plan: run.plan,
+        given,
+        batch: run.batch,
+    };
+    match fold_blocks(&work, fold, count) {
+        Ok(()) => Ok(None),
+        Err(RoundStop::OutOfMemory) => Err(AllocError),
+        Err(RoundStop::Fold { stop, .. }) => match stop.refusal() {
+            Some(refusal) => Ok(Some(refusal)),
+            None => Err(AllocError),
+        },
+    }
+}
+
+/// Appends the rows of the parts that are kept to the files, and lets the parts go.
+fn write_kept<O: Outputs>(
+    run: &Run<'_>,
+    fold: &mut RunFold<'_>,
+    outputs: &mut O,
+) -> Result<(), Fault>
+    requires samples { fold.old.cells.samples ≡ run.now.terms.samples }
+    ensures made { (text : OutputFile → List ℕ) → fold.old.rows ≡ run.now.portfolio.rows → Makes (files_with output_name text run.now.files) (files_with output_name (λ file. text file ++ flat_map (block_text run.now.terms.samples run.now.portfolio.rows file) (blocks_of fold.old.kept)) run.now.files) (O.state outputs.old) (O.state outputs.new) result }
+    ensures fold { IfOk result (λ _. fold.new ≡ record fold.old { kept = [] }) }
+    ensures samples { fold.new.cells.samples ≡ fold.old.cells.samples }
+    ensures counts { CountsOutput (O.state outputs.old).faults (O.state outputs.new).faults result }
+{
+    let texts = RoundTexts {
+        portfolio: run.portfolio,
+        samples: run.plan.terms().samples,
+        parts: fold.kept(),
+    };
+    let answer = append_texts(run.alloc, outputs, run.files, &texts);
+    match answer {
+        Ok(()) => {
+            fold.let_go();
+            Ok(())
+        }
+        Err(fault) => Err(fault),
+    }
+}
+
+/// One round: the footprint rows of its events are read, its parts are made and folded, and the rows of the events before the
+/// first that is refused are written.
+fn one_round<I: Inputs, O: Outputs>(
+    run: &Run<'_>,
+    fold: &mut RunFold<'_>,
+    events: &[u32],
+    inputs: &mut I,
+    outputs: &mut O,
+) -> Result<(), ToolStop>
+    requires events { All IsId events.now }
+    requires few { length events.now ≤ 16 * run.now.batch }
+    requires file { HasFootprint (I.state inputs.old).held run.now.portfolio.rows.footprint_size }
+    requires samples { fold.old.cells.samples ≡ run.now.terms.samples }
+    ensures events { (input : RunInput) (done : List ℕ) → IsRunOf (I.state inputs.old).held run.now.terms run.now.portfolio.rows input → IsFolded input done fold.old → RoundGoes input done events.now fold.new result }
+    ensures files { (input : RunInput) (done : List ℕ) → IsRunOf (I.state inputs.old).held run.now.terms run.now.portfolio.rows input → IsFolded input done fold.old → RoundMakes input done events.now (O.state outputs.old) (O.state outputs.new) result }
+    ensures counts { Counts (I.state inputs.old) (I.state inputs.new) (O.state outputs.old).faults (O.state outputs.new).faults result }
+    ensures stop { IfErr result IsRunStop }
+    ensures samples { fold.new.cells.samples ≡ fold.old.cells.samples }
+{
+    let given = match round_rows(run.alloc, inputs, run.portfolio, events) {
+        Ok(given) => given,
+        Err(stop) => return Err(stop),
+    };
+    let refusal = match fold_round(run, fold, &given) {
+        Ok(refusal) => refusal,
+        Err(_) => return Err(ToolStop::NoMemory),
+    };
+    if let Err(fault) = write_kept(run, fold, outputs) {
+        return Err(write_stop(fault));
+    }
+    match refusal {
+        Some(why) => Err(ToolStop::Refused(why)),
+        None => Ok(()),
+    }
+}
+
+/// All rounds, one after the other, up to the first event that is refused.
+pub(crate) fn all_rounds<I: Inputs, O: Outputs>(
+    run: &Run<'_>,
+    fold: &mut RunFold<'_>,
+    inputs: &mut I,
+    outputs: &mut O,
+) -> Result<(), ToolStop>
+    requires file { HasFootprint (I.state inputs.old).held run.now.portfolio.rows.footprint_size }
+    requires samples { fold.old.cells.samples ≡ run.now.terms.samples }
+    ensures events { (input : RunInput) → IsRunOf (I.state inputs.old).held run.now.terms run.now.portfolio.rows input → IsFolded input [] fold.old → RoundGoes input [] (event_ids run.now.portfolio.rows) fold.new result }
+    ensures files { (input : RunInput) → IsRunOf (I.state inputs.old).held run.now.terms run.now.portfolio.rows input → IsFolded input [] fold.old → RoundMakes input [] (event_ids run.now.portfolio.rows) (O.state outputs.old) (O.state outputs.new) result }
+    ensures counts { Counts (I.state inputs.old) (I.state inputs.new) (O.state outputs.old).faults (O.state outputs.new).faults result }
+    ensures stop { IfErr result IsRunStop }
+    ensures samples { fold.new.cells.samples ≡ fold.old.cells.samples }
+{
+    let size = PARTS * run.batch as usize;
+    let mut rest = run.portfolio.events();
+    while !rest.is_empty() {
+        let (round, later) = rest.split_at(rest.len().min(size));
+        if let Err(stop) = one_round(run, fold, round, inputs, outputs) {
+            return Err(stop);
+        }
+        rest = later;
+    }
+    Ok(())
+}

@@ -1,0 +1,22 @@
+//! What workers and the fold hold may be sent to threads and shared by them.
+use crate::fold::{FoldStop, RunFold};
+use crate::part::{EventRows, PartBlock};
+use crate::work::RoundWork;
+
+/// Takes what may be sent to threads and shared by them.
+fn is_shared<T: Send + Sync>(_: &T) {}
+
+/// Each type once.
+pub(crate) fn are_shared(
+    work: &RoundWork<'_>,
+    fold: &RunFold<'_>,
+    given: &EventRows,
+    part: &PartBlock,
+    stop: &FoldStop,
+) {
+    is_shared(work);
+    is_shared(fold);
+    is_shared(given);
+    is_shared(part);
+    is_shared(stop);
+}

@@ -1,0 +1,4 @@
+pub mod ListLemmas
+pub mod FileLemmas
+pub mod MidwayLemmas
+pub mod StepLemmas

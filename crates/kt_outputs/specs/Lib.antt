@@ -1,0 +1,6 @@
+pub mod Names
+pub mod Files
+pub mod Texts
+pub mod Midway
+pub mod Growing
+pub mod Composing

@@ -1,0 +1,13 @@
+//! The writer of a list of files: it makes them empty, and appends to each the text that it gains.
+#![tactic(auto)]
+
+mod appending;
+mod creating;
+mod named;
+mod spill;
+mod texts;
+
+pub use appending::append_texts;
+pub use creating::create_files;
+pub use named::Named;
+pub use texts::Texts;

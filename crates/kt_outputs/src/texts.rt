@@ -1,0 +1,21 @@
+//! What a list of files gains: a text for each file, in pieces, so that a long text is not held whole.
+
+use kt_money::{Bytes, OutOfMemory};
+
+/// A text for each file of a list, in pieces, each of which can be made without those before it.
+pub trait Texts<F> {
+    ghost use Rattle.std.specs.Prelude.{◌≡◌, ◌<◌, ◌++◌, ℕ, List, [], length, slice_index_or, OnOk};
+
+    /// The pieces of the text that a file gains, in their order.
+    ghost pieces_of: { Self → F → List (List ℕ) };
+
+    /// How many pieces the text of a file has.
+    fn pieces(&self, file: &F) -> usize
+        ensures { result ≡ length (pieces_of self.now file.now) };
+
+    /// Appends a piece of the text of a file, counted from 0. The error is want of memory; then some of the piece may stand
+    /// behind what was there.
+    fn push(&self, file: &F, piece: usize, out: &mut Bytes) -> Result<(), OutOfMemory>
+        requires { piece < length (pieces_of self.now file.now) }
+        ensures { OnOk result (out.new ≡ out.old ++ slice_index_or (pieces_of self.now file.now) piece []) };
+}

@@ -1,0 +1,10 @@
+//! The public types may be sent to threads and shared by them.
+use crate::table::PeriodTable;
+
+/// Takes what may be sent to threads and shared by them.
+fn is_shared<T: Send + Sync>(_: &T) {}
+
+/// Each public type once.
+pub(crate) fn are_shared(table: &PeriodTable) {
+    is_shared(table);
+}
