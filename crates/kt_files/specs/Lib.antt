@@ -4,3 +4,4 @@ pub mod Parts
 pub mod Endings
 pub mod Sublists
 pub mod DistinctNames
+pub mod Examples

@@ -1,19 +1,39 @@
 //! What comes behind the last event in output files.
 //! The rules: docs/OUTPUTS.md, "Files of a run".
 ghost use Rattle.std.specs.Prelude.{◌≡◌, ◌++◌, List, OnOk};
-ghost use Rattle.kt_curve.specs.Losses.{Added};
+ghost use Rattle.kt_curve.specs.Losses.{Added, all_losses};
+ghost use Rattle.kt_curve.specs.Standing.{StandsFor};
 ghost use Rattle.kt_files.specs.Endings.{AreEndings};
 ghost use Rattle.kt_files.specs.Parts.{end_text, table_end};
+ghost use Rattle.kt_periods.specs.PeriodTables.{table_text};
+ghost use Rattle.kt_tables.specs.Lookups.{return_periods_of};
 
-use crate::curves::{push_averages, push_curve};
 use crate::file::{OutputFile, SetTable};
 use kt_curve::Cells;
 use kt_event::SummarySet;
 use kt_money::{Bytes, OutOfMemory};
 use kt_outputs::Texts;
+use kt_periods::{PeriodTable, append_table};
 use kt_tables::Portfolio;
 
-/// Appends a table of a summary set over all periods; those that grow event by event gain nothing. An error is want of memory.
+/// Appends a table over all periods of a summary set, at the return periods of the portfolio where it is a curve. An error is
+/// want of memory.
+fn push_period_table(
+    out: &mut Bytes,
+    portfolio: &Portfolio,
+    cells: &Cells,
+    set: SummarySet,
+    kind: PeriodTable,
+) -> Result<(), OutOfMemory>
+    ensures { (history : List Added) → StandsFor history cells.now → OnOk result (out.new ≡ out.old ++ table_text kind set.perspective set.set cells.now.periods cells.now.samples (return_periods_of portfolio.now.rows) (all_losses history)) }
+{
+    portfolio.is_valid();
+    let returns = portfolio.return_periods();
+    append_table(out, kind, cells, set.perspective, set.set, returns)
+}
+
+/// Appends what comes at the end of a table of a summary set: the whole table where it is one over all periods. An error is want
+/// of memory.
 fn push_table(
     out: &mut Bytes,
     portfolio: &Portfolio,
@@ -25,8 +45,18 @@ fn push_table(
 {
     match table {
         SetTable::EventLoss | SetTable::PeriodLoss => Ok(()),
-        SetTable::AverageAnnualLoss => push_averages(out, cells, set),
-        SetTable::ExceedanceCurve(curve) => push_curve(out, portfolio, cells, set, curve),
+        SetTable::AverageAnnualLoss => {
+            push_period_table(out, portfolio, cells, set, PeriodTable::AverageAnnualLoss)
+        }
+        SetTable::ExceedanceCurve(curve) => {
+            push_period_table(
+                out,
+                portfolio,
+                cells,
+                set,
+                PeriodTable::ExceedanceCurve(curve),
+            )
+        }
     }
 }
 

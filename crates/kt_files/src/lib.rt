@@ -2,7 +2,6 @@
 #![tactic(auto)]
 
 mod blocks;
-mod curves;
 mod endings;
 mod file;
 mod headings;

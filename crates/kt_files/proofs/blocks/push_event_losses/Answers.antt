@@ -1,5 +1,5 @@
 use Rattle.std.proofs.Common.{rules}
-use Rattle.kt_files.proofs.Fitting.{fits_rows}
+use Rattle.kt_elt.specs.Fitting.{fits_rows}
 use Rattle.kt_files.proofs.blocks.push_event_losses.Goals as goal
 
 pub elt_text-requires : goal.elt_text-requires

@@ -1,5 +1,5 @@
 use Rattle.std.proofs.Common.{rules}
-use Rattle.kt_files.proofs.Fitting.{fits_rows}
+use Rattle.kt_elt.specs.Fitting.{fits_rows}
 use Rattle.kt_files.proofs.blocks.push_period_losses.Goals as goal
 
 pub plt_record_text-requires : goal.plt_record_text-requires
