@@ -29,6 +29,7 @@ fn append_pieces<O: Outputs, F, T: Texts<F>>(
 
     ensures counts { CountsOutput (O.state outputs.old).faults (O.state outputs.new).faults result }
     ensures counted { (O.state outputs.old).faults ≤ (O.state outputs.new).faults }
+    ensures untouched { text_of T.pieces_of texts.now file.now ≡ [] → O.state outputs.new ≡ O.state outputs.old }
 {
     for piece in 0..texts.pieces(file) {
         match texts.push(file, piece, out) {
@@ -58,6 +59,7 @@ fn append_text<O: Outputs, F: Named, T: Texts<F>>(
 
     ensures counts { CountsOutput (O.state outputs.old).faults (O.state outputs.new).faults result }
     ensures counted { (O.state outputs.old).faults ≤ (O.state outputs.new).faults }
+    ensures untouched { text_of T.pieces_of texts.now file.now ≡ [] → O.state outputs.new ≡ O.state outputs.old }
 {
     match name_of(alloc, file) {
         Ok(name) => append_pieces(outputs, name.as_slice(), file, texts, out),
@@ -81,6 +83,7 @@ pub fn append_texts<O: Outputs, F: Named, T: Texts<F>>(
 
     ensures counts { CountsOutput (O.state outputs.old).faults (O.state outputs.new).faults result }
     ensures counted { (O.state outputs.old).faults ≤ (O.state outputs.new).faults }
+    ensures untouched { ((file : F) → text_of T.pieces_of texts.now file ≡ []) → O.state outputs.new ≡ O.state outputs.old }
 {
     let mut out = Bytes::new(alloc);
     for file in files {

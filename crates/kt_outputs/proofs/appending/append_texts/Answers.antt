@@ -14,5 +14,6 @@ loop-file-preserved g c =
     record {
       made = λ text. append_more g.F.Named.name c.args.files.now c.requires.distinct c.loop-file.file-index c.file-item.result within c.file-item.is _ _ _ _ text (text_of g.T.Texts.pieces_of c.args.texts.now) (c.loop-file.invariant.made text) c.in-Ok.ensures.moved;
       none_pending = c.in-Ok.ensures.none_pending;
+      untouched = λ none. c.in-Ok.ensures.untouched (none c.file-item.result) ∙ c.loop-file.invariant.untouched none;
       counted = c.in-Ok.ensures.counts ∙ c.loop-file.invariant.counted;
     }
