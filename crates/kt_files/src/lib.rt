@@ -16,4 +16,3 @@ pub use endings::Endings;
 pub use file::{OutputFile, SetTable};
 pub use headings::Headings;
 pub use listing::output_files;
-pub use sets::run_sets;

@@ -62,7 +62,7 @@ fn push_output_sets(
 
 /// The summary sets of a run up to a last perspective: perspective by perspective, and by rising set. An error is want of
 /// memory.
-pub fn run_sets(
+pub(crate) fn run_sets(
     alloc: Global,
     portfolio: &Portfolio,
     last: Perspective,
