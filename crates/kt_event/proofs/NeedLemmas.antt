@@ -1,5 +1,5 @@
 -- The tables that a run needs are those on which its stages stand.
-use Rattle.std.proofs.Common.{◌≡◌, ◌<◌, ◌≤◌, ℕ, zero, suc, true, refl, subst, sym, arith}
+use Rattle.std.proofs.Common.{◌≡◌, ◌⊎◌, ◌<◌, ◌≤◌, ℕ, zero, suc, true, refl, ap, inl, inr, subst, sym, arith}
 use Rattle.kt_keys.specs.Refusals.{is_loaded}
 use Rattle.kt_keys.specs.declared.need.Need.{Need}
 use Rattle.kt_rec.specs.declared.perspective.Perspective.{Perspective}
@@ -145,3 +145,8 @@ module _ (terms : Terms) (need : Need) (is : need ≡ chain_need terms) (are : A
   loads_stage net stage some most =
       subst (λ (one : Need). is_loaded one stage table.FmProgramme ≡ true) (sym is)
       (subst (λ (last : Perspective). is_loaded (need_up_to terms.samples terms.rule last terms.stages) stage table.FmProgramme ≡ true) (sym net) (stage_programme terms.samples terms.rule terms.stages are.stages stage some most))
+
+  -- where the last perspective is one of outputs, there are insured losses
+  pub insured_last : (terms.last ≡ Il) ⊎ (terms.last ≡ Ri) → has_insured terms.last ≡ true
+  insured_last (inl il) = ap has_insured il
+  insured_last (inr ri) = ap has_insured ri

@@ -13,8 +13,8 @@ use Rattle.kt_tables.specs.Lookups.{has_summary_set}
 
 -- a number more
 range-more : (a n : ℕ) → range_with_len a (suc n) ≡ range_with_len a n ++ (a + n) ∷ []
-range-more a zero = ap (λ (x : ℕ). x ∷ []) (omega arith)
-range-more a (suc n) = ap (λ (xs : List ℕ). a ∷ xs) (range-more (a + 1) n ∙ ap (λ (x : ℕ). range_with_len (a + 1) n ++ x ∷ []) (omega arith))
+range-more a zero = let same : a ≡ a + 0 = omega arith in ap (λ (x : ℕ). x ∷ []) same
+range-more a (suc n) = let same : a + 1 + n ≡ a + suc n = omega arith in ap (λ (xs : List ℕ). a ∷ xs) (range-more (a + 1) n ∙ ap (λ (x : ℕ). range_with_len (a + 1) n ++ x ∷ []) same)
 
 module _ (rows : Rows) (perspective : Perspective) (made : SummarySet → Summaries) where
   -- what is made of the first so many sets
@@ -24,7 +24,9 @@ module _ (rows : Rows) (perspective : Perspective) (made : SummarySet → Summar
   -- a set more
   one_more : (place : ℕ) (there : Bool) → has_summary_set perspective rows (place + 1) ≡ there → upto (place + 1) ≡ upto place ++ set_if there made (summary_set perspective (place + 1))
   one_more place there is =
-      let numbers : range_with_len 1 (place + 1) ≡ range_with_len 1 place ++ (place + 1) ∷ [] = ap (range_with_len 1) (omega arith) ∙ range-more 1 place ∙ ap (λ (x : ℕ). range_with_len 1 place ++ x ∷ []) (omega arith) in
+      let next : place + 1 ≡ suc place = omega arith in
+      let last_number : 1 + place ≡ place + 1 = omega arith in
+      let numbers : range_with_len 1 (place + 1) ≡ range_with_len 1 place ++ (place + 1) ∷ [] = ap (range_with_len 1) next ∙ range-more 1 place ∙ ap (λ (x : ℕ). range_with_len 1 place ++ x ∷ []) last_number in
       ap (λ (xs : List ℕ). map made (map (summary_set perspective) (filter (has_summary_set perspective rows) xs))) numbers
       ∙ ap (λ (xs : List ℕ). map made (map (summary_set perspective) xs)) (filter-append (has_summary_set perspective rows) (range_with_len 1 place) ((place + 1) ∷ []))
       ∙ ap (λ (xs : List SummarySet). map made xs) (map-append (summary_set perspective) (filter (has_summary_set perspective rows) (range_with_len 1 place)) (filter (has_summary_set perspective rows) ((place + 1) ∷ [])))

@@ -1,5 +1,5 @@
 -- The structures of stages, one more at a time.
-use Rattle.std.proofs.Common.{◌≡◌, ℕ, zero, suc, ◌+◌, false, List, [], ◌∷◌, ◌++◌, map, refl, sym, ap, subst, arith}
+use Rattle.std.proofs.Common.{◌≡◌, ℕ, zero, suc, ◌+◌, true, false, List, [], ◌∷◌, ◌++◌, map, refl, sym, ap, subst, arith}
 use Rattle.std.specs.List.{AllByRecursion, range_with_len}
 use Rattle.kt_event.specs.Losses.{stage_trees}
 use Rattle.kt_event.specs.Plan.{kept_stages}
@@ -13,14 +13,16 @@ use Rattle.kt_tree.specs.Tree.{Tree}
 
 -- a stage more behind those from a number on
 stage_behind : (tree : ℕ → Tree) (first many : ℕ) (stages : List Structure) (stage : Structure) → AreStages (map tree (range_with_len first many)) stages → IsStage (tree (first + many)) stage → AreStages (map tree (range_with_len first (suc many))) (stages ++ stage ∷ [])
-stage_behind tree first zero [] stage are is = (subst (λ (n : ℕ). IsStage (tree n) stage) (omega arith) is, tt)
+stage_behind tree first zero [] stage are is = let same : first + 0 ≡ first = omega arith in (subst (λ (n : ℕ). IsStage (tree n) stage) same is, tt)
 stage_behind tree first zero (one ∷ stages) stage are is = absurd are
 stage_behind tree first (suc many) [] stage are is = absurd are
-stage_behind tree first (suc many) (one ∷ stages) stage are is = (are.0, stage_behind tree (first + 1) many stages stage are.1 (subst (λ (n : ℕ). IsStage (tree n) stage) (omega arith) is))
+stage_behind tree first (suc many) (one ∷ stages) stage are is = let same : first + suc many ≡ first + 1 + many = omega arith in (are.0, stage_behind tree (first + 1) many stages stage are.1 (subst (λ (n : ℕ). IsStage (tree n) stage) same is))
 
 pub stage_more : (tree : ℕ → Tree) (many : ℕ) (stages : List Structure) (stage : Structure) → AreStages (map tree (range_with_len 1 many)) stages → IsStage (tree (many + 1)) stage → AreStages (map tree (range_with_len 1 (many + 1))) (stages ++ stage ∷ [])
 stage_more tree many stages stage are is =
-    subst (λ (n : ℕ). AreStages (map tree (range_with_len 1 n)) (stages ++ stage ∷ [])) (omega arith) (stage_behind tree 1 many stages stage are (subst (λ (n : ℕ). IsStage (tree n) stage) (omega arith) is))
+    let next : many + 1 ≡ 1 + many = omega arith in
+    let one : suc many ≡ many + 1 = omega arith in
+    subst (λ (n : ℕ). AreStages (map tree (range_with_len 1 n)) (stages ++ stage ∷ [])) one (stage_behind tree 1 many stages stage are (subst (λ (n : ℕ). IsStage (tree n) stage) next is))
 
 -- stages of trees can be taken one after the other
 pub have_stages : (trees : List Tree) (stages : List Structure) → AreStages trees stages → AllByRecursion HasStage stages
@@ -34,3 +36,9 @@ pub no_stages : (rows : Rows) (last : Perspective) (stages : ℕ) → has_net la
 no_stages rows Gul stages none = tt
 no_stages rows Il stages none = tt
 no_stages rows Ri stages none = cc
+
+-- the stages of net losses
+pub net_stages : (rows : Rows) (last : Perspective) (stages : ℕ) (structures : List Structure) → has_net last ≡ true → AreStages (stage_trees rows (kept_stages last stages)) structures → AreStages (stage_trees rows stages) structures
+net_stages rows Gul stages structures net are = cc
+net_stages rows Il stages structures net are = cc
+net_stages rows Ri stages structures net are = are

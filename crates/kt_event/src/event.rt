@@ -158,6 +158,31 @@ fn put_insured_summaries(
     Ok(insured.layers)
 }
 
+/// Puts the summaries of the losses of outputs behind others, where the run has insured losses, and answers the sums of the layers.
+fn put_output_summaries(
+    alloc: Global,
+    portfolio: &Portfolio,
+    plan: &Plan,
+    losses: &[LossRecord],
+    made: &mut Records<Summaries>,
+) -> Result<Records<LayerSum>, AllocError>
+    requires plan { IsPlan portfolio.now plan.now }
+    requires losses { All (IsLoss (terms_of plan.now).samples) losses.now }
+    requires within { (sidx : ℤ) → run_loss sidx losses.now ≤ 200000000000000 }
+    requires good { AreSummaries (terms_of plan.now).samples made.old }
+    ensures layers { IfOk result (λ layers. layers ≡ layers_up_to (terms_of plan.now).last (terms_of plan.now) portfolio.now.rows losses.now) }
+    ensures ok { OnOk result (made.new ≡ made.old ++ map (set_summaries (terms_of plan.now) portfolio.now.rows losses.now) (flat_map (sets_of portfolio.now.rows) (output_perspectives (terms_of plan.now).last))) }
+    ensures good { OnOk result (AreSummaries (terms_of plan.now).samples made.new) }
+{
+    match &plan.base {
+        Some(base) => {
+            let layers = put_insured_summaries(alloc, portfolio, plan, base, losses, made)?;
+            Ok(layers)
+        }
+        None => Ok(Records::new(alloc)),
+    }
+}
+
 /// What an event gives, by its ground-up losses.
 fn block_of(
     alloc: Global,
@@ -181,10 +206,7 @@ fn block_of(
         losses,
         &mut summaries,
     )?;
-    let layers = match &plan.base {
-        Some(base) => put_insured_summaries(alloc, portfolio, plan, base, losses, &mut summaries)?,
-        None => Records::new(alloc),
-    };
+    let layers = put_output_summaries(alloc, portfolio, plan, losses, &mut summaries)?;
     Ok(EventBlock {
         event,
         summaries,
