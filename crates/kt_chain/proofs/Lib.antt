@@ -1,0 +1,9 @@
+mod ListLemmas
+mod AddedLemmas
+mod PassLemmas
+mod PartLemmas
+mod WorkLemmas
+mod FoldLemmas
+mod TextLemmas
+mod TakeLemmas
+mod RoundLemmas
