@@ -7,3 +7,4 @@ mod FoldLemmas
 mod TextLemmas
 mod TakeLemmas
 mod RoundLemmas
+mod StepLemmas

@@ -120,10 +120,10 @@ module _ (start : FoldStart) (parts : List PartBlock) (part : PartBlock) where
   -- ---- a fold that is seen as its fields
 
   module _ (old : FoldState) (rows : Rows) (cells_before cells : KeptCells) (kept : List PartBlock) (blocks : List EventBlock) (view : record { rows = rows; cells = cells_before; kept = kept } ≡ old) (blocks_are : blocks ≡ part.blocks) (samples_are : cells.samples ≡ cells_before.samples) (stands : StandsBehind start old parts) where
-    seen : FoldState
+    abbrev pub seen : FoldState
     seen = record { rows = rows; cells = cells_before; kept = kept }
 
-    after : FoldState
+    abbrev pub after : FoldState
     after = record { rows = rows; cells = cells; kept = kept }
 
     stands_seen : StandsBehind start seen parts
