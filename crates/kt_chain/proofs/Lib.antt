@@ -8,3 +8,5 @@ mod TextLemmas
 mod TakeLemmas
 mod RoundLemmas
 mod StepLemmas
+mod EndLemmas
+mod WorldLemmas

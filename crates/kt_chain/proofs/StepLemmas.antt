@@ -1,6 +1,7 @@
 -- What a round makes of the output files, and what rounds do one behind the other.
-use Rattle.std.proofs.Common.{◌≡◌, ◌<◌, ◌≤◌, ℕ, zero, suc, List, [], ◌∷◌, ◌++◌, length, map, get_or, slice_index_or, All, Option, Some, None, Result, Ok, Err, refl, sym, ap, subst, ◌∙◌, append_assoc, append-nil}
+use Rattle.std.proofs.Common.{◌≡◌, ◌<◌, ◌≤◌, ℕ, zero, suc, List, [], ◌∷◌, ◌++◌, length, map, nat_eq, true, get_or, slice_index_or, All, Option, Some, None, Result, Ok, Err, refl, sym, ap, subst, ◌∙◌, append_assoc, append-nil, arith}
 use Rattle.std.specs.List.{flat_map}
+use Rattle.std.proofs.lemmas.Bool.{eqb-true}
 use Rattle.std.proofs.lemmas.Grind.{flat_map-append}
 use Rattle.std.proofs.lemmas.List.{get_or-map, length-map}
 use Rattle.kt_curve.specs.Losses.{Added}
@@ -52,12 +53,16 @@ events_are_ids rows ranges k d below =
     let many : length (event_ids rows) ≡ length rows.events = length-map rows.events (λ (row : Event). row.event_id) in
     let inside : k < length rows.events = subst (λ (n : ℕ). k < n) many below in
     let at : get_or (event_ids rows) k d ≡ (get_or rows.events k none).event_id = get_or-map (λ (row : Event). row.event_id) rows.events k none d inside in
-    subst IsId (sym at) (ranges.events k none inside)
+    let id = ranges.events k none inside in
+    subst IsId (sym at) (id.least, id.most)
 
 -- a list of no length
-pub none_left : (rest : List ℕ) → length rest ≡ 0 → rest ≡ []
-none_left [] none = refl
-none_left (event ∷ later) none = cc
+pub none_left : (rest : List ℕ) → nat_eq (length rest) 0 ≡ true → rest ≡ []
+none_left rest none = by rest (eqb-true (length rest) 0 none)
+  where
+    by : (left : List ℕ) → length left ≡ 0 → left ≡ []
+    by [] is = refl
+    by (event ∷ later) is = absurd (omega (arith, is))
 
 -- ---- the run of an input
 

@@ -41,7 +41,7 @@ pub kept_made : (inside files : List OutputFile) → inside ≡ files → (sampl
     → Makes (files_with output_name text inside) (files_with output_name (λ file. text file ++ joined (map (part_text (record { samples = samples; rows = rows; parts = parts }) file) parts)) inside) before after answer
     → Makes (files_with output_name text files) (files_with output_name (λ file. text file ++ flat_map (block_text samples_are rows_are file) (blocks_of kept)) files) before after answer
 kept_made inside files files_are samples samples_are same_samples rows rows_are same_rows parts kept same_parts before after answer text made =
-    let made_of = record { samples = samples; rows = rows; parts = parts } in
+    let made_of : PartRows = record { samples = samples; rows = rows; parts = parts } in
     let longer : OutputFile → List ℕ = λ file. text file ++ joined (map (part_text made_of file) parts) in
     let wanted : OutputFile → List ℕ = λ file. text file ++ flat_map (block_text samples_are rows_are file) (blocks_of kept) in
     let same : (file : OutputFile) → longer file ≡ wanted file = λ file.

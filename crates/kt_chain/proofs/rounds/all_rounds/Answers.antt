@@ -65,10 +65,8 @@ loop-rest-preserved g c = record {
 
 pub returns-clause-events : goal.returns-clause-events
 returns-clause-events g c = λ input is folded.
-    let none : length c.loop-rest.rest.now ≡ 0 = ? in
-    (all_gone input (event_ids c.args.run.now.portfolio.rows) c.loop-rest.fold (g.O.Outputs.state c.args.outputs.now) (g.O.Outputs.state c.loop-rest.outputs) c.loop-rest.rest.now (none_left c.loop-rest.rest.now none) (c.loop-rest.invariant.going input is folded)).0
+    (all_gone input (event_ids c.args.run.now.portfolio.rows) c.loop-rest.fold (g.O.Outputs.state c.args.outputs.now) (g.O.Outputs.state c.loop-rest.outputs) c.loop-rest.rest.now (none_left c.loop-rest.rest.now (sym c.is_empty.ensures ∙ c.loop-rest-test.false)) (c.loop-rest.invariant.going input is folded)).0
 
 pub returns-clause-files : goal.returns-clause-files
 returns-clause-files g c = λ input is folded.
-    let none : length c.loop-rest.rest.now ≡ 0 = ? in
-    (all_gone input (event_ids c.args.run.now.portfolio.rows) c.loop-rest.fold (g.O.Outputs.state c.args.outputs.now) (g.O.Outputs.state c.loop-rest.outputs) c.loop-rest.rest.now (none_left c.loop-rest.rest.now none) (c.loop-rest.invariant.going input is folded)).1
+    (all_gone input (event_ids c.args.run.now.portfolio.rows) c.loop-rest.fold (g.O.Outputs.state c.args.outputs.now) (g.O.Outputs.state c.loop-rest.outputs) c.loop-rest.rest.now (none_left c.loop-rest.rest.now (sym c.is_empty.ensures ∙ c.loop-rest-test.false)) (c.loop-rest.invariant.going input is folded)).1
