@@ -1,15 +1,12 @@
 -- How a run ends, by what its steps have made.
-use Rattle.std.proofs.Common.{◌≡◌, ◌⊎◌, ℕ, true, List, [], ◌∷◌, ◌++◌, length, map, Option, Some, None, Result, Ok, Err, IfSome, IsSomeAnd, refl, sym, ap, subst, ◌∙◌, append_assoc, append-nil, inl, inr}
+use Rattle.std.proofs.Common.{◌≡◌, ℕ, List, [], ◌++◌, Option, Some, None, Result, Ok, Err, IfSome, IsSomeAnd, refl, sym, ap, subst, ◌∙◌, append_assoc, append-nil}
 use Rattle.std.specs.List.{flat_map}
-use Rattle.std.specs.Option.{option_or, unwrap_or}
 use Rattle.std.proofs.lemmas.Grind.{flat_map-append}
 use Rattle.kt_curve.specs.Losses.{Added}
-use Rattle.kt_curve.specs.Standing.{KeptCells, StandsFor}
 use Rattle.kt_ends.specs.Ending.{AllMade, IsFront, PartlyMade}
 use Rattle.kt_ends.specs.Outcome.{Outcome}
 use Rattle.kt_ends.specs.Stops.{fault_stop}
 use Rattle.kt_ends.specs.declared.status.Refusal.{Refusal}
-use Rattle.kt_ends.specs.declared.status.Status.{Status}
 use Rattle.kt_ends.specs.declared.status.Status.TheVariants as status
 use Rattle.kt_ends.specs.declared.tool_stop.ToolStop.{ToolStop}
 use Rattle.kt_ends.specs.declared.tool_stop.ToolStop.TheVariants.{Refused, ReadFault, WriteFault, NoMemory}
@@ -24,7 +21,7 @@ use Rattle.kt_out.specs.declared.fault.Fault.{Fault}
 use Rattle.kt_out.specs.declared.fault.Fault.TheVariants.{Failed, OutOfMemory}
 use Rattle.kt_outputs.specs.Composing.{made_from_nothing, makes_then, stops_as, stops_grown}
 use Rattle.kt_outputs.specs.Files.{Makes, files_with}
-use Rattle.kt_outputs.specs.Growing.{front_of_front, front_of_itself, front_of_longer}
+use Rattle.kt_outputs.specs.Growing.{front_of_front, front_of_longer}
 use Rattle.kt_rec.specs.Rows.{Rows}
 use Rattle.kt_tables.specs.Lookups.{event_ids}
 use Rattle.kt_chain.specs.Events.{RunInput, all_added}
@@ -32,8 +29,7 @@ use Rattle.kt_chain.specs.Files.{event_text, files_upto, files_whole, text_upto,
 use Rattle.kt_chain.specs.Outcome.{chain_outcome, event_refusal, reached_outcome, run_reaches}
 use Rattle.kt_chain.specs.Reached.{AreDone, Passes, Reached, StopsAt, all_reached, done_reached, earlier_are_done, stop_reached}
 use Rattle.kt_chain.specs.Rounds.{FoldState}
-use Rattle.kt_chain.specs.Runs.{GoesOn, IsFolded, IsRunOf, IsStopped, MakesRefused, MakesSome, RoundGoes, RoundMakes, RunMakes, RunSays, RunShares}
-use Rattle.kt_chain.proofs.StepLemmas.{ended}
+use Rattle.kt_chain.specs.Runs.{GoesOn, IsFolded, IsRunOf, MakesSome, RoundGoes, RoundMakes, RunMakes, RunSays, RunShares}
 use Rattle.kt_chain.proofs.TextLemmas.{same_files}
 
 module _ (run : RunInput) where

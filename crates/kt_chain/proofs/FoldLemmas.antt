@@ -1,6 +1,6 @@
 -- Records are added to cells, one after the other.
-use Rattle.std.proofs.Common.{◌≡◌, ◌⊎◌, ◌<◌, ◌≤◌, ◌+◌, ℕ, List, [], ◌∷◌, ◌++◌, length, map, take, drop, slice_index_or, Option, Some, None, Result, Ok, Err, refl, sym, ap, subst, ◌∙◌, append_assoc, append-nil, inl, inr, arith}
-use Rattle.std.specs.List.{AllByRecursion, flat_map}
+use Rattle.std.proofs.Common.{◌≡◌, ◌⊎◌, ◌<◌, ◌+◌, ℕ, List, [], ◌∷◌, ◌++◌, length, map, take, drop, slice_index_or, Option, Some, None, Ok, Err, refl, sym, ap, subst, ◌∙◌, append_assoc, append-nil, inl, inr}
+use Rattle.std.specs.List.{flat_map}
 use Rattle.std.specs.Option.{option_or}
 use Rattle.std.proofs.lemmas.Grind.{flat_map-append}
 use Rattle.kt_curve.specs.Journal.{Adds}
@@ -9,18 +9,14 @@ use Rattle.kt_curve.specs.Standing.{KeptCells, StandsFor, first_stop}
 use Rattle.kt_curve.specs.declared.cell.CellStop.{CellStop}
 use Rattle.kt_curve.specs.declared.cell.CellStop.TheVariants as cell_stop
 use Rattle.kt_ends.specs.declared.status.Refusal.{Refusal}
-use Rattle.kt_ends.specs.declared.status.Refusal.TheVariants as refusal
-use Rattle.kt_event.specs.declared.block.EventBlock.{EventBlock}
 use Rattle.kt_event.specs.declared.block.Summaries.{Summaries}
-use Rattle.kt_periods.specs.Adding.{cell_refusal, first_refusal, record_refusal, refusal_of}
+use Rattle.kt_periods.specs.Adding.{cell_refusal, first_refusal, refusal_of}
 use Rattle.kt_rec.specs.Rows.{Rows}
 use Rattle.kt_rec.specs.declared.periods.Occurrence.{Occurrence}
 use Rattle.kt_stream.specs.declared.entry.SummaryRecord.{SummaryRecord}
 use Rattle.kt_tables.specs.Lookups.{occurrences_of}
-use Rattle.kt_chain.specs.Events.{block_added, blocks_added, record_added, summaries_added}
-use Rattle.kt_chain.specs.Rounds.{AddsAll, StopsAdding, StopsAtBlock, fold_refusal}
-use Rattle.kt_chain.specs.declared.fold.FoldStop.{FoldStop}
-use Rattle.kt_chain.specs.declared.fold.FoldStop.TheVariants as fold_stop
+use Rattle.kt_chain.specs.Events.{record_added, summaries_added}
+use Rattle.kt_chain.specs.Rounds.{StopsAdding}
 use Rattle.kt_chain.proofs.ListLemmas.{around, one_taken}
 use Rattle.kt_chain.proofs.AddedLemmas.{none_of_both, some_of_first, some_of_second}
 

@@ -4,9 +4,8 @@ use Rattle.std.specs.List.{AllByRecursion}
 use Rattle.std.proofs.Math.Nat.{div-add-mod, mod-lt}
 use Rattle.std.proofs.lemmas.List.{map-append, take-append-drop}
 use Rattle.kt_curve.specs.Losses.{Added}
-use Rattle.kt_curve.specs.Standing.{KeptCells, StandsFor}
+use Rattle.kt_curve.specs.Standing.{StandsFor}
 use Rattle.kt_ends.specs.declared.status.Refusal.{Refusal}
-use Rattle.kt_ends.specs.declared.status.Refusal.TheVariants as refusal
 use Rattle.kt_event.specs.declared.block.EventBlock.{EventBlock}
 use Rattle.kt_event.specs.declared.terms.Terms.{Terms}
 use Rattle.kt_part.specs.Folding.{AreGiven, Folded, StoppedAt}
@@ -15,17 +14,17 @@ use Rattle.kt_rec.specs.FootRows.{first_refused_row}
 use Rattle.kt_rec.specs.Rows.{Rows}
 use Rattle.kt_rec.specs.declared.hazard.FootRow.{FootRow}
 use Rattle.kt_tree.specs.Sums.{each_append}
-use Rattle.kt_chain.specs.Events.{RunInput, all_added, block_added, block_of, blocks_added, event_added, foot_of}
+use Rattle.kt_chain.specs.Events.{RunInput, all_added, block_added, block_of, blocks_added, event_added}
 use Rattle.kt_chain.specs.Outcome.{event_refusal, row_refusal}
 use Rattle.kt_chain.specs.Reached.{Passes, StopsAt}
-use Rattle.kt_chain.specs.Rounds.{AreTaken, FoldStart, FoldState, HasRows, HasStopped, IsPart, IsReason, RoundParts, StandsBehind, StopsBehind, StopsBy, blocks_of, fold_refusal, given_block, ids_of, part_count, part_events, part_of, with_blocks}
+use Rattle.kt_chain.specs.Rounds.{FoldStart, FoldState, HasRows, HasStopped, IsPart, IsReason, RoundParts, StandsBehind, StopsBehind, StopsBy, blocks_of, fold_refusal, given_block, ids_of, part_count, part_events, part_of, with_blocks}
 use Rattle.kt_chain.specs.Runs.{AreGivenRows, FoldsTo, IsFolded}
 use Rattle.kt_chain.specs.declared.fold.FoldStop.{FoldStop}
 use Rattle.kt_chain.specs.declared.part.EventRows.{EventRows}
 use Rattle.kt_chain.specs.declared.part.PartBlock.{PartBlock}
 use Rattle.kt_chain.specs.declared.part.RefusedRow.{RefusedRow}
 use Rattle.kt_chain.proofs.AddedLemmas.{added_of_blocks, added_of_both}
-use Rattle.kt_chain.proofs.PartLemmas.{IsBehind, IsClearRows, IsSplit, events_from, row_is, split_part, whole_parts}
+use Rattle.kt_chain.proofs.PartLemmas.{IsBehind, IsClearRows, events_from, split_part, whole_parts}
 use Rattle.kt_chain.proofs.PassLemmas.{block_by_rows, blocks_by_rows, clear_event, clear_events, events_pass, stops_by_records, stops_by_rows}
 use Rattle.kt_chain.proofs.TakeLemmas.{blocks_more}
 

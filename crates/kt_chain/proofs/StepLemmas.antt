@@ -1,11 +1,9 @@
 -- What a round makes of the output files, and what rounds do one behind the other.
-use Rattle.std.proofs.Common.{◌≡◌, ◌<◌, ◌≤◌, ℕ, zero, suc, List, [], ◌∷◌, ◌++◌, length, map, nat_eq, true, get_or, slice_index_or, All, Option, Some, None, Result, Ok, Err, refl, sym, ap, subst, ◌∙◌, append_assoc, append-nil, arith}
+use Rattle.std.proofs.Common.{◌≡◌, ◌<◌, ℕ, List, [], ◌∷◌, ◌++◌, length, map, nat_eq, true, get_or, All, Option, Some, None, Result, Ok, Err, refl, sym, ap, subst, ◌∙◌, append_assoc, append-nil, arith}
 use Rattle.std.specs.List.{flat_map}
 use Rattle.std.proofs.lemmas.Bool.{eqb-true}
 use Rattle.std.proofs.lemmas.Grind.{flat_map-append}
 use Rattle.std.proofs.lemmas.List.{get_or-map, length-map}
-use Rattle.kt_curve.specs.Losses.{Added}
-use Rattle.kt_curve.specs.Standing.{KeptCells, StandsFor}
 use Rattle.kt_ends.specs.Stops.{fault_stop}
 use Rattle.kt_ends.specs.declared.status.Refusal.{Refusal}
 use Rattle.kt_ends.specs.declared.tool_stop.ToolStop.{ToolStop}
@@ -27,13 +25,13 @@ use Rattle.kt_rec.specs.Rows.{Rows}
 use Rattle.kt_rec.specs.declared.hazard.Event.{Event}
 use Rattle.kt_stream.specs.Pairs.{IsId}
 use Rattle.kt_tables.specs.Lookups.{event_ids}
-use Rattle.kt_chain.specs.Events.{RunInput, all_added, block_of}
+use Rattle.kt_chain.specs.Events.{RunInput, block_of}
 use Rattle.kt_chain.specs.Files.{event_text, files_upto, text_upto}
 use Rattle.kt_chain.specs.Outcome.{event_refusal}
 use Rattle.kt_chain.specs.Reached.{AreDone, Passes, StopsAt, both_pass, done_behind, done_with_more, earlier_are_done, none_passes, passed_are_done, reached_are_done, stops_with_more}
 use Rattle.kt_chain.specs.Reached.{stops_behind as stops_later}
 use Rattle.kt_chain.specs.Rounds.{FoldState, ids_of}
-use Rattle.kt_chain.specs.Runs.{AreGivenRows, CountsRead, FoldEnds, FoldsTo, GoesOn, IsFolded, IsRunOf, IsStopped, MakesRefused, MakesSome, RoundGoes, RoundMakes, RunShares}
+use Rattle.kt_chain.specs.Runs.{AreGivenRows, CountsRead, FoldEnds, FoldsTo, GoesOn, IsFolded, IsRunOf, MakesSome, RoundGoes, RoundMakes, RunShares}
 use Rattle.kt_chain.specs.declared.part.EventRows.{EventRows}
 use Rattle.kt_chain.proofs.TextLemmas.{same_files}
 

@@ -1,6 +1,5 @@
 -- What taking a part does to a fold.
-use Rattle.std.proofs.Common.{◌≡◌, ◌⊎◌, ◌≤◌, ℕ, List, [], ◌∷◌, ◌++◌, take, drop, Option, Some, None, Result, Ok, Err, refl, sym, ap, subst, ◌∙◌, append-nil, append_assoc, inl, inr}
-use Rattle.std.specs.List.{AllByRecursion, flat_map}
+use Rattle.std.proofs.Common.{◌≡◌, List, [], ◌∷◌, ◌++◌, take, Option, Some, None, Result, Ok, Err, refl, sym, ap, subst, ◌∙◌, append-nil, append_assoc, inl, inr}
 use Rattle.std.proofs.lemmas.Grind.{flat_map-append}
 use Rattle.std.proofs.lemmas.List.{take-append-drop}
 use Rattle.kt_curve.specs.Losses.{Added}
@@ -14,7 +13,7 @@ use Rattle.kt_rec.specs.Rows.{Rows}
 use Rattle.kt_tree.specs.Sums.{each_append}
 use Rattle.kt_chain.specs.Events.{block_added, blocks_added}
 use Rattle.kt_chain.specs.FoldKeeps.{KeepsFront, KeepsPart, KeepsWhole, with_part}
-use Rattle.kt_chain.specs.Rounds.{AddsBlocks, AreTaken, FoldStart, FoldState, HasStopped, IsReason, IsWhole, StandsBehind, StopsAdding, StopsAtBlock, StopsBehind, StopsBy, blocks_of, fold_refusal, with_blocks}
+use Rattle.kt_chain.specs.Rounds.{AddsBlocks, FoldStart, FoldState, IsReason, IsWhole, StandsBehind, StopsAdding, StopsAtBlock, StopsBehind, StopsBy, blocks_of, fold_refusal, with_blocks}
 use Rattle.kt_chain.specs.declared.fold.BlockStop.{BlockStop}
 use Rattle.kt_chain.specs.declared.fold.FoldStop.{FoldStop}
 use Rattle.kt_chain.specs.declared.fold.FoldStop.TheVariants as stop

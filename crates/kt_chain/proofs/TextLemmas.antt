@@ -4,7 +4,6 @@ use Rattle.std.specs.List.{flat_map}
 use Rattle.std.proofs.lemmas.Grind.{flat_map-append}
 use Rattle.kt_curve.specs.Losses.{Added}
 use Rattle.kt_curve.specs.Standing.{KeptCells}
-use Rattle.kt_event.specs.declared.block.EventBlock.{EventBlock}
 use Rattle.kt_files.specs.Endings.{AreEndings}
 use Rattle.kt_files.specs.OutputFiles.{output_name}
 use Rattle.kt_files.specs.Parts.{block_text, end_text, head_text}
@@ -15,7 +14,7 @@ use Rattle.kt_out.specs.declared.fault.Fault.{Fault}
 use Rattle.kt_outputs.specs.Files.{Makes, file_with, files_with}
 use Rattle.kt_outputs.specs.Texts.{joined, no_text}
 use Rattle.kt_rec.specs.Rows.{Rows}
-use Rattle.kt_chain.specs.RoundRows.{PartRows, part_text, pieces_of_parts}
+use Rattle.kt_chain.specs.RoundRows.{PartRows, part_text}
 use Rattle.kt_chain.specs.Rounds.{blocks_of}
 use Rattle.kt_chain.specs.declared.part.PartBlock.{PartBlock}
 

@@ -1,6 +1,6 @@
 -- The blocks of a part, one more at a time.
-use Rattle.std.proofs.Common.{◌≡◌, ◌⊎◌, ℕ, List, [], ◌∷◌, ◌++◌, Option, Some, None, Result, Ok, Err, refl, sym, ap, subst, ◌∙◌, append_assoc, inl, inr}
-use Rattle.kt_event.specs.Losses.{block_unless, event_block_of, event_result}
+use Rattle.std.proofs.Common.{◌≡◌, ◌⊎◌, ℕ, List, [], ◌∷◌, ◌++◌, Option, Some, None, Result, Ok, Err, refl, sym, ap, ◌∙◌, append_assoc, inl, inr}
+use Rattle.kt_event.specs.Losses.{block_unless, event_result}
 use Rattle.kt_event.specs.Plan.{IsOrMemory}
 use Rattle.kt_event.specs.declared.block.EventBlock.{EventBlock}
 use Rattle.kt_event.specs.declared.terms.Terms.{Terms}

@@ -1,9 +1,9 @@
 -- How a run ends, by the objects outside.
-use Rattle.std.proofs.Common.{◌≡◌, ◌++◌, ℕ, true, false, List, [], length, Option, Some, None, Result, Ok, Err, IfErr, IfSome, IsSomeAnd, refl, sym, ap, subst, ◌∙◌, append-nil, inr, false≢true}
+use Rattle.std.proofs.Common.{◌≡◌, ◌++◌, ℕ, true, List, [], length, Option, Some, None, Result, Ok, Err, IfErr, IfSome, IsSomeAnd, refl, sym, ap, subst, ◌∙◌, append-nil, inr}
+use Rattle.std.proofs.lemmas.Bool.{false≢true}
 use Rattle.std.specs.Prelude.{unwrap_or}
-use Rattle.kt_ends.specs.Ending.{Counted, Ended, Gained, NoCount, SinkGains, ToolEnds, IsFront}
-use Rattle.kt_ends.specs.Endings.{UnderWay, ends_for_memory, may_change}
-use Rattle.kt_ends.specs.Outcome.{Outcome}
+use Rattle.kt_ends.specs.Ending.{Counted, Gained, NoCount, SinkGains, ToolEnds}
+use Rattle.kt_ends.specs.Endings.{ends_for_memory, may_change}
 use Rattle.kt_ends.specs.Stops.{end_status}
 use Rattle.kt_ends.specs.World.{Finds, World, world}
 use Rattle.kt_ends.specs.declared.status.Refusal.{Refusal}

@@ -1,6 +1,6 @@
 -- How far a run comes: the events that are done, up to the first that is refused.
 -- The rules: docs/REFUSALS.md, "Order".
-use Rattle.std.proofs.Common.{refl, sym, ap, ◌∙◌, append_assoc, append-nil}
+use Rattle.std.proofs.Common.{sym, ap, ◌∙◌, append_assoc, append-nil}
 use Rattle.std.specs.Prelude.{◌≡◌, ℕ, List, [], ◌∷◌, ◌++◌, Option, Some, None}
 use Rattle.kt_ends.specs.declared.status.Refusal.{Refusal}
 

@@ -1,7 +1,6 @@
-use Rattle.std.proofs.Common.{◌∙◌, ◌≡◌, ◌≤◌, ◌++◌, All, ℕ, List, ap, sym, subst}
+use Rattle.std.proofs.Common.{◌∙◌, ◌≤◌, ◌++◌, All, ℕ, List, sym, subst}
 use Rattle.kt_periods.specs.Fitting.{fits_periods}
 use Rattle.kt_rec.specs.declared.periods.Occurrence.{Occurrence}
-use Rattle.kt_stream.specs.declared.entry.SummaryRecord.{SummaryRecord}
 use Rattle.kt_chain.proofs.ListLemmas.{same_place}
 use Rattle.kt_chain.proofs.FoldLemmas.{entry_added, entry_stops, front_added}
 use Rattle.kt_chain.proofs.fold.add_summaries.Goals as goal

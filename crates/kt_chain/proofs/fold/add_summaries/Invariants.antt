@@ -1,5 +1,5 @@
 -- The records so far are added.
-use Rattle.std.proofs.Common.{◌≡◌, List, Ok, take}
+use Rattle.std.proofs.Common.{◌≡◌, List}
 use Rattle.kt_curve.specs.Losses.{Added}
 use Rattle.kt_curve.specs.Standing.{StandsFor}
 use Rattle.kt_chain.proofs.FoldLemmas.{HasAdded, front_added}

@@ -1,5 +1,5 @@
 -- The events that were carried through so far are done, and the others are left.
-use Rattle.std.proofs.Common.{◌≡◌, ℕ, List, [], All, length}
+use Rattle.std.proofs.Common.{◌≡◌, [], All, length}
 use Rattle.kt_stream.specs.Pairs.{IsId}
 use Rattle.kt_tables.specs.Lookups.{event_ids}
 use Rattle.kt_chain.specs.Events.{RunInput}

@@ -1,16 +1,12 @@
-use Rattle.std.proofs.Common.{◌≡◌, ◌++◌, ◌∙◌, ℕ, List, All, Some, None, Ok, Err, ap, sym, subst, true}
+use Rattle.std.proofs.Common.{◌≡◌, ◌++◌, ◌∙◌, All, Ok, Err, ap, sym, subst, true}
 use Rattle.kt_event.specs.Loading.{loads_footprint, loads_footprint_index}
-use Rattle.kt_files.specs.OutputFiles.{output_name}
 use Rattle.kt_keys.specs.Refusals.{is_loaded}
-use Rattle.kt_rec.specs.Rows.{Rows}
 use Rattle.kt_rec.specs.declared.table.Table.TheVariants as table
 use Rattle.kt_stream.specs.Pairs.{IsId}
 use Rattle.kt_ends.specs.declared.tool_stop.ToolStop.{ToolStop}
-use Rattle.kt_chain.specs.Events.{RunInput}
 use Rattle.kt_chain.specs.Files.{files_upto}
-use Rattle.kt_chain.specs.Rounds.{FoldState, ids_of}
-use Rattle.kt_chain.specs.Runs.{AreGivenRows, FoldsTo, IsFolded, IsRunOf, RoundMakes, RunShares}
-use Rattle.kt_chain.specs.declared.part.EventRows.{EventRows}
+use Rattle.kt_chain.specs.Rounds.{ids_of}
+use Rattle.kt_chain.specs.Runs.{RoundMakes, RunShares}
 use Rattle.kt_chain.proofs.StepLemmas.{ended, files_of_run, folds_to, ids_are, none_goes, none_makes, nothing_written, reading_stops, refused_goes, upto_made, writing_stops}
 use Rattle.kt_chain.proofs.rounds.one_round.Goals as goal
 

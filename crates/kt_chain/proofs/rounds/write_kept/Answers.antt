@@ -1,14 +1,6 @@
-use Rattle.std.proofs.Common.{◌≡◌, ◌++◌, ◌∙◌, ℕ, List, Result, Ok, Err, ap, sym, subst}
-use Rattle.std.specs.List.{flat_map}
-use Rattle.kt_files.specs.OutputFiles.{output_name}
-use Rattle.kt_files.specs.Parts.{block_text}
-use Rattle.kt_files.specs.declared.file.OutputFile.{OutputFile}
-use Rattle.kt_out.specs.declared.fault.Fault.{Fault}
-use Rattle.kt_outputs.specs.Files.{Makes}
-use Rattle.kt_rec.specs.Rows.{Rows}
-use Rattle.kt_chain.specs.Rounds.{FitsRun, FoldState, blocks_of}
+use Rattle.std.proofs.Common.{Ok, Err, ap, sym, subst}
+use Rattle.kt_chain.specs.Rounds.{FitsRun}
 use Rattle.kt_chain.specs.Runs.{RunShares}
-use Rattle.kt_chain.specs.declared.part.PartBlock.{PartBlock}
 use Rattle.kt_chain.proofs.TextLemmas.{kept_made}
 use Rattle.kt_chain.proofs.rounds.write_kept.Goals as goal
 

@@ -1,5 +1,4 @@
-use Rattle.std.proofs.Common.{◌≡◌, ◌∙◌, ◌++◌, ◌∷◌, [], ℕ, List, map, take, ap, sym, subst}
-use Rattle.std.specs.List.{AllByRecursion}
+use Rattle.std.proofs.Common.{◌∙◌, ◌++◌, ◌∷◌, [], ℕ, List, take, ap, sym, subst}
 use Rattle.std.proofs.lemmas.List.{map-append, take_more}
 use Rattle.kt_chain.specs.Rounds.{HasRows, ids_of}
 use Rattle.kt_chain.specs.Runs.{AreGivenRows, IsRunOf}

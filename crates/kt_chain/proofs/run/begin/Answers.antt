@@ -1,4 +1,4 @@
-use Rattle.std.proofs.Common.{◌≡◌, ◌++◌, ◌∙◌, ℕ, List, [], Err, ap, sym, subst}
+use Rattle.std.proofs.Common.{[], Err, subst}
 use Rattle.kt_files.specs.OutputFiles.{output_name}
 use Rattle.kt_files.specs.Parts.{head_text}
 use Rattle.kt_files.specs.declared.file.OutputFile.{OutputFile}

@@ -1,4 +1,4 @@
-use Rattle.std.proofs.Common.{◌≡◌, ◌∙◌, ℕ, [], true, Ok, Err, ap, sym, subst}
+use Rattle.std.proofs.Common.{◌≡◌, [], true, Ok, Err, sym, subst}
 use Rattle.kt_ends.specs.declared.tool_stop.ToolStop.{ToolStop}
 use Rattle.kt_event.specs.Loading.{loads_occurrence}
 use Rattle.kt_event.specs.Plan.{terms_of}
@@ -7,7 +7,7 @@ use Rattle.kt_rec.specs.Rows.{Rows}
 use Rattle.kt_rec.specs.declared.table.Table.TheVariants as table
 use Rattle.kt_tables.specs.Lookups.{event_ids}
 use Rattle.kt_chain.specs.Rounds.{FoldState}
-use Rattle.kt_chain.specs.Runs.{GoesOn, IsFolded, RoundGoes, RoundMakes, RunMakes, RunShares}
+use Rattle.kt_chain.specs.Runs.{IsFolded, RoundGoes, RoundMakes, RunMakes, RunShares}
 use Rattle.kt_chain.proofs.EndLemmas.{all_makes, all_says, begins_in_part, begun, first_fold, part_makes, stop_makes, stop_says}
 use Rattle.kt_chain.proofs.StepLemmas.{files_of_run}
 use Rattle.kt_chain.proofs.run.write_run.Goals as goal

@@ -1,5 +1,5 @@
 -- With what the events that are left give, the blocks so far are those of the part.
-use Rattle.std.proofs.Common.{◌≡◌, ◌++◌, drop}
+use Rattle.std.proofs.Common.{◌≡◌, drop}
 use Rattle.std.specs.List.{AllByRecursion}
 use Rattle.kt_event.specs.Losses.{AreSummaries}
 use Rattle.kt_event.specs.Plan.{terms_of}
