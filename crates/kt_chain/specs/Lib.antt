@@ -6,3 +6,4 @@ pub mod Rounds
 pub mod FoldKeeps
 pub mod Runs
 pub mod RoundRows
+pub mod RunLaws

@@ -1,6 +1,6 @@
 -- How far a run comes: the events that are done, up to the first that is refused.
 -- The rules: docs/REFUSALS.md, "Order".
-use Rattle.std.proofs.Common.{sym, ap, ◌∙◌, append_assoc, append-nil}
+use Rattle.std.proofs.Common.{refl, sym, ap, ◌∙◌, append_assoc, append-nil}
 use Rattle.std.specs.Prelude.{◌≡◌, ℕ, List, [], ◌∷◌, ◌++◌, Option, Some, None}
 use Rattle.kt_ends.specs.declared.status.Refusal.{Refusal}
 
@@ -18,6 +18,11 @@ unless_refused done (Some why) further = record { done = done; refusal = Some wh
 abbrev pub reached_from : (List ℕ → ℕ → Option Refusal) → List ℕ → List ℕ → Reached
 reached_from refuses done [] = record { done = done; refusal = None }
 reached_from refuses done (event ∷ later) = unless_refused done (refuses done event) (reached_from refuses (done ++ event ∷ []) later)
+
+-- some events are the first of a list
+pub record AreFirst (first events : List ℕ) : Type 0 where
+  pub later : List ℕ
+  pub is : events ≡ first ++ later
 
 module _ (refuses : List ℕ → ℕ → Option Refusal) where
   -- none of these events is refused behind those that are done, whatever comes behind them
@@ -116,3 +121,15 @@ module _ (refuses : List ℕ → ℕ → Option Refusal) where
   -- what is done in any case is a front of what is reached
   pub done_reached : (done events some : List ℕ) (are : AreDone done events some) → (reached_from refuses done events).done ≡ some ++ are.more []
   done_reached done events some are = ap (λ (list : List ℕ). (reached_from refuses done list).done) (sym (append-nil events)) ∙ are.is []
+
+  -- the events that are reached are the first of the list
+  first_reached : (done events : List ℕ) → (rest : List ℕ) × ((done ++ events) ≡ ((reached_from refuses done events).done ++ rest))
+  first_reached done [] = ([], refl)
+  first_reached done (event ∷ later) = by (refuses done event) (first_reached (done ++ event ∷ []) later)
+    where
+      by : (why : Option Refusal) → (rest : List ℕ) × (((done ++ event ∷ []) ++ later) ≡ ((reached_from refuses (done ++ event ∷ []) later).done ++ rest)) → (rest : List ℕ) × ((done ++ event ∷ later) ≡ ((unless_refused done why (reached_from refuses (done ++ event ∷ []) later)).done ++ rest))
+      by None further = (further.0, sym (append_assoc done (event ∷ []) later) ∙ further.1)
+      by (Some why) further = (event ∷ later, refl)
+
+  pub come_first : (events : List ℕ) → AreFirst (reached_from refuses [] events).done events
+  come_first events = let first = first_reached [] events in record { later = first.0; is = first.1 }

@@ -2,6 +2,7 @@
 #![tactic(auto)]
 
 mod fold;
+pub mod laws;
 mod options;
 mod part;
 mod rounds;
