@@ -7,16 +7,19 @@ ghost use Rattle.kt_rec.specs.declared.foot_rows.ModelStop.TheVariants.{OutOfMem
 ghost use Rattle.kt_runs.specs.RunLosses.{AreWithin, run_loss};
 ghost use Rattle.kt_stream.specs.Losses.{IsLoss};
 ghost use Rattle.kt_stream.specs.Pairs.{IsId};
-ghost use Rattle.kt_event.specs.Losses.{AreSummaries, block_of_losses, event_result, ground_up_of, insured_of, layers_up_to, set_summaries, summaries_of};
+ghost use Rattle.kt_event.specs.Losses.{AreSummaries, block_of_losses, event_result, ground_up_of, insured_of, layers_up_to, set_if, set_summaries, summaries_of};
 ghost use Rattle.kt_event.specs.Plan.{IsBase, IsOrMemory, IsPlan, terms_of};
-ghost use Rattle.kt_event.specs.Terms.{has_insured, has_net, net_sets, output_perspectives, sets_of};
+ghost use Rattle.kt_event.specs.Terms.{has_insured, has_net, net_sets, output_perspectives, sets_of, summary_set};
+ghost use Rattle.kt_tables.specs.Lookups.{has_summary_set};
 
 use crate::block::{EventBlock, Summaries};
-use crate::owed::{ground_up_losses_are_within, insured_losses_are_within};
 use crate::plan::{Base, Plan};
 use kt_gul::ground_up;
+use kt_gul::laws::ground_up_losses_are_within;
+use kt_insured::laws::insured_losses_are_within;
 use kt_insured::{LayerSum, insured};
 use kt_model::distributions;
+use kt_model::laws::distributions_are_of_a_stream;
 use kt_rec::{FootRow, ModelStop, Perspective};
 use kt_ri::reinsure;
 use kt_stream::{LossRecord, Records};
@@ -26,6 +29,32 @@ use std::alloc::{AllocError, Global};
 
 /// The number of summary sets that a perspective may have.
 const SETS: u32 = 9;
+
+/// Puts the summaries of losses in a set behind others, where their perspective has it.
+fn put_set(
+    alloc: Global,
+    portfolio: &Portfolio,
+    samples: u32,
+    perspective: Perspective,
+    set: u32,
+    losses: &[LossRecord],
+    made: &mut Records<Summaries>,
+) -> Result<(), AllocError>
+    requires losses { All (IsLoss samples) losses.now }
+    requires within { AreWithin losses.now }
+    ensures ok { OnOk result (made.new ≡ made.old ++ set_if (has_summary_set perspective portfolio.now.rows set) (summaries_of portfolio.now.rows portfolio.now.need.rule losses.now) (summary_set perspective set)) }
+    ensures good { AreSummaries samples made.old → OnOk result (AreSummaries samples made.new) }
+{
+    if portfolio.has_set(perspective, set) {
+        let records = summarise(alloc, portfolio, perspective, set, losses)?;
+        made.push(Summaries {
+            perspective,
+            set,
+            records,
+        })?;
+    }
+    Ok(())
+}
 
 /// Puts the summaries of losses behind others: those of each set that their perspective has, by rising set.
 fn put_summaries(
@@ -43,15 +72,15 @@ fn put_summaries(
     ensures good { OnOk result (AreSummaries samples made.new) }
 {
     for place in 0..SETS {
-        let set = place + 1;
-        if portfolio.has_set(perspective, set) {
-            let records = summarise(alloc, portfolio, perspective, set, losses)?;
-            made.push(Summaries {
-                perspective,
-                set,
-                records,
-            })?;
-        }
+        put_set(
+            alloc,
+            portfolio,
+            samples,
+            perspective,
+            place + 1,
+            losses,
+            made,
+        )?;
     }
     Ok(())
 }
@@ -129,6 +158,31 @@ fn put_insured_summaries(
     Ok(insured.layers)
 }
 
+/// Puts the summaries of the losses of outputs behind others, where the run has insured losses, and answers the sums of the layers.
+fn put_output_summaries(
+    alloc: Global,
+    portfolio: &Portfolio,
+    plan: &Plan,
+    losses: &[LossRecord],
+    made: &mut Records<Summaries>,
+) -> Result<Records<LayerSum>, AllocError>
+    requires plan { IsPlan portfolio.now plan.now }
+    requires losses { All (IsLoss (terms_of plan.now).samples) losses.now }
+    requires within { (sidx : ℤ) → run_loss sidx losses.now ≤ 200000000000000 }
+    requires good { AreSummaries (terms_of plan.now).samples made.old }
+    ensures layers { IfOk result (λ layers. layers ≡ layers_up_to (terms_of plan.now).last (terms_of plan.now) portfolio.now.rows losses.now) }
+    ensures ok { OnOk result (made.new ≡ made.old ++ map (set_summaries (terms_of plan.now) portfolio.now.rows losses.now) (flat_map (sets_of portfolio.now.rows) (output_perspectives (terms_of plan.now).last))) }
+    ensures good { OnOk result (AreSummaries (terms_of plan.now).samples made.new) }
+{
+    match &plan.base {
+        Some(base) => {
+            let layers = put_insured_summaries(alloc, portfolio, plan, base, losses, made)?;
+            Ok(layers)
+        }
+        None => Ok(Records::new(alloc)),
+    }
+}
+
 /// What an event gives, by its ground-up losses.
 fn block_of(
     alloc: Global,
@@ -152,10 +206,7 @@ fn block_of(
         losses,
         &mut summaries,
     )?;
-    let layers = match &plan.base {
-        Some(base) => put_insured_summaries(alloc, portfolio, plan, base, losses, &mut summaries)?,
-        None => Records::new(alloc),
-    };
+    let layers = put_output_summaries(alloc, portfolio, plan, losses, &mut summaries)?;
     Ok(EventBlock {
         event,
         summaries,
@@ -182,6 +233,7 @@ fn event_losses(
     ensures refused { IfErr result (λ stop. (first_refused_row rows.now ≡ Some stop) ⊎ (stop ≡ OutOfMemory)) }
 {
     let distributions = distributions(alloc, portfolio, event, rows)?;
+    distributions_are_of_a_stream(portfolio);
     ground_up_losses_are_within(portfolio);
     let losses = ground_up(
         alloc,

@@ -4,7 +4,6 @@
 mod block;
 mod event;
 mod needs;
-mod owed;
 mod plan;
 mod shared;
 mod terms;

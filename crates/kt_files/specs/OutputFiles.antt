@@ -1,7 +1,6 @@
 -- The output files of a run: which there are, in which order, and their names.
 -- The rules: docs/OUTPUTS.md, "Files of a run".
-use Prim.Native.Char.{Char, code}
-use Rattle.std.specs.Prelude.{ℕ, List, [], ◌∷◌, ◌++◌, codes, map, take, drop, true, false}
+use Rattle.std.specs.Prelude.{ℕ, List, [], ◌∷◌, ◌++◌, codes, map, take, drop}
 use Rattle.std.specs.List.{flat_map}
 use Rattle.kt_rec.specs.Rows.{Rows}
 use Rattle.kt_rec.specs.declared.curve.Curve.{Curve}

@@ -1,14 +1,8 @@
-//! The output files of a run: which there are, and their names.
+//! An output file of a run.
 //! The rules: docs/OUTPUTS.md, "Files of a run".
-ghost use Rattle.std.specs.Prelude.{◌≡◌, ◌++◌, IfOk, OnOk, map};
-ghost use Rattle.kt_event.specs.Terms.{has_insured};
-ghost use Rattle.kt_files.specs.OutputFiles.{output_files as files_up_to, output_name};
-ghost use Rattle.kt_outputs.specs.Names.{AreDistinct};
 
 use kt_event::SummarySet;
-use kt_rec::{Curve, Perspective};
-use kt_tables::Portfolio;
-use std::alloc::{AllocError, Global};
+use kt_rec::Curve;
 
 /// A table of a summary set.
 #[derive(Clone, Copy)]

@@ -1,13 +1,18 @@
-// A library with one function.
+//! The output files of a run: which there are, their names, and the three parts of their texts.
 #![tactic(auto)]
 
-ghost use Rattle.std.specs.Prelude.{◌≡◌};
-ghost use Rattle.kt_files.specs.Echo.{echo_of};
+mod blocks;
+mod endings;
+mod file;
+mod headings;
+pub mod laws;
+mod layers;
+mod listing;
+mod names;
+mod sets;
 
-// The `ensures` clause is the contract: what `echo` returns is `echo_of` of its argument, a definition
-// in `specs/Echo.antt`, which a caller's clause can cite too.
-pub fn echo(x: usize) -> usize
-    ensures { result ≡ echo_of x }
-{
-    x
-}
+pub use blocks::push_block;
+pub use endings::Endings;
+pub use file::{OutputFile, SetTable};
+pub use headings::Headings;
+pub use listing::output_files;

@@ -64,7 +64,7 @@ found-each P test (pair ∷ pairs) all later rest = by (test pair.0) (found-each
     by false more = more
 
 -- and of each of outputs in order
-order-each : (P : FmXref → Type 0) (outputs : List FmXref) → AllByRecursion P outputs → AllByRecursion P (in_order outputs)
+pub order-each : (P : FmXref → Type 0) (outputs : List FmXref) → AllByRecursion P outputs → AllByRecursion P (in_order outputs)
 order-each P outputs all = from (rising (map (λ row. row.output_id) outputs))
   where
     paired : (outputs : List FmXref) → AllByRecursion P outputs → AllByRecursion (λ (pair : ℕ × FmXref). P pair.1) (map (λ row. (row.output_id, row)) outputs)

@@ -1,7 +1,7 @@
--- The insured losses of a run have its event, and stand by rising id.
-use Rattle.std.proofs.Common.{◌≡◌, ℕ, Bool, true, false, cond, nat_eq, List, [], ◌∷◌, Option, Some, map, refl, sym, subst}
+-- The insured losses of a run have its event, and stand by rising id of an output.
+use Rattle.std.proofs.Common.{◌≡◌, ℕ, Bool, true, false, cond, nat_eq, List, [], ◌∷◌, Some, map, refl, sym, subst}
 use Rattle.std.specs.Prelude.{All}
-use Rattle.std.specs.List.{AllByRecursion, filter_map}
+use Rattle.std.specs.List.{AllByRecursion, cons_option, filter_map, list_any}
 use Rattle.std.specs.Map.{lookup}
 use Rattle.std.proofs.lemmas.Bool.{eqb-true}
 use Rattle.std.proofs.lemmas.List.{map-id}
@@ -9,14 +9,17 @@ use Rattle.std.proofs.lemmas.List.Elements.{All-from_recursion}
 use Rattle.kt_rec.specs.Rising.{IsRising, rising, rising-rises}
 use Rattle.kt_rec.specs.declared.financial.FmXref.{FmXref}
 use Rattle.kt_stream.specs.declared.entry.LossRecord.{LossRecord}
+use Rattle.kt_stream.specs.declared.entry.Pair.{Pair}
 use Rattle.kt_runs.specs.RunLosses.{event_of}
 use Rattle.kt_runs.specs.Sidx.{pairs_of}
 use Rattle.kt_fmtree.specs.RisingLaws.{KeepsId, rising-made}
+use Rattle.kt_tree.specs.Sums.{each_member}
 use Rattle.kt_tree.specs.Tree.{Tree}
 use Rattle.kt_shares.specs.RecordLaws.{record-event, record-id}
-use Rattle.kt_shares.specs.Shares.{insured_range}
+use Rattle.kt_shares.specs.Shares.{insured_range, record_with}
 use Rattle.kt_insured.specs.Insured.{in_order, insured_records, output_record}
-use Rattle.kt_insured.proofs.GoodLemmas.{loss_for}
+use Rattle.kt_insured.proofs.GoodLemmas.{loss_for, order-each}
+use Rattle.kt_insured.proofs.SumLemmas.{each-mapped}
 
 -- an output that is found by an id has it
 found-id : (id : ℕ) (outputs : List FmXref) → KeepsId (λ (output : FmXref). output.output_id) id (lookup (nat_eq id) (map (λ row. (row.output_id, row)) outputs))
@@ -45,3 +48,19 @@ module _ (tree : Tree) (rule samples : ℕ) (outputs : List FmXref) (records : L
       over : (outs : List FmXref) → AllByRecursion (λ (entry : LossRecord). entry.event ≡ event_of records) (filter_map (output_record tree rule samples records) outs)
       over [] = tt
       over (output ∷ outs) = record-event (event_of records) (event_of records) output.output_id (pairs_of (loss_for tree rule records output) (insured_range samples)) refl (filter_map (output_record tree rule samples records) outs) (over outs)
+
+  -- an id is that of an output
+  abbrev IsKnown : ℕ → Type 0
+  IsKnown id = list_any (nat_eq id) (map (λ output. output.output_id) outputs) ≡ true
+
+  -- and their ids are those of outputs
+  pub insured-known : All (λ entry. list_any (nat_eq entry.id) (map (λ output. output.output_id) outputs) ≡ true) (insured_records tree rule samples outputs records)
+  insured-known = All-from_recursion _ (insured_records tree rule samples outputs records) (over (in_order outputs) (order-each (λ (output : FmXref). IsKnown output.output_id) outputs (each-mapped IsKnown (λ (output : FmXref). output.output_id) outputs (each_member (map (λ output. output.output_id) outputs)))))
+    where
+      one : (id : ℕ) (pairs : List Pair) → IsKnown id → (later : List LossRecord) → AllByRecursion (λ (entry : LossRecord). IsKnown entry.id) later → AllByRecursion (λ (entry : LossRecord). IsKnown entry.id) (cons_option (record_with (event_of records) id pairs) later)
+      one id [] known later all = all
+      one id (pair ∷ pairs) known later all = (known, all)
+
+      over : (outs : List FmXref) → AllByRecursion (λ (output : FmXref). IsKnown output.output_id) outs → AllByRecursion (λ (entry : LossRecord). IsKnown entry.id) (filter_map (output_record tree rule samples records) outs)
+      over [] all = tt
+      over (output ∷ outs) all = one output.output_id (pairs_of (loss_for tree rule records output) (insured_range samples)) all.0 (filter_map (output_record tree rule samples records) outs) (over outs all.1)

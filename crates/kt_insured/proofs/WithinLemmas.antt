@@ -1,6 +1,6 @@
 -- Insured losses add to no more than 50 times the losses of the run.
-use Rattle.std.proofs.Common.{◌≡◌, ℕ, ◌*◌, ◌≤◌, nat_eq, ℤ, List, length, map, arith}
-use Rattle.std.specs.List.{IsDistinct, sum, sum_by}
+use Rattle.std.proofs.Common.{◌≡◌, ℕ, ◌*◌, ◌≤◌, nat_eq, ℤ, List, map, arith}
+use Rattle.std.specs.List.{IsDistinct, sum_by}
 use Rattle.std.proofs.lemmas.List.Sums.{sum-map}
 use Rattle.kt_rec.specs.Ranges.{AreInRange}
 use Rattle.kt_rec.specs.Rising.{rising-distinct}

@@ -92,8 +92,10 @@ pub fn insured_losses_are_records_of_a_stream(portfolio: &Portfolio)
     portfolio.is_valid();
 }
 
-/// They are a run of their own, whatever the tree and the outputs: of the event of the run, each id once, by rising id.
+/// They are a run of their own, whatever the tree and the outputs: of the event of the run, each id once, by rising id, which is that
+/// of an output.
 pub fn insured_losses_are_a_run()
     ensures event { (tree : Tree) (rule samples : ℕ) (outputs : List FmXref) (records : List LossRecord) → All (λ entry. entry.event ≡ event_of records) (insured_records tree rule samples outputs records) }
     ensures rising { (tree : Tree) (rule samples : ℕ) (outputs : List FmXref) (records : List LossRecord) → IsStrictlyIncreasing (map (λ entry. entry.id) (insured_records tree rule samples outputs records)) }
+    ensures known { (tree : Tree) (rule samples : ℕ) (outputs : List FmXref) (records : List LossRecord) → All (λ entry. list_any (nat_eq entry.id) (map (λ output. output.output_id) outputs) ≡ true) (insured_records tree rule samples outputs records) }
 {}

@@ -1,2 +1,3 @@
 pub mod NamedFilesLemmas
 pub mod WritingLemmas
+pub mod AppendingLemmas

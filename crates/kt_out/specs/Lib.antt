@@ -5,4 +5,5 @@ pub mod Writing
 pub mod NamedFiles
 pub mod InputFiles
 pub mod OutputFiles
+pub mod Appending
 pub mod MemoryObjects

@@ -5,6 +5,7 @@ use Rattle.kt_out.specs.declared.fault.Absent.{Absent}
 use Rattle.kt_out.specs.declared.fault.Fault.{Fault}
 use Rattle.kt_out.specs.Counts.{one_more}
 use Rattle.kt_out.specs.NamedFiles.{File, bytes_of}
+use Rattle.kt_out.specs.OutputFiles.{OutputsState}
 use Rattle.kt_out.specs.Reading.{SourceState}
 use Rattle.kt_out.specs.Writing.{SinkState}
 
@@ -52,6 +53,11 @@ pub record MemoryInputs : Type 0 where
   pub misses : ℕ
   pub calls : CallsSoFar
 
+-- output files in memory that fail when told: the files, and the calls
+pub record MemoryOutputs : Type 0 where
+  pub files : List File
+  pub calls : CallsSoFar
+
 -- such a source as each source is seen
 abbrev pub source_state : MemorySource → SourceState
 source_state source = record { left = Some source.left; faults = source.calls.failed }
@@ -59,6 +65,10 @@ source_state source = record { left = Some source.left; faults = source.calls.fa
 -- such a sink as each sink is seen
 abbrev pub sink_state : MemorySink → SinkState
 sink_state sink = record { taken = Some sink.taken; faults = sink.calls.failed }
+
+-- such output files as all output files are seen
+abbrev pub outputs_state : MemoryOutputs → OutputsState
+outputs_state outputs = record { written = Some (bytes_of outputs.files); faults = outputs.calls.failed }
 
 -- a source in memory that never fails, with these bytes left
 abbrev pub sure_source_state : List ℕ → SourceState

@@ -1,6 +1,6 @@
 -- Output files as contracts see them, and what their calls leave.
 use Rattle.std.specs.Prelude.{◌≡◌, ◌≢◌, ◌⊎◌, ℕ, List, [], ◌++◌, take, Option, None, Some, Result, Ok, Err, unwrap_or, IsSomeAnd}
-use Rattle.kt_out.specs.Counts.{Rose}
+use Rattle.kt_out.specs.Counts.{one_more, Rose}
 use Rattle.kt_out.specs.NamedFiles.{FileMap}
 use Rattle.kt_out.specs.declared.fault.Fault.{Fault}
 use Rattle.kt_out.specs.declared.fault.Fault.TheVariants.{Failed, OutOfMemory}
@@ -40,3 +40,13 @@ abbrev pub Appends : {E : Type 0} → Option FileMap → Option FileMap → List
 Appends None now name piece answer = now ≡ None
 Appends (Some files) now name piece (Ok n) = IsSomeAnd now (Sets files name (written_so_far files name ++ take n piece))
 Appends (Some files) now name piece (Err fault) = IsSomeAnd now (SameFiles files)
+
+-- real output files with this count of faults, as all output files are seen: what they hold is not known
+abbrev pub real_outputs : ℕ → OutputsState
+real_outputs faults = record { written = None; faults = faults }
+
+-- the count of faults after a call has answered
+abbrev pub after_output_answer : {T : Type 0} → ℕ → Result T Fault → ℕ
+after_output_answer faults (Ok done) = faults
+after_output_answer faults (Err Failed) = one_more faults
+after_output_answer faults (Err OutOfMemory) = faults

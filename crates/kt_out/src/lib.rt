@@ -3,12 +3,15 @@
 //! and the current folder.
 #![tactic(auto)]
 
+mod appending;
 mod dir_inputs;
+mod dir_outputs;
 mod fault;
 mod folder;
 mod gate;
 mod inputs;
 mod memory;
+mod output_folder;
 mod outputs;
 mod shared;
 mod sink;
@@ -16,11 +19,15 @@ mod source;
 mod std_streams;
 mod writing;
 
+pub use appending::append_all;
 pub use dir_inputs::DirInputs;
+pub use dir_outputs::DirOutputs;
 pub use fault::{Absent, Failed, Fault};
 pub use gate::{Gate, Open};
 pub use inputs::Inputs;
-pub use memory::{MemInputs, MemSink, MemSource, SureInputs, SureOutputs, SureSink, SureSource};
+pub use memory::{
+    MemInputs, MemOutputs, MemSink, MemSource, SureInputs, SureOutputs, SureSink, SureSource,
+};
 pub use outputs::Outputs;
 pub use sink::Sink;
 pub use source::Source;

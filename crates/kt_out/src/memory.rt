@@ -2,6 +2,7 @@
 mod calls;
 mod files;
 mod mem_inputs;
+mod mem_outputs;
 mod mem_sink;
 mod mem_source;
 mod named_bytes;
@@ -11,6 +12,7 @@ mod sure_sink;
 mod sure_source;
 
 pub use mem_inputs::MemInputs;
+pub use mem_outputs::MemOutputs;
 pub use mem_sink::MemSink;
 pub use mem_source::MemSource;
 pub use sure_inputs::SureInputs;

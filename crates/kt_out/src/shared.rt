@@ -1,7 +1,7 @@
 //! The types of this crate may be sent to other threads and shared by them.
 use crate::{
-    Absent, DirInputs, Failed, Fault, MemInputs, MemSink, MemSource, Open, SureInputs, SureOutputs,
-    SureSink, SureSource,
+    Absent, DirInputs, DirOutputs, Failed, Fault, MemInputs, MemOutputs, MemSink, MemSource, Open,
+    SureInputs, SureOutputs, SureSink, SureSource,
 };
 use std::fs::Files;
 
@@ -24,16 +24,18 @@ fn streams_are_shared(a: &MemSource, b: &MemSink, c: &SureSource, d: &SureSink) 
 }
 
 /// The files in memory.
-fn files_are_shared(a: &MemInputs, b: &SureInputs, c: &SureOutputs) {
+fn files_are_shared(a: &MemInputs, b: &SureInputs, c: &MemOutputs, d: &SureOutputs) {
     is_shared(a);
     is_shared(b);
     is_shared(c);
+    is_shared(d);
 }
 
 /// The real files, where the runtime and its open files may be shared.
-fn real_files_are_shared<R: Files + Sync>(inputs: &DirInputs<'_, R>)
+fn real_files_are_shared<R: Files + Sync>(inputs: &DirInputs<'_, R>, outputs: &DirOutputs<'_, R>)
 where
     R::File: Send + Sync,
 {
     is_shared(inputs);
+    is_shared(outputs);
 }

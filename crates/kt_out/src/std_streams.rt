@@ -137,8 +137,8 @@ impl<W: Write + Drop> Sink for StdSink<W> {
     }
 }
 
-// One write, made again where a signal interrupts it; None where it fails or takes nothing.
-fn write_some<W: Write>(writer: &mut W, piece: &[u8]) -> Option<usize>
+/// One write, made again where a signal interrupts it; None where it fails or takes nothing.
+pub fn write_some<W: Write>(writer: &mut W, piece: &[u8]) -> Option<usize>
     ensures within { IfSome result (λ n. (0 < n) × (n ≤ length piece.now)) }
     ensures bytes { WriteAppends (W.contents writer.old) (W.contents writer.new) (ok_or_failed result) piece.now }
 {

@@ -62,6 +62,16 @@ midway_more before now name whole pending pushed pieces i within midway is = rec
   added = midway.added;
 }
 
+-- a part of no text is none
+none_between : (front part rest : List ℕ) → [] ≡ front ++ (part ++ rest) → part ≡ []
+none_between [] [] rest none = refl
+none_between [] (byte ∷ part) rest none = cc
+none_between (byte ∷ front) part rest none = cc
+
+-- of no text nothing is pending
+pub none_of_nothing : (before now : Option FileMap) (name whole pending rest : List ℕ) → whole ≡ [] → IsMidway before now name whole pending rest → pending ≡ []
+none_of_nothing before now name whole pending rest none midway = none_between midway.front pending rest (sym none ∙ midway.is_whole)
+
 -- behind the last piece there is none
 pub none_behind : (pieces : List (List ℕ)) (i : ℕ) → length pieces ≤ i → joined (drop i pieces) ≡ []
 none_behind [] zero past = refl

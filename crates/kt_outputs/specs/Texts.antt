@@ -9,9 +9,9 @@ use Rattle.kt_outputs.specs.Files.{files_with}
 abbrev pub joined : List (List ℕ) → List ℕ
 joined pieces = flat_map (λ piece. piece) pieces
 
--- the whole text that a file gains of these texts
-abbrev pub text_of : {S F : Type 0} → (S → F → List (List ℕ)) → S → F → List ℕ
-text_of pieces_of texts file = joined (pieces_of texts file)
+-- the whole text that a file gains of texts that are told by this
+abbrev pub text_of : {B S F : Type 0} → (B → S → F → List (List ℕ)) → B → S → F → List ℕ
+text_of pieces_of start texts file = joined (pieces_of start texts file)
 
 -- no text for any file
 abbrev pub no_text : {F : Type 0} → F → List ℕ

@@ -24,11 +24,12 @@ fn append_pieces<O: Outputs, F, T: Texts<F>>(
 ) -> Result<(), Fault>
     requires { out.old ≡ [] }
 
-    ensures moved { AppendsAll (O.state outputs.old).written (O.state outputs.new).written name.now (text_of T.pieces_of texts.now file.now) result }
+    ensures moved { (start : T.Start) → T.are_of start texts.now → AppendsAll (O.state outputs.old).written (O.state outputs.new).written name.now (text_of T.pieces_of start texts.now file.now) result }
     ensures none_pending { OnOk result (out.new ≡ []) }
 
     ensures counts { CountsOutput (O.state outputs.old).faults (O.state outputs.new).faults result }
     ensures counted { (O.state outputs.old).faults ≤ (O.state outputs.new).faults }
+    ensures untouched { (start : T.Start) → T.are_of start texts.now → text_of T.pieces_of start texts.now file.now ≡ [] → O.state outputs.new ≡ O.state outputs.old }
 {
     for piece in 0..texts.pieces(file) {
         match texts.push(file, piece, out) {
@@ -53,11 +54,12 @@ fn append_text<O: Outputs, F: Named, T: Texts<F>>(
 ) -> Result<(), Fault>
     requires { out.old ≡ [] }
 
-    ensures moved { AppendsAll (O.state outputs.old).written (O.state outputs.new).written (F.name file.now) (text_of T.pieces_of texts.now file.now) result }
+    ensures moved { (start : T.Start) → T.are_of start texts.now → AppendsAll (O.state outputs.old).written (O.state outputs.new).written (F.name file.now) (text_of T.pieces_of start texts.now file.now) result }
     ensures none_pending { OnOk result (out.new ≡ []) }
 
     ensures counts { CountsOutput (O.state outputs.old).faults (O.state outputs.new).faults result }
     ensures counted { (O.state outputs.old).faults ≤ (O.state outputs.new).faults }
+    ensures untouched { (start : T.Start) → T.are_of start texts.now → text_of T.pieces_of start texts.now file.now ≡ [] → O.state outputs.new ≡ O.state outputs.old }
 {
     match name_of(alloc, file) {
         Ok(name) => append_pieces(outputs, name.as_slice(), file, texts, out),
@@ -66,7 +68,7 @@ fn append_text<O: Outputs, F: Named, T: Texts<F>>(
 }
 
 /// Appends to each file of a list the text that it gains, one file after the other, in blocks of 64 KiB; the names of the
-/// files are distinct. A file that gains no text is not touched. After a refusal a front of the files has gained its text,
+/// files are distinct. What the texts are is known for each start that tells them. A file that gains no text is not touched. After a refusal a front of the files has gained its text,
 /// and the next a front of it. The count of faults rises exactly where `Failed` comes; want of memory, also of a name or of
 /// a block, raises none.
 pub fn append_texts<O: Outputs, F: Named, T: Texts<F>>(
@@ -77,10 +79,11 @@ pub fn append_texts<O: Outputs, F: Named, T: Texts<F>>(
 ) -> Result<(), Fault>
     requires distinct { AreDistinct (map F.name files.now) }
 
-    ensures made { (text : F → List ℕ) → Makes (files_with F.name text files.now) (files_with F.name (λ file. text file ++ text_of T.pieces_of texts.now file) files.now) (O.state outputs.old) (O.state outputs.new) result }
+    ensures made { (start : T.Start) → T.are_of start texts.now → (text : F → List ℕ) → Makes (files_with F.name text files.now) (files_with F.name (λ file. text file ++ text_of T.pieces_of start texts.now file) files.now) (O.state outputs.old) (O.state outputs.new) result }
 
     ensures counts { CountsOutput (O.state outputs.old).faults (O.state outputs.new).faults result }
     ensures counted { (O.state outputs.old).faults ≤ (O.state outputs.new).faults }
+    ensures untouched { (start : T.Start) → T.are_of start texts.now → ((file : F) → text_of T.pieces_of start texts.now file ≡ []) → O.state outputs.new ≡ O.state outputs.old }
 {
     let mut out = Bytes::new(alloc);
     for file in files {

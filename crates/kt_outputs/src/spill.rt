@@ -18,6 +18,7 @@ pub(crate) fn spill<O: Outputs>(outputs: &mut O, name: &[u8], out: &mut Bytes) -
 
     ensures counts { CountsOutput (O.state outputs.old).faults (O.state outputs.new).faults result }
     ensures counted { (O.state outputs.old).faults ≤ (O.state outputs.new).faults }
+    ensures untouched { out.old ≡ [] → O.state outputs.new ≡ O.state outputs.old }
 {
     match append_all(outputs, name, out.as_slice()) {
         Ok(()) => {
@@ -38,6 +39,7 @@ pub(crate) fn spill_block<O: Outputs>(
 
     ensures counts { CountsOutput (O.state outputs.old).faults (O.state outputs.new).faults result }
     ensures counted { (O.state outputs.old).faults ≤ (O.state outputs.new).faults }
+    ensures untouched { out.old ≡ [] → O.state outputs.new ≡ O.state outputs.old }
 {
     if out.len() < BLOCK {
         Ok(())

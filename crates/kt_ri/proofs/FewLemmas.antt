@@ -1,19 +1,12 @@
--- The tops of the tables' programmes have at most 50 layers each, so what an id cedes fits its type.
-use Rattle.std.proofs.Common.{◌≡◌, ℕ, zero, suc, ◌+◌, ◌*◌, ◌<◌, ◌≤◌, ◌^◌, ◌&&◌, Bool, true, false, cond, nat_eq, nat_lt, List, [], ◌∷◌, Option, Some, None, length, map, slice_index_or, refl, sym, ap, subst, ◌∙◌, arith}
+-- Where a top has at most 50 layers, so have those of the struck units, and what an id cedes fits its type.
+use Rattle.std.proofs.Common.{◌≡◌, ℕ, ◌*◌, ◌≤◌, ◌^◌, Bool, true, false, cond, nat_eq, List, [], ◌∷◌, Option, Some, None, length, map, refl, sym, ap, subst, ◌∙◌, arith}
 use Rattle.std.specs.Prelude.{unwrap_or}
-use Rattle.std.specs.List.{AllByRecursion, IsDistinct, filter, list_any, sum, sum_by}
-use Rattle.std.proofs.lemmas.List.Elements.{recursion_from_All}
+use Rattle.std.specs.List.{AllByRecursion, IsDistinct, list_any, sum, sum_by}
 use Rattle.std.proofs.lemmas.List.Sums.{sum_by-cons}
-use Rattle.kt_rec.specs.Ranges.{AreFinancial, AreInRange, IsFmPolicytc, IsLayer}
-use Rattle.kt_rec.specs.Rows.{FinancialRows, Rows}
-use Rattle.kt_rec.specs.declared.financial.FmPolicytc.{FmPolicytc}
-use Rattle.kt_keys.specs.Keys.{no_financial, policytc_of, programme_of}
-use Rattle.kt_keys.specs.Units.{top_level}
 use Rattle.kt_keys.specs.Climbing.{climbed}
-use Rattle.kt_tree.specs.Programme.{layers_in, or_first, tree_of}
-use Rattle.kt_rec.specs.Rising.{IsRising, distinct-from_rising, rising, rising-all, rising-rises}
+use Rattle.kt_rec.specs.Rising.{IsRising, distinct-from_rising}
 use Rattle.kt_tree.specs.Sharing.{allocated}
-use Rattle.kt_tree.specs.Sums.{each_then, sum_by-flat_map, sum_by-one}
+use Rattle.kt_tree.specs.Sums.{sum_by-flat_map, sum_by-one}
 use Rattle.kt_tree.specs.Tree.{Tree, IsTree, beneath, comes_to, is_unit}
 use Rattle.kt_tree.specs.Struck.{is_struck, struck}
 use Rattle.kt_fmtree.specs.RisingLaws.{rising-filter}

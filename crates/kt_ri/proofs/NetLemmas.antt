@@ -1,10 +1,7 @@
 -- What is left of the records of a run, record by record.
-use Rattle.std.proofs.Common.{◌≡◌, ℕ, zero, suc, ◌+◌, ◌-◌, ◌<◌, ◌≤◌, ◌||◌, Bool, true, false, cond, nat_eq, ℤ, pos, negsuc, List, [], ◌∷◌, Option, Some, None, length, map, refl, sym, ap, subst, ◌∙◌, arith}
+use Rattle.std.proofs.Common.{◌≡◌, ℕ, ◌+◌, ◌-◌, ◌<◌, ◌≤◌, ◌||◌, Bool, true, false, cond, nat_eq, ℤ, List, [], ◌∷◌, Option, Some, None, length, map, refl, sym, ap, subst, ◌∙◌, arith}
 use Rattle.std.specs.Prelude.{All, unwrap_or}
-use Rattle.std.specs.List.{AllByRecursion, cons_option, filter, filter_map, list_any, range_with_len, sum_by}
-use Rattle.std.specs.Ordering.{int_eq}
-use Rattle.std.proofs.lemmas.Bool.Decides.{Decides-int_eq}
-use Rattle.std.proofs.lemmas.Int.{ints}
+use Rattle.std.specs.List.{AllByRecursion, cons_option, filter, filter_map, list_any, sum_by}
 use Rattle.std.proofs.lemmas.List.Elements.{All-from_recursion, recursion_from_All}
 use Rattle.std.proofs.lemmas.List.Sums.{sum_by-cons}
 use Rattle.kt_rec.specs.Rising.{IsRising}
@@ -12,7 +9,7 @@ use Rattle.kt_stream.specs.declared.entry.LossRecord.{LossRecord}
 use Rattle.kt_stream.specs.declared.entry.Pair.{Pair}
 use Rattle.kt_stream.specs.Losses.{IsLoss}
 use Rattle.kt_runs.specs.RunLosses.{AreWithin, loss_of, run_loss}
-use Rattle.kt_runs.specs.Sidx.{pair_of, pairs_of, sidx_at}
+use Rattle.kt_runs.specs.Sidx.{pairs_of, sidx_at}
 use Rattle.kt_tree.specs.Sharing.{allocated}
 use Rattle.kt_tree.specs.Tree.{Tree, beneath, comes_to}
 use Rattle.kt_fmtree.specs.Parts.{Parts, IsProgramme}
@@ -21,7 +18,7 @@ use Rattle.kt_shares.specs.LookupLaws.{lookup-none}
 use Rattle.kt_shares.specs.PairLaws.{pairs-le}
 use Rattle.kt_shares.specs.RecordLaws.{record-event, record-good, record-id}
 use Rattle.kt_shares.specs.RowLaws.{rows-are}
-use Rattle.kt_shares.specs.Shares.{insured_range, layers_of, part_of_id, record_with, sample_range}
+use Rattle.kt_shares.specs.Shares.{insured_range, layers_of, part_of_id, record_with}
 use Rattle.kt_shares.specs.Table.{row_place}
 use Rattle.kt_ri.specs.Ceded.{AreCeded, AreRows, IsPlaceIn, ceded_in, pairs_behind, part_behind}
 use Rattle.kt_ri.specs.Ceding.{IsPlaceOf}
@@ -117,3 +114,15 @@ module _ (tree : Tree) (rule samples : ℕ) (records : List LossRecord) where
   -- and where the ids of the records rise, so do theirs
   pub net-rises : IsRising (map (λ entry. entry.id) records) → IsRising (map (λ entry. entry.id) (net_records tree rule samples records))
   net-rises rises = rising-made (λ (entry : LossRecord). entry.id) (λ (entry : LossRecord). entry.id) (net_record tree rule samples records) (λ entry. record-id entry.event entry.id (pairs_of (kept entry) (insured_range samples))) records rises
+
+  -- and what is known of the ids of the records is known of theirs
+  pub net-known : (known : ℕ → Bool) → All (λ entry. known entry.id ≡ true) records → All (λ entry. known entry.id ≡ true) (net_records tree rule samples records)
+  net-known known all = All-from_recursion _ (net_records tree rule samples records) (over records (recursion_from_All _ records all))
+    where
+      one : (event id : ℕ) (pairs : List Pair) → known id ≡ true → (later : List LossRecord) → AllByRecursion (λ (entry : LossRecord). known entry.id ≡ true) later → AllByRecursion (λ (entry : LossRecord). known entry.id ≡ true) (cons_option (record_with event id pairs) later)
+      one event id [] is later more = more
+      one event id (pair ∷ pairs) is later more = (is, more)
+
+      over : (entries : List LossRecord) → AllByRecursion (λ (entry : LossRecord). known entry.id ≡ true) entries → AllByRecursion (λ (entry : LossRecord). known entry.id ≡ true) (filter_map (net_record tree rule samples records) entries)
+      over [] all = tt
+      over (entry ∷ entries) all = one entry.event entry.id (pairs_of (kept entry) (insured_range samples)) all.0 (filter_map (net_record tree rule samples records) entries) (over entries all.1)

@@ -1,5 +1,5 @@
 -- What is left behind stages, stage by stage.
-use Rattle.std.proofs.Common.{◌≡◌, ℕ, zero, suc, ◌+◌, ◌<◌, ◌≤◌, List, [], ◌∷◌, length, map, take, drop, ◌-◌, slice_index_or, refl, sym, subst, ap, ◌∙◌, arith}
+use Rattle.std.proofs.Common.{◌≡◌, ℕ, Bool, true, zero, suc, ◌+◌, ◌<◌, ◌≤◌, List, [], ◌∷◌, length, map, take, drop, ◌-◌, slice_index_or, refl, sym, subst, ap, ◌∙◌, arith}
 use Rattle.std.specs.Prelude.{All}
 use Rattle.std.proofs.lemmas.List.{take_rest}
 use Rattle.kt_rec.specs.Rising.{IsRising}
@@ -10,7 +10,7 @@ use Rattle.kt_tree.specs.Tree.{Tree}
 use Rattle.kt_structure.specs.declared.structure.Structure.{Structure}
 use Rattle.kt_ri.specs.Reinsurance.{net_records, reinsured}
 use Rattle.kt_ri.specs.Stages.{AreStages, IsStage}
-use Rattle.kt_ri.proofs.NetLemmas.{net-event, net-good, net-rises, net-within}
+use Rattle.kt_ri.proofs.NetLemmas.{net-event, net-good, net-known, net-rises, net-within}
 
 -- the stages behind so many leave of these losses what all leave of the records
 pub record IsLeft (samples : ℕ) (records : List LossRecord) (stages : List Structure) (stage : ℕ) (net : List LossRecord) : Type 0 where
@@ -72,6 +72,11 @@ reinsured-good (tree ∷ trees) samples records are within = reinsured-good tree
 pub reinsured-event : (trees : List Tree) (samples event : ℕ) (records : List LossRecord) → All (λ entry. entry.event ≡ event) records → All (λ entry. entry.event ≡ event) (reinsured trees samples records)
 reinsured-event [] samples event records same = same
 reinsured-event (tree ∷ trees) samples event records same = reinsured-event trees samples event (net_records tree 2 samples records) (net-event tree 2 samples records event same)
+
+-- what is known of their ids
+pub reinsured-known : (trees : List Tree) (samples : ℕ) (known : ℕ → Bool) (records : List LossRecord) → All (λ entry. known entry.id ≡ true) records → All (λ entry. known entry.id ≡ true) (reinsured trees samples records)
+reinsured-known [] samples known records all = all
+reinsured-known (tree ∷ trees) samples known records all = reinsured-known trees samples known (net_records tree 2 samples records) (net-known tree 2 samples records known all)
 
 -- and that their ids rise
 pub reinsured-rises : (trees : List Tree) (samples : ℕ) (records : List LossRecord) → IsRising (map (λ entry. entry.id) records) → IsRising (map (λ entry. entry.id) (reinsured trees samples records))

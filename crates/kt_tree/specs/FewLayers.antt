@@ -1,6 +1,6 @@
 -- The tops of the tables' programmes have at most 50 layers each.
--- The rules: docs/FINANCIAL_MODULE.md, "Policy losses"; docs/TABLES.md.
-use Rattle.std.specs.Prelude.{◌≡◌, ℕ, zero, suc, ◌+◌, ◌<◌, ◌≤◌, ◌&&◌, Bool, true, false, cond, nat_eq, List, [], ◌∷◌, length, map, slice_index_or}
+-- The rules: docs/FINANCIAL_MODULE.md, "Policy losses"; docs/TABLES.md, "Columns".
+use Rattle.std.specs.Prelude.{ℕ, zero, suc, ◌+◌, ◌<◌, ◌≤◌, ◌&&◌, Bool, true, false, cond, nat_eq, List, [], ◌∷◌, length, map, slice_index_or}
 use Rattle.std.specs.List.{AllByRecursion, filter}
 use Rattle.std.proofs.Common.{arith}
 use Rattle.std.proofs.lemmas.List.Elements.{recursion_from_All}

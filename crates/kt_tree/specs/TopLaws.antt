@@ -1,8 +1,8 @@
 -- What lies beneath different tops is apart: the losses beneath all of them are not more than those of all ids.
 -- The rules: docs/FINANCIAL_MODULE.md, "Levels", "Policy losses".
-use Rattle.std.specs.Prelude.{◌≡◌, ℕ, ◌*◌, ◌≤◌, ◌+◌, Bool, true, false, cond, nat_eq, List, [], ◌∷◌, Option, Some, None, length}
+use Rattle.std.specs.Prelude.{◌≡◌, ℕ, ◌*◌, ◌≤◌, Bool, true, false, cond, nat_eq, List, [], ◌∷◌, Option, Some, None, length}
 use Rattle.std.specs.List.{IsDistinct, list_any, sum_by}
-use Rattle.std.proofs.Common.{refl, arith, mul-le-mul_right}
+use Rattle.std.proofs.Common.{arith, mul-le-mul_right}
 use Rattle.std.proofs.lemmas.List.Sums.{sum_by-cons, sum_by-le}
 use Rattle.kt_keys.specs.Climbing.{climbed}
 use Rattle.kt_tree.specs.Sums.{sum_by-agree, sum_by-below, sum_by-none, sum_by-one, sum_by-swap}

@@ -7,7 +7,8 @@ use Rattle.kt_outputs.proofs.appending.append_texts.Given as goal
 
 abbrev pub invariant-loop-file : goal.invariant-loop-file
 invariant-loop-file g l = record {
-  made : (text : g.row.F.Denot → List ℕ) → Makes {T = Unit {0}} {E = Fault} (files_with g.F.Named.name text l.files) (files_midway g.F.Named.name (lengthened_by text (text_of g.T.Texts.pieces_of l.texts)) text l.file-index l.files) (g.O.Outputs.state l.initial.outputs) (g.O.Outputs.state l.outputs) (Ok tt);
+  made : (start : g.T.Texts.Start) → g.T.Texts.are_of start l.texts → (text : g.row.F.Denot → List ℕ) → Makes {T = Unit {0}} {E = Fault} (files_with g.F.Named.name text l.files) (files_midway g.F.Named.name (lengthened_by text (text_of g.T.Texts.pieces_of start l.texts)) text l.file-index l.files) (g.O.Outputs.state l.initial.outputs) (g.O.Outputs.state l.outputs) (Ok tt);
   none_pending : l.out ≡ [];
+  untouched : (start : g.T.Texts.Start) → g.T.Texts.are_of start l.texts → ((file : g.row.F.Denot) → text_of g.T.Texts.pieces_of start l.texts file ≡ []) → g.O.Outputs.state l.outputs ≡ g.O.Outputs.state l.initial.outputs;
   counted : (g.O.Outputs.state l.outputs).faults ≡ (g.O.Outputs.state l.initial.outputs).faults;
 }

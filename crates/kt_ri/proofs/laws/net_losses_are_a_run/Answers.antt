@@ -1,5 +1,5 @@
 use Rattle.kt_fmtree.specs.RisingLaws.{rises-from_strict, strict-from_rises}
-use Rattle.kt_ri.proofs.StageLemmas.{reinsured-event, reinsured-rises}
+use Rattle.kt_ri.proofs.StageLemmas.{reinsured-event, reinsured-known, reinsured-rises}
 use Rattle.kt_ri.proofs.laws.net_losses_are_a_run.Goals as goal
 
 pub returns-clause-event : goal.returns-clause-event
@@ -7,3 +7,6 @@ returns-clause-event c = reinsured-event
 
 pub returns-clause-rising : goal.returns-clause-rising
 returns-clause-rising c = λ trees samples records rises. strict-from_rises _ (reinsured-rises trees samples records (rises-from_strict _ rises))
+
+pub returns-clause-known : goal.returns-clause-known
+returns-clause-known c = reinsured-known

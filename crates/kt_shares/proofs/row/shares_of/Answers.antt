@@ -1,7 +1,6 @@
-use Rattle.std.proofs.Common.{◌≡◌, ◌++◌, ◌∷◌, [], ◌∙◌, ℕ, List, ap, length, replicate, sym, arith, slice_index}
+use Rattle.std.proofs.Common.{◌≡◌, ◌∙◌, ap, length, replicate, sym, arith, slice_index}
 use Rattle.std.specs.List.{sum}
 use Rattle.std.proofs.lemmas.Bool.{ne_eqb}
-use Rattle.std.proofs.lemmas.List.Sums.{sum_by-cons}
 use Rattle.kt_tree.specs.Tree.{beneath, policy_loss}
 use Rattle.kt_shares.specs.SharesLaws.{policy-le}
 use Rattle.kt_shares.proofs.RowLemmas.{nothing-shared, only-share, top-is, whole-few, zeros-sum}

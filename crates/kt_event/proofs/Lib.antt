@@ -1,0 +1,4 @@
+mod NeedLemmas
+mod SetLemmas
+mod StageLemmas
+mod BlockLemmas
