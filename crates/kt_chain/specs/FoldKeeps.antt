@@ -15,9 +15,10 @@ use Rattle.kt_chain.specs.declared.part.RefusedRow.{RefusedRow}
 
 -- what every fold keeps: the occurrences are loaded, its cells are of their periods, and of 1 to 1,000 samples, and the parts that
 -- it keeps have records of a stream with as many
-pub record IsFold (portfolio : PortfolioRows) (cells : KeptCells) (kept : List PartBlock) : Type 0 where
+pub record IsFold (portfolio : PortfolioRows) (samples : ℕ) (cells : KeptCells) (kept : List PartBlock) : Type 0 where
   pub loaded : is_loaded portfolio.need 0 Occurrence ≡ true
   pub periods : cells.periods ≡ portfolio.rows.periods
+  pub same : samples ≡ cells.samples
   pub some : 1 ≤ cells.samples
   pub few : cells.samples ≤ 1000
   pub good : AllByRecursion (IsGoodPart cells.samples) kept

@@ -1,6 +1,6 @@
 -- How far a run comes: the events that are done, up to the first that is refused.
 -- The rules: docs/REFUSALS.md, "Order".
-use Rattle.std.proofs.Common.{refl, sym, ap, ◌∙◌, append_assoc, append-nil}
+use Rattle.std.proofs.Common.{sym, ap, ◌∙◌, append_assoc, append-nil}
 use Rattle.std.specs.Prelude.{◌≡◌, ℕ, List, [], ◌∷◌, ◌++◌, Option, Some, None}
 use Rattle.kt_ends.specs.declared.status.Refusal.{Refusal}
 
@@ -71,11 +71,11 @@ module _ (refuses : List ℕ → ℕ → Option Refusal) where
   -- what is done stays done
   done_stays : (done events : List ℕ) → (more : List ℕ) × ((reached_from refuses done events).done ≡ done ++ more)
   done_stays done [] = ([], sym (append-nil done))
-  done_stays done (event ∷ later) = by (refuses done event)
+  done_stays done (event ∷ later) = by (refuses done event) (done_stays (done ++ event ∷ []) later)
     where
-      by : (why : Option Refusal) → (more : List ℕ) × ((unless_refused done why (reached_from refuses (done ++ event ∷ []) later)).done ≡ done ++ more)
-      by None = let further = done_stays (done ++ event ∷ []) later in (event ∷ further.0, further.1 ∙ append_assoc done (event ∷ []) further.0)
-      by (Some why) = ([], sym (append-nil done))
+      by : (why : Option Refusal) → (more : List ℕ) × ((reached_from refuses (done ++ event ∷ []) later).done ≡ (done ++ event ∷ []) ++ more) → (more : List ℕ) × ((unless_refused done why (reached_from refuses (done ++ event ∷ []) later)).done ≡ done ++ more)
+      by None further = (event ∷ further.0, further.1 ∙ append_assoc done (event ∷ []) further.0)
+      by (Some why) further = ([], sym (append-nil done))
 
   -- events that pass are done, with those before them
   pub passed_are_done : (done events : List ℕ) → Passes done events → AreDone done events (done ++ events)

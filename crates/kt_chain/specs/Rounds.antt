@@ -1,6 +1,6 @@
 -- What the parts of a round make of its events, and what a fold of them stands for.
 -- The rules: docs/ARCHITECTURE.md, "A run of all stages".
-use Rattle.std.specs.Prelude.{◌≡◌, ◌<◌, ◌≤◌, ◌+◌, ◌*◌, ◌-◌, ◌/◌, ℕ, List, [], ◌∷◌, ◌++◌, All, drop, length, map, take, Option, Some, None, Result, Ok, Err}
+use Rattle.std.specs.Prelude.{◌≡◌, ◌≤◌, ◌+◌, ◌*◌, ◌-◌, ◌/◌, ℕ, List, [], ◌∷◌, ◌++◌, All, drop, length, map, take, Option, Some, None, Result, Ok, Err}
 use Rattle.std.specs.List.{AllByRecursion, flat_map}
 use Rattle.kt_curve.specs.Losses.{Added}
 use Rattle.kt_curve.specs.Standing.{KeptCells, StandsFor}
@@ -141,19 +141,22 @@ pub record FoldState : Type 0 where
   pub cells : KeptCells
   pub kept : List PartBlock
 
--- what a fold begins a round with: the rows of its tables, and all records that were added before
+-- what a fold begins a round with: the rows of its tables, the number of samples, and all records that were added before
 pub record FoldStart : Type 0 where
   pub rows : Rows
+  pub samples : ℕ
   pub history : List Added
 
 -- a fold stands for parts behind its start
 pub record StandsBehind (start : FoldStart) (fold : FoldState) (parts : List PartBlock) : Type 0 where
   pub same : fold.rows ≡ start.rows
+  pub samples : fold.cells.samples ≡ start.samples
   pub taken : AreTaken start.rows start.history parts fold.cells fold.kept
 
 -- a fold has stopped behind parts, in the next one
 pub record StopsBehind (start : FoldStart) (fold : FoldState) (parts : List PartBlock) (part : PartBlock) (stop : FoldStop) : Type 0 where
   pub same : fold.rows ≡ start.rows
+  pub samples : fold.cells.samples ≡ start.samples
   pub stops : StopsBy start.rows start.history parts part (fold_refusal stop) fold.kept
 
 -- a part that a fold can take: its records are those of a stream with as many samples
@@ -198,3 +201,7 @@ IsRunStop (Refused why) = IsEventRefusal why
 IsRunStop ReadFault = Unit {0}
 IsRunStop WriteFault = Unit {0}
 IsRunStop NoMemory = Unit {0}
+
+-- what fits a run fits its fold: records of a stream with as many samples as its terms have
+abbrev pub FitsRun : ℕ → FoldState → Type 0
+FitsRun samples fold = (part : PartBlock) → IsGoodPart samples part → FitsFold fold part

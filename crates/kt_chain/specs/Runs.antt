@@ -1,6 +1,6 @@
 -- What the steps of a run leave of the input files and the output files.
 -- The rules: docs/REFUSALS.md, "Order" and "Statuses".
-use Rattle.std.specs.Prelude.{◌≡◌, ◌≤◌, ℕ, List, [], ◌++◌, map, Option, Some, None, Result, Ok, Err, IfSome, IsSomeAnd}
+use Rattle.std.specs.Prelude.{◌≡◌, ◌≤◌, ℕ, List, [], ◌++◌, true, false, map, Option, Some, None, Result, Ok, Err, IfSome, IsSomeAnd}
 use Rattle.std.specs.List.{AllByRecursion}
 use Rattle.kt_curve.specs.Standing.{StandsFor}
 use Rattle.kt_ends.specs.Ending.{Made, Verdict}
@@ -63,6 +63,7 @@ CountsRead before after NoMemory = after ≡ before
 -- the fold stands for all records of the events that are done, and keeps no part
 pub record IsFolded (run : RunInput) (done : List ℕ) (fold : FoldState) : Type 0 where
   pub rows : fold.rows ≡ run.rows
+  pub samples : fold.cells.samples ≡ run.terms.samples
   pub stands : StandsFor (all_added run done) fold.cells
   pub none_kept : fold.kept ≡ []
 
@@ -88,6 +89,7 @@ FoldEnds run done events front (Some why) fold = StopsAt (event_refusal run) don
 -- the events of a front of the round were folded, and their blocks are kept
 pub record FoldsTo (run : RunInput) (done events : List ℕ) (refusal : Option Refusal) (fold : FoldState) : Type 0 where
   pub rows : fold.rows ≡ run.rows
+  pub samples : fold.cells.samples ≡ run.terms.samples
   pub front : List ℕ
   pub kept : blocks_of fold.kept ≡ map (block_of run) front
   pub ends : FoldEnds run done events front refusal fold

@@ -141,6 +141,7 @@ fn add_blocks(
 #[derive(Drop)]
 pub(crate) struct RunFold<'a> {
     portfolio: &'a Portfolio,
+    samples: u32,
     cells: Cells,
     kept: Vec<PartBlock>,
 }
@@ -153,7 +154,7 @@ impl<'a> Model for RunFold<'a> {
 
     ghost view = { λ f. record { rows = f.portfolio.now.rows; cells = f.cells; kept = f.kept.items } };
 
-    ghost invariant = { λ f. IsFold f.portfolio.now f.cells f.kept.items };
+    ghost invariant = { λ f. IsFold f.portfolio.now f.samples f.cells f.kept.items };
 }
 
 impl<'a> RunFold<'a> {
@@ -167,6 +168,7 @@ impl<'a> RunFold<'a> {
         portfolio.keeps_periods();
         RunFold {
             portfolio,
+            samples,
             cells: Cells::new(alloc, portfolio.periods(), samples),
             kept: Vec::new(alloc),
         }
@@ -177,6 +179,23 @@ impl<'a> RunFold<'a> {
         ensures { result.now ≡ self.now.cells }
     {
         &self.cells
+    }
+
+    /// The portfolio of its tables.
+    pub(crate) fn portfolio(&self) -> &'a Portfolio
+        ensures { result.now.rows ≡ self.now.rows }
+    {
+        self.portfolio
+    }
+
+    /// The number of samples of the cells.
+    pub(crate) fn samples(&self) -> u32
+        ensures value { result ≡ self.now.cells.samples }
+        ensures range { (1 ≤ result) × (result ≤ 1000) }
+        ensures periods { self.now.cells.periods ≡ self.now.rows.periods }
+        ensures good { AllByRecursion (IsGoodPart self.now.cells.samples) self.now.kept }
+    {
+        self.samples
     }
 
     /// The parts that are kept.

@@ -2,7 +2,9 @@
 //! The rules: docs/REFUSALS.md, "Order"; docs/OUTPUTS.md, "Files of a run".
 ghost use Rattle.std.specs.Prelude.{◌≡◌, ◌++◌, ◌≤◌, ◌*◌, ℕ, List, [], All, IfErr, IfOk, IfSome, length};
 ghost use Rattle.std.specs.List.{flat_map};
-ghost use Rattle.kt_files.specs.OutputFiles.{output_name};
+ghost use Rattle.kt_event.specs.Needs.{chain_need};
+ghost use Rattle.kt_event.specs.Terms.{AreTerms};
+ghost use Rattle.kt_files.specs.OutputFiles.{output_files, output_name};
 ghost use Rattle.kt_files.specs.Parts.{block_text};
 ghost use Rattle.kt_files.specs.declared.file.OutputFile.{OutputFile};
 ghost use Rattle.kt_load.specs.EventRows.{HasFootprint};
@@ -11,7 +13,7 @@ ghost use Rattle.kt_outputs.specs.Files.{Makes, files_with};
 ghost use Rattle.kt_stream.specs.Pairs.{IsId};
 ghost use Rattle.kt_tables.specs.Lookups.{event_ids};
 ghost use Rattle.kt_chain.specs.Events.{RunInput};
-ghost use Rattle.kt_chain.specs.Rounds.{IsEventRefusal, IsRunStop, blocks_of, ids_of};
+ghost use Rattle.kt_chain.specs.Rounds.{FitsRun, IsEventRefusal, IsRunStop, blocks_of, ids_of};
 ghost use Rattle.kt_chain.specs.Runs.{AreGivenRows, Counts, FoldsTo, IsFolded, IsRunOf, RoundGoes, RoundMakes};
 
 use crate::fold::RunFold;
@@ -22,6 +24,7 @@ use crate::work::RoundWork;
 use kt_ends::{Refusal, ToolStop, write_stop};
 use kt_event::Plan;
 use kt_files::OutputFile;
+use kt_files::laws::names_are_distinct;
 use kt_out::{Fault, Inputs, Outputs};
 use kt_outputs::append_texts;
 use kt_part::{RoundStop, fold_blocks};
@@ -53,6 +56,18 @@ impl<'a> Model for Run<'a> {
     ghost invariant = { λ r. IsRun r.portfolio.now r.plan.now r.files.now r.batch };
 }
 
+impl<'a> Run<'a> {
+    /// Says that its files are those of its portfolio and terms, that its plan is that of its portfolio, and the size of a part.
+    pub(crate) fn has_files(&self)
+        ensures files { self.now.files ≡ output_files self.now.portfolio.rows self.now.terms.last }
+        ensures need { self.now.portfolio.need ≡ chain_need self.now.terms }
+        ensures terms { AreTerms self.now.terms }
+        ensures batch { (1 ≤ self.now.batch) × (self.now.batch ≤ 4) }
+    {
+        let _ = &self.batch;
+    }
+}
+
 /// Folds the parts of a round, and answers why one of its events is refused, if one is. An error is want of memory.
 fn fold_round(
     run: &Run<'_>,
@@ -61,12 +76,14 @@ fn fold_round(
 ) -> Result<Option<Refusal>, AllocError>
     requires events { All (λ one. IsId one.event) given.now }
     requires few { length given.now ≤ 16 * run.now.batch }
-    requires samples { fold.old.cells.samples ≡ run.now.terms.samples }
+    requires fits { FitsRun run.now.terms.samples fold.old }
     ensures folds { IfOk result (λ refusal. (input : RunInput) (done : List ℕ) → input.terms ≡ run.now.terms → input.rows ≡ run.now.portfolio.rows → AreGivenRows input given.now → IsFolded input done fold.old → FoldsTo input done (ids_of given.now) refusal fold.new) }
     ensures why { IfOk result (λ refusal. IfSome refusal IsEventRefusal) }
-    ensures samples { fold.new.cells.samples ≡ fold.old.cells.samples }
+    ensures fits { FitsRun run.now.terms.samples fold.new }
 {
-    let count = given.len().div_ceil(run.batch as usize) as u32;
+    run.has_files();
+    let batch = run.batch as usize;
+    let count = ((given.len() + batch - 1) / batch) as u32;
     let work = RoundWork {
         alloc: run.alloc,
         portfolio: run.portfolio,
@@ -90,15 +107,17 @@ fn write_kept<O: Outputs>(
     fold: &mut RunFold<'_>,
     outputs: &mut O,
 ) -> Result<(), Fault>
-    requires samples { fold.old.cells.samples ≡ run.now.terms.samples }
-    ensures made { (text : OutputFile → List ℕ) → fold.old.rows ≡ run.now.portfolio.rows → Makes (files_with output_name text run.now.files) (files_with output_name (λ file. text file ++ flat_map (block_text run.now.terms.samples run.now.portfolio.rows file) (blocks_of fold.old.kept)) run.now.files) (O.state outputs.old) (O.state outputs.new) result }
+    requires fits { FitsRun run.now.terms.samples fold.old }
+    ensures made { (text : OutputFile → List ℕ) → Makes (files_with output_name text run.now.files) (files_with output_name (λ file. text file ++ flat_map (block_text fold.old.cells.samples fold.old.rows file) (blocks_of fold.old.kept)) run.now.files) (O.state outputs.old) (O.state outputs.new) result }
     ensures fold { IfOk result (λ _. fold.new ≡ record fold.old { kept = [] }) }
-    ensures samples { fold.new.cells.samples ≡ fold.old.cells.samples }
+    ensures fits { FitsRun run.now.terms.samples fold.new }
     ensures counts { CountsOutput (O.state outputs.old).faults (O.state outputs.new).faults result }
 {
+    run.has_files();
+    names_are_distinct();
     let texts = RoundTexts {
-        portfolio: run.portfolio,
-        samples: run.plan.terms().samples,
+        portfolio: fold.portfolio(),
+        samples: fold.samples(),
         parts: fold.kept(),
     };
     let answer = append_texts(run.alloc, outputs, run.files, &texts);
@@ -123,13 +142,14 @@ fn one_round<I: Inputs, O: Outputs>(
     requires events { All IsId events.now }
     requires few { length events.now ≤ 16 * run.now.batch }
     requires file { HasFootprint (I.state inputs.old).held run.now.portfolio.rows.footprint_size }
-    requires samples { fold.old.cells.samples ≡ run.now.terms.samples }
+    requires fits { FitsRun run.now.terms.samples fold.old }
     ensures events { (input : RunInput) (done : List ℕ) → IsRunOf (I.state inputs.old).held run.now.terms run.now.portfolio.rows input → IsFolded input done fold.old → RoundGoes input done events.now fold.new result }
     ensures files { (input : RunInput) (done : List ℕ) → IsRunOf (I.state inputs.old).held run.now.terms run.now.portfolio.rows input → IsFolded input done fold.old → RoundMakes input done events.now (O.state outputs.old) (O.state outputs.new) result }
     ensures counts { Counts (I.state inputs.old) (I.state inputs.new) (O.state outputs.old).faults (O.state outputs.new).faults result }
     ensures stop { IfErr result IsRunStop }
-    ensures samples { fold.new.cells.samples ≡ fold.old.cells.samples }
+    ensures fits { FitsRun run.now.terms.samples fold.new }
 {
+    run.has_files();
     let given = match round_rows(run.alloc, inputs, run.portfolio, events) {
         Ok(given) => given,
         Err(stop) => return Err(stop),
@@ -155,13 +175,15 @@ pub(crate) fn all_rounds<I: Inputs, O: Outputs>(
     outputs: &mut O,
 ) -> Result<(), ToolStop>
     requires file { HasFootprint (I.state inputs.old).held run.now.portfolio.rows.footprint_size }
-    requires samples { fold.old.cells.samples ≡ run.now.terms.samples }
+    requires fits { FitsRun run.now.terms.samples fold.old }
     ensures events { (input : RunInput) → IsRunOf (I.state inputs.old).held run.now.terms run.now.portfolio.rows input → IsFolded input [] fold.old → RoundGoes input [] (event_ids run.now.portfolio.rows) fold.new result }
     ensures files { (input : RunInput) → IsRunOf (I.state inputs.old).held run.now.terms run.now.portfolio.rows input → IsFolded input [] fold.old → RoundMakes input [] (event_ids run.now.portfolio.rows) (O.state outputs.old) (O.state outputs.new) result }
     ensures counts { Counts (I.state inputs.old) (I.state inputs.new) (O.state outputs.old).faults (O.state outputs.new).faults result }
     ensures stop { IfErr result IsRunStop }
-    ensures samples { fold.new.cells.samples ≡ fold.old.cells.samples }
+    ensures fits { FitsRun run.now.terms.samples fold.new }
 {
+    run.has_files();
+    run.portfolio.is_valid();
     let size = PARTS * run.batch as usize;
     let mut rest = run.portfolio.events();
     while !rest.is_empty() {

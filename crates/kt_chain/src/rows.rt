@@ -69,7 +69,7 @@ pub(crate) fn round_rows<I: Inputs>(
             Ok(one) => one,
             Err(stop) => return Err(stop),
         };
-        if given.push(one).is_err() {
+        if let Err(_) = given.push(one) {
             return Err(ToolStop::NoMemory);
         }
     }

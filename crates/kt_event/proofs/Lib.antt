@@ -1,4 +1,3 @@
-mod NeedLemmas
 mod SetLemmas
 mod StageLemmas
 mod BlockLemmas

@@ -2,3 +2,4 @@ pub mod Terms
 pub mod Needs
 pub mod Losses
 pub mod Plan
+pub mod Loading

@@ -1,4 +1,4 @@
-use Rattle.kt_event.proofs.NeedLemmas.{loads_bins, loads_random}
+use Rattle.kt_event.specs.Loading.{loads_bins, loads_random}
 use Rattle.kt_event.proofs.event.event_losses.Goals as goal
 
 pub distributions-requires : goal.distributions-requires

@@ -8,7 +8,7 @@ use Rattle.kt_shares.specs.RecordLaws.{map-same}
 use Rattle.kt_stream.specs.declared.entry.LossRecord.{LossRecord}
 use Rattle.kt_tree.specs.Programme.{tree_of}
 use Rattle.kt_event.proofs.BlockLemmas.{layers_are, of_perspective, output_summaries, rule_is}
-use Rattle.kt_event.proofs.NeedLemmas.{loads_outputs, loads_policytc, loads_programme}
+use Rattle.kt_event.specs.Loading.{loads_outputs, loads_policytc, loads_programme}
 use Rattle.kt_event.proofs.event.put_insured_summaries.Goals as goal
 
 pub insured_losses_are_within-requires-clause-programme : goal.insured_losses_are_within-requires-clause-programme

@@ -1,4 +1,4 @@
-use Rattle.kt_event.proofs.NeedLemmas.{insured_last, loads_programme}
+use Rattle.kt_event.specs.Loading.{insured_last, loads_programme}
 use Rattle.kt_event.proofs.plan.base_up_to.Goals as goal
 
 pub base_of-requires : goal.base_of-requires

@@ -1,4 +1,4 @@
-use Rattle.kt_event.proofs.NeedLemmas.{loads_stage}
+use Rattle.kt_event.specs.Loading.{loads_stage}
 use Rattle.kt_event.proofs.plan.stages_up_to.Goals as goal
 
 pub first_stages-requires-clause-loaded : goal.first_stages-requires-clause-loaded

@@ -1,4 +1,5 @@
 -- The tables that a run needs are those on which its stages stand.
+-- The rules: docs/COMMANDS.md, "chain".
 use Rattle.std.proofs.Common.{◌≡◌, ◌⊎◌, ◌<◌, ◌≤◌, ℕ, zero, suc, true, refl, ap, inl, inr, subst, sym, arith}
 use Rattle.kt_keys.specs.Refusals.{is_loaded}
 use Rattle.kt_keys.specs.declared.need.Need.{Need}
@@ -49,6 +50,24 @@ module _ (samples rule : ℕ) where
   random Gul stages few = refl
   random Il stages few = refl
   random Ri stages few = by_stages (Loads table.Random Ri) refl refl refl refl refl refl refl refl refl refl stages few
+
+  footprint : (last : Perspective) (stages : ℕ) → stages ≤ 9 → Loads table.Footprint last stages
+  unfolding is_loaded
+  footprint Gul stages few = refl
+  footprint Il stages few = refl
+  footprint Ri stages few = by_stages (Loads table.Footprint Ri) refl refl refl refl refl refl refl refl refl refl stages few
+
+  footprint_index : (last : Perspective) (stages : ℕ) → stages ≤ 9 → Loads table.FootprintIdx last stages
+  unfolding is_loaded
+  footprint_index Gul stages few = refl
+  footprint_index Il stages few = refl
+  footprint_index Ri stages few = by_stages (Loads table.FootprintIdx Ri) refl refl refl refl refl refl refl refl refl refl stages few
+
+  occurrence : (last : Perspective) (stages : ℕ) → stages ≤ 9 → Loads table.Occurrence last stages
+  unfolding is_loaded
+  occurrence Gul stages few = refl
+  occurrence Il stages few = refl
+  occurrence Ri stages few = by_stages (Loads table.Occurrence Ri) refl refl refl refl refl refl refl refl refl refl stages few
 
   programme : (last : Perspective) (stages : ℕ) → stages ≤ 9 → has_insured last ≡ true → Loads table.FmProgramme last stages
   unfolding is_loaded
@@ -131,6 +150,15 @@ module _ (terms : Terms) (need : Need) (is : need ≡ chain_need terms) (are : A
 
   pub loads_random : is_loaded need 0 table.Random ≡ true
   loads_random = subst (λ (one : Need). is_loaded one 0 table.Random ≡ true) (sym is) (random terms.samples terms.rule terms.last terms.stages are.stages)
+
+  pub loads_footprint : is_loaded need 0 table.Footprint ≡ true
+  loads_footprint = subst (λ (one : Need). is_loaded one 0 table.Footprint ≡ true) (sym is) (footprint terms.samples terms.rule terms.last terms.stages are.stages)
+
+  pub loads_footprint_index : is_loaded need 0 table.FootprintIdx ≡ true
+  loads_footprint_index = subst (λ (one : Need). is_loaded one 0 table.FootprintIdx ≡ true) (sym is) (footprint_index terms.samples terms.rule terms.last terms.stages are.stages)
+
+  pub loads_occurrence : is_loaded need 0 table.Occurrence ≡ true
+  loads_occurrence = subst (λ (one : Need). is_loaded one 0 table.Occurrence ≡ true) (sym is) (occurrence terms.samples terms.rule terms.last terms.stages are.stages)
 
   pub loads_programme : has_insured terms.last ≡ true → is_loaded need 0 table.FmProgramme ≡ true
   loads_programme insured = subst (λ (one : Need). is_loaded one 0 table.FmProgramme ≡ true) (sym is) (programme terms.samples terms.rule terms.last terms.stages are.stages insured)

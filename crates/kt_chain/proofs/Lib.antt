@@ -1,0 +1,12 @@
+mod ListLemmas
+mod AddedLemmas
+mod PassLemmas
+mod PartLemmas
+mod WorkLemmas
+mod FoldLemmas
+mod TextLemmas
+mod TakeLemmas
+mod RoundLemmas
+mod StepLemmas
+mod EndLemmas
+mod WorldLemmas

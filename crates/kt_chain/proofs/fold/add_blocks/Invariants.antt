@@ -1,0 +1,14 @@
+-- The blocks so far are added.
+use Rattle.std.proofs.Common.{◌≡◌, List, take}
+use Rattle.kt_curve.specs.Losses.{Added}
+use Rattle.kt_curve.specs.Standing.{StandsFor}
+use Rattle.kt_chain.specs.Events.{blocks_added}
+use Rattle.kt_chain.proofs.FoldLemmas.{HasAdded}
+use Rattle.kt_chain.proofs.fold.add_blocks.Given as goal
+
+abbrev pub invariant-loop-place : goal.invariant-loop-place
+invariant-loop-place l = record {
+  added : (history : List Added) → StandsFor history l.fn.cells → HasAdded history (blocks_added l.portfolio.rows (take l.place l.blocks)) l.cells;
+  periods : l.cells.periods ≡ l.fn.cells.periods;
+  samples : l.cells.samples ≡ l.fn.cells.samples;
+}
