@@ -54,6 +54,24 @@ fn find<'a>(files: &'a [NamedFile], name: &str) -> Option<&'a NamedFile> {
     files.iter().rev().find(|file| file.name.as_str() == name)
 }
 
+/// Whether a file of this name is an output file.
+pub(crate) fn is_output(name: &str) -> bool {
+    name.ends_with(".csv")
+}
+
+/// The size of the output file at the front of these and 1 for itself; 0 where it is none, or one behind it has its name.
+fn first_size(files: &[NamedFile]) -> u64 {
+    match files {
+        [file, others @ ..] if is_output(file.name.as_str()) => {
+            match find(others, file.name.as_str()) {
+                Some(_) => 0,
+                None => file.bytes.len().saturating_add(1) as u64,
+            }
+        }
+        _ => 0,
+    }
+}
+
 /// The file of a table, from its rows behind a heading.
 fn made_of_rows(
     alloc: Global,
@@ -114,6 +132,15 @@ impl Files {
             None => self.get("source"),
         };
         source.get(..cut as usize).unwrap_or(source)
+    }
+
+    /// How many output files are given and bytes in them, together.
+    pub(crate) fn wanted_size(&self) -> u64 {
+        let mut size: u64 = 0;
+        for n in 0..self.list.len() {
+            size = size.saturating_add(first_size(&self.list[n..]));
+        }
+        size
     }
 
     /// Gives a file.

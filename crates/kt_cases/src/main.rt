@@ -25,7 +25,7 @@ use std::process::ExitCode;
 use std::thread::Threads;
 
 /// The files of the cases.
-const DATA: [&str; 4] = ["words", "loads", "runs", "faults"];
+const DATA: [&str; 5] = ["words", "loads", "runs", "faults", "chains"];
 
 /// Prints the differences of a script, and how many answers were compared.
 fn print_end<R: Print>(rt: &R, name: &str, script: &Script) -> Result<(), NotTaken> {

@@ -11,36 +11,25 @@ use kt_checks::Need;
 use kt_ends::status_of;
 use kt_load::load as load_tables;
 use kt_out::{
-    Inputs, MemInputs, MemSink, MemSource, Open, Outputs, Sink, Source, StdErr, StdSink, StdSource,
-    SureInputs, SureOutputs, SureSink, SureSource,
+    Inputs, MemInputs, MemOutputs, MemSink, MemSource, Open, Outputs, Sink, Source, StdErr,
+    StdSink, StdSource, SureInputs, SureOutputs, SureSink, SureSource,
 };
 use kt_tools::{Status, Words, load_stop, run};
 use std::alloc::{AllocError, AllocGlobal, Global};
 use std::thread::Threads;
 
 /// The exit status of a run. Its clauses end here, so that callers are checked without them.
-fn status_code<R: Threads + Sync + AllocGlobal, I: Inputs, S: Source, K: Sink, E: Sink>(
+fn status_code<R: Threads + Sync + AllocGlobal, I: Inputs, O: Outputs, S: Source, K: Sink, E: Sink>(
     rt: &R,
     words: &Words,
     inputs: &mut I,
+    outputs: &mut O,
     source: &mut S,
     sink: &mut K,
     err: &mut E,
 ) -> u8 {
     let alloc = rt.alloc();
-    let mut outputs = SureOutputs::new(alloc);
-    run(
-        rt,
-        alloc,
-        &Open,
-        words,
-        inputs,
-        &mut outputs,
-        source,
-        sink,
-        err,
-    )
-    .code()
+    run(rt, alloc, &Open, words, inputs, outputs, source, sink, err).code()
 }
 
 /// How a run ends that loads these tables and does no more.
@@ -55,6 +44,12 @@ fn load_status<I: Inputs>(alloc: Global, need: Need, inputs: &mut I) -> Status {
 fn mem_sink(alloc: Global, failing: u32, most: u32) -> Result<MemSink, AllocError> {
     let fails = vec![in alloc; failing as u64]?;
     Ok(MemSink::new(alloc, fails, most.max(1) as u64))
+}
+
+/// The output files of a case.
+fn mem_outputs(alloc: Global, settings: &Settings) -> Result<MemOutputs, AllocError> {
+    let fails = vec![in alloc; settings.outputs as u64]?;
+    Ok(MemOutputs::new(alloc, fails, settings.most.max(1) as u64))
 }
 
 /// The source of a case.
@@ -76,8 +71,18 @@ pub(crate) fn run_in_memory<R: Threads + Sync + AllocGlobal>(
     let mut err = mem_sink(alloc, settings.err, settings.most)?;
     let mut source = mem_source(alloc, files, settings)?;
     let mut inputs = files.inputs(settings)?;
-    let code = status_code(rt, words, &mut inputs, &mut source, &mut sink, &mut err);
-    Seen::new(alloc, code, sink.taken(), err.taken())
+    let mut outputs = mem_outputs(alloc, settings)?;
+    let code = status_code(
+        rt,
+        words,
+        &mut inputs,
+        &mut outputs,
+        &mut source,
+        &mut sink,
+        &mut err,
+    );
+    let seen = Seen::new(alloc, code, sink.taken(), err.taken())?;
+    Ok(seen.with_files(outputs))
 }
 
 /// What an output file in memory that never fails has once these bytes were written to it.
@@ -107,7 +112,16 @@ pub(crate) fn run_surely<R: Threads + Sync + AllocGlobal>(
     let mut source = SureSource::new(files.source(settings.cut).to_vec(alloc)?);
     let mut inputs = SureInputs::new(alloc);
     inputs.add(b"input/events.bin", files.get("input/events.bin"))?;
-    let code = status_code(rt, words, &mut inputs, &mut source, &mut sink, &mut err);
+    let mut outputs = SureOutputs::new(alloc);
+    let code = status_code(
+        rt,
+        words,
+        &mut inputs,
+        &mut outputs,
+        &mut source,
+        &mut sink,
+        &mut err,
+    );
     let output = written(alloc, sink.taken())?;
     Seen::new(alloc, code, &output, err.taken())
 }
@@ -134,9 +148,18 @@ fn adapted_code<R: Threads + Sync + AllocGlobal>(
         calls: Calls::new(settings, settings.err),
         taken: line,
     });
+    let mut outputs = SureOutputs::new(rt.alloc());
     let mut code = 0;
     for _ in 0..settings.times {
-        code = status_code(rt, words, inputs, &mut source, &mut sink, &mut err);
+        code = status_code(
+            rt,
+            words,
+            inputs,
+            &mut outputs,
+            &mut source,
+            &mut sink,
+            &mut err,
+        );
     }
     code
 }

@@ -1,17 +1,18 @@
 //! What a question left to be seen.
 //! The language: README.md.
 
-use crate::files::Files;
+use crate::files::{Files, is_output};
 use crate::not_taken::NotTaken;
 use kt_ends::{Status, report};
-use kt_out::SureSink;
+use kt_out::{MemOutputs, SureSink};
 use std::alloc::{AllocError, Global};
 
-/// What a question left: its answer, and the output where there was a run.
+/// What a question left: its answer, and the output and the output files where there was a run.
 #[derive(Drop)]
 pub(crate) struct Seen {
     pub(crate) answer: String,
     pub(crate) output: Vec<u8>,
+    pub(crate) files: MemOutputs,
 }
 
 /// Bytes as words of four bytes, in hexadecimal digits; `none` where there are none.
@@ -58,6 +59,63 @@ fn lack_text(alloc: Global, output: &[u8], wanted: &[u8]) -> Result<String, Allo
     format!(in alloc; "{}", output.len().saturating_add(1))
 }
 
+/// No output file.
+fn no_files(alloc: Global) -> MemOutputs {
+    MemOutputs::new(alloc, Vec::new(alloc), 1)
+}
+
+/// The name of an output file.
+fn name_text(name: &[u8]) -> &str {
+    str::from_utf8(name).unwrap_or("no text")
+}
+
+/// The names of the output files, in the order in which they were made.
+fn names_text(alloc: Global, outputs: &MemOutputs) -> Result<String, AllocError> {
+    if outputs.count() == 0 {
+        return format!(in alloc; "none");
+    }
+    let mut text = String::new(alloc);
+    for n in 0..outputs.count() {
+        let blank = if n > 0 { " " } else { "" };
+        text.push_str(blank)?;
+        text.push_str(name_text(outputs.name(n)))?;
+    }
+    Ok(text)
+}
+
+/// The lines of an output file.
+fn file_text(alloc: Global, outputs: &MemOutputs, name: &str) -> Result<String, AllocError> {
+    match outputs.get(name.as_bytes()) {
+        Some(bytes) => line_text(alloc, bytes),
+        None => format!(in alloc; "not made"),
+    }
+}
+
+/// How many files were made and bytes were written to them, together; none where one of them is no front of the file of its
+/// name that is wanted.
+fn made_size(outputs: &MemOutputs, wanted: &Files) -> Option<u64> {
+    let mut size: u64 = 0;
+    for n in 0..outputs.count() {
+        let name = outputs.name(n);
+        let bytes = outputs.get(name).unwrap_or(&[]);
+        if !wanted.get(name_text(name)).starts_with(bytes) {
+            return None;
+        }
+        size = size.saturating_add(1).saturating_add(bytes.len() as u64);
+    }
+    Some(size)
+}
+
+/// The number, counted from 1 over the files and their bytes together, of the first file or byte that is wanted and was not
+/// made, where each file is a front of the one that is wanted.
+fn made_text(alloc: Global, outputs: &MemOutputs, wanted: &Files) -> Result<String, AllocError> {
+    match made_size(outputs, wanted) {
+        Some(size) if size == wanted.wanted_size() => format!(in alloc; "nothing"),
+        Some(size) => format!(in alloc; "{}", size.saturating_add(1)),
+        None => format!(in alloc; "no front"),
+    }
+}
+
 /// The exit status, and the line of a refusal.
 fn status_text(alloc: Global, code: u8, line: &[u8]) -> Result<String, AllocError> {
     if line.is_empty() {
@@ -69,7 +127,10 @@ fn status_text(alloc: Global, code: u8, line: &[u8]) -> Result<String, AllocErro
 
 /// Whether a question looks at what the last one left.
 pub(crate) fn is_look(question: &str) -> bool {
-    matches!(question, "text" | "bytes" | "lacks" | "is the source")
+    matches!(
+        question,
+        "text" | "bytes" | "lacks" | "is the source" | "files" | "files lack"
+    ) || is_output(question)
 }
 
 impl Seen {
@@ -78,6 +139,7 @@ impl Seen {
         Seen {
             answer,
             output: Vec::new(alloc),
+            files: no_files(alloc),
         }
     }
 
@@ -91,7 +153,17 @@ impl Seen {
         Ok(Seen {
             answer: status_text(alloc, code, line)?,
             output: output.to_vec(alloc)?,
+            files: no_files(alloc),
         })
+    }
+
+    /// The same with output files.
+    pub(crate) fn with_files(self, files: MemOutputs) -> Self {
+        Seen {
+            answer: self.answer,
+            output: self.output,
+            files,
+        }
     }
 
     /// The answer of a question that looks at it; of any other its own answer.
@@ -105,10 +177,13 @@ impl Seen {
             "text" => line_text(alloc, &self.output),
             "bytes" => hex_text(alloc, &self.output),
             "lacks" => lack_text(alloc, &self.output, files.get("wanted")),
+            "files" => names_text(alloc, &self.files),
+            "files lack" => made_text(alloc, &self.files, files),
             "is the source" => {
                 let is_same = self.output.as_slice() == files.get("source");
                 format!(in alloc; "{is_same}")
             }
+            _ if is_output(question) => file_text(alloc, &self.files, question),
             _ => self.answer.clone(),
         }
     }

@@ -16,8 +16,9 @@ pub(crate) struct Settings {
     pub(crate) most: u32,
     /// The source ends behind so many bytes.
     pub(crate) cut: u32,
-    /// The call that fails, counted from 1, of the files, the source, the sink and standard error; 0 for none.
+    /// The call that fails, counted from 1, of the files, the output files, the source, the sink and standard error; 0 for none.
     pub(crate) files: u32,
+    pub(crate) outputs: u32,
     pub(crate) source: u32,
     pub(crate) sink: u32,
     pub(crate) err: u32,
@@ -39,6 +40,7 @@ impl Settings {
             most: u32::MAX,
             cut: u32::MAX,
             files: 0,
+            outputs: 0,
             source: 0,
             sink: 0,
             err: 0,
@@ -58,6 +60,7 @@ impl Settings {
             "most" => self.most = number,
             "cut" => self.cut = number,
             "fails files" => self.files = number,
+            "fails outputs" => self.outputs = number,
             "fails source" => self.source = number,
             "fails sink" => self.sink = number,
             "fails err" => self.err = number,

@@ -1,5 +1,5 @@
 -- How a run ends by its words and its command.
-use Rattle.std.proofs.Common.{◌≡◌, ◌∙◌, ℕ, List, Result, Ok, Err, refl, subst, sym, ap}
+use Rattle.std.proofs.Common.{◌≡◌, ℕ, List, Result, Ok, Err, refl, subst, sym}
 use Rattle.kt_ends.specs.Ending.{ToolEnds}
 use Rattle.kt_ends.specs.Endings.{ends_words}
 use Rattle.kt_ends.specs.Report.{AnswersWords, IsNoWords}
@@ -9,7 +9,7 @@ use Rattle.kt_ends.specs.World.{World}
 use Rattle.kt_ends.specs.declared.status.Status.{Status}
 use Rattle.kt_ends.specs.declared.status.Status.TheVariants as status
 use Rattle.kt_ends.specs.declared.tool_stop.ToolStop.{ToolStop}
-use Rattle.kt_tools.specs.Outcome.{command_outcome, outcome, words_outcome}
+use Rattle.kt_tools.specs.Outcome.{command_outcome, words_outcome}
 use Rattle.kt_tools.specs.Uses.{command_uses, words_use}
 use Rattle.kt_words.specs.Command.{command_of}
 use Rattle.kt_words.specs.declared.command.Command.{Command}

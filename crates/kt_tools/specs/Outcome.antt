@@ -1,4 +1,4 @@
--- What a run of a command gives: its status, and the bytes that it writes to the sink.
+-- What a run of a command gives: its status, the bytes that it writes to the sink, and its output files.
 -- The rules: docs/COMMANDS.md.
 use Rattle.std.specs.Prelude.{ℕ, List, [], length, nat_le, Option, Some, None, Result, Ok, Err, if◌then◌else◌}
 use Rattle.std.specs.List.{flat_map}
@@ -19,7 +19,7 @@ use Rattle.kt_tables.specs.Portfolio.{PortfolioRows}
 use Rattle.kt_words.specs.Command.{command_of}
 use Rattle.kt_words.specs.FileNames.{file_names}
 use Rattle.kt_words.specs.declared.command.Command.{Command}
-use Rattle.kt_words.specs.declared.command.Command.TheVariants.{Fmcalc, FmcalcNet, Summarycalc, Eltcalc, Pltcalc, Aalcalc, Leccalc, Kat, Convert, FootprintText, Eve, Getmodel, Gulcalc}
+use Rattle.kt_words.specs.declared.command.Command.TheVariants.{Fmcalc, FmcalcNet, Summarycalc, Eltcalc, Pltcalc, Aalcalc, Leccalc, Kat, Convert, FootprintText, Eve, Getmodel, Gulcalc, Chain}
 use Rattle.kt_words.specs.declared.command.Conversion.{Conversion}
 use Rattle.kt_words.specs.declared.stop.WordStop.{WordStop}
 use Rattle.kt_ends.specs.Endings.{nothing, writes_text}
@@ -32,11 +32,13 @@ use Rattle.kt_periods.specs.EventLossTable.{elt_outcome}
 use Rattle.kt_periods.specs.PeriodLossTable.{plt_outcome}
 use Rattle.kt_periods.specs.PeriodTables.{aal_rows_outcome, lec_rows_outcome}
 use Rattle.kt_kat.specs.Outcome.{kat_outcome}
+use Rattle.kt_chain.specs.Events.{run_input}
+use Rattle.kt_chain.specs.Outcome.{chain_outcome}
 use Rattle.kt_tools.specs.Converting.{source_limit, source_name, other_form, converted}
 use Rattle.kt_tools.specs.GulOutcome.{gul_outcome}
 use Rattle.kt_tools.specs.Loading.{with_tables}
 use Rattle.kt_tools.specs.ModelOutcome.{model_outcome}
-use Rattle.kt_tools.specs.Needs.{base_need, command_need}
+use Rattle.kt_tools.specs.Needs.{base_need, chain_terms, command_need}
 
 -- what is made of the source: one that is too large is refused, whatever else is wrong with it
 abbrev pub within_limit : (List ℕ → Outcome) → List ℕ → Outcome
@@ -78,6 +80,7 @@ tool_outcome words (Gulcalc samples cut) files portfolio source = gul_outcome sa
 tool_outcome words (Convert conversion) files portfolio source = convert_outcome conversion source
 tool_outcome words FootprintText files portfolio source = footprint_text portfolio.rows.footprint_idx source
 tool_outcome words (Eve part parts) files portfolio source = eve_outcome part parts portfolio.rows
+tool_outcome words (Chain samples cut rule last stages workers batch) files portfolio source = chain_outcome (run_input (chain_terms samples cut rule last stages) portfolio.rows files)
 
 -- a command that needs no tables has this portfolio
 abbrev pub no_portfolio : PortfolioRows

@@ -1,11 +1,12 @@
 //! What a command needs of the tables.
 //! The rules: docs/COMMANDS.md.
 ghost use Rattle.std.specs.Prelude.{◌≡◌, ◌≤◌, Bool, Some};
-ghost use Rattle.kt_tools.specs.Needs.{add_tables, base_need as need_for_base, base_tables as tables_of_base, command_need as need_of_command, need_of as need_for, programme_tables as tables_of_programme, summary_tables as tables_of_summaries};
+ghost use Rattle.kt_tools.specs.Needs.{base_need as need_for_base, base_tables as tables_of_base, command_need as need_of_command, need_of as need_for, programme_tables as tables_of_programme, summary_tables as tables_of_summaries};
 ghost use Rattle.kt_words.specs.Command.{IsCommand};
 ghost use Rattle.kt_words.specs.declared.command.Command.TheVariants as Command;
 
 use kt_checks::Need;
+use kt_event::{Terms, chain_need};
 use kt_rec::{Table, TableId, TableSet};
 use kt_words::Command;
 
@@ -136,6 +137,20 @@ pub(crate) fn command_need(command: Command) -> Option<Need>
         Command::Gulcalc { samples, .. } => Some(sampling_need(samples)),
         Command::FootprintText => Some(base_need(&[Table::FootprintIdx])),
         Command::Eve { .. } => Some(base_need(&[Table::Events])),
+        Command::Chain {
+            samples,
+            cut,
+            rule,
+            last,
+            stages,
+            ..
+        } => Some(chain_need(&Terms {
+            samples,
+            cut,
+            rule,
+            last,
+            stages,
+        })),
         Command::Eltcalc { .. } | Command::Kat | Command::Convert(_) => None,
     }
 }

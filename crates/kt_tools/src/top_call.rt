@@ -5,7 +5,6 @@ ghost use Rattle.kt_ends.specs.Ending.{ToolEnds};
 ghost use Rattle.kt_ends.specs.Report.{AnswersWords};
 ghost use Rattle.kt_ends.specs.Stops.{end_status};
 ghost use Rattle.kt_ends.specs.World.{world};
-ghost use Rattle.kt_out.specs.OutputFiles.{OutputsState};
 ghost use Rattle.kt_tools.specs.Loading.{IsOfFiles};
 ghost use Rattle.kt_tools.specs.Needs.{command_need as need_of_command};
 ghost use Rattle.kt_tools.specs.Outcome.{command_outcome, outcome, tool_outcome};
@@ -22,8 +21,10 @@ use crate::getmodel::write_distributions;
 use crate::gulcalc::write_ground_up;
 use crate::need::command_need;
 use crate::stops::load_stop;
+use kt_chain::{ChainOptions, run_chain};
 use kt_checks::Need;
 use kt_ends::{Status, ToolStop, report, status_of};
+use kt_event::Terms;
 use kt_kat::kat;
 use kt_load::load;
 use kt_losses::{write_insured, write_net, write_summaries};
@@ -37,19 +38,19 @@ use std::alloc::Global;
 use std::thread::Threads;
 
 /// Runs the tool of a command over the portfolio of its tables.
-fn run_tool<I: Inputs, S: Source, K: Sink>(
+fn run_tool<I: Inputs, O: Outputs, S: Source, K: Sink>(
     alloc: Global,
     command: Command,
     portfolio: &Portfolio,
     inputs: &mut I,
+    outputs: &mut O,
     source: &mut S,
     sink: &mut K,
 ) -> Result<(), ToolStop>
     requires command { IsCommand command }
     requires need { need_of_command command ≡ Some portfolio.now.need }
     requires tables { IsOfFiles (I.state inputs.old) portfolio.now }
-    // The output files are none of its objects so far.
-    ensures { (words : List (List ℕ)) (outputs : OutputsState) → ToolEnds (command_uses command) (λ files bytes. tool_outcome words command files portfolio.now bytes) (world (I.state inputs.old) outputs (S.state source.old) (K.state sink.old)) (world (I.state inputs.new) outputs (S.state source.new) (K.state sink.new)) (end_status result) }
+    ensures { (words : List (List ℕ)) → ToolEnds (command_uses command) (λ files bytes. tool_outcome words command files portfolio.now bytes) (world (I.state inputs.old) (O.state outputs.old) (S.state source.old) (K.state sink.old)) (world (I.state inputs.new) (O.state outputs.new) (S.state source.new) (K.state sink.new)) (end_status result) }
 {
     match command {
         Command::Fmcalc { rule } => write_insured(alloc, rule, portfolio, source, sink),
@@ -72,66 +73,92 @@ fn run_tool<I: Inputs, S: Source, K: Sink>(
         }
         Command::FootprintText => footprint_to_text(alloc, portfolio, source, sink),
         Command::Eve { part, parts } => write_events(alloc, part, parts, portfolio, sink),
+        Command::Chain {
+            samples,
+            cut,
+            rule,
+            last,
+            stages,
+            workers,
+            batch,
+        } => {
+            let terms = Terms {
+                samples,
+                cut,
+                rule,
+                last,
+                stages,
+            };
+            let options = ChainOptions {
+                terms,
+                workers,
+                batch,
+            };
+            run_chain(alloc, &options, portfolio, inputs, outputs)
+        }
         Command::Eltcalc { .. } | Command::Kat | Command::Convert(_) => unreachable!(),
     }
 }
 
 /// Loads the tables of a command and makes their checks, and runs its tool over them. Nothing is written where they are refused.
-fn load_and_run<I: Inputs, S: Source, K: Sink>(
+fn load_and_run<I: Inputs, O: Outputs, S: Source, K: Sink>(
     alloc: Global,
     command: Command,
     need: Need,
     inputs: &mut I,
+    outputs: &mut O,
     source: &mut S,
     sink: &mut K,
 ) -> Result<(), ToolStop>
     requires command { IsCommand command }
     requires need { need_of_command command ≡ Some need }
-    ensures { (words : List (List ℕ)) (outputs : OutputsState) → ToolEnds (command_uses command) (command_outcome words command) (world (I.state inputs.old) outputs (S.state source.old) (K.state sink.old)) (world (I.state inputs.new) outputs (S.state source.new) (K.state sink.new)) (end_status result) }
+    ensures { (words : List (List ℕ)) → ToolEnds (command_uses command) (command_outcome words command) (world (I.state inputs.old) (O.state outputs.old) (S.state source.old) (K.state sink.old)) (world (I.state inputs.new) (O.state outputs.new) (S.state source.new) (K.state sink.new)) (end_status result) }
 {
     match load(alloc, inputs, need) {
-        Ok(portfolio) => run_tool(alloc, command, &portfolio, inputs, source, sink),
+        Ok(portfolio) => run_tool(alloc, command, &portfolio, inputs, outputs, source, sink),
         Err(stop) => Err(load_stop(stop)),
     }
 }
 
 /// Runs a command: over its tables, or by itself where it needs none.
-fn run_command<I: Inputs, S: Source, K: Sink>(
+fn run_command<I: Inputs, O: Outputs, S: Source, K: Sink>(
     alloc: Global,
     words: &Words,
     command: Command,
     inputs: &mut I,
+    outputs: &mut O,
     source: &mut S,
     sink: &mut K,
 ) -> Result<(), ToolStop>
     requires command { IsCommand command }
     requires names { command ≡ Command.Kat → 0 < length (file_names words.now) }
-    ensures { (outputs : OutputsState) → ToolEnds (command_uses command) (command_outcome words.now command) (world (I.state inputs.old) outputs (S.state source.old) (K.state sink.old)) (world (I.state inputs.new) outputs (S.state source.new) (K.state sink.new)) (end_status result) }
+    ensures { ToolEnds (command_uses command) (command_outcome words.now command) (world (I.state inputs.old) (O.state outputs.old) (S.state source.old) (K.state sink.old)) (world (I.state inputs.new) (O.state outputs.new) (S.state source.new) (K.state sink.new)) (end_status result) }
 {
     match command {
         Command::Eltcalc { heading } => write_event_losses(alloc, heading, source, sink),
         Command::Kat => kat(alloc, words, inputs, sink),
         Command::Convert(conversion) => convert(alloc, conversion, source, sink),
         _ => match command_need(command) {
-            Some(need) => load_and_run(alloc, command, need, inputs, source, sink),
+            Some(need) => load_and_run(alloc, command, need, inputs, outputs, source, sink),
             None => unreachable!(),
         },
     }
 }
 
 /// Runs the command of the words up to its status, without the report of a refusal.
-fn carry_out<I: Inputs, S: Source, K: Sink>(
+fn carry_out<I: Inputs, O: Outputs, S: Source, K: Sink>(
     alloc: Global,
     words: &Words,
     inputs: &mut I,
+    outputs: &mut O,
     source: &mut S,
     sink: &mut K,
 ) -> Status
-    ensures ends { (outputs : OutputsState) → ToolEnds (words_use (command_of words.now)) (outcome words.now) (world (I.state inputs.old) outputs (S.state source.old) (K.state sink.old)) (world (I.state inputs.new) outputs (S.state source.new) (K.state sink.new)) result }
+    ensures ends { ToolEnds (words_use (command_of words.now)) (outcome words.now) (world (I.state inputs.old) (O.state outputs.old) (S.state source.old) (K.state sink.old)) (world (I.state inputs.new) (O.state outputs.new) (S.state source.new) (K.state sink.new)) result }
     ensures words { AnswersWords (command_of words.now) result }
 {
     match read_command(words) {
-        Ok(command) => status_of(run_command(alloc, words, command, inputs, source, sink)),
+        Ok(command) => status_of(run_command(alloc, words, command, inputs, outputs, source, sink)),
         Err(stop) => Status::Words(stop),
     }
 }
@@ -155,6 +182,6 @@ pub fn run<R: Threads + Sync, G: Gate + Sync, I: Inputs, O: Outputs, S: Source, 
 ) -> Status
     ensures { RunEnds words.now (world (I.state inputs.old) (O.state outputs.old) (S.state source.old) (K.state sink.old)) (world (I.state inputs.new) (O.state outputs.new) (S.state source.new) (K.state sink.new)) (E.state err.old) (E.state err.new) result }
 {
-    let status = carry_out(alloc, words, inputs, source, sink);
+    let status = carry_out(alloc, words, inputs, outputs, source, sink);
     report(alloc, status, err)
 }

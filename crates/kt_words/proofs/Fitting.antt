@@ -245,7 +245,7 @@ pub either : (a b : Bool) → (a || b) ≡ false → (a ≡ false) × (b ≡ fal
 either true b is = cc
 either false b is = (refl, is)
 
-negated : (a : Bool) → not a ≡ false → a ≡ true
+pub negated : (a : Bool) → not a ≡ false → a ≡ true
 negated true is = refl
 negated false is = cc
 
@@ -266,7 +266,7 @@ nothing_clashes tool given count is = by_awaited given.awaited is
     by_awaited None h = by_test (is_missing given tool) h
 
 -- a number of an option that was given, and is not 0, is 1 or more
-not_zero : (least most : ℕ) (found : Option GivenWord) → is_some found ≡ true → FitsWord (form.Number least most) found → is_zero found ≡ false → 1 ≤ number_or_0 found
+pub not_zero : (least most : ℕ) (found : Option GivenWord) → is_some found ≡ true → FitsWord (form.Number least most) found → is_zero found ≡ false → 1 ≤ number_or_0 found
 not_zero least most None there fits more = cc
 not_zero least most (Some given) there fits more = by_value given.value fits more
   where
@@ -283,21 +283,22 @@ stage_said (Some given) fits = by_value given.value fits
     by_value (value.Number number) is = is.1
     by_value said is = absurd is
 
+-- a word that was given has a number, so an option that a rule refuses is named
+pub word_named : (found : Option GivenWord) (doubled : Option ℕ) → is_some found ≡ true → or_else doubled (word_of found) ≡ None → ⊥
+word_named None doubled is h = cc
+word_named (Some one) None is h = cc
+word_named (Some one) (Some word) is h = cc
+
 -- where -n was given, -a 0 was not
 net_rule : (given : Given) → is_given given 110 ≡ true → clash given Fmcalc ≡ None → is_zero (given_at given 97) ≡ false
 net_rule given net none = by_test (is_zero (given_at given 97)) refl
   where
-    named : (found : Option GivenWord) (doubled : Option ℕ) → is_some found ≡ true → or_else doubled (word_of found) ≡ None → ⊥
-    named None doubled is h = cc
-    named (Some one) None is h = cc
-    named (Some one) (Some word) is h = cc
-
     broken : is_zero (given_at given 97) ≡ true → broken_rule given Fmcalc ≡ Some (RefusedWhere 110 Always (Zero 97))
     broken zero = subst (λ b. cond b (Some (RefusedWhere 110 Always (Zero 97))) (find (λ rule. refuses given rule) (RefusedWhere 112 Always (Absent 110) ∷ [])) ≡ Some (RefusedWhere 110 Always (Zero 97))) (sym (subst (λ a. (a && (true && is_zero (given_at given 97))) ≡ true) (sym net) zero)) refl
 
     by_test : (zero : Bool) → is_zero (given_at given 97) ≡ zero → is_zero (given_at given 97) ≡ false
     by_test false e = e
-    by_test true e = absurd (named (given_at given 110) given.doubled net (subst (λ rule. or_else given.doubled (word_by_rule given rule) ≡ None) (broken e) none))
+    by_test true e = absurd (word_named (given_at given 110) given.doubled net (subst (λ rule. or_else given.doubled (word_by_rule given rule) ≡ None) (broken e) none))
 
 -- the allocation rule of `fmcalc`
 pub fmcalc_rule : (given : Given) → IsRead Fmcalc given → number_or_0 (given_at given 97) ≤ 2

@@ -1,3 +1,4 @@
 mod Taking
 mod Fitting
 mod FileNaming
+mod ChainWords

@@ -11,6 +11,8 @@ use Rattle.kt_words.specs.Tools.{known_tool}
 use Rattle.kt_words.specs.declared.command.Command.{Command}
 use Rattle.kt_words.specs.declared.command.Command.TheVariants as command
 use Rattle.kt_rec.specs.declared.curve.Curve.{Curve}
+use Rattle.kt_rec.specs.declared.perspective.Perspective.{Perspective}
+use Rattle.kt_rec.specs.declared.perspective.Perspective.TheVariants.{Gul, Il, Ri}
 use Rattle.kt_rec.specs.declared.curve.Curve.TheVariants.{FullAep, FullOep, SampleAep, SampleOep, WheatAep, WheatOep, WheatmeanAep, WheatmeanOep}
 use Rattle.kt_words.specs.declared.command.Conversion.{Conversion}
 use Rattle.kt_words.specs.declared.command.Conversion.TheVariants.{ToFile, ToText}
@@ -33,6 +35,24 @@ IsConversion (ToText t) = t ≡ table.Footprint → ⊥
 abbrev pub IsSet : ℕ → Type 0
 IsSet set = (1 ≤ set) × (set ≤ 9)
 
+-- net losses are those of items, behind one reinsurance stage or more
+abbrev pub AreNet : Perspective → ℕ → ℕ → Type 0
+AreNet Gul rule stages = Unit {0}
+AreNet Il rule stages = Unit {0}
+AreNet Ri rule stages = (1 ≤ rule) × (1 ≤ stages)
+
+-- a run of all stages: 1 to 1,000 samples, an allocation rule, at most nine reinsurance stages, 1 to 16 workers, and parts of 1 to 4 events
+pub record IsChain (samples rule : ℕ) (last : Perspective) (stages workers batch : ℕ) : Type 0 where
+  pub some_samples : 1 ≤ samples
+  pub few_samples : samples ≤ 1000
+  pub known_rule : rule ≤ 2
+  pub few_stages : stages ≤ 9
+  pub net : AreNet last rule stages
+  pub some_workers : 1 ≤ workers
+  pub few_workers : workers ≤ 16
+  pub some_events : 1 ≤ batch
+  pub few_events : batch ≤ 4
+
 -- what every command keeps: an allocation rule, of net losses 1 or 2, and a stage, a summary set, a conversion and a part that there is, and 1 to 1,000 samples
 abbrev pub IsCommand : Command → Type 0
 IsCommand (command.Fmcalc rule) = rule ≤ 2
@@ -48,6 +68,7 @@ IsCommand (command.Gulcalc samples cut) = (1 ≤ samples) × (samples ≤ 1000)
 IsCommand (command.Convert conversion) = IsConversion conversion
 IsCommand command.FootprintText = Unit {0}
 IsCommand (command.Eve part parts) = has_part part parts ≡ true
+IsCommand (command.Chain samples cut rule last stages workers batch) = IsChain samples rule last stages workers batch
 
 abbrev pub number_in : Value → ℕ
 number_in (value.Number number) = number
@@ -84,6 +105,15 @@ abbrev pub table_or_first : Option GivenWord → Table
 table_or_first None = table.Events
 table_or_first (Some given) = table_in given.value
 
+abbrev pub losses_in : Value → Perspective
+losses_in (value.Losses perspective) = perspective
+losses_in other = Gul
+
+-- the losses that a word said; ground-up losses where there is none
+abbrev pub losses_or_first : Option GivenWord → Perspective
+losses_or_first None = Gul
+losses_or_first (Some given) = losses_in given.value
+
 -- the number of a word; 0 where there is none
 abbrev pub word_or_0 : Option GivenWord → ℕ
 word_or_0 None = 0
@@ -112,6 +142,13 @@ financial_command given =
 abbrev pub summary_command : Given → Command
 summary_command given = command.Summarycalc (is_given given 105) (set_given given) (number_or (given_at given 97) 2)
 
+-- a run of all stages by the values of -S, -g, -a, -l, -r, -w and -b: where -g is left out the losses of a coverage are cut, and where -a,
+-- -w or -b is, rule 2, one worker or parts of four events
+abbrev pub chain_command : Given → Command
+chain_command given =
+    command.Chain (number_or_0 (given_at given 83)) (number_or (given_at given 103) 1 == 1) (number_or (given_at given 97) 2) (losses_or_first (given_at given 108))
+    (number_or_0 (given_at given 114)) (number_or (given_at given 119) 1) (number_or (given_at given 98) 4)
+
 -- the command of a tool by what its words said: of `eltcalc` and `pltcalc` whether -s was left out, of `gulcalc` the values of -S and
 -- of -a, of `tobin` the value of -P
 abbrev pub command_from : Tool → Given → Result Command WordStop
@@ -127,6 +164,7 @@ command_from tool.Gulcalc given = Ok (command.Gulcalc (number_or_0 (given_at giv
 command_from tool.Tobin given = Ok (command.Convert (ToFile (table_or_first given.first) (number_or_0 (given_at given 80))))
 command_from tool.Tocsv given = Ok (to_text (table_or_first given.first))
 command_from tool.Eve given = eve_command given
+command_from tool.Chain given = Ok (chain_command given)
 command_from unbuilt given = refused_word 1 UnknownTool
 
 abbrev pub command_by : Tool → Result Given WordStop → Result Command WordStop

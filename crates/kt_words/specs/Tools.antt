@@ -24,9 +24,8 @@ tool_name Tocsv = codes "tocsv"
 tool_name Chain = codes "chain"
 tool_name Gen = codes "gen"
 
--- the tools that are built: all but these
+-- the tools that are built: all but this one
 abbrev pub is_built : Tool → Bool
-is_built Chain = false
 is_built Gen = false
 is_built tool = true
 

@@ -4,7 +4,7 @@ ghost use Rattle.std.specs.Prelude.{◌≡◌, Ok, IfOk};
 ghost use Rattle.kt_eve.specs.Parts.{has_part};
 ghost use Rattle.kt_words.specs.FileNames.{file_names, AreFileNames};
 ghost use Rattle.kt_words.specs.Fits.{IsRead};
-ghost use Rattle.kt_words.specs.Command.{number_or_0, number_or, table_or_first, word_or_0, set_given, curve_given, financial_command, summary_command, to_text, eve_command, command_from, command_of, IsSet, IsCommand};
+ghost use Rattle.kt_words.specs.Command.{number_or_0, number_or, table_or_first, word_or_0, set_given, curve_given, losses_or_first, financial_command, summary_command, to_text, eve_command, chain_command, command_from, command_of, IsSet, IsCommand};
 ghost use Rattle.kt_words.specs.declared.command.Command.TheVariants.{Kat};
 ghost use Rattle.kt_words.specs.declared.tool.Tool.TheVariants.{Fmcalc};
 
@@ -15,7 +15,7 @@ use crate::stop::{WordCause, WordStop};
 use crate::tool::{Tool, read_tool};
 use crate::value::Value;
 use crate::words::Words;
-use kt_rec::{Curve, Table};
+use kt_rec::{Curve, Perspective, Table};
 
 /// A way from one form of a table to the other.
 #[derive(Clone, Copy, Debug)]
@@ -97,6 +97,23 @@ pub enum Command {
         /// How many parts there are.
         parts: u32,
     },
+    /// All stages of a run in one, and all its files.
+    Chain {
+        /// The number of samples, 1 to 1,000.
+        samples: u32,
+        /// Whether the losses of a coverage are cut to its insured value.
+        cut: bool,
+        /// The allocation rule, from 0 to 2; of net losses 1 or 2.
+        rule: u32,
+        /// The last losses that are computed.
+        last: Perspective,
+        /// The number of reinsurance stages: of net losses 1 to 9, and 0 else.
+        stages: u32,
+        /// The number of workers, 1 to 16.
+        workers: u32,
+        /// The number of events of a part of a round, 1 to 4.
+        batch: u32,
+    },
 }
 
 /// The number that a word said; 0 where there is none.
@@ -126,6 +143,21 @@ fn table(given: Option<GivenWord>) -> Table
             },
         ) => table,
         _ => Table::Events,
+    }
+}
+
+/// The losses that a word said; ground-up losses where there is none.
+fn losses(given: Option<GivenWord>) -> Perspective
+    ensures { result ≡ losses_or_first given }
+{
+    match given {
+        Some(
+            GivenWord {
+                value: Value::Losses(perspective),
+                ..
+            },
+        ) => perspective,
+        _ => Perspective::Gul,
     }
 }
 
@@ -265,6 +297,22 @@ fn part_command(given: &Given) -> Result<Command, WordStop>
     }
 }
 
+/// All stages of a run: the losses of a coverage are cut, by rule 2, and one worker makes parts of four events, where the words
+/// say nothing else.
+fn chain_command(given: &Given) -> Command
+    ensures value { result ≡ chain_command given.now }
+{
+    Command::Chain {
+        samples: number(given.option(b'S')),
+        cut: number_or(given.option(b'g'), 1) == 1,
+        rule: number_or(given.option(b'a'), 2),
+        last: losses(given.option(b'l')),
+        stages: number(given.option(b'r')),
+        workers: number_or(given.option(b'w'), 1),
+        batch: number_or(given.option(b'b'), 4),
+    }
+}
+
 /// The command of a tool by what its words said.
 fn tool_command(tool: Tool, given: &Given) -> Result<Command, WordStop>
     requires read { IsRead tool given.now }
@@ -296,7 +344,8 @@ fn tool_command(tool: Tool, given: &Given) -> Result<Command, WordStop>
         })),
         Tool::Tocsv => Ok(text_command(table(given.first))),
         Tool::Eve => part_command(given),
-        _ => refused(1, WordCause::UnknownTool),
+        Tool::Chain => Ok(chain_command(given)),
+        Tool::Gen => refused(1, WordCause::UnknownTool),
     }
 }
 

@@ -87,7 +87,7 @@ impl Tool {
         ensures { result ≡ built_one self }
     {
         match self {
-            Tool::Chain | Tool::Gen => false,
+            Tool::Gen => false,
             _ => true,
         }
     }

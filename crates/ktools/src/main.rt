@@ -6,7 +6,7 @@
 mod arguments;
 
 use arguments::words_of;
-use kt_out::{DirInputs, Open, StdErr, StdSink, StdSource, SureOutputs};
+use kt_out::{DirInputs, DirOutputs, Open, StdErr, StdSink, StdSource};
 use kt_tools::{Status, run};
 use std::process::ExitCode;
 
@@ -21,7 +21,7 @@ fn main(rt: HostRuntime) -> ExitCode {
             &Open,
             &words,
             &mut DirInputs::new(&rt, alloc),
-            &mut SureOutputs::new(alloc),
+            &mut DirOutputs::new(&rt, alloc),
             &mut StdSource::new(rt.stdin()),
             &mut StdSink::new(rt.stdout()),
             &mut StdErr::new(rt.stderr()),

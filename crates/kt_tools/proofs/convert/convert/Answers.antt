@@ -3,7 +3,7 @@ use Rattle.kt_ends.specs.Outcome.{Outcome}
 use Rattle.kt_tools.specs.Converting.{converted, other_form}
 use Rattle.kt_tools.specs.Uses.{command_uses}
 use Rattle.kt_words.specs.declared.command.Command.TheVariants.{Convert}
-use Rattle.kt_tools.proofs.Converting.{ends_text, ends_unread}
+use Rattle.kt_tools.proofs.Converting.{ends_text}
 use Rattle.kt_tools.proofs.convert.convert.Goals as goal
 
 pub returns : goal.returns

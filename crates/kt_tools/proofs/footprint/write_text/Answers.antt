@@ -1,4 +1,4 @@
-use Rattle.std.proofs.Common.{◌≡◌, ℕ, List, Some, length, refl}
+use Rattle.std.proofs.Common.{ℕ, List, length, refl}
 use Rattle.kt_schema.specs.Footprint.{footprint_csv}
 use Rattle.kt_tools.specs.FootprintText.{text_of}
 use Rattle.kt_tools.specs.Uses.{command_uses}

@@ -8,13 +8,13 @@ pub run_command-requires-clause-names : goal.run_command-requires-clause-names
 run_command-requires-clause-names g c = λ is. (c.read_command.ensures.names (c.in-Ok.is ∙ ap command_is is)).0
 
 pub returns-in-Ok-clause-ends : goal.returns-in-Ok-clause-ends
-returns-in-Ok-clause-ends g c outputs = by_command c.args.words.now c.in-Ok.command _ _ c.run_command.result _ (sym c.read_command.ensures.value ∙ c.in-Ok.is) c.status_of.ensures (c.run_command.ensures outputs)
+returns-in-Ok-clause-ends g c = by_command c.args.words.now c.in-Ok.command _ _ c.run_command.result _ (sym c.read_command.ensures.value ∙ c.in-Ok.is) c.status_of.ensures c.run_command.ensures
 
 pub returns-in-Ok-clause-words : goal.returns-in-Ok-clause-words
 returns-in-Ok-clause-words g c = answers_command c.args.words.now c.in-Ok.command c.run_command.result _ (sym c.read_command.ensures.value ∙ c.in-Ok.is) c.status_of.ensures
 
 pub returns-in-Err-clause-ends : goal.returns-in-Err-clause-ends
-returns-in-Err-clause-ends g c outputs = by_words c.args.words.now c.in-Err.stop _ (sym c.read_command.ensures.value ∙ c.in-Err.is)
+returns-in-Err-clause-ends g c = by_words c.args.words.now c.in-Err.stop _ (sym c.read_command.ensures.value ∙ c.in-Err.is)
 
 pub returns-in-Err-clause-words : goal.returns-in-Err-clause-words
 returns-in-Err-clause-words g c = subst (λ read. AnswersWords read (status.Words c.in-Err.stop)) (sym (sym c.read_command.ensures.value ∙ c.in-Err.is)) refl

@@ -16,10 +16,10 @@ run_tool-requires-clause-tables g c =
     (subst (λ (need : Need). IfSome (g.I.Inputs.state c.args.inputs.now).held (λ files. loaded files need ≡ Ok c.in-Ok.portfolio.rows)) (sym c.in-Ok.ensures.need) c.in-Ok.ensures.exact)
 
 pub returns-in-Ok : goal.returns-in-Ok
-returns-in-Ok g c words outputs =
-    ends_over words c.args.command c.args.need c.requires.need (g.I.Inputs.state c.args.inputs.now) (g.I.Inputs.state c.load.new.inputs) outputs (g.S.Source.state c.args.source.now) (g.K.Sink.state c.args.sink.now) c.in-Ok.portfolio c.in-Ok.ensures.need c.in-Ok.ensures.inputs c.in-Ok.ensures.exact _ _ (c.run_tool.ensures words outputs)
+returns-in-Ok g c words =
+    ends_over words c.args.command c.args.need c.requires.need (g.I.Inputs.state c.args.inputs.now) (g.I.Inputs.state c.load.new.inputs) (g.O.Outputs.state c.args.outputs.now) (g.S.Source.state c.args.source.now) (g.K.Sink.state c.args.sink.now) c.in-Ok.portfolio c.in-Ok.ensures.need c.in-Ok.ensures.inputs c.in-Ok.ensures.exact _ _ (c.run_tool.ensures words)
 
 pub returns-in-Err : goal.returns-in-Err
-returns-in-Err g c words outputs =
+returns-in-Err g c words =
     rw c.load_stop.ensures
-    (ends_unloaded words c.args.command c.args.need c.requires.need (g.I.Inputs.state c.args.inputs.now) (g.I.Inputs.state c.load.new.inputs) outputs (g.S.Source.state c.args.source.now) (g.K.Sink.state c.args.sink.now) c.in-Err.stop c.in-Err.ensures.exact c.in-Err.ensures.inputs)
+    (ends_unloaded words c.args.command c.args.need c.requires.need (g.I.Inputs.state c.args.inputs.now) (g.I.Inputs.state c.load.new.inputs) (g.O.Outputs.state c.args.outputs.now) (g.S.Source.state c.args.source.now) (g.K.Sink.state c.args.sink.now) c.in-Err.stop c.in-Err.ensures.exact c.in-Err.ensures.inputs)

@@ -1,4 +1,4 @@
-use Rattle.std.proofs.Common.{◌≡◌, ◌≤◌, ◌∙◌, ap, subst, sym}
+use Rattle.std.proofs.Common.{◌≤◌, ◌∙◌, ap, subst, sym}
 use Rattle.kt_words.specs.Command.{number_or_0}
 use Rattle.kt_words.proofs.Fitting.{fmcalc_rule, net_rule_kept, stage_kept}
 use Rattle.kt_words.proofs.command.financial_command.Goals as goal
