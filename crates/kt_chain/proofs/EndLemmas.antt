@@ -66,8 +66,8 @@ module _ (run : RunInput) where
       let done = (run_reaches run).done in
       let refusal = (run_reaches run).refusal in
       let grown : Makes {T = Unit {0}} {E = ToolStop} [] (files_with output_name (final_text done refusal) (output_files run.rows run.terms.last)) before after (Err stop) =
-          stops_grown {F = OutputFile} {U = Unit {0}} {D = ToolStop} {E = ToolStop} (Unit {0}) [] output_name (text_upto run some) (final_text done refusal)
-          (front_of_final done some (are.more []) refusal (done_reached (event_refusal run) [] (event_ids run.rows) some are)) (output_files run.rows run.terms.last) before after stop stop made in
+      stops_grown {F = OutputFile} {U = Unit {0}} {D = ToolStop} {E = ToolStop} (Unit {0}) [] output_name (text_upto run some) (final_text done refusal)
+      (front_of_final done some (are.more []) refusal (done_reached (event_refusal run) [] (event_ids run.rows) some are)) (output_files run.rows run.terms.last) before after stop stop made in
       subst (λ (wanted : List File). IfSome before.written (λ old. IsSomeAnd after.written (λ now. PartlyMade wanted old now))) (sym (final_files done refusal))
       (made_from_nothing {T = Unit {0}} {E = ToolStop} (files_with output_name (final_text done refusal) (output_files run.rows run.terms.last)) before after (Err stop) grown)
 
@@ -131,11 +131,11 @@ module _ (run : RunInput) where
           let longer : OutputFile → List ℕ = λ file. upto file ++ end_text fold.cells.samples fold.rows added file in
           let all : Makes (files_with output_name upto files) (files_with output_name longer files) rounds after answer = made added upto (record { stands = goes.folded.stands; periods = periods }) in
           let same : (file : OutputFile) → longer file ≡ text_whole run (event_ids run.rows) file = λ file.
-              ap (λ (more : List ℕ). upto file ++ more)
-              (ap (λ (n : ℕ). end_text n fold.rows added file) goes.folded.samples ∙ ap (λ (r : Rows). end_text run.terms.samples r added file) goes.folded.rows) in
+          ap (λ (more : List ℕ). upto file ++ more)
+          (ap (λ (n : ℕ). end_text n fold.rows added file) goes.folded.samples ∙ ap (λ (r : Rows). end_text run.terms.samples r added file) goes.folded.rows) in
           let here : Makes (files_upto run (event_ids run.rows)) (files_whole run (event_ids run.rows)) rounds after answer =
-              subst (λ (now : List File). Makes (files_upto run (event_ids run.rows)) now rounds after answer) (same_files output_name longer (text_whole run (event_ids run.rows)) same (output_files run.rows run.terms.last))
-              (subst (λ (list : List OutputFile). Makes (files_with output_name upto list) (files_with output_name longer list) rounds after answer) are all) in
+          subst (λ (now : List File). Makes (files_upto run (event_ids run.rows)) now rounds after answer) (same_files output_name longer (text_whole run (event_ids run.rows)) same (output_files run.rows run.terms.last))
+          (subst (λ (list : List OutputFile). Makes (files_with output_name upto list) (files_with output_name longer list) rounds after answer) are all) in
           makes_then {T = Unit {0}} {U = Unit {0}} {D = Fault} {E = Fault} [] (files_upto run []) (files_whole run (event_ids run.rows)) before between after tt answer heads
           (makes_then {T = Unit {0}} {U = Unit {0}} {D = ToolStop} {E = Fault} (files_upto run []) (files_upto run (event_ids run.rows)) (files_whole run (event_ids run.rows)) between rounds after tt answer rows_made here)
 

@@ -128,7 +128,7 @@ module _ (round : RoundParts) where
       let blocks : part.blocks ≡ map (given_block round.terms round.rows) events = ap (λ (one : PartBlock). one.blocks) given.0.is ∙ split.blocks_are ∙ ap (map (given_block round.terms round.rows)) good in
       record {
         blocks_are =
-          ap (λ (xs : List EventBlock). xs ++ blocks_of parts) blocks ∙ ap (λ (xs : List EventBlock). map (given_block round.terms round.rows) events ++ xs) more.blocks_are
-          ∙ sym (map-append (given_block round.terms round.rows) events (events_from (suc first) (length parts))) ∙ ap (map (given_block round.terms round.rows)) (sym (one_and_more first (length parts)));
+            ap (λ (xs : List EventBlock). xs ++ blocks_of parts) blocks ∙ ap (λ (xs : List EventBlock). map (given_block round.terms round.rows) events ++ xs) more.blocks_are
+            ∙ sym (map-append (given_block round.terms round.rows) events (events_from (suc first) (length parts))) ∙ ap (map (given_block round.terms round.rows)) (sym (one_and_more first (length parts)));
         clear = subst (AllByRecursion IsClearRows) (sym (one_and_more first (length parts))) (each_append IsClearRows events (events_from (suc first) (length parts)) (subst (AllByRecursion IsClearRows) good split.clear) more.clear);
       }

@@ -128,8 +128,11 @@ module _ (run : RunInput) (round : RoundParts) (terms_are : run.terms ≡ round.
         samples = folded.stand.samples;
         front = ids_of round.given;
         kept = ap blocks_of taken.kept_are ∙ blocks ∙ blocks_are round.given has;
-        ends = (refl, given_pass round.given (blocks_of folded.blocks) has (subst (AllByRecursion IsClearRows) all whole.clear) blocks taken.clear,
-            subst (λ (history : List Added). StandsFor history fold.cells) (added_are round.given (blocks_of folded.blocks) has blocks) taken.stands);
+        ends = (
+          refl,
+          given_pass round.given (blocks_of folded.blocks) has (subst (AllByRecursion IsClearRows) all whole.clear) blocks taken.clear,
+          subst (λ (history : List Added). StandsFor history fold.cells) (added_are round.given (blocks_of folded.blocks) has blocks) taken.stands,
+        );
       }
 
   -- ---- the fold stopped in a part
@@ -142,7 +145,7 @@ module _ (run : RunInput) (round : RoundParts) (terms_are : run.terms ≡ round.
         let has_before = each_front (HasRows run) before (one ∷ later) all in
         let has_one = (each_behind (HasRows run) before (one ∷ later) all).0 in
         let block : given_block round.terms round.rows one ≡ block_of run one.event =
-            ap (λ (terms : Terms). given_block terms round.rows one) (sym terms_are) ∙ ap (λ (rows : Rows). given_block run.terms rows one) (sym rows_are) ∙ block_by_rows run one has_one in
+        ap (λ (terms : Terms). given_block terms round.rows one) (sym terms_are) ∙ ap (λ (rows : Rows). given_block run.terms rows one) (sym rows_are) ∙ block_by_rows run one has_one in
         subst (λ (ids : List ℕ). StopsAt (event_refusal run) done ids (done ++ ids_of before) why) (sym (ap ids_of are ∙ ids_of_both before (one ∷ later)))
         (stops_by_records run done (ids_of before) one.event (ids_of later) why (given_pass before blocks has_before clear_before blocks_made none) (clear_event run one has_one clear)
         (ap (λ (history : List Added). first_refusal history (event_added run one.event)) (sym (added_are before blocks has_before blocks_made)) ∙ ap (λ (b : EventBlock). first_refusal (all_added run done ++ blocks_added run.rows blocks) (block_added run.rows b)) (sym block) ∙ reason))
@@ -192,12 +195,12 @@ module _ (run : RunInput) (round : RoundParts) (terms_are : run.terms ≡ round.
       let blocks = blocks_of parts ++ stops.taken in
       let good_clear : AllByRecursion IsClearRows (made.front ++ made.back) = subst (AllByRecursion IsClearRows) made.are split.clear in
       let blocks_made : blocks ≡ map (given_block round.terms round.rows) before =
-          ap (λ (xs : List EventBlock). xs ++ stops.taken) whole.blocks_are ∙ ap (λ (xs : List EventBlock). map (given_block round.terms round.rows) earlier ++ xs) made.first_is ∙ sym (map-append (given_block round.terms round.rows) earlier made.front) in
+      ap (λ (xs : List EventBlock). xs ++ stops.taken) whole.blocks_are ∙ ap (λ (xs : List EventBlock). map (given_block round.terms round.rows) earlier ++ xs) made.first_is ∙ sym (map-append (given_block round.terms round.rows) earlier made.front) in
       let are : round.given ≡ before ++ (made.back ++ (split.rest ++ later)) =
-          around_part number
-          ∙ ap (λ (xs : List EventRows). earlier ++ (xs ++ later)) (split.are ∙ ap (λ (xs : List EventRows). xs ++ split.rest) made.are)
-          ∙ ap (λ (xs : List EventRows). earlier ++ xs) (append_assoc (made.front ++ made.back) split.rest later ∙ append_assoc made.front made.back (split.rest ++ later))
-          ∙ sym (append_assoc earlier made.front (made.back ++ (split.rest ++ later))) in
+      around_part number
+      ∙ ap (λ (xs : List EventRows). earlier ++ (xs ++ later)) (split.are ∙ ap (λ (xs : List EventRows). xs ++ split.rest) made.are)
+      ∙ ap (λ (xs : List EventRows). earlier ++ xs) (append_assoc (made.front ++ made.back) split.rest later ∙ append_assoc made.front made.back (split.rest ++ later))
+      ∙ sym (append_assoc earlier made.front (made.back ++ (split.rest ++ later))) in
       let refused : part.refused ≡ (part_of round.terms round.rows own).refused = ap (λ (one : PartBlock). one.refused) is_part.is in
       let clear_before : AllByRecursion IsClearRows before = each_append IsClearRows earlier made.front whole.clear (each_front IsClearRows made.front made.back good_clear) in
       let stop = stops_in before blocks clear_before blocks_made stops.clear made.back split.rest later stops.rest part.refused why are (each_behind IsClearRows made.front made.back good_clear) made.second_is (subst (IsBehind split.rest) (sym refused) split.behind) stops.reason in

@@ -95,10 +95,10 @@ module _ (run : RunInput) where
   upto_more : (done front : List ℕ) (samples : ℕ) (rows : Rows) (blocks : List EventBlock) → samples ≡ run.terms.samples → rows ≡ run.rows → blocks ≡ map (block_of run) front → (file : OutputFile) → text_upto run done file ++ flat_map (block_text samples rows file) blocks ≡ text_upto run (done ++ front) file
   upto_more done front samples rows blocks samples_are rows_are blocks_are file =
       let more : flat_map (block_text samples rows file) blocks ≡ flat_map (event_text run file) front =
-          ap (λ (n : ℕ). flat_map (block_text n rows file) blocks) samples_are
-          ∙ ap (λ (r : Rows). flat_map (block_text run.terms.samples r file) blocks) rows_are
-          ∙ ap (λ (bs : List EventBlock). flat_map (block_text run.terms.samples run.rows file) bs) blocks_are
-          ∙ texts_of_blocks file front in
+      ap (λ (n : ℕ). flat_map (block_text n rows file) blocks) samples_are
+      ∙ ap (λ (r : Rows). flat_map (block_text run.terms.samples r file) blocks) rows_are
+      ∙ ap (λ (bs : List EventBlock). flat_map (block_text run.terms.samples run.rows file) bs) blocks_are
+      ∙ texts_of_blocks file front in
       ap (λ (text : List ℕ). text_upto run done file ++ text) more
       ∙ append_assoc (head_text file) (flat_map (event_text run file) done) (flat_map (event_text run file) front)
       ∙ ap (λ (text : List ℕ). head_text file ++ text) (sym (flat_map-append (event_text run file) done front))
@@ -111,7 +111,7 @@ module _ (run : RunInput) where
   upto_made files are done front samples rows blocks samples_are rows_are blocks_are before after answer made =
       let longer : OutputFile → List ℕ = λ file. text_upto run done file ++ flat_map (block_text samples rows file) blocks in
       let here : Makes (files_upto run done) (files_with output_name longer (output_files run.rows run.terms.last)) before after answer =
-          subst (λ (list : List OutputFile). Makes (files_with output_name (text_upto run done) list) (files_with output_name longer list) before after answer) are (made (text_upto run done)) in
+      subst (λ (list : List OutputFile). Makes (files_with output_name (text_upto run done) list) (files_with output_name longer list) before after answer) are (made (text_upto run done)) in
       subst (λ (now : List File). Makes (files_upto run done) now before after answer)
       (same_files output_name longer (text_upto run (done ++ front)) (upto_more done front samples rows blocks samples_are rows_are blocks_are) (output_files run.rows run.terms.last)) here
 
@@ -231,6 +231,7 @@ module _ (run : RunInput) where
   -- no event is left
   pub all_gone : (events : List ℕ) (fold : FoldState) (before after : OutputsState) (rest : List ℕ) → rest ≡ [] → Going events rest fold before after → RoundGoes run [] events fold (Ok tt) × RoundMakes run [] events before after (Ok tt)
   all_gone events fold before after rest none going =
-      let all : going.done ≡ events = sym (append-nil going.done) ∙ ap (λ (left : List ℕ). going.done ++ left) (sym none) ∙ sym going.split in
-      (record { passes = subst (Passes (event_refusal run) []) all going.passes; folded = subst (λ (done : List ℕ). IsFolded run done fold) all going.folded },
-       subst (λ (done : List ℕ). Makes {T = Unit {0}} {E = ToolStop} (files_upto run []) (files_upto run done) before after (Ok tt)) all going.makes)
+      let all : going.done ≡ events = sym (append-nil going.done) ∙ ap (λ (left : List ℕ). going.done ++ left) (sym none) ∙ sym going.split in (
+        record { passes = subst (Passes (event_refusal run) []) all going.passes; folded = subst (λ (done : List ℕ). IsFolded run done fold) all going.folded },
+        subst (λ (done : List ℕ). Makes {T = Unit {0}} {E = ToolStop} (files_upto run []) (files_upto run done) before after (Ok tt)) all going.makes,
+      )

@@ -44,11 +44,11 @@ kept_made inside files files_are samples samples_are same_samples rows rows_are 
     let longer : OutputFile → List ℕ = λ file. text file ++ joined (map (part_text made_of file) parts) in
     let wanted : OutputFile → List ℕ = λ file. text file ++ flat_map (block_text samples_are rows_are file) (blocks_of kept) in
     let same : (file : OutputFile) → longer file ≡ wanted file = λ file.
-        ap (λ (more : List ℕ). text file ++ more)
-        (pieces_joined samples made_of file parts
-        ∙ ap (λ (n : ℕ). flat_map (block_text n rows file) (blocks_of parts)) same_samples
-        ∙ ap (λ (r : Rows). flat_map (block_text samples_are r file) (blocks_of parts)) same_rows
-        ∙ ap (λ (ps : List PartBlock). flat_map (block_text samples_are rows_are file) (blocks_of ps)) same_parts) in
+    ap (λ (more : List ℕ). text file ++ more)
+    (pieces_joined samples made_of file parts
+    ∙ ap (λ (n : ℕ). flat_map (block_text n rows file) (blocks_of parts)) same_samples
+    ∙ ap (λ (r : Rows). flat_map (block_text samples_are r file) (blocks_of parts)) same_rows
+    ∙ ap (λ (ps : List PartBlock). flat_map (block_text samples_are rows_are file) (blocks_of ps)) same_parts) in
     subst (λ (list : List OutputFile). Makes (files_with output_name text list) (files_with output_name wanted list) before after answer) files_are
     (subst (λ (now : List File). Makes (files_with output_name text inside) now before after answer) (same_files output_name longer wanted same inside) made)
 
@@ -70,9 +70,9 @@ ends_made inside files files_are rows rows_are same_rows cells cells_are same_ce
     let wanted : OutputFile → List ℕ = λ file. text file ++ end_text cells_are.samples rows_are history file in
     let here : AreEndings history rows cells = subst (λ (r : Rows). AreEndings history r cells) (sym same_rows) (subst (λ (kept : KeptCells). AreEndings history rows_are kept) (sym same_cells) are) in
     let same : (file : OutputFile) → longer file ≡ wanted file = λ file.
-        ap (λ (more : List ℕ). text file ++ more)
-        (one_piece (end_text cells.samples rows history file)
-        ∙ ap (λ (r : Rows). end_text cells.samples r history file) same_rows
-        ∙ ap (λ (kept : KeptCells). end_text kept.samples rows_are history file) same_cells) in
+    ap (λ (more : List ℕ). text file ++ more)
+    (one_piece (end_text cells.samples rows history file)
+    ∙ ap (λ (r : Rows). end_text cells.samples r history file) same_rows
+    ∙ ap (λ (kept : KeptCells). end_text kept.samples rows_are history file) same_cells) in
     subst (λ (list : List OutputFile). Makes (files_with output_name text list) (files_with output_name wanted list) before after answer) files_are
     (subst (λ (now : List File). Makes (files_with output_name text inside) now before after answer) (same_files output_name longer wanted same inside) (made here))

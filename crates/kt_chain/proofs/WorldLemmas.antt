@@ -99,8 +99,8 @@ module _ (terms : Terms) (rows : Rows) (inputs inputs_now : InputsState) (output
   chain_ends answer has says makes counts stop = record {
     verdict = λ files bytes finds. says (run_input terms rows files) (is_run has files (finds.files_told refl));
     output = λ files bytes finds.
-      let run = run_input terms rows files in
-      subst (λ (text : List ℕ). SinkGains text sink sink (end_status answer)) (sym (no_output run (run_reaches run).done (run_reaches run).refusal)) (sink_kept sink.taken (end_status answer));
+        let run = run_input terms rows files in
+        subst (λ (text : List ℕ). SinkGains text sink sink (end_status answer)) (sym (no_output run (run_reaches run).done (run_reaches run).refusal)) (sink_kept sink.taken (end_status answer));
     files = λ files bytes finds. makes (run_input terms rows files) (is_run has files (finds.files_told refl));
     counted = counted_by answer counts stop;
     at_end = λ used. absurd (false≢true used);

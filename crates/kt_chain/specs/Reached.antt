@@ -52,9 +52,9 @@ module _ (refuses : List ℕ → ℕ → Option Refusal) where
   pub both_pass : (done first second : List ℕ) → Passes done first → Passes (done ++ first) second → Passes done (first ++ second)
   both_pass done first second one other = record {
     on = λ later.
-      ap (λ (events : List ℕ). reached_from refuses done events) (append_assoc first second later)
-      ∙ one.on (second ++ later) ∙ other.on later
-      ∙ ap (λ (before : List ℕ). reached_from refuses before later) (append_assoc done first second);
+        ap (λ (events : List ℕ). reached_from refuses done events) (append_assoc first second later)
+        ∙ one.on (second ++ later) ∙ other.on later
+        ∙ ap (λ (before : List ℕ). reached_from refuses before later) (append_assoc done first second);
   }
 
   -- a refused event stops the run

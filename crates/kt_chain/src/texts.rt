@@ -65,7 +65,13 @@ impl<'a> Texts<OutputFile> for RoundTexts<'a> {
 
     fn push(&self, file: &OutputFile, piece: usize, out: &mut Bytes) -> Result<(), OutOfMemory> {
         match self.parts.get(piece) {
-            Some(part) => push_blocks(out, self.portfolio, self.samples, file, part.blocks.as_slice()),
+            Some(part) => push_blocks(
+                out,
+                self.portfolio,
+                self.samples,
+                file,
+                part.blocks.as_slice(),
+            ),
             None => Ok(()),
         }
     }

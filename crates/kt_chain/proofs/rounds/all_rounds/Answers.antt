@@ -26,9 +26,9 @@ returns-in-Err-clause-events g c = λ input is folded.
     let round = c.split_at.result.0.now in
     let later = c.split_at.result.1.now in
     let split : c.loop-rest.rest.now ≡ round ++ later =
-        sym (take-append-drop c.min.result c.loop-rest.rest.now) ∙ ap (λ (front : List ℕ). front ++ drop c.min.result c.loop-rest.rest.now) (sym c.split_at.ensures.front) ∙ ap (λ (back : List ℕ). round ++ back) (sym c.split_at.ensures.back) in
+    sym (take-append-drop c.min.result c.loop-rest.rest.now) ∙ ap (λ (front : List ℕ). front ++ drop c.min.result c.loop-rest.rest.now) (sym c.split_at.ensures.front) ∙ ap (λ (back : List ℕ). round ++ back) (sym c.split_at.ensures.back) in
     let here : Going input events (round ++ later) c.loop-rest.fold (g.O.Outputs.state c.args.outputs.now) (g.O.Outputs.state c.loop-rest.outputs) =
-        subst (λ (rest : List ℕ). Going input events rest c.loop-rest.fold (g.O.Outputs.state c.args.outputs.now) (g.O.Outputs.state c.loop-rest.outputs)) split (c.loop-rest.invariant.going input is folded) in
+    subst (λ (rest : List ℕ). Going input events rest c.loop-rest.fold (g.O.Outputs.state c.args.outputs.now) (g.O.Outputs.state c.loop-rest.outputs)) split (c.loop-rest.invariant.going input is folded) in
     let still = subst (λ (inputs : InputsState). IsRunOf inputs.held c.args.run.now.terms c.args.run.now.portfolio.rows input) (sym c.loop-rest.invariant.inputs) is in
     round_ends input events round later c.loop-rest.fold (g.O.Outputs.state c.args.outputs.now) (g.O.Outputs.state c.loop-rest.outputs) here c.one_round.new.fold c.in-Err.stop (c.in-Err.ensures.events input here.done still here.folded)
 
@@ -38,9 +38,9 @@ returns-in-Err-clause-files g c = λ input is folded.
     let round = c.split_at.result.0.now in
     let later = c.split_at.result.1.now in
     let split : c.loop-rest.rest.now ≡ round ++ later =
-        sym (take-append-drop c.min.result c.loop-rest.rest.now) ∙ ap (λ (front : List ℕ). front ++ drop c.min.result c.loop-rest.rest.now) (sym c.split_at.ensures.front) ∙ ap (λ (back : List ℕ). round ++ back) (sym c.split_at.ensures.back) in
+    sym (take-append-drop c.min.result c.loop-rest.rest.now) ∙ ap (λ (front : List ℕ). front ++ drop c.min.result c.loop-rest.rest.now) (sym c.split_at.ensures.front) ∙ ap (λ (back : List ℕ). round ++ back) (sym c.split_at.ensures.back) in
     let here : Going input events (round ++ later) c.loop-rest.fold (g.O.Outputs.state c.args.outputs.now) (g.O.Outputs.state c.loop-rest.outputs) =
-        subst (λ (rest : List ℕ). Going input events rest c.loop-rest.fold (g.O.Outputs.state c.args.outputs.now) (g.O.Outputs.state c.loop-rest.outputs)) split (c.loop-rest.invariant.going input is folded) in
+    subst (λ (rest : List ℕ). Going input events rest c.loop-rest.fold (g.O.Outputs.state c.args.outputs.now) (g.O.Outputs.state c.loop-rest.outputs)) split (c.loop-rest.invariant.going input is folded) in
     let still = subst (λ (inputs : InputsState). IsRunOf inputs.held c.args.run.now.terms c.args.run.now.portfolio.rows input) (sym c.loop-rest.invariant.inputs) is in
     round_ends_files input events round later c.loop-rest.fold (g.O.Outputs.state c.args.outputs.now) (g.O.Outputs.state c.loop-rest.outputs) here (g.O.Outputs.state c.one_round.new.outputs) c.in-Err.stop (c.in-Err.ensures.files input here.done still here.folded)
 
@@ -51,16 +51,16 @@ loop-rest-preserved g c = record {
   faults = c.in_default.ensures.counts.1 ∙ c.loop-rest.invariant.faults;
   fits = c.in_default.ensures.fits;
   going = λ input is folded.
-    let events = event_ids c.args.run.now.portfolio.rows in
-    let round = c.split_at.result.0.now in
-    let later = c.split_at.result.1.now in
-    let split : c.loop-rest.rest.now ≡ round ++ later =
-        sym (take-append-drop c.min.result c.loop-rest.rest.now) ∙ ap (λ (front : List ℕ). front ++ drop c.min.result c.loop-rest.rest.now) (sym c.split_at.ensures.front) ∙ ap (λ (back : List ℕ). round ++ back) (sym c.split_at.ensures.back) in
-    let here : Going input events (round ++ later) c.loop-rest.fold (g.O.Outputs.state c.args.outputs.now) (g.O.Outputs.state c.loop-rest.outputs) =
-        subst (λ (rest : List ℕ). Going input events rest c.loop-rest.fold (g.O.Outputs.state c.args.outputs.now) (g.O.Outputs.state c.loop-rest.outputs)) split (c.loop-rest.invariant.going input is folded) in
-    let still = subst (λ (inputs : InputsState). IsRunOf inputs.held c.args.run.now.terms c.args.run.now.portfolio.rows input) (sym c.loop-rest.invariant.inputs) is in
-    going_on input events round later c.loop-rest.fold (g.O.Outputs.state c.args.outputs.now) (g.O.Outputs.state c.loop-rest.outputs) here c.one_round.new.fold (g.O.Outputs.state c.one_round.new.outputs)
-    (c.in_default.ensures.events input here.done still here.folded) (c.in_default.ensures.files input here.done still here.folded);
+      let events = event_ids c.args.run.now.portfolio.rows in
+      let round = c.split_at.result.0.now in
+      let later = c.split_at.result.1.now in
+      let split : c.loop-rest.rest.now ≡ round ++ later =
+      sym (take-append-drop c.min.result c.loop-rest.rest.now) ∙ ap (λ (front : List ℕ). front ++ drop c.min.result c.loop-rest.rest.now) (sym c.split_at.ensures.front) ∙ ap (λ (back : List ℕ). round ++ back) (sym c.split_at.ensures.back) in
+      let here : Going input events (round ++ later) c.loop-rest.fold (g.O.Outputs.state c.args.outputs.now) (g.O.Outputs.state c.loop-rest.outputs) =
+      subst (λ (rest : List ℕ). Going input events rest c.loop-rest.fold (g.O.Outputs.state c.args.outputs.now) (g.O.Outputs.state c.loop-rest.outputs)) split (c.loop-rest.invariant.going input is folded) in
+      let still = subst (λ (inputs : InputsState). IsRunOf inputs.held c.args.run.now.terms c.args.run.now.portfolio.rows input) (sym c.loop-rest.invariant.inputs) is in
+      going_on input events round later c.loop-rest.fold (g.O.Outputs.state c.args.outputs.now) (g.O.Outputs.state c.loop-rest.outputs) here c.one_round.new.fold (g.O.Outputs.state c.one_round.new.outputs)
+      (c.in_default.ensures.events input here.done still here.folded) (c.in_default.ensures.files input here.done still here.folded);
 }
 
 pub returns-clause-events : goal.returns-clause-events

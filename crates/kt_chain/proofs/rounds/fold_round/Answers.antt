@@ -33,7 +33,7 @@ returns-in-Some-clause-folds c = λ input done terms rows given folded.
     (terms ∙ sym (ap (λ (run : RunShares). run.terms) c.run.view_is)) (rows ∙ sym (ap (λ (run : RunShares). run.portfolio.rows) c.run.view_is)) given done
     c.fold_blocks.new.fold count c.in-Err-Fold.field-0-0 c.in-Err-Fold.stop
     (subst (λ (stop : RoundStop FoldStop). RoundEnds (IsPart round) (StandsBehind start c.fold_blocks.new.fold) (StopsBehind start c.fold_blocks.new.fold) [] count (Err stop)) c.in-Err-Fold.field-0-is
-        (c.in-Err-Fold.ensures.round start [] (begins input done c.args.fold.now folded)))
+    (c.in-Err-Fold.ensures.round start [] (begins input done c.args.fold.now folded)))
     c.in-Some.refusal (sym c.refusal.ensures ∙ c.in-Some.is)
 
 pub returns-in-Some-clause-fits : goal.returns-in-Some-clause-fits
