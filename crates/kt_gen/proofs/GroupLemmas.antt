@@ -1,7 +1,8 @@
 -- How far the records of rows and of groups are written.
 use Rattle.std.proofs.Common.{◌≡◌, ℕ, suc, ◌+◌, ◌-◌, ◌<◌, ◌≤◌, List, [], ◌∷◌, ◌++◌, length, drop, get_or, refl, sym, ap, ◌∙◌, arith, append_assoc}
+use Rattle.std.specs.Prelude.{map}
 use Rattle.std.specs.List.{flat_map, range_with_len}
-use Rattle.std.proofs.lemmas.List.{append-nil, drop_all, drop_more}
+use Rattle.std.proofs.lemmas.List.{append-nil, drop_all, drop_more, map-append}
 use Rattle.kt_cells.specs.Records.{record_bytes, records_bytes}
 use Rattle.kt_cells.specs.declared.kind.Kind.{Kind}
 
@@ -54,3 +55,14 @@ unfolding records_bytes
 groups-end kinds rows all out number end last now =
     let none : end - number ≡ 0 = omega arith in
     sym (append-nil out) ∙ (rw none at now)
+
+-- rows that are written in two pieces
+pub two_pieces : (kinds : List Kind) (start one two : List ℕ) (xs ys : List (List ℕ)) → one ≡ start ++ records_bytes kinds xs → two ≡ one ++ records_bytes kinds ys
+    → two ≡ start ++ records_bytes kinds (xs ++ ys)
+two_pieces kinds start one two xs ys first second =
+    rw (second, first, records_bytes-append kinds xs ys) (append_assoc start (records_bytes kinds xs) (records_bytes kinds ys))
+
+-- what is made of the rows of all groups is what is made of those of each
+pub map-flat_map : {X A B : Type 0} (f : A → B) (g : X → List A) (xs : List X) → map f (flat_map g xs) ≡ flat_map (λ x. map f (g x)) xs
+map-flat_map f g [] = refl
+map-flat_map f g (x ∷ xs) = map-append f (g x) (flat_map g xs) ∙ ap (λ rest. map f (g x) ++ rest) (map-flat_map f g xs)

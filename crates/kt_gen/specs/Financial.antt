@@ -1,5 +1,5 @@
--- The insurance and the reinsurance of a generated set.
--- The rules: docs/GENERATOR.md, "Insurance" and "Reinsurance".
+-- The insurance of a generated set: its programme, terms, profiles and outputs.
+-- The rules: docs/GENERATOR.md, "Insurance".
 use Rattle.std.specs.Prelude.{ℕ, ◌+◌, ◌-◌, ◌*◌, ◌/◌, List, [], ◌∷◌, ◌++◌, map}
 use Rattle.std.specs.List.{flat_map, range_with_len}
 use Rattle.kt_gen.specs.Exposure.{coverage_of, coverage_count}
@@ -55,19 +55,3 @@ output_rows item = ((2 * (item - 1) + 1) ∷ item ∷ 1 ∷ []) ∷ ((2 * (item 
 -- those of all items
 unfoldable pub fm_xref_rows : ℕ → List (List ℕ)
 fm_xref_rows items = flat_map output_rows (range_with_len 1 items)
-
--- a reinsurance stage adds all outputs to one unit
-abbrev pub stage_programme_row : ℕ → List ℕ
-stage_programme_row output = output ∷ 1 ∷ 1 ∷ []
-
--- its programme
-unfoldable pub stage_programme_rows : ℕ → List (List ℕ)
-stage_programme_rows items = map stage_programme_row (range_with_len 1 (output_count items))
-
--- its one layer
-unfoldable pub stage_policytc_rows : List (List ℕ)
-stage_policytc_rows = (1 ∷ 1 ∷ 1 ∷ 1 ∷ []) ∷ []
-
--- its profile: three quarters of the 10,000,000.00 above 1,000,000.00
-unfoldable pub stage_profile_rows : List (List ℕ)
-stage_profile_rows = (1 ∷ 2 ∷ 0 ∷ 0 ∷ 0 ∷ 100000000 ∷ 1000000000 ∷ 750000 ∷ 0 ∷ 0 ∷ []) ∷ []

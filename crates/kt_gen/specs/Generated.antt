@@ -11,7 +11,8 @@ use Rattle.kt_load.specs.FileNames.{base_tables, file_name_of, stage_tables}
 use Rattle.kt_gen.specs.Exposure.{coverage_count, coverage_rows, event_rows, item_rows}
 use Rattle.kt_gen.specs.Hazard.{footprint_rows, random_rows}
 use Rattle.kt_gen.specs.Damage.{damage_bin_rows, vulnerability_rows}
-use Rattle.kt_gen.specs.Financial.{fm_policytc_rows, fm_profile_rows, fm_programme_rows, fm_xref_rows, stage_policytc_rows, stage_profile_rows, stage_programme_rows}
+use Rattle.kt_gen.specs.Financial.{fm_policytc_rows, fm_profile_rows, fm_programme_rows, fm_xref_rows}
+use Rattle.kt_gen.specs.Stage.{stage_policytc_rows, stage_profile_rows, stage_programme_rows}
 use Rattle.kt_gen.specs.Summaries.{fm_summary_rows, gul_summary_rows}
 use Rattle.kt_gen.specs.Periods.{occurrence_rows, period_count, return_period_rows}
 

@@ -3,6 +3,7 @@ pub mod Exposure
 pub mod Hazard
 pub mod Damage
 pub mod Financial
+pub mod Stage
 pub mod Summaries
 pub mod Periods
 pub mod Generated

@@ -16,7 +16,7 @@ use std::alloc::{AllocError, Global};
 #[derive(Clone, Copy)]
 struct IntensityGroups {
     vulnerability: u32,
-    ghost few: { vulnerability ≤ 40 },
+    ghost few: { vulnerability ≤ 20000 },
 }
 
 impl Groups for IntensityGroups {
@@ -39,8 +39,18 @@ impl Groups for IntensityGroups {
             out,
             &VULNERABILITY.kinds,
             &[
-                [vulnerability, intensity, 1, 600_000u64.saturating_sub(risen)],
-                [vulnerability, intensity, intensity + 1, 400_000 + risen - total],
+                [
+                    vulnerability,
+                    intensity,
+                    1,
+                    600_000u64.saturating_sub(risen),
+                ],
+                [
+                    vulnerability,
+                    intensity,
+                    intensity + 1,
+                    (400_000 + risen).saturating_sub(total),
+                ],
                 [vulnerability, intensity, 12, total],
             ],
         )
@@ -65,7 +75,7 @@ impl Groups for VulnerabilityGroups {
     #[tactic(auto, unfolding(crate::specs::Damage::intensity_damage_rows))]
     fn put(&self, number: u32, _draws: &mut Draws, out: &mut Bytes) -> Result<(), AllocError> {
         let intensities = IntensityGroups {
-            vulnerability: number.min(40),
+            vulnerability: number,
         };
         put_plain_groups(&intensities, 1, 10, out)
     }

@@ -97,7 +97,11 @@ impl Groups for IndexGroups {
 
     fn put(&self, number: u32, _draws: &mut Draws, out: &mut Bytes) -> Result<(), AllocError> {
         let event = u64::from(number);
-        push_rows(out, &FOOTPRINT_IDX.kinds, &[[event, 16 + (event - 1) * 240, 240]])
+        push_rows(
+            out,
+            &FOOTPRINT_IDX.kinds,
+            &[[event, 16 + (event - 1) * 240, 240]],
+        )
     }
 }
 
@@ -159,11 +163,7 @@ pub(crate) fn footprint_index_file(alloc: Global, events: u32) -> Result<Bytes, 
 
 /// The file of so many random numbers.
 #[tactic(auto, unfolding(crate::specs::Hazard::random_rows))]
-pub(crate) fn random_file(
-    alloc: Global,
-    count: u32,
-    draws: &mut Draws,
-) -> Result<Bytes, AllocError>
+pub(crate) fn random_file(alloc: Global, count: u32, draws: &mut Draws) -> Result<Bytes, AllocError>
     requires few { count ≤ 10000 }
     requires made { draws.old.made ≤ 200000 }
     ensures value { IfOk result (λ file. file ≡ bin Random 0 (random_rows draws.old.seed draws.old.made count)) }

@@ -4,5 +4,9 @@
 mod damage;
 mod draws;
 mod exposure;
+mod financial;
 mod groups;
 mod hazard;
+mod periods;
+mod stage;
+mod summaries;
