@@ -55,7 +55,7 @@ index_from-events rows each event (suc count) low =
     let place : 16 + (event - 1) * 240 + 240 ≡ 16 + (event + 1 - 1) * 240 = omega arith in
     index_from-next event (event + 1) (16 + (event - 1) * 240) 240 (rows (event + 1)) (flat_map rows (range_with_len (event + 1 + 1) count)) other (each.are_of (event + 1)) (each.twenty (event + 1))
     ∙ ap (λ index. event_index_row event ∷ index)
-      (ap (λ offset. index_from (event + 1) offset 240 (flat_map rows (range_with_len (event + 1 + 1) count))) place ∙ index_from-events rows each (event + 1) count (omega arith))
+    (ap (λ offset. index_from (event + 1) offset 240 (flat_map rows (range_with_len (event + 1 + 1) count))) place ∙ index_from-events rows each (event + 1) count (omega arith))
 
 -- the index of all events
 pub index_of-events : (rows : ℕ → List (List ℕ)) → HasTwentyRows rows → (events : ℕ)

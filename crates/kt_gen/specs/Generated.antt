@@ -71,10 +71,14 @@ generated_extra t = 0
 abbrev pub table_file : TableId → List (List ℕ) → File
 table_file id rows = record { name = file_name_of id; bytes = bin id.table (generated_extra id.table) rows }
 
--- the tables of a generated set in the order of loading: those of the base, then those of its one reinsurance stage
+-- the files of some of its tables
+abbrev pub files_of : ℕ → ℕ → ℕ → List TableId → List File
+files_of seed items events ids = map (λ id. table_file id (generated_rows seed items events id)) ids
+
+-- its tables in the order of loading: those of the base, then those of its one reinsurance stage
 abbrev pub generated_tables : List TableId
 generated_tables = base_tables ++ stage_tables 1
 
 -- the files of a generated set
 abbrev pub generated_files : ℕ → ℕ → ℕ → List File
-generated_files seed items events = map (λ id. table_file id (generated_rows seed items events id)) generated_tables
+generated_files seed items events = files_of seed items events generated_tables

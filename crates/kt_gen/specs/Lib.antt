@@ -7,3 +7,4 @@ pub mod Stage
 pub mod Summaries
 pub mod Periods
 pub mod Generated
+pub mod Parts

@@ -4,7 +4,7 @@ ghost use Rattle.std.specs.Prelude.{◌≡◌, ◌≤◌, ◌+◌, ◌*◌, ℕ,
 ghost use Rattle.kt_rec.specs.declared.table.Table.TheVariants.{Footprint, FootprintIdx, Random};
 ghost use Rattle.kt_schema.specs.Conversions.{bin};
 ghost use Rattle.kt_schema.specs.Index.{index_of};
-ghost use Rattle.kt_gen.specs.Hazard.{footprint_rows, index_rows, random_rows};
+ghost use Rattle.kt_gen.specs.Hazard.{footprint_rows, random_rows};
 
 use crate::draws::Draws;
 use crate::groups::{Groups, begin, push_rows, put_groups, put_plain_groups};
@@ -150,11 +150,10 @@ pub(crate) fn footprint_file(
     Ok(out)
 }
 
-/// The file of the index of a footprint.
-#[tactic(auto, unfolding(crate::specs::Hazard::index_rows))]
+/// The file of the index of a footprint: that of the footprint's rows, which has a row for each event.
 pub(crate) fn footprint_index_file(alloc: Global, events: u32) -> Result<Bytes, AllocError>
     requires { events ≤ 10000 }
-    ensures { IfOk result (λ file. file ≡ bin FootprintIdx 0 (index_rows events)) }
+    ensures { (seed before : ℕ) → IfOk result (λ file. file ≡ bin FootprintIdx 0 (index_of (footprint_rows seed before events))) }
 {
     let mut out = begin(alloc, Table::FootprintIdx, 0)?;
     put_plain_groups(&IndexGroups, 1, events, &mut out)?;

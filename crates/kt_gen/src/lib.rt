@@ -5,8 +5,12 @@ mod damage;
 mod draws;
 mod exposure;
 mod financial;
+mod generated;
 mod groups;
 mod hazard;
+mod parts;
 mod periods;
 mod stage;
 mod summaries;
+
+pub use generated::generate;
