@@ -4,7 +4,7 @@ use Rattle.std.specs.Prelude.{List, [], ◌∷◌}
 use Rattle.kt_out.specs.NamedFiles.{File, with_file}
 use Rattle.kt_rec.specs.declared.table.Table.TheVariants as table
 use Rattle.kt_rec.specs.declared.table.TableId.{TableId}
-use Rattle.kt_load.specs.FileNames.{stage_tables, table_at}
+use Rattle.kt_load.specs.FileNames.{table_at}
 
 -- files after others were added, one after the other
 abbrev pub with_files : List File → List File → List File

@@ -1,11 +1,10 @@
-use Rattle.std.proofs.Common.{ℕ, [], List, ◌∙◌, ◌≡◌, ap}
+use Rattle.std.proofs.Common.{List, ◌∙◌}
 use Rattle.kt_out.specs.NamedFiles.{File}
 use Rattle.kt_rec.specs.declared.table.TableId.{TableId}
 use Rattle.kt_load.specs.FileNames.{stage_tables}
-use Rattle.kt_schema.specs.Conversions.{bin}
-use Rattle.kt_gen.specs.Generated.{files_of, generated_extra, generated_rows}
-use Rattle.kt_gen.specs.Parts.{exposure_tables, hazard_tables, insurance_tables, period_tables, summary_tables, with_files}
-use Rattle.kt_gen.proofs.PartLemmas.{adds-known, parts-in-order}
+use Rattle.kt_gen.specs.Generated.{files_of}
+use Rattle.kt_gen.specs.Parts.{exposure_tables, hazard_tables, insurance_tables, period_tables, summary_tables}
+use Rattle.kt_gen.proofs.PartLemmas.{adds-known}
 use Rattle.kt_gen.proofs.generated.generate.Goals as goal
 
 pub returns : goal.returns

@@ -1,4 +1,4 @@
-use Rattle.std.proofs.Common.{◌++◌, drop}
+use Rattle.std.proofs.Common.{drop}
 use Rattle.std.specs.List.{range_with_len}
 use Rattle.kt_gen.proofs.GroupLemmas.{map-flat_map}
 use Rattle.kt_gen.specs.Hazard.{footprint_rows, struck_rows}
