@@ -124,8 +124,7 @@ impl Groups for RandomGroups {
 
     ghost before = { λ numbers number. numbers.before + (number - 1) };
 
-    fn put(&self, number: u32, draws: &mut Draws, out: &mut Bytes) -> Result<(), AllocError> {
-        let _ = number;
+    fn put(&self, _number: u32, draws: &mut Draws, out: &mut Bytes) -> Result<(), AllocError> {
         push_rows(out, &RANDOM.kinds, &[[u64::from(draws.next(1_000_000))]])
     }
 }

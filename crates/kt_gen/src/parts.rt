@@ -81,7 +81,6 @@ pub(crate) fn add_hazard(
 
     ensures seed { OnOk result (draws.new.seed ≡ draws.old.seed) }
 {
-    let _ = items;
     let footprint = footprint_file(alloc, events, draws)?;
     add(alloc, inputs, 0, Table::Footprint, &footprint)?;
     let index = footprint_index_file(alloc, events)?;
@@ -151,7 +150,6 @@ pub(crate) fn add_periods(
     requires made { draws.old.made ≡ draws_before_occurrences items events }
     ensures { OnOk result (inputs.new ≡ record inputs.old { files = with_files inputs.old.files (files_of draws.old.seed items events period_tables) }) }
 {
-    let _ = items;
     let occurrences = occurrences_file(alloc, events, draws)?;
     add(alloc, inputs, 0, Table::Occurrence, &occurrences)?;
     let return_periods = return_periods_file(alloc)?;
