@@ -1,3 +1,4 @@
 pub mod GroupLemmas
 pub mod IndexLemmas
 pub mod PartLemmas
+pub mod FileLineLemmas

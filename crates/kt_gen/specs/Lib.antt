@@ -8,3 +8,4 @@ pub mod Summaries
 pub mod Periods
 pub mod Generated
 pub mod Parts
+pub mod FileLines

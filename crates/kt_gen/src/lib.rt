@@ -4,6 +4,7 @@
 mod damage;
 mod draws;
 mod exposure;
+mod file_lines;
 mod financial;
 mod generated;
 mod groups;
@@ -13,4 +14,5 @@ mod periods;
 mod stage;
 mod summaries;
 
+pub use file_lines::push_file_lines;
 pub use generated::generate;
