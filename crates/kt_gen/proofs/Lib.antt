@@ -2,3 +2,4 @@ pub mod GroupLemmas
 pub mod IndexLemmas
 pub mod PartLemmas
 pub mod FileLineLemmas
+pub mod ShownLemmas

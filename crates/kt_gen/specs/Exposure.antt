@@ -24,12 +24,14 @@ item_row item = item ∷ coverage_of item ∷ (1 + (item - 1) % 50) ∷ (1 + (it
 abbrev pub coverage_row : ℕ → ℕ → List ℕ
 coverage_row seed coverage = coverage ∷ (10000000 + draw seed coverage 90000000) ∷ []
 
--- all of them
+-- events 1 to so many
 unfoldable pub event_rows : ℕ → List (List ℕ)
 event_rows events = map event_row (range_with_len 1 events)
 
+-- items 1 to so many
 unfoldable pub item_rows : ℕ → List (List ℕ)
 item_rows items = map item_row (range_with_len 1 items)
 
+-- the coverages of so many items
 unfoldable pub coverage_rows : ℕ → ℕ → List (List ℕ)
 coverage_rows seed items = map (coverage_row seed) (range_with_len 1 (coverage_count items))

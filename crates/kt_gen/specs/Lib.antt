@@ -9,3 +9,4 @@ pub mod Periods
 pub mod Generated
 pub mod Parts
 pub mod FileLines
+pub mod Shown

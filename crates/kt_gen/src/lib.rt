@@ -9,6 +9,7 @@ mod financial;
 mod generated;
 mod groups;
 mod hazard;
+mod laws;
 mod parts;
 mod periods;
 mod stage;
@@ -16,3 +17,4 @@ mod summaries;
 
 pub use file_lines::push_file_lines;
 pub use generated::generate;
+pub use laws::made_files_are_shown;
