@@ -1,0 +1,5 @@
+pub mod GroupLemmas
+pub mod IndexLemmas
+pub mod PartLemmas
+pub mod FileLineLemmas
+pub mod ShownLemmas

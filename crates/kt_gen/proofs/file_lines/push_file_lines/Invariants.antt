@@ -1,0 +1,9 @@
+use Rattle.std.proofs.Common.{◌≡◌, ◌++◌, drop}
+use Rattle.std.specs.Prelude.{map}
+use Rattle.kt_out.specs.NamedFiles.{bytes_of}
+use Rattle.kt_gen.specs.FileLines.{file_lines}
+use Rattle.kt_gen.proofs.file_lines.push_file_lines.Given as goal
+
+abbrev pub invariant-loop-file : goal.invariant-loop-file
+invariant-loop-file g l =
+    l.out ++ file_lines (bytes_of l.outputs) (map g.F.Named.name (drop l.file-index l.files)) ≡ l.fn.out ++ file_lines (bytes_of l.outputs) (map g.F.Named.name l.files)

@@ -1,0 +1,12 @@
+pub mod Draws
+pub mod Exposure
+pub mod Hazard
+pub mod Damage
+pub mod Financial
+pub mod Stage
+pub mod Summaries
+pub mod Periods
+pub mod Generated
+pub mod Parts
+pub mod FileLines
+pub mod Shown
