@@ -89,6 +89,10 @@ enough batch events some =
     let turned : ((events + batch - 1) / batch) * batch ≡ batch * ((events + batch - 1) / batch) = grind arith in
     omega (arith, whole, rest, turned, some)
 
+-- so many events as 16 parts have make at most 16 parts
+pub few_parts : (batch events : ℕ) → 1 ≤ batch → events ≤ 16 * batch → part_count batch events ≤ 16
+few_parts batch events some few = omega (arith, div-lt_of_lt-mul (events + batch - 1) 17 batch (omega (arith, some, few)))
+
 -- all of a list
 take_all : {X : Type 0} (n : ℕ) (xs : List X) → length xs ≤ n → take n xs ≡ xs
 take_all zero [] many = refl

@@ -67,17 +67,20 @@ pub record IsFolded (run : RunInput) (done : List ℕ) (fold : FoldState) : Type
   pub stands : StandsFor (all_added run done) fold.cells
   pub none_kept : fold.kept ≡ []
 
--- what all rounds of a run share: the portfolio, the terms, the files, and how many events a part has
+-- what all rounds of a run share: the portfolio, the terms, the files, how many workers there are, and how many events a part has
 pub record RunShares : Type 0 where
   pub portfolio : PortfolioRows
   pub terms : Terms
   pub files : List OutputFile
+  pub workers : ℕ
   pub batch : ℕ
 
--- the plan of a run is that of its portfolio, and the files are those of both
-pub record IsRun (portfolio : PortfolioRows) (plan : Plan) (files : List OutputFile) (batch : ℕ) : Type 0 where
+-- the plan of a run is that of its portfolio, the files are those of both, there are 1 to 16 workers, and a part has 1 to 4 events
+pub record IsRun (portfolio : PortfolioRows) (plan : Plan) (files : List OutputFile) (workers batch : ℕ) : Type 0 where
   pub plan_is : IsPlan portfolio plan
   pub files_are : files ≡ output_files portfolio.rows (terms_of plan).last
+  pub some_workers : 1 ≤ workers
+  pub few_workers : workers ≤ 16
   pub some : 1 ≤ batch
   pub most : batch ≤ 4
 

@@ -8,7 +8,7 @@ use kt_event::Terms;
 pub struct ChainOptions {
     /// What it computes.
     pub terms: Terms,
-    /// The number of workers, from 1 to 16. It changes no output; the parts of a round are made one after the other so far.
+    /// The number of workers, from 1 to 16. It changes no output.
     pub workers: u32,
     /// The number of events of a part of a round, from 1 to 4. It changes no output.
     pub batch: u32,

@@ -27,21 +27,25 @@ use kt_files::OutputFile;
 use kt_files::laws::names_are_distinct;
 use kt_out::{Fault, Inputs, Outputs};
 use kt_outputs::append_texts;
-use kt_part::{RoundStop, fold_blocks};
+use kt_part::laws::Claims;
+use kt_part::{RoundStop, run_round};
 use kt_tables::Portfolio;
 use std::alloc::{AllocError, Global};
 use std::marker::Model;
+use std::thread::Threads;
 
 /// The parts of a round.
 const PARTS: usize = 16;
 
-/// What all rounds of a run share. Contracts see the portfolio, the terms, the files and the size of a part.
+/// What all rounds of a run share. Contracts see the portfolio, the terms, the files, how many workers there are and the size of
+/// a part.
 #[derive(Drop)]
 pub(crate) struct Run<'a> {
     pub(crate) alloc: Global,
     pub(crate) portfolio: &'a Portfolio,
     pub(crate) plan: &'a Plan,
     pub(crate) files: &'a [OutputFile],
+    pub(crate) workers: u32,
     pub(crate) batch: u32,
 }
 
@@ -51,9 +55,9 @@ impl<'a> Model for Run<'a> {
 
     ghost Value = { RunShares };
 
-    ghost view = { λ r. record { portfolio = r.portfolio.now; terms = terms_of r.plan.now; files = r.files.now; batch = r.batch } };
+    ghost view = { λ r. record { portfolio = r.portfolio.now; terms = terms_of r.plan.now; files = r.files.now; workers = r.workers; batch = r.batch } };
 
-    ghost invariant = { λ r. IsRun r.portfolio.now r.plan.now r.files.now r.batch };
+    ghost invariant = { λ r. IsRun r.portfolio.now r.plan.now r.files.now r.workers r.batch };
 }
 
 impl<'a> Run<'a> {
@@ -69,7 +73,8 @@ impl<'a> Run<'a> {
 }
 
 /// Folds the parts of a round, and answers why one of its events is refused, if one is. An error is want of memory.
-fn fold_round(
+fn fold_round<R: Threads + Sync>(
+    rt: &R,
     run: &Run<'_>,
     fold: &mut RunFold<'_>,
     given: &[EventRows],
@@ -91,7 +96,17 @@ fn fold_round(
         given,
         batch: run.batch,
     };
-    match fold_blocks(&work, fold, count) {
+    let (claims, mut pass) = Claims::new(run.alloc, run.workers)?;
+    match run_round(
+        rt,
+        run.alloc,
+        &claims,
+        &mut pass,
+        &work,
+        fold,
+        count,
+        run.workers,
+    ) {
         Ok(()) => Ok(None),
         Err(RoundStop::OutOfMemory) => Err(AllocError),
         Err(RoundStop::Fold { stop, .. }) => match stop.refusal() {
@@ -132,7 +147,8 @@ fn write_kept<O: Outputs>(
 
 /// One round: the footprint rows of its events are read, its parts are made and folded, and the rows of the events before the
 /// first that is refused are written.
-fn one_round<I: Inputs, O: Outputs>(
+fn one_round<R: Threads + Sync, I: Inputs, O: Outputs>(
+    rt: &R,
     run: &Run<'_>,
     fold: &mut RunFold<'_>,
     events: &[u32],
@@ -154,7 +170,7 @@ fn one_round<I: Inputs, O: Outputs>(
         Ok(given) => given,
         Err(stop) => return Err(stop),
     };
-    let refusal = match fold_round(run, fold, &given) {
+    let refusal = match fold_round(rt, run, fold, &given) {
         Ok(refusal) => refusal,
         Err(_) => return Err(ToolStop::NoMemory),
     };
@@ -168,7 +184,8 @@ fn one_round<I: Inputs, O: Outputs>(
 }
 
 /// All rounds, one after the other, up to the first event that is refused.
-pub(crate) fn all_rounds<I: Inputs, O: Outputs>(
+pub(crate) fn all_rounds<R: Threads + Sync, I: Inputs, O: Outputs>(
+    rt: &R,
     run: &Run<'_>,
     fold: &mut RunFold<'_>,
     inputs: &mut I,
@@ -188,7 +205,7 @@ pub(crate) fn all_rounds<I: Inputs, O: Outputs>(
     let mut rest = run.portfolio.events();
     while !rest.is_empty() {
         let (round, later) = rest.split_at(rest.len().min(size));
-        if let Err(stop) = one_round(run, fold, round, inputs, outputs) {
+        if let Err(stop) = one_round(rt, run, fold, round, inputs, outputs) {
             return Err(stop);
         }
         rest = later;

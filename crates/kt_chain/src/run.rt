@@ -34,6 +34,7 @@ use kt_out::{Fault, Inputs, Outputs};
 use kt_outputs::{append_texts, create_files};
 use kt_tables::Portfolio;
 use std::alloc::Global;
+use std::thread::Threads;
 
 /// Makes the files of a run, and writes what stands at their heads.
 fn begin<O: Outputs>(run: &Run<'_>, outputs: &mut O) -> Result<(), Fault>
@@ -63,7 +64,8 @@ fn finish<O: Outputs>(run: &Run<'_>, fold: &RunFold<'_>, outputs: &mut O) -> Res
 }
 
 /// Makes the files of a run, carries its events through all stages round by round, and writes the tables over all periods.
-fn write_run<I: Inputs, O: Outputs>(
+fn write_run<R: Threads + Sync, I: Inputs, O: Outputs>(
+    rt: &R,
     run: &Run<'_>,
     inputs: &mut I,
     outputs: &mut O,
@@ -79,7 +81,7 @@ fn write_run<I: Inputs, O: Outputs>(
         return Err(write_stop(fault));
     }
     let mut fold = RunFold::new(run.alloc, run.portfolio, run.plan.terms().samples);
-    if let Err(stop) = all_rounds(run, &mut fold, inputs, outputs) {
+    if let Err(stop) = all_rounds(rt, run, &mut fold, inputs, outputs) {
         return Err(stop);
     }
     match finish(run, &fold, outputs) {
@@ -93,7 +95,8 @@ fn write_run<I: Inputs, O: Outputs>(
 /// footprint rows or by a record that passes a limit: then the files hold the rows of the events before it, and those over all
 /// periods nothing; or a fault of the input files or of the output files, or want of memory: then some front of the files is
 /// made, each with a front of its text. Neither the number of workers nor the size of a part changes what is written.
-pub fn run_chain<I: Inputs, O: Outputs>(
+pub fn run_chain<R: Threads + Sync, I: Inputs, O: Outputs>(
+    rt: &R,
     alloc: Global,
     options: &ChainOptions,
     portfolio: &Portfolio,
@@ -103,6 +106,8 @@ pub fn run_chain<I: Inputs, O: Outputs>(
     requires terms { AreTerms options.now.terms }
     requires some { 1 ≤ options.now.batch }
     requires most { options.now.batch ≤ 4 }
+    requires some_workers { 1 ≤ options.now.workers }
+    requires few_workers { options.now.workers ≤ 16 }
     requires need { portfolio.now.need ≡ chain_need options.now.terms }
     requires file { HasFootprint (I.state inputs.old).held portfolio.now.rows.footprint_size }
     // The source and the sink are none of its objects.
@@ -115,7 +120,8 @@ pub fn run_chain<I: Inputs, O: Outputs>(
         portfolio,
         plan: &plan,
         files: &files,
+        workers: options.workers,
         batch: options.batch,
     };
-    write_run(&run, inputs, outputs)
+    write_run(rt, &run, inputs, outputs)
 }

@@ -2,9 +2,10 @@
 #![tactic(auto)]
 
 mod fold;
+pub mod laws;
 mod round;
 mod work;
 
 pub use fold::Fold;
-pub use round::{RoundStop, fold_blocks};
+pub use round::{RoundStop, fold_blocks, run_round};
 pub use work::Work;

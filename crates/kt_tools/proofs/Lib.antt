@@ -7,3 +7,4 @@ pub mod Running
 pub mod TableEnds
 mod GulLemmas
 mod ModelLemmas
+mod GeneratedLemmas

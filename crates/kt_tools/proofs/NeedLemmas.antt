@@ -24,7 +24,7 @@ use Rattle.kt_tools.specs.Needs.{chain_terms, command_need}
 use Rattle.kt_tools.specs.Uses.{command_uses}
 use Rattle.kt_words.specs.Command.{AreNet, IsChain}
 use Rattle.kt_words.specs.declared.command.Command.{Command}
-use Rattle.kt_words.specs.declared.command.Command.TheVariants.{Fmcalc, FmcalcNet, Aalcalc, Leccalc, Getmodel, Gulcalc, Eltcalc, Convert, Chain}
+use Rattle.kt_words.specs.declared.command.Command.TheVariants.{Fmcalc, FmcalcNet, Aalcalc, Leccalc, Getmodel, Gulcalc, Eltcalc, Convert, Chain, Gen}
 
 -- a command loads a table
 abbrev pub Loads : ℕ → Table → Option Need → Type 0
@@ -138,4 +138,5 @@ chain_file command portfolio inputs samples cut rule last stages workers batch i
 pub uses_files : (command : Command) (need : Need) → command_need command ≡ Some need → (command_uses command).inputs ≡ true
 uses_files (Eltcalc heading) need is = cc
 uses_files (Convert conversion) need is = cc
+uses_files (Gen seed items events workers) need is = cc
 uses_files command need is = refl

@@ -5,6 +5,7 @@ pub mod Loading
 pub mod ModelOutcome
 pub mod ModelStage
 pub mod Needs
+pub mod GeneratedRun
 pub mod Outcome
 pub mod RunEnds
 pub mod Uses

@@ -19,7 +19,7 @@ use Rattle.kt_tables.specs.Portfolio.{PortfolioRows}
 use Rattle.kt_words.specs.Command.{command_of}
 use Rattle.kt_words.specs.FileNames.{file_names}
 use Rattle.kt_words.specs.declared.command.Command.{Command}
-use Rattle.kt_words.specs.declared.command.Command.TheVariants.{Fmcalc, FmcalcNet, Summarycalc, Eltcalc, Pltcalc, Aalcalc, Leccalc, Kat, Convert, FootprintText, Eve, Getmodel, Gulcalc, Chain}
+use Rattle.kt_words.specs.declared.command.Command.TheVariants.{Fmcalc, FmcalcNet, Summarycalc, Eltcalc, Pltcalc, Aalcalc, Leccalc, Kat, Convert, FootprintText, Eve, Getmodel, Gulcalc, Chain, Gen}
 use Rattle.kt_words.specs.declared.command.Conversion.{Conversion}
 use Rattle.kt_words.specs.declared.stop.WordStop.{WordStop}
 use Rattle.kt_ends.specs.Endings.{nothing, writes_text}
@@ -35,6 +35,7 @@ use Rattle.kt_kat.specs.Outcome.{kat_outcome}
 use Rattle.kt_chain.specs.Events.{run_input}
 use Rattle.kt_chain.specs.Outcome.{chain_outcome}
 use Rattle.kt_tools.specs.Converting.{source_limit, source_name, other_form, converted}
+use Rattle.kt_tools.specs.GeneratedRun.{generated_outcome}
 use Rattle.kt_tools.specs.GulOutcome.{gul_outcome}
 use Rattle.kt_tools.specs.Loading.{with_tables}
 use Rattle.kt_tools.specs.ModelOutcome.{model_outcome}
@@ -81,6 +82,7 @@ tool_outcome words (Convert conversion) files portfolio source = convert_outcome
 tool_outcome words FootprintText files portfolio source = footprint_text portfolio.rows.footprint_idx source
 tool_outcome words (Eve part parts) files portfolio source = eve_outcome part parts portfolio.rows
 tool_outcome words (Chain samples cut rule last stages workers batch) files portfolio source = chain_outcome (run_input (chain_terms samples cut rule last stages) portfolio.rows files)
+tool_outcome words (Gen seed items events workers) files portfolio source = generated_outcome seed items events
 
 -- a command that needs no tables has this portfolio
 abbrev pub no_portfolio : PortfolioRows

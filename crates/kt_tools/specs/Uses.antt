@@ -4,16 +4,17 @@ use Rattle.std.specs.Prelude.{true, false, Result, Ok, Err}
 use Rattle.kt_chain.specs.Runs.{chain_uses}
 use Rattle.kt_ends.specs.World.{Uses}
 use Rattle.kt_words.specs.declared.command.Command.{Command}
-use Rattle.kt_words.specs.declared.command.Command.TheVariants.{Eltcalc, Kat, Convert, Eve, Chain}
+use Rattle.kt_words.specs.declared.command.Command.TheVariants.{Eltcalc, Kat, Convert, Eve, Chain, Gen}
 use Rattle.kt_words.specs.declared.stop.WordStop.{WordStop}
 
--- tables, a stream and what is written; but no table, or no stream, or output files in place of both streams
+-- tables, a stream and what is written; but no table, or no stream, or output files in place of both streams; of a made-up set the sink alone
 abbrev pub command_uses : Command → Uses
 command_uses (Eltcalc heading) = record { inputs = false; outputs = false; source = true; sink = true }
 command_uses (Convert conversion) = record { inputs = false; outputs = false; source = true; sink = true }
 command_uses Kat = record { inputs = true; outputs = false; source = false; sink = true }
 command_uses (Eve part parts) = record { inputs = true; outputs = false; source = false; sink = true }
 command_uses (Chain samples cut rule last stages workers batch) = chain_uses
+command_uses (Gen seed items events workers) = record { inputs = false; outputs = false; source = false; sink = true }
 command_uses command = record { inputs = true; outputs = false; source = true; sink = true }
 
 -- faulty words use nothing

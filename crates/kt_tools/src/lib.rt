@@ -4,6 +4,7 @@
 mod convert;
 mod eve;
 mod footprint;
+mod generated;
 mod getmodel;
 mod gulcalc;
 mod need;

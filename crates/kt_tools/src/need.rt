@@ -151,6 +151,6 @@ pub(crate) fn command_need(command: Command) -> Option<Need>
             last,
             stages,
         })),
-        Command::Eltcalc { .. } | Command::Kat | Command::Convert(_) => None,
+        Command::Eltcalc { .. } | Command::Kat | Command::Convert(_) | Command::Gen { .. } => None,
     }
 }

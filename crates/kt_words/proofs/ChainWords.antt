@@ -19,7 +19,7 @@ use Rattle.kt_words.specs.declared.value.Value.TheVariants as value
 use Rattle.kt_words.proofs.Fitting.{nothing_missing, nothing_clashes, number_said, not_zero, either, negated, word_named}
 
 -- a number of an option that may be left out is within its bounds, where the number that stands for it is
-number_or_within : (least most other : ℕ) (found : Option GivenWord) → least ≤ other → other ≤ most → FitsWord (form.Number least most) found → (least ≤ number_or found other) × (number_or found other ≤ most)
+pub number_or_within : (least most other : ℕ) (found : Option GivenWord) → least ≤ other → other ≤ most → FitsWord (form.Number least most) found → (least ≤ number_or found other) × (number_or found other ≤ most)
 number_or_within least most other None low high fits = (low, high)
 number_or_within least most other (Some given) low high fits = number_said least most (Some given) refl fits
 

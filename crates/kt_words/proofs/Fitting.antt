@@ -6,7 +6,7 @@ use Rattle.std.proofs.lemmas.Bool.{eqb-true, eqb-false, leb-true, ltb-true, ltb-
 use Rattle.std.proofs.lemmas.List.{get_or-set_other, get_or_past, get_or-replicate, length-set, length-replicate}
 use Rattle.std.proofs.lemmas.Grind.{get_or-set_at}
 use Rattle.kt_words.specs.Command.{number_in, number_or_0}
-use Rattle.kt_words.specs.Fits.{IsNumber, Fits, FitsWord, FitsTable, IsRead}
+use Rattle.kt_words.specs.Fits.{IsNumber, Fits, FitsWord, FitsPlace, FitsTable, IsRead}
 use Rattle.kt_words.specs.Given.{none_given, given_at, is_given, word_of, option_named, with_value, value_or_bad, with_text, with_flag, with_valued, by_form, row_or_unknown, with_option, with_place, place_of, place_or_bad, plain_by, with_plain, with_own, with_next, with_word}
 use Rattle.kt_words.specs.Judging.{finished, unless_awaited, is_missing, is_nought, is_zero, lacks_some, lacks_by_some_rule, refused_word, refuses, broken_rule, word_by_rule, or_else, unless_clash, clash}
 use Rattle.kt_words.specs.Reading.{read_from, and_on, finish_read, unless_wrong, given_by}
@@ -97,6 +97,9 @@ module _ (tool : Tool) (given : Given) (fits : FitsTable tool given) where
   value_kept row word said named is = record {
     options = λ letter other found. entry_fits (FitsWord (form_of other)) given.options (letter_of row) letter (record { word = word; value = said }) tt (λ same. some_is (λ one. Fits (form_of one) said) row other (sym named ∙ ap (option_named tool) (sym same) ∙ found) is) (fits.options letter other found);
     awaited = tt;
+    first = fits.first;
+    second = fits.second;
+    third = fits.third;
   }
 
   text_kept : (row : OptionRow) (word : ℕ) (text : List ℕ) (next : Given) → option_named tool (letter_of row) ≡ Some row → with_text given tool row word text ≡ Ok next → FitsTable tool next
@@ -123,7 +126,7 @@ module _ (tool : Tool) (given : Given) (fits : FitsTable tool given) where
     where
       by_tests : (twice alone : Bool) → (if twice then Err Repeated else (if alone then Ok (record given { awaited = Some (record { option = row; word = word }) }) else with_text given tool row word attached)) ≡ Ok next → FitsTable tool next
       by_tests true alone h = cc
-      by_tests false true h = ok_kept _ next h (record { options = fits.options; awaited = named })
+      by_tests false true h = ok_kept _ next h (record { options = fits.options; awaited = named; first = fits.first; second = fits.second; third = fits.third })
       by_tests false false h = text_kept row word attached next named h
 
   form_kept : (f : Form) (row : OptionRow) (word : ℕ) (attached : List ℕ) (next : Given) → form_of row ≡ f → option_named tool (letter_of row) ≡ Some row → by_form f given tool row word attached ≡ Ok next → FitsTable tool next
@@ -137,26 +140,30 @@ module _ (tool : Tool) (given : Given) (fits : FitsTable tool given) where
       by_row None e h = cc
       by_row (Some row) e h = form_kept (form_of row) row word attached next refl (names_itself tool letter row e) h
 
-  -- a plain word changes no option
-  place_kept : (entry : GivenWord) → FitsTable tool (with_place given entry)
-  place_kept entry = by_tests (place_of given == 0) (place_of given == 1) (place_of given == 2)
+  -- a plain word changes no option, and it has the form of its place
+  place_kept : (entry : GivenWord) → FitsPlace tool (place_of given) (Some entry) → FitsTable tool (with_place given entry)
+  place_kept entry is = by_tests (place_of given == 0) (place_of given == 1) (place_of given == 2) refl refl refl
     where
-      by_tests : (none one two : Bool) → FitsTable tool (if none then record given { first = Some entry } else (if one then record given { second = Some entry } else (if two then record given { third = Some entry } else given)))
-      by_tests true one two = record { options = fits.options; awaited = fits.awaited }
-      by_tests false true two = record { options = fits.options; awaited = fits.awaited }
-      by_tests false false true = record { options = fits.options; awaited = fits.awaited }
-      by_tests false false false = fits
+      -- the form of the place that the test says
+      at : (place : ℕ) → (place_of given == place) ≡ true → FitsPlace tool place (Some entry)
+      at place same = subst (λ one. FitsPlace tool one (Some entry)) (eqb-true (place_of given) place same) is
+
+      by_tests : (none one two : Bool) → (place_of given == 0) ≡ none → (place_of given == 1) ≡ one → (place_of given == 2) ≡ two → FitsTable tool (if none then record given { first = Some entry } else (if one then record given { second = Some entry } else (if two then record given { third = Some entry } else given)))
+      by_tests true one two e f h = record { options = fits.options; awaited = fits.awaited; first = at 0 e; second = fits.second; third = fits.third }
+      by_tests false true two e f h = record { options = fits.options; awaited = fits.awaited; first = fits.first; second = at 1 f; third = fits.third }
+      by_tests false false true e f h = record { options = fits.options; awaited = fits.awaited; first = fits.first; second = fits.second; third = at 2 h }
+      by_tests false false false e f h = fits
 
   plain_kept : (word : ℕ) (text : List ℕ) (next : Given) → with_plain given tool word text ≡ Ok next → FitsTable tool next
-  plain_kept word text next is = by_form_at (form_at (plain_of tool) (place_of given)) is
+  plain_kept word text next is = by_form_at (form_at (plain_of tool) (place_of given)) refl is
     where
-      by_value : (found : Option Value) → place_or_bad given word found ≡ Ok next → FitsTable tool next
-      by_value None h = cc
-      by_value (Some said) h = ok_kept _ next h (place_kept (record { word = word; value = said }))
+      by_value : (f : Form) (found : Option Value) → form_at (plain_of tool) (place_of given) ≡ Some f → value_of f text ≡ found → place_or_bad given word found ≡ Ok next → FitsTable tool next
+      by_value f None e v h = cc
+      by_value f (Some said) e v h = ok_kept _ next h (place_kept (record { word = word; value = said }) (subst (λ found. IfSome found (λ form. Fits form said)) (sym e) (value_fits f text said v)))
 
-      by_form_at : (found : Option Form) → plain_by found given word text ≡ Ok next → FitsTable tool next
-      by_form_at None h = cc
-      by_form_at (Some f) h = by_value (value_of f text) h
+      by_form_at : (found : Option Form) → form_at (plain_of tool) (place_of given) ≡ found → plain_by found given word text ≡ Ok next → FitsTable tool next
+      by_form_at None e h = cc
+      by_form_at (Some f) e h = by_value f (value_of f text) e refl h
 
   own_kept : (word : ℕ) (text : List ℕ) (next : Given) → with_own given tool word text ≡ Ok next → FitsTable tool next
   own_kept word text next is = by_tests (length text == 0 || not (slice_index text 0 == 45)) (length text == 1) is
@@ -188,6 +195,9 @@ pub none_fits : (tool : Tool) → FitsTable tool none_given
 none_fits tool = record {
   options = λ letter row found. subst (FitsWord (form_of row)) (sym (nothing letter)) tt;
   awaited = tt;
+  first = none_at 0;
+  second = none_at 1;
+  third = none_at 2;
 }
   where
     nothing : (letter : ℕ) → slice_index_or (replicate 256 no_word) letter no_word ≡ no_word
@@ -196,6 +206,13 @@ none_fits tool = record {
         by_test : (b : Bool) → nat_lt letter 256 ≡ b → slice_index_or (replicate 256 no_word) letter no_word ≡ no_word
         by_test true e = get_or-replicate 256 letter no_word no_word (ltb-true letter 256 e)
         by_test false e = get_or_past (replicate 256 no_word) letter no_word (omega (arith, ltb-false letter 256 e, length-replicate 256 no_word))
+
+    none_at : (place : ℕ) → FitsPlace tool place None
+    none_at place = by_form (form_at (plain_of tool) place)
+      where
+        by_form : (found : Option Form) → IfSome found (λ form. FitsWord form None)
+        by_form None = tt
+        by_form (Some form) = tt
 
 all_kept : (tool : Tool) (given : Given) (word : ℕ) (texts : List (List ℕ)) (last : Given) → FitsTable tool given → read_from tool given word texts ≡ Ok last → FitsTable tool last
 unfolding read_from

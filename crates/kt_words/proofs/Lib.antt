@@ -2,3 +2,4 @@ mod Taking
 mod Fitting
 mod FileNaming
 mod ChainWords
+mod GenWords

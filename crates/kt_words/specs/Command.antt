@@ -19,7 +19,7 @@ use Rattle.kt_words.specs.declared.command.Conversion.TheVariants.{ToFile, ToTex
 use Rattle.kt_words.specs.declared.given.Given.{Given}
 use Rattle.kt_words.specs.declared.given.GivenWord.{GivenWord}
 use Rattle.kt_words.specs.declared.stop.WordCause.{WordCause}
-use Rattle.kt_words.specs.declared.stop.WordCause.TheVariants.{Missing, UnknownTool, BadPart}
+use Rattle.kt_words.specs.declared.stop.WordCause.TheVariants.{Missing, BadPart}
 use Rattle.kt_words.specs.declared.stop.WordStop.{WordStop}
 use Rattle.kt_words.specs.declared.tool.Tool.{Tool}
 use Rattle.kt_words.specs.declared.tool.Tool.TheVariants as tool
@@ -53,6 +53,15 @@ pub record IsChain (samples rule : ℕ) (last : Perspective) (stages workers bat
   pub some_events : 1 ≤ batch
   pub few_events : batch ≤ 4
 
+-- a run over a made-up set: 1 to 9,000 items, 1 to 10,000 events, and 1 to 16 workers
+pub record IsGen (items events workers : ℕ) : Type 0 where
+  pub some_items : 1 ≤ items
+  pub few_items : items ≤ 9000
+  pub some_events : 1 ≤ events
+  pub few_events : events ≤ 10000
+  pub some_workers : 1 ≤ workers
+  pub few_workers : workers ≤ 16
+
 -- what every command keeps: an allocation rule, of net losses 1 or 2, and a stage, a summary set, a conversion and a part that there is, and 1 to 1,000 samples
 abbrev pub IsCommand : Command → Type 0
 IsCommand (command.Fmcalc rule) = rule ≤ 2
@@ -69,6 +78,7 @@ IsCommand (command.Convert conversion) = IsConversion conversion
 IsCommand command.FootprintText = Unit {0}
 IsCommand (command.Eve part parts) = has_part part parts ≡ true
 IsCommand (command.Chain samples cut rule last stages workers batch) = IsChain samples rule last stages workers batch
+IsCommand (command.Gen seed items events workers) = IsGen items events workers
 
 abbrev pub number_in : Value → ℕ
 number_in (value.Number number) = number
@@ -149,6 +159,10 @@ chain_command given =
     command.Chain (number_or_0 (given_at given 83)) (number_or (given_at given 103) 1 == 1) (number_or (given_at given 97) 2) (losses_or_first (given_at given 108))
     (number_or_0 (given_at given 114)) (number_or (given_at given 119) 1) (number_or (given_at given 98) 4)
 
+-- a run over a made-up set by its seed, its items and its events, and the value of -w: where it is left out, one worker
+abbrev pub gen_command : Given → Command
+gen_command given = command.Gen (number_or_0 given.first) (number_or_0 given.second) (number_or_0 given.third) (number_or (given_at given 119) 1)
+
 -- the command of a tool by what its words said: of `eltcalc` and `pltcalc` whether -s was left out, of `gulcalc` the values of -S and
 -- of -a, of `tobin` the value of -P
 abbrev pub command_from : Tool → Given → Result Command WordStop
@@ -165,7 +179,7 @@ command_from tool.Tobin given = Ok (command.Convert (ToFile (table_or_first give
 command_from tool.Tocsv given = Ok (to_text (table_or_first given.first))
 command_from tool.Eve given = eve_command given
 command_from tool.Chain given = Ok (chain_command given)
-command_from unbuilt given = refused_word 1 UnknownTool
+command_from tool.Gen given = Ok (gen_command given)
 
 abbrev pub command_by : Tool → Result Given WordStop → Result Command WordStop
 command_by tool (Ok given) = command_from tool given

@@ -3,7 +3,8 @@
 use Rattle.std.specs.Prelude.{◌≡◌, ◌≤◌, ℕ, Option, Some, None, Ok, IfSome}
 use Rattle.kt_words.specs.Given.{given_at, option_named}
 use Rattle.kt_words.specs.Judging.{finished}
-use Rattle.kt_words.specs.Rows.{letter_of, form_of}
+use Rattle.kt_words.specs.Rows.{letter_of, form_of, form_at}
+use Rattle.kt_words.specs.Table.{plain_of}
 use Rattle.kt_words.specs.declared.given.Given.{Given}
 use Rattle.kt_words.specs.declared.given.GivenWord.{GivenWord}
 use Rattle.kt_words.specs.declared.rows.Form.{Form}
@@ -29,10 +30,18 @@ abbrev pub FitsWord : Form → Option GivenWord → Type 0
 FitsWord form None = Unit {0}
 FitsWord form (Some given) = Fits form given.value
 
--- each option of the tool that was given has a value of its form, and an option that waits for its value is one of the tool
+-- a plain word that was given behind so many others fits the form of its place
+abbrev pub FitsPlace : Tool → ℕ → Option GivenWord → Type 0
+FitsPlace tool place found = IfSome (form_at (plain_of tool) place) (λ form. FitsWord form found)
+
+-- each option of the tool that was given has a value of its form, an option that waits for its value is one of the tool, and the first
+-- three plain words have the forms of their places
 pub record FitsTable (tool : Tool) (given : Given) : Type 0 where
   pub options : (letter : ℕ) (row : OptionRow) → option_named tool letter ≡ Some row → FitsWord (form_of row) (given_at given letter)
   pub awaited : IfSome given.awaited (λ awaited. option_named tool (letter_of awaited.option) ≡ Some awaited.option)
+  pub first : FitsPlace tool 0 given.first
+  pub second : FitsPlace tool 1 given.second
+  pub third : FitsPlace tool 2 given.third
 
 -- all words of a tool were read: they fit, and nothing is wrong with them together
 pub record IsRead (tool : Tool) (given : Given) : Type 0 where

@@ -29,11 +29,3 @@ finish_read tool count (Err stop) = Err stop
 -- what the words behind the first say to a tool, or the first faulty one
 abbrev pub given_by : Tool → List (List ℕ) → Result Given WordStop
 given_by tool words = finish_read tool (length words) (read_from tool none_given 2 (drop 1 words))
-
-abbrev pub without_given : Result Given WordStop → Result Unit WordStop
-without_given (Ok given) = Ok tt
-without_given (Err stop) = Err stop
-
--- whether the words behind the first are words of this tool, built or not, or the first faulty one
-abbrev pub judged_words : Tool → List (List ℕ) → Result Unit WordStop
-judged_words tool words = without_given (given_by tool words)

@@ -1,6 +1,6 @@
 -- The tools, by name.
 -- The rules: docs/COMMANDS.md, "Words".
-use Rattle.std.specs.Prelude.{ℕ, List, [], ◌∷◌, Bool, true, false, Option, Some, None, Result, Ok, Err, length, nat_lt, find, codes, if◌then◌else◌}
+use Rattle.std.specs.Prelude.{ℕ, List, [], ◌∷◌, Option, Result, Err, length, nat_lt, find, ok_or, codes, if◌then◌else◌}
 use Rattle.std.specs.Str.{bytes_eq}
 use Rattle.kt_words.specs.declared.tool.Tool.{Tool}
 use Rattle.kt_words.specs.declared.tool.Tool.TheVariants.{Eve, Getmodel, Gulcalc, Fmcalc, Summarycalc, Eltcalc, Pltcalc, Aalcalc, Leccalc, Kat, Tobin, Tocsv, Chain, Gen}
@@ -24,24 +24,14 @@ tool_name Tocsv = codes "tocsv"
 tool_name Chain = codes "chain"
 tool_name Gen = codes "gen"
 
--- the tools that are built: all but this one
-abbrev pub is_built : Tool → Bool
-is_built Gen = false
-is_built tool = true
-
 -- all tools
 abbrev pub tools : List Tool
 tools = Eve ∷ Getmodel ∷ Gulcalc ∷ Fmcalc ∷ Summarycalc ∷ Eltcalc ∷ Pltcalc ∷ Aalcalc ∷ Leccalc ∷ Kat ∷ Tobin ∷ Tocsv ∷ Chain ∷ Gen ∷ []
 
--- the tool of this name, built or not
+-- the tool of this name
 abbrev pub tool_named : List ℕ → Option Tool
 tool_named word = find (λ tool. bytes_eq (tool_name tool) word) tools
 
--- a tool, where it is built
-abbrev pub where_built : Option Tool → Result Tool WordCause
-where_built None = Err UnknownTool
-where_built (Some tool) = if is_built tool then Ok tool else Err UnknownTool
-
--- the built tool of a first word, which is not above 255 bytes
+-- the tool of a first word, which is not above 255 bytes
 abbrev pub known_tool : List ℕ → Result Tool WordCause
-known_tool word = if nat_lt 255 (length word) then Err BadValue else where_built (tool_named word)
+known_tool word = if nat_lt 255 (length word) then Err BadValue else ok_or (tool_named word) UnknownTool

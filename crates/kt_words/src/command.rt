@@ -4,7 +4,7 @@ ghost use Rattle.std.specs.Prelude.{◌≡◌, Ok, IfOk};
 ghost use Rattle.kt_eve.specs.Parts.{has_part};
 ghost use Rattle.kt_words.specs.FileNames.{file_names, AreFileNames};
 ghost use Rattle.kt_words.specs.Fits.{IsRead};
-ghost use Rattle.kt_words.specs.Command.{number_or_0, number_or, table_or_first, word_or_0, set_given, curve_given, losses_or_first, financial_command, summary_command, to_text, eve_command, chain_command, command_from, command_of, IsSet, IsCommand};
+ghost use Rattle.kt_words.specs.Command.{number_or_0, number_or, table_or_first, word_or_0, set_given, curve_given, losses_or_first, financial_command, summary_command, to_text, eve_command, chain_command, gen_command, command_from, command_of, IsSet, IsCommand};
 ghost use Rattle.kt_words.specs.declared.command.Command.TheVariants.{Kat};
 ghost use Rattle.kt_words.specs.declared.tool.Tool.TheVariants.{Fmcalc};
 
@@ -113,6 +113,17 @@ pub enum Command {
         workers: u32,
         /// The number of events of a part of a round, 1 to 4.
         batch: u32,
+    },
+    /// A run of all stages over a made-up input set, in memory.
+    Gen {
+        /// The seed of the set.
+        seed: u32,
+        /// How many items it has, 1 to 9,000.
+        items: u32,
+        /// How many events it has, 1 to 10,000.
+        events: u32,
+        /// The number of workers, 1 to 16.
+        workers: u32,
     },
 }
 
@@ -313,6 +324,18 @@ fn chain_command(given: &Given) -> Command
     }
 }
 
+/// A run over a made-up set of this seed, and of so many items and events: one worker where the words say nothing else.
+fn gen_command(given: &Given) -> Command
+    ensures value { result ≡ gen_command given.now }
+{
+    Command::Gen {
+        seed: number(given.first),
+        items: number(given.second),
+        events: number(given.third),
+        workers: number_or(given.option(b'w'), 1),
+    }
+}
+
 /// The command of a tool by what its words said.
 fn tool_command(tool: Tool, given: &Given) -> Result<Command, WordStop>
     requires read { IsRead tool given.now }
@@ -345,12 +368,12 @@ fn tool_command(tool: Tool, given: &Given) -> Result<Command, WordStop>
         Tool::Tocsv => Ok(text_command(table(given.first))),
         Tool::Eve => part_command(given),
         Tool::Chain => Ok(chain_command(given)),
-        Tool::Gen => refused(1, WordCause::UnknownTool),
+        Tool::Gen => Ok(gen_command(given)),
     }
 }
 
 /// The command that the words are, or the first faulty word. No words have a first that is missing. A first word that is
-/// no built tool is an unknown tool. Behind it each word is judged by itself, from left to right; then come the words
+/// no tool is an unknown tool. Behind it each word is judged by itself, from left to right; then come the words
 /// that are missing, those that do not go together, and a part that there is not. Where it is `Kat`, the words behind the first are
 /// one or more names of files.
 pub fn read_command(words: &Words) -> Result<Command, WordStop>

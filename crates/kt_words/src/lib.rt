@@ -13,7 +13,5 @@ mod value;
 mod words;
 
 pub use command::{Command, Conversion, read_command};
-pub use reading::judge_words;
 pub use stop::{WordCause, WordStop};
-pub use tool::Tool;
 pub use words::Words;

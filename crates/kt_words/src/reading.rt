@@ -2,7 +2,7 @@
 //! The rules: docs/COMMANDS.md, "Words".
 ghost use Rattle.std.specs.Prelude.{◌≡◌, ◌+◌, ◌<◌, length, IfOk};
 ghost use Rattle.kt_words.specs.Fits.{IsRead};
-ghost use Rattle.kt_words.specs.Reading.{given_by, judged_words};
+ghost use Rattle.kt_words.specs.Reading.{given_by};
 
 use crate::given::Given;
 use crate::judging::{finish, refused};
@@ -25,17 +25,6 @@ pub(crate) fn read_given(tool: Tool, words: &Words) -> Result<Given, WordStop>
     }
     match finish(&given, tool, words.len() as u32) {
         Ok(()) => Ok(given),
-        Err(stop) => Err(stop),
-    }
-}
-
-/// Whether the words behind the first are words of this tool, built or not, or the first faulty one.
-pub fn judge_words(tool: Tool, words: &Words) -> Result<(), WordStop>
-    requires { 0 < length words.now }
-    ensures { result ≡ judged_words tool words.now }
-{
-    match read_given(tool, words) {
-        Ok(_) => Ok(()),
         Err(stop) => Err(stop),
     }
 }

@@ -3,7 +3,7 @@
 ghost use Rattle.std.specs.Prelude.{◌≡◌, find};
 ghost use Rattle.std.specs.Option.{option_copied};
 ghost use Rattle.std.specs.Str.{bytes_eq};
-ghost use Rattle.kt_words.specs.Tools.{tool_name, tool_named, is_built as built_one, known_tool};
+ghost use Rattle.kt_words.specs.Tools.{tool_name, tool_named, known_tool};
 
 use crate::stop::WordCause;
 use crate::value::LONGEST_WORD;
@@ -82,17 +82,7 @@ impl Tool {
         }
     }
 
-    /// Whether the tool is built. The name of one that is not is an unknown tool.
-    pub fn is_built(self) -> bool
-        ensures { result ≡ built_one self }
-    {
-        match self {
-            Tool::Gen => false,
-            _ => true,
-        }
-    }
-
-    /// The tool of this name, built or not.
+    /// The tool of this name.
     pub fn named(word: &[u8]) -> Option<Tool>
         ensures { result ≡ tool_named word.now }
     {
@@ -115,7 +105,7 @@ pub(crate) fn read_tool(word: &[u8]) -> Result<Tool, WordCause>
         return Err(WordCause::BadValue);
     }
     match Tool::named(word) {
-        Some(tool) if tool.is_built() => Ok(tool),
-        _ => Err(WordCause::UnknownTool),
+        Some(tool) => Ok(tool),
+        None => Err(WordCause::UnknownTool),
     }
 }

@@ -1,43 +1,46 @@
-use Rattle.std.proofs.Common.{◌∙◌, ◌+◌, ◌-◌, ◌/◌, [], Err, length, ap, sym, subst}
+use Rattle.std.proofs.Common.{◌∙◌, ◌+◌, ◌*◌, ◌-◌, ◌/◌, ◌≤◌, [], Err, length, ap, sym, subst}
 use Rattle.kt_chain.specs.declared.fold.FoldStop.{FoldStop}
 use Rattle.kt_part.specs.Folding.{RoundEnds}
 use Rattle.kt_part.specs.declared.round.RoundStop.{RoundStop}
-use Rattle.kt_chain.proofs.RoundLemmas.{begins, enough, round_passes, round_stopped, start_of}
+use Rattle.kt_chain.proofs.RoundLemmas.{begins, enough, few_parts, round_passes, round_stopped, start_of}
 use Rattle.kt_chain.specs.Rounds.{IsGoodPart, IsPart, RoundParts, StandsBehind, StopsBehind}
 use Rattle.kt_chain.specs.Runs.{RunShares}
 use Rattle.kt_event.specs.Plan.{terms_of}
 use Rattle.kt_chain.proofs.rounds.fold_round.Goals as goal
 
-pub fold_blocks-requires-clause-fits : goal.fold_blocks-requires-clause-fits
-fold_blocks-requires-clause-fits c = λ k part below is.
+pub run_round-requires-clause-fits : goal.run_round-requires-clause-fits
+run_round-requires-clause-fits g c = λ k part below is.
     c.requires.fits part (subst (λ (run : RunShares). IsGoodPart run.terms.samples part) c.run.view_is is.good)
 
+pub run_round-requires-clause-few : goal.run_round-requires-clause-few
+run_round-requires-clause-few g c = few_parts c.run.inside.batch (length c.args.given.now) c.run.invariant.some (subst (λ (run : RunShares). length c.args.given.now ≤ 16 * run.batch) c.run.view_is c.requires.few)
+
 pub returns-in-Ok-clause-folds : goal.returns-in-Ok-clause-folds
-returns-in-Ok-clause-folds c = λ input done terms rows given folded.
+returns-in-Ok-clause-folds g c = λ input done terms rows given folded.
     round_passes input (record { terms = terms_of c.run.inside.plan.now; rows = c.run.inside.portfolio.now.rows; given = c.args.given.now; batch = c.run.inside.batch })
     (terms ∙ sym (ap (λ (run : RunShares). run.terms) c.run.view_is)) (rows ∙ sym (ap (λ (run : RunShares). run.portfolio.rows) c.run.view_is)) given done
-    c.fold_blocks.new.fold _ (c.in-Ok.ensures.round (start_of input done) [] (begins input done c.args.fold.now folded)) (enough c.run.inside.batch (length c.args.given.now) c.run.invariant.some)
+    c.run_round.new.fold _ (c.in-Ok.ensures.round (start_of input done) [] (begins input done c.args.fold.now folded)) (enough c.run.inside.batch (length c.args.given.now) c.run.invariant.some)
 
 pub returns-in-Ok-clause-fits : goal.returns-in-Ok-clause-fits
-returns-in-Ok-clause-fits c = λ part good. c.fold_blocks.ensures.fits part (c.requires.fits part good)
+returns-in-Ok-clause-fits g c = λ part good. c.run_round.ensures.fits part (c.requires.fits part good)
 
 pub returns-in-Err-OutOfMemory-clause-fits : goal.returns-in-Err-OutOfMemory-clause-fits
-returns-in-Err-OutOfMemory-clause-fits c = λ part good. c.fold_blocks.ensures.fits part (c.requires.fits part good)
+returns-in-Err-OutOfMemory-clause-fits g c = λ part good. c.run_round.ensures.fits part (c.requires.fits part good)
 
 pub returns-in-Some-clause-folds : goal.returns-in-Some-clause-folds
-returns-in-Some-clause-folds c = λ input done terms rows given folded.
+returns-in-Some-clause-folds g c = λ input done terms rows given folded.
     let round : RoundParts = record { terms = terms_of c.run.inside.plan.now; rows = c.run.inside.portfolio.now.rows; given = c.args.given.now; batch = c.run.inside.batch } in
     let count = (length c.args.given.now + c.run.inside.batch - 1) / c.run.inside.batch in
     let start = start_of input done in
     round_stopped input round
     (terms ∙ sym (ap (λ (run : RunShares). run.terms) c.run.view_is)) (rows ∙ sym (ap (λ (run : RunShares). run.portfolio.rows) c.run.view_is)) given done
-    c.fold_blocks.new.fold count c.in-Err-Fold.field-0-0 c.in-Err-Fold.stop
-    (subst (λ (stop : RoundStop FoldStop). RoundEnds (IsPart round) (StandsBehind start c.fold_blocks.new.fold) (StopsBehind start c.fold_blocks.new.fold) [] count (Err stop)) c.in-Err-Fold.field-0-is
+    c.run_round.new.fold count c.in-Err-Fold.field-0-0 c.in-Err-Fold.stop
+    (subst (λ (stop : RoundStop FoldStop). RoundEnds (IsPart round) (StandsBehind start c.run_round.new.fold) (StopsBehind start c.run_round.new.fold) [] count (Err stop)) c.in-Err-Fold.field-0-is
     (c.in-Err-Fold.ensures.round start [] (begins input done c.args.fold.now folded)))
     c.in-Some.refusal (sym c.refusal.ensures ∙ c.in-Some.is)
 
 pub returns-in-Some-clause-fits : goal.returns-in-Some-clause-fits
-returns-in-Some-clause-fits c = λ part good. c.fold_blocks.ensures.fits part (c.requires.fits part good)
+returns-in-Some-clause-fits g c = λ part good. c.run_round.ensures.fits part (c.requires.fits part good)
 
 pub returns-in-None-clause-fits : goal.returns-in-None-clause-fits
-returns-in-None-clause-fits c = λ part good. c.fold_blocks.ensures.fits part (c.requires.fits part good)
+returns-in-None-clause-fits g c = λ part good. c.run_round.ensures.fits part (c.requires.fits part good)
