@@ -1,7 +1,7 @@
 -- What the parts of a round that were folded do to its events.
 use Rattle.std.proofs.Common.{◌≡◌, ◌≤◌, ◌<◌, ℕ, zero, suc, ◌+◌, ◌-◌, ◌*◌, ◌/◌, ◌%◌, List, [], ◌∷◌, ◌++◌, length, map, take, drop, Option, Some, None, refl, sym, ap, subst, ◌∙◌, append_assoc, append-nil, arith}
 use Rattle.std.specs.List.{AllByRecursion}
-use Rattle.std.proofs.Math.Nat.{div-add-mod, mod-lt}
+use Rattle.std.proofs.Math.Nat.{div-add-mod, div-lt_iff_lt-mul, mod-lt}
 use Rattle.std.proofs.lemmas.List.{map-append, take-append-drop}
 use Rattle.kt_curve.specs.Losses.{Added}
 use Rattle.kt_curve.specs.Standing.{StandsFor}
@@ -91,7 +91,9 @@ enough batch events some =
 
 -- so many events as 16 parts have make at most 16 parts
 pub few_parts : (batch events : ℕ) → 1 ≤ batch → events ≤ 16 * batch → part_count batch events ≤ 16
-few_parts batch events some few = omega (arith, div-lt_of_lt-mul (events + batch - 1) 17 batch (omega (arith, some, few)))
+few_parts batch events some few =
+    let below : (events + batch - 1) / batch < 17 = (div-lt_iff_lt-mul some).1 (omega (arith, some, few)) in
+    omega (arith, below)
 
 -- all of a list
 take_all : {X : Type 0} (n : ℕ) (xs : List X) → length xs ≤ n → take n xs ≡ xs

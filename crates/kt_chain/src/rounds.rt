@@ -25,7 +25,7 @@ use kt_ends::{Refusal, ToolStop, write_stop};
 use kt_event::Plan;
 use kt_files::OutputFile;
 use kt_files::laws::names_are_distinct;
-use kt_out::{Fault, Inputs, Outputs};
+use kt_out::{Fault, Gate, Inputs, Outputs};
 use kt_outputs::append_texts;
 use kt_part::laws::Claims;
 use kt_part::{RoundStop, run_round};
@@ -37,10 +37,12 @@ use std::thread::Threads;
 /// The parts of a round.
 const PARTS: usize = 16;
 
-/// What all rounds of a run share. Contracts see the portfolio, the terms, the files, how many workers there are and the size of
+/// What all rounds of a run share: what lends threads and the gate of the parts among it. Contracts see the portfolio, the terms, the files, how many workers there are and the size of
 /// a part.
 #[derive(Drop)]
-pub(crate) struct Run<'a> {
+pub(crate) struct Run<'a, R, G> {
+    pub(crate) rt: &'a R,
+    pub(crate) gate: &'a G,
     pub(crate) alloc: Global,
     pub(crate) portfolio: &'a Portfolio,
     pub(crate) plan: &'a Plan,
@@ -49,7 +51,7 @@ pub(crate) struct Run<'a> {
     pub(crate) batch: u32,
 }
 
-impl<'a> Model for Run<'a> {
+impl<'a, R, G> Model for Run<'a, R, G> {
     ghost use Rattle.kt_chain.specs.Runs.{IsRun, RunShares};
     ghost use Rattle.kt_event.specs.Plan.{terms_of};
 
@@ -60,7 +62,7 @@ impl<'a> Model for Run<'a> {
     ghost invariant = { λ r. IsRun r.portfolio.now r.plan.now r.files.now r.workers r.batch };
 }
 
-impl<'a> Run<'a> {
+impl<'a, R, G> Run<'a, R, G> {
     /// Says that its files are those of its portfolio and terms, that its plan is that of its portfolio, and the size of a part.
     pub(crate) fn has_files(&self)
         ensures files { self.now.files ≡ output_files self.now.portfolio.rows self.now.terms.last }
@@ -73,9 +75,8 @@ impl<'a> Run<'a> {
 }
 
 /// Folds the parts of a round, and answers why one of its events is refused, if one is. An error is want of memory.
-fn fold_round<R: Threads + Sync>(
-    rt: &R,
-    run: &Run<'_>,
+fn fold_round<R: Threads + Sync, G: Gate + Sync>(
+    run: &Run<'_, R, G>,
     fold: &mut RunFold<'_>,
     given: &[EventRows],
 ) -> Result<Option<Refusal>, AllocError>
@@ -90,6 +91,7 @@ fn fold_round<R: Threads + Sync>(
     let batch = run.batch as usize;
     let count = ((given.len() + batch - 1) / batch) as u32;
     let work = RoundWork {
+        gate: run.gate,
         alloc: run.alloc,
         portfolio: run.portfolio,
         plan: run.plan,
@@ -98,7 +100,7 @@ fn fold_round<R: Threads + Sync>(
     };
     let (claims, mut pass) = Claims::new(run.alloc, run.workers)?;
     match run_round(
-        rt,
+        run.rt,
         run.alloc,
         &claims,
         &mut pass,
@@ -117,8 +119,8 @@ fn fold_round<R: Threads + Sync>(
 }
 
 /// Appends the rows of the parts that are kept to the files, and lets the parts go.
-fn write_kept<O: Outputs>(
-    run: &Run<'_>,
+fn write_kept<R, G, O: Outputs>(
+    run: &Run<'_, R, G>,
     fold: &mut RunFold<'_>,
     outputs: &mut O,
 ) -> Result<(), Fault>
@@ -147,9 +149,8 @@ fn write_kept<O: Outputs>(
 
 /// One round: the footprint rows of its events are read, its parts are made and folded, and the rows of the events before the
 /// first that is refused are written.
-fn one_round<R: Threads + Sync, I: Inputs, O: Outputs>(
-    rt: &R,
-    run: &Run<'_>,
+fn one_round<R: Threads + Sync, G: Gate + Sync, I: Inputs, O: Outputs>(
+    run: &Run<'_, R, G>,
     fold: &mut RunFold<'_>,
     events: &[u32],
     inputs: &mut I,
@@ -170,7 +171,7 @@ fn one_round<R: Threads + Sync, I: Inputs, O: Outputs>(
         Ok(given) => given,
         Err(stop) => return Err(stop),
     };
-    let refusal = match fold_round(rt, run, fold, &given) {
+    let refusal = match fold_round(run, fold, &given) {
         Ok(refusal) => refusal,
         Err(_) => return Err(ToolStop::NoMemory),
     };
@@ -184,9 +185,8 @@ fn one_round<R: Threads + Sync, I: Inputs, O: Outputs>(
 }
 
 /// All rounds, one after the other, up to the first event that is refused.
-pub(crate) fn all_rounds<R: Threads + Sync, I: Inputs, O: Outputs>(
-    rt: &R,
-    run: &Run<'_>,
+pub(crate) fn all_rounds<R: Threads + Sync, G: Gate + Sync, I: Inputs, O: Outputs>(
+    run: &Run<'_, R, G>,
     fold: &mut RunFold<'_>,
     inputs: &mut I,
     outputs: &mut O,
@@ -205,7 +205,7 @@ pub(crate) fn all_rounds<R: Threads + Sync, I: Inputs, O: Outputs>(
     let mut rest = run.portfolio.events();
     while !rest.is_empty() {
         let (round, later) = rest.split_at(rest.len().min(size));
-        if let Err(stop) = one_round(rt, run, fold, round, inputs, outputs) {
+        if let Err(stop) = one_round(run, fold, round, inputs, outputs) {
             return Err(stop);
         }
         rest = later;

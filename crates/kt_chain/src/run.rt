@@ -30,14 +30,14 @@ use kt_ends::{ToolStop, write_stop};
 use kt_event::Plan;
 use kt_files::laws::names_are_distinct;
 use kt_files::{Endings, Headings, OutputFile, output_files};
-use kt_out::{Fault, Inputs, Outputs};
+use kt_out::{Fault, Gate, Inputs, Outputs};
 use kt_outputs::{append_texts, create_files};
 use kt_tables::Portfolio;
 use std::alloc::Global;
 use std::thread::Threads;
 
 /// Makes the files of a run, and writes what stands at their heads.
-fn begin<O: Outputs>(run: &Run<'_>, outputs: &mut O) -> Result<(), Fault>
+fn begin<R, G, O: Outputs>(run: &Run<'_, R, G>, outputs: &mut O) -> Result<(), Fault>
     ensures made { Makes [] (files_with output_name head_text run.now.files) (O.state outputs.old) (O.state outputs.new) result }
     ensures counts { CountsOutput (O.state outputs.old).faults (O.state outputs.new).faults result }
 {
@@ -50,7 +50,7 @@ fn begin<O: Outputs>(run: &Run<'_>, outputs: &mut O) -> Result<(), Fault>
 }
 
 /// Writes the tables over all periods at the end of the files.
-fn finish<O: Outputs>(run: &Run<'_>, fold: &RunFold<'_>, outputs: &mut O) -> Result<(), Fault>
+fn finish<R, G, O: Outputs>(run: &Run<'_, R, G>, fold: &RunFold<'_>, outputs: &mut O) -> Result<(), Fault>
     ensures made { (history : List Added) (text : OutputFile → List ℕ) → AreEndings history fold.now.rows fold.now.cells → Makes (files_with output_name text run.now.files) (files_with output_name (λ file. text file ++ end_text fold.now.cells.samples fold.now.rows history file) run.now.files) (O.state outputs.old) (O.state outputs.new) result }
     ensures counts { CountsOutput (O.state outputs.old).faults (O.state outputs.new).faults result }
 {
@@ -64,9 +64,8 @@ fn finish<O: Outputs>(run: &Run<'_>, fold: &RunFold<'_>, outputs: &mut O) -> Res
 }
 
 /// Makes the files of a run, carries its events through all stages round by round, and writes the tables over all periods.
-fn write_run<R: Threads + Sync, I: Inputs, O: Outputs>(
-    rt: &R,
-    run: &Run<'_>,
+fn write_run<R: Threads + Sync, G: Gate + Sync, I: Inputs, O: Outputs>(
+    run: &Run<'_, R, G>,
     inputs: &mut I,
     outputs: &mut O,
 ) -> Result<(), ToolStop>
@@ -81,7 +80,7 @@ fn write_run<R: Threads + Sync, I: Inputs, O: Outputs>(
         return Err(write_stop(fault));
     }
     let mut fold = RunFold::new(run.alloc, run.portfolio, run.plan.terms().samples);
-    if let Err(stop) = all_rounds(rt, run, &mut fold, inputs, outputs) {
+    if let Err(stop) = all_rounds(run, &mut fold, inputs, outputs) {
         return Err(stop);
     }
     match finish(run, &fold, outputs) {
@@ -94,9 +93,11 @@ fn write_run<R: Threads + Sync, I: Inputs, O: Outputs>(
 /// footprint rows to its summaries, and writes the tables. An error is why the first event that is refused is so, by its
 /// footprint rows or by a record that passes a limit: then the files hold the rows of the events before it, and those over all
 /// periods nothing; or a fault of the input files or of the output files, or want of memory: then some front of the files is
-/// made, each with a front of its text. Neither the number of workers nor the size of a part changes what is written.
-pub fn run_chain<R: Threads + Sync, I: Inputs, O: Outputs>(
+/// made, each with a front of its text. Neither the number of workers nor the size of a part changes what is written. The making of
+/// part k of a round, counted from 0, begins with `gate.pass(k)`, by which a test sees what is made side by side.
+pub fn run_chain<R: Threads + Sync, G: Gate + Sync, I: Inputs, O: Outputs>(
     rt: &R,
+    gate: &G,
     alloc: Global,
     options: &ChainOptions,
     portfolio: &Portfolio,
@@ -111,11 +112,14 @@ pub fn run_chain<R: Threads + Sync, I: Inputs, O: Outputs>(
     requires need { portfolio.now.need ≡ chain_need options.now.terms }
     requires file { HasFootprint (I.state inputs.old).held portfolio.now.rows.footprint_size }
     // The source and the sink are none of its objects.
-    ensures { (source : SourceState) (sink : SinkState) → ToolEnds chain_uses (λ files _. chain_outcome (run_input options.now.terms portfolio.now.rows files)) (world (I.state inputs.old) (O.state outputs.old) source sink) (world (I.state inputs.new) (O.state outputs.new) source sink) (end_status result) }
+    ensures ends { (source : SourceState) (sink : SinkState) → ToolEnds chain_uses (λ files _. chain_outcome (run_input options.now.terms portfolio.now.rows files)) (world (I.state inputs.old) (O.state outputs.old) source sink) (world (I.state inputs.new) (O.state outputs.new) source sink) (end_status result) }
+    ensures stop { IfErr result IsRunStop }
 {
     let plan = Plan::new(alloc, portfolio, options.terms)?;
     let files = output_files(alloc, portfolio, options.terms.last)?;
     let run = Run {
+        rt,
+        gate,
         alloc,
         portfolio,
         plan: &plan,
@@ -123,5 +127,5 @@ pub fn run_chain<R: Threads + Sync, I: Inputs, O: Outputs>(
         workers: options.workers,
         batch: options.batch,
     };
-    write_run(rt, &run, inputs, outputs)
+    write_run(&run, inputs, outputs)
 }

@@ -2,13 +2,14 @@
 use crate::fold::{FoldStop, RunFold};
 use crate::part::{EventRows, PartBlock};
 use crate::work::RoundWork;
+use kt_out::Open;
 
 /// Takes what may be sent to threads and shared by them.
 fn is_shared<T: Send + Sync>(_: &T) {}
 
 /// Each type once.
 pub(crate) fn are_shared(
-    work: &RoundWork<'_>,
+    work: &RoundWork<'_, Open>,
     fold: &RunFold<'_>,
     given: &EventRows,
     part: &PartBlock,

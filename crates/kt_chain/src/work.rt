@@ -9,6 +9,7 @@ ghost use Rattle.kt_chain.specs.Rounds.{part_count, part_events, part_of};
 
 use crate::part::{EventRows, PartBlock, RefusedRow};
 use kt_event::{Plan, event_block};
+use kt_out::Gate;
 use kt_part::Work;
 use kt_rec::ModelStop;
 use kt_stream::Records;
@@ -19,7 +20,8 @@ use std::marker::Model;
 /// The events of a round with their rows, and what blocks are made of. Contracts see the terms, the rows of the tables, the events
 /// and how many of them a part has.
 #[derive(Drop)]
-pub(crate) struct RoundWork<'a> {
+pub(crate) struct RoundWork<'a, G> {
+    pub(crate) gate: &'a G,
     pub(crate) alloc: Global,
     pub(crate) portfolio: &'a Portfolio,
     pub(crate) plan: &'a Plan,
@@ -27,7 +29,7 @@ pub(crate) struct RoundWork<'a> {
     pub(crate) batch: u32,
 }
 
-impl<'a> Model for RoundWork<'a> {
+impl<'a, G> Model for RoundWork<'a, G> {
     ghost use Rattle.kt_chain.specs.Rounds.{AreParts, RoundParts};
     ghost use Rattle.kt_event.specs.Plan.{terms_of};
 
@@ -86,7 +88,7 @@ fn part_of(
     })
 }
 
-impl<'a> Work for RoundWork<'a> {
+impl<'a, G: Gate> Work for RoundWork<'a, G> {
     ghost use Rattle.std.specs.Prelude.{length};
     ghost use Rattle.kt_chain.specs.Rounds.{IsPart, part_count};
 
@@ -97,6 +99,7 @@ impl<'a> Work for RoundWork<'a> {
     ghost most = { λ work. part_count work.batch (length work.given) };
 
     fn work(&self, k: u32) -> Result<PartBlock, AllocError> {
+        self.gate.pass(k);
         let given = events_of(self.given, self.batch, k);
         part_of(self.alloc, self.portfolio, self.plan, given)
     }

@@ -21,7 +21,7 @@ impl Claims {
     pub fn new(alloc: Global, workers: u32) -> Result<(Claims, Pass), AllocError>
         requires some { 0 < workers }
         requires few { workers ≤ 16 }
-        ensures same { IfOk result (λ made. IsPassOf made.0 made.1) }
+        ensures of { IfOk result (λ made. IsPassOf made.0 made.1) }
         ensures fresh { IfOk result (λ made. IsFresh workers made.1) }
     {
         let _ = alloc;

@@ -57,11 +57,11 @@ pub fn run_round<R: Threads + Sync, W: Work + Sync, F: Fold<W::Block>>(
     count: u32,
     workers: u32,
 ) -> Result<(), RoundStop<F::Stop>>
+    requires count { count ≤ 16 }
+    requires most { count ≤ W.most work.now }
     requires some { 1 ≤ workers }
-    requires hired { workers ≤ 16 }
-    requires few { count ≤ 16 }
-    requires count { count ≤ W.most work.now }
-    requires same { IsPassOf claims.now pass.old }
+    requires few { workers ≤ 16 }
+    requires of { IsPassOf claims.now pass.old }
     requires fresh { IsFresh workers pass.old }
     requires fits { (k : ℕ) (block : W.Block) → k < count → W.gives work.now k block → F.fits fold.old block }
     ensures round { (start : F.Start) (before : List W.Block) → F.stands start fold.old before → RoundEnds (W.gives work.now) (F.stands start fold.new) (F.stopped start fold.new) before count result }

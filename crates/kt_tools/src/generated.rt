@@ -21,7 +21,7 @@ use kt_files::{OutputFile, output_files};
 use kt_gen::{generate, made_files_are_shown, push_file_lines};
 use kt_load::load;
 use kt_money::Bytes;
-use kt_out::{Sink, SureOutputs, write_all};
+use kt_out::{Gate, Sink, SureOutputs, write_all};
 use kt_rec::Perspective;
 use std::alloc::Global;
 use std::thread::Threads;
@@ -44,8 +44,9 @@ fn generated_terms() -> Terms
 
 /// Makes a set and runs all stages over it, into output files in memory, which must be empty. It answers these files in the
 /// order of their making. An error is the refusal of the run, or want of memory.
-fn run_generated<R: Threads + Sync>(
+fn run_generated<R: Threads + Sync, G: Gate + Sync>(
     rt: &R,
+    gate: &G,
     alloc: Global,
     seed: u32,
     items: u32,
@@ -71,7 +72,7 @@ fn run_generated<R: Threads + Sync>(
     };
     names_are_distinct();
     made_files_are_shown();
-    match run_chain(rt, alloc, &options, &portfolio, &mut inputs, outputs) {
+    match run_chain(rt, gate, alloc, &options, &portfolio, &mut inputs, outputs) {
         Ok(()) => Ok(files),
         Err(stop) => Err(stop),
     }
@@ -79,8 +80,9 @@ fn run_generated<R: Threads + Sync>(
 
 /// Makes a set of this seed with so many items and events, runs all stages over it by so many workers, and writes a line for each
 /// output file of the run: its name, how many lines it has, and how many bytes. Where the run is refused nothing is written.
-pub(crate) fn write_generated<R: Threads + Sync, K: Sink>(
+pub(crate) fn write_generated<R: Threads + Sync, G: Gate + Sync, K: Sink>(
     rt: &R,
+    gate: &G,
     alloc: Global,
     seed: u32,
     items: u32,
@@ -93,7 +95,7 @@ pub(crate) fn write_generated<R: Threads + Sync, K: Sink>(
     ensures { (inputs : InputsState) (outputs : OutputsState) (source : SourceState) → ToolEnds (command_uses (Command.Gen seed items events workers)) (λ _ _. generated_outcome seed items events) (world inputs outputs source (K.state sink.old)) (world inputs outputs source (K.state sink.new)) (end_status result) }
 {
     let mut outputs = SureOutputs::new(alloc);
-    let files = match run_generated(rt, alloc, seed, items, events, workers, &mut outputs) {
+    let files = match run_generated(rt, gate, alloc, seed, items, events, workers, &mut outputs) {
         Ok(files) => files,
         Err(stop) => return Err(stop),
     };

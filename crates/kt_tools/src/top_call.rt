@@ -39,8 +39,9 @@ use std::alloc::Global;
 use std::thread::Threads;
 
 /// Runs the tool of a command over the portfolio of its tables.
-fn run_tool<R: Threads + Sync, I: Inputs, O: Outputs, S: Source, K: Sink>(
+fn run_tool<R: Threads + Sync, G: Gate + Sync, I: Inputs, O: Outputs, S: Source, K: Sink>(
     rt: &R,
+    gate: &G,
     alloc: Global,
     command: Command,
     portfolio: &Portfolio,
@@ -96,7 +97,7 @@ fn run_tool<R: Threads + Sync, I: Inputs, O: Outputs, S: Source, K: Sink>(
                 workers,
                 batch,
             };
-            run_chain(rt, alloc, &options, portfolio, inputs, outputs)
+            run_chain(rt, gate, alloc, &options, portfolio, inputs, outputs)
         }
         Command::Eltcalc { .. } | Command::Kat | Command::Convert(_) | Command::Gen { .. } => {
             unreachable!()
@@ -105,8 +106,9 @@ fn run_tool<R: Threads + Sync, I: Inputs, O: Outputs, S: Source, K: Sink>(
 }
 
 /// Loads the tables of a command and makes their checks, and runs its tool over them. Nothing is written where they are refused.
-fn load_and_run<R: Threads + Sync, I: Inputs, O: Outputs, S: Source, K: Sink>(
+fn load_and_run<R: Threads + Sync, G: Gate + Sync, I: Inputs, O: Outputs, S: Source, K: Sink>(
     rt: &R,
+    gate: &G,
     alloc: Global,
     command: Command,
     need: Need,
@@ -120,14 +122,15 @@ fn load_and_run<R: Threads + Sync, I: Inputs, O: Outputs, S: Source, K: Sink>(
     ensures { (words : List (List ℕ)) → ToolEnds (command_uses command) (command_outcome words command) (world (I.state inputs.old) (O.state outputs.old) (S.state source.old) (K.state sink.old)) (world (I.state inputs.new) (O.state outputs.new) (S.state source.new) (K.state sink.new)) (end_status result) }
 {
     match load(alloc, inputs, need) {
-        Ok(portfolio) => run_tool(rt, alloc, command, &portfolio, inputs, outputs, source, sink),
+        Ok(portfolio) => run_tool(rt, gate, alloc, command, &portfolio, inputs, outputs, source, sink),
         Err(stop) => Err(load_stop(stop)),
     }
 }
 
 /// Runs a command: over its tables, or by itself where it needs none.
-fn run_command<R: Threads + Sync, I: Inputs, O: Outputs, S: Source, K: Sink>(
+fn run_command<R: Threads + Sync, G: Gate + Sync, I: Inputs, O: Outputs, S: Source, K: Sink>(
     rt: &R,
+    gate: &G,
     alloc: Global,
     words: &Words,
     command: Command,
@@ -149,17 +152,18 @@ fn run_command<R: Threads + Sync, I: Inputs, O: Outputs, S: Source, K: Sink>(
             items,
             events,
             workers,
-        } => write_generated(rt, alloc, seed, items, events, workers, sink),
+        } => write_generated(rt, gate, alloc, seed, items, events, workers, sink),
         _ => match command_need(command) {
-            Some(need) => load_and_run(rt, alloc, command, need, inputs, outputs, source, sink),
+            Some(need) => load_and_run(rt, gate, alloc, command, need, inputs, outputs, source, sink),
             None => unreachable!(),
         },
     }
 }
 
 /// Runs the command of the words up to its status, without the report of a refusal.
-fn carry_out<R: Threads + Sync, I: Inputs, O: Outputs, S: Source, K: Sink>(
+fn carry_out<R: Threads + Sync, G: Gate + Sync, I: Inputs, O: Outputs, S: Source, K: Sink>(
     rt: &R,
+    gate: &G,
     alloc: Global,
     words: &Words,
     inputs: &mut I,
@@ -171,7 +175,7 @@ fn carry_out<R: Threads + Sync, I: Inputs, O: Outputs, S: Source, K: Sink>(
     ensures words { AnswersWords (command_of words.now) result }
 {
     match read_command(words) {
-        Ok(command) => status_of(run_command(rt, alloc, words, command, inputs, outputs, source, sink)),
+        Ok(command) => status_of(run_command(rt, gate, alloc, words, command, inputs, outputs, source, sink)),
         Err(stop) => Status::Words(stop),
     }
 }
@@ -195,6 +199,6 @@ pub fn run<R: Threads + Sync, G: Gate + Sync, I: Inputs, O: Outputs, S: Source, 
 ) -> Status
     ensures { RunEnds words.now (world (I.state inputs.old) (O.state outputs.old) (S.state source.old) (K.state sink.old)) (world (I.state inputs.new) (O.state outputs.new) (S.state source.new) (K.state sink.new)) (E.state err.old) (E.state err.new) result }
 {
-    let status = carry_out(rt, alloc, words, inputs, outputs, source, sink);
+    let status = carry_out(rt, gate, alloc, words, inputs, outputs, source, sink);
     report(alloc, status, err)
 }

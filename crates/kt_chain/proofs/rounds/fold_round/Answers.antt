@@ -12,8 +12,8 @@ pub run_round-requires-clause-fits : goal.run_round-requires-clause-fits
 run_round-requires-clause-fits g c = λ k part below is.
     c.requires.fits part (subst (λ (run : RunShares). IsGoodPart run.terms.samples part) c.run.view_is is.good)
 
-pub run_round-requires-clause-few : goal.run_round-requires-clause-few
-run_round-requires-clause-few g c = few_parts c.run.inside.batch (length c.args.given.now) c.run.invariant.some (subst (λ (run : RunShares). length c.args.given.now ≤ 16 * run.batch) c.run.view_is c.requires.few)
+pub run_round-requires-clause-count : goal.run_round-requires-clause-count
+run_round-requires-clause-count g c = few_parts c.run.inside.batch (length c.args.given.now) c.run.invariant.some (subst (λ (run : RunShares). length c.args.given.now ≤ 16 * run.batch) c.run.view_is c.requires.few)
 
 pub returns-in-Ok-clause-folds : goal.returns-in-Ok-clause-folds
 returns-in-Ok-clause-folds g c = λ input done terms rows given folded.

@@ -95,4 +95,4 @@ pub run_chain-requires-clause-file : goal.run_chain-requires-clause-file
 run_chain-requires-clause-file g c = chain_file c.args.command c.args.portfolio.now (g.I.Inputs.state c.args.inputs.now) _ _ _ _ _ _ _ c.in-Chain.is c.requires.need c.requires.tables
 
 pub returns-in-Chain : goal.returns-in-Chain
-returns-in-Chain g c words = rw c.in-Chain.is (c.run_chain.ensures (g.S.Source.state c.args.source.now) (g.K.Sink.state c.args.sink.now))
+returns-in-Chain g c words = rw c.in-Chain.is (c.run_chain.ensures.ends (g.S.Source.state c.args.source.now) (g.K.Sink.state c.args.sink.now))

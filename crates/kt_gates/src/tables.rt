@@ -1,0 +1,95 @@
+//! The tables of a run of sixteen events over one item.
+//! What they are for: README.md.
+
+use crate::failure::Failure;
+use crate::words::words_of;
+use kt_out::{Open, SureInputs, SureOutputs, SureSink, SureSource};
+use kt_tools::{Status, run};
+use std::alloc::{AllocGlobal, Global};
+use std::thread::Threads;
+
+/// A table: its file, the words that make the file of its text, and the rows of the text.
+struct Table(&'static str, &'static str, &'static str);
+
+/// How each of the sixteen events strikes the item: for certain, at the one intensity.
+const STRIKES: &str = "1,1,1,1\n2,1,1,1\n3,1,1,1\n4,1,1,1\n5,1,1,1\n6,1,1,1\n7,1,1,1\n8,1,1,1\n9,1,1,1\n10,1,1,1\n11,1,1,1\n12,1,1,1\n13,1,1,1\n14,1,1,1\n15,1,1,1\n16,1,1,1\n";
+
+/// The events in their order.
+pub(crate) const RISING: &str = "1\n2\n3\n4\n5\n6\n7\n8\n9\n10\n11\n12\n13\n14\n15\n16\n";
+
+/// The same, the last first.
+pub(crate) const FALLING: &str = "16\n15\n14\n13\n12\n11\n10\n9\n8\n7\n6\n5\n4\n3\n2\n1\n";
+
+/// The tables but for that of the events.
+const TABLES: [Table; 10] = [
+    Table("input/items.bin", "tobin items", "1,1,1,1,1\n"),
+    Table("input/coverages.bin", "tobin coverages", "1,1000\n"),
+    Table("static/footprint.bin", "tobin footprint", STRIKES),
+    Table("static/footprint.idx", "tobin footprint_idx", STRIKES),
+    Table(
+        "static/vulnerability.bin",
+        "tobin vulnerability",
+        "1,1,1,0.5\n1,1,2,0.3\n1,1,3,0.2\n",
+    ),
+    Table(
+        "static/damage_bin_dict.bin",
+        "tobin damage_bin_dict",
+        "1,0,0,0,1\n2,0,0.5,0.25,1\n3,0.5,1,0.75,1\n",
+    ),
+    Table("static/random.bin", "tobin random", "0.65\n"),
+    Table("input/gulsummaryxref.bin", "tobin gulsummaryxref", "1,1,1\n"),
+    Table(
+        "input/occurrence.bin",
+        "tobin occurrence -P 2",
+        "1,1,2001,1,1\n2,2,2002,3,4\n",
+    ),
+    Table("input/returnperiods.bin", "tobin returnperiods", "2\n1\n"),
+];
+
+/// The text of a table with these rows; what stands in its first line is not read.
+fn text_of(alloc: Global, rows: &str) -> Result<Vec<u8>, Failure> {
+    let mut text = b"heading\n".to_vec(alloc)?;
+    text.extend_from_slice(rows.as_bytes())?;
+    Ok(text)
+}
+
+/// Adds the file of a table, as the program makes it of the text of these rows.
+fn add_table<R: Threads + Sync + AllocGlobal>(
+    rt: &R,
+    inputs: &mut SureInputs,
+    name: &str,
+    words: &str,
+    rows: &str,
+) -> Result<(), Failure> {
+    let alloc = rt.alloc();
+    let words = words_of(alloc, words)?;
+    let mut sink = SureSink::new(alloc);
+    let status = run(
+        rt,
+        alloc,
+        &Open,
+        &words,
+        &mut SureInputs::new(alloc),
+        &mut SureOutputs::new(alloc),
+        &mut SureSource::new(text_of(alloc, rows)?),
+        &mut sink,
+        &mut SureSink::new(alloc),
+    );
+    match status {
+        Status::Done => Ok(inputs.add(name.as_bytes(), sink.taken())?),
+        _ => Err(Failure),
+    }
+}
+
+/// The files of a run whose events stand in this order.
+pub(crate) fn inputs_of<R: Threads + Sync + AllocGlobal>(
+    rt: &R,
+    events: &str,
+) -> Result<SureInputs, Failure> {
+    let mut inputs = SureInputs::new(rt.alloc());
+    add_table(rt, &mut inputs, "input/events.bin", "tobin events", events)?;
+    for table in &TABLES {
+        add_table(rt, &mut inputs, table.0, table.1, table.2)?;
+    }
+    Ok(inputs)
+}
