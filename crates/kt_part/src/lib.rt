@@ -2,10 +2,9 @@
 #![tactic(auto)]
 
 mod fold;
-pub mod laws;
 mod round;
 mod work;
 
 pub use fold::Fold;
-pub use round::{RoundStop, fold_blocks, run_round};
+pub use round::{RoundStop, fold_blocks};
 pub use work::Work;

@@ -1,13 +1,9 @@
 //! A round: blocks are made for the numbers from 0 on, and taken in order.
 ghost use Rattle.std.specs.Prelude.{◌<◌, ◌≤◌, ℕ, List};
-ghost use Rattle.kt_part.specs.Claiming.{IsFresh, IsPassOf};
 ghost use Rattle.kt_part.specs.Folding.{RoundEnds};
 
 use crate::fold::Fold;
-use crate::laws::{Claims, Pass};
 use crate::work::Work;
-use std::alloc::Global;
-use std::thread::Threads;
 
 /// Why a round ended before its last block.
 #[derive(Drop)]
@@ -44,28 +40,4 @@ pub fn fold_blocks<W: Work, F: Fold<W::Block>>(
         }
     }
     Ok(())
-}
-
-/// A round by workers.
-pub fn run_round<R: Threads + Sync, W: Work + Sync, F: Fold<W::Block>>(
-    rt: &R,
-    alloc: Global,
-    claims: &Claims,
-    pass: &mut Pass,
-    work: &W,
-    fold: &mut F,
-    count: u32,
-    workers: u32,
-) -> Result<(), RoundStop<F::Stop>>
-    requires count { count ≤ 16 }
-    requires most { count ≤ W.most work.now }
-    requires some { 1 ≤ workers }
-    requires few { workers ≤ 16 }
-    requires of { IsPassOf claims.now pass.old }
-    requires fresh { IsFresh workers pass.old }
-    requires fits { (k : ℕ) (block : W.Block) → k < count → W.gives work.now k block → F.fits fold.old block }
-    ensures round { (start : F.Start) (before : List W.Block) → F.stands start fold.old before → RoundEnds (W.gives work.now) (F.stands start fold.new) (F.stopped start fold.new) before count result }
-    ensures fits { (block : W.Block) → F.fits fold.old block → F.fits fold.new block }
-{
-    fold_blocks(work, fold, count)
 }
