@@ -1,1 +1,3 @@
 mod RoundLemmas
+mod NumberLemmas
+mod DealingLemmas

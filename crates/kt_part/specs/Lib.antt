@@ -1,1 +1,4 @@
 pub mod Folding
+pub mod Numbers
+pub mod Dealing
+pub mod Passes

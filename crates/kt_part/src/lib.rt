@@ -1,7 +1,9 @@
 //! Parts of a round: what makes each by its number, and what takes them in order.
 #![tactic(auto)]
 
+mod dealing;
 mod fold;
+pub mod laws;
 mod round;
 mod work;
 
