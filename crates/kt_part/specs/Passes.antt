@@ -36,3 +36,10 @@ pub record HasDrawn (bound : ℕ) (before after : Pass) (answer : Option ℕ) : 
   pub left : left_of before ≡ left_of after + 1
   pub workers : workers_of after ≡ workers_of before
   pub answered : MatchOption answer (bound ≤ number) (λ told. (told ≡ number) × (number < bound))
+
+-- a pass of these claims has claimed nothing, and the draws of so many of its workers were cut off it
+pub record IsGivenOut (claims : Claims) (workers given : ℕ) (pass : Pass) : Type 0 where
+  pub of : IsPassOf claims pass
+  pub none : claims_of pass ≡ []
+  pub left : left_of pass + 17 * given ≡ 17 * workers
+  pub among : workers_of pass ≡ workers
