@@ -1,11 +1,11 @@
 -- A worker makes one more draw.
-use Rattle.std.proofs.Common.{◌≡◌, ℕ, suc, ◌+◌, ◌<◌, ◌≤◌, List, [], ◌∷◌, ◌++◌, length, map, Option, Some, None, IfSome, Global, refl, sym, ap, subst, ◌∙◌, rules, arith}
+use Rattle.std.proofs.Common.{◌≡◌, ℕ, ◌+◌, ◌<◌, ◌≤◌, List, [], ◌∷◌, ◌++◌, length, Some, None, IfSome, Global, sym, ap, subst, ◌∙◌, rules, arith}
 use Rattle.std.proofs.lemmas.List.{map_push, length_push, length-map}
 use Rattle.rtrb.specs.Ring.{sent, known_free, SameProducer}
 use Rattle.rtrb.specs.declared.AnyItems.{AnyItems}
 use Rattle.rtrb.specs.declared.producer.Producer.{Producer}
 use Rattle.kt_part.specs.Arrivals.{AreSent, numbers_of}
-use Rattle.kt_part.specs.Lanes.{IsReady, IsWorking, IsDone, HasWorked}
+use Rattle.kt_part.specs.Lanes.{IsReady, IsWorking, HasWorked}
 use Rattle.kt_part.specs.Passes.{HasDrawn, IsPassOf, claims_of}
 use Rattle.kt_part.specs.declared.inbox.Arm.{Arm}
 use Rattle.kt_part.specs.declared.inbox.Item.{Item}
@@ -47,8 +47,8 @@ module _ {B : Type 0} (gives : ℕ → B → Type 0) (bound : ℕ) where
     sends before now turns working pass item of drawn given ring is free same = record {
       of = of;
       claimed =
-        let numbers : numbers_of (sent ring) ≡ numbers_of (sent now.ring) ++ item.number ∷ [] = ap numbers_of is ∙ map_push (λ (i : Item B). i.number) (sent now.ring) item in
-        drawn.claimed ∙ (ap (λ (l : List ℕ). l ++ drawn.number ∷ []) working.claimed ∙ (ap (λ (n : ℕ). numbers_of (sent now.ring) ++ n ∷ []) (sym drawn.answered.0) ∙ sym numbers));
+          let numbers : numbers_of (sent ring) ≡ numbers_of (sent now.ring) ++ item.number ∷ [] = ap numbers_of is ∙ map_push (λ (i : Item B). i.number) (sent now.ring) item in
+          drawn.claimed ∙ (ap (λ (l : List ℕ). l ++ drawn.number ∷ []) working.claimed ∙ (ap (λ (n : ℕ). numbers_of (sent now.ring) ++ n ∷ []) (sym drawn.answered.0) ∙ sym numbers));
       left = let left = drawn.left in let was = working.left in omega arith;
       many = let many = working.many in let more = length_push (sent now.ring) item in ap length is ∙ omega arith;
       free = let was = working.free in omega arith;
@@ -65,8 +65,8 @@ module _ {B : Type 0} (gives : ℕ → B → Type 0) (bound : ℕ) where
         claimed = drawn.claimed ∙ ap (λ (l : List ℕ). l ++ drawn.number ∷ []) working.claimed;
         reached = drawn.answered;
         turns =
-          let many = claimed-many before now turns working in let more = length_push (claims_of now.pass) drawn.number in let one = ap length drawn.claimed in
-          let left = drawn.left in let was = working.left in omega arith;
+            let many = claimed-many before now turns working in let more = length_push (claims_of now.pass) drawn.number in let one = ap length drawn.claimed in
+            let left = drawn.left in let was = working.left in omega arith;
         items = working.items;
       };
       ring = working.ring;

@@ -1,5 +1,5 @@
 -- One more item comes, wherever it stands among those that have come.
-use Rattle.std.proofs.Common.{◌≡◌, ℕ, zero, suc, ◌+◌, ◌<◌, ◌≤◌, ◌≢◌, ◌⊎◌, Bool, true, false, List, [], ◌∷◌, ◌++◌, length, map, Option, Some, None, refl, sym, ap, subst, ◌∙◌, inl, inr, ⊎_elim, append_assoc, arith}
+use Rattle.std.proofs.Common.{◌≡◌, ℕ, ◌+◌, ◌<◌, ◌≤◌, ◌≢◌, Bool, true, false, List, [], ◌∷◌, ◌++◌, Option, Some, None, refl, sym, ap, subst, ◌∙◌, inl, inr, ⊎_elim, append_assoc, arith}
 use Rattle.std.proofs.lemmas.Bool.{cases_eq, cases_lt}
 use Rattle.kt_part.specs.Numbers.{once_at, times}
 use Rattle.kt_part.specs.Arrivals.{IsIn, AreStrange, numbers_of, FitsSlot, HoldsAll, HasCome}
@@ -46,9 +46,9 @@ module _ {B : Type 0} where
   put-in slot now true item front back within empty at others holds = strange-more item front back holds
   put-in slot now false item front back within empty at others holds = λ number small. ⊎_elim
       (λ (is : number ≡ item.number).
-          let none : FitsSlot item.number None (front ++ back) = subst (λ (s : Option (Option B)). FitsSlot item.number s (front ++ back)) empty (holds item.number within) in
-          let here : FitsSlot item.number (Some item.block) (front ++ item ∷ back) = (omega (arith, none, times-more item.number item front back, at-yes item.number item.number refl), in-middle item front back) in
-          subst (λ (n : ℕ). FitsSlot n (now n) (front ++ item ∷ back)) (sym is) (subst (λ (s : Option (Option B)). FitsSlot item.number s (front ++ item ∷ back)) (sym at) here))
+      let none : FitsSlot item.number None (front ++ back) = subst (λ (s : Option (Option B)). FitsSlot item.number s (front ++ back)) empty (holds item.number within) in
+      let here : FitsSlot item.number (Some item.block) (front ++ item ∷ back) = (omega (arith, none, times-more item.number item front back, at-yes item.number item.number refl), in-middle item front back) in
+      subst (λ (n : ℕ). FitsSlot n (now n) (front ++ item ∷ back)) (sym is) (subst (λ (s : Option (Option B)). FitsSlot item.number s (front ++ item ∷ back)) (sym at) here))
       (λ (isnt : number ≢ item.number). subst (λ (s : Option (Option B)). FitsSlot number s (front ++ item ∷ back)) (sym (others number isnt)) (fits-more number (slot number) item front back isnt (holds number small)))
       (cases_eq number item.number)
 

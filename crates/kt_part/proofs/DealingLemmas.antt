@@ -1,11 +1,11 @@
 -- Each step keeps the rule of the word: a draw, a split, a join, and a look.
-use Rattle.std.proofs.Common.{◌≡◌, ℕ, zero, suc, ◌+◌, ◌-◌, ◌*◌, ◌%◌, ◌^◌, ◌<◌, ◌≤◌, ◌≢◌, ◌⊎◌, List, [], ◌∷◌, ◌++◌, length, get_or, set, refl, sym, ap, subst, ◌∙◌, inl, inr, ⊎_elim, length-append, mod-eq_of_lt, arith}
+use Rattle.std.proofs.Common.{◌≡◌, ℕ, ◌+◌, ◌*◌, ◌%◌, ◌^◌, ◌<◌, ◌≤◌, ◌≢◌, List, [], ◌∷◌, ◌++◌, length, get_or, set, refl, sym, ap, subst, ◌∙◌, inl, inr, ⊎_elim, length-append, mod-eq_of_lt, arith}
 use mathlib.Core.Option.{some}
 use lib.ListN.{get_elem?}
 use Rattle.atomic_table.proofs.Lists.{at_set, at_snoc, set_else, set_again}
-use Rattle.atomic_table.specs.Table.{State, Act, Allows, Splits, Joins, keeps, stepped, Valid}
+use Rattle.atomic_table.specs.Table.{Allows, Splits, Joins, keeps}
 use Rattle.kt_part.specs.Numbers.{times, once_below, AreBelow, AreFirst, total}
-use Rattle.kt_part.specs.Dealing.{undrawn, spent, dealt_out, dealt, drawn, gathered, draws, IsAmong, AreDealt, IsDealt, Drawn, Settled}
+use Rattle.kt_part.specs.Dealing.{spent, dealt_out, dealt, drawn, gathered, draws, IsAmong, AreDealt, IsDealt, Drawn, Settled}
 use Rattle.kt_part.specs.declared.dealing.Known.{Known}
 use Rattle.kt_part.proofs.NumberLemmas.{times-append, times-le, once-no, once-more, below-from, total-append, total-set, part-le-total, total-le, others-le}
 

@@ -1,16 +1,15 @@
 -- Lanes are made one by one, and gathered one by one.
-use Rattle.std.proofs.Common.{◌≡◌, ℕ, suc, ◌+◌, ◌*◌, ◌<◌, ◌≤◌, ◌≢◌, ◌⊎◌, Bool, true, false, List, [], ◌∷◌, ◌++◌, All, Option, Some, None, IfSome, Global, length, map, get_or, take, refl, sym, ap, subst, ◌∙◌, inl, inr, ⊎_elim, append_assoc, append-nil, length-append, zero-le, rules, arith}
+use Rattle.std.proofs.Common.{◌≡◌, ℕ, ◌+◌, ◌*◌, ◌<◌, ◌≤◌, ◌≢◌, Bool, true, false, List, [], ◌∷◌, ◌++◌, Option, Some, None, IfSome, Global, length, get_or, take, refl, sym, ap, subst, ◌∙◌, inl, inr, ⊎_elim, append_assoc, append-nil, length-append, zero-le, arith}
 use Rattle.std.proofs.lemmas.Bool.{cases_lt}
 use Rattle.std.proofs.lemmas.List.{get_or_append_left, get_or_push, length_push, map-append, flat_map_more, nil_from_length, take_at}
-use Rattle.rtrb.specs.Ring.{received, sent, IsPair, SameProducer, SameConsumer}
+use Rattle.rtrb.specs.Ring.{received, sent, IsPair}
 use Rattle.rtrb.specs.declared.AnyItems.{AnyItems}
 use Rattle.rtrb.specs.declared.consumer.Consumer.{Consumer}
-use Rattle.rtrb.specs.declared.producer.Producer.{Producer}
 use Rattle.kt_part.specs.Arrivals.{IsIn, AreStrange, AreSent, FitsSlot, HoldsAll, HasCome, IsHeld, all_received, numbers_of}
 use Rattle.kt_part.specs.Claimed.{HasClaimed}
 use Rattle.kt_part.specs.Gathering.{AreGathered, AreHeld}
-use Rattle.kt_part.specs.Lanes.{AreLanes, ArePaired, AreSame, HaveWorked, HasWorked, IsDone, IsReady}
-use Rattle.kt_part.specs.Numbers.{once_at, once_below, AreFirst, times}
+use Rattle.kt_part.specs.Lanes.{AreLanes, ArePaired, AreSame, HaveWorked, IsDone, IsReady}
+use Rattle.kt_part.specs.Numbers.{once_below, AreFirst, times}
 use Rattle.kt_part.specs.Passes.{IsGivenOut, IsPassOf, claims_of, left_of, workers_of}
 use Rattle.kt_part.specs.Slots.{held_at, next_of}
 use Rattle.kt_part.specs.declared.inbox.Arm.{Arm}
@@ -38,6 +37,11 @@ module _ {B : Type 0} where
   pub next-held : (gives : B → Type 0) (reorder : Reorder (Option B)) (number : ℕ) (slot : Option (Option B)) → next_of reorder ≡ number → held_at reorder (next_of reorder) ≡ slot → IsHeld gives (held_at reorder number) → IsHeld gives slot
   next-held gives reorder number slot next is held = subst (IsHeld gives) (ap (held_at reorder) (sym next) ∙ is) held
 
+  -- a block that is held for the next number is given for it
+  pub next-given : (gives : B → Type 0) (reorder : Reorder (Option B)) (number : ℕ) (held : Option B) (block : B) → next_of reorder ≡ number → held_at reorder (next_of reorder) ≡ Some held → held ≡ Some block
+      → IsHeld gives (held_at reorder number) → gives block
+  next-given gives reorder number held block next is is' at = subst (λ (h : Option B). IsHeld gives (Some h)) is' (next-held gives reorder number (Some held) next is at)
+
 module _ {B : Type 0} where
   -- one more lane stands behind the others
   paired-pushed : (arms : List (Arm B)) (ends : List (End B)) (arm : Arm B) (end : End B) → ArePaired arms ends → IsPair arm.ring end → ArePaired (arms ++ arm ∷ []) (ends ++ end ∷ [])
@@ -45,11 +49,11 @@ module _ {B : Type 0} where
     many = let many = paired.many in let one = length_push arms arm in let other = length_push ends end in omega arith;
     each = λ place default default' within. let many = paired.many in let more = length_push arms arm in ⊎_elim
         (λ (here : place < length arms).
-            subst (λ (a : Arm B). IsPair a.ring (get_or (ends ++ end ∷ []) place default')) (sym (get_or_append_left arms (arm ∷ []) default place here))
-              (subst (λ (e : End B). IsPair (get_or arms place default).ring e) (sym (get_or_append_left ends (end ∷ []) default' place (omega arith))) (paired.each place default default' here)))
+        subst (λ (a : Arm B). IsPair a.ring (get_or (ends ++ end ∷ []) place default')) (sym (get_or_append_left arms (arm ∷ []) default place here))
+        (subst (λ (e : End B). IsPair (get_or arms place default).ring e) (sym (get_or_append_left ends (end ∷ []) default' place (omega arith))) (paired.each place default default' here)))
         (λ (last : length arms ≤ place).
-            subst (λ (a : Arm B). IsPair a.ring (get_or (ends ++ end ∷ []) place default')) (sym (get_or_push arms arm default place (omega arith)))
-              (subst (λ (e : End B). IsPair arm.ring e) (sym (get_or_push ends end default' place (omega arith))) pair))
+        subst (λ (a : Arm B). IsPair a.ring (get_or (ends ++ end ∷ []) place default')) (sym (get_or_push arms arm default place (omega arith)))
+        (subst (λ (e : End B). IsPair arm.ring e) (sym (get_or_push ends end default' place (omega arith))) pair))
         (cases_lt place (length arms));
   }
 
@@ -59,14 +63,14 @@ module _ {B : Type 0} where
     many = omega arith;
     each = λ place default default' within.
         subst (λ (a : Arm B). IsPair a.ring (get_or ends place default')) (get_or_append_left arms (arm ∷ []) default place within)
-          (subst (λ (e : End B). IsPair (get_or (arms ++ arm ∷ []) place default).ring e) (get_or_append_left ends (end ∷ []) default' place (omega arith)) (paired.each place default default' (omega arith)));
+        (subst (λ (e : End B). IsPair (get_or (arms ++ arm ∷ []) place default).ring e) (get_or_append_left ends (end ∷ []) default' place (omega arith)) (paired.each place default default' (omega arith)));
   }
 
   -- the last lane
   paired-last : (arms : List (Arm B)) (ends : List (End B)) (arm : Arm B) (end : End B) → ArePaired (arms ++ arm ∷ []) (ends ++ end ∷ []) → IsPair arm.ring end
   paired-last arms ends arm end paired = let one = length_push arms arm in let other = length_push ends end in let many' = paired.many in
       subst (λ (a : Arm B). IsPair a.ring end) (get_or_push arms arm arm (length arms) refl)
-        (subst (λ (e : End B). IsPair (get_or (arms ++ arm ∷ []) (length arms) arm).ring e) (get_or_push ends end end (length arms) (omega arith)) (paired.each (length arms) arm end (omega arith)))
+      (subst (λ (e : End B). IsPair (get_or (arms ++ arm ∷ []) (length arms) arm).ring e) (get_or_push ends end end (length arms) (omega arith)) (paired.each (length arms) arm end (omega arith)))
 
   -- one more lane is made
   more-lanes : (claims : Claims) (workers : ℕ) (arms : List (Arm B)) (ends : List (End B)) (arm : Arm B) (end : End B) → AreLanes claims workers arms ends → IsReady claims arm → IsPair arm.ring end → received end ≡ []
@@ -138,8 +142,8 @@ module _ {B : Type 0} where
           let lent = subst (λ (a : List (Arm B)). AreLanes claims workers a was') (sym is) (subst (λ (e : List (End B)). AreLanes claims workers arms e) (sym is') lanes) in
           let come = comes (nothing-come first none fine empty (all_received was') lent.empty) in
           subst (λ (a : List (Arm B)). AreGathered gives bound claims workers a (take many' (ends' ++ rest')) pass inbox 0) (sym (take_at now rest many len))
-            (subst (λ (e : List (End B)). AreGathered gives bound claims workers now e pass inbox 0) (sym (take_at ends' rest' many' len'))
-              (all-ended was now was' ends' pass inbox lent given long long' worked same come))
+          (subst (λ (e : List (End B)). AreGathered gives bound claims workers now e pass inbox 0) (sym (take_at ends' rest' many' len'))
+          (all-ended was now was' ends' pass inbox lent given long long' worked same come))
 
       -- the last of the others is gathered
       one-gathered : (arms : List (Arm B)) (ends : List (End B)) (arm : Arm B) (end : End B) (pass pass' : Pass) (inbox inbox' : Inbox B) (gathered : ℕ)
@@ -172,18 +176,18 @@ module _ {B : Type 0} where
                 let parts' = times-append number numbers (numbers_of are.sent) in
                 omega arith;
             come =
-              let before : HasCome inbox (all_received ends ++ (received end ++ are.sent)) = subst (HasCome inbox) (ap (λ (l : List (Item B)). l ++ are.sent) (sym (flat_map_more received [] ends end)) ∙ append_assoc (all_received ends) (received end) are.sent) are.come in
-              comes (all_received ends) are.sent before;
+                let before : HasCome inbox (all_received ends ++ (received end ++ are.sent)) = subst (HasCome inbox) (ap (λ (l : List (Item B)). l ++ are.sent) (sym (flat_map_more received [] ends end)) ∙ append_assoc (all_received ends) (received end) are.sent) are.come in
+                comes (all_received ends) are.sent before;
             reached = inr (
               done.last,
               done.reached,
               (
-                let now : times done.last (claims_of pass') ≡ times done.last (claims_of pass ++ claims_of arm.pass) = ap (times done.last) joined in
-                let both = times-append done.last (claims_of pass) (claims_of arm.pass) in
-                let theirs : times done.last (claims_of arm.pass) ≡ times done.last (numbers ++ done.last ∷ []) = ap (times done.last) done.claimed in
-                let parts = times-append done.last numbers (done.last ∷ []) in
-                let one = at-yes done.last done.last refl in omega arith
-              ),
+                  let now : times done.last (claims_of pass') ≡ times done.last (claims_of pass ++ claims_of arm.pass) = ap (times done.last) joined in
+                  let both = times-append done.last (claims_of pass) (claims_of arm.pass) in
+                  let theirs : times done.last (claims_of arm.pass) ≡ times done.last (numbers ++ done.last ∷ []) = ap (times done.last) done.claimed in
+                  let parts = times-append done.last numbers (done.last ∷ []) in
+                  let one = at-yes done.last done.last refl in omega arith
+                  ),
             );
           }
 
@@ -203,11 +207,11 @@ module _ {B : Type 0} where
         claimed-once number below = ⊎_elim
             (λ (none : workers ≡ 0). absurd (omega arith))
             (λ (reached : (last : ℕ) × (bound ≤ last) × (1 ≤ times last (claims_of pass))).
-                let all = are.settled (are.turns ∙ ap (λ (n : ℕ). 17 * n) (sym are.among)) in
-                let above = reached.1 in
-                let one : 1 ≤ once_below (length (claims_of pass)) reached.0 = subst (λ (n : ℕ). 1 ≤ n) (all reached.0) reached.2 in
-                let within = once-below (length (claims_of pass)) reached.0 one in
-                all number ∙ once-yes (length (claims_of pass)) number (omega arith))
+            let all = are.settled (are.turns ∙ ap (λ (n : ℕ). 17 * n) (sym are.among)) in
+            let above = reached.1 in
+            let one : 1 ≤ once_below (length (claims_of pass)) reached.0 = subst (λ (n : ℕ). 1 ≤ n) (all reached.0) reached.2 in
+            let within = once-below (length (claims_of pass)) reached.0 one in
+            all number ∙ once-yes (length (claims_of pass)) number (omega arith))
             are.reached
 
         -- the pass has every draw again
@@ -223,11 +227,11 @@ module _ {B : Type 0} where
         never-strange : AreStrange (numbers_of are.sent) → ⊥
         never-strange strange = ⊎_elim
             (λ (above : (16 ≤ strange.number) × (1 ≤ times strange.number (numbers_of are.sent))). let most = above.0 in let one = above.1 in
-                let none = sent-none strange.number are.sent are.items (omega arith) in absurd (omega arith))
+            let none = sent-none strange.number are.sent are.items (omega arith) in absurd (omega arith))
             (λ (twice : 2 ≤ times strange.number (numbers_of are.sent)). ⊎_elim
-              (λ (below : strange.number < bound). let once = claimed-once strange.number below in let same = are.same strange.number below in absurd (omega arith))
-              (λ (above : bound ≤ strange.number). let none = sent-none strange.number are.sent are.items above in absurd (omega arith))
-              (cases_lt strange.number bound))
+            (λ (below : strange.number < bound). let once = claimed-once strange.number below in let same = are.same strange.number below in absurd (omega arith))
+            (λ (above : bound ≤ strange.number). let none = sent-none strange.number are.sent are.items above in absurd (omega arith))
+            (cases_lt strange.number bound))
             strange.why
 
         -- so there was room for each item
@@ -242,4 +246,3 @@ module _ {B : Type 0} where
               let holds : HoldsAll (held_at inbox.reorder) false are.sent = subst (λ (b : Bool). HoldsAll (held_at inbox.reorder) b are.sent) fine all-come.holds in
               slot-held number (held_at inbox.reorder number) are.sent are.items (sym (are.same number below) ∙ claimed-once number below) (holds number (omega arith));
         }
-

@@ -1,5 +1,5 @@
 -- What was taken out of all lanes, where one lane changes; lanes that stay the same ends.
-use Rattle.std.proofs.Common.{◌≡◌, ℕ, zero, suc, ◌+◌, ◌<◌, ◌≤◌, ◌≢◌, ◌⊎◌, List, [], ◌∷◌, ◌++◌, length, get_or, set, take, drop, refl, sym, ap, subst, ◌∙◌, ⊎_elim, append_assoc, get_or-set_same, get_or-set_other, length-set, rules, arith}
+use Rattle.std.proofs.Common.{◌≡◌, ℕ, zero, suc, ◌<◌, ◌≢◌, List, [], ◌∷◌, ◌++◌, length, get_or, set, take, drop, refl, sym, ap, subst, ◌∙◌, ⊎_elim, append_assoc, get_or-set_same, get_or-set_other, rules, arith}
 use Rattle.std.proofs.lemmas.Bool.{cases_eq}
 use Rattle.std.specs.List.{flat_map}
 use Rattle.rtrb.specs.Ring.{received, IsPair, SameProducer, SameConsumer}
@@ -31,9 +31,9 @@ same-trans first second third one other = search rules
 pub same-set : {T A P : Type 0} (before lanes : List (Consumer T A P)) (place : ℕ) (was now : Consumer T A P) → place < length lanes → was ≡ get_or lanes place was → AreSame before lanes → SameConsumer was now → AreSame before (set lanes place now)
 same-set {T} {A} {P} before lanes place was now within is same change other lane small = ⊎_elim
     (λ (here : other ≡ place).
-        let at : get_or (set lanes place now) other lane ≡ now = ap (λ (n : ℕ). get_or (set lanes place now) n lane) here ∙ get_or-set_same lanes place now lane within in
-        let old : get_or lanes other lane ≡ was = ap (λ (n : ℕ). get_or lanes n lane) here ∙ sym (Rattle.std.proofs.lemmas.List.get_or_read lanes place was within is lane) in
-        subst (λ (c : Consumer T A P). SameConsumer (get_or before other lane) c) (sym at) (same-trans (get_or before other lane) was now (subst (λ (c : Consumer T A P). SameConsumer (get_or before other lane) c) old (same other lane small)) change))
+    let at : get_or (set lanes place now) other lane ≡ now = ap (λ (n : ℕ). get_or (set lanes place now) n lane) here ∙ get_or-set_same lanes place now lane within in
+    let old : get_or lanes other lane ≡ was = ap (λ (n : ℕ). get_or lanes n lane) here ∙ sym (Rattle.std.proofs.lemmas.List.get_or_read lanes place was within is lane) in
+    subst (λ (c : Consumer T A P). SameConsumer (get_or before other lane) c) (sym at) (same-trans (get_or before other lane) was now (subst (λ (c : Consumer T A P). SameConsumer (get_or before other lane) c) old (same other lane small)) change))
     (λ (apart : other ≢ place). subst (λ (c : Consumer T A P). SameConsumer (get_or before other lane) c) (sym (get_or-set_other lanes place other now lane apart)) (same other lane small))
     (cases_eq other place)
 

@@ -1,9 +1,9 @@
 -- How often a number stands in lists that are put together, and values added up over lists.
-use Rattle.std.proofs.Common.{◌≡◌, ℕ, zero, suc, ◌+◌, ◌<◌, ◌≤◌, ◌≢◌, ◌⊎◌, Bool, true, false, cond, eqb, ltb, List, [], ◌∷◌, ◌++◌, length, set, refl, sym, ap, subst, ◌∙◌, ⊎_elim, arith}
+use Rattle.std.proofs.Common.{◌≡◌, ℕ, zero, suc, ◌+◌, ◌<◌, ◌≤◌, ◌≢◌, eqb, ltb, List, [], ◌∷◌, ◌++◌, length, set, refl, sym, ap, ⊎_elim, arith}
 use Rattle.std.proofs.lemmas.Bool.{lt-ltb, le-ltb, eq-eqb, ne_eqb, cond-true, cond-false, cases_eq, cases_lt}
 use mathlib.Core.Option.{some, some-injective, some-ne-none}
 use lib.ListN.{get_elem?}
-use Rattle.kt_part.specs.Numbers.{once_at, times, once_below, AreBelow, AreFirst, total}
+use Rattle.kt_part.specs.Numbers.{once_at, times, once_below, AreBelow, total}
 
 -- the same number counts once
 pub at-yes : (one other : ℕ) → one ≡ other → once_at one other ≡ 1
@@ -45,9 +45,9 @@ pub once-more : (bound number : ℕ) → once_below (bound + 1) number ≡ once_
 once-more bound number = ⊎_elim
     (λ (is : bound ≡ number). omega (arith, at-yes bound number is, once-yes (bound + 1) number (omega arith), once-no bound number (omega arith)))
     (λ (isnt : bound ≢ number). ⊎_elim
-      (λ (below : number < bound). omega (arith, at-no bound number isnt, once-yes (bound + 1) number (omega arith), once-yes bound number below))
-      (λ (above : bound ≤ number). omega (arith, at-no bound number isnt, once-no (bound + 1) number (omega arith), once-no bound number above))
-      (cases_lt number bound))
+    (λ (below : number < bound). omega (arith, at-no bound number isnt, once-yes (bound + 1) number (omega arith), once-yes bound number below))
+    (λ (above : bound ≤ number). omega (arith, at-no bound number isnt, once-no (bound + 1) number (omega arith), once-no bound number above))
+    (cases_lt number bound))
     (cases_eq bound number)
 
 -- where no number from a bound on stands in a list, each number of the list is below it

@@ -1,5 +1,5 @@
 -- How often a number stands in a list of numbers.
-use Rattle.std.specs.Prelude.{◌≡◌, ℕ, zero, suc, ◌+◌, ◌<◌, List, [], ◌∷◌, length, cond, nat_eq, nat_lt}
+use Rattle.std.specs.Prelude.{◌≡◌, ℕ, ◌+◌, ◌<◌, List, [], ◌∷◌, length, cond, nat_eq, nat_lt}
 
 -- 1 where two numbers are the same, and else 0
 abbrev pub once_at : ℕ → ℕ → ℕ

@@ -1,5 +1,5 @@
 -- What a contract sees of the slots of a round.
-use Rattle.std.specs.Prelude.{◌≡◌, ℕ, ◌<◌, ◌≤◌, Option, Some, None, slice_index_or}
+use Rattle.std.specs.Prelude.{◌≡◌, ℕ, ◌<◌, ◌≤◌, Option, None, slice_index_or}
 use Rattle.kt_part.specs.declared.reorder.Reorder.{Reorder}
 
 module _ {B : Type 0} where

@@ -1,7 +1,7 @@
 //! The word from which the workers of a round claim its numbers, each number exactly once whatever the order of their steps.
 ghost use Rattle.std.specs.Prelude.{◌≡◌, ◌<◌, []};
 
-use crate::dealing::{Deals, Dealing, Draws, Gathers, Known, Settles};
+use crate::dealing::{Dealing, Deals, Draws, Gathers, Known, Settles};
 use atomic_table::{Seat, Table};
 use std::alloc::{AllocError, Global};
 
@@ -86,9 +86,7 @@ impl Claims {
         ensures settled { length (claims_of pass.new) + left_of pass.new ≡ 17 * workers_of pass.new → AreFirst (claims_of pass.new) }
     {
         let Pass { seat } = other;
-        self.table
-            .shared
-            .join_seat::<Gathers>(&mut pass.seat, seat);
+        self.table.shared.join_seat::<Gathers>(&mut pass.seat, seat);
         self.table.shared.load::<Settles>(&mut pass.seat, 0);
     }
 }

@@ -11,6 +11,9 @@ pub mod laws;
 mod merge;
 mod reorder;
 mod round;
+mod shared;
+#[cfg(test)]
+mod tests;
 mod work;
 
 pub use fold::Fold;

@@ -1,4 +1,3 @@
-use Rattle.std.proofs.Common.{ℕ}
 use Rattle.kt_part.specs.Lanes.{IsWorking}
 use Rattle.kt_part.proofs.arm.run_arm.Given as goal
 

@@ -1,7 +1,6 @@
-use Rattle.std.proofs.Common.{◌≡◌, ℕ, ◌+◌, ◌<◌, List, Option, Some, None, ◌++◌, ap, subst, sym, ◌∙◌, le_refl, arith}
+use Rattle.std.proofs.Common.{ℕ, ◌+◌, None, ◌++◌, ap, subst, sym, ◌∙◌, le_refl, arith}
 use Rattle.kt_part.specs.Arrivals.{IsHeld}
-use Rattle.kt_part.specs.Slots.{next_of}
-use Rattle.kt_part.proofs.GatherLemmas.{next-held}
+use Rattle.kt_part.proofs.GatherLemmas.{next-given, next-held}
 use Rattle.kt_part.proofs.RoundLemmas.{one-more}
 use Rattle.kt_part.proofs.gather.fold_held.Goals as goal
 
@@ -13,13 +12,13 @@ unreachable-requires g c =
 pub take-requires : goal.take-requires
 take-requires g c =
     let k = c.loop-k.k in let block = c.in-Some-held.block in
-    let given = next-held (g.W.Work.gives c.args._work.now k) c.loop-k.reorder k (Some (Some block)) c.loop-k.invariant.next (c.in-Some.ensures.some.0 ∙ ap (λ (held : Option g.row.W-Block.Denot). Some held) c.in-Some-held.is) (c.loop-k.invariant.held k (le_refl k) c.loop-k-test.true) in
+    let given = next-given (g.W.Work.gives c.args._work.now k) c.loop-k.reorder k c.in-Some.held block c.loop-k.invariant.next c.in-Some.ensures.some.0 c.in-Some-held.is (c.loop-k.invariant.held k (le_refl k) c.loop-k-test.true) in
     c.loop-k.invariant.fits block (c.requires.fits k block c.loop-k-test.true given)
 
 pub loop-k-preserved : goal.loop-k-preserved
 loop-k-preserved g c =
     let k = c.loop-k.k in let block = c.in-Some-held.block in
-    let given = next-held (g.W.Work.gives c.args._work.now k) c.loop-k.reorder k (Some (Some block)) c.loop-k.invariant.next (c.in-Some.ensures.some.0 ∙ ap (λ (held : Option g.row.W-Block.Denot). Some held) c.in-Some-held.is) (c.loop-k.invariant.held k (le_refl k) c.loop-k-test.true) in record {
+    let given = next-given (g.W.Work.gives c.args._work.now k) c.loop-k.reorder k c.in-Some.held block c.loop-k.invariant.next c.in-Some.ensures.some.0 c.in-Some-held.is (c.loop-k.invariant.held k (le_refl k) c.loop-k-test.true) in record {
       folded = λ start before stands.
           let folded = c.loop-k.invariant.folded start before stands in
           one-more (g.W.Work.gives c.args._work.now) before (g.F.Fold.stands start c.loop-k.fold) (g.F.Fold.stands start c.take.new.self) k folded block given (c.in_default-take.ensures.takes start (before ++ folded.blocks) folded.stand);

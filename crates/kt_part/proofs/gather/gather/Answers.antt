@@ -1,9 +1,5 @@
-use Rattle.std.proofs.Common.{◌≡◌, ℕ, Global, List, ap, subst, sym, ◌∙◌, arith}
-use Rattle.rtrb.specs.declared.AnyItems.{AnyItems}
-use Rattle.rtrb.specs.declared.consumer.Consumer.{Consumer}
+use Rattle.std.proofs.Common.{◌≡◌, ℕ, subst, arith}
 use Rattle.kt_part.specs.Gathering.{AreGathered}
-use Rattle.kt_part.specs.declared.inbox.Arm.{Arm}
-use Rattle.kt_part.specs.declared.inbox.Item.{Item}
 use Rattle.kt_part.proofs.GatherLemmas.{gathered-more, claimed-all, never-spoiled, all-held}
 use Rattle.kt_part.proofs.gather.gather.Goals as goal
 
@@ -11,7 +7,7 @@ pub loop-worker-preserved : goal.loop-worker-preserved
 loop-worker-preserved g c =
     let gives = g.W.Work.gives c.args._work.now in
     gathered-more gives c.args.count c.args.claims.now c.args.workers c.loop-worker.arms.items c.pop.new.self.items c.loop-worker.ends.items c.pop-in-loop-worker.new.self.items c.in-Some.arm c.in-Some-pop.end c.loop-worker.pass c.join.new.pass
-      c.loop-worker.inbox c.drain.new.inbox c.loop-worker._worker c.in-Some.ensures.items c.in-Some-pop.ensures.items c.loop-worker.invariant c.join.ensures.of c.join.ensures.claims c.join.ensures.left c.join.ensures.workers c.join.ensures.settled c.drain.ensures.come
+    c.loop-worker.inbox c.drain.new.inbox c.loop-worker._worker c.in-Some.ensures.items c.in-Some-pop.ensures.items c.loop-worker.invariant c.join.ensures.of c.join.ensures.claims c.join.ensures.left c.join.ensures.workers c.join.ensures.settled c.drain.ensures.come
 
 pub unreachable-requires-then-is_spoiled : goal.unreachable-requires-then-is_spoiled
 unreachable-requires-then-is_spoiled g c =

@@ -1,9 +1,4 @@
-use Rattle.std.proofs.Common.{◌≡◌, ℕ, ◌+◌, Global, List, ap, subst, sym, ◌∙◌, arith}
-use Rattle.rtrb.specs.declared.AnyItems.{AnyItems}
-use Rattle.rtrb.specs.declared.consumer.Consumer.{Consumer}
-use Rattle.kt_part.specs.Lanes.{AreLanes}
-use Rattle.kt_part.specs.declared.inbox.Arm.{Arm}
-use Rattle.kt_part.specs.declared.inbox.Item.{Item}
+use Rattle.std.proofs.Common.{◌∙◌, arith}
 use Rattle.kt_part.proofs.GatherLemmas.{made-more}
 use Rattle.kt_part.proofs.lanes.make_lanes.Goals as goal
 
@@ -17,6 +12,6 @@ loop-worker-preserved g c =
         among = one.kept.1 ∙ given.among;
       };
       lanes =
-        made-more c.args.claims.now c.loop-worker._worker c.loop-worker.arms.items c.push.new.self.items c.loop-worker.ends.items c.push-in-loop-worker.new.self.items c.in_ok-arm.arm c.in_ok-arm.end c.loop-worker.invariant.lanes
+          made-more c.args.claims.now c.loop-worker._worker c.loop-worker.arms.items c.push.new.self.items c.loop-worker.ends.items c.push-in-loop-worker.new.self.items c.in_ok-arm.arm c.in_ok-arm.end c.loop-worker.invariant.lanes
           one.ready one.pair one.empty c.in_ok-push.ensures.items c.in_ok-push-2.ensures.items;
     }

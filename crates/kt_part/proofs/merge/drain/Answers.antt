@@ -1,4 +1,4 @@
-use Rattle.std.proofs.Common.{◌≡◌, ℕ, suc, ◌+◌, List, [], ◌∷◌, ◌++◌, length, append_assoc, ap, sym, ◌∙◌, arith}
+use Rattle.std.proofs.Common.{◌≡◌, suc, List, [], ◌∷◌, ◌++◌, length, append_assoc, ap, sym, ◌∙◌, arith}
 use Rattle.rtrb.specs.Ring.{received, known_items}
 use Rattle.kt_part.specs.declared.inbox.Item.{Item}
 use Rattle.kt_part.proofs.ArrivalLemmas.{moved}

@@ -1,5 +1,4 @@
 use Rattle.rtrb.specs.Ring.{received}
-use Rattle.std.proofs.Common.{rules}
 use Rattle.kt_part.proofs.ArrivalLemmas.{moved}
 use Rattle.kt_part.proofs.merge.look.Goals as goal
 

@@ -14,7 +14,7 @@ loop-place-preserved g c =
           (subst (λ (lane : Consumer (Item g.row.B.Denot) Global AnyItems). SameConsumer lane now) (sym is) c.look.ensures.same);
       come = λ come. come-set c.loop-place.inbox c.look.new.inbox c.loop-place.lanes place was now (omega arith) is
           (subst
-            (λ (lane : Consumer (Item g.row.B.Denot) Global AnyItems). (front back : List (Item g.row.B.Denot)) → HasCome c.loop-place.inbox (front ++ (received lane ++ back)) → HasCome c.look.new.inbox (front ++ (received now ++ back)))
-            (sym is) c.look.ensures.come)
+          (λ (lane : Consumer (Item g.row.B.Denot) Global AnyItems). (front back : List (Item g.row.B.Denot)) → HasCome c.loop-place.inbox (front ++ (received lane ++ back)) → HasCome c.look.new.inbox (front ++ (received now ++ back)))
+          (sym is) c.look.ensures.come)
           (c.loop-place.invariant.come come);
     }

@@ -1,4 +1,3 @@
-use Rattle.std.proofs.Common.{◌≡◌}
 use Rattle.kt_part.specs.Arrivals.{HasCome, all_received}
 use Rattle.kt_part.specs.Lanes.{AreSame}
 use Rattle.kt_part.proofs.merge.merge.Given as goal

@@ -1,4 +1,4 @@
-use Rattle.std.proofs.Common.{rules, arith}
+use Rattle.std.proofs.Common.{rules}
 use Rattle.kt_part.proofs.DealingLemmas.{draw-allowed}
 use Rattle.kt_part.proofs.laws.Claims.draw.Goals as goal
 

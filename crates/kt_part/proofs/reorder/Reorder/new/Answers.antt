@@ -1,4 +1,4 @@
-use Rattle.std.proofs.Common.{◌≡◌, ℕ, None, get_or, replicate, refl, sym, ap, ◌∙◌, zero, suc}
+use Rattle.std.proofs.Common.{◌≡◌, ℕ, None, get_or, replicate, refl, ap, ◌∙◌, zero, suc}
 use Rattle.kt_part.proofs.reorder.Reorder.new.Goals as goal
 
 -- a list of nothing holds nothing
