@@ -6,7 +6,7 @@ use std::alloc::AllocError;
 /// Makes a block for each number, the same whichever blocks were made before.
 pub trait Work {
     /// What is made.
-    type Block: Drop;
+    type Block: Send + Drop;
 
     /// The blocks that may be made for a number.
     ghost gives: { Self → ℕ → Self.Block → Type 0 };
