@@ -14,7 +14,7 @@ use crate::reorder::Reorder;
 use crate::round::RoundStop;
 use crate::work::Work;
 
-/// Gathers the claims and the items of all workers. All blocks of the round are held then.
+/// Gathers the claims and the items of all workers. All blocks of the round are held then. The contract alone reads the work.
 pub(crate) fn gather<W: Work>(
     claims: &Claims,
     pass: &mut Pass,
@@ -57,7 +57,7 @@ pub(crate) fn gather<W: Work>(
     reorder
 }
 
-/// Folds the blocks that are held in the order of their numbers.
+/// Folds the blocks that are held in the order of their numbers. The contract alone reads the work.
 pub(crate) fn fold_held<W: Work, F: Fold<W::Block>>(
     _work: &W,
     reorder: &mut Reorder<Option<W::Block>>,

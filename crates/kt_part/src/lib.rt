@@ -1,4 +1,4 @@
-//! Parts of a round: what makes each by its number, and what takes them in order.
+//! Parts of a round: what makes each by its number, the workers that make them in threads, and what takes them in order.
 #![tactic(auto)]
 
 mod arm;

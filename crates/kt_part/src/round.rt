@@ -29,7 +29,7 @@ pub enum RoundStop<S> {
         /// Why it stopped.
         stop: S,
     },
-    /// Want of memory for a block.
+    /// Want of memory: for a block, or for what a round needs before its first block.
     OutOfMemory,
 }
 
