@@ -18,7 +18,7 @@ use Rattle.kt_curve.specs.declared.cell.Cell.{Cell}
 use Rattle.kt_curve.specs.Losses.{same_key, one_if, key_of}
 use Rattle.kt_curve.specs.Grid.{keys_for, sidx_of_kind, is_mean, same_bool, of_kind, IsGroup}
 use Rattle.kt_curve.specs.Standing.{cell_at, sidx_in_range, FitsCells}
-use Rattle.kt_curve.proofs.Keys.{same_exact, same_itself, distinct_sorted}
+use Rattle.kt_curve.proofs.Keys.{same_exact, same_itself}
 
 -- how often a test holds
 abbrev pub times : {K : Type 0} → (K → Bool) → List K → ℕ
@@ -190,7 +190,7 @@ pub group_sum_by : (f : Option Cell → ℕ) → f None ≡ 0 → (p : Perspecti
     ((e : CellKey × Cell) → sidx_in_range samples e.0.sidx ≡ true → times (λ x. int_eq x e.0.sidx) sidxs ≡ one_if (test e)) →
     sum_by (λ key. f (cell_at group key)) (keys_for p s u sidxs n) ≡ sum_by (λ e. f (Some e.1)) (filter test group)
 group_sum_by f none p s n samples u group sidxs test is tested =
-    grid_sum f none group (distinct_sorted (keys_of group) is.sorted) (keys_for p s u sidxs n)
+    grid_sum f none group is.distinct (keys_for p s u sidxs n)
     ∙ sum_filter test (λ e. times (λ key. same_key key e.0) (keys_for p s u sidxs n)) (λ e. f (Some e.1)) group (all group is.fitting is.own)
   where
     one : (e : CellKey × Cell) → FitsCells n samples e.0 e.1 → e.0 ≡ key_of p s u e.0.sidx e.0.period →

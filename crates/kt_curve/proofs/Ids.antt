@@ -1,11 +1,10 @@
 -- The summary ids of entries are those of the losses for which they stand, and so are the amounts.
-use Rattle.std.proofs.Common.{◌≡◌, ◌≢◌, ◌⊎◌, inl, inr, ℕ, ◌+◌, ◌<◌, ◌≤◌, List, [], ◌∷◌, ◌++◌, map, arith, refl, sym, ap, ◌∙◌, cond}
-use Rattle.std.specs.Prelude.{Bool, true, false, ◌&&◌, ◌||◌, nat_eq, nat_lt, All, ℤ, Some, None}
+use Rattle.std.proofs.Common.{◌≡◌, ◌≢◌, ℕ, ◌+◌, ◌≤◌, List, [], ◌∷◌, ◌++◌, map, arith, refl, sym, ap, ◌∙◌, cond}
+use Rattle.std.specs.Prelude.{Bool, true, false, ◌&&◌, ◌||◌, nat_eq, All, ℤ, Some, None}
 use Rattle.std.specs.List.{flat_map, list_any, range_with_len}
 use Rattle.std.specs.Map.{keys_of}
-use Rattle.std.proofs.lemmas.Bool.{cases_lt}
-use Rattle.std.proofs.lemmas.Bool.Decides.{nat_tests, Decides-eqb}
-use Rattle.std.proofs.lemmas.List.Elements.{All-head, All-tail, All-nil, All-cons, All-weaker}
+use Rattle.std.proofs.lemmas.Bool.Decides.{Decides-eqb}
+use Rattle.std.proofs.lemmas.List.Elements.{All-head, All-tail}
 use Rattle.std.proofs.lemmas.List.Concat.{flat_map-cons}
 use Rattle.std.proofs.lemmas.List.{map-append}
 use Rattle.std.proofs.lemmas.List.Sums.{sum_by-cons}
@@ -17,6 +16,7 @@ use Rattle.kt_curve.specs.declared.cell.Cell.{Cell}
 use Rattle.kt_curve.specs.Losses.{KeyLoss, same_key, key_of, total, maximum}
 use Rattle.kt_curve.specs.Grid.{in_set, summary_ids, summary_entries, keys_for, HasSet}
 use Rattle.kt_curve.specs.Standing.{Standing, cell_at, cell_of, total_in}
+use Rattle.kt_curve.specs.SummaryRows.{of_summary}
 use Rattle.kt_curve.proofs.Keys.{same_exact, same_itself}
 use Rattle.kt_curve.proofs.Steps.{cell_some, total_of_cell}
 use Rattle.kt_curve.proofs.Grids.{bool_same}
@@ -25,7 +25,7 @@ use Rattle.kt_curve.proofs.Parts.{is_in_set}
 -- ---- rising ids
 
 -- the ids of keys rise
-rising_ids : (p : Perspective) (s : ℕ) (keys : List CellKey) → IsRising (summary_ids p s keys)
+pub rising_ids : (p : Perspective) (s : ℕ) (keys : List CellKey) → IsRising (summary_ids p s keys)
 unfolding IsRising
 rising_ids p s [] = tt
 rising_ids p s (key ∷ keys) = by_set (in_set p s key) (rising_ids p s keys)
@@ -34,12 +34,8 @@ rising_ids p s (key ∷ keys) = by_set (in_set p s key) (rising_ids p s keys)
     by_set true later = put-rising key.summary (summary_ids p s keys) later
     by_set false later = later
 
--- whether a key is of a summary
-abbrev of_summary : Perspective → ℕ → ℕ → CellKey → Bool
-of_summary p s i key = in_set p s key && nat_eq i key.summary
-
 -- the ids are those of keys of the set
-has_ids : (p : Perspective) (s i : ℕ) (keys : List CellKey) → list_any (nat_eq i) (summary_ids p s keys) ≡ list_any (of_summary p s i) keys
+pub has_ids : (p : Perspective) (s i : ℕ) (keys : List CellKey) → list_any (nat_eq i) (summary_ids p s keys) ≡ list_any (of_summary p s i) keys
 has_ids p s i [] = refl
 has_ids p s i (key ∷ keys) = by_set (in_set p s key) (has_ids p s i keys)
   where

@@ -67,7 +67,7 @@ period_amounts p s n samples u group maxima t is =
     sum-map (λ (e : CellKey × Cell). amount_in maxima (Some e.1)) (filter (of_period t) group) ∙ sym (period_sum (amount_in maxima) (no_amount maxima) p s n samples u group t is)
 
 -- the sum of a period is within its bound
-period_most : (p : Perspective) (s n samples u : ℕ) (group : List (CellKey × Cell)) (maxima : Bool) (t : ℕ) → IsGroup p s n samples u group → sum (amounts_of maxima (of_period t) group) ≤ samples * most_total
+pub period_most : (p : Perspective) (s n samples u : ℕ) (group : List (CellKey × Cell)) (maxima : Bool) (t : ℕ) → IsGroup p s n samples u group → sum (amounts_of maxima (of_period t) group) ≤ samples * most_total
 period_most p s n samples u group maxima t is =
     let each : All (λ x. amount_in maxima (cell_at group (key_of p s u x t)) ≤ most_total) (sample_sidx samples) =
     All-from_get_or (λ x. amount_in maxima (cell_at group (key_of p s u x t)) ≤ most_total) (sample_sidx samples) (pos 0) (λ i inside. cell_most maxima n samples group _ is.fitting) in

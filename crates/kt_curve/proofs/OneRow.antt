@@ -9,7 +9,7 @@ use Rattle.kt_curve.specs.declared.row.Row.{Row}
 use Rattle.kt_curve.specs.Losses.{same_key}
 use Rattle.kt_curve.specs.Standing.{cell_at}
 use Rattle.kt_curve.specs.Amounts.{sample_of}
-use Rattle.kt_curve.specs.RowCells.{SampleCells, cell_in, Changes}
+use Rattle.kt_curve.specs.RowCells.{cells_of, SampleCells, cell_in, Changes}
 use Rattle.kt_curve.specs.Rows.{row_of, key_in, row_entries}
 use Rattle.kt_curve.proofs.Keys.{same_exact, same_itself}
 use Rattle.kt_curve.proofs.RowKeys.{sample_back}
@@ -53,9 +53,9 @@ row_cell row (x ∷ cells) q = by_tests (same_key q (key_in row x.0)) (nat_eq (s
 
 -- another row has no cell of the key
 pub other_row : (row : Row) (q : CellKey) → row.key ≢ row_of q → cell_at (row_entries row) q ≡ None
-other_row row q apart = row_cell row.key row.cells.items q ∙ by_test (same_key (key_in row.key (sample_of q.sidx)) q) refl
+other_row row q apart = row_cell row.key (cells_of row) q ∙ by_test (same_key (key_in row.key (sample_of q.sidx)) q) refl
   where
-    by_test : (b : Bool) → same_key (key_in row.key (sample_of q.sidx)) q ≡ b → cond b (cell_in row.cells.items (sample_of q.sidx)) None ≡ None
+    by_test : (b : Bool) → same_key (key_in row.key (sample_of q.sidx)) q ≡ b → cond b (cell_in (cells_of row) (sample_of q.sidx)) None ≡ None
     by_test true same = absurd (apart (ap row_of (same_exact (key_in row.key (sample_of q.sidx)) q same)))
     by_test false same = refl
 
@@ -63,14 +63,14 @@ other_row row q apart = row_cell row.key row.cells.items q ∙ by_test (same_key
 pub row_changes : (old new : Row) (s : ℕ) (cell : Option Cell) (key : CellKey) → Changes old new s cell → key ≡ key_in old.key s → (q : CellKey) →
     cell_at (row_entries new) q ≡ cond (same_key key q) cell (cell_at (row_entries old) q)
 row_changes old new s cell key changes key_is q =
-    row_cell new.key new.cells.items q ∙ rw (changes.key, changes.cells (sample_of q.sidx), row_cell old.key old.cells.items q)
+    row_cell new.key (cells_of new) q ∙ rw (changes.key, changes.cells (sample_of q.sidx), row_cell old.key (cells_of old) q)
     (by_tests (same_key key q) (nat_eq s (sample_of q.sidx)) (same_key (key_in old.key (sample_of q.sidx)) q) refl refl refl)
   where
     t : ℕ
     t = sample_of q.sidx
 
     by_tests : (here of_sample own : Bool) → same_key key q ≡ here → nat_eq s t ≡ of_sample → same_key (key_in old.key t) q ≡ own →
-        cond own (cond of_sample cell (cell_in old.cells.items t)) None ≡ cond here cell (cond own (cell_in old.cells.items t) None)
+        cond own (cond of_sample cell (cell_in (cells_of old) t)) None ≡ cond here cell (cond own (cell_in (cells_of old) t) None)
     by_tests true true true a b c = refl
     by_tests false false own a b c = refl
     by_tests false true false a b c = refl
@@ -88,13 +88,13 @@ row_changes old new s cell key changes key_is q =
         let wrong : nat_eq s t ≡ true = (Decides-eqb s t).1 s_is in cc
 
 -- how many entries a row holds
-pub length_row : (row : Row) → length (row_entries row) ≡ length row.cells.items
-length_row row = all row.cells.items
+pub length_row : (row : Row) → length (row_entries row) ≡ length (cells_of row)
+length_row row = all (cells_of row)
   where
     all : (cells : SampleCells) → length {A = CellKey × Cell} (map (λ one. (key_in row.key one.0, one.1)) cells) ≡ length cells
     all [] = refl
     all (one ∷ cells) = ap suc (all cells)
 
 -- a row with the key and the cells of another
-pub row_same : (old new : Row) → new.key ≡ old.key → new.cells.items ≡ old.cells.items → row_entries new ≡ row_entries old
-row_same old new key items = ap (λ k. map (λ one. (key_in k one.0, one.1)) new.cells.items) key ∙ ap (map (λ one. (key_in old.key one.0, one.1))) items
+pub row_same : (old new : Row) → new.key ≡ old.key → (cells_of new) ≡ (cells_of old) → row_entries new ≡ row_entries old
+row_same old new key items = ap (λ k. map (λ one. (key_in k one.0, one.1)) (cells_of new)) key ∙ ap (map (λ one. (key_in old.key one.0, one.1))) items

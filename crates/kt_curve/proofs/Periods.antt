@@ -3,7 +3,6 @@ use Rattle.std.proofs.Common.{◌≡◌, ℕ, ◌+◌, ◌*◌, ◌<◌, ◌≤�
 use Rattle.std.specs.Prelude.{Bool, true, false, ◌&&◌, nat_eq, All, ℤ, pos, negsuc, Option, Some, None, sum, sum_by}
 use Rattle.std.specs.List.{filter}
 use Rattle.std.specs.Ordering.{int_eq}
-use Rattle.std.specs.Map.{keys_of}
 use Rattle.std.proofs.lemmas.Bool.{cases_lt}
 use Rattle.std.proofs.lemmas.Nat.{mul-le}
 use Rattle.std.proofs.Math.Nat.{mul-div-le}
@@ -15,7 +14,6 @@ use Rattle.kt_rec.specs.declared.perspective.Perspective.{Perspective}
 use Rattle.kt_rec.specs.declared.perspective.CellKey.{CellKey}
 use Rattle.kt_curve.specs.declared.cell.Cell.{Cell}
 use Rattle.kt_curve.specs.Losses.{one_if, same_key, key_of}
-use Rattle.kt_curve.proofs.Keys.{distinct_sorted}
 use Rattle.kt_curve.specs.Grid.{IsGroup, sample_sidx, is_mean, same_bool, of_kind}
 use Rattle.kt_curve.specs.Standing.{cell_at, FitsCells}
 use Rattle.kt_curve.specs.Amounts.{of_period, of_sample, amount_in, amounts_of}
@@ -55,7 +53,7 @@ pub period_sum : (f : Option Cell → ℕ) → f None ≡ 0 → (p : Perspective
     sum_by (λ x. f (cell_at group (key_of p s u x t))) (sample_sidx samples) ≡ sum_by (λ e. f (Some e.1)) (filter (of_period t) group)
 period_sum f none p s n samples u group t is =
     sym (sum_by_map (λ key. f (cell_at group key)) (λ x. key_of p s u x t) (sample_sidx samples))
-    ∙ grid_sum f none group (distinct_sorted (keys_of group) is.sorted) (map (λ x. key_of p s u x t) (sample_sidx samples))
+    ∙ grid_sum f none group is.distinct (map (λ x. key_of p s u x t) (sample_sidx samples))
     ∙ sum_filter (of_period t) (λ e. times (λ key. same_key key e.0) (map (λ x. key_of p s u x t) (sample_sidx samples))) (λ e. f (Some e.1)) group (all group is.fitting is.own)
   where
     one : (e : CellKey × Cell) → FitsCells n samples e.0 e.1 → e.0 ≡ key_of p s u e.0.sidx e.0.period →

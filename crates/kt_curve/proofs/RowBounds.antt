@@ -10,7 +10,7 @@ use Rattle.kt_curve.specs.declared.row_key.IndexKey.{IndexKey}
 use Rattle.kt_curve.specs.declared.row.Row.{Row}
 use Rattle.kt_curve.specs.Standing.{sidx_in_range, total_in, maximum_in, most_total, raised}
 use Rattle.kt_curve.specs.Amounts.{sample_of}
-use Rattle.kt_curve.specs.RowCells.{SampleCells, cell_in, RowFits, CellFits, Changes}
+use Rattle.kt_curve.specs.RowCells.{cells_of, IsWide, SampleCells, cell_in, RowFits, CellFits, Changes}
 use Rattle.kt_curve.specs.Rows.{index_key, same_index, same_row, row_keys, place_of, IsTable}
 use Rattle.kt_curve.proofs.RowKeys.{row_exact, row_itself, same_row_back, sample_within}
 use Rattle.kt_curve.proofs.Places.{keys_set, place_push, apart_push, keys_push, length_keys}
@@ -19,12 +19,12 @@ use Rattle.kt_curve.proofs.Tables.{length_set, entries_push}
 -- a row within its bounds, after one of its cells changed
 pub fits_changed : (periods samples s : ℕ) (old new : Row) (cell : Option Cell) → RowFits periods samples old → Changes old new s cell → IfSome cell (λ one. CellFits samples (s, one)) → RowFits periods samples new
 fits_changed periods samples s old new cell fits changes one =
-    record { first = rw changes.key fits.first; last = rw changes.key fits.last; rising = changes.rising; cells = changes.fits samples fits.cells one }
+    record { first = rw changes.key fits.first; last = rw changes.key fits.last; wide = changes.wide samples fits.wide; rising = changes.rising; cells = changes.fits samples fits.cells one }
 
 -- and a row with the key and the cells of another
-pub fits_same : (periods samples : ℕ) (old new : Row) → RowFits periods samples old → new.key ≡ old.key → new.cells.items ≡ old.cells.items → RowFits periods samples new
-fits_same periods samples old new fits key items =
-    record { first = rw key fits.first; last = rw key fits.last; rising = rw items fits.rising; cells = rw items fits.cells }
+pub fits_same : (periods samples : ℕ) (old new : Row) → RowFits periods samples old → new.key ≡ old.key → new.places.items ≡ old.places.items → (cells_of new) ≡ (cells_of old) → RowFits periods samples new
+fits_same periods samples old new fits key places items =
+    record { first = rw key fits.first; last = rw key fits.last; wide = rw places fits.wide; rising = rw items fits.rising; cells = rw items fits.cells }
 
 -- a row of a table is within its bounds
 pub table_row : (periods samples held : ℕ) (index : List (IndexKey × ℕ)) (rows : List Row) (i : ℕ) (row : Row) → IsTable periods samples held index rows → i < length rows → row ≡ get_or rows i row → RowFits periods samples row
@@ -48,7 +48,7 @@ raised_fits samples s x old loss within is some room greatest =
 
 -- with one row in the place of another
 pub table_set : (periods samples held new_held : ℕ) (index : List (IndexKey × ℕ)) (rows : List Row) (i : ℕ) (old new : Row) → IsTable periods samples held index rows → i < length rows → old ≡ get_or rows i old →
-    new.key ≡ old.key → RowFits periods samples new → new_held + length old.cells.items ≡ held + length new.cells.items → IsTable periods samples new_held index (set rows i new)
+    new.key ≡ old.key → RowFits periods samples new → new_held + length (cells_of old) ≡ held + length (cells_of new) → IsTable periods samples new_held index (set rows i new)
 table_set periods samples held new_held index rows i old new table within is key fits count =
     let keys = keys_set rows i old new is key in
     record {
@@ -64,10 +64,10 @@ table_set periods samples held new_held index rows i old new table within is key
 
 -- with one row more
 pub table_push : (periods samples held : ℕ) (index new_index : List (IndexKey × ℕ)) (rows : List Row) (key : RowKey) (new : Row) → IsTable periods samples held index rows → place_of key (row_keys rows) ≡ None →
-    1 ≤ key.period → key.period ≤ periods → new.key ≡ key → new.cells.items ≡ [] →
+    1 ≤ key.period → key.period ≤ periods → new.key ≡ key → (cells_of new) ≡ [] → IsWide samples new.places.items →
     ((q : IndexKey) → lookup (same_index q) new_index ≡ cond (same_index (index_key key) q) (Some (length rows)) (lookup (same_index q) index)) →
     IsTable periods samples held new_index (rows ++ new ∷ [])
-table_push periods samples held index new_index rows key new table missing first last key_is empty found =
+table_push periods samples held index new_index rows key new table missing first last key_is empty wide found =
     let keys = keys_push rows new key key_is in
     record {
       some = table.some;
@@ -84,6 +84,7 @@ table_push periods samples held index new_index rows key new table missing first
     fits = record {
       first = rw key_is first;
       last = rw key_is last;
+      wide = wide;
       rising = rw empty (λ i j less within. absurd (omega (arith, within)));
       cells = rw empty (All-nil (CellFits samples));
     }

@@ -10,7 +10,7 @@ use Rattle.kt_curve.specs.declared.row.Row.{Row}
 use Rattle.kt_curve.specs.Losses.{same_key}
 use Rattle.kt_curve.specs.Standing.{cell_at, sidx_in_range}
 use Rattle.kt_curve.specs.Amounts.{sample_of}
-use Rattle.kt_curve.specs.RowCells.{cell_in, Changes}
+use Rattle.kt_curve.specs.RowCells.{cells_of, cell_in, Changes}
 use Rattle.kt_curve.specs.Rows.{same_row, row_of, key_in, row_entries, entries_of, row_keys, place_of, Apart}
 use Rattle.kt_curve.proofs.Keys.{same_exact, same_itself}
 use Rattle.kt_curve.proofs.RowKeys.{row_exact, row_itself, key_back}
@@ -92,10 +92,10 @@ entries_set (first ∷ rows) key (suc i) old new cell apart found is changes q =
 
 -- how many entries rows hold of which one changes
 pub length_set : (rows : List Row) (i : ℕ) (old new : Row) → i < length rows → old ≡ get_or rows i old →
-    length (entries_of (set rows i new)) + length old.cells.items ≡ length (entries_of rows) + length new.cells.items
+    length (entries_of (set rows i new)) + length (cells_of old) ≡ length (entries_of rows) + length (cells_of new)
 length_set [] i old new within is = absurd (omega (arith, within))
 length_set (first ∷ rows) zero old new within is =
-    let first_is : length first.cells.items ≡ length old.cells.items = ap (λ (r : Row). length r.cells.items) (sym is) in
+    let first_is : length (cells_of first) ≡ length (cells_of old) = ap (λ (r : Row). length (cells_of r)) (sym is) in
     omega (arith, length-append (row_entries new) (entries_of rows), length-append (row_entries first) (entries_of rows), length_row new, length_row first, first_is)
 length_set (first ∷ rows) (suc i) old new within is =
     omega (arith, length-append (row_entries first) (entries_of (set rows i new)), length-append (row_entries first) (entries_of rows), length_set rows i old new (omega (arith, within)) is)
@@ -107,7 +107,7 @@ entries_same (first ∷ rows) zero old new is same = ap (λ es. es ++ entries_of
 entries_same (first ∷ rows) (suc i) old new is same = ap (λ es. row_entries first ++ es) (entries_same rows i old new is same)
 
 -- a row with no cells adds no entry
-pub entries_push : (rows : List Row) (new : Row) → new.cells.items ≡ [] → entries_of (rows ++ new ∷ []) ≡ entries_of rows
+pub entries_push : (rows : List Row) (new : Row) → (cells_of new) ≡ [] → entries_of (rows ++ new ∷ []) ≡ entries_of rows
 entries_push [] new empty = ap (λ cells. map (λ one. (key_in new.key one.0, one.1)) cells ++ []) empty
 entries_push (first ∷ rows) new empty = ap (λ es. row_entries first ++ es) (entries_push rows new empty)
 
@@ -117,9 +117,9 @@ same_read rows i one other within is other_is = is ∙ get_or_default rows i one
 
 -- what a table has for a key is the cell of its sample in its row
 pub cell_is : (samples : ℕ) (rows : List Row) (key : CellKey) (i : ℕ) (row : Row) → Apart (row_keys rows) → place_of (row_of key) (row_keys rows) ≡ Some i → row ≡ get_or rows i row → sidx_in_range samples key.sidx ≡ true →
-    cell_in row.cells.items (sample_of key.sidx) ≡ cell_at (entries_of rows) key
+    cell_in (cells_of row) (sample_of key.sidx) ≡ cell_at (entries_of rows) key
 cell_is samples rows key i row apart found is within =
-    sym (found_row rows key i row apart found is ∙ row_cell row.key row.cells.items key ∙ ap (λ b. cond b (cell_in row.cells.items (sample_of key.sidx)) None) own)
+    sym (found_row rows key i row apart found is ∙ row_cell row.key (cells_of row) key ∙ ap (λ b. cond b (cell_in (cells_of row) (sample_of key.sidx)) None) own)
   where
     key_is : key ≡ key_in row.key (sample_of key.sidx)
     key_is = key_back samples row.key key (placed_key (row_of key) rows i row found is) within

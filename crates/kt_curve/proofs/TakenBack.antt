@@ -9,7 +9,7 @@ use Rattle.kt_curve.specs.Standing.{Standing, cell_at, most_total}
 use Rattle.kt_rec.specs.declared.perspective.CellKey.{CellKey}
 use Rattle.kt_curve.specs.declared.cell.Cell.{Cell}
 use Rattle.kt_curve.specs.declared.row.Row.{Row}
-use Rattle.kt_curve.specs.RowCells.{SampleCells, cell_in, CellFits, RowFits, Changes, Lowers, lowered, one_of}
+use Rattle.kt_curve.specs.RowCells.{cells_of, SampleCells, cell_in, CellFits, RowFits, Changes, Lowers, lowered, one_of}
 use Rattle.kt_curve.specs.Rows.{entries_of, row_entries, row_keys, row_of, key_in, place_of, Apart}
 use Rattle.kt_curve.proofs.Keys.{same_exact}
 use Rattle.kt_curve.proofs.Steps.{to_key, take_out, take_down, never_missing}
@@ -48,19 +48,19 @@ lowered_fits samples s loss greatest cell low fits = by_test (nat_le cell.total 
 -- the row without a loss is the same row
 pub lowers_key : (s loss greatest gone : ℕ) (old new : Row) → Lowers old new s loss greatest gone → new.key ≡ old.key
 lowers_key s loss greatest gone old new lowers =
-    ⊎_elim (λ missing. ap (λ (row : Row). row.key) (lowers.none missing)) (λ found. let changes : Changes old new s (lowered found.0 loss greatest) = lowers.some found.0 found.1 in changes.key) (cell_or_none (cell_in old.cells.items s))
+    ⊎_elim (λ missing. ap (λ (row : Row). row.key) (lowers.none missing)) (λ found. let changes : Changes old new s (lowered found.0 loss greatest) = lowers.some found.0 found.1 in changes.key) (cell_or_none (cell_in (cells_of old) s))
 
 -- and is within its bounds
 pub lowers_fits : (periods samples s loss greatest gone : ℕ) (old new : Row) → greatest ≤ most_total → RowFits periods samples old → Lowers old new s loss greatest gone → RowFits periods samples new
 lowers_fits periods samples s loss greatest gone old new low fits lowers =
     ⊎_elim (λ missing. subst (RowFits periods samples) (sym (lowers.none missing)) fits)
-    (λ found. fits_changed periods samples s old new (lowered found.0 loss greatest) fits (lowers.some found.0 found.1) (lowered_fits samples s loss greatest found.0 low (found_fits samples s old.cells.items found.0 fits.cells found.1)))
-    (cell_or_none (cell_in old.cells.items s))
+    (λ found. fits_changed periods samples s old new (lowered found.0 loss greatest) fits (lowers.some found.0 found.1) (lowered_fits samples s loss greatest found.0 low (found_fits samples s (cells_of old) found.0 fits.cells found.1)))
+    (cell_or_none (cell_in (cells_of old) s))
 
 -- a row holds no more cells than all rows
-pub row_length : (rows : List Row) (i : ℕ) (row : Row) → i < length rows → row ≡ get_or rows i row → length row.cells.items ≤ length (entries_of rows)
+pub row_length : (rows : List Row) (i : ℕ) (row : Row) → i < length rows → row ≡ get_or rows i row → length (cells_of row) ≤ length (entries_of rows)
 row_length [] i row within is = absurd (omega (arith, within))
-row_length (first ∷ rows) zero row within is = omega (arith, length-append (row_entries first) (entries_of rows), length_row first, ap (λ (r : Row). length r.cells.items) is)
+row_length (first ∷ rows) zero row within is = omega (arith, length-append (row_entries first) (entries_of rows), length_row first, ap (λ (r : Row). length (cells_of r)) is)
 row_length (first ∷ rows) (suc i) row within is = omega (arith, length-append (row_entries first) (entries_of rows), row_length rows i row (omega (arith, within)) is)
 
 -- the cells stand without the last loss where it was taken from its row
@@ -69,19 +69,19 @@ pub lowers_stands : (losses : List KeyLoss) (rows : List Row) (key : CellKey) (l
     Standing losses (entries_of (set rows i new))
 lowers_stands losses rows key loss greatest i s gone old new some greatest_is apart found within is sample_is lowers stands =
     ⊎_elim (λ missing. absurd (never_missing losses (entries_of rows) key loss some stands (here ∙ ap (λ o. cond own o None) missing ∙ nothing own None)))
-    (λ there. by_own there.0 there.1 own refl) (cell_or_none (cell_in old.cells.items s))
+    (λ there. by_own there.0 there.1 own refl) (cell_or_none (cell_in (cells_of old) s))
   where
     own : Bool
     own = same_key (key_in old.key s) key
 
-    here : cell_at (entries_of rows) key ≡ cond own (cell_in old.cells.items s) None
-    here = found_row rows key i old apart found is ∙ row_cell old.key old.cells.items key ∙ ap (λ n. cond (same_key (key_in old.key n) key) (cell_in old.cells.items n) None) (sym sample_is)
+    here : cell_at (entries_of rows) key ≡ cond own (cell_in (cells_of old) s) None
+    here = found_row rows key i old apart found is ∙ row_cell old.key (cells_of old) key ∙ ap (λ n. cond (same_key (key_in old.key n) key) (cell_in (cells_of old) n) None) (sym sample_is)
 
     nothing : (b : Bool) (o : Option Cell) → cond b o o ≡ o
     nothing true o = refl
     nothing false o = refl
 
-    out_or_down : (cell : Cell) → cell_in old.cells.items s ≡ Some cell → key_in old.key s ≡ key → cell_at (entries_of rows) key ≡ Some cell → Standing losses (entries_of (set rows i new))
+    out_or_down : (cell : Cell) → cell_in (cells_of old) s ≡ Some cell → key_in old.key s ≡ key → cell_at (entries_of rows) key ≡ Some cell → Standing losses (entries_of (set rows i new))
     out_or_down cell cell_is key_is there = by_test (nat_le cell.total loss) refl (λ low. grind (arith, nat_tests)) (λ high. grind (arith, nat_tests))
       where
         changes : Changes old new s (lowered cell loss greatest)
@@ -103,9 +103,9 @@ lowers_stands losses rows key loss greatest i s gone old new some greatest_is ap
             take_down losses (entries_of rows) (entries_of (set rows i new)) key loss greatest cell left some stands greatest_is (sym there) (high refl) refl (λ q. entries q ∙ ap (λ o. cond (same_key key q) o (cell_at (entries_of rows) q)) left_is)
             (omega (arith, length_set rows i old new within is, changes.count, ap one_of cell_is, ap one_of left_is))
 
-    by_own : (cell : Cell) → cell_in old.cells.items s ≡ Some cell → (b : Bool) → own ≡ b → Standing losses (entries_of (set rows i new))
-    by_own cell cell_is true same = out_or_down cell cell_is (same_exact (key_in old.key s) key same) (here ∙ ap (λ b. cond b (cell_in old.cells.items s) None) same ∙ cell_is)
-    by_own cell cell_is false other = absurd (never_missing losses (entries_of rows) key loss some stands (here ∙ ap (λ b. cond b (cell_in old.cells.items s) None) other))
+    by_own : (cell : Cell) → cell_in (cells_of old) s ≡ Some cell → (b : Bool) → own ≡ b → Standing losses (entries_of (set rows i new))
+    by_own cell cell_is true same = out_or_down cell cell_is (same_exact (key_in old.key s) key same) (here ∙ ap (λ b. cond b (cell_in (cells_of old) s) None) same ∙ cell_is)
+    by_own cell cell_is false other = absurd (never_missing losses (entries_of rows) key loss some stands (here ∙ ap (λ b. cond b (cell_in (cells_of old) s) None) other))
 
 -- where no row is that of the key, the loss was never there
 pub nowhere_stands : (losses : List KeyLoss) (rows : List Row) (key : CellKey) (loss : ℕ) → 1 ≤ loss → place_of (row_of key) (row_keys rows) ≡ None → Standing (losses ++ to_key key loss ∷ []) (entries_of rows) → ⊥

@@ -1,7 +1,6 @@
 -- The totals or the maxima of cells.
 -- The rules: docs/CALCULATION.md, "Kinds of exceedance curves".
-use Rattle.std.specs.Prelude.{Bool, true, false, ◌&&◌, ◌≡◌, ◌≤◌, nat_eq, nat_lt, nat_le, ℕ, ℤ, pos, negsuc, List, map, length, Option, Some, if◌then◌else◌}
-use Rattle.std.specs.List.Sorted.{IsPartitionPoint}
+use Rattle.std.specs.Prelude.{Bool, false, ◌&&◌, nat_eq, ℕ, ℤ, pos, negsuc, List, map, Option, Some, if◌then◌else◌}
 use Rattle.std.specs.List.{filter}
 use Rattle.std.specs.Ordering.{int_eq}
 use Rattle.kt_rec.specs.declared.perspective.CellKey.{CellKey}
@@ -29,13 +28,6 @@ of_sample sample entry = int_eq entry.0.sidx (pos sample)
 abbrev pub sample_of : ℤ → ℕ
 sample_of (pos n) = n
 sample_of (negsuc n) = 0
-
--- where the entries of a sample begin and end, among entries whose samples rise
-pub record SampleEnds (entries : List (CellKey × Cell)) (sample start last : ℕ) : Type 0 where
-  pub start_within : start ≤ length entries
-  pub last_within : last ≤ length entries
-  pub below : IsPartitionPoint (λ entry. nat_lt (sample_of entry.0.sidx) sample ≡ true) (λ entry. nat_lt (sample_of entry.0.sidx) sample ≡ false) entries start
-  pub upto : IsPartitionPoint (λ entry. nat_le (sample_of entry.0.sidx) sample ≡ true) (λ entry. nat_le (sample_of entry.0.sidx) sample ≡ false) entries last
 
 -- whether an entry is of a sample, and of a period
 abbrev pub of_period : ℕ → CellKey × Cell → Bool

@@ -1,17 +1,15 @@
 -- The values of a summary in all periods, zeros included, and their mean and deviation.
 -- The rules: docs/CALCULATION.md, "Average annual loss".
-use Rattle.std.specs.Prelude.{Bool, true, false, ◌&&◌, nat_eq, suc, if◌then◌else◌, ◌≤◌, ◌≡◌, All, ℕ, ◌*◌, ℤ, pos, negsuc, List, [], ◌∷◌, map, sum, sum_by, take, drop, Some, slice_get}
-use Rattle.std.specs.List.{flat_map, range_with_len, filter}
+use Rattle.std.specs.Prelude.{Bool, true, false, ◌&&◌, nat_eq, if◌then◌else◌, ◌≤◌, ◌≡◌, All, ℕ, ◌*◌, ℤ, pos, negsuc, List, [], ◌∷◌, map, sum, sum_by}
+use Rattle.std.specs.List.{flat_map, range_with_len, filter, IsDistinct}
 use Rattle.kt_money.specs.Rounding.{mean_of, deviation_of}
 use Rattle.kt_money.specs.declared.moments.MeanSd.{MeanSd}
 use Rattle.kt_rec.specs.Rising.{put}
 use Rattle.kt_rec.specs.declared.perspective.Perspective.{Perspective}
 use Rattle.kt_rec.specs.declared.perspective.CellKey.{CellKey}
 use Rattle.kt_curve.specs.declared.cell.Cell.{Cell}
-use Rattle.kt_rec.specs.contracts.perspective.CellKeyOrd.TheImpl as key_order
-use Rattle.std.specs.List.Sorted.{IsStrictlySortedBy}
 use Rattle.std.specs.Map.{keys_of}
-use Rattle.kt_curve.specs.Losses.{key_of, same_perspective}
+use Rattle.kt_curve.specs.Losses.{key_of, same_key, same_perspective}
 use Rattle.kt_curve.specs.Standing.{FitsCells, cell_at}
 
 -- the sidx of the mean alone
@@ -65,7 +63,7 @@ pub record IsGroup (perspective : Perspective) (set periods samples summary : �
   pub some_samples : 1 ≤ samples
   pub few_samples : samples ≤ 1000
   pub fitting : All (λ entry. FitsCells periods samples entry.0 entry.1) group
-  pub sorted : IsStrictlySortedBy key_order.ghosts.cmp (keys_of group)
+  pub distinct : IsDistinct same_key (keys_of group)
   pub own : All (λ entry. entry.0 ≡ key_of perspective set summary entry.0.sidx entry.0.period) group
 
 -- the means, or the samples
@@ -77,16 +75,6 @@ abbrev pub sidx_of_kind : Bool → ℕ → List ℤ
 sidx_of_kind true samples = mean_sidx
 sidx_of_kind false samples = sample_sidx samples
 
--- entries of a perspective and set, within the bounds of their cells and by rising key
-pub record IsPart (perspective : Perspective) (set periods samples : ℕ) (entries : List (CellKey × Cell)) : Type 0 where
-  pub some : 1 ≤ periods
-  pub few : periods ≤ 100000
-  pub some_samples : 1 ≤ samples
-  pub few_samples : samples ≤ 1000
-  pub fitting : All (λ entry. FitsCells periods samples entry.0 entry.1) entries
-  pub sorted : IsStrictlySortedBy key_order.ghosts.cmp (keys_of entries)
-  pub own : All (λ entry. (entry.0.perspective ≡ perspective) × (entry.0.set ≡ set)) entries
-
 -- entries that have for each key of a perspective and set what others have
 abbrev pub HasSet : Perspective → ℕ → List (CellKey × Cell) → List (CellKey × Cell) → Type 0
 HasSet perspective set found entries = (key : CellKey) → in_set perspective set key ≡ true → cell_at found key ≡ cell_at entries key
@@ -94,16 +82,3 @@ HasSet perspective set found entries = (key : CellKey) → in_set perspective se
 -- a text for each summary among the entries, by rising id
 abbrev pub by_summary : Perspective → ℕ → (ℕ → List (CellKey × Cell) → List ℕ) → List (CellKey × Cell) → List ℕ
 by_summary perspective set text entries = flat_map (λ summary. text summary (summary_entries summary entries)) (summary_ids perspective set (keys_of entries))
-
--- how many of the first entries are of one summary
-abbrev pub group_length : ℕ → List (CellKey × Cell) → ℕ
-group_length summary [] = 0
-group_length summary (entry ∷ entries) = if nat_eq entry.0.summary summary then suc (group_length summary entries) else 0
-
--- the entries of the first summary, and those of the others
-pub record Splits (entries : List (CellKey × Cell)) (summary : ℕ) (group later : List (CellKey × Cell)) : Type 0 where
-  pub first : CellKey × Cell
-  pub is_first : Some first ≡ slice_get entries 0
-  pub summary_is : summary ≡ first.0.summary
-  pub group_is : group ≡ take (group_length summary entries) entries
-  pub later_is : later ≡ drop (group_length summary entries) entries

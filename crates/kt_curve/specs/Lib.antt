@@ -6,6 +6,7 @@ pub mod Journal
 pub mod Grid
 pub mod Average
 pub mod Amounts
+pub mod SummaryRows
 pub mod Ranks
 pub mod Exceedance
 pub mod Examples

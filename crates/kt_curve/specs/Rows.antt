@@ -13,7 +13,7 @@ use Rattle.kt_curve.specs.declared.row.Row.{Row}
 use Rattle.kt_curve.specs.declared.rows.Spot.{Spot}
 use Rattle.kt_stream.specs.declared.entry.Pair.{Pair}
 use Rattle.kt_curve.specs.Losses.{KeyLoss, key_of, is_added}
-use Rattle.kt_curve.specs.RowCells.{RowFits}
+use Rattle.kt_curve.specs.RowCells.{RowFits, cells_of}
 
 -- the number of a perspective
 abbrev pub perspective_number : Perspective → ℕ
@@ -52,7 +52,7 @@ key_in row sample = key_of row.perspective row.set row.summary (sidx_of sample) 
 
 -- the entries that a row holds
 abbrev pub row_entries : Row → List (CellKey × Cell)
-row_entries row = map (λ one. (key_in row.key one.0, one.1)) row.cells.items
+row_entries row = map (λ one. (key_in row.key one.0, one.1)) (cells_of row)
 
 -- the entries that rows hold
 abbrev pub entries_of : List Row → List (CellKey × Cell)

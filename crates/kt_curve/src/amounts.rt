@@ -1,42 +1,68 @@
 //! The totals or the maxima of a summary's cells.
 //! The rules: docs/CALCULATION.md, "Kinds of exceedance curves".
-ghost use Rattle.std.specs.Prelude.{◌≡◌, ◌≤◌, ◌+◌, ◌*◌, ◌<◌, ℕ, map, sum, length, slice_index, All, IfOk, Some};
-ghost use Rattle.kt_curve.specs.Grid.{of_kind, IsGroup};
+ghost use Rattle.std.specs.Prelude.{◌≡◌, ◌≤◌, ◌+◌, ◌*◌, ◌<◌, ◌^◌, ◌++◌, ℕ, map, sum, length, slice_index, All, IfOk, OnOk};
+ghost use Rattle.kt_curve.specs.Grid.{of_kind};
 ghost use Rattle.kt_money.specs.Rounding.{half_up};
 ghost use Rattle.kt_curve.specs.Standing.{most_total};
-ghost use Rattle.kt_curve.specs.Amounts.{amount_in, amounts_of, of_period, of_sample};
+ghost use Rattle.kt_curve.specs.Amounts.{amounts_of, of_period, of_sample};
+ghost use Rattle.kt_curve.specs.SummaryRows.{AreRising, ArePeriods, IsSummary, entries_in, row_at, group_entries};
 
-use crate::average::{is_mean, is_same};
-use crate::cell::Cell;
-use crate::group::Group;
-use crate::samples::sample_entries;
+use crate::group::{Group, SummaryRow};
+use crate::row::{Row, amount};
 use kt_money::{OutOfMemory, div_half_up};
-use kt_rec::CellKey;
 use std::alloc::Global;
 
-/// The maximum of a cell, or its total, in cents.
-pub(crate) fn amount(cell: &Cell, maxima: bool) -> u64
-    ensures value { result ≡ amount_in maxima (Some cell.now) }
+/// Appends the amounts of the row at a place: those of the mean, or those of all samples. An error is want of memory.
+fn push_kind(
+    found: &mut Vec<u64>,
+    rows: &[Row],
+    place: &SummaryRow,
+    mean: bool,
+    maxima: bool,
+) -> Result<(), OutOfMemory>
+    ensures ok { OnOk result (found.new.items ≡ found.old.items ++ amounts_of maxima (of_kind mean) (entries_in (row_at rows.now place.now.row))) }
 {
-    if maxima { cell.maximum } else { cell.total }
+    if place.row >= rows.len() {
+        return Ok(());
+    }
+    rows[place.row].push_kind(found, mean, maxima)
 }
 
 /// The amounts of the means, or those of all samples. An error is want of memory.
 pub(crate) fn kind_amounts(
     alloc: Global,
-    entries: &[(CellKey, Cell)],
+    group: &Group<'_>,
     mean: bool,
-    maxima: bool,
 ) -> Result<Vec<u64>, OutOfMemory>
-    ensures { IfOk result (λ found. found.items ≡ amounts_of maxima (of_kind mean) entries.now) }
+    ensures { IfOk result (λ found. found.items ≡ amounts_of group.now.maxima (of_kind mean) (group_entries group.now)) }
 {
     let mut found = Vec::new(alloc);
-    for entry in entries {
-        if is_same(is_mean(&entry.0), mean) {
-            found.push(amount(&entry.1, maxima))?;
-        }
+    for place in group.places {
+        push_kind(&mut found, group.rows, place, mean, group.maxima)?;
     }
     Ok(found)
+}
+
+/// Appends the amount of a sample, from 1 up, of the row at a place. An error is want of memory.
+fn push_sample(
+    found: &mut Vec<u64>,
+    rows: &[Row],
+    place: &SummaryRow,
+    sample: u32,
+    maxima: bool,
+) -> Result<(), OutOfMemory>
+    requires rising { AreRising rows.now }
+    requires sample { 1 ≤ sample }
+    ensures ok { OnOk result (found.new.items ≡ found.old.items ++ amounts_of maxima (of_sample sample) (entries_in (row_at rows.now place.now.row))) }
+{
+    if place.row >= rows.len() {
+        return Ok(());
+    }
+    match rows[place.row].cell(sample) {
+        Some(cell) => found.push(amount(&cell, maxima))?,
+        None => {}
+    }
+    Ok(())
 }
 
 /// The amounts of one sample. An error is want of memory.
@@ -45,28 +71,67 @@ pub(crate) fn sample_amounts(
     group: &Group<'_>,
     sample: u32,
 ) -> Result<Vec<u64>, OutOfMemory>
-    requires group { IsGroup group.now.perspective group.now.set group.now.periods group.now.samples group.now.summary group.now.entries.now }
+    requires group { IsSummary group.now }
     requires sample { 1 ≤ sample }
-    ensures { IfOk result (λ found. found.items ≡ amounts_of group.now.maxima (of_sample sample) group.now.entries.now) }
+    ensures { IfOk result (λ found. found.items ≡ amounts_of group.now.maxima (of_sample sample) (group_entries group.now)) }
 {
-    kind_amounts(alloc, sample_entries(group, sample), false, group.maxima)
+    let mut found = Vec::new(alloc);
+    for place in group.places {
+        push_sample(&mut found, group.rows, place, sample, group.maxima)?;
+    }
+    Ok(found)
 }
 
-/// Adds up the samples of each period. An error is want of memory.
-pub(crate) fn period_sums(alloc: Global, group: &Group<'_>) -> Result<Vec<u128>, OutOfMemory>
-    requires within { All (λ entry. (1 ≤ entry.0.period) × (entry.0.period ≤ group.now.periods)) group.now.entries.now }
-    ensures len { IfOk result (λ sums. length sums.items ≡ group.now.periods) }
-    ensures sums { IfOk result (λ sums. (place : ℕ) → place < group.now.periods → slice_index sums.items place ≡ sum (amounts_of group.now.maxima (of_period (place + 1)) group.now.entries.now)) }
+/// The sum of amounts.
+fn sum_of(amounts: &[u64]) -> u128
+    ensures value { result ≡ sum amounts.now }
 {
-    let mut sums = vec![in alloc; 0u128; group.periods as usize]?;
-    for entry in group.entries {
-        if is_mean(&entry.0) {
-            continue;
-        }
-        let place = entry.0.period as usize - 1;
-        sums[place] += u128::from(amount(&entry.1, group.maxima));
+    let mut total = 0u128;
+    for amount in amounts {
+        total += u128::from(*amount);
     }
-    Ok(sums)
+    total
+}
+
+/// Adds the samples of the row at a place to the sum of its period. An error is want of memory.
+fn add_period(
+    sums: &mut [u128],
+    alloc: Global,
+    rows: &[Row],
+    place: &SummaryRow,
+    maxima: bool,
+) -> Result<(), OutOfMemory>
+    requires periods { ArePeriods (length sums.old) rows.now }
+    requires room { (period : ℕ) → slice_index sums.old period + sum (amounts_of maxima (of_period (period + 1)) (entries_in (row_at rows.now place.now.row))) < 2 ^ 128 }
+    ensures len { length sums.new ≡ length sums.old }
+    ensures sums { OnOk result ((period : ℕ) → slice_index sums.new period ≡ slice_index sums.old period + sum (amounts_of maxima (of_period (period + 1)) (entries_in (row_at rows.now place.now.row)))) }
+{
+    if place.row >= rows.len() {
+        return Ok(());
+    }
+    let row = &rows[place.row];
+    let mut amounts = Vec::new(alloc);
+    row.push_kind(&mut amounts, false, maxima)?;
+    sums[row.key.period as usize - 1] += sum_of(amounts.as_slice());
+    Ok(())
+}
+
+/// Adds the samples of each period to sums that are 0. An error is want of memory.
+pub(crate) fn add_periods(
+    sums: &mut [u128],
+    alloc: Global,
+    group: &Group<'_>,
+) -> Result<(), OutOfMemory>
+    requires group { IsSummary group.now }
+    requires len { length sums.old ≡ group.now.periods }
+    requires none { (place : ℕ) → slice_index sums.old place ≡ 0 }
+    ensures len { length sums.new ≡ group.now.periods }
+    ensures sums { OnOk result ((place : ℕ) → slice_index sums.new place ≡ sum (amounts_of group.now.maxima (of_period (place + 1)) (group_entries group.now))) }
+{
+    for place in group.places {
+        add_period(sums, alloc, group.rows, place, group.maxima)?;
+    }
+    Ok(())
 }
 
 /// The means of sums over the samples, to the nearest cent, halves up. An error is want of memory.

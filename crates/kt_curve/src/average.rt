@@ -1,16 +1,18 @@
 //! The table of average annual losses.
 //! The rules: docs/CALCULATION.md, "Average annual loss"; docs/OUTPUTS.md, "Average annual loss table".
 ghost use Rattle.std.specs.Prelude.{◌≡◌, ◌+◌, ◌*◌, ◌≤◌, ◌^◌, false, List, ◌++◌, map, sum, sum_by, length, All, IfOk, OnOk, OnErr, if◌then◌else◌};
+ghost use Rattle.std.specs.List.{flat_map};
 ghost use Rattle.kt_money.specs.Rounding.{mean_of, deviation_of};
-ghost use Rattle.kt_curve.specs.Grid.{is_mean, sidx_of_kind, keys_for, moments_of, IsGroup, IsPart, by_summary, same_bool};
+ghost use Rattle.kt_curve.specs.Grid.{is_mean, sidx_of_kind, keys_for, moments_of, same_bool};
 ghost use Rattle.kt_curve.specs.Losses.{Added, all_losses};
 ghost use Rattle.kt_curve.specs.Standing.{StandsFor, most_total};
 ghost use Rattle.kt_curve.specs.Amounts.{amount_at};
+ghost use Rattle.kt_curve.specs.SummaryRows.{group_entries, part_entries, IsPart, IsSummary};
 ghost use Rattle.kt_curve.specs.Average.{aal_heading_text, aal_row, aal_rows, average_annual_loss_rows};
 
 use crate::amounts::kind_amounts;
 use crate::cells::Cells;
-use crate::group::{Group, Part, split_first};
+use crate::group::{Group, Part, group_of, summaries};
 use kt_money::{Bytes, MeanSd, OutOfMemory, Row, mean_sd};
 use kt_rec::{CellKey, Perspective};
 use std::alloc::Global;
@@ -71,10 +73,10 @@ pub(crate) fn count_of(periods: u32, samples: u32, mean: bool) -> u64
 /// The mean and the deviation of a summary's amounts over all periods: those of the mean, or those of all samples. An error
 /// is want of memory.
 fn group_moments(alloc: Global, group: &Group<'_>, mean: bool) -> Result<MeanSd, OutOfMemory>
-    requires { IsGroup group.now.perspective group.now.set group.now.periods group.now.samples group.now.summary group.now.entries.now }
-    ensures { IfOk result (λ moments. moments ≡ moments_of (if mean then group.now.periods else group.now.periods * group.now.samples) (map (amount_at group.now.maxima group.now.entries.now) (keys_for group.now.perspective group.now.set group.now.summary (sidx_of_kind mean group.now.samples) group.now.periods))) }
+    requires { IsSummary group.now }
+    ensures { IfOk result (λ moments. moments ≡ moments_of (if mean then group.now.periods else group.now.periods * group.now.samples) (map (amount_at group.now.maxima (group_entries group.now)) (keys_for group.now.perspective group.now.set group.now.summary (sidx_of_kind mean group.now.samples) group.now.periods))) }
 {
-    let amounts = kind_amounts(alloc, group.entries, mean, group.maxima)?;
+    let amounts = kind_amounts(alloc, group, mean)?;
     let count = count_of(group.periods, group.samples, mean);
     Ok(moments(amounts.as_slice(), count))
 }
@@ -97,8 +99,8 @@ fn append_row(out: &mut Bytes, summary: u32, kind: u32, moments: MeanSd) -> Resu
 
 /// Appends the two rows of a summary. An error is want of memory.
 fn append_summary(out: &mut Bytes, alloc: Global, group: &Group<'_>) -> Result<(), OutOfMemory>
-    requires group { IsGroup group.now.perspective group.now.set group.now.periods group.now.samples group.now.summary group.now.entries.now }
-    ensures ok { OnOk result (out.new ≡ out.old ++ aal_rows group.now.perspective group.now.set group.now.periods group.now.samples (amount_at group.now.maxima group.now.entries.now) group.now.summary) }
+    requires group { IsSummary group.now }
+    ensures ok { OnOk result (out.new ≡ out.old ++ aal_rows group.now.perspective group.now.set group.now.periods group.now.samples (amount_at group.now.maxima (group_entries group.now)) group.now.summary) }
 {
     let analytical = group_moments(alloc, group, true)?;
     let sample = group_moments(alloc, group, false)?;
@@ -106,24 +108,19 @@ fn append_summary(out: &mut Bytes, alloc: Global, group: &Group<'_>) -> Result<(
     append_row(out, group.summary, 2, sample)
 }
 
-/// Appends the rows of a perspective and set, summary by summary. An error is want of memory.
-fn append_rows(out: &mut Bytes, alloc: Global, part: &Part<'_>) -> Result<(), OutOfMemory>
-    requires part { IsPart part.now.perspective part.now.set part.now.periods part.now.samples part.now.entries.now }
-    ensures ok { OnOk result (out.new ≡ out.old ++ by_summary part.now.perspective part.now.set (λ summary group. aal_rows part.now.perspective part.now.set part.now.periods part.now.samples (amount_at false group) summary) part.now.entries.now) }
+/// Appends the rows of the summaries of a perspective and set. An error is want of memory.
+fn append_rows(
+    out: &mut Bytes,
+    alloc: Global,
+    part: &Part<'_>,
+    summaries: &[u32],
+) -> Result<(), OutOfMemory>
+    requires part { IsPart part.now }
+    ensures ok { OnOk result (out.new ≡ out.old ++ flat_map (λ summary. aal_rows part.now.perspective part.now.set part.now.periods part.now.samples (amount_at false (part_entries part.now summary)) summary) summaries.now) }
 {
-    let mut rest = part.entries;
-    'groups: while let Some((summary, entries, later)) = split_first(rest) {
-        let group = Group {
-            perspective: part.perspective,
-            set: part.set,
-            summary,
-            entries,
-            periods: part.periods,
-            samples: part.samples,
-            maxima: false,
-        };
+    for summary in summaries {
+        let group = group_of(part, *summary, false);
         append_summary(out, alloc, &group)?;
-        rest = later;
     }
     Ok(())
 }
@@ -149,9 +146,11 @@ pub fn aal_text(
 fn set_text(cells: &Cells, perspective: Perspective, set: u32) -> Result<Bytes, OutOfMemory>
     ensures { IfOk result (λ text. (history : List Added) → StandsFor history cells.now → text ≡ average_annual_loss_rows perspective set cells.now.periods cells.now.samples (all_losses history)) }
 {
-    let entries = cells.set_entries(perspective, set)?;
-    let part = cells.part(perspective, set, entries.as_slice());
+    let rows = cells.rows();
+    let places = rows.set_places(perspective, set)?;
+    let ids = summaries(cells.alloc(), &places)?;
+    let part = rows.part(perspective, set, &places);
     let mut text = Bytes::new(cells.alloc());
-    append_rows(&mut text, cells.alloc(), &part)?;
+    append_rows(&mut text, cells.alloc(), &part, ids.as_slice())?;
     Ok(text)
 }

@@ -1,16 +1,14 @@
 //! The period totals and maxima of all records that were added.
 //! The rules: docs/CALCULATION.md, "Periods".
-ghost use Rattle.std.specs.Prelude.{◌≡◌, ◌≤◌, ◌^◌, pos, ◌≤ℤ◌, List, [], All, IfOk};
+ghost use Rattle.std.specs.Prelude.{◌≡◌, ◌≤◌, ◌^◌, pos, ◌≤ℤ◌, List, [], All};
 ghost use Rattle.kt_curve.specs.Losses.{Added};
 ghost use Rattle.kt_curve.specs.Standing.{StandsFor};
-ghost use Rattle.kt_curve.specs.Grid.{IsPart, HasSet};
+ghost use Rattle.kt_curve.specs.Rows.{entries_of};
 ghost use Rattle.kt_curve.specs.Journal.{Adds};
 
-use crate::cell::{Cell, CellStop, adds_any};
-use crate::group::Part;
+use crate::cell::{CellStop, adds_any};
 use crate::rows::Rows;
-use kt_money::OutOfMemory;
-use kt_rec::{CellKey, Occurrence, Perspective};
+use kt_rec::{Occurrence, Perspective};
 use kt_stream::SummaryRecord;
 use std::alloc::Global;
 use std::marker::Model;
@@ -67,7 +65,8 @@ impl Cells {
         if !adds_any(pairs) {
             return Ok(());
         }
-        let spots = match self.rows.spots(perspective, set, entry.summary, at) {
+        let wide = self.rows.is_wide(pairs);
+        let spots = match self.rows.spots(perspective, set, entry.summary, at, wide) {
             Ok(spots) => spots,
             Err(_) => return Err(CellStop::OutOfMemory),
         };
@@ -96,35 +95,11 @@ impl Cells {
         self.rows.alloc()
     }
 
-    /// The entries of a perspective and set, by rising key. An error is want of memory.
-    pub(crate) fn set_entries(
-        &self,
-        perspective: Perspective,
-        set: u32,
-    ) -> Result<Vec<(CellKey, Cell)>, OutOfMemory>
-        ensures part { IfOk result (λ found. IsPart perspective set self.now.periods self.now.samples found.items) }
-        ensures found { IfOk result (λ found. HasSet perspective set found.items self.now.entries) }
+    /// All rows of cells.
+    pub(crate) fn rows(&self) -> &Rows
+        ensures size { (result.now.periods ≡ self.now.periods) × (result.now.samples ≡ self.now.samples) }
+        ensures entries { entries_of result.now.rows ≡ self.now.entries }
     {
-        self.rows.set_entries(perspective, set)
-    }
-
-    /// The entries of a perspective and set, as those of these cells.
-    pub(crate) fn part<'a>(
-        &self,
-        perspective: Perspective,
-        set: u32,
-        entries: &'a [(CellKey, Cell)],
-    ) -> Part<'a>
-        ensures of_set { (result.perspective ≡ perspective) × (result.set ≡ set) }
-        ensures size { (result.periods ≡ self.now.periods) × (result.samples ≡ self.now.samples) }
-        ensures entries { result.entries.now ≡ entries.now }
-    {
-        Part {
-            perspective,
-            set,
-            entries,
-            periods: self.rows.periods(),
-            samples: self.rows.samples(),
-        }
+        &self.rows
     }
 }

@@ -1,8 +1,9 @@
 //! The full and wheat curves of a summary.
 //! The rules: docs/CALCULATION.md, "Kinds of exceedance curves"; docs/OUTPUTS.md, "Exceedance curve tables".
 ghost use Rattle.std.specs.Prelude.{◌≡◌, ◌+◌, ◌*◌, ◌≤◌, ◌++◌, map, pos, if◌then◌else◌, All, OnOk, true};
-ghost use Rattle.kt_curve.specs.Grid.{IsGroup, keys_for, sidx_of_kind};
+ghost use Rattle.kt_curve.specs.Grid.{keys_for, sidx_of_kind};
 ghost use Rattle.kt_curve.specs.Amounts.{amount_at};
+ghost use Rattle.kt_curve.specs.SummaryRows.{group_entries, IsSummary};
 ghost use Rattle.kt_curve.specs.Exceedance.{full_rows, wheat_rows, curve_rows, sidx_values};
 
 use crate::amounts::{kind_amounts, sample_amounts};
@@ -21,11 +22,11 @@ fn append_kind(
     mean: bool,
     returns: &[u32],
 ) -> Result<(), OutOfMemory>
-    requires group { IsGroup group.now.perspective group.now.set group.now.periods group.now.samples group.now.summary group.now.entries.now }
+    requires group { IsSummary group.now }
     requires returns { All (λ period. 1 ≤ period) returns.now }
-    ensures ok { OnOk result (out.new ≡ out.old ++ curve_rows group.now.summary column (if mean then group.now.periods else group.now.periods * group.now.samples) (map (amount_at group.now.maxima group.now.entries.now) (keys_for group.now.perspective group.now.set group.now.summary (sidx_of_kind mean group.now.samples) group.now.periods)) returns.now) }
+    ensures ok { OnOk result (out.new ≡ out.old ++ curve_rows group.now.summary column (if mean then group.now.periods else group.now.periods * group.now.samples) (map (amount_at group.now.maxima (group_entries group.now)) (keys_for group.now.perspective group.now.set group.now.summary (sidx_of_kind mean group.now.samples) group.now.periods)) returns.now) }
 {
-    let mut values = kind_amounts(alloc, group.entries, mean, group.maxima)?;
+    let mut values = kind_amounts(alloc, group, mean)?;
     let count = count_of(group.periods, group.samples, mean);
     append_values(
         out,
@@ -44,9 +45,9 @@ pub(crate) fn append_full(
     group: &Group<'_>,
     returns: &[u32],
 ) -> Result<(), OutOfMemory>
-    requires group { IsGroup group.now.perspective group.now.set group.now.periods group.now.samples group.now.summary group.now.entries.now }
+    requires group { IsSummary group.now }
     requires returns { All (λ period. 1 ≤ period) returns.now }
-    ensures ok { OnOk result (out.new ≡ out.old ++ full_rows group.now.perspective group.now.set group.now.periods group.now.samples (amount_at group.now.maxima group.now.entries.now) returns.now group.now.summary) }
+    ensures ok { OnOk result (out.new ≡ out.old ++ full_rows group.now.perspective group.now.set group.now.periods group.now.samples (amount_at group.now.maxima (group_entries group.now)) returns.now group.now.summary) }
 {
     append_kind(out, alloc, group, 1, true, returns)?;
     append_kind(out, alloc, group, 2, false, returns)
@@ -60,10 +61,10 @@ fn append_sample(
     sample: u32,
     returns: &[u32],
 ) -> Result<(), OutOfMemory>
-    requires group { IsGroup group.now.perspective group.now.set group.now.periods group.now.samples group.now.summary group.now.entries.now }
+    requires group { IsSummary group.now }
     requires sample { 1 ≤ sample }
     requires returns { All (λ period. 1 ≤ period) returns.now }
-    ensures ok { OnOk result (out.new ≡ out.old ++ curve_rows group.now.summary sample group.now.periods (sidx_values group.now.perspective group.now.set group.now.periods (amount_at group.now.maxima group.now.entries.now) group.now.summary (pos sample)) returns.now) }
+    ensures ok { OnOk result (out.new ≡ out.old ++ curve_rows group.now.summary sample group.now.periods (sidx_values group.now.perspective group.now.set group.now.periods (amount_at group.now.maxima (group_entries group.now)) group.now.summary (pos sample)) returns.now) }
 {
     let mut values = sample_amounts(alloc, group, sample)?;
     append_values(
@@ -83,9 +84,9 @@ pub(crate) fn append_wheat(
     group: &Group<'_>,
     returns: &[u32],
 ) -> Result<(), OutOfMemory>
-    requires group { IsGroup group.now.perspective group.now.set group.now.periods group.now.samples group.now.summary group.now.entries.now }
+    requires group { IsSummary group.now }
     requires returns { All (λ period. 1 ≤ period) returns.now }
-    ensures ok { OnOk result (out.new ≡ out.old ++ wheat_rows group.now.perspective group.now.set group.now.periods group.now.samples (amount_at group.now.maxima group.now.entries.now) returns.now group.now.summary) }
+    ensures ok { OnOk result (out.new ≡ out.old ++ wheat_rows group.now.perspective group.now.set group.now.periods group.now.samples (amount_at group.now.maxima (group_entries group.now)) returns.now group.now.summary) }
 {
     for sample in 1..group.samples + 1 {
         append_sample(out, alloc, group, sample, returns)?;

@@ -1,14 +1,15 @@
 //! The tables of exceedance curves.
 //! The rules: docs/CALCULATION.md, "Exceedance curves"; docs/OUTPUTS.md, "Exceedance curve tables".
 ghost use Rattle.std.specs.Prelude.{◌≡◌, ◌≤◌, List, ◌++◌, All, IfOk, OnOk, OnErr};
-ghost use Rattle.kt_curve.specs.Grid.{IsGroup, IsPart, by_summary};
+ghost use Rattle.std.specs.List.{flat_map};
 ghost use Rattle.kt_curve.specs.Losses.{Added, all_losses};
 ghost use Rattle.kt_curve.specs.Standing.{StandsFor};
 ghost use Rattle.kt_curve.specs.Amounts.{amount_at};
+ghost use Rattle.kt_curve.specs.SummaryRows.{group_entries, part_entries, IsPart, IsSummary};
 ghost use Rattle.kt_curve.specs.Exceedance.{lec_heading_text, by_sidx, takes_maxima, lec_rows, exceedance_rows};
 
 use crate::cells::Cells;
-use crate::group::{Group, Part, split_first};
+use crate::group::{Group, Part, group_of, summaries};
 use crate::kinds::{append_full, append_wheat};
 use crate::mean_curves::{append_period_means, append_rank_means};
 use kt_money::{Bytes, OutOfMemory};
@@ -51,9 +52,9 @@ fn append_group(
     curve: Curve,
     returns: &[u32],
 ) -> Result<(), OutOfMemory>
-    requires group { IsGroup group.now.perspective group.now.set group.now.periods group.now.samples group.now.summary group.now.entries.now }
+    requires group { IsSummary group.now }
     requires returns { All (λ period. 1 ≤ period) returns.now }
-    ensures ok { OnOk result (out.new ≡ out.old ++ lec_rows curve group.now.perspective group.now.set group.now.periods group.now.samples (amount_at group.now.maxima group.now.entries.now) returns.now group.now.summary) }
+    ensures ok { OnOk result (out.new ≡ out.old ++ lec_rows curve group.now.perspective group.now.set group.now.periods group.now.samples (amount_at group.now.maxima (group_entries group.now)) returns.now group.now.summary) }
 {
     match curve {
         Curve::FullAep | Curve::FullOep => append_full(out, alloc, group, returns),
@@ -63,32 +64,23 @@ fn append_group(
     }
 }
 
-/// Appends the rows of a perspective and set, summary by summary. An error is want of memory.
+/// Appends the rows of the summaries of a perspective and set. An error is want of memory.
 fn append_groups(
     out: &mut Bytes,
     alloc: Global,
     part: &Part<'_>,
+    summaries: &[u32],
     curve: Curve,
     returns: &[u32],
 ) -> Result<(), OutOfMemory>
-    requires part { IsPart part.now.perspective part.now.set part.now.periods part.now.samples part.now.entries.now }
+    requires part { IsPart part.now }
     requires returns { All (λ period. 1 ≤ period) returns.now }
-    ensures ok { OnOk result (out.new ≡ out.old ++ by_summary part.now.perspective part.now.set (λ summary group. lec_rows curve part.now.perspective part.now.set part.now.periods part.now.samples (amount_at (takes_maxima curve) group) returns.now summary) part.now.entries.now) }
+    ensures ok { OnOk result (out.new ≡ out.old ++ flat_map (λ summary. lec_rows curve part.now.perspective part.now.set part.now.periods part.now.samples (amount_at (takes_maxima curve) (part_entries part.now summary)) returns.now summary) summaries.now) }
 {
     let maxima = takes_maxima(curve);
-    let mut rest = part.entries;
-    'groups: while let Some((summary, entries, later)) = split_first(rest) {
-        let group = Group {
-            perspective: part.perspective,
-            set: part.set,
-            summary,
-            entries,
-            periods: part.periods,
-            samples: part.samples,
-            maxima,
-        };
+    for summary in summaries {
+        let group = group_of(part, *summary, maxima);
         append_group(out, alloc, &group, curve, returns)?;
-        rest = later;
     }
     Ok(())
 }
@@ -104,10 +96,19 @@ fn set_curves(
     requires { All (λ period. 1 ≤ period) returns.now }
     ensures { IfOk result (λ text. (history : List Added) → StandsFor history cells.now → text ≡ exceedance_rows curve perspective set cells.now.periods cells.now.samples (all_losses history) returns.now) }
 {
-    let entries = cells.set_entries(perspective, set)?;
-    let part = cells.part(perspective, set, entries.as_slice());
+    let rows = cells.rows();
+    let places = rows.set_places(perspective, set)?;
+    let ids = summaries(cells.alloc(), &places)?;
+    let part = rows.part(perspective, set, &places);
     let mut text = Bytes::new(cells.alloc());
-    append_groups(&mut text, cells.alloc(), &part, curve, returns)?;
+    append_groups(
+        &mut text,
+        cells.alloc(),
+        &part,
+        ids.as_slice(),
+        curve,
+        returns,
+    )?;
     Ok(text)
 }
 

@@ -2,13 +2,14 @@
 //! The rules: docs/CALCULATION.md, "Kinds of exceedance curves"; docs/OUTPUTS.md, "Exceedance curve tables".
 ghost use Rattle.std.specs.Prelude.{◌≡◌, ◌+◌, ◌*◌, ◌≤◌, ◌^◌, ℕ, List, ◌++◌, map, length, slice_index, sum_by, All, OnOk};
 ghost use Rattle.kt_money.specs.Rounding.{half_up};
-ghost use Rattle.kt_curve.specs.Grid.{IsGroup, sample_sidx};
+ghost use Rattle.kt_curve.specs.Grid.{sample_sidx};
 ghost use Rattle.kt_curve.specs.Standing.{most_total};
 ghost use Rattle.kt_curve.specs.Amounts.{amount_at};
+ghost use Rattle.kt_curve.specs.SummaryRows.{group_entries, IsSummary};
 ghost use Rattle.kt_curve.specs.Ranks.{SameRanks};
 ghost use Rattle.kt_curve.specs.Exceedance.{curve_rows, sidx_values, ranked_loss, period_means, rank_means};
 
-use crate::amounts::{means, period_sums, sample_amounts};
+use crate::amounts::{add_periods, means, sample_amounts};
 use crate::exceedance::{append_values, rank};
 use crate::group::Group;
 use kt_money::{Bytes, OutOfMemory};
@@ -47,12 +48,14 @@ pub(crate) fn append_period_means(
     group: &Group<'_>,
     returns: &[u32],
 ) -> Result<(), OutOfMemory>
-    requires group { IsGroup group.now.perspective group.now.set group.now.periods group.now.samples group.now.summary group.now.entries.now }
+    requires group { IsSummary group.now }
     requires returns { All (λ period. 1 ≤ period) returns.now }
-    ensures ok { OnOk result (out.new ≡ out.old ++ curve_rows group.now.summary 2 group.now.periods (period_means group.now.perspective group.now.set group.now.periods group.now.samples (amount_at group.now.maxima group.now.entries.now) group.now.summary) returns.now) }
+    ensures ok { OnOk result (out.new ≡ out.old ++ curve_rows group.now.summary 2 group.now.periods (period_means group.now.perspective group.now.set group.now.periods group.now.samples (amount_at group.now.maxima (group_entries group.now)) group.now.summary) returns.now) }
 {
-    let sums = period_sums(alloc, group)?;
-    append_means(out, alloc, group, sums.as_slice(), returns)
+    let mut zeros = vec![in alloc; 0u128; group.periods as usize]?;
+    let sums = zeros.as_mut_slice();
+    add_periods(sums, alloc, group)?;
+    append_means(out, alloc, group, sums, returns)
 }
 
 /// Adds values to sums, place by place.
@@ -82,12 +85,12 @@ fn add_ranked(sums: &mut [u128], values: &mut [u64])
 
 /// Adds the losses of each rank over all samples to sums that are 0. An error is want of memory.
 fn add_samples(alloc: Global, group: &Group<'_>, sums: &mut [u128]) -> Result<(), OutOfMemory>
-    requires group { IsGroup group.now.perspective group.now.set group.now.periods group.now.samples group.now.summary group.now.entries.now }
+    requires group { IsSummary group.now }
     requires len { length sums.old ≡ group.now.periods }
     requires none { (place : ℕ) → slice_index sums.old place ≡ 0 }
     ensures len { length sums.new ≡ group.now.periods }
     ensures most { OnOk result ((place : ℕ) → slice_index sums.new place ≤ group.now.samples * most_total) }
-    ensures sums { OnOk result ((place : ℕ) → slice_index sums.new place ≡ sum_by (λ sidx. ranked_loss (sidx_values group.now.perspective group.now.set group.now.periods (amount_at group.now.maxima group.now.entries.now) group.now.summary sidx) place) (sample_sidx group.now.samples)) }
+    ensures sums { OnOk result ((place : ℕ) → slice_index sums.new place ≡ sum_by (λ sidx. ranked_loss (sidx_values group.now.perspective group.now.set group.now.periods (amount_at group.now.maxima (group_entries group.now)) group.now.summary sidx) place) (sample_sidx group.now.samples)) }
 {
     for sample in 1..group.samples + 1 {
         let mut values = sample_amounts(alloc, group, sample)?;
@@ -103,9 +106,9 @@ pub(crate) fn append_rank_means(
     group: &Group<'_>,
     returns: &[u32],
 ) -> Result<(), OutOfMemory>
-    requires group { IsGroup group.now.perspective group.now.set group.now.periods group.now.samples group.now.summary group.now.entries.now }
+    requires group { IsSummary group.now }
     requires returns { All (λ period. 1 ≤ period) returns.now }
-    ensures ok { OnOk result (out.new ≡ out.old ++ curve_rows group.now.summary 2 group.now.periods (rank_means group.now.perspective group.now.set group.now.periods group.now.samples (amount_at group.now.maxima group.now.entries.now) group.now.summary) returns.now) }
+    ensures ok { OnOk result (out.new ≡ out.old ++ curve_rows group.now.summary 2 group.now.periods (rank_means group.now.perspective group.now.set group.now.periods group.now.samples (amount_at group.now.maxima (group_entries group.now)) group.now.summary) returns.now) }
 {
     let mut zeros = vec![in alloc; 0u128; group.periods as usize]?;
     let sums = zeros.as_mut_slice();

@@ -1,137 +1,212 @@
 //! A row of cells: what one summary has in one period.
 //! The rules: docs/CALCULATION.md, "Periods".
-ghost use Rattle.std.specs.Prelude.{◌≡◌, ◌<◌, [], IfOk, IfErr, OnOk, OnErr, Some, None, length};
-ghost use Rattle.kt_curve.specs.RowCells.{IsRising, IsAt, IsGap, Changes, Lowers, cell_in};
+ghost use Rattle.std.specs.Prelude.{◌≡◌, ◌+◌, ◌≤◌, [], IfOk, OnOk, OnErr, Some, None, true, is_some, length};
+ghost use Rattle.kt_curve.specs.RowCells.{IsRising, HasPlace, IsWide, Changes, Lowers, cell_in, cells_of, placed};
 
 use crate::cell::Cell;
 use crate::row_key::RowKey;
 use kt_money::OutOfMemory;
 use std::alloc::Global;
 
+mod amounts;
+mod listed;
+
+pub(crate) use amounts::amount;
+use listed::{listed_cell, place};
+
 /// What a summary has in a period: its cells by rising sample, that of the mean being 0. It may have none.
 #[derive(Drop)]
 pub(crate) struct Row {
     /// Which row.
     pub(crate) key: RowKey,
-    /// Where the next cell is looked for first.
-    pub(crate) next: usize,
-    /// The cells.
-    pub(crate) cells: Vec<(u32, Cell)>,
+    /// Where the next listed cell is looked for first.
+    next: usize,
+    /// The cells, each with its sample, where there are no places.
+    listed: Vec<(u32, Cell)>,
+    /// The cells of all samples, where there are any: a total of 0 is no cell.
+    places: Vec<Cell>,
 }
 
-/// The cell of a sample, if there is one, and where it stands or would go.
-#[derive(Clone, Copy)]
-pub(crate) struct Found {
-    /// Where it stands, or where it would go.
-    pub(crate) place: Result<usize, usize>,
-    /// The cell.
-    pub(crate) cell: Option<Cell>,
-}
+/// No cell.
+const NO_CELL: Cell = Cell {
+    total: 0,
+    maximum: 0,
+};
 
-/// Where the cell of a sample stands, or where it would go. It is looked for first at `next`, and then at the end.
-fn place(cells: &[(u32, Cell)], next: usize, sample: u32) -> Result<usize, usize>
-    requires { IsRising cells.now }
-    ensures found { IfOk result (IsAt cells.now sample) }
-    ensures absent { IfErr result (IsGap cells.now sample) }
+/// The cell of a sample among the cells of all samples.
+fn placed_cell(places: &[Cell], sample: u32) -> Option<Cell>
+    ensures value { result ≡ cell_in (placed 0 places.now) sample }
 {
-    if next < cells.len() && cells[next].0 == sample {
-        return Ok(next);
+    let at = sample as usize;
+    if at >= places.len() {
+        return None;
     }
-    match cells.last() {
-        Some(last) if sample <= last.0 => searched(cells, sample),
-        _ => Err(cells.len()),
-    }
+    let cell = places[at];
+    if cell.total == 0 { None } else { Some(cell) }
 }
 
-/// The same by halving.
-fn searched(cells: &[(u32, Cell)], sample: u32) -> Result<usize, usize>
-    requires { IsRising cells.now }
-    ensures found { IfOk result (IsAt cells.now sample) }
-    ensures absent { IfErr result (IsGap cells.now sample) }
+/// Places for the mean and so many samples, without cells. An error is want of memory.
+fn no_cells(alloc: Global, samples: u32) -> Result<Vec<Cell>, OutOfMemory>
+    requires { samples ≤ 1000 }
+    ensures len { IfOk result (λ places. length places.items ≡ samples + 1) }
+    ensures none { IfOk result (λ places. placed 0 places.items ≡ []) }
 {
-    cells.binary_search_by_key(&sample, |&(one, _)| one)
+    vec![in alloc; NO_CELL; samples as usize + 1]
 }
 
 impl Row {
-    /// A row with no cells. Asks for no memory.
-    pub(crate) fn new(alloc: Global, key: RowKey) -> Self
-        ensures key { result.key ≡ key }
-        ensures cells { result.cells.items ≡ [] }
+    /// A row with no cells, which has a place for each sample or lists its cells. An error is want of memory.
+    pub(crate) fn new(
+        alloc: Global,
+        key: RowKey,
+        samples: u32,
+        wide: bool,
+    ) -> Result<Self, OutOfMemory>
+        requires { samples ≤ 1000 }
+        ensures key { IfOk result (λ row. row.key ≡ key) }
+        ensures cells { IfOk result (λ row. cells_of row ≡ []) }
+        ensures wide { IfOk result (λ row. IsWide samples row.places.items) }
     {
-        Row {
+        let places = if wide {
+            no_cells(alloc, samples)?
+        } else {
+            Vec::new(alloc)
+        };
+        Ok(Row {
             key,
             next: 0,
-            cells: Vec::new(alloc),
-        }
+            listed: Vec::new(alloc),
+            places,
+        })
     }
 
-    /// The cell of a sample, and where it stands or would go.
-    pub(crate) fn find(&self, sample: u32) -> Found
-        requires { IsRising self.now.cells.items }
-        ensures found { IfOk result.place (IsAt self.now.cells.items sample) }
-        ensures absent { IfErr result.place (IsGap self.now.cells.items sample) }
-        ensures cell { result.cell ≡ cell_in self.now.cells.items sample }
+    /// The cell of a sample.
+    pub(crate) fn cell(&self, sample: u32) -> Option<Cell>
+        requires { IsRising (cells_of self.now) }
+        ensures value { result ≡ cell_in (cells_of self.now) sample }
     {
-        match place(self.cells.as_slice(), self.next, sample) {
-            Ok(at) => Found {
-                place: Ok(at),
-                cell: Some(self.cells[at].1),
-            },
-            Err(at) => Found {
-                place: Err(at),
-                cell: None,
-            },
+        if self.places.is_empty() {
+            return listed_cell(self.listed.as_slice(), self.next, sample);
         }
+        placed_cell(self.places.as_slice(), sample)
     }
 
-    /// Sets the cell of a sample, which stands at a place or goes there. Only a new cell may want memory, and the cells are
-    /// then as they were.
-    pub(crate) fn set(
-        &mut self,
-        place: Result<usize, usize>,
-        sample: u32,
-        cell: Cell,
-    ) -> Result<(), OutOfMemory>
-        requires rising { IsRising self.old.cells.items }
-        requires found { IfOk place (IsAt self.old.cells.items sample) }
-        requires absent { IfErr place (IsGap self.old.cells.items sample) }
+    /// Sets the cell of a sample. Only a new listed cell may want memory, and the cells are then as they were.
+    pub(crate) fn set(&mut self, sample: u32, cell: Cell) -> Result<(), OutOfMemory>
+        requires rising { IsRising (cells_of self.old) }
+        requires place { HasPlace sample self.old.places.items }
+        requires some { 1 ≤ cell.total }
         ensures ok { OnOk result (Changes self.old self.new sample (Some cell)) }
-        ensures err { OnErr result ((self.new.key ≡ self.old.key) × (self.new.cells.items ≡ self.old.cells.items) × (cell_in self.old.cells.items sample ≡ None)) }
+        ensures err { OnErr result ((self.new.key ≡ self.old.key) × (self.new.places.items ≡ self.old.places.items) × (cells_of self.new ≡ cells_of self.old) × (cell_in (cells_of self.old) sample ≡ None)) }
     {
-        match place {
+        if self.places.is_empty() {
+            return self.list(sample, cell);
+        }
+        self.places[sample as usize] = cell;
+        Ok(())
+    }
+
+    /// Sets the listed cell of a sample.
+    fn list(&mut self, sample: u32, cell: Cell) -> Result<(), OutOfMemory>
+        requires listed { self.old.places.items ≡ [] }
+        requires rising { IsRising self.old.listed.items }
+        ensures ok { OnOk result (Changes self.old self.new sample (Some cell)) }
+        ensures err { OnErr result ((self.new.key ≡ self.old.key) × (self.new.places.items ≡ self.old.places.items) × (cells_of self.new ≡ cells_of self.old) × (cell_in (cells_of self.old) sample ≡ None)) }
+    {
+        match place(self.listed.as_slice(), self.next, sample) {
             Ok(at) => {
-                self.cells[at] = (sample, cell);
+                self.listed[at] = (sample, cell);
                 self.next = at + 1;
                 Ok(())
             }
             Err(at) => {
-                self.cells.insert(at, (sample, cell))?;
+                self.listed.insert(at, (sample, cell))?;
                 self.next = at + 1;
                 Ok(())
             }
+        }
+    }
+
+    /// Takes out the cell of a sample.
+    fn take_out(&mut self, sample: u32)
+        requires { IsRising (cells_of self.old) }
+        ensures value { Changes self.old self.new sample None }
+    {
+        if self.places.is_empty() {
+            self.unlist(sample);
+            return;
+        }
+        let at = sample as usize;
+        if at < self.places.len() {
+            self.places[at] = NO_CELL;
+        }
+    }
+
+    /// Takes out the listed cell of a sample.
+    fn unlist(&mut self, sample: u32)
+        requires listed { self.old.places.items ≡ [] }
+        requires rising { IsRising self.old.listed.items }
+        ensures value { Changes self.old self.new sample None }
+    {
+        match place(self.listed.as_slice(), self.next, sample) {
+            Ok(at) => {
+                self.listed.remove(at);
+            }
+            Err(_) => {}
+        }
+    }
+
+    /// Puts another cell in the place of that of a sample.
+    fn put_back(&mut self, sample: u32, cell: Cell)
+        requires rising { IsRising (cells_of self.old) }
+        requires there { is_some (cell_in (cells_of self.old) sample) ≡ true }
+        requires some { 1 ≤ cell.total }
+        ensures value { Changes self.old self.new sample (Some cell) }
+    {
+        if self.places.is_empty() {
+            self.list_back(sample, cell);
+            return;
+        }
+        let at = sample as usize;
+        if at < self.places.len() {
+            self.places[at] = cell;
+        }
+    }
+
+    /// Puts another cell in the place of the listed one of a sample.
+    fn list_back(&mut self, sample: u32, cell: Cell)
+        requires listed { self.old.places.items ≡ [] }
+        requires rising { IsRising self.old.listed.items }
+        requires there { is_some (cell_in self.old.listed.items sample) ≡ true }
+        ensures value { Changes self.old self.new sample (Some cell) }
+    {
+        match place(self.listed.as_slice(), self.next, sample) {
+            Ok(at) => {
+                self.listed[at] = (sample, cell);
+            }
+            Err(_) => {}
         }
     }
 
     /// Takes a loss from the cell of a sample, which has the greatest loss before then, or is taken out where nothing is left.
     /// Returns the number of cells that were taken out.
     pub(crate) fn lower(&mut self, sample: u32, loss: u64, greatest: u64) -> usize
-        requires { IsRising self.old.cells.items }
+        requires { IsRising (cells_of self.old) }
         ensures value { Lowers self.old self.new sample loss greatest result }
     {
-        let at = match place(self.cells.as_slice(), self.next, sample) {
-            Ok(at) => at,
-            Err(_) => return 0,
+        let cell = match self.cell(sample) {
+            Some(cell) => cell,
+            None => return 0,
         };
-        let cell = self.cells[at].1;
         if cell.total <= loss {
-            self.cells.remove(at);
+            self.take_out(sample);
             return 1;
         }
         let left = Cell {
             total: cell.total - loss,
             maximum: greatest,
         };
-        self.cells[at] = (sample, left);
+        self.put_back(sample, left);
         0
     }
 }

@@ -7,6 +7,7 @@ use crate::row::Row;
 use crate::row_key::{IndexKey, RowKey, index_key};
 use kt_money::OutOfMemory;
 use kt_rec::{Occurrence, Perspective};
+use kt_stream::Pair;
 use std::alloc::{AllocError, Global};
 use std::collections::HashMap;
 use std::marker::Model;
@@ -84,6 +85,11 @@ impl Rows {
         self.samples
     }
 
+    /// Whether a record with these pairs begins rows with a place for each sample: where they are a quarter of the samples.
+    pub(crate) fn is_wide(&self, pairs: &[Pair]) -> bool {
+        pairs.len() >= self.samples as usize / 4
+    }
+
     /// Where a row stands.
     fn find(&self, key: RowKey) -> Option<usize>
         ensures value { result ≡ place_of key (row_keys self.now.rows) }
@@ -91,8 +97,8 @@ impl Rows {
         self.index.get(&index_key(key)).copied()
     }
 
-    /// Puts a row with no cells behind the others. An error is want of memory, and the rows are then as they were.
-    fn open(&mut self, key: RowKey) -> Result<usize, OutOfMemory>
+    /// Puts a row with no cells behind the others: one with a place for each sample, or one that lists its cells. An error is want of memory, and the rows are then as they were.
+    fn open(&mut self, key: RowKey, wide: bool) -> Result<usize, OutOfMemory>
         requires first { 1 ≤ key.period }
         requires last { key.period ≤ self.old.periods }
         requires absent { place_of key (row_keys self.old.rows) ≡ None }
@@ -102,7 +108,8 @@ impl Rows {
         ensures ok { IfOk result (λ place. place_of key (row_keys self.new.rows) ≡ Some place) }
     {
         let place = self.rows.len();
-        self.rows.push(Row::new(self.alloc, key))?;
+        let row = Row::new(self.alloc, key, self.samples, wide)?;
+        self.rows.push(row)?;
         match self.index.insert(index_key(key), place) {
             Ok(_) => return Ok(place),
             Err(_) => {}
@@ -112,7 +119,7 @@ impl Rows {
     }
 
     /// Where a row stands, which is put behind the others if it is not there. An error is want of memory.
-    fn row(&mut self, key: RowKey) -> Result<usize, OutOfMemory>
+    fn row(&mut self, key: RowKey, wide: bool) -> Result<usize, OutOfMemory>
         requires first { 1 ≤ key.period }
         requires last { key.period ≤ self.old.periods }
         ensures size { (self.new.periods ≡ self.old.periods) × (self.new.samples ≡ self.old.samples) }
@@ -122,18 +129,19 @@ impl Rows {
     {
         match self.find(key) {
             Some(place) => Ok(place),
-            None => self.open(key),
+            None => self.open(key, wide),
         }
     }
 
-    /// Where a summary's rows of the periods of the occurrences stand. Rows that are not there are put behind the others.
-    /// An error is want of memory.
+    /// Where a summary's rows of the periods of the occurrences stand. Rows that are not there are put behind the others,
+    /// with a place for each sample or with a list of cells. An error is want of memory.
     pub(crate) fn spots(
         &mut self,
         perspective: Perspective,
         set: u32,
         summary: u32,
         at: &[Occurrence],
+        wide: bool,
     ) -> Result<Vec<Spot>, OutOfMemory>
         requires periods { All (λ occurrence. (1 ≤ occurrence.period_no) × (occurrence.period_no ≤ self.old.periods)) at.now }
         ensures size { (self.new.periods ≡ self.old.periods) × (self.new.samples ≡ self.old.samples) }
@@ -144,12 +152,13 @@ impl Rows {
         let mut spots = Vec::new(self.alloc);
         for occurrence in at {
             let period = occurrence.period_no;
-            let row = self.row(RowKey {
+            let key = RowKey {
                 perspective,
                 set,
                 summary,
                 period,
-            })?;
+            };
+            let row = self.row(key, wide)?;
             spots.push(Spot { period, row })?;
         }
         Ok(spots)

@@ -49,8 +49,7 @@ impl Rows {
         ensures noted { (losses : List KeyLoss) → Standing losses (entries_of self.old.rows) → Noted losses (record { key = key; loss = loss }) result journal.old.items journal.new.items }
     {
         let sample = sample_of(&key);
-        let found = self.rows[row].find(sample);
-        let old = found.cell;
+        let old = self.rows[row].cell(sample);
         match refusal(self.held, old, key, loss) {
             Some(stop) => return Err(stop),
             None => {}
@@ -65,7 +64,7 @@ impl Rows {
             Ok(()) => {}
             Err(_) => return Err(CellStop::OutOfMemory),
         }
-        match self.rows[row].set(found.place, sample, raised(old, loss)) {
+        match self.rows[row].set(sample, raised(old, loss)) {
             Ok(()) => {
                 self.held = held_with(self.held, old);
                 return Ok(());

@@ -1,69 +1,90 @@
-//! The entries of a perspective and set, gathered from the rows and sorted.
+//! The rows of a perspective and set.
 //! The rules: docs/CALCULATION.md, "Periods".
-ghost use Rattle.std.specs.Prelude.{◌≡◌, ◌≤◌, ◌&&◌, ℕ, ◌++◌, IfOk, OnOk, nat_eq};
-ghost use Rattle.kt_curve.specs.RowCells.{RowFits};
-ghost use Rattle.kt_curve.specs.Rows.{row_entries, entries_of};
-ghost use Rattle.kt_curve.specs.Grid.{IsPart, HasSet, set_entries};
+ghost use Rattle.std.specs.Prelude.{◌≡◌, ◌++◌, ◌∷◌, [], IfOk, OnOk, if◌then◌else◌};
 ghost use Rattle.kt_curve.specs.Losses.{same_perspective};
+ghost use Rattle.kt_curve.specs.SummaryRows.{IsPart, IsSetOf, places_from, is_listed, summary_row};
 
 use super::Rows;
-use crate::cell::Cell;
+use crate::group::{Part, SummaryRow};
 use crate::row::Row;
-use crate::row_key::{RowKey, key_in};
+use kt_index::ByKey;
 use kt_money::OutOfMemory;
-use kt_rec::{CellKey, Perspective};
+use kt_rec::Perspective;
 
 impl Rows {
-    /// The entries of a perspective and set, row by row. An error is want of memory.
-    fn gathered(
-        &self,
-        perspective: Perspective,
-        set: u32,
-    ) -> Result<Vec<(CellKey, Cell)>, OutOfMemory>
-        ensures { IfOk result (λ found. found.items ≡ set_entries perspective set (entries_of self.now.rows)) }
+    /// The rows of a perspective and set that have cells, in their order. An error is want of memory.
+    fn gathered(&self, perspective: Perspective, set: u32) -> Result<Vec<SummaryRow>, OutOfMemory>
+        ensures { IfOk result (λ found. found.items ≡ places_from 0 perspective set self.now.rows) }
     {
         let mut found = Vec::new(self.alloc);
-        for row in &self.rows {
-            if is_in_set(row.key, perspective, set) {
-                append_row(&mut found, row)?;
-            }
+        for (place, row) in self.rows.iter().enumerate() {
+            push_row(&mut found, row, place, perspective, set)?;
         }
         Ok(found)
     }
 
-    /// The entries of a perspective and set, by rising key. An error is want of memory.
-    pub(crate) fn set_entries(
+    /// The rows of a perspective and set that have cells, by rising summary. An error is want of memory.
+    pub(crate) fn set_places(
         &self,
         perspective: Perspective,
         set: u32,
-    ) -> Result<Vec<(CellKey, Cell)>, OutOfMemory>
-        ensures part { IfOk result (λ found. IsPart perspective set self.now.periods self.now.samples found.items) }
-        ensures found { IfOk result (λ found. HasSet perspective set found.items (entries_of self.now.rows)) }
+    ) -> Result<ByKey<SummaryRow>, OutOfMemory>
+        ensures value { IfOk result (IsSetOf self.now perspective set) }
     {
         // The rows say that their keys differ.
         let _held = self.held;
-        let mut found = self.gathered(perspective, set)?;
-        found.sort_unstable_by_key(|entry| entry.0);
-        Ok(found)
+        let found = self.gathered(perspective, set)?;
+        ByKey::new(self.alloc, found.as_slice())
+    }
+
+    /// The rows of a perspective and set, as those of these rows.
+    pub(crate) fn part<'a>(
+        &'a self,
+        perspective: Perspective,
+        set: u32,
+        places: &'a ByKey<SummaryRow>,
+    ) -> Part<'a>
+        requires { IsSetOf self.now perspective set places.now }
+        ensures part { IsPart result }
+        ensures entries { (result.rows.now ≡ self.now.rows) × (result.places.now ≡ places.now) }
+        ensures of_set { (result.perspective ≡ perspective) × (result.set ≡ set) }
+        ensures size { (result.periods ≡ self.now.periods) × (result.samples ≡ self.now.samples) }
+    {
+        Part {
+            perspective,
+            set,
+            rows: self.rows.as_slice(),
+            places,
+            periods: self.periods,
+            samples: self.samples,
+        }
     }
 }
 
-/// Appends the entries of a row. An error is want of memory.
-fn append_row(found: &mut Vec<(CellKey, Cell)>, row: &Row) -> Result<(), OutOfMemory>
-    requires { (periods : ℕ) × (samples : ℕ) × (samples ≤ 1000) × RowFits periods samples row.now }
-    ensures ok { OnOk result (found.new.items ≡ found.old.items ++ row_entries row.now) }
+/// Appends the place of a row that is of a perspective and set and has cells. An error is want of memory.
+fn push_row(
+    found: &mut Vec<SummaryRow>,
+    row: &Row,
+    place: usize,
+    perspective: Perspective,
+    set: u32,
+) -> Result<(), OutOfMemory>
+    ensures ok { OnOk result (found.new.items ≡ found.old.items ++ (if is_listed perspective set row.now then summary_row row.now.key.summary place ∷ [] else [])) }
 {
-    for one in &row.cells {
-        found.push((key_in(row.key, one.0), one.1))?;
+    if is_listed(row, perspective, set) {
+        found.push(SummaryRow {
+            summary: row.key.summary,
+            row: place,
+        })?;
     }
     Ok(())
 }
 
-/// Whether a row is of a perspective and set.
-fn is_in_set(row: RowKey, perspective: Perspective, set: u32) -> bool
-    ensures value { result ≡ (same_perspective row.perspective perspective && nat_eq row.set set) }
+/// Whether a row is of a perspective and set and has cells.
+fn is_listed(row: &Row, perspective: Perspective, set: u32) -> bool
+    ensures value { result ≡ is_listed perspective set row.now }
 {
-    is_perspective(row.perspective, perspective) && row.set == set
+    is_perspective(row.key.perspective, perspective) && row.key.set == set && row.has_cells()
 }
 
 /// Whether two perspectives are the same.

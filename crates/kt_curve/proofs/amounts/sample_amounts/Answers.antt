@@ -1,10 +1,20 @@
--- All entries of a sample are of samples.
-use Rattle.std.proofs.Common.{false, ap, ◌∙◌}
-use Rattle.kt_curve.specs.Amounts.{amounts_of}
-use Rattle.kt_curve.specs.Grid.{of_kind}
-use Rattle.kt_curve.proofs.Periods.{amounts_sample}
-use Rattle.kt_curve.proofs.FirstGroup.{if_ok}
+-- The amounts of one row more.
+use Rattle.std.proofs.Common.{get_or}
+use Rattle.std.proofs.lemmas.List.{get_or_default}
+use Rattle.kt_curve.specs.declared.group.SummaryRow.{SummaryRow}
+use Rattle.kt_curve.specs.Amounts.{of_sample}
+use Rattle.kt_curve.proofs.RowAmounts.{amounts_more}
+use Rattle.std.proofs.lemmas.List.Elements.{All-weaker}
+use Rattle.kt_curve.specs.RowCells.{RowFits, IsRising, cells_of}
 use Rattle.kt_curve.proofs.amounts.sample_amounts.Goals as goal
 
-pub returns : goal.returns
-returns c = if_ok _ _ c.kind_amounts.result (λ found is. is ∙ (ap (amounts_of c.args.group.now.maxima (of_kind false)) c.sample_entries.ensures.value ∙ amounts_sample c.args.group.now.maxima c.args.sample c.args.group.now.entries.now)) c.kind_amounts.ensures
+-- no place
+abbrev none : SummaryRow
+none = record { summary = 0; row = 0 }
+
+pub loop-place-preserved : goal.loop-place-preserved
+loop-place-preserved c =
+    amounts_more c.args.group.now.maxima (of_sample c.args.sample) c.args.group.now.rows.now c.args.group.now.places.now c.loop-place.place-index (get_or c.args.group.now.places.now c.loop-place.place-index none) c.loop-place.found.items _ c.loop-place-test.true (get_or_default c.args.group.now.places.now c.loop-place.place-index none _ c.loop-place-test.true) c.loop-place.invariant c.in_ok-push_sample.ensures.ok
+
+pub push_sample-requires-clause-rising : goal.push_sample-requires-clause-rising
+push_sample-requires-clause-rising c = All-weaker (RowFits c.args.group.now.periods c.args.group.now.samples) (λ row. IsRising (cells_of row)) (λ row fits. fits.rising) c.args.group.now.rows.now c.requires.group.fits

@@ -1,11 +1,16 @@
 -- The rows of a set.
-use Rattle.kt_curve.proofs.Averages.{rows_of_standing, fresh_text}
+use Rattle.std.proofs.Common.{ap, ◌∙◌}
+use Rattle.kt_curve.specs.Losses.{all_losses}
+use Rattle.kt_curve.specs.Average.{average_annual_loss_rows}
+use Rattle.kt_curve.proofs.Averages.{fresh_text}
+use Rattle.kt_curve.proofs.SetTexts.{average_text}
 use Rattle.kt_curve.proofs.average.set_text.Goals as goal
-
-pub append_rows-requires : goal.append_rows-requires
-append_rows-requires c = record { part = rw (c.part-part.ensures.of_set.0, c.part-part.ensures.of_set.1, c.part-part.ensures.size.0, c.part-part.ensures.size.1, c.part-part.ensures.entries, c.as_slice.ensures.value) c.in_ok-entries.ensures.part }
 
 pub returns : goal.returns
 returns c = λ history stands.
-    let rows = rows_of_standing c.args.perspective c.args.set c.args.cells.now.periods c.args.cells.now.samples history c.args.cells.now.entries c.in_ok-entries.entries.items stands c.in_ok-entries.ensures.found in
-    fresh_text _ _ _ _ (rw (c.part-part.ensures.of_set.0, c.part-part.ensures.of_set.1, c.part-part.ensures.size.0, c.part-part.ensures.size.1, c.part-part.ensures.entries, c.as_slice.ensures.value) at c.in_ok-append_rows.ensures.ok) c.new-text.ensures.value rows
+    let part = c.part-part in
+    let text = average_text c.rows-rows.result.now c.args.perspective c.args.set c.in_ok-places.places part.result c.args.cells.now.entries c.in_ok-ids.ids.items history c.in_ok-places.ensures.value part.ensures.entries.0 part.ensures.entries.1 c.rows-rows.ensures.entries
+    part.ensures.of_set.0 part.ensures.of_set.1 c.in_ok-ids.ensures.rising c.in_ok-ids.ensures.members stands in
+    fresh_text _ _ _ _ (rw c.as_slice.ensures.value at c.in_ok-append_rows.ensures.ok) c.new-text.ensures.value
+    (text ∙ ap (λ n. average_annual_loss_rows c.args.perspective c.args.set n part.result.samples (all_losses history)) (part.ensures.size.0 ∙ c.rows-rows.ensures.size.0)
+    ∙ ap (λ n. average_annual_loss_rows c.args.perspective c.args.set c.args.cells.now.periods n (all_losses history)) (part.ensures.size.1 ∙ c.rows-rows.ensures.size.1))

@@ -2,6 +2,7 @@
 use Rattle.std.proofs.Common.{◌≡◌, ◌-◌, ℕ, List, map, length, ap, ◌∙◌, arith}
 use Rattle.std.specs.Prelude.{ℤ, pos, sum_by}
 use Rattle.std.specs.List.{range_with_len}
+use Rattle.kt_curve.specs.SummaryRows.{group_entries}
 use Rattle.kt_curve.specs.Standing.{most_total}
 use Rattle.kt_curve.specs.Amounts.{amount_at, amounts_of, of_sample}
 use Rattle.kt_curve.specs.Exceedance.{ranked_loss, sidx_values}
@@ -11,27 +12,27 @@ use Rattle.kt_curve.proofs.mean_curves.add_samples.Goals as goal
 
 pub add_ranked-requires-clause-few : goal.add_ranked-requires-clause-few
 add_ranked-requires-clause-few c =
-    let few = sample_few c.args.group.now.perspective c.args.group.now.set c.args.group.now.periods c.args.group.now.samples c.args.group.now.summary c.args.group.now.entries.now c.args.group.now.maxima c.loop-sample.sample c.requires.group in
-    let taken : length c.as_mut_slice.result.now ≡ length (amounts_of c.args.group.now.maxima (of_sample c.loop-sample.sample) c.args.group.now.entries.now) = ap length (c.as_mut_slice.ensures.value ∙ c.in_ok-values.ensures) in
+    let few = sample_few c.args.group.now.perspective c.args.group.now.set c.args.group.now.periods c.args.group.now.samples c.args.group.now.summary (group_entries c.args.group.now) c.args.group.now.maxima c.loop-sample.sample c.requires.group.cells in
+    let taken : length c.as_mut_slice.result.now ≡ length (amounts_of c.args.group.now.maxima (of_sample c.loop-sample.sample) (group_entries c.args.group.now)) = ap length (c.as_mut_slice.ensures.value ∙ c.in_ok-values.ensures) in
     omega (arith, few, taken, c.loop-sample.invariant.len)
 
 pub add_ranked-requires-clause-most : goal.add_ranked-requires-clause-most
 add_ranked-requires-clause-most c =
-    rw (c.as_mut_slice.ensures.value, c.in_ok-values.ensures) (amounts_most c.args.group.now.perspective c.args.group.now.set _ _ _ _ c.args.group.now.maxima (of_sample c.loop-sample.sample) c.requires.group)
+    rw (c.as_mut_slice.ensures.value, c.in_ok-values.ensures) (amounts_most c.args.group.now.perspective c.args.group.now.set _ _ _ _ c.args.group.now.maxima (of_sample c.loop-sample.sample) c.requires.group.cells)
 
 pub loop-sample-preserved : goal.loop-sample-preserved
 loop-sample-preserved c = record {
   len = c.add_ranked.ensures.len ∙ c.loop-sample.invariant.len;
   most = λ place. bound_more most_total c.loop-sample.sample _ _ c.loop-sample.auto.sample (c.loop-sample.invariant.most place) (c.add_ranked.ensures.most place);
   sums = λ place.
-      let whole : ℤ → List ℕ = sidx_values c.args.group.now.perspective c.args.group.now.set c.args.group.now.periods (amount_at c.args.group.now.maxima c.args.group.now.entries.now) c.args.group.now.summary in
-      let ranks = ranks_of_sample c.args.group.now.perspective c.args.group.now.set c.args.group.now.periods c.args.group.now.samples c.args.group.now.summary c.args.group.now.entries.now c.args.group.now.maxima c.loop-sample.sample c.requires.group in
-      let taken = ranks_of_equal c.as_mut_slice.result.now (amounts_of c.args.group.now.maxima (of_sample c.loop-sample.sample) c.args.group.now.entries.now) (whole (pos c.loop-sample.sample)) (c.as_mut_slice.ensures.value ∙ c.in_ok-values.ensures) ranks in
+      let whole : ℤ → List ℕ = sidx_values c.args.group.now.perspective c.args.group.now.set c.args.group.now.periods (amount_at c.args.group.now.maxima (group_entries c.args.group.now)) c.args.group.now.summary in
+      let ranks = ranks_of_sample c.args.group.now.perspective c.args.group.now.set c.args.group.now.periods c.args.group.now.samples c.args.group.now.summary (group_entries c.args.group.now) c.args.group.now.maxima c.loop-sample.sample c.requires.group.cells in
+      let taken = ranks_of_equal c.as_mut_slice.result.now (amounts_of c.args.group.now.maxima (of_sample c.loop-sample.sample) (group_entries c.args.group.now)) (whole (pos c.loop-sample.sample)) (c.as_mut_slice.ensures.value ∙ c.in_ok-values.ensures) ranks in
       sample_more (λ sidx. ranked_loss (whole sidx) place) c.loop-sample.sample _ _ c.loop-sample.auto.sample (c.loop-sample.invariant.sums place) (c.add_ranked.ensures.sums (whole (pos c.loop-sample.sample)) taken place);
 }
 
 pub returns-clause-sums : goal.returns-clause-sums
 returns-clause-sums c = λ place.
-    let all : c.loop-sample.sample - 1 ≡ c.args.group.now.samples = omega (arith, c.requires.group.some_samples, c.loop-sample.auto.sample-end (omega arith), c.loop-sample-test.false) in
+    let all : c.loop-sample.sample - 1 ≡ c.args.group.now.samples = omega (arith, c.requires.group.cells.some_samples, c.loop-sample.auto.sample-end (omega arith), c.loop-sample-test.false) in
     c.loop-sample.invariant.sums place
-    ∙ ap (λ k. sum_by (λ sidx. ranked_loss (sidx_values c.args.group.now.perspective c.args.group.now.set c.args.group.now.periods (amount_at c.args.group.now.maxima c.args.group.now.entries.now) c.args.group.now.summary sidx) place) (map pos (range_with_len 1 k))) all
+    ∙ ap (λ k. sum_by (λ sidx. ranked_loss (sidx_values c.args.group.now.perspective c.args.group.now.set c.args.group.now.periods (amount_at c.args.group.now.maxima (group_entries c.args.group.now)) c.args.group.now.summary sidx) place) (map pos (range_with_len 1 k))) all

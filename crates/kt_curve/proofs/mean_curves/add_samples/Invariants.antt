@@ -2,6 +2,7 @@
 use Rattle.std.proofs.Common.{◌≡◌, ◌-◌, ◌*◌, ◌≤◌, ℕ, length, map, slice_index}
 use Rattle.std.specs.Prelude.{pos, sum_by}
 use Rattle.std.specs.List.{range_with_len}
+use Rattle.kt_curve.specs.SummaryRows.{group_entries}
 use Rattle.kt_curve.specs.Standing.{most_total}
 use Rattle.kt_curve.specs.Amounts.{amount_at}
 use Rattle.kt_curve.specs.Exceedance.{ranked_loss, sidx_values}
@@ -12,5 +13,5 @@ invariant-loop-sample l = record {
   len : length l.sums ≡ l.group.periods;
   most : (place : ℕ) → slice_index l.sums place ≤ (l.sample - 1) * most_total;
   sums : (place : ℕ) →
-      slice_index l.sums place ≡ sum_by (λ sidx. ranked_loss (sidx_values l.group.perspective l.group.set l.group.periods (amount_at l.group.maxima l.group.entries.now) l.group.summary sidx) place) (map pos (range_with_len 1 (l.sample - 1)));
+      slice_index l.sums place ≡ sum_by (λ sidx. ranked_loss (sidx_values l.group.perspective l.group.set l.group.periods (amount_at l.group.maxima (group_entries l.group)) l.group.summary sidx) place) (map pos (range_with_len 1 (l.sample - 1)));
 }

@@ -1,17 +1,10 @@
--- A cell in the place of another, or in its gap.
-use Rattle.std.proofs.Common.{refl}
-use Rattle.kt_curve.proofs.RowEdits.{changes_set, changes_insert, on_err}
-use Rattle.kt_curve.proofs.RowCells.{cell_in_gap}
+-- A cell in its place.
+use Rattle.std.proofs.Common.{◌≤◌, arith, refl, sym, length}
+use Rattle.std.proofs.lemmas.Bool.Decides.{nat_tests}
+use Rattle.kt_curve.proofs.PlacedCells.{changes_place, some_cell_is, has_place}
 use Rattle.kt_curve.proofs.row.Row.set.Goals as goal
 
-pub returns-in_err-insert-in-Err-clause-err : goal.returns-in_err-insert-in-Err-clause-err
-returns-in_err-insert-in-Err-clause-err c = let gap = rw c.in-Err.is at c.requires.absent in
-    on_err c.from_residual.result (refl, c.in_err-insert-in-Err.ensures.items, cell_in_gap c.args.self.now.cells.items c.requires.rising c.args.sample c.in-Err.at gap)
-
-pub returns-in-Ok-clause-ok : goal.returns-in-Ok-clause-ok
-returns-in-Ok-clause-ok c = let at = rw c.in-Ok.is at c.requires.found in
-    changes_set _ _ _ c.in-Ok.at _ c.requires.rising at refl refl
-
-pub returns-in_ok-insert-in-Err-clause-ok : goal.returns-in_ok-insert-in-Err-clause-ok
-returns-in_ok-insert-in-Err-clause-ok c = let gap = rw c.in-Err.is at c.requires.absent in
-    changes_insert _ _ _ c.in-Err.at _ c.requires.rising gap refl c.in_ok-insert-in-Err.ensures.items
+pub returns-clause-ok : goal.returns-clause-ok
+returns-clause-ok c =
+    let some : 1 ≤ length c.args.self.now.places.items = grind (arith, nat_tests, c.if-is_empty.false, c.is_empty.ensures, c.args.self.now.places.ok.0) in
+    changes_place c.args.self.now _ c.args.sample c.args.cell _ (has_place c.args.sample c.args.self.now.places.items some c.requires.place) refl refl (sym (some_cell_is c.args.cell c.requires.some))

@@ -1,0 +1,45 @@
+-- The sums of one row more.
+use Rattle.std.proofs.Common.{◌+◌, ◌*◌, ◌≤◌, ℕ, get_or, arith, ap, ◌∙◌, sym}
+use Rattle.std.specs.Prelude.{sum}
+use Rattle.std.proofs.lemmas.List.{get_or_default}
+use Rattle.std.proofs.lemmas.List.Elements.{All-weaker}
+use Rattle.kt_curve.specs.declared.group.SummaryRow.{SummaryRow}
+use Rattle.kt_curve.specs.declared.row.Row.{Row}
+use Rattle.kt_curve.specs.Amounts.{amounts_of, of_period}
+use Rattle.kt_curve.specs.RowCells.{RowFits}
+use Rattle.kt_curve.specs.SummaryRows.{group_entries, entries_in, row_at}
+use Rattle.kt_curve.specs.Standing.{most_total}
+use Rattle.kt_curve.proofs.Means.{period_most}
+use Rattle.kt_curve.proofs.RowAmounts.{sum_more, sum_part}
+use Rattle.kt_curve.proofs.amounts.add_periods.Goals as goal
+
+-- no place
+abbrev none : SummaryRow
+none = record { summary = 0; row = 0 }
+
+-- a sum within its bound
+small : (a samples : ℕ) → samples ≤ 1000 → a ≤ samples * most_total → a ≤ 1000 * most_total
+small a samples few low = omega (arith, few, low)
+
+pub add_period-requires-clause-periods : goal.add_period-requires-clause-periods
+add_period-requires-clause-periods c =
+    rw c.loop-place.invariant.len (All-weaker (RowFits c.args.group.now.periods c.args.group.now.samples) (λ (row : Row). (1 ≤ row.key.period) × (row.key.period ≤ c.args.group.now.periods)) (λ row fits. (fits.first, fits.last)) c.args.group.now.rows.now c.requires.group.fits)
+
+pub add_period-requires-clause-room : goal.add_period-requires-clause-room
+add_period-requires-clause-room c = λ period.
+    let group = c.args.group.now in
+    let test = of_period (period + 1) in
+    let more = sum_more group.maxima test group.rows.now group.places.now c.loop-place.place-index (get_or group.places.now c.loop-place.place-index none) c.loop-place-test.true (get_or_default group.places.now c.loop-place.place-index none _ c.loop-place-test.true) in
+    let part = sum_part group.maxima test group.rows.now group.places.now (c.loop-place.place-index + 1) in
+    let whole = small _ group.samples c.requires.group.cells.few_samples (period_most group.perspective group.set group.periods group.samples group.summary (group_entries group) group.maxima (period + 1) c.requires.group.cells) in
+    omega (arith, c.loop-place.invariant.sums period, more, part, whole)
+
+pub loop-place-preserved : goal.loop-place-preserved
+loop-place-preserved c =
+    let group = c.args.group.now in
+    record {
+      len = c.in_ok-add_period.ensures.len ∙ c.loop-place.invariant.len;
+      sums = λ period.
+          let more = sum_more group.maxima (of_period (period + 1)) group.rows.now group.places.now c.loop-place.place-index (get_or group.places.now c.loop-place.place-index none) c.loop-place-test.true (get_or_default group.places.now c.loop-place.place-index none _ c.loop-place-test.true) in
+          c.in_ok-add_period.ensures.sums period ∙ ap (λ n. n + sum (amounts_of group.maxima (of_period (period + 1)) (entries_in (row_at group.rows.now (get_or group.places.now c.loop-place.place-index none).row)))) (c.loop-place.invariant.sums period) ∙ sym more;
+    }
