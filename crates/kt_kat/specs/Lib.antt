@@ -5,3 +5,5 @@ pub mod Stage
 pub mod FileKinds
 pub mod Outcome
 pub mod Examples
+pub mod StreamFiles
+pub mod StreamsJoined

@@ -5,6 +5,7 @@ mod each_file;
 mod file_step;
 mod front;
 mod kinds;
+pub mod laws;
 mod plain;
 mod sizes;
 mod streams;

@@ -9,7 +9,7 @@ use Rattle.kt_loop.specs.Carrying.{carried, header_if}
 use Rattle.kt_loop.specs.Contents.{Contents, Grows}
 use Rattle.kt_stream.specs.declared.stop.StreamStop.{StreamStop}
 use Rattle.kt_loop.specs.Reading.{AreGood, IsRead, FeedsBy}
-use Rattle.kt_loop.proofs.Courses.{took_joined, took_longer}
+use Rattle.kt_loop.specs.Courses.{took_joined, took_longer}
 use Rattle.kt_loop.proofs.Taking.{stays_refused}
 
 -- a header and records, and what is read later of the same stream

@@ -1,4 +1,3 @@
-pub mod Courses
 pub mod Giving
 pub mod Stepping
 pub mod Taking
@@ -7,10 +6,8 @@ pub mod Settling
 pub mod Going
 pub mod Ending
 pub mod Rows
-pub mod RunsGiven
 pub mod Joining
 pub mod RunStepping
-pub mod Splitting
 pub mod RecordReading
 pub mod RecordsGood
 pub mod RunLists

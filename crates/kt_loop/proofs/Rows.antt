@@ -7,7 +7,7 @@ use Rattle.kt_loop.specs.ByRecord.{by_record, table_of}
 use Rattle.kt_loop.specs.Calculation.{Course, ending}
 use Rattle.kt_loop.specs.Contents.{Contents}
 use Rattle.kt_loop.specs.Outcome.{gives, stream_status, ended_by, outcome}
-use Rattle.kt_loop.proofs.Courses.{record_rows}
+use Rattle.kt_loop.specs.Courses.{record_rows}
 
 module _ {H E S : Type 0} (heading : S → H → List ℕ) (rows : S → H → E → List ℕ) (state : S) where
   nothing_behind : (head : Option H) (text : List ℕ) → text ++ ending (by_record {R = Refusal} heading rows) head state ≡ text

@@ -9,7 +9,7 @@ use Rattle.kt_loop.specs.Calculation.{Calculation, Course, opened, took, took_al
 use Rattle.kt_loop.specs.Carrying.{carried}
 use Rattle.kt_loop.specs.Contents.{Contents}
 use Rattle.kt_loop.specs.Steps.{Stands, Refuses, Comes}
-use Rattle.kt_loop.proofs.Courses.{took_refused, took_longer}
+use Rattle.kt_loop.specs.Courses.{took_refused, took_longer}
 use Rattle.kt_loop.proofs.Giving.{front_longer}
 
 module _ {H E S : Type 0} (calculation : Calculation H E S Refusal) (head : H) where

@@ -15,3 +15,10 @@ pub mod RunSteps
 pub mod RecordStreams
 pub mod KnownStreams
 pub mod InputFile
+pub mod Courses
+pub mod RunsGiven
+pub mod Splitting
+pub mod EventRuns
+pub mod ListLaws
+pub mod EventsGiven
+pub mod EventStreams

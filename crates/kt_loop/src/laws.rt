@@ -1,6 +1,7 @@
 //! What calculations over streams write: theorems, as functions with an empty body.
 //! The rules: docs/STREAMS.md, "Tools over streams".
-ghost use Rattle.std.specs.Prelude.{◌≡◌, ℕ, List, [], ◌++◌, Option, Some};
+ghost use Rattle.std.specs.Prelude.{◌≡◌, ℕ, nat_eq, List, [], ◌++◌, Option, Some};
+ghost use Rattle.std.specs.List.{AllByRecursion, IsDistinct, flat_map};
 ghost use Rattle.kt_stream.specs.declared.entry.Placed.{Placed};
 ghost use Rattle.kt_stream.specs.declared.stop.StreamStop.{StreamStop};
 ghost use Rattle.kt_ends.specs.declared.status.Refusal.{Refusal};
@@ -10,6 +11,10 @@ ghost use Rattle.kt_loop.specs.Contents.{Contents};
 ghost use Rattle.kt_loop.specs.Outcome.{gives, stream_status, outcome};
 ghost use Rattle.kt_loop.specs.Runs.{AreRuns, ShareNoEvent, given_by_runs, runs_of};
 ghost use Rattle.kt_loop.specs.ByRecord.{by_record, table_of};
+ghost use Rattle.kt_loop.specs.EventRuns.{IsTaken, event_text, whole_outcome};
+ghost use Rattle.kt_stream.specs.Grammar.{placed_from};
+ghost use Rattle.kt_stream.specs.Stream.{Form};
+ghost use Rattle.kt_ends.specs.declared.status.Status.TheVariants.{Done};
 ghost use Rattle.kt_stream.specs.declared.kind.Head.{Head};
 ghost use Rattle.kt_stream.specs.Header.{IsHead};
 ghost use Rattle.kt_stream.specs.Reader.{Reading, IsPlaced};
@@ -35,6 +40,13 @@ pub fn runs_give_their_text<H, E, P>()
 /// What lists of records that share no event give run by run is what the one gives and then what the other gives.
 pub fn joined_records_give_one_after_the_other<E>()
     ensures { (key : E → RunKey) (closes : List E → List ℕ) (first : List (Placed E)) (second : List (Placed E)) → ShareNoEvent key first second → given_by_runs key closes (first ++ second) ≡ given_by_runs key closes first ++ given_by_runs key closes second }
+{}
+
+/// Over the records of events of which no two are the same, and of which each has one run or none, a calculation run by run
+/// that refuses no record of them writes what stands at its header, and then, event after event, what the records of the event
+/// give: nothing where there are none. So a list of events cut into parts gives, part after part, what the whole list gives.
+pub fn events_give_one_after_the_other<E>()
+    ensures { (key : E → RunKey) (refuses : List (Placed E) → Placed E → Option Refusal) (closes : List E → List ℕ) (form : Form E) (opening : List ℕ) (of : ℕ → List E) (events : List ℕ) (at : ℕ) → IsDistinct nat_eq events → AllByRecursion (IsTaken key refuses of) events → whole_outcome key refuses closes opening (placed_from form at (flat_map of events)) ≡ gives Done (opening ++ flat_map (λ event. event_text closes (of event)) events) }
 {}
 
 /// Whatever a reader of records reads is in its ranges: what a stage needs to take it.

@@ -1,4 +1,4 @@
-use Rattle.kt_loop.proofs.Splitting.{given_joined}
+use Rattle.kt_loop.specs.Splitting.{given_joined}
 use Rattle.kt_loop.proofs.laws.joined_records_give_one_after_the_other.Goals as goal
 
 pub returns : goal.returns

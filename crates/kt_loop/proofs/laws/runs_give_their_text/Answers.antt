@@ -1,4 +1,4 @@
-use Rattle.kt_loop.proofs.RunsGiven.{outcome_runs}
+use Rattle.kt_loop.specs.RunsGiven.{outcome_runs}
 use Rattle.kt_loop.proofs.laws.runs_give_their_text.Goals as goal
 
 pub returns : goal.returns

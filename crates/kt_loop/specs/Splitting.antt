@@ -1,4 +1,5 @@
--- The runs of lists of records that stand one after the other.
+-- The runs of lists of records that stand one after the other: lemmas.
+-- The rules: docs/STREAMS.md, "Runs".
 use Rattle.std.proofs.Common.{◌≡◌, ℕ, Bool, true, false, nat_eq, ◌&&◌, List, [], ◌∷◌, ◌++◌, refl, sym, ap, ◌∙◌, append_assoc, append-nil}
 use Rattle.std.specs.List.{flat_map}
 use Rattle.std.proofs.lemmas.Grind.{flat_map-append}
@@ -12,7 +13,7 @@ module _ {E : Type 0} (key : E → RunKey) where
   and_false : (a b : Bool) → a ≡ false → (a && b) ≡ false
   and_false a b is = ap (λ (x : Bool). x && b) is
 
-  other_joins : (run : List (Placed E)) (next : Placed E) → OtherEvents key run next → joins key run next ≡ false
+  pub other_joins : (run : List (Placed E)) (next : Placed E) → OtherEvents key run next → joins key run next ≡ false
   other_joins [] next other = refl
   other_joins (last ∷ []) next other = and_false _ _ other.0
   other_joins (first ∷ (second ∷ later)) next other = other_joins (second ∷ later) next other.1
@@ -38,7 +39,7 @@ module _ {E : Type 0} (key : E → RunKey) where
   with_behind front closed [] = refl
   with_behind front closed (first ∷ later) = append_assoc front closed ((first ∷ later) ∷ [])
 
-  abbrev read_so : List (List (Placed E)) → List (Placed E) → RunsRead E
+  abbrev pub read_so : List (List (Placed E)) → List (Placed E) → RunsRead E
   read_so closed last = record { closed = closed; last = last }
 
   more_behind : (joined : Bool) (front : List (List (Placed E))) (runs : RunsRead E) (next : Placed E) → run_more joined (behind_runs front runs) next ≡ behind_runs front (run_more joined runs next)
@@ -53,7 +54,7 @@ module _ {E : Type 0} (key : E → RunKey) where
   read_joined runs [] ys = refl
   read_joined runs (x ∷ xs) ys = read_joined (read_more key runs x) xs ys
 
-  abbrev all_runs : RunsRead E → List (List (Placed E))
+  abbrev pub all_runs : RunsRead E → List (List (Placed E))
   all_runs runs = with_run runs.closed runs.last
 
   -- the next list begins with a new run

@@ -1,4 +1,5 @@
--- The outcome of a calculation run by run.
+-- The outcome of a calculation run by run: lemmas.
+-- The rules: docs/STREAMS.md, "Runs".
 use Rattle.std.proofs.Common.{◌≡◌, ℕ, Bool, true, false, List, [], ◌∷◌, ◌++◌, Option, Some, None, Result, Ok, Err, refl, sym, ap, ◌∙◌, append_assoc, append-nil}
 use Rattle.std.specs.List.{flat_map}
 use Rattle.std.proofs.lemmas.Grind.{flat_map-append}
@@ -12,7 +13,7 @@ use Rattle.kt_loop.specs.ByRun.{RunCalculation, OpenRun, opened_run, judged, giv
 use Rattle.kt_loop.specs.Calculation.{Course, behind, took_all}
 use Rattle.kt_loop.specs.Outcome.{gives, ended_by, outcome}
 use Rattle.kt_loop.specs.Runs.{RunsRead, no_runs, with_run, joins, run_more, read_more}
-use Rattle.kt_loop.proofs.Courses.{took_refused}
+use Rattle.kt_loop.specs.Courses.{took_refused}
 
 module _ {H E P : Type 0} (key : E → RunKey) (runs : RunCalculation H E P Refusal) (head : H) (kept : P) where
   -- what closed runs give, with one more of them

@@ -1,4 +1,5 @@
--- Courses of calculations: more records, a refusal, and the text so far.
+-- Courses of calculations: more records, a refusal, and the text so far: lemmas.
+-- The rules: docs/STREAMS.md, "Tools over streams".
 use Rattle.std.proofs.Common.{◌≡◌, ℕ, List, [], ◌∷◌, ◌++◌, Option, Some, None, Result, Ok, Err, refl, sym, ap, ◌∙◌, append_assoc}
 use Rattle.std.proofs.lemmas.List.{append-nil}
 use Rattle.std.specs.List.{flat_map}
