@@ -1,6 +1,5 @@
 //! What a worker does: it claims numbers, makes their blocks and sends them, until a number that it draws is none of the round.
 ghost use Rattle.std.specs.Prelude.{◌≤◌, ◌<◌, All, IfSome, length};
-ghost use Rattle.std.specs.Thread.{IsSync, IsSend};
 ghost use Rattle.kt_part.specs.Lanes.{HasWorked, HaveWorked, IsReady};
 
 use crate::inbox::{Arm, Item};

@@ -1,6 +1,6 @@
 //! After the workers have ended: their passes are joined, their lanes are drained, and their blocks are folded in the order of their
 //! numbers.
-ghost use Rattle.std.specs.Prelude.{◌<◌, ◌≤◌, ◌≡◌, ℕ, List, []};
+ghost use Rattle.std.specs.Prelude.{◌<◌, ◌≤◌, ℕ, List};
 ghost use Rattle.kt_part.specs.Claimed.{HasClaimed};
 ghost use Rattle.kt_part.specs.Folding.{RoundEnds};
 ghost use Rattle.kt_part.specs.Gathering.{AreGathered, AreHeld};

@@ -1,5 +1,5 @@
 //! The lanes of a round: a ring for each worker, with the worker's pass beside the end into which it sends.
-ghost use Rattle.std.specs.Prelude.{◌≡◌, ◌+◌, ◌*◌, ◌≤◌, [], IfOk, OnOk};
+ghost use Rattle.std.specs.Prelude.{◌≡◌, ◌+◌, ◌≤◌, [], IfOk, OnOk};
 ghost use Rattle.rtrb.specs.Ring.{received, IsPair};
 ghost use Rattle.kt_part.specs.Lanes.{AreLanes, IsReady};
 ghost use Rattle.kt_part.specs.Passes.{IsFresh, IsGivenOut, IsPassOf, claims_of, left_of, workers_of};

@@ -21,7 +21,7 @@ pub struct Pass {
 }
 
 impl Claims {
-    ghost use Rattle.std.specs.Prelude.{◌≡◌, ◌+◌, ◌*◌, ◌<◌, ◌≤◌, ◌-◌, ◌++◌, [], IfOk, length};
+    ghost use Rattle.std.specs.Prelude.{◌≡◌, ◌+◌, ◌*◌, ◌<◌, ◌≤◌, ◌++◌, [], IfOk, length};
     ghost use Rattle.kt_part.specs.Numbers.{AreFirst};
     ghost use Rattle.kt_part.specs.Passes.{HasDrawn, IsFresh, IsPassOf, claims_of, left_of, workers_of};
     ghost use Rattle.kt_part.specs.Dealing.{Drawn};
