@@ -18,6 +18,7 @@ pub mod Parts
 pub mod SetEntries
 pub mod SetRows
 pub mod RowAmounts
+pub mod RoomLemmas
 pub mod IdLists
 pub mod Ids
 pub mod Averages

@@ -39,6 +39,11 @@ pub record Going (before done : List KeyLoss) (changes : List Change) (entries :
   pub noted : noted_losses changes ≡ done
   pub recalls : Recalls before changes
 
+-- the cells after some losses of a record: they stand for them, and none is refused
+pub record Clear (before done : List KeyLoss) (entries : List (CellKey × Cell)) : Type 0 where
+  pub stands : Standing (before ++ done) entries
+  pub clear : first_stop before done ≡ None
+
 -- changes that can be taken back
 pub record Returns (before : List KeyLoss) (changes : List Change) (entries : List (CellKey × Cell)) : Type 0 where
   pub stands : Standing (before ++ noted_losses changes) entries

@@ -7,6 +7,7 @@ pub mod Grid
 pub mod Average
 pub mod Amounts
 pub mod SummaryRows
+pub mod Room
 pub mod Ranks
 pub mod Exceedance
 pub mod Examples

@@ -70,18 +70,17 @@ impl Cells {
             Ok(spots) => spots,
             Err(_) => return Err(CellStop::OutOfMemory),
         };
+        let struck = spots.as_slice();
+        if self.rows.has_room(pairs, struck) {
+            self.rows.add_within(pairs, struck);
+            return Ok(());
+        }
+        // Some loss may pass a limit: the losses are noted, so that they can be taken back.
         let mut journal = match Vec::with_capacity(self.rows.alloc(), pairs.len()) {
             Ok(journal) => journal,
             Err(_) => return Err(CellStop::OutOfMemory),
         };
-        match self.rows.add_pairs(
-            perspective,
-            set,
-            entry.summary,
-            pairs,
-            spots.as_slice(),
-            &mut journal,
-        ) {
+        match self.rows.add_pairs(perspective, set, entry.summary, pairs, struck, &mut journal) {
             Ok(()) => Ok(()),
             Err(stop) => {
                 self.rows.take_all_back(journal);

@@ -8,10 +8,10 @@ use crate::cell::{Cell, CellStop};
 use kt_rec::CellKey;
 
 /// The most cells.
-const MOST_CELLS: usize = 20_000_000;
+pub(crate) const MOST_CELLS: usize = 20_000_000;
 
 /// The greatest total of a key, in cents.
-const MOST_TOTAL: u64 = 1_000_000_000_000_000;
+pub(crate) const MOST_TOTAL: u64 = 1_000_000_000_000_000;
 
 /// Why so many cells, among them this one of the key, refuse a loss.
 pub(crate) fn refusal(held: usize, old: Option<Cell>, key: CellKey, loss: u64) -> Option<CellStop>

@@ -10,6 +10,7 @@ use std::alloc::Global;
 
 mod amounts;
 mod listed;
+mod room;
 
 pub(crate) use amounts::amount;
 use listed::{listed_cell, place};

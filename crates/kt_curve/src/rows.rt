@@ -14,6 +14,7 @@ use std::marker::Model;
 
 mod adding;
 mod gathering;
+mod within;
 
 /// The cells of all keys, in rows: a row has those of one summary in one period.
 #[derive(Drop)]
@@ -69,20 +70,6 @@ impl Rows {
     /// Where memory is taken from.
     pub(crate) fn alloc(&self) -> Global {
         self.alloc
-    }
-
-    /// The number of periods.
-    pub(crate) fn periods(&self) -> u32
-        ensures value { result ≡ self.now.periods }
-    {
-        self.periods
-    }
-
-    /// The number of samples.
-    pub(crate) fn samples(&self) -> u32
-        ensures value { result ≡ self.now.samples }
-    {
-        self.samples
     }
 
     /// Whether a record with these pairs begins rows with a place for each sample: where they are a quarter of the samples.

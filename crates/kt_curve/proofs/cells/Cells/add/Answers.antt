@@ -16,7 +16,7 @@ returns-in-Ok-add_pairs-clause-added c = λ history stands.
     let begins : Standing (all_losses history) (entries_of c.spots.new.self.rows) = rw c.in-Ok.ensures.entries here in
     let same : flat_map (spot_losses c.args.perspective c.args.set c.args.entry.now.summary c.in-Ok.spots.items) c.args.entry.now.pairs ≡ flat_map (pair_losses c.args.perspective c.args.set c.args.entry.now.summary c.args.at.now) c.args.entry.now.pairs =
     losses_same c.args.perspective c.args.set c.args.entry.now.summary c.args.entry.now.pairs c.in-Ok.spots.items c.args.at.now c.in-Ok.ensures.periods in
-    let goes = rw (c.as_slice-pairs.ensures.value, c.as_slice.ensures.value, same) at (c.in-Ok-add_pairs.ensures.step (all_losses history) begins) in
+    let goes = rw (c.as_slice-pairs.ensures.value, c.as_slice-struck.ensures.value, same) at (c.in-Ok-add_pairs.ensures.step (all_losses history) begins) in
     (goes.clear, rw (all_losses_push history (record { perspective = c.args.perspective; set = c.args.set; entry = c.args.entry.now; at = c.args.at.now })) goes.stands)
 
 pub returns-clause-added : goal.returns-clause-added
@@ -25,8 +25,17 @@ returns-clause-added c = λ history stands.
     let begins : Standing (all_losses history) (entries_of c.spots.new.self.rows) = rw c.in-Ok.ensures.entries here in
     let same : flat_map (spot_losses c.args.perspective c.args.set c.args.entry.now.summary c.in-Ok.spots.items) c.args.entry.now.pairs ≡ flat_map (pair_losses c.args.perspective c.args.set c.args.entry.now.summary c.args.at.now) c.args.entry.now.pairs =
     losses_same c.args.perspective c.args.set c.args.entry.now.summary c.args.entry.now.pairs c.in-Ok.spots.items c.args.at.now c.in-Ok.ensures.periods in
-    let goes = rw (c.as_slice-pairs.ensures.value, c.as_slice.ensures.value, same) at (c.in-Err-add_pairs.ensures.step (all_losses history) begins) in
+    let goes = rw (c.as_slice-pairs.ensures.value, c.as_slice-struck.ensures.value, same) at (c.in-Err-add_pairs.ensures.step (all_losses history) begins) in
     (goes.0, c.take_all_back.ensures.returned (all_losses history) goes.1)
+
+pub returns-then-has_room-clause-added : goal.returns-then-has_room-clause-added
+returns-then-has_room-clause-added c = λ history stands.
+    let here = rw (← c.self.view_is) at stands in
+    let begins : Standing (all_losses history) (entries_of c.spots.new.self.rows) = rw c.in-Ok.ensures.entries here in
+    let same : flat_map (spot_losses c.args.perspective c.args.set c.args.entry.now.summary c.in-Ok.spots.items) c.args.entry.now.pairs ≡ flat_map (pair_losses c.args.perspective c.args.set c.args.entry.now.summary c.args.at.now) c.args.entry.now.pairs =
+    losses_same c.args.perspective c.args.set c.args.entry.now.summary c.args.entry.now.pairs c.in-Ok.spots.items c.args.at.now c.in-Ok.ensures.periods in
+    let clear = rw (c.as_slice-pairs.ensures.value, c.as_slice-struck.ensures.value, same) at (c.add_within.ensures.step c.args.perspective c.args.set c.args.entry.now.summary (all_losses history) (rw c.as_slice-struck.ensures.value c.in-Ok.ensures.spots) begins) in
+    (clear.clear, rw (all_losses_push history (record { perspective = c.args.perspective; set = c.args.set; entry = c.args.entry.now; at = c.args.at.now })) clear.stands)
 
 pub returns-then-not-adds_any-clause-added : goal.returns-then-not-adds_any-clause-added
 returns-then-not-adds_any-clause-added c = λ history stands.
