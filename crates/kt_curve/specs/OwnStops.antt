@@ -13,7 +13,7 @@ use Rattle.kt_curve.specs.declared.cell.CellStop.{CellStop}
 use Rattle.kt_curve.specs.declared.cell.CellStop.TheVariants as cell_stop
 
 -- where neither of two causes stops, none does
-or_none : (first second : Option CellStop) → or_else first second ≡ None → (first ≡ None) × (second ≡ None)
+pub or_none : (first second : Option CellStop) → or_else first second ≡ None → (first ≡ None) × (second ≡ None)
 or_none None second none = (refl, none)
 or_none (Some stop) second none = cc
 
