@@ -18,5 +18,5 @@ mod work;
 
 pub use fold::Fold;
 pub use reorder::Reorder;
-pub use round::{RoundStop, fold_blocks, run_round};
+pub use round::{RoundStop, run_round};
 pub use work::Work;

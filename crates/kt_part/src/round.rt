@@ -33,29 +33,6 @@ pub enum RoundStop<S> {
     OutOfMemory,
 }
 
-/// Makes the blocks of the numbers from 0 up to but not including `count`, and folds each in its order. An error is the first
-/// block that the fold refused, or want of memory.
-pub fn fold_blocks<W: Work, F: Fold<W::Block>>(
-    work: &W,
-    fold: &mut F,
-    count: u32,
-) -> Result<(), RoundStop<F::Stop>>
-    requires count { count ≤ W.most work.now }
-    requires fits { (k : ℕ) (block : W.Block) → k < count → W.gives work.now k block → F.fits fold.old block }
-    ensures round { (start : F.Start) (before : List W.Block) → F.stands start fold.old before → RoundEnds (W.gives work.now) (F.stands start fold.new) (F.stopped start fold.new) before count result }
-    ensures fits { (block : W.Block) → F.fits fold.old block → F.fits fold.new block }
-{
-    for k in 0..count {
-        let Ok(block) = work.work(k) else {
-            return Err(RoundStop::OutOfMemory);
-        };
-        if let Err(stop) = fold.take(k, block) {
-            return Err(RoundStop::Fold { k, stop });
-        }
-    }
-    Ok(())
-}
-
 /// The workers beside the merger, until both have ended.
 fn run_beside<R: Threads + Sync, W: Work + Sync>(
     rt: &R,
