@@ -9,11 +9,11 @@ use Rattle.kt_event.specs.Plan.{terms_of}
 use Rattle.kt_chain.proofs.rounds.fold_round.Goals as goal
 
 pub run_round-requires-clause-fits : goal.run_round-requires-clause-fits
-run_round-requires-clause-fits g c = λ k part below is.
+run_round-requires-clause-fits g c = λ lives within k part below is.
     c.requires.fits part (subst (λ (run : RunShares). IsGoodPart run.terms.samples part) c.run.view_is is.good)
 
 pub run_round-requires-clause-count : goal.run_round-requires-clause-count
-run_round-requires-clause-count g c = few_parts c.run.inside.batch (length c.args.given.now) c.run.invariant.some (subst (λ (run : RunShares). length c.args.given.now ≤ 16 * run.batch) c.run.view_is c.requires.few)
+run_round-requires-clause-count g c = λ lives within. few_parts c.run.inside.batch (length c.args.given.now) c.run.invariant.some (subst (λ (run : RunShares). length c.args.given.now ≤ 16 * run.batch) (sym c.run.view_is) c.requires.few)
 
 pub returns-in-Ok-clause-folds : goal.returns-in-Ok-clause-folds
 returns-in-Ok-clause-folds g c = λ input done terms rows given folded.
@@ -42,5 +42,5 @@ returns-in-Some-clause-folds g c = λ input done terms rows given folded.
 pub returns-in-Some-clause-fits : goal.returns-in-Some-clause-fits
 returns-in-Some-clause-fits g c = λ part good. c.run_round.ensures.fits part (c.requires.fits part good)
 
-pub returns-in-None-clause-fits : goal.returns-in-None-clause-fits
-returns-in-None-clause-fits g c = λ part good. c.run_round.ensures.fits part (c.requires.fits part good)
+pub returns-clause-fits : goal.returns-clause-fits
+returns-clause-fits g c = λ part good. c.run_round.ensures.fits part (c.requires.fits part good)

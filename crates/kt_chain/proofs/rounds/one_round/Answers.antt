@@ -25,7 +25,7 @@ returns-in-Err-clause-files g c = λ input done is folded.
     reading_stops input done c.args.events.now (g.I.Inputs.state c.args.inputs.now) (g.I.Inputs.state c.round_rows.new.inputs) (g.O.Outputs.state c.args.outputs.now) c.in-Err.stop c.in-Err.ensures.inputs
 
 pub fold_round-requires-clause-events : goal.fold_round-requires-clause-events
-fold_round-requires-clause-events g c =
+fold_round-requires-clause-events g c = λ lives within.
     ids_are c.deref.result.now
     (subst (All IsId) (sym (ap ids_of c.deref.ensures.value ∙ c.in-Ok.ensures.events)) c.requires.events)
 
