@@ -3,7 +3,7 @@
 ghost use Rattle.std.specs.Prelude.{◌≡◌, ◌+◌, ◌*◌, ◌≤◌, ◌^◌, false, List, ◌++◌, map, sum, sum_by, length, All, IfOk, OnOk, OnErr, if◌then◌else◌};
 ghost use Rattle.std.specs.List.{flat_map};
 ghost use Rattle.kt_money.specs.Rounding.{mean_of, deviation_of};
-ghost use Rattle.kt_curve.specs.Grid.{is_mean, sidx_of_kind, keys_for, moments_of, same_bool};
+ghost use Rattle.kt_curve.specs.Grid.{sidx_of_kind, keys_for, moments_of, same_bool};
 ghost use Rattle.kt_curve.specs.Losses.{Added, all_losses};
 ghost use Rattle.kt_curve.specs.Standing.{StandsFor, most_total};
 ghost use Rattle.kt_curve.specs.Amounts.{amount_at};
@@ -14,7 +14,7 @@ use crate::amounts::kind_amounts;
 use crate::cells::Cells;
 use crate::group::{Group, Part, group_of, summaries};
 use kt_money::{Bytes, MeanSd, OutOfMemory, Row, mean_sd};
-use kt_rec::{CellKey, Perspective};
+use kt_rec::Perspective;
 use std::alloc::Global;
 
 /// The first line of a table of average annual losses, with its LF: the names of the columns.
@@ -22,13 +22,6 @@ pub fn aal_heading() -> &'static [u8]
     ensures value { result.now ≡ aal_heading_text }
 {
     b"summary_id,type,mean,standard_deviation\n"
-}
-
-/// Whether a key is that of a mean.
-pub(crate) fn is_mean(key: &CellKey) -> bool
-    ensures value { result ≡ is_mean key.now.sidx }
-{
-    key.sidx < 0
 }
 
 /// Whether two answers are the same.

@@ -1,7 +1,7 @@
 //! Which row of cells a loss falls to, and the key by which the row is found.
 //! The rules: docs/CALCULATION.md, "Periods".
-ghost use Rattle.std.specs.Prelude.{◌≡◌, ◌≤◌};
-ghost use Rattle.kt_curve.specs.Rows.{perspective_number, index_key, row_of, key_in, sidx_of};
+ghost use Rattle.std.specs.Prelude.{◌≡◌};
+ghost use Rattle.kt_curve.specs.Rows.{perspective_number, index_key, row_of};
 
 use kt_rec::{CellKey, Perspective};
 
@@ -56,26 +56,4 @@ pub(crate) fn row_of(key: CellKey) -> RowKey
         summary: key.summary,
         period: key.period,
     }
-}
-
-/// The key of a sample's cell in a row.
-pub(crate) fn key_in(row: RowKey, sample: u32) -> CellKey
-    requires { sample ≤ 1000 }
-    ensures value { result ≡ key_in row sample }
-{
-    CellKey {
-        perspective: row.perspective,
-        set: row.set,
-        summary: row.summary,
-        sidx: sidx_of(sample),
-        period: row.period,
-    }
-}
-
-/// The sidx of a sample, that of the mean for 0.
-fn sidx_of(sample: u32) -> i32
-    requires { sample ≤ 1000 }
-    ensures value { result ≡ sidx_of sample }
-{
-    if sample == 0 { -1 } else { sample as i32 }
 }
