@@ -7,4 +7,7 @@ pub mod ModelStage
 pub mod Needs
 pub mod Outcome
 pub mod RunEnds
+pub mod RunNeeds
+pub mod RunRows
+pub mod RunDone
 pub mod Uses

@@ -7,6 +7,7 @@ mod footprint;
 mod getmodel;
 mod gulcalc;
 mod need;
+pub mod run_laws;
 mod stops;
 mod top_call;
 mod whole_source;
