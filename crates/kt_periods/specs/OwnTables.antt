@@ -1,9 +1,8 @@
 -- The table of one set among the records of many is that of a stream of its own records.
 -- The rules: docs/COMMANDS.md, "aalcalc" and "leccalc"; docs/OUTPUTS.md, "Files of a run".
-use Rattle.std.specs.Prelude.{◌≡◌, ◌+◌, ℕ, List, [], ◌∷◌, ◌++◌, refl, Option, Some, None}
-use Rattle.std.specs.List.{flat_map}
+use Rattle.std.specs.Prelude.{◌≡◌, ℕ, List, [], ◌∷◌, ◌++◌, refl, Option, Some, None}
 use Rattle.std.specs.Option.{option_or}
-use Rattle.std.proofs.Common.{sym, subst, ap, ◌∙◌, append-nil}
+use Rattle.std.proofs.Common.{sym, ap, ◌∙◌, append-nil}
 use Rattle.std.proofs.lemmas.Grind.{flat_map-append}
 use Rattle.kt_curve.specs.Average.{aal_heading_text}
 use Rattle.kt_curve.specs.Exceedance.{by_sidx, lec_heading_text}
@@ -14,7 +13,6 @@ use Rattle.kt_curve.specs.OwnTables.{own_averages, own_curves}
 use Rattle.kt_curve.specs.Standing.{first_stop, or_else}
 use Rattle.kt_curve.specs.declared.cell.CellStop.{CellStop}
 use Rattle.kt_curve.specs.declared.cell.CellStop.TheVariants as cell_stop
-use Rattle.kt_ends.specs.Outcome.{Outcome}
 use Rattle.kt_ends.specs.declared.status.Refusal.{Refusal}
 use Rattle.kt_ends.specs.declared.status.Status.TheVariants.{Done}
 use Rattle.kt_loop.specs.Outcome.{gives}

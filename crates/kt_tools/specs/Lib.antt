@@ -8,4 +8,7 @@ pub mod Needs
 pub mod GeneratedRun
 pub mod Outcome
 pub mod RunEnds
+pub mod RunNeeds
+pub mod RunRows
+pub mod RunDone
 pub mod Uses

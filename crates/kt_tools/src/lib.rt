@@ -8,6 +8,7 @@ mod generated;
 mod getmodel;
 mod gulcalc;
 mod need;
+pub mod run_laws;
 mod stops;
 mod top_call;
 mod whole_source;
