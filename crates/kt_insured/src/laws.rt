@@ -12,7 +12,7 @@ ghost use Rattle.kt_runs.specs.RunLosses.{AreWithin, event_of, run_loss};
 ghost use Rattle.kt_tree.specs.Programme.{tree_of};
 ghost use Rattle.kt_tree.specs.Tree.{Tree, policy_loss};
 ghost use Rattle.kt_shares.specs.Shares.{id_loss, insured_range, layers_of, taken_loss};
-ghost use Rattle.kt_insured.specs.Insured.{insured_records, output_loss};
+ghost use Rattle.kt_insured.specs.Insured.{insured_records, layer_sums, output_loss};
 ghost use Rattle.kt_insured.specs.Whole.{outputs_loss, records_loss};
 
 use kt_tables::Portfolio;
@@ -69,6 +69,14 @@ pub fn the_records_of_a_run_have_all_policy_losses(portfolio: &Portfolio)
 {
     portfolio.keeps_keys();
     all_outputs_have_all_policy_losses(portfolio);
+}
+
+/// What is allocated of each layer of a run, over the mean and the samples, is its policy loss to the cent.
+pub fn the_sums_of_layers_are_whole(portfolio: &Portfolio)
+    requires programme { is_loaded portfolio.now.need 0 table.FmProgramme ≡ true }
+    ensures whole { (rule samples : ℕ) (records : List LossRecord) → All (λ entry. entry.allocated ≡ entry.policy) (layer_sums (tree_of portfolio.now.rows 0) rule samples records) }
+{
+    portfolio.is_valid();
 }
 
 /// Insured losses keep the limit of a run: where its losses add to at most 2 * 10^14 cents at each sidx, they add to at most 10^16.

@@ -1,2 +1,9 @@
 pub mod Folding
-pub mod Claiming
+pub mod Numbers
+pub mod Dealing
+pub mod Passes
+pub mod Slots
+pub mod Arrivals
+pub mod Lanes
+pub mod Claimed
+pub mod Gathering

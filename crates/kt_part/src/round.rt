@@ -1,13 +1,23 @@
 //! A round: blocks are made for the numbers from 0 on, and taken in order.
-ghost use Rattle.std.specs.Prelude.{◌<◌, ◌≤◌, ℕ, List};
-ghost use Rattle.kt_part.specs.Claiming.{IsFresh, IsPassOf};
+ghost use Rattle.std.specs.Prelude.{◌<◌, ◌≤◌, ℕ, All, List, length};
+ghost use Rattle.std.specs.Thread.{IsSync, IsSend};
+ghost use Rattle.kt_part.specs.Arrivals.{HasCome, all_received};
+ghost use Rattle.kt_part.specs.Claimed.{ClaimsAfter};
 ghost use Rattle.kt_part.specs.Folding.{RoundEnds};
+ghost use Rattle.kt_part.specs.Lanes.{AreSame, HaveWorked, IsReady};
+ghost use Rattle.kt_part.specs.Passes.{IsFresh, IsPassOf};
 
+use crate::arm::run_arms;
 use crate::fold::Fold;
+use crate::gather::{fold_held, gather};
+use crate::inbox::{Arm, Inbox, Lane};
+use crate::lanes::make_lanes;
 use crate::laws::{Claims, Pass};
+use crate::merge::merge;
+use crate::reorder::Reorder;
 use crate::work::Work;
 use std::alloc::Global;
-use std::thread::Threads;
+use std::thread::{Threads, join_mut};
 
 /// Why a round ended before its last block.
 #[derive(Drop)]
@@ -19,7 +29,7 @@ pub enum RoundStop<S> {
         /// Why it stopped.
         stop: S,
     },
-    /// Want of memory for a block.
+    /// Want of memory: for a block, or for what a round needs before its first block.
     OutOfMemory,
 }
 
@@ -46,7 +56,40 @@ pub fn fold_blocks<W: Work, F: Fold<W::Block>>(
     Ok(())
 }
 
-/// A round by workers.
+/// The workers beside the merger, until both have ended.
+fn run_beside<R: Threads + Sync, W: Work + Sync>(
+    rt: &R,
+    claims: &Claims,
+    work: &W,
+    count: u32,
+    arms: &mut [Arm<W::Block>],
+    inbox: &mut Inbox<W::Block>,
+    ends: &mut [Lane<W::Block>],
+)
+    requires few { count ≤ 16 }
+    requires most { count ≤ W.most work.now }
+    requires some { 0 < length arms.old }
+    requires ready { All (IsReady claims.now) arms.old }
+    ensures worked { HaveWorked claims.now (W.gives work.now) count arms.old arms.new }
+    ensures same { AreSame ends.old ends.new }
+    ensures come { HasCome inbox.old (all_received ends.old) → HasCome inbox.new (all_received ends.new) }
+{
+    join_mut(
+        rt,
+        &mut ||
+            requires { IsSync R.row × IsSync W.row × IsSend W.Block.row × (count ≤ 16) × (count ≤ W.most work.now) × (0 < length arms.now) × All (IsReady claims.now) arms.now }
+            ensures { HaveWorked claims.entry.now (W.gives work.entry.now) count arms.entry.now arms.exit.now }
+        { run_arms(rt, claims, work, count, arms) },
+        &mut ||
+            ensures { AreSame ends.entry.now ends.exit.now × (HasCome inbox.entry.now (all_received ends.entry.now) → HasCome inbox.exit.now (all_received ends.exit.now)) }
+        { merge(count, inbox, ends) },
+    );
+}
+
+/// One round: as many workers as `workers` says claim the numbers from 0 up to but not including `count` and make their blocks,
+/// each in a thread of its own where one can be made, and the blocks are folded in the order of their numbers on the calling thread.
+/// An error is the first block that the fold refused, or want of memory. After all others the pass has every draw again, and each
+/// number below `count` was claimed exactly once.
 pub fn run_round<R: Threads + Sync, W: Work + Sync, F: Fold<W::Block>>(
     rt: &R,
     alloc: Global,
@@ -66,6 +109,28 @@ pub fn run_round<R: Threads + Sync, W: Work + Sync, F: Fold<W::Block>>(
     requires fits { (k : ℕ) (block : W.Block) → k < count → W.gives work.now k block → F.fits fold.old block }
     ensures round { (start : F.Start) (before : List W.Block) → F.stands start fold.old before → RoundEnds (W.gives work.now) (F.stands start fold.new) (F.stopped start fold.new) before count result }
     ensures fits { (block : W.Block) → F.fits fold.old block → F.fits fold.new block }
+    ensures claims { ClaimsAfter workers count pass.new result }
 {
-    fold_blocks(work, fold, count)
+    let Ok(mut lanes) = make_lanes(alloc, claims, pass, workers) else {
+        return Err(RoundStop::OutOfMemory);
+    };
+    let Ok(reorder) = Reorder::new(alloc) else {
+        return Err(RoundStop::OutOfMemory);
+    };
+    let mut inbox = Inbox {
+        reorder,
+        is_spoiled: false,
+        arrived: 0,
+    };
+    run_beside(
+        rt,
+        claims,
+        work,
+        count,
+        lanes.arms.as_mut_slice(),
+        &mut inbox,
+        lanes.ends.as_mut_slice(),
+    );
+    let mut reorder = gather(claims, pass, work, count, workers, lanes, inbox);
+    fold_held(work, &mut reorder, fold, count)
 }

@@ -3,7 +3,7 @@ ghost use Rattle.std.specs.Prelude.{◌<◌, ℕ, IfOk};
 
 use std::alloc::AllocError;
 
-/// Makes a block for each number, the same whichever blocks were made before.
+/// Makes a block for each number, the same whichever blocks were made before. Threads may make several at once.
 pub trait Work {
     /// What is made.
     type Block: Send + Drop;

@@ -1,4 +1,4 @@
-use Rattle.std.proofs.Common.{rules, ◌<◌, ◌≤◌, ℕ, List, ◌≡◌, ◌+◌, ◌++◌}
+use Rattle.std.proofs.Common.{◌++◌}
 use Rattle.kt_part.proofs.RoundLemmas.{one-more}
 use Rattle.kt_part.proofs.round.fold_blocks.Goals as goal
 

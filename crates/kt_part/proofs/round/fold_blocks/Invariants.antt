@@ -1,4 +1,4 @@
-use Rattle.std.proofs.Common.{ℕ, List}
+use Rattle.std.proofs.Common.{List}
 use Rattle.kt_part.specs.Folding.{Folded}
 use Rattle.kt_part.proofs.round.fold_blocks.Given as goal
 

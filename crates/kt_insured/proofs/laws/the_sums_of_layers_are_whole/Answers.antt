@@ -1,0 +1,13 @@
+use Rattle.std.proofs.Common.{arith}
+use Rattle.kt_structure.specs.ProgrammeLaws.{tree_of-is}
+use Rattle.kt_structure.specs.Ready.{ready}
+use Rattle.kt_tree.specs.Programme.{tree_of}
+use Rattle.kt_insured.proofs.GoodLemmas.{sums-whole}
+use Rattle.kt_insured.proofs.laws.the_sums_of_layers_are_whole.Goals as goal
+
+pub returns : goal.returns
+returns c = record {
+  whole = λ rule samples records.
+      let rows = c.args.portfolio.now.rows in
+      sums-whole (tree_of rows 0) (tree_of-is rows 0 (ready c.args.portfolio.now c.is_valid.ensures.valid 0 (omega arith) c.requires.programme).has) rule samples records;
+}

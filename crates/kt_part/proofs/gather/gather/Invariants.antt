@@ -1,0 +1,5 @@
+use Rattle.kt_part.specs.Gathering.{AreGathered}
+use Rattle.kt_part.proofs.gather.gather.Given as goal
+
+abbrev pub invariant-loop-worker : goal.invariant-loop-worker
+invariant-loop-worker g l = AreGathered (g.W.Work.gives l._work) l.count l.claims l.workers l.arms.items l.ends.items l.pass l.inbox l._worker

@@ -1,0 +1,10 @@
+use Rattle.std.proofs.Common.{length, false, drop, refl, rules}
+use Rattle.kt_part.proofs.GatherLemmas.{begun}
+use Rattle.kt_part.proofs.round.run_round.Goals as goal
+
+pub gather-reorder-requires-clause-begun : goal.gather-reorder-requires-clause-begun
+gather-reorder-requires-clause-begun g c κs within =
+    let arms = c.in-Ok.lanes.arms in let ends = c.in-Ok.lanes.ends in let now = c.run_beside.new.arms in let now' = c.run_beside.new.ends in
+    begun (g.W.Work.gives c.args.work.now) c.args.count c.args.claims.now c.args.workers arms.items c.as_mut_slice.result.now now (drop (length now) arms.items) ends.items c.as_mut_slice-2.result.now now' (drop (length now') ends.items) arms.len ends.len
+    c.make_lanes.new.pass (record { reorder = c.in-Ok-new.reorder; is_spoiled = false; arrived = 0 }) c.run_beside.new.inbox c.in-Ok.ensures.lanes c.in-Ok.ensures.given c.as_mut_slice.ensures.value c.as_mut_slice-2.ensures.value
+    (search rules) (search rules) (search rules) (search rules) c.run_beside.ensures.worked c.run_beside.ensures.same c.run_beside.ensures.come c.in-Ok-new.ensures.next refl c.in-Ok-new.ensures.empty

@@ -1,0 +1,63 @@
+//! What a worker does: it claims numbers, makes their blocks and sends them, until a number that it draws is none of the round.
+ghost use Rattle.std.specs.Prelude.{◌≤◌, ◌<◌, All, IfSome, length};
+ghost use Rattle.std.specs.Thread.{IsSync, IsSend};
+ghost use Rattle.kt_part.specs.Lanes.{HasWorked, HaveWorked, IsReady};
+
+use crate::inbox::{Arm, Item};
+use crate::laws::Claims;
+use crate::work::Work;
+use std::thread;
+use std::thread::Threads;
+
+/// The draws of one worker: 16 numbers, and one that is none of the round.
+const DRAWS: u32 = 17;
+
+/// Makes the block of a number; `None` for want of memory.
+fn make<W: Work>(work: &W, number: u32) -> Option<W::Block>
+    requires { number < W.most work.now }
+    ensures { IfSome result (W.gives work.now number) }
+{
+    match work.work(number) {
+        Ok(block) => Some(block),
+        Err(_) => None,
+    }
+}
+
+/// One worker.
+fn run_arm<W: Work>(claims: &Claims, work: &W, count: u32, arm: &mut Arm<W::Block>)
+    requires few { count ≤ 16 }
+    requires most { count ≤ W.most work.now }
+    requires ready { IsReady claims.now arm.old }
+    ensures { HasWorked claims.now (W.gives work.now) count arm.old arm.new }
+{
+    for _turn in 0..DRAWS {
+        let Some(number) = claims.claim(&mut arm.pass, count) else {
+            return;
+        };
+        let block = make(work, number);
+        arm.ring.push_reserved(Item { number, block });
+    }
+    unreachable!()
+}
+
+/// All workers, each in a thread of its own where one can be made.
+pub(crate) fn run_arms<R: Threads + Sync, W: Work + Sync>(
+    rt: &R,
+    claims: &Claims,
+    work: &W,
+    count: u32,
+    arms: &mut [Arm<W::Block>],
+)
+    requires few { count ≤ 16 }
+    requires most { count ≤ W.most work.now }
+    requires some { 0 < length arms.old }
+    requires ready { All (IsReady claims.now) arms.old }
+    ensures { HaveWorked claims.now (W.gives work.now) count arms.old arms.new }
+{
+    let threads = arms.len();
+    let each = move |_place: usize, arm: &mut Arm<W::Block>|
+        requires { (count ≤ 16) × (count ≤ W.most work.now) × IsReady claims.now arm.now }
+        ensures { HasWorked claims.entry.now (W.gives work.entry.now) count arm.entry.now arm.exit.now }
+    { run_arm(claims, work, count, arm) };
+    thread::for_each_mut(rt, arms, threads, &each);
+}
