@@ -1,5 +1,5 @@
 -- Spans: the bytes that they have in the file, the rows that are read of them, and an event that comes behind others.
-use Rattle.std.proofs.Common.{◌≡◌, ℕ, ◌+◌, ◌/◌, ◌%◌, ◌==◌, ◌≤◌, Bool, List, [], ◌∷◌, ◌++◌, length, take, drop, Option, Some, None, true, false, refl, sym, ap, subst, ◌∙◌, append-nil, append_assoc, arith}
+use Rattle.std.proofs.Common.{◌≡◌, ℕ, ◌+◌, ◌/◌, ◌==◌, ◌≤◌, Bool, List, [], ◌∷◌, ◌++◌, length, take, drop, Option, Some, None, true, false, refl, sym, ap, ◌∙◌, append-nil, append_assoc, arith}
 use Rattle.std.specs.Prelude.{IfSome, IsSomeAnd, if◌then◌else◌}
 use Rattle.std.specs.List.{flat_map}
 use Rattle.std.proofs.lemmas.Bool.{eqb-true}
@@ -14,7 +14,7 @@ use Rattle.kt_tables.specs.declared.place.Place.{Place}
 use Rattle.kt_load.proofs.EventRowLemmas.{length_rows, no_row, rows_joined, rows_of_front}
 use Rattle.kt_load.specs.Ends.{HasPart, IsPart}
 use Rattle.kt_load.specs.EventRows.{HasFootprint, LiesWithin, OnFootprint, event_rows, foot_rows_in, footprint_name, rows_at}
-use Rattle.kt_load.specs.Spans.{AddsSpan, AreRead, AreTaken, IsSpan, TakesEvent, count_at, count_of_all, joined_span, span_rows}
+use Rattle.kt_load.specs.Spans.{AddsSpan, AreRead, AreTaken, IsSpan, TakesEvent, count_at, joined_span, span_rows}
 
 -- ---- what holds of a file's bytes
 

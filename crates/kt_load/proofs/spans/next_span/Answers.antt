@@ -1,4 +1,4 @@
-use Rattle.std.proofs.Common.{◌∙◌, Option, sym, subst, arith}
+use Rattle.std.proofs.Common.{◌∙◌, Option, sym, subst}
 use Rattle.std.specs.Prelude.{IfSome}
 use Rattle.kt_tables.specs.declared.place.Place.{Place}
 use Rattle.kt_load.proofs.SpanLemmas.{Joins, joins, takes_joined}

@@ -1,4 +1,4 @@
-use Rattle.std.proofs.Common.{◌∙◌, ◌≤◌, List, ℕ, take, length, refl, sym, subst, arith}
+use Rattle.std.proofs.Common.{◌∙◌, List, ℕ, take, refl, sym, subst, arith}
 use Rattle.std.specs.Prelude.{slice_index_or}
 use Rattle.std.proofs.lemmas.List.{take_all, take_more}
 use Rattle.kt_out.specs.InputFiles.{InputsState}
