@@ -24,7 +24,9 @@ upto_whole Il terms rows losses whole = whole
 upto_whole Ri terms rows losses whole = whole
 
 pub returns : goal.returns
-returns c = λ run event is.
-    let losses = ground_up_of run.terms run.rows event (foot_of run event) in
-    upto_whole run.terms.last run.terms run.rows losses
-    (subst (λ (rows : Rows). All IsWhole (layer_sums (tree_of rows 0) run.terms.rule run.terms.samples losses)) (sym is) (c.the_sums_of_layers_are_whole.ensures run.terms.rule run.terms.samples losses))
+returns c = record {
+  whole = λ run event is.
+      let losses = ground_up_of run.terms run.rows event (foot_of run event) in
+      upto_whole run.terms.last run.terms run.rows losses
+      (subst (λ (rows : Rows). All IsWhole (layer_sums (tree_of rows 0) run.terms.rule run.terms.samples losses)) (sym is) (c.the_sums_of_layers_are_whole.ensures.whole run.terms.rule run.terms.samples losses));
+}
