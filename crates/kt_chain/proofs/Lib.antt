@@ -2,6 +2,7 @@ mod ListLemmas
 mod AddedLemmas
 mod PassLemmas
 mod PartLemmas
+mod RowLemmas
 mod WorkLemmas
 mod FoldLemmas
 mod TextLemmas

@@ -14,7 +14,7 @@ use Rattle.kt_rec.specs.declared.foot_rows.ModelStop.TheVariants as stop
 use Rattle.kt_tree.specs.Sums.{each_append}
 use Rattle.kt_chain.specs.Outcome.{row_refusal}
 use Rattle.kt_chain.specs.Rounds.{IsPart, IsWhole, RoundParts, before_part, blocks_of, given_block, part_events, part_of}
-use Rattle.kt_chain.specs.declared.part.EventRows.{EventRows}
+use Rattle.kt_load.specs.EventRows.{EventRows}
 use Rattle.kt_chain.specs.declared.part.PartBlock.{PartBlock}
 use Rattle.kt_chain.specs.declared.part.RefusedRow.{RefusedRow}
 
@@ -24,14 +24,14 @@ row_is row = refusal.Row row.event row.row row.cause
 
 -- the rows of an event are clear
 abbrev pub IsClearRows : EventRows → Type 0
-IsClearRows given = row_refusal given.event (first_refused_row given.rows.items) ≡ None
+IsClearRows given = row_refusal given.event (first_refused_row given.rows) ≡ None
 
 -- the event behind the blocks of a part has the refused row, where there is one
 abbrev pub IsBehind : List EventRows → Option RefusedRow → Type 0
 IsBehind [] None = Unit {0}
 IsBehind [] (Some row) = ⊥
 IsBehind (one ∷ more) None = ⊥
-IsBehind (one ∷ more) (Some row) = row_refusal one.event (first_refused_row one.rows.items) ≡ Some (row_is row)
+IsBehind (one ∷ more) (Some row) = row_refusal one.event (first_refused_row one.rows) ≡ Some (row_is row)
 
 -- the events of a part: those of its blocks, whose rows are clear, and the others
 pub record IsSplit (terms : Terms) (rows : Rows) (given : List EventRows) (part : PartBlock) : Type 0 where
@@ -46,9 +46,9 @@ module _ (terms : Terms) (rows : Rows) where
   -- a part is split so
   pub split_part : (given : List EventRows) → IsSplit terms rows given (part_of terms rows given)
   split_part [] = record { good = []; rest = []; are = refl; blocks_are = refl; clear = tt; behind = tt }
-  split_part (one ∷ more) = by (first_refused_row one.rows.items) refl (split_part more)
+  split_part (one ∷ more) = by (first_refused_row one.rows) refl (split_part more)
     where
-      with_one : row_refusal one.event (first_refused_row one.rows.items) ≡ None → (later : PartBlock) → IsSplit terms rows more later → IsSplit terms rows (one ∷ more) (record { blocks = given_block terms rows one ∷ later.blocks; refused = later.refused })
+      with_one : row_refusal one.event (first_refused_row one.rows) ≡ None → (later : PartBlock) → IsSplit terms rows more later → IsSplit terms rows (one ∷ more) (record { blocks = given_block terms rows one ∷ later.blocks; refused = later.refused })
       with_one clear later split = record {
         good = one ∷ split.good;
         rest = split.rest;
@@ -58,7 +58,7 @@ module _ (terms : Terms) (rows : Rows) where
         behind = split.behind;
       }
 
-      by : (why : Option ModelStop) → first_refused_row one.rows.items ≡ why → IsSplit terms rows more (part_of terms rows more) → IsSplit terms rows (one ∷ more) (before_part one (given_block terms rows one) why (part_of terms rows more))
+      by : (why : Option ModelStop) → first_refused_row one.rows ≡ why → IsSplit terms rows more (part_of terms rows more) → IsSplit terms rows (one ∷ more) (before_part one (given_block terms rows one) why (part_of terms rows more))
       by None is split = with_one (ap (row_refusal one.event) is) (part_of terms rows more) split
       by (Some (stop.Row row cause)) is split = record { good = []; rest = one ∷ more; are = refl; blocks_are = refl; clear = tt; behind = ap (row_refusal one.event) is }
       by (Some stop.OutOfMemory) is split = with_one (ap (row_refusal one.event) is) (part_of terms rows more) split

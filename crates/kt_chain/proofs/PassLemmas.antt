@@ -12,8 +12,8 @@ use Rattle.kt_rec.specs.declared.hazard.FootRow.{FootRow}
 use Rattle.kt_chain.specs.Events.{RunInput, all_added, block_of, event_added, foot_of}
 use Rattle.kt_chain.specs.Outcome.{event_refusal, row_refusal}
 use Rattle.kt_chain.specs.Reached.{Passes, StopsAt, both_pass, none_passes, one_passes, one_stops, stops_behind}
-use Rattle.kt_chain.specs.Rounds.{HasRows, given_block, ids_of}
-use Rattle.kt_chain.specs.declared.part.EventRows.{EventRows}
+use Rattle.kt_chain.specs.Rounds.{HasRows, given_block}
+use Rattle.kt_load.specs.EventRows.{EventRows, ids_of}
 use Rattle.kt_chain.proofs.AddedLemmas.{added_of_both, added_of_one, none_of_first}
 
 module _ (run : RunInput) where
@@ -50,7 +50,7 @@ module _ (run : RunInput) where
 
   -- the rows that were given are those of the footprint
   abbrev pub IsClearGiven : EventRows → Type 0
-  IsClearGiven given = row_refusal given.event (first_refused_row given.rows.items) ≡ None
+  IsClearGiven given = row_refusal given.event (first_refused_row given.rows) ≡ None
 
   pub clear_event : (given : EventRows) → HasRows run given → IsClearGiven given → IsClear given.event
   clear_event given has clear = ap (λ (foot : List FootRow). row_refusal given.event (first_refused_row foot)) (sym has) ∙ clear

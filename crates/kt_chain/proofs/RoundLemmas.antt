@@ -17,10 +17,10 @@ use Rattle.kt_tree.specs.Sums.{each_append}
 use Rattle.kt_chain.specs.Events.{RunInput, all_added, block_added, block_of, blocks_added, event_added}
 use Rattle.kt_chain.specs.Outcome.{event_refusal, row_refusal}
 use Rattle.kt_chain.specs.Reached.{Passes, StopsAt}
-use Rattle.kt_chain.specs.Rounds.{FoldStart, FoldState, HasRows, HasStopped, IsPart, IsReason, RoundParts, StandsBehind, StopsBehind, StopsBy, blocks_of, fold_refusal, given_block, ids_of, part_count, part_events, part_of, with_blocks}
+use Rattle.kt_chain.specs.Rounds.{FoldStart, FoldState, HasRows, HasStopped, IsPart, IsReason, RoundParts, StandsBehind, StopsBehind, StopsBy, blocks_of, fold_refusal, given_block, part_count, part_events, part_of, with_blocks}
+use Rattle.kt_load.specs.EventRows.{EventRows, ids_of}
 use Rattle.kt_chain.specs.Runs.{AreGivenRows, FoldsTo, IsFolded}
 use Rattle.kt_chain.specs.declared.fold.FoldStop.{FoldStop}
-use Rattle.kt_chain.specs.declared.part.EventRows.{EventRows}
 use Rattle.kt_chain.specs.declared.part.PartBlock.{PartBlock}
 use Rattle.kt_chain.specs.declared.part.RefusedRow.{RefusedRow}
 use Rattle.kt_chain.proofs.AddedLemmas.{added_of_blocks, added_of_both}
@@ -157,7 +157,7 @@ module _ (run : RunInput) (round : RoundParts) (terms_are : run.terms ≡ round.
         (ap (λ (history : List Added). first_refusal history (event_added run one.event)) (sym (added_are before blocks has_before blocks_made)) ∙ ap (λ (b : EventBlock). first_refusal (all_added run done ++ blocks_added run.rows blocks) (block_added run.rows b)) (sym block) ∙ reason))
 
     -- or by its rows
-    by_rows : (one : EventRows) (later : List EventRows) (why : Refusal) → round.given ≡ before ++ one ∷ later → row_refusal one.event (first_refused_row one.rows.items) ≡ Some why → StopsAt (event_refusal run) done (ids_of round.given) (done ++ ids_of before) why
+    by_rows : (one : EventRows) (later : List EventRows) (why : Refusal) → round.given ≡ before ++ one ∷ later → row_refusal one.event (first_refused_row one.rows) ≡ Some why → StopsAt (event_refusal run) done (ids_of round.given) (done ++ ids_of before) why
     by_rows one later why are is =
         let all : AllByRecursion (HasRows run) (before ++ one ∷ later) = subst (AllByRecursion (HasRows run)) are has in
         let has_before = each_front (HasRows run) before (one ∷ later) all in

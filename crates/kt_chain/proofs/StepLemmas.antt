@@ -30,9 +30,9 @@ use Rattle.kt_chain.specs.Files.{event_text, files_upto, text_upto}
 use Rattle.kt_chain.specs.Outcome.{event_refusal}
 use Rattle.kt_chain.specs.Reached.{AreDone, Passes, StopsAt, both_pass, done_behind, done_with_more, earlier_are_done, none_passes, passed_are_done, reached_are_done, stops_with_more}
 use Rattle.kt_chain.specs.Reached.{stops_behind as stops_later}
-use Rattle.kt_chain.specs.Rounds.{FoldState, ids_of}
+use Rattle.kt_chain.specs.Rounds.{FoldState}
+use Rattle.kt_load.specs.EventRows.{EventRows, ids_of}
 use Rattle.kt_chain.specs.Runs.{AreGivenRows, CountsRead, FoldEnds, FoldsTo, GoesOn, IsFolded, IsRunOf, MakesSome, RoundGoes, RoundMakes, RunShares}
-use Rattle.kt_chain.specs.declared.part.EventRows.{EventRows}
 use Rattle.kt_chain.proofs.TextLemmas.{same_files}
 
 -- ---- the ids of events with their rows
@@ -70,14 +70,14 @@ files_of_run input run held is files =
     files ∙ ap (λ (rows : Rows). output_files rows run.terms.last) (sym is.rows_are) ∙ ap (λ (terms : Terms). output_files input.rows terms.last) (sym is.terms_are)
 
 -- what the fold of a round does to its events, whose rows were read
-pub folds_to : (input : RunInput) (run : RunShares) (done events : List ℕ) (items given : List EventRows) → given ≡ items → ids_of items ≡ events → (rows : Rows) → rows ≡ run.portfolio.rows → (held : Option FileMap) → IsRunOf held run.terms run.portfolio.rows input
-    → ((terms : Terms) (other : RunInput) → IsRunOf held terms rows other → AreGivenRows other items) → (old : FoldState) → IsFolded input done old → (refusal : Option Refusal) (fold : FoldState)
+pub folds_to : (input : RunInput) (run : RunShares) (done events : List ℕ) (given : List EventRows) → ids_of given ≡ events → (rows : Rows) → rows ≡ run.portfolio.rows → (held : Option FileMap) → IsRunOf held run.terms run.portfolio.rows input
+    → ((terms : Terms) (other : RunInput) → IsRunOf held terms rows other → AreGivenRows other given) → (old : FoldState) → IsFolded input done old → (refusal : Option Refusal) (fold : FoldState)
     → ((one : RunInput) (before : List ℕ) → one.terms ≡ run.terms → one.rows ≡ run.portfolio.rows → AreGivenRows one given → IsFolded one before old → FoldsTo one before (ids_of given) refusal fold)
     → FoldsTo input done events refusal fold
-folds_to input run done events items given given_is ids rows rows_are held is read old folded refusal fold folds =
-    subst (λ (all : List ℕ). FoldsTo input done all refusal fold) (ap ids_of given_is ∙ ids)
+folds_to input run done events given ids rows rows_are held is read old folded refusal fold folds =
+    subst (λ (all : List ℕ). FoldsTo input done all refusal fold) ids
     (folds input done is.terms_are is.rows_are
-    (subst (AreGivenRows input) (sym given_is) (read run.terms input (subst (λ (r : Rows). IsRunOf held run.terms r input) (sym rows_are) is))) folded)
+    (read run.terms input (subst (λ (r : Rows). IsRunOf held run.terms r input) (sym rows_are) is)) folded)
 
 -- ---- the rows of a round
 

@@ -1,6 +1,6 @@
 -- What the parts of a round make of its events, and what a fold of them stands for.
 -- The rules: docs/ARCHITECTURE.md, "A run of all stages".
-use Rattle.std.specs.Prelude.{◌≡◌, ◌≤◌, ◌+◌, ◌*◌, ◌-◌, ◌/◌, ℕ, List, [], ◌∷◌, ◌++◌, All, drop, length, map, take, Option, Some, None, Result, Ok, Err}
+use Rattle.std.specs.Prelude.{◌≡◌, ◌≤◌, ◌+◌, ◌*◌, ◌-◌, ◌/◌, ℕ, List, [], ◌∷◌, ◌++◌, All, drop, length, take, Option, Some, None, Result, Ok, Err}
 use Rattle.std.specs.List.{AllByRecursion, flat_map}
 use Rattle.kt_curve.specs.Losses.{Added}
 use Rattle.kt_curve.specs.Standing.{KeptCells, StandsFor}
@@ -24,7 +24,7 @@ use Rattle.kt_chain.specs.Events.{RunInput, block_added, blocks_added, foot_of}
 use Rattle.kt_chain.specs.declared.fold.BlockStop.{BlockStop}
 use Rattle.kt_chain.specs.declared.fold.FoldStop.{FoldStop}
 use Rattle.kt_chain.specs.declared.fold.FoldStop.TheVariants as fold_stop
-use Rattle.kt_chain.specs.declared.part.EventRows.{EventRows}
+use Rattle.kt_load.specs.EventRows.{EventRows}
 use Rattle.kt_chain.specs.declared.part.PartBlock.{PartBlock}
 use Rattle.kt_chain.specs.declared.part.RefusedRow.{RefusedRow}
 
@@ -32,17 +32,13 @@ use Rattle.kt_chain.specs.declared.part.RefusedRow.{RefusedRow}
 
 -- an event has the footprint rows that the run has for it
 abbrev pub HasRows : RunInput → EventRows → Type 0
-HasRows run given = given.rows.items ≡ foot_of run given.event
-
--- the ids of events with their rows
-abbrev pub ids_of : List EventRows → List ℕ
-ids_of given = map (λ one. one.event) given
+HasRows run given = given.rows ≡ foot_of run given.event
 
 -- ---- what a part makes of its events
 
 -- what an event gives by its rows
 abbrev pub given_block : Terms → Rows → EventRows → EventBlock
-given_block terms rows given = event_block_of terms rows given.event given.rows.items
+given_block terms rows given = event_block_of terms rows given.event given.rows
 
 -- a block before those of later events; or none of them, where its rows are refused
 abbrev pub before_part : EventRows → EventBlock → Option ModelStop → PartBlock → PartBlock
@@ -53,7 +49,7 @@ before_part given block (Some stop.OutOfMemory) later = record { blocks = block 
 -- the blocks of events, up to the first whose rows are refused
 abbrev pub part_of : Terms → Rows → List EventRows → PartBlock
 part_of terms rows [] = record { blocks = []; refused = None }
-part_of terms rows (given ∷ later) = before_part given (given_block terms rows given) (first_refused_row given.rows.items) (part_of terms rows later)
+part_of terms rows (given ∷ later) = before_part given (given_block terms rows given) (first_refused_row given.rows) (part_of terms rows later)
 
 -- the events of a part of a round: so many from a place on
 abbrev pub part_events : ℕ → List EventRows → ℕ → List EventRows

@@ -3,16 +3,12 @@
 use Rattle.std.proofs.Common.{refl, ap, ◌∙◌}
 use Rattle.std.specs.Prelude.{◌≡◌, ℕ, List, [], ◌∷◌, ◌++◌, Option, Some}
 use Rattle.std.specs.List.{flat_map}
-use Rattle.kt_ends.specs.Outcome.{Outcome}
 use Rattle.kt_ends.specs.declared.status.Refusal.{Refusal}
 use Rattle.kt_event.specs.declared.terms.SummarySet.{SummarySet}
-use Rattle.kt_files.specs.declared.file.OutputFile.{OutputFile}
 use Rattle.kt_files.specs.declared.file.OutputFile.TheVariants.{OfSet}
-use Rattle.kt_files.specs.declared.file.SetTable.{SetTable}
 use Rattle.kt_files.specs.declared.file.SetTable.TheVariants.{AverageAnnualLoss, ExceedanceCurve}
 use Rattle.kt_files.specs.Parts.{record_rows, records_of_set}
 use Rattle.kt_rec.specs.declared.curve.Curve.{Curve}
-use Rattle.kt_stream.specs.declared.entry.SummaryRecord.{SummaryRecord}
 use Rattle.kt_tables.specs.Lookups.{event_ids}
 use Rattle.kt_chain.specs.Events.{RunInput, block_of}
 use Rattle.kt_chain.specs.Files.{event_text, files_upto, text_upto}

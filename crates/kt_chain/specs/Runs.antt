@@ -14,7 +14,7 @@ use Rattle.kt_event.specs.declared.plan.Plan.{Plan}
 use Rattle.kt_event.specs.declared.terms.Terms.{Terms}
 use Rattle.kt_files.specs.OutputFiles.{output_files}
 use Rattle.kt_files.specs.declared.file.OutputFile.{OutputFile}
-use Rattle.kt_load.specs.EventRows.{footprint_name}
+use Rattle.kt_load.specs.EventRows.{EventRows, footprint_name}
 use Rattle.kt_out.specs.Counts.{Rose}
 use Rattle.kt_out.specs.InputFiles.{InputsState, CountsFault}
 use Rattle.kt_out.specs.NamedFiles.{FileMap}
@@ -27,7 +27,6 @@ use Rattle.kt_chain.specs.Files.{files_upto}
 use Rattle.kt_chain.specs.Outcome.{chain_outcome, event_refusal}
 use Rattle.kt_chain.specs.Reached.{AreDone, Passes, StopsAt}
 use Rattle.kt_chain.specs.Rounds.{FoldState, HasRows, blocks_of}
-use Rattle.kt_chain.specs.declared.part.EventRows.{EventRows}
 
 -- a run's input is what these input files hold: its rows are those of the tables, its footprint is their file's
 pub record IsRunOf (held : Option FileMap) (terms : Terms) (rows : Rows) (run : RunInput) : Type 0 where

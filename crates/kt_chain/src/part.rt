@@ -5,15 +5,8 @@ ghost use Rattle.kt_ends.specs.declared.status.Refusal.TheVariants as refusal;
 
 use kt_ends::Refusal;
 use kt_event::EventBlock;
-use kt_rec::{FootRow, RowCause};
+use kt_rec::RowCause;
 use kt_stream::Records;
-
-/// An event with its footprint rows.
-#[derive(Drop)]
-pub(crate) struct EventRows {
-    pub(crate) event: u32,
-    pub(crate) rows: Vec<FootRow>,
-}
 
 /// A footprint row that is refused.
 #[derive(Clone, Copy, Drop)]

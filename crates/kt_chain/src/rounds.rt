@@ -7,24 +7,24 @@ ghost use Rattle.kt_event.specs.Terms.{AreTerms};
 ghost use Rattle.kt_files.specs.OutputFiles.{output_files, output_name};
 ghost use Rattle.kt_files.specs.Parts.{block_text};
 ghost use Rattle.kt_files.specs.declared.file.OutputFile.{OutputFile};
-ghost use Rattle.kt_load.specs.EventRows.{HasFootprint};
+ghost use Rattle.kt_load.specs.EventRows.{HasFootprint, ids_of};
 ghost use Rattle.kt_out.specs.OutputFiles.{CountsOutput};
 ghost use Rattle.kt_outputs.specs.Files.{Makes, files_with};
 ghost use Rattle.kt_stream.specs.Pairs.{IsId};
 ghost use Rattle.kt_tables.specs.Lookups.{event_ids};
 ghost use Rattle.kt_chain.specs.Events.{RunInput};
-ghost use Rattle.kt_chain.specs.Rounds.{FitsRun, IsEventRefusal, IsRunStop, blocks_of, ids_of};
+ghost use Rattle.kt_chain.specs.Rounds.{FitsRun, IsEventRefusal, IsRunStop, blocks_of};
 ghost use Rattle.kt_chain.specs.Runs.{AreGivenRows, Counts, FoldsTo, IsFolded, IsRunOf, RoundGoes, RoundMakes};
 
 use crate::fold::RunFold;
-use crate::part::EventRows;
-use crate::rows::round_rows;
+use crate::rows::fill_rows;
 use crate::texts::RoundTexts;
 use crate::work::RoundWork;
 use kt_ends::{Refusal, ToolStop, write_stop};
 use kt_event::Plan;
 use kt_files::OutputFile;
 use kt_files::laws::names_are_distinct;
+use kt_load::RoundRows;
 use kt_out::{Fault, Gate, Inputs, Outputs};
 use kt_outputs::append_texts;
 use kt_part::laws::Claims;
@@ -78,7 +78,7 @@ impl<'a, R, G> Run<'a, R, G> {
 fn fold_round<R: Threads + Sync, G: Gate + Sync>(
     run: &Run<'_, R, G>,
     fold: &mut RunFold<'_>,
-    given: &[EventRows],
+    given: &RoundRows,
 ) -> Result<Option<Refusal>, AllocError>
     requires events { All (λ one. IsId one.event) given.now }
     requires few { length given.now ≤ 16 * run.now.batch }
@@ -89,7 +89,7 @@ fn fold_round<R: Threads + Sync, G: Gate + Sync>(
 {
     run.has_files();
     let batch = run.batch as usize;
-    let count = ((given.len() + batch - 1) / batch) as u32;
+    let count = ((given.count() as usize + batch - 1) / batch) as u32;
     let work = RoundWork {
         gate: run.gate,
         alloc: run.alloc,
@@ -152,6 +152,7 @@ fn write_kept<R, G, O: Outputs>(
 fn one_round<R: Threads + Sync, G: Gate + Sync, I: Inputs, O: Outputs>(
     run: &Run<'_, R, G>,
     fold: &mut RunFold<'_>,
+    given: &mut RoundRows,
     events: &[u32],
     inputs: &mut I,
     outputs: &mut O,
@@ -167,11 +168,10 @@ fn one_round<R: Threads + Sync, G: Gate + Sync, I: Inputs, O: Outputs>(
     ensures fits { FitsRun run.now.terms.samples fold.new }
 {
     run.has_files();
-    let given = match round_rows(run.alloc, inputs, run.portfolio, events) {
-        Ok(given) => given,
-        Err(stop) => return Err(stop),
-    };
-    let refusal = match fold_round(run, fold, &given) {
+    if let Err(stop) = fill_rows(given, inputs, run.portfolio, events) {
+        return Err(stop);
+    }
+    let refusal = match fold_round(run, fold, given) {
         Ok(refusal) => refusal,
         Err(_) => return Err(ToolStop::NoMemory),
     };
@@ -202,10 +202,11 @@ pub(crate) fn all_rounds<R: Threads + Sync, G: Gate + Sync, I: Inputs, O: Output
     run.has_files();
     run.portfolio.is_valid();
     let size = PARTS * run.batch as usize;
+    let mut given = RoundRows::new(run.alloc);
     let mut rest = run.portfolio.events();
     while !rest.is_empty() {
         let (round, later) = rest.split_at(rest.len().min(size));
-        if let Err(stop) = one_round(run, fold, round, inputs, outputs) {
+        if let Err(stop) = one_round(run, fold, &mut given, round, inputs, outputs) {
             return Err(stop);
         }
         rest = later;

@@ -50,7 +50,11 @@ fn begin<R, G, O: Outputs>(run: &Run<'_, R, G>, outputs: &mut O) -> Result<(), F
 }
 
 /// Writes the tables over all periods at the end of the files.
-fn finish<R, G, O: Outputs>(run: &Run<'_, R, G>, fold: &RunFold<'_>, outputs: &mut O) -> Result<(), Fault>
+fn finish<R, G, O: Outputs>(
+    run: &Run<'_, R, G>,
+    fold: &RunFold<'_>,
+    outputs: &mut O,
+) -> Result<(), Fault>
     ensures made { (history : List Added) (text : OutputFile → List ℕ) → AreEndings history fold.now.rows fold.now.cells → Makes (files_with output_name text run.now.files) (files_with output_name (λ file. text file ++ end_text fold.now.cells.samples fold.now.rows history file) run.now.files) (O.state outputs.old) (O.state outputs.new) result }
     ensures counts { CountsOutput (O.state outputs.old).faults (O.state outputs.new).faults result }
 {

@@ -1,6 +1,6 @@
 //! What workers and the fold hold may be sent to threads and shared by them.
 use crate::fold::{FoldStop, RunFold};
-use crate::part::{EventRows, PartBlock};
+use crate::part::PartBlock;
 use crate::work::RoundWork;
 use kt_out::Open;
 
@@ -11,13 +11,11 @@ fn is_shared<T: Send + Sync>(_: &T) {}
 pub(crate) fn are_shared(
     work: &RoundWork<'_, Open>,
     fold: &RunFold<'_>,
-    given: &EventRows,
     part: &PartBlock,
     stop: &FoldStop,
 ) {
     is_shared(work);
     is_shared(fold);
-    is_shared(given);
     is_shared(part);
     is_shared(stop);
 }

@@ -1,14 +1,15 @@
 //! What makes the parts of a round.
 //! The rules: docs/ARCHITECTURE.md, "A run of all stages".
-ghost use Rattle.std.specs.Prelude.{◌≡◌, ◌≤◌, ◌<◌, All, IfOk, length};
+ghost use Rattle.std.specs.Prelude.{◌≡◌, ◌≤◌, ◌<◌, ◌+◌, ◌*◌, All, IfOk, drop, length, min, take};
 ghost use Rattle.std.specs.List.{AllByRecursion};
 ghost use Rattle.kt_event.specs.Losses.{AreSummaries};
 ghost use Rattle.kt_event.specs.Plan.{IsPlan, terms_of};
 ghost use Rattle.kt_stream.specs.Pairs.{IsId};
 ghost use Rattle.kt_chain.specs.Rounds.{part_count, part_events, part_of};
 
-use crate::part::{EventRows, PartBlock, RefusedRow};
+use crate::part::{PartBlock, RefusedRow};
 use kt_event::{Plan, event_block};
+use kt_load::RoundRows;
 use kt_out::Gate;
 use kt_part::Work;
 use kt_rec::ModelStop;
@@ -25,7 +26,7 @@ pub(crate) struct RoundWork<'a, G> {
     pub(crate) alloc: Global,
     pub(crate) portfolio: &'a Portfolio,
     pub(crate) plan: &'a Plan,
-    pub(crate) given: &'a [EventRows],
+    pub(crate) given: &'a RoundRows,
     pub(crate) batch: u32,
 }
 
@@ -40,40 +41,40 @@ impl<'a, G> Model for RoundWork<'a, G> {
     ghost invariant = { λ w. AreParts w.portfolio.now w.plan.now w.given.now w.batch };
 }
 
-/// The events of a part.
-fn events_of(given: &[EventRows], batch: u32, part: u32) -> &[EventRows]
+/// The places of the events of a part in a round of so many: that of the first, and that behind the last.
+fn places_of(events: u32, batch: u32, part: u32) -> (u32, u32)
     requires some { 1 ≤ batch }
     requires few { batch ≤ 4 }
-    requires within { part < part_count batch (length given.now) }
-    requires round { length given.now ≤ 64 }
-    ensures value { result.now ≡ part_events batch given.now part }
+    requires within { part < part_count batch events }
+    requires round { events ≤ 64 }
+    ensures first { result.0 ≡ part * batch }
+    ensures behind { result.1 ≡ min events (part * batch + batch) }
 {
-    let rest = &given[part as usize * batch as usize..];
-    if rest.len() <= batch as usize {
-        rest
-    } else {
-        &rest[..batch as usize]
-    }
+    let first = part * batch;
+    (first, events.min(first + batch))
 }
 
-/// The blocks of events, up to the first whose rows are refused.
-fn part_of(
+/// The blocks of the events from one place up to another, up to the first whose rows are refused.
+fn part_between(
     alloc: Global,
     portfolio: &Portfolio,
     plan: &Plan,
-    given: &[EventRows],
+    given: &RoundRows,
+    first: u32,
+    behind: u32,
 ) -> Result<PartBlock, AllocError>
     requires plan { IsPlan portfolio.now plan.now }
     requires events { All (λ one. IsId one.event) given.now }
-    ensures value { IfOk result (λ part. part ≡ part_of (terms_of plan.now) portfolio.now.rows given.now) }
+    requires within { behind ≤ length given.now }
+    ensures value { IfOk result (λ part. part ≡ part_of (terms_of plan.now) portfolio.now.rows (drop first (take behind given.now))) }
     ensures good { IfOk result (λ part. AllByRecursion (λ block. AreSummaries (terms_of plan.now).samples block.summaries) part.blocks) }
 {
     let mut blocks = Records::new(alloc);
-    for one in given {
-        match event_block(alloc, portfolio, plan, one.event, &one.rows) {
+    for n in first..behind {
+        let event = given.event(n);
+        match event_block(alloc, portfolio, plan, event, given.rows(n)) {
             Ok(block) => blocks.push(block)?,
             Err(ModelStop::Row { row, cause }) => {
-                let event = one.event;
                 return Ok(PartBlock {
                     blocks,
                     refused: Some(RefusedRow { event, row, cause }),
@@ -88,6 +89,28 @@ fn part_of(
     })
 }
 
+/// The blocks of the events of a part, up to the first whose rows are refused.
+fn part_of(
+    alloc: Global,
+    portfolio: &Portfolio,
+    plan: &Plan,
+    given: &RoundRows,
+    batch: u32,
+    part: u32,
+) -> Result<PartBlock, AllocError>
+    requires plan { IsPlan portfolio.now plan.now }
+    requires events { All (λ one. IsId one.event) given.now }
+    requires some { 1 ≤ batch }
+    requires few { batch ≤ 4 }
+    requires within { part < part_count batch (length given.now) }
+    requires round { length given.now ≤ 64 }
+    ensures value { IfOk result (λ made. made ≡ part_of (terms_of plan.now) portfolio.now.rows (part_events batch given.now part)) }
+    ensures good { IfOk result (λ made. AllByRecursion (λ block. AreSummaries (terms_of plan.now).samples block.summaries) made.blocks) }
+{
+    let (first, behind) = places_of(given.count(), batch, part);
+    part_between(alloc, portfolio, plan, given, first, behind)
+}
+
 impl<'a, G: Gate> Work for RoundWork<'a, G> {
     ghost use Rattle.std.specs.Prelude.{length};
     ghost use Rattle.kt_chain.specs.Rounds.{IsPart, part_count};
@@ -100,7 +123,13 @@ impl<'a, G: Gate> Work for RoundWork<'a, G> {
 
     fn work(&self, k: u32) -> Result<PartBlock, AllocError> {
         self.gate.pass(k);
-        let given = events_of(self.given, self.batch, k);
-        part_of(self.alloc, self.portfolio, self.plan, given)
+        part_of(
+            self.alloc,
+            self.portfolio,
+            self.plan,
+            self.given,
+            self.batch,
+            k,
+        )
     }
 }

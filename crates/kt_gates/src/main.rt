@@ -1,10 +1,11 @@
 //! Sees which parts of a round are made side by side, by a gate that holds each until its group has begun, and prints each run that
-//! is not as it must be, and how many were tried.
+//! is not as it must be, and how many were tried; then prints what runs of three rounds ask of the footprint's file.
 //! What is tried: README.md.
 #![tactic(auto)]
 
 mod failure;
 mod gate;
+mod reads;
 mod tables;
 mod words;
 
@@ -109,6 +110,9 @@ fn main(rt: HostRuntime) -> ExitCode {
         if try_all(&rt, events).is_err() {
             return ExitCode::FAILURE;
         }
+    }
+    if reads::print_runs(&rt).is_err() {
+        return ExitCode::FAILURE;
     }
     ExitCode::SUCCESS
 }

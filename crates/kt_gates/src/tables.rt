@@ -1,9 +1,9 @@
-//! The tables of a run of sixteen events over one item.
+//! The tables of a run of some events over one item.
 //! What they are for: README.md.
 
 use crate::failure::Failure;
 use crate::words::words_of;
-use kt_out::{Open, SureInputs, SureOutputs, SureSink, SureSource};
+use kt_out::{MemInputs, Open, SureInputs, SureOutputs, SureSink, SureSource};
 use kt_tools::{Status, run};
 use std::alloc::{AllocGlobal, Global};
 use std::thread::Threads;
@@ -11,7 +11,14 @@ use std::thread::Threads;
 /// A table: its file, the words that make the file of its text, and the rows of the text.
 struct Table(&'static str, &'static str, &'static str);
 
-/// How each of the sixteen events strikes the item: for certain, at the one intensity.
+/// A file of a run: its name and its bytes.
+#[derive(Drop)]
+struct NamedFile {
+    name: &'static str,
+    bytes: Vec<u8>,
+}
+
+/// How each of sixteen events strikes the item: for certain, at the one intensity.
 const STRIKES: &str = "1,1,1,1\n2,1,1,1\n3,1,1,1\n4,1,1,1\n5,1,1,1\n6,1,1,1\n7,1,1,1\n8,1,1,1\n9,1,1,1\n10,1,1,1\n11,1,1,1\n12,1,1,1\n13,1,1,1\n14,1,1,1\n15,1,1,1\n16,1,1,1\n";
 
 /// The events in their order.
@@ -20,12 +27,10 @@ pub(crate) const RISING: &str = "1\n2\n3\n4\n5\n6\n7\n8\n9\n10\n11\n12\n13\n14\n
 /// The same, the last first.
 pub(crate) const FALLING: &str = "16\n15\n14\n13\n12\n11\n10\n9\n8\n7\n6\n5\n4\n3\n2\n1\n";
 
-/// The tables but for that of the events.
-const TABLES: [Table; 10] = [
+/// The tables but for those of the events and their footprint.
+const TABLES: [Table; 8] = [
     Table("input/items.bin", "tobin items", "1,1,1,1,1\n"),
     Table("input/coverages.bin", "tobin coverages", "1,1000\n"),
-    Table("static/footprint.bin", "tobin footprint", STRIKES),
-    Table("static/footprint.idx", "tobin footprint_idx", STRIKES),
     Table(
         "static/vulnerability.bin",
         "tobin vulnerability",
@@ -54,10 +59,10 @@ fn text_of(alloc: Global, rows: &str) -> Result<Vec<u8>, Failure> {
 }
 
 /// Adds the file of a table, as the program makes it of the text of these rows.
-fn add_table<R: Threads + Sync + AllocGlobal>(
+fn add_file<R: Threads + Sync + AllocGlobal>(
     rt: &R,
-    inputs: &mut SureInputs,
-    name: &str,
+    files: &mut Vec<NamedFile>,
+    name: &'static str,
     words: &str,
     rows: &str,
 ) -> Result<(), Failure> {
@@ -75,21 +80,65 @@ fn add_table<R: Threads + Sync + AllocGlobal>(
         &mut sink,
         &mut SureSink::new(alloc),
     );
-    match status {
-        Status::Done => Ok(inputs.add(name.as_bytes(), sink.taken())?),
-        _ => Err(Failure),
+    if !matches!(status, Status::Done) {
+        return Err(Failure);
     }
+    let bytes = sink.taken().to_vec(alloc)?;
+    files.push(NamedFile { name, bytes })?;
+    Ok(())
 }
 
-/// The files of a run whose events stand in this order.
+/// The files of a run of these events, which strike the item so.
+fn files_of<R: Threads + Sync + AllocGlobal>(
+    rt: &R,
+    events: &str,
+    strikes: &str,
+) -> Result<Vec<NamedFile>, Failure> {
+    let mut files = Vec::new(rt.alloc());
+    add_file(rt, &mut files, "input/events.bin", "tobin events", events)?;
+    add_file(
+        rt,
+        &mut files,
+        "static/footprint.bin",
+        "tobin footprint",
+        strikes,
+    )?;
+    add_file(
+        rt,
+        &mut files,
+        "static/footprint.idx",
+        "tobin footprint_idx",
+        strikes,
+    )?;
+    for table in &TABLES {
+        add_file(rt, &mut files, table.0, table.1, table.2)?;
+    }
+    Ok(files)
+}
+
+/// The files of a run of the sixteen events in this order.
 pub(crate) fn inputs_of<R: Threads + Sync + AllocGlobal>(
     rt: &R,
     events: &str,
 ) -> Result<SureInputs, Failure> {
     let mut inputs = SureInputs::new(rt.alloc());
-    add_table(rt, &mut inputs, "input/events.bin", "tobin events", events)?;
-    for table in &TABLES {
-        add_table(rt, &mut inputs, table.0, table.1, table.2)?;
+    for file in &files_of(rt, events, STRIKES)? {
+        inputs.add(file.name.as_bytes(), &file.bytes)?;
+    }
+    Ok(inputs)
+}
+
+/// The files of a run of these events, which strike the item so, and which keep what was read of them. One read moves all that it
+/// asks for.
+pub(crate) fn kept_inputs_of<R: Threads + Sync + AllocGlobal>(
+    rt: &R,
+    events: &str,
+    strikes: &str,
+) -> Result<MemInputs, Failure> {
+    let alloc = rt.alloc();
+    let mut inputs = MemInputs::new(alloc, Vec::new(alloc), u64::MAX);
+    for file in &files_of(rt, events, strikes)? {
+        inputs.add(file.name.as_bytes(), &file.bytes)?;
     }
     Ok(inputs)
 }

@@ -9,3 +9,5 @@ mod TableLemmas
 mod TablesLemmas
 mod NeedLemmas
 mod EventRowLemmas
+mod SpanLemmas
+mod HoldLemmas

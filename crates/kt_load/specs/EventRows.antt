@@ -1,6 +1,6 @@
--- The footprint rows of one event, as they stand in the footprint's file.
+-- The footprint rows of events, as they stand in the footprint's file.
 -- The rules: docs/TABLES.md, "Footprint rows of an event".
-use Rattle.std.specs.Prelude.{◌≡◌, ◌+◌, ◌≤◌, ℕ, zero, suc, ◌/◌, List, [], ◌∷◌, length, drop, Option, Some, None, IsSomeAnd, ⊤}
+use Rattle.std.specs.Prelude.{◌≡◌, ◌+◌, ◌≤◌, ℕ, zero, suc, ◌/◌, ◌%◌, List, [], ◌∷◌, length, drop, map, Option, Some, None, IfSome, IsSomeAnd, ⊤}
 use Rattle.byteorder.specs.Endian.{little_number}
 use Rattle.kt_out.specs.NamedFiles.{FileMap}
 use Rattle.kt_rec.specs.Rows.{Rows}
@@ -32,12 +32,30 @@ rows_at bytes (Some place) = foot_rows_in (place.size / 12) (drop place.at bytes
 abbrev pub event_rows : Rows → List ℕ → ℕ → List FootRow
 event_rows rows bytes event = rows_at bytes (place_in rows event)
 
+-- an event with its rows
+pub record EventRows : Type 0 where
+  pub event : ℕ
+  pub rows : List FootRow
+
+-- an event with its rows, as they stand in the footprint's file
+abbrev pub event_with_rows : Rows → List ℕ → ℕ → EventRows
+event_with_rows rows bytes event = record { event = event; rows = event_rows rows bytes event }
+
+-- the ids of events with their rows
+abbrev pub ids_of : List EventRows → List ℕ
+ids_of given = map (λ one. one.event) given
+
+-- where files are known, this holds of the bytes of the footprint's file
+abbrev pub OnFootprint : Option FileMap → (List ℕ → Type 0) → Type 0
+OnFootprint held holds = IfSome held (λ files. IfSome (files footprint_name) holds)
+
 -- the footprint's file has so many bytes, where files are known
 abbrev pub HasFootprint : Option FileMap → ℕ → Type 0
 HasFootprint None size = ⊤
 HasFootprint (Some files) size = IsSomeAnd (files footprint_name) (λ bytes. length bytes ≡ size)
 
--- the place of an event lies in a footprint's file of so many bytes
+-- the place of an event lies in a footprint's file of so many bytes, as whole rows
 pub record LiesWithin (size : ℕ) (place : Place) : Type 0 where
+  pub whole : place.size % 12 ≡ 0
   pub few : place.size ≤ 1200000
   pub within : place.at + place.size ≤ size

@@ -5,4 +5,5 @@ pub mod Loaded
 pub mod Ends
 pub mod Steps
 pub mod EventRows
+pub mod Spans
 pub mod FootprintSize

@@ -3,13 +3,17 @@
 
 mod event_rows;
 mod file;
+mod held_rows;
 mod loading;
 mod naming;
+mod round_rows;
 mod shared;
+mod spans;
 mod stop;
 mod table;
 
 pub use event_rows::foot_rows;
 pub use loading::{load, load_order};
 pub use naming::file_name;
+pub use round_rows::RoundRows;
 pub use stop::LoadStop;

@@ -1,8 +1,9 @@
 -- What contracts see of the objects in memory, and in which of their calls they fail.
-use Rattle.std.specs.Prelude.{ℕ, ◌-◌, List, length, min, Bool, if◌then◌else◌, ◌==◌, Option, None, Some, Result, Ok, Err}
+use Rattle.std.specs.Prelude.{◌≡◌, ◌⊎◌, ℕ, ◌-◌, List, [], ◌∷◌, ◌++◌, length, min, Bool, if◌then◌else◌, ◌==◌, Option, None, Some, Result, Ok, Err}
 use Rattle.std.specs.List.{list_any}
 use Rattle.kt_out.specs.declared.fault.Absent.{Absent}
 use Rattle.kt_out.specs.declared.fault.Fault.{Fault}
+use Rattle.kt_out.specs.declared.input_call.InputCall.{InputCall}
 use Rattle.kt_out.specs.Counts.{one_more}
 use Rattle.kt_out.specs.NamedFiles.{File, bytes_of}
 use Rattle.kt_out.specs.OutputFiles.{OutputsState}
@@ -47,11 +48,13 @@ pub record SureFiles : Type 0 where
   pub files : List File
   pub misses : ℕ
 
--- input files in memory that fail when told: the files, the count of calls that asked for a name that is not held, and the calls
+-- input files in memory that fail when told: the files, the count of calls that asked for a name that is not held, the calls, and the
+-- reads that have moved bytes, with what they asked for
 pub record MemoryInputs : Type 0 where
   pub files : List File
   pub misses : ℕ
   pub calls : CallsSoFar
+  pub reads : List InputCall
 
 -- output files in memory that fail when told: the files, and the calls
 pub record MemoryOutputs : Type 0 where
@@ -85,8 +88,8 @@ size_or_fault (Some bytes) fails = if fails then Err Absent.Failed else Ok (leng
 
 -- the input files after a name was looked up: whether it is held says which count the call may raise
 abbrev pub after_look_up : MemoryInputs → Option (List ℕ) → MemoryInputs
-after_look_up inputs None = record { files = inputs.files; misses = one_more inputs.misses; calls = after_pass inputs.calls }
-after_look_up inputs (Some bytes) = record { files = inputs.files; misses = inputs.misses; calls = after_call inputs.calls }
+after_look_up inputs None = record inputs { misses = one_more inputs.misses; calls = after_pass inputs.calls }
+after_look_up inputs (Some bytes) = record inputs { calls = after_call inputs.calls }
 
 -- the input files after a call for the size of a name: a miss is a call, and no fault
 abbrev pub after_size : MemoryInputs → List ℕ → MemoryInputs
@@ -100,3 +103,13 @@ length_of (Some bytes) = length bytes
 -- how many bytes a read from a place on gives: as many as there is room for and as lie behind the place, and at most so many
 abbrev pub read_or_fault : Option (List ℕ) → ℕ → ℕ → CallsSoFar → Result ℕ Fault
 read_or_fault held at room calls = if fails_next calls then Err Fault.Failed else Ok (min room (min (length_of held - at) calls.most))
+
+-- a read answers so; or, where it is not to fail, it may find no memory to keep the call
+abbrev pub IsReadOrMemory : Result ℕ Fault → Result ℕ Fault → Type 0
+IsReadOrMemory (Ok n) answer = (answer ≡ Ok n) ⊎ (answer ≡ Err Fault.OutOfMemory)
+IsReadOrMemory (Err fault) answer = answer ≡ Err fault
+
+-- the input files after a read of so many bytes of a name from a place on has answered: it is kept where it has moved bytes
+abbrev pub after_read : MemoryInputs → List ℕ → ℕ → ℕ → Result ℕ Fault → MemoryInputs
+after_read inputs name at room (Ok n) = record inputs { calls = after_call inputs.calls; reads = inputs.reads ++ record { name = name; at = at; len = room } ∷ [] }
+after_read inputs name at room (Err fault) = record inputs { calls = after_call inputs.calls }

@@ -9,6 +9,7 @@ mod dir_outputs;
 mod fault;
 mod folder;
 mod gate;
+mod input_call;
 mod inputs;
 mod memory;
 mod output_folder;
@@ -24,6 +25,7 @@ pub use dir_inputs::DirInputs;
 pub use dir_outputs::DirOutputs;
 pub use fault::{Absent, Failed, Fault};
 pub use gate::{Gate, Open};
+pub use input_call::InputCall;
 pub use inputs::Inputs;
 pub use memory::{
     MemInputs, MemOutputs, MemSink, MemSource, SureInputs, SureOutputs, SureSink, SureSource,

@@ -1,14 +1,21 @@
 //! The types of this crate may be sent to other threads and shared by them.
 use crate::{
-    Absent, DirInputs, DirOutputs, Failed, Fault, MemInputs, MemOutputs, MemSink, MemSource, Open,
-    SureInputs, SureOutputs, SureSink, SureSource,
+    Absent, DirInputs, DirOutputs, Failed, Fault, InputCall, MemInputs, MemOutputs, MemSink,
+    MemSource, Open, SureInputs, SureOutputs, SureSink, SureSource,
 };
 use std::fs::Files;
 
 fn is_shared<T: Send + Sync>(_: &T) {}
 
-/// The answers, and the open gate.
-fn answers_are_shared(failed: &Failed, fault: &Fault, absent: &Absent, open: &Open) {
+/// The answers, a call that is kept, and the open gate.
+fn answers_are_shared(
+    failed: &Failed,
+    fault: &Fault,
+    absent: &Absent,
+    call: &InputCall,
+    open: &Open,
+) {
+    is_shared(call);
     is_shared(failed);
     is_shared(fault);
     is_shared(absent);

@@ -1,22 +1,25 @@
 //! Input files in memory that fail in the calls that they are told to.
-ghost use Rattle.std.specs.Prelude.{◌≡◌, ◌<◌, ◌≤◌, [], Some, length, OnErr, OnOk};
+ghost use Rattle.std.specs.Prelude.{◌≡◌, ◌<◌, ◌≤◌, ◌++◌, ◌∷◌, [], Some, length, OnErr, OnOk};
 ghost use Rattle.kt_out.specs.InputFiles.{InFile, ReadsAt};
-ghost use Rattle.kt_out.specs.MemoryObjects.{after_call, after_size, fails_next, no_calls, read_or_fault, size_or_fault};
+ghost use Rattle.kt_out.specs.MemoryObjects.{IsReadOrMemory, after_read, after_size, fails_next, no_calls, read_or_fault, size_or_fault};
 ghost use Rattle.kt_out.specs.NamedFiles.{bytes_of, with_file};
 ghost use Rattle.kt_out.specs.OutputFiles.{Sets};
 
 use super::calls::{Calls, moved_bytes};
 use super::files::Files;
-use crate::{Absent, Fault, Inputs};
+use crate::{Absent, Fault, InputCall, Inputs};
+use kt_rec::Name;
 use std::alloc::{AllocError, Global};
 use std::marker::Model;
 
-/// Input files in memory. They fail in listed calls, and one call moves a limited number of bytes.
+/// Input files in memory. They fail in listed calls, one call moves a limited number of bytes, and they keep which reads were asked for.
 #[derive(Drop)]
 pub struct MemInputs {
+    alloc: Global,
     files: Files,
     misses: u64,
     calls: Calls,
+    reads: Vec<InputCall>,
 }
 
 impl Model for MemInputs {
@@ -24,7 +27,29 @@ impl Model for MemInputs {
 
     ghost Value = { MemoryInputs };
 
-    ghost view = { λ s. record { files = s.files; misses = s.misses; calls = s.calls } };
+    ghost view = { λ s. record { files = s.files; misses = s.misses; calls = s.calls; reads = s.reads.items } };
+}
+
+/// Keeps a read behind the others, whole or not at all. An error is want of memory.
+fn keep(
+    alloc: Global,
+    reads: &mut Vec<InputCall>,
+    name: &[u8],
+    at: u64,
+    len: u64,
+) -> Result<(), AllocError>
+    ensures ok { OnOk result (reads.new.items ≡ reads.old.items ++ record { name = name.now; at = at; len = len } ∷ []) }
+
+    ensures unchanged { OnErr result (reads.new.items ≡ reads.old.items) }
+{
+    let mut kept = Name::new(alloc);
+    kept.append(name)?;
+    reads.push(InputCall {
+        name: kept,
+        at,
+        len,
+    })?;
+    Ok(())
 }
 
 impl MemInputs {
@@ -34,12 +59,14 @@ impl MemInputs {
     pub fn new(alloc: Global, fails: Vec<u64>, most: u64) -> Self
         requires { 0 < most }
 
-        ensures { result ≡ record { files = []; misses = 0; calls = no_calls fails.items most } }
+        ensures { result ≡ record { files = []; misses = 0; calls = no_calls fails.items most; reads = [] } }
     {
         MemInputs {
+            alloc,
             files: Files::new(alloc),
             misses: 0,
             calls: Calls::new(fails, most),
+            reads: Vec::new(alloc),
         }
     }
 
@@ -52,6 +79,13 @@ impl MemInputs {
         ensures unchanged { OnErr result (self.new ≡ self.old) }
     {
         self.files.put(name, bytes)
+    }
+
+    /// The calls of `read_at` so far that have moved bytes, in order.
+    pub fn calls(&self) -> &[InputCall]
+        ensures value { result.now ≡ self.now.reads }
+    {
+        &self.reads
     }
 }
 
@@ -84,21 +118,23 @@ impl Inputs for MemInputs {
         Ok(bytes.len() as u64)
     }
 
-    /// Reads from a place on. It fails exactly in the calls that are listed.
+    /// Reads from a place on. It fails exactly in the calls that are listed. Any other is kept for `calls`, or, where there is no
+    /// memory for that, moves nothing and is not kept.
     fn read_at(&mut self, name: &[u8], at: u64, buf: &mut [u8]) -> Result<usize, Fault>
         requires room { 0 < length buf.old }
         requires in_file { InFile (Some (bytes_of self.old.files)) name.now at }
 
         ensures moved { ReadsAt (Some (bytes_of self.old.files)) name.now at buf.old buf.new result }
-        ensures exact { result ≡ read_or_fault (bytes_of self.old.files name.now) at (length buf.old) self.old.calls }
+        ensures exact { IsReadOrMemory (read_or_fault (bytes_of self.old.files name.now) at (length buf.old) self.old.calls) result }
 
         ensures unchanged { OnErr result (buf.new ≡ buf.old) }
         ensures counted { self.old.calls.failed ≤ self.new.calls.failed }
-        ensures calls { self.new ≡ record self.old { calls = after_call self.old.calls } }
+        ensures calls { self.new ≡ after_read self.old name.now at (length buf.old) result }
     {
         if self.calls.next_fails() {
             return Err(Fault::Failed);
         }
+        keep(self.alloc, &mut self.reads, name, at, buf.len() as u64)?;
         let Some(bytes) = self.files.get(name) else {
             unreachable!()
         };

@@ -1,25 +1,28 @@
-use Rattle.std.proofs.Common.{◌∙◌, ◌+◌, ◌*◌, ◌-◌, ◌/◌, ◌≤◌, [], Err, length, ap, sym, subst}
+use Rattle.std.proofs.Common.{◌∙◌, ◌+◌, ◌*◌, ◌-◌, ◌/◌, ◌≤◌, [], ℕ, Err, length, ap, sym, subst}
 use Rattle.kt_chain.specs.declared.fold.FoldStop.{FoldStop}
 use Rattle.kt_part.specs.Folding.{RoundEnds}
 use Rattle.kt_part.specs.declared.round.RoundStop.{RoundStop}
 use Rattle.kt_chain.proofs.RoundLemmas.{begins, enough, few_parts, round_passes, round_stopped, start_of}
-use Rattle.kt_chain.specs.Rounds.{IsGoodPart, IsPart, RoundParts, StandsBehind, StopsBehind}
+use Rattle.kt_chain.specs.Rounds.{IsGoodPart, IsPart, RoundParts, StandsBehind, StopsBehind, part_count}
 use Rattle.kt_chain.specs.Runs.{RunShares}
 use Rattle.kt_event.specs.Plan.{terms_of}
 use Rattle.kt_chain.proofs.rounds.fold_round.Goals as goal
 
 pub run_round-requires-clause-fits : goal.run_round-requires-clause-fits
-run_round-requires-clause-fits g c = λ lives within k part below is.
+run_round-requires-clause-fits g c = λ lifetimes outlive k part below is.
     c.requires.fits part (subst (λ (run : RunShares). IsGoodPart run.terms.samples part) c.run.view_is is.good)
 
 pub run_round-requires-clause-count : goal.run_round-requires-clause-count
-run_round-requires-clause-count g c = λ lives within. few_parts c.run.inside.batch (length c.args.given.now) c.run.invariant.some (subst (λ (run : RunShares). length c.args.given.now ≤ 16 * run.batch) (sym c.run.view_is) c.requires.few)
+run_round-requires-clause-count g c = λ lifetimes outlive.
+    few_parts c.run.inside.batch c.count.result c.run.invariant.some
+    (subst (λ (n : ℕ). n ≤ 16 * c.run.inside.batch) (sym c.count.ensures.value) (subst (λ (run : RunShares). length c.args.given.now ≤ 16 * run.batch) (sym c.run.view_is) c.requires.few))
 
 pub returns-in-Ok-clause-folds : goal.returns-in-Ok-clause-folds
 returns-in-Ok-clause-folds g c = λ input done terms rows given folded.
     round_passes input (record { terms = terms_of c.run.inside.plan.now; rows = c.run.inside.portfolio.now.rows; given = c.args.given.now; batch = c.run.inside.batch })
     (terms ∙ sym (ap (λ (run : RunShares). run.terms) c.run.view_is)) (rows ∙ sym (ap (λ (run : RunShares). run.portfolio.rows) c.run.view_is)) given done
-    c.run_round.new.fold _ (c.in-Ok.ensures.round (start_of input done) [] (begins input done c.args.fold.now folded)) (enough c.run.inside.batch (length c.args.given.now) c.run.invariant.some)
+    c.run_round.new.fold _ (c.in-Ok.ensures.round (start_of input done) [] (begins input done c.args.fold.now folded))
+    (subst (λ (n : ℕ). length c.args.given.now ≤ part_count c.run.inside.batch n * c.run.inside.batch) (sym c.count.ensures.value) (enough c.run.inside.batch (length c.args.given.now) c.run.invariant.some))
 
 pub returns-in-Ok-clause-fits : goal.returns-in-Ok-clause-fits
 returns-in-Ok-clause-fits g c = λ part good. c.run_round.ensures.fits part (c.requires.fits part good)
@@ -30,7 +33,7 @@ returns-in-Err-OutOfMemory-clause-fits g c = λ part good. c.run_round.ensures.f
 pub returns-in-Some-clause-folds : goal.returns-in-Some-clause-folds
 returns-in-Some-clause-folds g c = λ input done terms rows given folded.
     let round : RoundParts = record { terms = terms_of c.run.inside.plan.now; rows = c.run.inside.portfolio.now.rows; given = c.args.given.now; batch = c.run.inside.batch } in
-    let count = (length c.args.given.now + c.run.inside.batch - 1) / c.run.inside.batch in
+    let count = (c.count.result + c.run.inside.batch - 1) / c.run.inside.batch in
     let start = start_of input done in
     round_stopped input round
     (terms ∙ sym (ap (λ (run : RunShares). run.terms) c.run.view_is)) (rows ∙ sym (ap (λ (run : RunShares). run.portfolio.rows) c.run.view_is)) given done

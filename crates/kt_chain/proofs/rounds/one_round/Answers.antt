@@ -1,33 +1,31 @@
-use Rattle.std.proofs.Common.{◌≡◌, ◌++◌, ◌∙◌, All, Ok, Err, ap, sym, subst, true}
+use Rattle.std.proofs.Common.{◌≡◌, ◌++◌, All, Ok, Err, ap, sym, subst, true}
 use Rattle.kt_event.specs.Loading.{loads_footprint, loads_footprint_index}
 use Rattle.kt_keys.specs.Refusals.{is_loaded}
 use Rattle.kt_rec.specs.declared.table.Table.TheVariants as table
 use Rattle.kt_stream.specs.Pairs.{IsId}
 use Rattle.kt_ends.specs.declared.tool_stop.ToolStop.{ToolStop}
 use Rattle.kt_chain.specs.Files.{files_upto}
-use Rattle.kt_chain.specs.Rounds.{ids_of}
 use Rattle.kt_chain.specs.Runs.{RoundMakes, RunShares}
 use Rattle.kt_chain.proofs.StepLemmas.{ended, files_of_run, folds_to, ids_are, none_goes, none_makes, nothing_written, reading_stops, refused_goes, upto_made, writing_stops}
 use Rattle.kt_chain.proofs.rounds.one_round.Goals as goal
 
-pub round_rows-requires-clause-footprint : goal.round_rows-requires-clause-footprint
-round_rows-requires-clause-footprint g c =
+pub fill_rows-requires-clause-footprint : goal.fill_rows-requires-clause-footprint
+fill_rows-requires-clause-footprint g c =
     subst (λ (run : RunShares). is_loaded run.portfolio.need 0 table.Footprint ≡ true) (sym c.run.view_is)
     (loads_footprint c.args.run.now.terms c.args.run.now.portfolio.need c.has_files.ensures.need c.has_files.ensures.terms)
 
-pub round_rows-requires-clause-index : goal.round_rows-requires-clause-index
-round_rows-requires-clause-index g c =
+pub fill_rows-requires-clause-index : goal.fill_rows-requires-clause-index
+fill_rows-requires-clause-index g c =
     subst (λ (run : RunShares). is_loaded run.portfolio.need 0 table.FootprintIdx ≡ true) (sym c.run.view_is)
     (loads_footprint_index c.args.run.now.terms c.args.run.now.portfolio.need c.has_files.ensures.need c.has_files.ensures.terms)
 
 pub returns-in-Err-clause-files : goal.returns-in-Err-clause-files
 returns-in-Err-clause-files g c = λ input done is folded.
-    reading_stops input done c.args.events.now (g.I.Inputs.state c.args.inputs.now) (g.I.Inputs.state c.round_rows.new.inputs) (g.O.Outputs.state c.args.outputs.now) c.in-Err.stop c.in-Err.ensures.inputs
+    reading_stops input done c.args.events.now (g.I.Inputs.state c.args.inputs.now) (g.I.Inputs.state c.fill_rows.new.inputs) (g.O.Outputs.state c.args.outputs.now) c.in-Err.stop c.in-Err.ensures.inputs
 
 pub fold_round-requires-clause-events : goal.fold_round-requires-clause-events
-fold_round-requires-clause-events g c = λ lives within.
-    ids_are c.deref.result.now
-    (subst (All IsId) (sym (ap ids_of c.deref.ensures.value ∙ c.in-Ok.ensures.events)) c.requires.events)
+fold_round-requires-clause-events g c =
+    λ lifetimes outlive. ids_are c.fill_rows.new.given (subst (All IsId) (sym c.in_default.ensures.events) c.requires.events)
 
 pub returns-in-Err-fold_round-clause-files : goal.returns-in-Err-fold_round-clause-files
 returns-in-Err-fold_round-clause-files g c = λ input done is folded.
@@ -35,36 +33,36 @@ returns-in-Err-fold_round-clause-files g c = λ input done is folded.
 
 pub returns-in-Err-write_kept-clause-files : goal.returns-in-Err-write_kept-clause-files
 returns-in-Err-write_kept-clause-files g c = λ input done is folded.
-    let to = folds_to input c.args.run.now done c.args.events.now c.in-Ok.given.items c.deref.result.now c.deref.ensures.value c.in-Ok.ensures.events c.run.inside.portfolio.now.rows (ap (λ (run : RunShares). run.portfolio.rows) c.run.view_is) (g.I.Inputs.state c.args.inputs.now).held is c.in-Ok.ensures.rows c.args.fold.now folded c.in-Ok-fold_round.refusal c.fold_round.new.fold c.in-Ok-fold_round.ensures.folds in
+    let to = folds_to input c.args.run.now done c.args.events.now c.fill_rows.new.given c.in_default.ensures.events c.run.inside.portfolio.now.rows (ap (λ (run : RunShares). run.portfolio.rows) c.run.view_is) (g.I.Inputs.state c.args.inputs.now).held is c.in_default.ensures.rows c.args.fold.now folded c.in-Ok.refusal c.fold_round.new.fold c.in-Ok.ensures.folds in
     subst (λ (stop : ToolStop). RoundMakes input done c.args.events.now (g.O.Outputs.state c.args.outputs.now) (g.O.Outputs.state c.write_kept.new.outputs) (Err stop)) (sym c.write_stop.ensures)
-    (writing_stops input done c.args.events.now c.in-Ok-fold_round.refusal c.fold_round.new.fold to (g.O.Outputs.state c.args.outputs.now) (g.O.Outputs.state c.write_kept.new.outputs) c.in-Err-write_kept.fault
+    (writing_stops input done c.args.events.now c.in-Ok.refusal c.fold_round.new.fold to (g.O.Outputs.state c.args.outputs.now) (g.O.Outputs.state c.write_kept.new.outputs) c.in-Err-write_kept.fault
     (upto_made input c.args.run.now.files (files_of_run input c.args.run.now (g.I.Inputs.state c.args.inputs.now).held is c.has_files.ensures.files) done to.front c.fold_round.new.fold.cells.samples c.fold_round.new.fold.rows _ to.samples to.rows to.kept
     (g.O.Outputs.state c.args.outputs.now) (g.O.Outputs.state c.write_kept.new.outputs) (Err c.in-Err-write_kept.fault) c.in-Err-write_kept.ensures.made))
 
 pub returns-in-Some-clause-events : goal.returns-in-Some-clause-events
 returns-in-Some-clause-events g c = λ input done is folded.
-    let to = folds_to input c.args.run.now done c.args.events.now c.in-Ok.given.items c.deref.result.now c.deref.ensures.value c.in-Ok.ensures.events c.run.inside.portfolio.now.rows (ap (λ (run : RunShares). run.portfolio.rows) c.run.view_is) (g.I.Inputs.state c.args.inputs.now).held is c.in-Ok.ensures.rows c.args.fold.now folded c.in-Ok-fold_round.refusal c.fold_round.new.fold c.in-Ok-fold_round.ensures.folds in
-    record { reached = done ++ to.front; stops = refused_goes input done c.args.events.now c.in-Some.why c.in-Ok-fold_round.refusal c.in-Some.is c.fold_round.new.fold to }
+    let to = folds_to input c.args.run.now done c.args.events.now c.fill_rows.new.given c.in_default.ensures.events c.run.inside.portfolio.now.rows (ap (λ (run : RunShares). run.portfolio.rows) c.run.view_is) (g.I.Inputs.state c.args.inputs.now).held is c.in_default.ensures.rows c.args.fold.now folded c.in-Ok.refusal c.fold_round.new.fold c.in-Ok.ensures.folds in
+    record { reached = done ++ to.front; stops = refused_goes input done c.args.events.now c.in-Some.why c.in-Ok.refusal c.in-Some.is c.fold_round.new.fold to }
 
 pub returns-in-Some-clause-files : goal.returns-in-Some-clause-files
 returns-in-Some-clause-files g c = λ input done is folded.
-    let to = folds_to input c.args.run.now done c.args.events.now c.in-Ok.given.items c.deref.result.now c.deref.ensures.value c.in-Ok.ensures.events c.run.inside.portfolio.now.rows (ap (λ (run : RunShares). run.portfolio.rows) c.run.view_is) (g.I.Inputs.state c.args.inputs.now).held is c.in-Ok.ensures.rows c.args.fold.now folded c.in-Ok-fold_round.refusal c.fold_round.new.fold c.in-Ok-fold_round.ensures.folds in
+    let to = folds_to input c.args.run.now done c.args.events.now c.fill_rows.new.given c.in_default.ensures.events c.run.inside.portfolio.now.rows (ap (λ (run : RunShares). run.portfolio.rows) c.run.view_is) (g.I.Inputs.state c.args.inputs.now).held is c.in_default.ensures.rows c.args.fold.now folded c.in-Ok.refusal c.fold_round.new.fold c.in-Ok.ensures.folds in
     record {
       reached = done ++ to.front;
-      stops = refused_goes input done c.args.events.now c.in-Some.why c.in-Ok-fold_round.refusal c.in-Some.is c.fold_round.new.fold to;
+      stops = refused_goes input done c.args.events.now c.in-Some.why c.in-Ok.refusal c.in-Some.is c.fold_round.new.fold to;
       makes = ended (files_upto input done) (files_upto input (done ++ to.front)) (g.O.Outputs.state c.args.outputs.now) (g.O.Outputs.state c.write_kept.new.outputs)
           (upto_made input c.args.run.now.files (files_of_run input c.args.run.now (g.I.Inputs.state c.args.inputs.now).held is c.has_files.ensures.files) done to.front c.fold_round.new.fold.cells.samples c.fold_round.new.fold.rows _ to.samples to.rows to.kept
-          (g.O.Outputs.state c.args.outputs.now) (g.O.Outputs.state c.write_kept.new.outputs) (Ok tt) c.in_default.ensures.made);
+          (g.O.Outputs.state c.args.outputs.now) (g.O.Outputs.state c.write_kept.new.outputs) (Ok tt) c.in_default-write_kept.ensures.made);
     }
 
-pub returns-clause-events : goal.returns-clause-events
-returns-clause-events g c = λ input done is folded.
-    let to = folds_to input c.args.run.now done c.args.events.now c.in-Ok.given.items c.deref.result.now c.deref.ensures.value c.in-Ok.ensures.events c.run.inside.portfolio.now.rows (ap (λ (run : RunShares). run.portfolio.rows) c.run.view_is) (g.I.Inputs.state c.args.inputs.now).held is c.in-Ok.ensures.rows c.args.fold.now folded c.in-Ok-fold_round.refusal c.fold_round.new.fold c.in-Ok-fold_round.ensures.folds in
-    none_goes input done c.args.events.now c.in-Ok-fold_round.refusal c.in-None.is c.fold_round.new.fold c.write_kept.new.fold to c.in_default.ensures.fold
+pub returns-in-None-clause-events : goal.returns-in-None-clause-events
+returns-in-None-clause-events g c = λ input done is folded.
+    let to = folds_to input c.args.run.now done c.args.events.now c.fill_rows.new.given c.in_default.ensures.events c.run.inside.portfolio.now.rows (ap (λ (run : RunShares). run.portfolio.rows) c.run.view_is) (g.I.Inputs.state c.args.inputs.now).held is c.in_default.ensures.rows c.args.fold.now folded c.in-Ok.refusal c.fold_round.new.fold c.in-Ok.ensures.folds in
+    none_goes input done c.args.events.now c.in-Ok.refusal c.in-None.is c.fold_round.new.fold c.write_kept.new.fold to c.in_default-write_kept.ensures.fold
 
-pub returns-clause-files : goal.returns-clause-files
-returns-clause-files g c = λ input done is folded.
-    let to = folds_to input c.args.run.now done c.args.events.now c.in-Ok.given.items c.deref.result.now c.deref.ensures.value c.in-Ok.ensures.events c.run.inside.portfolio.now.rows (ap (λ (run : RunShares). run.portfolio.rows) c.run.view_is) (g.I.Inputs.state c.args.inputs.now).held is c.in-Ok.ensures.rows c.args.fold.now folded c.in-Ok-fold_round.refusal c.fold_round.new.fold c.in-Ok-fold_round.ensures.folds in
-    none_makes input done c.args.events.now c.in-Ok-fold_round.refusal c.in-None.is c.fold_round.new.fold to (g.O.Outputs.state c.args.outputs.now) (g.O.Outputs.state c.write_kept.new.outputs)
+pub returns-in-None-clause-files : goal.returns-in-None-clause-files
+returns-in-None-clause-files g c = λ input done is folded.
+    let to = folds_to input c.args.run.now done c.args.events.now c.fill_rows.new.given c.in_default.ensures.events c.run.inside.portfolio.now.rows (ap (λ (run : RunShares). run.portfolio.rows) c.run.view_is) (g.I.Inputs.state c.args.inputs.now).held is c.in_default.ensures.rows c.args.fold.now folded c.in-Ok.refusal c.fold_round.new.fold c.in-Ok.ensures.folds in
+    none_makes input done c.args.events.now c.in-Ok.refusal c.in-None.is c.fold_round.new.fold to (g.O.Outputs.state c.args.outputs.now) (g.O.Outputs.state c.write_kept.new.outputs)
     (upto_made input c.args.run.now.files (files_of_run input c.args.run.now (g.I.Inputs.state c.args.inputs.now).held is c.has_files.ensures.files) done to.front c.fold_round.new.fold.cells.samples c.fold_round.new.fold.rows _ to.samples to.rows to.kept
-    (g.O.Outputs.state c.args.outputs.now) (g.O.Outputs.state c.write_kept.new.outputs) (Ok tt) c.in_default.ensures.made)
+    (g.O.Outputs.state c.args.outputs.now) (g.O.Outputs.state c.write_kept.new.outputs) (Ok tt) c.in_default-write_kept.ensures.made)
