@@ -7,3 +7,17 @@ pub mod Running
 pub mod TableEnds
 mod GulLemmas
 mod ModelLemmas
+mod RunsOfEvents
+mod ModelByEvents
+mod GulByEvents
+mod LossesByEvents
+mod TablesByEvents
+mod Piping
+mod SplitStages
+mod SplitRun
+mod SplitInsured
+mod SplitAll
+mod NoLosses
+mod SplitTables
+mod SplitFiles
+mod SplitLaws

@@ -1,3 +1,4 @@
+pub mod ByEvents
 pub mod Converting
 pub mod FootprintText
 pub mod GulOutcome
@@ -7,4 +8,6 @@ pub mod ModelStage
 pub mod Needs
 pub mod Outcome
 pub mod RunEnds
+pub mod SplitFacts
+pub mod SplitRuns
 pub mod Uses

@@ -6,6 +6,7 @@ mod eve;
 mod footprint;
 mod getmodel;
 mod gulcalc;
+pub mod laws;
 mod need;
 mod stops;
 mod top_call;
