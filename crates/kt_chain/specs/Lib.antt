@@ -7,3 +7,5 @@ pub mod FoldKeeps
 pub mod Runs
 pub mod RoundRows
 pub mod RunLaws
+pub mod DoneLaws
+pub mod SetRecords

@@ -1,16 +1,26 @@
 //! What holds of every run, as functions that do nothing.
 //! The rules: docs/REFUSALS.md, "Order"; docs/OUTPUTS.md, "Files of a run".
-ghost use Rattle.std.specs.Prelude.{◌≡◌, ℕ, List, [], Some};
+ghost use Rattle.std.specs.Prelude.{◌≡◌, ℕ, List, [], map, Some, None};
+ghost use Rattle.std.specs.List.{flat_map};
 ghost use Rattle.kt_ends.specs.declared.status.Refusal.{Refusal};
+ghost use Rattle.kt_ends.specs.declared.status.Status.TheVariants.{Done};
 ghost use Rattle.kt_event.specs.declared.terms.SummarySet.{SummarySet};
 ghost use Rattle.kt_files.specs.declared.file.OutputFile.TheVariants.{OfSet};
 ghost use Rattle.kt_files.specs.declared.file.SetTable.TheVariants.{AverageAnnualLoss, ExceedanceCurve};
+ghost use Rattle.kt_loop.specs.Outcome.{gives};
+ghost use Rattle.kt_periods.specs.PeriodTables.{contents_outcome};
+ghost use Rattle.kt_periods.specs.declared.table.PeriodTable.{PeriodTable};
 ghost use Rattle.kt_rec.specs.declared.curve.Curve.{Curve};
+ghost use Rattle.kt_stream.specs.declared.entry.Placed.{Placed};
+ghost use Rattle.kt_stream.specs.declared.entry.SummaryRecord.{SummaryRecord};
+ghost use Rattle.kt_stream.specs.declared.kind.Head.{Head};
 ghost use Rattle.kt_tables.specs.Lookups.{event_ids};
+ghost use Rattle.kt_chain.specs.DoneLaws.{RefusesNothing};
 ghost use Rattle.kt_chain.specs.Events.{RunInput};
-ghost use Rattle.kt_chain.specs.Files.{files_upto, text_upto};
+ghost use Rattle.kt_chain.specs.Files.{files_upto, text_upto, text_whole};
 ghost use Rattle.kt_chain.specs.Outcome.{chain_outcome, run_reaches};
 ghost use Rattle.kt_chain.specs.Reached.{AreFirst};
+ghost use Rattle.kt_chain.specs.SetRecords.{file_table, set_records};
 
 /// However far a run comes, the events that are done are the first of the list.
 pub fn the_done_events_are_the_first()
@@ -23,4 +33,16 @@ pub fn tables_over_all_periods_stand_empty_after_a_refusal()
     ensures files { (run : RunInput) (why : Refusal) → (run_reaches run).refusal ≡ Some why → (chain_outcome run).files ≡ files_upto run (run_reaches run).done }
     ensures averages { (run : RunInput) (done : List ℕ) (set : SummarySet) → text_upto run done (OfSet set AverageAnnualLoss) ≡ [] }
     ensures curves { (run : RunInput) (done : List ℕ) (set : SummarySet) (curve : Curve) → text_upto run done (OfSet set (ExceedanceCurve curve)) ≡ [] }
+{}
+
+/// A run that ends with all its tables refuses nothing: all its events are done, no footprint row of one is refused, and no record of a
+/// summary that they add.
+pub fn a_done_run_refuses_nothing()
+    ensures { (run : RunInput) → (chain_outcome run).status ≡ Done → RefusesNothing run }
+{}
+
+/// The average annual losses and the curves of a set in a run that ends with all its tables are what a stream gives that has the
+/// records of that set, event by event, with the run's samples: other sets and perspectives change nothing.
+pub fn a_stream_of_a_set_gives_its_file()
+    ensures { (run : RunInput) (set : SummarySet) (kind : PeriodTable) (head : Head) (entries : List (Placed SummaryRecord)) → (chain_outcome run).status ≡ Done → head.set ≡ set.set → head.samples ≡ run.terms.samples → map (λ placed. placed.entry) entries ≡ flat_map (set_records run set) (event_ids run.rows) → contents_outcome kind run.rows (record { head = Some head; entries = entries; fault = None }) ≡ gives Done (text_whole run (event_ids run.rows) (OfSet set (file_table kind))) }
 {}

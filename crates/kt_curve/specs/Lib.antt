@@ -10,3 +10,7 @@ pub mod Ranks
 pub mod Exceedance
 pub mod Examples
 pub mod CurveExamples
+pub mod SameKeys
+pub mod OwnLosses
+pub mod OwnTables
+pub mod OwnStops

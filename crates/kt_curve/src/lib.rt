@@ -8,6 +8,7 @@ mod cells;
 mod exceedance;
 mod group;
 mod kinds;
+pub mod laws;
 mod lec;
 mod mean_curves;
 mod raising;

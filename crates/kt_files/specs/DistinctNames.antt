@@ -61,7 +61,7 @@ sets_are_some : (rows : Rows) (perspective : Perspective) → IsSublist SummaryS
 sets_are_some rows perspective = images (summary_set perspective) (those_that_pass (has_summary_set perspective rows) (range_with_len 1 9))
 
 -- the sets of a run are some of all it can have
-run_sets_are_some : (rows : Rows) (last : Perspective) → IsSublist SummarySet (run_sets rows last) every_set
+pub run_sets_are_some : (rows : Rows) (last : Perspective) → IsSublist SummarySet (run_sets rows last) every_set
 run_sets_are_some rows Gul = parts_joined (sets_are_some rows Gul) (nothing_of (flat_map every_set_of (Il ∷ Ri ∷ [])))
 run_sets_are_some rows Il = parts_joined (sets_are_some rows Gul) (parts_joined (sets_are_some rows Il) (nothing_of (flat_map every_set_of (Ri ∷ []))))
 run_sets_are_some rows Ri = parts_joined (sets_are_some rows Gul) (parts_joined (sets_are_some rows Il) (parts_joined (sets_are_some rows Ri) (nothing_of [])))

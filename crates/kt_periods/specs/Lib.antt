@@ -5,3 +5,4 @@ pub mod Fitting
 pub mod Examples
 pub mod EventLossTable
 pub mod PeriodLossTable
+pub mod OwnTables

@@ -2,6 +2,7 @@
 #![tactic(auto)]
 
 mod event_losses;
+pub mod laws;
 mod period_losses;
 mod shared;
 mod stage;

@@ -10,4 +10,7 @@ pub mod Outcome
 pub mod RunEnds
 pub mod SplitFacts
 pub mod SplitRuns
+pub mod RunNeeds
+pub mod RunRows
+pub mod RunDone
 pub mod Uses

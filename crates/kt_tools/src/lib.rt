@@ -8,6 +8,7 @@ mod getmodel;
 mod gulcalc;
 pub mod laws;
 mod need;
+pub mod run_laws;
 mod stops;
 mod top_call;
 mod whole_source;
