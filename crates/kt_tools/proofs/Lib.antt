@@ -21,3 +21,6 @@ mod NoLosses
 mod SplitTables
 mod SplitFiles
 mod SplitLaws
+mod Served
+mod DoneStages
+mod DoneFiles

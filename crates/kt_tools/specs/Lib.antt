@@ -13,4 +13,5 @@ pub mod SplitRuns
 pub mod RunNeeds
 pub mod RunRows
 pub mod RunDone
+pub mod RunInParts
 pub mod Uses

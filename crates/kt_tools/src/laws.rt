@@ -8,7 +8,8 @@ ghost use Rattle.kt_out.specs.NamedFiles.{FileMap};
 ghost use Rattle.kt_rec.specs.declared.perspective.Perspective.TheVariants.{Gul, Il, Ri};
 ghost use Rattle.kt_words.specs.declared.command.Command.TheVariants.{Getmodel};
 ghost use Rattle.kt_tools.specs.SplitFacts.{GroundUpFacts, LossFacts};
-ghost use Rattle.kt_tools.specs.SplitRuns.{IsSplitRun, JoinedGiveTables, JoinsParts, ground_up_stages, has_set, loss_stages, split_stages};
+ghost use Rattle.kt_tools.specs.RunInParts.{IsDoneOver, JoinedGiveFiles};
+ghost use Rattle.kt_tools.specs.SplitRuns.{EachFits, JoinsParts, ground_up_stages, has_set, loss_stages, split_stages};
 
 use kt_eve::parts_make_the_events;
 use kt_event::Terms;
@@ -57,17 +58,15 @@ fn loss_facts(portfolio: &Portfolio, terms: Terms)
     net_losses_are_a_run();
 }
 
-/// Where a split run goes over a portfolio that a run of all stages with these terms has loaded, `kat` over the streams of the
-/// parts 1 to n of the event list gives the bytes of the stream over the whole list: for distributions, for ground-up losses and
-/// for their summaries in each set. A split run is one of which no event's footprint rows are refused, each tool loads its tables
-/// and finds in them what the run of all stages has, and each stream over the whole list has at most 2^40 bytes; each part's has
-/// at most 2^30.
+/// Where the run of all stages with these terms over some files is done, `kat` over the streams of the parts 1 to n of the event
+/// list gives the bytes of the stream over the whole list: for distributions, for ground-up losses and for their summaries in
+/// each set. Each part's stream has at most 2^30 bytes, and each stream over the whole list at most 2^40.
 pub fn parts_of_ground_up_losses_are_joined(portfolio: &Portfolio, terms: Terms)
     requires terms { AreTerms terms }
     requires need { portfolio.now.need ≡ chain_need terms }
-    ensures distributions { (files : FileMap) → IsSplitRun files terms.samples portfolio.now.rows (Getmodel ∷ []) → JoinsParts files (Getmodel ∷ []) }
-    ensures ground_up { (files : FileMap) → IsSplitRun files terms.samples portfolio.now.rows (ground_up_stages terms) → JoinsParts files (ground_up_stages terms) }
-    ensures summaries { (files : FileMap) (set : ℕ) → 1 ≤ set → set ≤ 9 → IsSplitRun files terms.samples portfolio.now.rows (split_stages terms Gul set) → JoinsParts files (split_stages terms Gul set) }
+    ensures distributions { (files : FileMap) → IsDoneOver files terms portfolio.now.rows → EachFits files (Getmodel ∷ []) → JoinsParts files (Getmodel ∷ []) }
+    ensures ground_up { (files : FileMap) → IsDoneOver files terms portfolio.now.rows → EachFits files (ground_up_stages terms) → JoinsParts files (ground_up_stages terms) }
+    ensures summaries { (files : FileMap) (set : ℕ) → 1 ≤ set → set ≤ 9 → IsDoneOver files terms portfolio.now.rows → EachFits files (split_stages terms Gul set) → JoinsParts files (split_stages terms Gul set) }
 {
     ground_up_facts(portfolio, terms);
 }
@@ -78,32 +77,31 @@ pub fn parts_of_losses_are_joined(portfolio: &Portfolio, terms: Terms)
     requires terms { AreTerms terms }
     requires need { portfolio.now.need ≡ chain_need terms }
     requires insured { has_insured terms.last ≡ true }
-    ensures insured { (files : FileMap) → IsSplitRun files terms.samples portfolio.now.rows (ground_up_stages terms ++ loss_stages Il terms.rule 0) → JoinsParts files (ground_up_stages terms ++ loss_stages Il terms.rule 0) }
-    ensures net { (files : FileMap) (stages : ℕ) → IsSplitRun files terms.samples portfolio.now.rows (ground_up_stages terms ++ loss_stages Ri terms.rule stages) → JoinsParts files (ground_up_stages terms ++ loss_stages Ri terms.rule stages) }
-    ensures insured_summaries { (files : FileMap) (set : ℕ) → 1 ≤ set → set ≤ 9 → IsSplitRun files terms.samples portfolio.now.rows (split_stages terms Il set) → JoinsParts files (split_stages terms Il set) }
-    ensures net_summaries { (files : FileMap) (set : ℕ) → 1 ≤ set → set ≤ 9 → has_net terms.last ≡ true → IsSplitRun files terms.samples portfolio.now.rows (split_stages terms Ri set) → JoinsParts files (split_stages terms Ri set) }
+    ensures insured { (files : FileMap) → IsDoneOver files terms portfolio.now.rows → EachFits files (ground_up_stages terms ++ loss_stages Il terms.rule 0) → JoinsParts files (ground_up_stages terms ++ loss_stages Il terms.rule 0) }
+    ensures net { (files : FileMap) (stages : ℕ) → has_net terms.last ≡ true → stages ≤ terms.stages → IsDoneOver files terms portfolio.now.rows → EachFits files (ground_up_stages terms ++ loss_stages Ri terms.rule stages) → JoinsParts files (ground_up_stages terms ++ loss_stages Ri terms.rule stages) }
+    ensures insured_summaries { (files : FileMap) (set : ℕ) → 1 ≤ set → set ≤ 9 → IsDoneOver files terms portfolio.now.rows → EachFits files (split_stages terms Il set) → JoinsParts files (split_stages terms Il set) }
+    ensures net_summaries { (files : FileMap) (set : ℕ) → 1 ≤ set → set ≤ 9 → has_net terms.last ≡ true → IsDoneOver files terms portfolio.now.rows → EachFits files (split_stages terms Ri set) → JoinsParts files (split_stages terms Ri set) }
 {
     loss_facts(portfolio, terms);
 }
 
-/// The summary streams of the parts of a split run, joined, of a set of ground-up losses that the run of all stages has: from
-/// them the tools give the text of its file of event losses and of its file of period losses, and over all periods what comes of
-/// the records of all events in the set.
-pub fn joined_ground_up_summaries_give_the_tables(portfolio: &Portfolio, terms: Terms)
+/// From the summary streams of all parts, joined, of a set of ground-up losses that the run of all stages has, `eltcalc`,
+/// `pltcalc`, `aalcalc` and `leccalc` give the text of the file that the run of all stages makes of the set.
+pub fn joined_ground_up_summaries_give_the_files(portfolio: &Portfolio, terms: Terms)
     requires terms { AreTerms terms }
     requires need { portfolio.now.need ≡ chain_need terms }
-    ensures tables { (files : FileMap) (set : ℕ) → 1 ≤ set → set ≤ 9 → has_set (summary_set Gul set) (run_sets portfolio.now.rows terms.last) ≡ true → IsSplitRun files terms.samples portfolio.now.rows (split_stages terms Gul set) → JoinedGiveTables files terms portfolio.now.rows (summary_set Gul set) }
+    ensures tables { (files : FileMap) (set : ℕ) → 1 ≤ set → set ≤ 9 → has_set (summary_set Gul set) (run_sets portfolio.now.rows terms.last) ≡ true → IsDoneOver files terms portfolio.now.rows → EachFits files (split_stages terms Gul set) → JoinedGiveFiles files terms portfolio.now.rows (summary_set Gul set) }
 {
     ground_up_facts(portfolio, terms);
 }
 
 /// The same of a set of insured losses, and of one of net losses.
-pub fn joined_summaries_give_the_tables(portfolio: &Portfolio, terms: Terms)
+pub fn joined_summaries_give_the_files(portfolio: &Portfolio, terms: Terms)
     requires terms { AreTerms terms }
     requires need { portfolio.now.need ≡ chain_need terms }
     requires insured { has_insured terms.last ≡ true }
-    ensures insured { (files : FileMap) (set : ℕ) → 1 ≤ set → set ≤ 9 → has_set (summary_set Il set) (run_sets portfolio.now.rows terms.last) ≡ true → IsSplitRun files terms.samples portfolio.now.rows (split_stages terms Il set) → JoinedGiveTables files terms portfolio.now.rows (summary_set Il set) }
-    ensures net { (files : FileMap) (set : ℕ) → 1 ≤ set → set ≤ 9 → has_net terms.last ≡ true → has_set (summary_set Ri set) (run_sets portfolio.now.rows terms.last) ≡ true → IsSplitRun files terms.samples portfolio.now.rows (split_stages terms Ri set) → JoinedGiveTables files terms portfolio.now.rows (summary_set Ri set) }
+    ensures insured { (files : FileMap) (set : ℕ) → 1 ≤ set → set ≤ 9 → has_set (summary_set Il set) (run_sets portfolio.now.rows terms.last) ≡ true → IsDoneOver files terms portfolio.now.rows → EachFits files (split_stages terms Il set) → JoinedGiveFiles files terms portfolio.now.rows (summary_set Il set) }
+    ensures net { (files : FileMap) (set : ℕ) → 1 ≤ set → set ≤ 9 → has_net terms.last ≡ true → has_set (summary_set Ri set) (run_sets portfolio.now.rows terms.last) ≡ true → IsDoneOver files terms portfolio.now.rows → EachFits files (split_stages terms Ri set) → JoinedGiveFiles files terms portfolio.now.rows (summary_set Ri set) }
 {
     loss_facts(portfolio, terms);
 }
