@@ -1,5 +1,5 @@
 -- The summary streams of the parts of a split run, joined, give the four tables of the run of all stages.
-use Rattle.std.proofs.Common.{◌≡◌, ◌≤◌, ◌+◌, ℕ, true, List, [], ◌∷◌, length, map, refl, ap, ◌∙◌, flat_map}
+use Rattle.std.proofs.Common.{◌≡◌, ◌+◌, ℕ, true, List, [], ◌∷◌, length, map, refl, ap, ◌∙◌, flat_map}
 use Rattle.kt_chain.specs.Events.{run_input}
 use Rattle.kt_chain.specs.SetRecords.{file_table, stream_gives_file}
 use Rattle.kt_ends.specs.declared.status.Status.TheVariants.{Done}

@@ -1,5 +1,5 @@
 -- The stages of a run of all stages that is done have the premises of a split run.
-use Rattle.std.proofs.Common.{◌≡◌, ◌≤◌, ◌≢◌, ◌<◌, ◌+◌, ℕ, zero, suc, true, false, nat_eq, List, [], ◌∷◌, ◌++◌, map, refl, sym, ap, ◌∙◌, arith, ne_eqb}
+use Rattle.std.proofs.Common.{◌≡◌, ◌≤◌, ◌+◌, ℕ, zero, suc, true, false, List, [], ◌∷◌, ◌++◌, map, refl, sym, arith, ne_eqb}
 use Rattle.std.specs.List.{AllByRecursion, range_with_len}
 use Rattle.kt_event.specs.Terms.{AreTerms, has_insured, has_net}
 use Rattle.kt_event.specs.declared.terms.Terms.{Terms}
@@ -9,7 +9,7 @@ use Rattle.kt_rec.specs.Rows.{Rows}
 use Rattle.kt_rec.specs.declared.perspective.Perspective.{Perspective}
 use Rattle.kt_rec.specs.declared.perspective.Perspective.TheVariants.{Gul, Il, Ri}
 use Rattle.kt_words.specs.declared.command.Command.{Command}
-use Rattle.kt_words.specs.declared.command.Command.TheVariants.{Fmcalc, FmcalcNet, Getmodel, Gulcalc, Summarycalc}
+use Rattle.kt_words.specs.declared.command.Command.TheVariants.{FmcalcNet, Getmodel, Summarycalc}
 use Rattle.kt_tools.proofs.Served.{split_run}
 use Rattle.kt_tools.specs.RunInParts.{IsDoneOver}
 use Rattle.kt_tools.specs.RunNeeds.{IsOfRun}

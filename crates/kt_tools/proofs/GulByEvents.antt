@@ -2,9 +2,7 @@
 use Rattle.std.proofs.Common.{◌≡◌, ℕ, Bool, nat_eq, List, [], ◌∷◌, ◌++◌, length, None, refl, sym, ap, ◌∙◌, flat_map}
 use Rattle.std.specs.List.{AllByRecursion, IsDistinct}
 use Rattle.kt_ends.specs.Outcome.{Outcome}
-use Rattle.kt_ends.specs.declared.status.Refusal.{Refusal}
 use Rattle.kt_ends.specs.declared.status.Status.TheVariants.{Done}
-use Rattle.kt_gul.specs.GroundUp.{ground_up_records}
 use Rattle.kt_loop.specs.ByRun.{by_run}
 use Rattle.kt_loop.specs.Contents.{Contents}
 use Rattle.kt_loop.specs.EventRuns.{AcceptsRun, IsEventRun, IsTaken, event_text}
@@ -12,7 +10,7 @@ use Rattle.kt_loop.specs.EventStreams.{FitsStream, ReadsBack, bytes_of_events, s
 use Rattle.kt_loop.specs.EventsGiven.{events_outcome}
 use Rattle.kt_loop.specs.ListLaws.{IsStretch, all_by, all_stretch, distinct_stretch}
 use Rattle.kt_loop.specs.Outcome.{gives, outcome}
-use Rattle.kt_loop.specs.Runs.{bare, cdf_key}
+use Rattle.kt_loop.specs.Runs.{cdf_key}
 use Rattle.kt_loop.specs.RunsGiven.{outcome_runs}
 use Rattle.kt_rec.specs.Rows.{Rows}
 use Rattle.kt_stream.specs.Bins.{IsCdf, cdf_form, cdf_shape}

@@ -1,23 +1,21 @@
 -- Tools over streams of losses, event by event.
-use Rattle.std.proofs.Common.{◌≡◌, ◌≤◌, ℕ, Bool, true, false, cond, nat_eq, nat_lt, ◌||◌, List, [], ◌∷◌, ◌++◌, length, ℤ, Option, None, Some, Ok, refl, sym, ap, ap₂, ◌∙◌, append_assoc, subst, flat_map, arith, le-ltb, length-append}
-use Rattle.std.specs.List.{AllByRecursion, IsDistinct, list_any, sum_by}
+use Rattle.std.proofs.Common.{◌≡◌, ◌≤◌, ℕ, Bool, true, false, nat_eq, nat_lt, ◌||◌, List, [], ◌∷◌, ◌++◌, ℤ, Option, None, refl, sym, ap, ap₂, ◌∙◌, append_assoc, subst, flat_map, arith, le-ltb}
+use Rattle.std.specs.List.{AllByRecursion, IsDistinct, list_any}
 use Rattle.std.proofs.lemmas.List.Sums.{sum_by-append}
 use Rattle.kt_checks.specs.Checks.{samples_refusal}
 use Rattle.kt_ends.specs.Outcome.{Outcome}
 use Rattle.kt_ends.specs.declared.status.Refusal.{Refusal}
 use Rattle.kt_ends.specs.declared.status.Status.TheVariants.{Done}
 use Rattle.kt_keys.specs.declared.need.Refusal.{Refusal as CheckRefusal}
-use Rattle.kt_losses.specs.Judged.{LossTable, is_known, judged_behind, judged_opening, judged_outcome, judged_runs, loss_contents, loss_refusal, losses_kind}
+use Rattle.kt_losses.specs.Judged.{LossTable, is_known, judged_behind, judged_opening, judged_outcome, judged_runs, loss_refusal, losses_kind}
 use Rattle.kt_loop.specs.ByRun.{outcome_by_run}
-use Rattle.kt_loop.specs.Calculation.{Step}
 use Rattle.kt_loop.specs.Contents.{Contents}
-use Rattle.kt_loop.specs.EventRuns.{AcceptsRun, IsEventRun, IsTaken, event_text}
-use Rattle.kt_loop.specs.EventStreams.{FitsStream, ReadsBack, bytes_of_events, stream_bytes, stretch_is_read, whole_contents}
+use Rattle.kt_loop.specs.EventRuns.{AcceptsRun, IsTaken, event_text}
+use Rattle.kt_loop.specs.EventStreams.{FitsStream, ReadsBack, bytes_of_events, stream_bytes, stretch_is_read}
 use Rattle.kt_loop.specs.EventsGiven.{events_outcome}
 use Rattle.kt_loop.specs.ListLaws.{IsStretch, all_by, all_stretch, distinct_stretch}
 use Rattle.kt_loop.specs.Outcome.{gives}
 use Rattle.kt_loop.specs.Runs.{bare, loss_key}
-use Rattle.kt_rec.specs.Rows.{Rows}
 use Rattle.kt_runs.specs.RunLosses.{AreWithin, goes_past, loss_of, run_loss}
 use Rattle.kt_stream.specs.Grammar.{placed_from}
 use Rattle.kt_stream.specs.Header.{header_bytes, header_size}

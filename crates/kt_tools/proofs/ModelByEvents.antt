@@ -2,16 +2,13 @@
 use Rattle.std.proofs.Common.{◌≡◌, ℕ, ◌+◌, List, [], ◌∷◌, ◌++◌, length, Option, None, Some, Ok, refl, sym, ap, ◌∙◌, append_assoc, append-nil, flat_map, unwrap_or}
 use Rattle.std.specs.List.{AllByRecursion}
 use Rattle.byteorder.specs.Endian.{little_bytes}
-use Rattle.kt_ends.specs.Outcome.{Outcome}
 use Rattle.kt_ends.specs.declared.status.Refusal.{Refusal}
 use Rattle.kt_ends.specs.declared.status.Status.TheVariants.{Done}
 use Rattle.kt_load.specs.EventRows.{event_rows, footprint_name}
 use Rattle.kt_loop.specs.Calculation.{Course, took_all}
-use Rattle.kt_loop.specs.Contents.{Contents}
 use Rattle.kt_loop.specs.EventStreams.{FitsStream, ReadsBack, bytes_of_events, stream_bytes, stretch_is_read, whole_contents}
 use Rattle.kt_loop.specs.ListLaws.{IsStretch, all_stretch}
 use Rattle.kt_loop.specs.Outcome.{ended_by, gives, outcome}
-use Rattle.kt_model.specs.Distribution.{distributions_of}
 use Rattle.kt_out.specs.NamedFiles.{FileMap}
 use Rattle.kt_rec.specs.FootRows.{first_refused_row}
 use Rattle.kt_rec.specs.Rows.{Rows}
@@ -22,7 +19,6 @@ use Rattle.kt_stream.specs.Grammar.{placed_from}
 use Rattle.kt_stream.specs.Header.{header_bytes}
 use Rattle.kt_stream.specs.Pairs.{IsId}
 use Rattle.kt_stream.specs.declared.entry.Cdf.{Cdf}
-use Rattle.kt_stream.specs.declared.entry.Placed.{Placed}
 use Rattle.kt_stream.specs.declared.event_id.EventId.{EventId}
 use Rattle.kt_stream.specs.declared.kind.Head.{Head}
 use Rattle.kt_stream.specs.declared.kind.StreamKind.TheVariants.{Cdf as CdfKind}

@@ -1,17 +1,15 @@
 -- Where an event has no distribution, no item has a ground-up loss.
-use Rattle.std.proofs.Common.{◌≡◌, ℕ, zero, suc, ◌+◌, ◌-◌, ◌*◌, ◌/◌, ◌^◌, min, Bool, true, false, cond, ◌&&◌, not, nat_eq, nat_lt, List, [], ◌∷◌, Option, None, refl, sym, ap, ◌∙◌, arith, filter_map}
+use Rattle.std.proofs.Common.{◌≡◌, ℕ, zero, suc, ◌+◌, ◌-◌, ◌*◌, ◌/◌, ◌^◌, min, Bool, true, false, cond, ◌&&◌, not, nat_eq, nat_lt, List, [], ◌∷◌, refl, sym, ap, ◌∙◌, arith, filter_map}
 use Rattle.std.specs.List.{AllByRecursion, cons_option, range_with_len}
-use Rattle.kt_gul.specs.GroundUp.{by_id, coverage_total, final_loss, ground_up_loss, ground_up_records, item_record, item_tiv, loss_by, pair_at, pairs_of, raw_loss, record_with, total_before}
+use Rattle.kt_gul.specs.GroundUp.{by_id, final_loss, ground_up_loss, ground_up_records, item_record, item_tiv, loss_by, pair_at, record_with}
 use Rattle.kt_gul.specs.ItemMoments.{loss_deviation, mean_loss}
 use Rattle.kt_gul.specs.SampledLoss.{sampled_loss}
-use Rattle.kt_loop.specs.EventRuns.{IsEventRun}
 use Rattle.kt_money.specs.Rounding.{root}
 use Rattle.kt_money.specs.Sharing.{share_of, share_to}
 use Rattle.kt_rec.specs.Rows.{Rows}
 use Rattle.kt_rec.specs.declared.exposure.Item.{Item}
 use Rattle.kt_rec.specs.declared.hazard.DamageBin.{DamageBin}
 use Rattle.kt_stream.specs.declared.entry.Cdf.{Cdf}
-use Rattle.kt_stream.specs.declared.entry.LossRecord.{LossRecord}
 use Rattle.kt_stream.specs.declared.entry.Pair.{Pair}
 use Rattle.kt_tables.specs.Lookups.{random_of}
 use Rattle.kt_tools.specs.ByEvents.{losses_of_cdfs}

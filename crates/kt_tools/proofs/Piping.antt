@@ -9,14 +9,13 @@ use Rattle.kt_ends.specs.declared.status.Status.TheVariants.{Done}
 use Rattle.kt_eve.specs.Laws.{PartsMakeTheEvents}
 use Rattle.kt_eve.specs.Parts.{end_of_part, part_of}
 use Rattle.kt_kat.specs.Files.{file_limit}
-use Rattle.kt_kat.specs.Outcome.{kat_outcome}
 use Rattle.kt_kat.specs.StreamFiles.{AreStreamFiles, IsStreamFile}
 use Rattle.kt_kat.specs.StreamsJoined.{KatJoins}
 use Rattle.kt_keys.specs.declared.need.Need.{Need}
 use Rattle.kt_load.specs.Loaded.{loaded}
 use Rattle.kt_load.specs.declared.stop.LoadStop.{LoadStop}
-use Rattle.kt_loop.specs.EventStreams.{FitsStream, ReadsBack, spells_stretch, stream_bytes}
-use Rattle.kt_loop.specs.ListLaws.{IsStretch, slice_stretch, whole_stretch}
+use Rattle.kt_loop.specs.EventStreams.{FitsStream, spells_stretch, stream_bytes}
+use Rattle.kt_loop.specs.ListLaws.{IsStretch, slice_stretch}
 use Rattle.kt_loop.specs.Outcome.{gives}
 use Rattle.kt_out.specs.NamedFiles.{FileMap}
 use Rattle.kt_rec.specs.Rows.{Rows}
@@ -32,7 +31,7 @@ use Rattle.kt_words.specs.declared.command.Command.TheVariants.{Eve}
 use Rattle.kt_tools.specs.Loading.{with_tables}
 use Rattle.kt_tools.specs.Needs.{command_need}
 use Rattle.kt_tools.specs.Outcome.{command_outcome, event_bytes, over_tables, tool_outcome}
-use Rattle.kt_tools.specs.SplitRuns.{AreFiles, IsJoined, IsServed, JoinsParts, Loads, Serves, handed, handed_by, part_outcome, piped}
+use Rattle.kt_tools.specs.SplitRuns.{AreFiles, IsServed, JoinsParts, handed, handed_by, part_outcome, piped}
 
 -- ---- what commands give of stretches of the events
 

@@ -1,6 +1,6 @@
 -- The premises of a split run from a run of all stages that is done: each tool loads its tables, finds in them what that run has, and no
 -- event's footprint rows are refused.
-use Rattle.std.proofs.Common.{◌≡◌, ◌≤◌, ◌<◌, ℕ, suc, Bool, true, false, ◌==◌, List, [], ◌∷◌, length, filter, map, Option, None, Some, Ok, refl, sym, ap, ◌∙◌, subst, nat_eq, arith, ne_eqb, if◌then◌else◌}
+use Rattle.std.proofs.Common.{◌≡◌, ◌≤◌, ℕ, Bool, true, false, ◌==◌, List, [], ◌∷◌, length, filter, None, Some, Ok, refl, sym, ap, ◌∙◌, subst, nat_eq, arith, ne_eqb, if◌then◌else◌}
 use Rattle.std.specs.List.{AllByRecursion}
 use Rattle.kt_chain.specs.DoneLaws.{refuses_nothing}
 use Rattle.kt_chain.specs.Events.{run_input}
@@ -10,7 +10,6 @@ use Rattle.kt_ends.specs.declared.status.Status.TheVariants.{Done}
 use Rattle.kt_event.specs.Needs.{chain_need}
 use Rattle.kt_event.specs.Terms.{AreTerms}
 use Rattle.kt_event.specs.declared.terms.Terms.{Terms}
-use Rattle.kt_insured.specs.Insured.{insured_records}
 use Rattle.kt_keys.specs.Refusals.{is_loaded}
 use Rattle.kt_keys.specs.declared.need.Need.{Need}
 use Rattle.kt_load.specs.EventRows.{event_rows}
@@ -20,7 +19,6 @@ use Rattle.kt_loop.specs.Contents.{Contents}
 use Rattle.kt_model.specs.Distribution.{distributions_of}
 use Rattle.kt_out.specs.NamedFiles.{FileMap}
 use Rattle.kt_periods.specs.PeriodTables.{contents_outcome}
-use Rattle.kt_periods.specs.declared.table.PeriodTable.{PeriodTable}
 use Rattle.kt_periods.specs.declared.table.PeriodTable.TheVariants.{AverageAnnualLoss, ExceedanceCurve}
 use Rattle.kt_rec.specs.Rows.{Rows, no_rows}
 use Rattle.kt_rec.specs.declared.curve.Curve.{Curve}
@@ -28,21 +26,19 @@ use Rattle.kt_rec.specs.declared.hazard.FootRow.{FootRow}
 use Rattle.kt_rec.specs.declared.periods.Occurrence.{Occurrence}
 use Rattle.kt_rec.specs.declared.periods.ReturnPeriod.{ReturnPeriod}
 use Rattle.kt_rec.specs.declared.table.Table.TheVariants as table
-use Rattle.kt_ri.specs.Reinsurance.{net_records}
 use Rattle.kt_stream.specs.declared.entry.Cdf.{Cdf}
 use Rattle.kt_stream.specs.declared.entry.SummaryRecord.{SummaryRecord}
 use Rattle.kt_stream.specs.declared.kind.Head.{Head}
 use Rattle.kt_subset.specs.Loading.{LoadsSame, keeps_samples}
 use Rattle.kt_subset.specs.SameRows.{HasSame}
 use Rattle.kt_subset.specs.Within.{IsWithin}
-use Rattle.kt_tables.specs.Lookups.{occurrences_of}
 use Rattle.kt_words.specs.declared.command.Command.{Command}
-use Rattle.kt_words.specs.declared.command.Command.TheVariants.{Aalcalc, Chain, Convert, Eltcalc, Eve, Fmcalc, FmcalcNet, FootprintText, Getmodel, Gulcalc, Kat, Leccalc, Pltcalc, Summarycalc}
-use Rattle.kt_tools.specs.ByEvents.{cdfs_of, losses_of_cdfs}
+use Rattle.kt_words.specs.declared.command.Command.TheVariants.{Aalcalc, Eve, Fmcalc, FmcalcNet, Getmodel, Gulcalc, Leccalc, Pltcalc, Summarycalc}
+use Rattle.kt_tools.specs.ByEvents.{losses_of_cdfs}
 use Rattle.kt_tools.specs.Needs.{base_need, base_tables, command_need, need_of, programme_tables, summary_tables}
 use Rattle.kt_tools.specs.RunNeeds.{IsOfRun, each_loads, each_within, stage_needs}
 use Rattle.kt_tools.specs.RunRows.{distributions_same, events_same, foot_same, ground_up_same, insured_same, item_summaries_same, items_known, net_same, output_summaries_same, outputs_known}
-use Rattle.kt_tools.specs.SplitRuns.{EachFits, IsServed, IsSplitRun, Loads, Serves, footprint_of}
+use Rattle.kt_tools.specs.SplitRuns.{EachFits, IsServed, IsSplitRun, Serves, footprint_of}
 
 -- rows of the periods alone
 abbrev period_rows : List Occurrence → ℕ → List ReturnPeriod → Rows

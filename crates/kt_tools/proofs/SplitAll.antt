@@ -1,7 +1,7 @@
 -- The laws of split runs, from what is known of the portfolio of their run.
-use Rattle.std.proofs.Common.{◌≡◌, ◌≤◌, ◌≢◌, ℕ, zero, suc, ℤ, Bool, true, false, ◌==◌, List, [], ◌∷◌, ◌++◌, length, map, All, append-nil, append_assoc, refl, sym, ap, ◌∙◌, subst, nat_eq, arith, ne_eqb, ◌+◌}
+use Rattle.std.proofs.Common.{◌≡◌, ◌≤◌, ℕ, zero, suc, ℤ, Bool, true, false, ◌==◌, List, [], ◌∷◌, ◌++◌, map, append-nil, append_assoc, refl, sym, ap, ◌∙◌, subst, nat_eq, arith, ne_eqb, ◌+◌}
 use Rattle.std.specs.List.{AllByRecursion, IsDistinct, range_with_len}
-use Rattle.std.proofs.lemmas.List.Elements.{All-from_recursion, recursion_from_All}
+use Rattle.std.proofs.lemmas.List.Elements.{All-from_recursion}
 use Rattle.kt_eve.specs.Laws.{PartsMakeTheEvents}
 use Rattle.kt_event.specs.Terms.{AreTerms}
 use Rattle.kt_event.specs.declared.terms.Terms.{Terms}
@@ -10,7 +10,6 @@ use Rattle.kt_losses.specs.Judged.{is_known}
 use Rattle.kt_out.specs.NamedFiles.{FileMap}
 use Rattle.kt_rec.specs.Ranges.{AreInRange}
 use Rattle.kt_rec.specs.Rows.{Rows}
-use Rattle.kt_rec.specs.declared.perspective.Perspective.{Perspective}
 use Rattle.kt_rec.specs.declared.perspective.Perspective.TheVariants.{Gul as GulLosses, Il, Ri}
 use Rattle.kt_ri.specs.Reinsurance.{reinsured}
 use Rattle.kt_runs.specs.RunLosses.{run_loss}
@@ -28,7 +27,7 @@ use Rattle.kt_tools.proofs.SplitInsured.{IsTakenRun, LossesAt, insured_of, insur
 use Rattle.kt_tools.proofs.SplitRun.{IsGroundUp, are_ground_up, losses_at, losses_stand}
 use Rattle.kt_tools.proofs.SplitStages.{StandsAt, WholeFits}
 use Rattle.kt_tools.specs.SplitFacts.{GulFacts, InsuredFacts, ModelFacts, NetFacts, ReadsAll, SummaryFacts, good_summary}
-use Rattle.kt_tools.specs.SplitRuns.{IsFront, IsServed, IsSplitRun, JoinsParts, footprint_of, ground_up_stages, loss_stages, split_stages}
+use Rattle.kt_tools.specs.SplitRuns.{IsServed, IsSplitRun, JoinsParts, footprint_of, ground_up_stages, loss_stages, split_stages}
 
 module _ (files : FileMap) (terms : Terms) (rows : Rows) (are : AreTerms terms) (reads : ReadsAll) (together : PartsMakeTheEvents) (distinct : IsDistinct nat_eq (event_ids rows)) (in_range : AreInRange rows) (model : ModelFacts rows) (gul : GulFacts rows) where
   abbrev few : (1 ≤ terms.samples) × (terms.samples ≤ 1000)

@@ -1,6 +1,6 @@
 -- The summary streams of the parts of a split run, joined, give the files of the run of all stages.
-use Rattle.std.proofs.Common.{◌≡◌, ◌≤◌, ℕ, Bool, true, List, [], ◌∷◌, ◌++◌, nat_eq, refl, sym, ap, ap₂, ◌∙◌, subst, flat_map}
-use Rattle.std.specs.List.{IsDistinct, range_with_len}
+use Rattle.std.proofs.Common.{◌≡◌, ◌≤◌, ℕ, true, List, [], ◌∷◌, ◌++◌, refl, sym, ap, ap₂, ◌∙◌, subst, flat_map}
+use Rattle.std.specs.List.{range_with_len}
 use Rattle.kt_elt.specs.PeriodLoss.{period_losses, plt_heading_text}
 use Rattle.kt_ends.specs.Outcome.{Outcome}
 use Rattle.kt_ends.specs.declared.status.Status.TheVariants.{Done}
@@ -18,12 +18,10 @@ use Rattle.kt_periods.specs.PeriodTables.{contents_outcome}
 use Rattle.kt_periods.specs.declared.table.PeriodTable.{PeriodTable}
 use Rattle.kt_periods.specs.declared.table.PeriodTable.TheVariants.{AverageAnnualLoss, ExceedanceCurve}
 use Rattle.kt_rec.specs.Rows.{Rows}
-use Rattle.kt_rec.specs.declared.curve.Curve.{Curve}
 use Rattle.kt_stream.specs.Summary.{summary_form, summary_shape}
 use Rattle.kt_stream.specs.declared.entry.SummaryRecord.{SummaryRecord}
 use Rattle.kt_stream.specs.declared.kind.Head.{Head}
 use Rattle.kt_tables.specs.Lookups.{event_ids, occurrences_of}
-use Rattle.kt_tables.specs.Portfolio.{PortfolioRows}
 use Rattle.kt_words.specs.declared.command.Command.{Command}
 use Rattle.kt_words.specs.declared.command.Command.TheVariants.{Aalcalc, Eve, Leccalc, Pltcalc}
 use Rattle.kt_tools.proofs.Piping.{command_is}
@@ -31,9 +29,9 @@ use Rattle.kt_tools.proofs.SplitStages.{StandsAt, whole_is}
 use Rattle.kt_tools.proofs.SplitTables.{elt_text_is, plt_text_is}
 use Rattle.kt_tools.proofs.TablesByEvents.{elt_makes, plt_makes}
 use Rattle.kt_tools.specs.Needs.{command_need}
-use Rattle.kt_tools.specs.Outcome.{command_outcome, tool_outcome}
+use Rattle.kt_tools.specs.Outcome.{tool_outcome}
 use Rattle.kt_tools.specs.SplitFacts.{ModelFacts, ReadsAll, good_summary}
-use Rattle.kt_tools.specs.SplitRuns.{AreFiles, GivesTables, IsServed, JoinedGiveTables, JoinsParts, Serves, file_text, footprint_of, part_outcome, set_contents, set_records, split_stages}
+use Rattle.kt_tools.specs.SplitRuns.{AreFiles, GivesTables, IsServed, JoinsParts, footprint_of, part_outcome, set_contents, set_records}
 
 module _ (files : FileMap) (terms : Terms) (rows : Rows) (reads : ReadsAll) (together : PartsMakeTheEvents) (model : ModelFacts rows) (eve : (p n : ℕ) → IsServed files terms.samples (footprint_of files) rows (Eve p n)) (set : SummarySet) (of : ℕ → List SummaryRecord) (same : (event : ℕ) → of event ≡ set_records terms rows files set event) where
   abbrev events_of : List ℕ

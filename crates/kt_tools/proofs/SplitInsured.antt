@@ -1,6 +1,6 @@
 -- A split run behind the ground-up losses: insured losses, net losses stage by stage, and summaries.
-use Rattle.std.proofs.Common.{◌≡◌, ◌≤◌, ◌<◌, ℕ, zero, suc, ◌≢◌, ℤ, Bool, true, false, ◌==◌, List, [], ◌∷◌, ◌++◌, length, map, All, append-nil, append_assoc, refl, sym, ap, ◌∙◌, subst, nat_eq, arith}
-use Rattle.std.specs.List.{AllByRecursion, IsDistinct, list_any}
+use Rattle.std.proofs.Common.{◌≡◌, ◌≤◌, ℕ, zero, suc, ◌≢◌, ℤ, Bool, true, false, ◌==◌, List, [], ◌∷◌, ◌++◌, map, All, append-nil, append_assoc, refl, sym, ap, subst, nat_eq, arith}
+use Rattle.std.specs.List.{AllByRecursion, IsDistinct}
 use Rattle.std.specs.List.Sorted.{IsStrictlyIncreasing}
 use Rattle.std.proofs.lemmas.List.Elements.{All-from_recursion, recursion_from_All}
 use Rattle.kt_eve.specs.Laws.{PartsMakeTheEvents}
@@ -8,16 +8,14 @@ use Rattle.kt_insured.specs.Insured.{insured_records}
 use Rattle.kt_kat.specs.StreamsJoined.{kat_joins, losses_join, summaries_join}
 use Rattle.kt_losses.specs.Judged.{is_known, losses_kind}
 use Rattle.kt_losses.specs.Tables.{perspective_of}
-use Rattle.kt_loop.specs.EventRuns.{IsEventRun}
 use Rattle.kt_loop.specs.EventStreams.{stream_bytes}
 use Rattle.kt_loop.specs.ListLaws.{all_by}
-use Rattle.kt_loop.specs.Runs.{loss_key}
 use Rattle.kt_out.specs.NamedFiles.{FileMap}
 use Rattle.kt_rec.specs.Rows.{Rows}
 use Rattle.kt_rec.specs.declared.perspective.Perspective.{Perspective}
 use Rattle.kt_rec.specs.declared.perspective.Perspective.TheVariants.{Gul as GulLosses, Il, Ri}
 use Rattle.kt_ri.specs.Reinsurance.{net_records, reinsured}
-use Rattle.kt_runs.specs.RunLosses.{AreWithin, event_of, run_loss}
+use Rattle.kt_runs.specs.RunLosses.{AreWithin, run_loss}
 use Rattle.kt_stream.specs.Losses.{IsLoss, loss_form, loss_shape}
 use Rattle.kt_stream.specs.Summary.{IsSummary, summary_form, summary_shape}
 use Rattle.kt_stream.specs.declared.entry.LossRecord.{LossRecord}
@@ -27,7 +25,6 @@ use Rattle.kt_stream.specs.declared.kind.StreamKind.TheVariants.{Gul, Loss}
 use Rattle.kt_sum.specs.Summaries.{run_summaries}
 use Rattle.kt_tables.specs.Lookups.{event_ids}
 use Rattle.kt_tree.specs.Programme.{tree_of}
-use Rattle.kt_tree.specs.Tree.{Tree}
 use Rattle.kt_words.specs.declared.command.Command.{Command}
 use Rattle.kt_words.specs.declared.command.Command.TheVariants.{Eve, Fmcalc, FmcalcNet, Summarycalc}
 use Rattle.kt_tools.proofs.RunsOfEvents.{losses_run}

@@ -14,7 +14,7 @@ use Rattle.kt_tools.proofs.SplitInsured.{summary_facts_net}
 use Rattle.kt_tools.proofs.SplitRun.{cdf_parts_join, gul_parts_join}
 use Rattle.kt_tools.proofs.SplitTables.{gul_same, insured_same, net_same}
 use Rattle.kt_tools.specs.SplitFacts.{GroundUpFacts, LossFacts}
-use Rattle.kt_tools.specs.SplitRuns.{IsSplitRun, JoinedGiveTables, JoinsParts, footprint_of, ground_up_stages, has_set, loss_stages, set_records, split_stages}
+use Rattle.kt_tools.specs.SplitRuns.{IsSplitRun, JoinedGiveTables, JoinsParts, ground_up_stages, has_set, loss_stages, split_stages}
 
 module _ (terms : Terms) (rows : Rows) (files : FileMap) where
   module _ (facts : GroundUpFacts terms rows) where

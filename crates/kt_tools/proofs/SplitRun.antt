@@ -1,21 +1,18 @@
 -- A split run from the portfolio of its run: what each event gives at each stage may stand in a stream and is one run.
-use Rattle.std.proofs.Common.{◌≡◌, ◌≤◌, ◌<◌, ◌^◌, ◌+◌, ◌*◌, ℕ, suc, ℤ, Bool, true, false, ◌==◌, ◌||◌, cond, nat_lt, List, [], ◌∷◌, ◌++◌, length, min, map, All, Option, None, Some, append-nil, append_assoc, refl, sym, ap, ap₂, ◌∙◌, subst, nat_eq, flat_map, filter_map, arith, eq-eqb}
-use Rattle.std.specs.List.{AllByRecursion, IsDistinct, cons_option, list_any, range_with_len}
+use Rattle.std.proofs.Common.{◌≡◌, ◌≤◌, ℕ, ℤ, Bool, true, false, ◌||◌, cond, nat_lt, List, [], ◌∷◌, length, min, map, All, None, refl, sym, ap, ◌∙◌, subst, nat_eq, filter_map, arith, eq-eqb}
+use Rattle.std.specs.List.{AllByRecursion, IsDistinct, cons_option, list_any}
 use Rattle.std.specs.List.Sorted.{IsStrictlyIncreasing}
 use Rattle.std.proofs.lemmas.List.Elements.{All-from_recursion, recursion_from_All}
 use Rattle.kt_eve.specs.Laws.{PartsMakeTheEvents}
 use Rattle.kt_gul.specs.GroundUp.{by_id, ground_up_loss, ground_up_records, insert_by_id, item_record, pairs_of, record_with as gul_record_with}
 use Rattle.kt_gul.specs.StruckItems.{AreCdfs}
-use Rattle.kt_insured.specs.Insured.{insured_records}
-use Rattle.kt_kat.specs.StreamsJoined.{cdfs_join, ground_up_joins, kat_joins, losses_join, summaries_join}
+use Rattle.kt_kat.specs.StreamsJoined.{cdfs_join, ground_up_joins, kat_joins}
 use Rattle.kt_load.specs.EventRows.{event_rows}
-use Rattle.kt_losses.specs.Judged.{is_known, losses_kind}
-use Rattle.kt_losses.specs.Tables.{perspective_of}
+use Rattle.kt_losses.specs.Judged.{is_known}
 use Rattle.kt_loop.specs.EventRuns.{IsEventRun}
 use Rattle.kt_loop.specs.EventStreams.{FitsStream, stream_bytes}
 use Rattle.kt_loop.specs.ListLaws.{all_by}
-use Rattle.kt_loop.specs.Runs.{cdf_key, loss_key}
-use Rattle.kt_model.specs.Distribution.{distributions_of}
+use Rattle.kt_loop.specs.Runs.{cdf_key}
 use Rattle.kt_out.specs.NamedFiles.{FileMap}
 use Rattle.kt_rec.specs.FootRows.{first_refused_row}
 use Rattle.kt_ends.specs.Outcome.{Outcome}
@@ -23,37 +20,28 @@ use Rattle.kt_rec.specs.Ranges.{AreInRange, IsId as RangeId}
 use Rattle.kt_rec.specs.Rows.{Rows}
 use Rattle.kt_rec.specs.declared.exposure.Item.{Item}
 use Rattle.kt_rec.specs.declared.hazard.Event.{Event}
-use Rattle.kt_rec.specs.declared.hazard.FootRow.{FootRow}
-use Rattle.kt_rec.specs.declared.perspective.Perspective.{Perspective}
-use Rattle.kt_ri.specs.Reinsurance.{net_records, reinsured}
-use Rattle.kt_runs.specs.RunLosses.{AreWithin, run_loss}
+use Rattle.kt_runs.specs.RunLosses.{run_loss}
 use Rattle.kt_stream.specs.Bins.{IsCdf, cdf_form, cdf_shape}
 use Rattle.kt_stream.specs.EventIds.{event_form, event_shape}
 use Rattle.kt_stream.specs.Losses.{IsLoss, loss_form, loss_shape}
 use Rattle.kt_stream.specs.Pairs.{IsId}
 use Rattle.kt_stream.specs.Stream.{stream_limit}
-use Rattle.kt_stream.specs.Summary.{IsSummary, summary_form, summary_shape}
 use Rattle.kt_stream.specs.declared.entry.Cdf.{Cdf}
 use Rattle.kt_stream.specs.declared.entry.LossRecord.{LossRecord}
 use Rattle.kt_stream.specs.declared.entry.Pair.{Pair}
-use Rattle.kt_stream.specs.declared.entry.SummaryRecord.{SummaryRecord}
 use Rattle.kt_stream.specs.declared.event_id.EventId.{EventId}
-use Rattle.kt_stream.specs.declared.kind.StreamKind.TheVariants.{Gul, Loss}
-use Rattle.kt_sum.specs.Summaries.{run_summaries}
+use Rattle.kt_stream.specs.declared.kind.StreamKind.TheVariants.{Gul}
 use Rattle.kt_tables.specs.Lookups.{event_ids}
-use Rattle.kt_tree.specs.Programme.{tree_of}
-use Rattle.kt_tree.specs.Tree.{Tree}
-use Rattle.kt_words.specs.declared.command.Command.{Command}
-use Rattle.kt_words.specs.declared.command.Command.TheVariants.{Eve, Fmcalc, FmcalcNet, Getmodel, Gulcalc, Summarycalc}
+use Rattle.kt_words.specs.declared.command.Command.TheVariants.{Eve, Getmodel, Gulcalc}
 use Rattle.kt_tools.proofs.ModelByEvents.{ids_are}
-use Rattle.kt_tools.proofs.RunsOfEvents.{IsCdfOf, cdf_number, cdfs_run, losses_run}
+use Rattle.kt_tools.proofs.RunsOfEvents.{IsCdfOf, cdfs_run, losses_run}
 use Rattle.kt_tools.proofs.SplitStages.{StandsAt, WholeFits, gul_one, model_one, next_stands, stands_join, whole_is}
 use Rattle.kt_tools.specs.ByEvents.{IsLossRun, cdfs_of, event_entry, losses_of_cdfs}
 use Rattle.kt_tools.specs.GulOutcome.{gul_head}
 use Rattle.kt_tools.specs.ModelOutcome.{plain_head}
 use Rattle.kt_tools.specs.Outcome.{event_bytes}
 use Rattle.kt_tools.specs.SplitFacts.{GulFacts, ModelFacts, ReadsAll, good_cdf, good_event, good_loss}
-use Rattle.kt_tools.specs.SplitRuns.{EachFits, IsFront, IsServed, IsSplitRun, JoinsParts, footprint_of, part_outcome}
+use Rattle.kt_tools.specs.SplitRuns.{IsServed, IsSplitRun, JoinsParts, footprint_of}
 
 -- ---- the ids of ground-up losses are those of items
 

@@ -1,7 +1,6 @@
 -- A split run, stage after stage: of each stretch of the events each stage makes the stream of what the events give.
-use Rattle.std.proofs.Common.{◌≡◌, ◌≤◌, ◌<◌, ◌^◌, ℕ, Bool, true, false, ◌==◌, List, [], ◌∷◌, ◌++◌, length, min, map, All, Option, None, Some, append-nil, refl, sym, ap, ap₂, ◌∙◌, subst, nat_eq, flat_map, arith, unwrap_or}
+use Rattle.std.proofs.Common.{◌≡◌, ◌≤◌, ℕ, Bool, true, false, ◌==◌, List, [], ◌∷◌, ◌++◌, length, None, append-nil, refl, sym, ap, ap₂, ◌∙◌, subst, nat_eq, flat_map, arith, unwrap_or}
 use Rattle.std.specs.List.{AllByRecursion, IsDistinct}
-use Rattle.kt_checks.specs.Checks.{samples_refusal}
 use Rattle.kt_ends.specs.Outcome.{Outcome}
 use Rattle.kt_ends.specs.declared.status.Status.TheVariants.{Done}
 use Rattle.kt_eve.specs.Laws.{PartsMakeTheEvents}
@@ -9,28 +8,26 @@ use Rattle.kt_eve.specs.Parts.{part_of}
 use Rattle.kt_insured.specs.Insured.{insured_records}
 use Rattle.kt_kat.specs.StreamsJoined.{KatJoins}
 use Rattle.kt_load.specs.EventRows.{event_rows, footprint_name}
-use Rattle.kt_losses.specs.Judged.{LossTable, is_known, judged_outcome, losses_kind}
+use Rattle.kt_losses.specs.Judged.{is_known, judged_outcome, losses_kind}
 use Rattle.kt_losses.specs.Tables.{insured_table, net_table, perspective_of, summary_table}
 use Rattle.kt_loop.specs.EventRuns.{IsEventRun}
-use Rattle.kt_loop.specs.EventStreams.{FitsStream, ReadsBack, stream_bytes}
-use Rattle.kt_loop.specs.ListLaws.{IsStretch, all_by, whole_stretch}
+use Rattle.kt_loop.specs.EventStreams.{FitsStream, stream_bytes}
+use Rattle.kt_loop.specs.ListLaws.{all_by}
 use Rattle.kt_loop.specs.Outcome.{gives}
-use Rattle.kt_loop.specs.Runs.{cdf_key, loss_key}
+use Rattle.kt_loop.specs.Runs.{cdf_key}
 use Rattle.kt_out.specs.NamedFiles.{FileMap}
 use Rattle.kt_rec.specs.FootRows.{first_refused_row}
 use Rattle.kt_rec.specs.Rows.{Rows}
 use Rattle.kt_ri.specs.Reinsurance.{net_records}
-use Rattle.kt_stream.specs.Bins.{IsCdf, cdf_form, cdf_shape}
+use Rattle.kt_stream.specs.Bins.{cdf_form, cdf_shape}
 use Rattle.kt_stream.specs.EventIds.{event_form, event_shape}
 use Rattle.kt_stream.specs.Grammar.{records_bytes}
 use Rattle.kt_stream.specs.Header.{IsHead, header_bytes}
-use Rattle.kt_stream.specs.Losses.{IsLoss, loss_bytes, loss_form, loss_shape}
-use Rattle.kt_stream.specs.Pairs.{IsId}
+use Rattle.kt_stream.specs.Losses.{loss_bytes, loss_form, loss_shape}
 use Rattle.kt_stream.specs.Stream.{Form, stream_limit}
-use Rattle.kt_stream.specs.Summary.{IsSummary, summary_bytes, summary_form, summary_shape}
+use Rattle.kt_stream.specs.Summary.{summary_bytes, summary_form, summary_shape}
 use Rattle.kt_stream.specs.declared.entry.Cdf.{Cdf}
 use Rattle.kt_stream.specs.declared.entry.LossRecord.{LossRecord}
-use Rattle.kt_stream.specs.declared.entry.SummaryRecord.{SummaryRecord}
 use Rattle.kt_stream.specs.declared.event_id.EventId.{EventId}
 use Rattle.kt_stream.specs.declared.kind.Head.{Head}
 use Rattle.kt_stream.specs.declared.kind.Shape.{Shape}
@@ -50,7 +47,7 @@ use Rattle.kt_tools.specs.GulOutcome.{gul_head}
 use Rattle.kt_tools.specs.ModelOutcome.{model_tables, plain_head}
 use Rattle.kt_tools.specs.Needs.{command_need}
 use Rattle.kt_tools.specs.Outcome.{event_bytes, tool_outcome}
-use Rattle.kt_tools.specs.SplitFacts.{ReadsAll, good_cdf, good_event, good_loss, good_summary}
+use Rattle.kt_tools.specs.SplitFacts.{ReadsAll, good_cdf, good_event, good_loss}
 use Rattle.kt_tools.specs.SplitRuns.{IsServed, JoinsParts, part_outcome}
 
 -- a stream depends on what each event gives alone

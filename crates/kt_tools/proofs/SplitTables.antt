@@ -1,23 +1,20 @@
 -- The tables of a joined summary stream are the files of the run of all stages.
-use Rattle.std.proofs.Common.{◌≡◌, ◌≤◌, ◌≢◌, ℕ, zero, suc, Bool, true, false, ◌&&◌, ◌||◌, nat_eq, List, [], ◌∷◌, ◌++◌, map, All, append-nil, refl, sym, ap, ap₂, ◌∙◌, flat_map, arith, eqb-true, if◌then◌else◌}
-use Rattle.std.specs.List.{AllByRecursion, list_any, range_with_len}
+use Rattle.std.proofs.Common.{◌≡◌, ◌≤◌, ◌≢◌, ℕ, zero, suc, Bool, true, false, ◌&&◌, ◌||◌, nat_eq, List, [], ◌∷◌, ◌++◌, map, append-nil, refl, sym, ap, ap₂, ◌∙◌, flat_map, arith, eqb-true, if◌then◌else◌}
+use Rattle.std.specs.List.{range_with_len}
 use Rattle.std.proofs.lemmas.List.Elements.{recursion_from_All}
-use Rattle.kt_chain.specs.Events.{RunInput, block_of, foot_of, run_input}
+use Rattle.kt_chain.specs.Events.{RunInput, foot_of, run_input}
 use Rattle.kt_chain.specs.Files.{event_text, text_whole}
 use Rattle.kt_curve.specs.Losses.{same_perspective}
 use Rattle.kt_elt.specs.EventLoss.{elt_heading_text, event_loss_rows}
 use Rattle.kt_elt.specs.PeriodLoss.{period_losses, plt_heading_text}
 use Rattle.kt_event.specs.Losses.{ground_up_of, insured_of, net_of, set_summaries}
 use Rattle.kt_event.specs.Terms.{run_sets, summary_set}
-use Rattle.kt_event.specs.declared.block.Summaries.{Summaries}
 use Rattle.kt_event.specs.declared.terms.SummarySet.{SummarySet}
 use Rattle.kt_event.specs.declared.terms.Terms.{Terms}
-use Rattle.kt_files.specs.Parts.{is_of_set, records_of_set}
+use Rattle.kt_files.specs.Parts.{records_of_set}
 use Rattle.kt_files.specs.declared.file.OutputFile.TheVariants.{OfSet}
 use Rattle.kt_files.specs.declared.file.SetTable.TheVariants.{EventLoss, PeriodLoss}
-use Rattle.kt_gul.specs.GroundUp.{ground_up_records}
 use Rattle.kt_insured.specs.Insured.{insured_records}
-use Rattle.kt_model.specs.Distribution.{distributions_of}
 use Rattle.kt_out.specs.NamedFiles.{FileMap}
 use Rattle.kt_rec.specs.Rows.{Rows}
 use Rattle.kt_rec.specs.declared.perspective.Perspective.{Perspective}
@@ -27,7 +24,7 @@ use Rattle.kt_stream.specs.declared.entry.Cdf.{Cdf}
 use Rattle.kt_stream.specs.declared.entry.LossRecord.{LossRecord}
 use Rattle.kt_stream.specs.declared.entry.SummaryRecord.{SummaryRecord}
 use Rattle.kt_sum.specs.Summaries.{run_summaries}
-use Rattle.kt_tables.specs.Lookups.{event_ids, occurrences_of}
+use Rattle.kt_tables.specs.Lookups.{occurrences_of}
 use Rattle.kt_tree.specs.Programme.{tree_of}
 use Rattle.kt_tools.proofs.NoLosses.{losses_are}
 use Rattle.kt_tools.specs.ByEvents.{cdfs_of, losses_of_cdfs}

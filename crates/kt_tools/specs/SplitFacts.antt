@@ -1,6 +1,6 @@
 -- What the laws of split runs stand on: what is known of the records that each stage makes of an event, and that they are read back.
 -- The rules: docs/COMMANDS.md, "Split runs"; docs/STREAMS.md, "Runs".
-use Rattle.std.specs.Prelude.{◌≡◌, ◌≤◌, ◌*◌, ◌+◌, ◌^◌, ℕ, ℤ, Bool, true, false, nat_eq, None, List, [], ◌∷◌, length, map, All}
+use Rattle.std.specs.Prelude.{◌≡◌, ◌≤◌, ◌*◌, ◌+◌, ◌^◌, ℕ, ℤ, Bool, true, false, nat_eq, None, List, length, map, All}
 use Rattle.std.specs.List.{IsDistinct}
 use Rattle.std.specs.List.Sorted.{IsStrictlyIncreasing}
 use Rattle.kt_eve.specs.Laws.{PartsMakeTheEvents}

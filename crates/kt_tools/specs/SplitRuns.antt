@@ -28,7 +28,6 @@ use Rattle.kt_loop.specs.EventStreams.{whole_contents}
 use Rattle.kt_loop.specs.Outcome.{gives}
 use Rattle.kt_out.specs.NamedFiles.{FileMap}
 use Rattle.kt_periods.specs.PeriodTables.{contents_outcome}
-use Rattle.kt_periods.specs.declared.table.PeriodTable.{PeriodTable}
 use Rattle.kt_periods.specs.declared.table.PeriodTable.TheVariants.{AverageAnnualLoss, ExceedanceCurve}
 use Rattle.kt_rec.specs.FootRows.{first_refused_row}
 use Rattle.kt_rec.specs.Rows.{Rows}
