@@ -4,8 +4,8 @@ use Rattle.kt_tools.specs.SplitFacts.{SummaryFacts}
 use Rattle.std.proofs.Common.{ap, subst}
 use Rattle.kt_tools.proofs.laws.ground_up_facts.Goals as goal
 
-pub distributions_are_of_a_stream-requires-clause-loaded : goal.distributions_are_of_a_stream-requires-clause-loaded
-distributions_are_of_a_stream-requires-clause-loaded c = loads_bins c.args.terms c.args.portfolio.now.need c.requires.need c.requires.terms
+pub distributions_are_of_a_stream-requires : goal.distributions_are_of_a_stream-requires
+distributions_are_of_a_stream-requires c = record { loaded = loads_bins c.args.terms c.args.portfolio.now.need c.requires.need c.requires.terms }
 
 pub returns : goal.returns
 returns c = record {

@@ -14,8 +14,8 @@ insured_losses_are_within-requires-clause-terms c = loads_policytc c.args.terms 
 pub insured_losses_are_within-requires-clause-outputs : goal.insured_losses_are_within-requires-clause-outputs
 insured_losses_are_within-requires-clause-outputs c = loads_outputs c.args.terms c.args.portfolio.now.need c.requires.need c.requires.terms c.requires.insured
 
-pub insured_losses_are_records_of_a_stream-requires-clause-programme : goal.insured_losses_are_records_of_a_stream-requires-clause-programme
-insured_losses_are_records_of_a_stream-requires-clause-programme c = loads_programme c.args.terms c.args.portfolio.now.need c.requires.need c.requires.terms c.requires.insured
+pub insured_losses_are_records_of_a_stream-requires : goal.insured_losses_are_records_of_a_stream-requires
+insured_losses_are_records_of_a_stream-requires c = record { programme = loads_programme c.args.terms c.args.portfolio.now.need c.requires.need c.requires.terms c.requires.insured }
 
 pub returns : goal.returns
 returns c =
