@@ -1,3 +1,4 @@
+pub mod ByEvents
 pub mod Converting
 pub mod FootprintText
 pub mod GulOutcome
@@ -8,7 +9,10 @@ pub mod Needs
 pub mod GeneratedRun
 pub mod Outcome
 pub mod RunEnds
+pub mod SplitFacts
+pub mod SplitRuns
 pub mod RunNeeds
 pub mod RunRows
 pub mod RunDone
+pub mod RunInParts
 pub mod Uses

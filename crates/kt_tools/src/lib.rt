@@ -7,6 +7,7 @@ mod footprint;
 mod generated;
 mod getmodel;
 mod gulcalc;
+pub mod laws;
 mod need;
 pub mod run_laws;
 mod stops;
