@@ -48,6 +48,7 @@ impl Wanted {
 
 /// A run: the words that say how many workers there are and how many events a part has, how many parts a group has, how often a
 /// part looks, and what the gate must see.
+#[derive(Clone, Copy)]
 struct Trial(&'static str, u32, u64, Wanted);
 
 /// How often a part looks that sees its group in the end.

@@ -15,12 +15,7 @@ use std::thread::Threads;
 const EVENTS: u32 = 48;
 
 /// Puts a line behind a text for each event from one on: its number, and this.
-fn push_lines(
-    alloc: Global,
-    text: &mut String,
-    first: u32,
-    behind: &str,
-) -> Result<(), Failure> {
+fn push_lines(alloc: Global, text: &mut String, first: u32, behind: &str) -> Result<(), Failure> {
     for event in first..EVENTS + 1 {
         text.push_str(&format!(in alloc; "{event}{behind}\n")?)?;
     }
@@ -30,7 +25,7 @@ fn push_lines(
 /// Prints what was asked of the footprint's file behind its header, a line for each call: the place, and how many bytes.
 fn print_reads<R: Print>(rt: &R, inputs: &MemInputs) -> Result<(), Failure> {
     for call in inputs.calls() {
-        if call.name.as_slice() == b"static/footprint.bin" && call.at != 0 {
+        if call.name.as_slice() == b"static/footprint.bin".as_slice() && call.at != 0 {
             println!(rt; "  {} bytes from byte {}", call.len, call.at)?;
         }
     }

@@ -9,6 +9,7 @@ use std::alloc::{AllocGlobal, Global};
 use std::thread::Threads;
 
 /// A table: its file, the words that make the file of its text, and the rows of the text.
+#[derive(Clone, Copy)]
 struct Table(&'static str, &'static str, &'static str);
 
 /// A file of a run: its name and its bytes.
@@ -19,7 +20,8 @@ struct NamedFile {
 }
 
 /// How each of sixteen events strikes the item: for certain, at the one intensity.
-const STRIKES: &str = "1,1,1,1\n2,1,1,1\n3,1,1,1\n4,1,1,1\n5,1,1,1\n6,1,1,1\n7,1,1,1\n8,1,1,1\n9,1,1,1\n10,1,1,1\n11,1,1,1\n12,1,1,1\n13,1,1,1\n14,1,1,1\n15,1,1,1\n16,1,1,1\n";
+const STRIKES: &str =
+    "1,1,1,1\n2,1,1,1\n3,1,1,1\n4,1,1,1\n5,1,1,1\n6,1,1,1\n7,1,1,1\n8,1,1,1\n9,1,1,1\n10,1,1,1\n11,1,1,1\n12,1,1,1\n13,1,1,1\n14,1,1,1\n15,1,1,1\n16,1,1,1\n";
 
 /// The events in their order.
 pub(crate) const RISING: &str = "1\n2\n3\n4\n5\n6\n7\n8\n9\n10\n11\n12\n13\n14\n15\n16\n";
@@ -42,7 +44,11 @@ const TABLES: [Table; 8] = [
         "1,0,0,0,1\n2,0,0.5,0.25,1\n3,0.5,1,0.75,1\n",
     ),
     Table("static/random.bin", "tobin random", "0.65\n"),
-    Table("input/gulsummaryxref.bin", "tobin gulsummaryxref", "1,1,1\n"),
+    Table(
+        "input/gulsummaryxref.bin",
+        "tobin gulsummaryxref",
+        "1,1,1\n",
+    ),
     Table(
         "input/occurrence.bin",
         "tobin occurrence -P 2",
