@@ -9,11 +9,11 @@ use Rattle.kt_event.specs.Plan.{terms_of}
 use Rattle.kt_chain.proofs.rounds.fold_round.Goals as goal
 
 pub run_round-requires-clause-fits : goal.run_round-requires-clause-fits
-run_round-requires-clause-fits g c = λ lives within k part below is.
+run_round-requires-clause-fits g c = λ lifetimes outlive k part below is.
     c.requires.fits part (subst (λ (run : RunShares). IsGoodPart run.terms.samples part) c.run.view_is is.good)
 
 pub run_round-requires-clause-count : goal.run_round-requires-clause-count
-run_round-requires-clause-count g c = λ lives within.
+run_round-requires-clause-count g c = λ lifetimes outlive.
     few_parts c.run.inside.batch c.count.result c.run.invariant.some
     (subst (λ (n : ℕ). n ≤ 16 * c.run.inside.batch) (sym c.count.ensures.value) (subst (λ (run : RunShares). length c.args.given.now ≤ 16 * run.batch) (sym c.run.view_is) c.requires.few))
 

@@ -24,8 +24,8 @@ returns-in-Err-clause-files g c = λ input done is folded.
     reading_stops input done c.args.events.now (g.I.Inputs.state c.args.inputs.now) (g.I.Inputs.state c.fill_rows.new.inputs) (g.O.Outputs.state c.args.outputs.now) c.in-Err.stop c.in-Err.ensures.inputs
 
 pub fold_round-requires-clause-events : goal.fold_round-requires-clause-events
-fold_round-requires-clause-events g c = λ lives within.
-    ids_are c.fill_rows.new.given (subst (All IsId) (sym c.in_default.ensures.events) c.requires.events)
+fold_round-requires-clause-events g c =
+    λ lifetimes outlive. ids_are c.fill_rows.new.given (subst (All IsId) (sym c.in_default.ensures.events) c.requires.events)
 
 pub returns-in-Err-fold_round-clause-files : goal.returns-in-Err-fold_round-clause-files
 returns-in-Err-fold_round-clause-files g c = λ input done is folded.
