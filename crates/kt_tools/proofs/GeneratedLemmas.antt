@@ -1,6 +1,6 @@
 -- A run of all stages over a made-up set, in memory.
-use Rattle.std.proofs.Common.{◌≡◌, ◌∙◌, ◌≤◌, ℕ, Bool, true, false, List, [], ◌∷◌, length, Option, None, Some, Result, Ok, Err, refl, sym, ap, subst, arith, inl, inr}
-use Rattle.std.specs.Prelude.{◌⊎◌, is_some, map, nat_lt, if◌then◌else◌}
+use Rattle.std.proofs.Common.{◌≡◌, ◌∙◌, ℕ, Bool, true, false, List, [], ◌∷◌, length, Option, None, Some, Result, Ok, Err, refl, sym, ap, subst, arith, inl, inr}
+use Rattle.std.specs.Prelude.{◌⊎◌, ◌&&◌, ◌++◌, is_some, map, nat_lt, if◌then◌else◌}
 use Rattle.std.specs.List.{list_all}
 use Rattle.kt_cells.specs.declared.stop.TableStop.{TableStop}
 use Rattle.kt_cells.specs.declared.stop.TableStop.TheVariants as table
@@ -22,14 +22,18 @@ use Rattle.kt_ends.specs.declared.status.Status.TheVariants as status
 use Rattle.kt_ends.specs.declared.tool_stop.ToolStop.{ToolStop}
 use Rattle.kt_ends.specs.declared.tool_stop.ToolStop.TheVariants as stop
 use Rattle.kt_event.specs.Needs.{chain_need}
+use Rattle.kt_event.specs.declared.terms.Terms.{Terms}
 use Rattle.kt_files.specs.OutputFiles.{output_files, output_name}
 use Rattle.kt_files.specs.declared.file.OutputFile.{OutputFile}
 use Rattle.kt_gen.specs.FileLines.{file_lines}
 use Rattle.kt_gen.specs.Generated.{generated_files}
 use Rattle.kt_gen.specs.Shown.{MadeFilesAreShown, lines_of_files, names_of}
+use Rattle.kt_keys.specs.declared.need.Need.{Need}
 use Rattle.kt_keys.specs.declared.need.Refusal.{Refusal}
+use Rattle.kt_load.specs.EventRows.{HasFootprint}
+use Rattle.kt_load.specs.FootprintSize.{footprint_size-known}
 use Rattle.kt_load.specs.Ends.{AfterStop, TellsLoad}
-use Rattle.kt_load.specs.FileNames.{file_name_of}
+use Rattle.kt_load.specs.FileNames.{file_name_of, table_at}
 use Rattle.kt_load.specs.Loaded.{loaded, needed, unless_refused}
 use Rattle.kt_load.specs.Reading.{file_limit, go_on, with_read, with_size, with_table_file, with_table_files}
 use Rattle.kt_load.specs.declared.stop.LoadStop.{LoadStop}
@@ -44,6 +48,8 @@ use Rattle.kt_out.specs.Writing.{SinkState}
 use Rattle.kt_outputs.specs.Files.{files_with}
 use Rattle.kt_outputs.specs.Names.{AreDistinct}
 use Rattle.kt_rec.specs.Rows.{Rows, no_rows}
+use Rattle.kt_rec.specs.TableSet.{is_in}
+use Rattle.kt_rec.specs.declared.table.Table.TheVariants as rec_table
 use Rattle.kt_rec.specs.declared.table.TableId.{TableId}
 use Rattle.kt_schema.specs.Loading.{loaded_rows}
 use Rattle.kt_tools.specs.GeneratedRun.{MadeInMemory, StopsInMemory, generated_map, generated_run, generated_terms, shown, shown_by}
@@ -55,7 +61,7 @@ use Rattle.kt_tools.specs.Loading.{load_stop, table_stop, with_tables}
 abbrev all_held : FileMap → List TableId → Bool
 all_held files ids = list_all (λ id. is_some (files (file_name_of id))) ids
 
-first_held : (one rest : Bool) → (if one then rest else false) ≡ true → (one ≡ true) × (rest ≡ true)
+first_held : (one rest : Bool) → (one && rest) ≡ true → (one ≡ true) × (rest ≡ true)
 first_held true rest both = (refl, both)
 first_held false rest both = cc
 
@@ -120,21 +126,45 @@ none_of_both (inl rose) = none_rose rose.0
 none_of_both (inr rose) = none_rose rose.0
 
 -- objects in memory as all objects are seen
-abbrev sure_inputs : SureFiles → InputsState
+abbrev pub sure_inputs : SureFiles → InputsState
 sure_inputs held = record { held = Some (bytes_of held.files); faults = 0; misses = held.misses }
 
-abbrev sure_outputs : List File → OutputsState
+abbrev pub sure_outputs : List File → OutputsState
 sure_outputs files = record { written = Some (bytes_of files); faults = 0 }
 
-abbrev no_source : SourceState
+abbrev pub no_source : SourceState
 no_source = record { left = None; faults = 0 }
 
-abbrev no_sink : SinkState
+abbrev pub no_sink : SinkState
 no_sink = record { taken = None; faults = 0 }
 
 -- a run that has touched nothing
 untouched : (uses : Uses) (before : World) → UnderWay uses before before
 untouched uses before = record { inputs = refl; outputs = refl; sink = refl; reads = refl; source = λ unused. refl }
+
+-- the footprint's file is as long as it was when the tables were loaded
+pub footprint_known : (before after : SureFiles) (need : Need) (rows : Rows) → need ≡ chain_need generated_terms → loaded (bytes_of before.files) need ≡ Ok rows → sure_inputs after ≡ sure_inputs before → HasFootprint (Some (bytes_of after.files)) rows.footprint_size
+footprint_known before after need rows is loads same =
+    subst (λ (state : InputsState). HasFootprint state.held rows.footprint_size) (sym same)
+    (footprint_size-known (Some (bytes_of before.files)) need rows loads (subst (λ (one : Need). is_in one.loaded (table_at 0 rec_table.Footprint) ≡ true) (sym is) refl))
+
+-- the tables of the set are loaded for its run
+pub loaded_for_run : (seed items events : ℕ) (before : SureFiles) (misses : ℕ) (need : Need) (rows : Rows) → before ≡ record { files = generated_files seed items events; misses = misses } → need ≡ chain_need generated_terms → loaded (bytes_of before.files) need ≡ Ok rows → loaded (generated_map seed items events) (chain_need generated_terms) ≡ Ok rows
+loaded_for_run seed items events before misses need rows is for loads =
+    subst (λ (held : SureFiles). loaded (bytes_of held.files) (chain_need generated_terms) ≡ Ok rows) is
+    (subst (λ (one : Need). loaded (bytes_of before.files) one ≡ Ok rows) for loads)
+
+-- they are still there behind the loading
+pub still_held : (seed items events : ℕ) (before after : SureFiles) (misses : ℕ) → before ≡ record { files = generated_files seed items events; misses = misses } → sure_inputs after ≡ sure_inputs before → Some (bytes_of after.files) ≡ Some (generated_map seed items events)
+still_held seed items events before after misses is same = ap (λ (state : InputsState). state.held) same ∙ ap (λ (held : SureFiles). Some (bytes_of held.files)) is
+
+-- a run into no files, by its terms
+pub ends_by_terms : (terms : Terms) (rows : Rows) (before after : SureFiles) (old made : List File) (end : Status) → terms ≡ generated_terms → old ≡ []
+    → ToolEnds chain_uses (λ files _. chain_outcome (run_input terms rows files)) (world (sure_inputs before) (sure_outputs old) no_source no_sink) (world (sure_inputs after) (sure_outputs made) no_source no_sink) end
+    → ToolEnds chain_uses (λ files _. chain_outcome (run_input generated_terms rows files)) (world (sure_inputs before) (sure_outputs []) no_source no_sink) (world (sure_inputs after) (sure_outputs made) no_source no_sink) end
+ends_by_terms terms rows before after old made end is none ended =
+    subst (λ (one : Terms). ToolEnds chain_uses (λ files _. chain_outcome (run_input one rows files)) (world (sure_inputs before) (sure_outputs []) no_source no_sink) (world (sure_inputs after) (sure_outputs made) no_source no_sink) end) is
+    (subst (λ (files : List File). ToolEnds chain_uses (λ files _. chain_outcome (run_input terms rows files)) (world (sure_inputs before) (sure_outputs files) no_source no_sink) (world (sure_inputs after) (sure_outputs made) no_source no_sink) end) none ended)
 
 -- a refusal of the run is none of a missing file
 never_a_file : (why : RunRefusal) → IsRunStop (stop.Refused why) → IsMissing (status.Refused why) → ⊥
@@ -207,8 +237,14 @@ module _ (seed items events : ℕ) where
 -- ---- what is shown
 
 -- a run that is done is shown by the lines of its files
-pub shown_done : (run : Outcome) (held : List File) (files : List OutputFile) → MadeInMemory run held files → shown run ≡ writes_text (file_lines (bytes_of held) (map output_name files))
-shown_done run held files made = ap (λ (end : Status). shown_by end run.files) made.done ∙ ap writes_text (sym made.lines)
+pub shown_done : (run : Outcome) (held : List File) (names : List OutputFile) → MadeInMemory run held names → shown run ≡ writes_text (file_lines (bytes_of held) (map output_name names))
+shown_done run held names made = ap (λ (end : Status). shown_by end run.files) made.done ∙ ap writes_text (sym made.lines)
+
+-- so is the text of these lines
+pub shown_text : (run : Outcome) (held : List File) (names named : List OutputFile) (start lines text : List ℕ) → MadeInMemory run held names → named ≡ names → start ≡ [] → lines ≡ start ++ file_lines (bytes_of held) (map output_name named) → text ≡ lines → shown run ≡ writes_text text
+shown_text run held names named start lines text made same none are is =
+    shown_done run held names made
+    ∙ ap writes_text (sym (is ∙ are ∙ ap (λ (before : List ℕ). before ++ file_lines (bytes_of held) (map output_name named)) none ∙ ap (λ (all : List OutputFile). file_lines (bytes_of held) (map output_name all)) same))
 
 -- one that has stopped shows nothing
 pub shown_stopped : (found : FileMap → List ℕ → Type 0) (uses : Uses) (run : Outcome) (before : World) (why : ToolStop) → StopsInMemory run why → Ended found uses (λ files source. shown run) before before (stop_status why)

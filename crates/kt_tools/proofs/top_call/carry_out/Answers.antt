@@ -5,7 +5,7 @@ use Rattle.kt_tools.proofs.Running.{answers_command, by_command, by_words, comma
 use Rattle.kt_tools.proofs.top_call.carry_out.Goals as goal
 
 pub run_command-requires-clause-names : goal.run_command-requires-clause-names
-run_command-requires-clause-names g c = λ is. (c.read_command.ensures.names (c.in-Ok.is ∙ ap command_is is)).0
+run_command-requires-clause-names g c = λ lives within is. (c.read_command.ensures.names (c.in-Ok.is ∙ ap command_is is)).0
 
 pub returns-in-Ok-clause-ends : goal.returns-in-Ok-clause-ends
 returns-in-Ok-clause-ends g c = by_command c.args.words.now c.in-Ok.command _ _ c.run_command.result _ (sym c.read_command.ensures.value ∙ c.in-Ok.is) c.status_of.ensures c.run_command.ensures

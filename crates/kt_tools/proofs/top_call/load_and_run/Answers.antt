@@ -8,10 +8,10 @@ use Rattle.kt_tools.proofs.TableEnds.{ends_over, ends_unloaded}
 use Rattle.kt_tools.proofs.top_call.load_and_run.Goals as goal
 
 pub run_tool-requires-clause-need : goal.run_tool-requires-clause-need
-run_tool-requires-clause-need g c = c.requires.need ∙ ap (λ (need : Need). Some need) (sym c.in-Ok.ensures.need)
+run_tool-requires-clause-need g c = λ lives within. c.requires.need ∙ ap (λ (need : Need). Some need) (sym c.in-Ok.ensures.need)
 
 pub run_tool-requires-clause-tables : goal.run_tool-requires-clause-tables
-run_tool-requires-clause-tables g c =
+run_tool-requires-clause-tables g c = λ lives within.
     subst (λ (state : InputsState). IsOfFiles state c.in-Ok.portfolio) (sym c.in-Ok.ensures.inputs)
     (subst (λ (need : Need). IfSome (g.I.Inputs.state c.args.inputs.now).held (λ files. loaded files need ≡ Ok c.in-Ok.portfolio.rows)) (sym c.in-Ok.ensures.need) c.in-Ok.ensures.exact)
 

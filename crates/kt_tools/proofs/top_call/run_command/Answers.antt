@@ -14,3 +14,6 @@ returns-in-Convert g c = rw c.in-Convert.is (c.convert.ensures (g.I.Inputs.state
 
 pub returns-in-Some : goal.returns-in-Some
 returns-in-Some g c = c.load_and_run.ensures c.args.words.now
+
+pub returns-in-Gen : goal.returns-in-Gen
+returns-in-Gen g c = rw c.in-Gen.is (c.write_generated.ensures (g.I.Inputs.state c.args.inputs.now) (g.O.Outputs.state c.args.outputs.now) (g.S.Source.state c.args.source.now))

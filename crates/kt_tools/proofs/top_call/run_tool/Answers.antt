@@ -80,19 +80,19 @@ pub returns-in-Eve : goal.returns-in-Eve
 returns-in-Eve g c words = rw c.in-Eve.is (c.write_events.ensures (g.I.Inputs.state c.args.inputs.now) (g.O.Outputs.state c.args.outputs.now) (g.S.Source.state c.args.source.now))
 
 pub run_chain-requires-clause-terms : goal.run_chain-requires-clause-terms
-run_chain-requires-clause-terms g c = are_terms _ _ _ _ _ _ _ (subst IsCommand c.in-Chain.is c.requires.command)
+run_chain-requires-clause-terms g c = λ lives within. are_terms _ _ _ _ _ _ _ (subst IsCommand c.in-Chain.is c.requires.command)
 
 pub run_chain-requires-clause-some : goal.run_chain-requires-clause-some
-run_chain-requires-clause-some g c = (subst IsCommand c.in-Chain.is c.requires.command).some_events
+run_chain-requires-clause-some g c = λ lives within. (subst IsCommand c.in-Chain.is c.requires.command).some_events
 
 pub run_chain-requires-clause-most : goal.run_chain-requires-clause-most
-run_chain-requires-clause-most g c = (subst IsCommand c.in-Chain.is c.requires.command).few_events
+run_chain-requires-clause-most g c = λ lives within. (subst IsCommand c.in-Chain.is c.requires.command).few_events
 
 pub run_chain-requires-clause-need : goal.run_chain-requires-clause-need
-run_chain-requires-clause-need g c = chain_has c.args.command c.args.portfolio.now.need _ _ _ _ _ _ _ c.in-Chain.is c.requires.need
+run_chain-requires-clause-need g c = λ lives within. chain_has c.args.command c.args.portfolio.now.need _ _ _ _ _ _ _ c.in-Chain.is c.requires.need
 
 pub run_chain-requires-clause-file : goal.run_chain-requires-clause-file
-run_chain-requires-clause-file g c = chain_file c.args.command c.args.portfolio.now (g.I.Inputs.state c.args.inputs.now) _ _ _ _ _ _ _ c.in-Chain.is c.requires.need c.requires.tables
+run_chain-requires-clause-file g c = λ lives within. chain_file c.args.command c.args.portfolio.now (g.I.Inputs.state c.args.inputs.now) _ _ _ _ _ _ _ c.in-Chain.is c.requires.need c.requires.tables
 
 pub returns-in-Chain : goal.returns-in-Chain
 returns-in-Chain g c words = rw c.in-Chain.is (c.run_chain.ensures.ends (g.S.Source.state c.args.source.now) (g.K.Sink.state c.args.sink.now))
