@@ -122,7 +122,9 @@ fn load_and_run<R: Threads + Sync, G: Gate + Sync, I: Inputs, O: Outputs, S: Sou
     ensures { (words : List (List ℕ)) → ToolEnds (command_uses command) (command_outcome words command) (world (I.state inputs.old) (O.state outputs.old) (S.state source.old) (K.state sink.old)) (world (I.state inputs.new) (O.state outputs.new) (S.state source.new) (K.state sink.new)) (end_status result) }
 {
     match load(alloc, inputs, need) {
-        Ok(portfolio) => run_tool(rt, gate, alloc, command, &portfolio, inputs, outputs, source, sink),
+        Ok(portfolio) => run_tool(
+            rt, gate, alloc, command, &portfolio, inputs, outputs, source, sink,
+        ),
         Err(stop) => Err(load_stop(stop)),
     }
 }
@@ -154,7 +156,9 @@ fn run_command<R: Threads + Sync, G: Gate + Sync, I: Inputs, O: Outputs, S: Sour
             workers,
         } => write_generated(rt, gate, alloc, seed, items, events, workers, sink),
         _ => match command_need(command) {
-            Some(need) => load_and_run(rt, gate, alloc, command, need, inputs, outputs, source, sink),
+            Some(need) => load_and_run(
+                rt, gate, alloc, command, need, inputs, outputs, source, sink,
+            ),
             None => unreachable!(),
         },
     }
@@ -175,7 +179,9 @@ fn carry_out<R: Threads + Sync, G: Gate + Sync, I: Inputs, O: Outputs, S: Source
     ensures words { AnswersWords (command_of words.now) result }
 {
     match read_command(words) {
-        Ok(command) => status_of(run_command(rt, gate, alloc, words, command, inputs, outputs, source, sink)),
+        Ok(command) => status_of(run_command(
+            rt, gate, alloc, words, command, inputs, outputs, source, sink,
+        )),
         Err(stop) => Status::Words(stop),
     }
 }
