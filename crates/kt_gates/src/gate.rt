@@ -88,7 +88,7 @@ impl GroupGate {
             vain: if vain == 0 {
                 None
             } else {
-                Some((vain / 0x1_0000_0000 - 1, vain & 0xffff_ffff))
+                Some(((vain / 0x1_0000_0000).wrapping_sub(1), vain & 0xffff_ffff))
             },
         }
     }
