@@ -63,12 +63,14 @@ impl<'a, R, G> Model for Run<'a, R, G> {
 }
 
 impl<'a, R, G> Run<'a, R, G> {
-    /// Says that its files are those of its portfolio and terms, that its plan is that of its portfolio, and the size of a part.
+    /// Says that its files are those of its portfolio and terms, that its plan is that of its portfolio, the size of a part, and that
+    /// there is a worker.
     pub(crate) fn has_files(&self)
         ensures files { self.now.files ≡ output_files self.now.portfolio.rows self.now.terms.last }
         ensures need { self.now.portfolio.need ≡ chain_need self.now.terms }
         ensures terms { AreTerms self.now.terms }
         ensures batch { (1 ≤ self.now.batch) × (self.now.batch ≤ 4) }
+        ensures workers { 1 ≤ self.now.workers }
     {
         let _ = &self.batch;
     }

@@ -31,7 +31,7 @@ use kt_event::Plan;
 use kt_files::laws::names_are_distinct;
 use kt_files::{Endings, Headings, OutputFile, output_files};
 use kt_out::{Fault, Gate, Inputs, Outputs};
-use kt_outputs::{append_texts, create_files};
+use kt_outputs::{append_texts, append_texts_beside, create_files};
 use kt_tables::Portfolio;
 use std::alloc::Global;
 use std::thread::Threads;
@@ -49,8 +49,8 @@ fn begin<R, G, O: Outputs>(run: &Run<'_, R, G>, outputs: &mut O) -> Result<(), F
     append_texts(run.alloc, outputs, run.files, &Headings)
 }
 
-/// Writes the tables over all periods at the end of the files.
-fn finish<R, G, O: Outputs>(
+/// Writes the tables over all periods at the end of the files. Those of as many files as the run has workers are made side by side.
+fn finish<R: Threads + Sync, G, O: Outputs>(
     run: &Run<'_, R, G>,
     fold: &RunFold<'_>,
     outputs: &mut O,
@@ -64,7 +64,14 @@ fn finish<R, G, O: Outputs>(
         portfolio: fold.portfolio(),
         cells: fold.cells(),
     };
-    append_texts(run.alloc, outputs, run.files, &endings)
+    append_texts_beside(
+        run.rt,
+        run.alloc,
+        outputs,
+        run.files,
+        &endings,
+        run.workers as usize,
+    )
 }
 
 /// Makes the files of a run, carries its events through all stages round by round, and writes the tables over all periods.

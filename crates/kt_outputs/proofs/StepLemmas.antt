@@ -1,6 +1,7 @@
 -- One file of a list after the other: what the files are after each, and where it ends at one.
 use Rattle.std.proofs.Common.{◌≡◌, ◌⊎◌, ℕ, ◌+◌, ◌<◌, List, [], ◌∷◌, ◌++◌, length, map, take, drop, get_or, Option, None, Some, Ok, Err, refl, sym, ap, subst, ◌∙◌, inl, inr, append_assoc}
 use Rattle.std.specs.Prelude.{IfSome, IsSomeAnd}
+use Rattle.std.proofs.lemmas.List.{take-append-drop}
 use Rattle.kt_out.specs.Appending.{Lengthens, AppendsText, AppendsFront}
 use Rattle.kt_out.specs.NamedFiles.{File, FileMap}
 use Rattle.kt_out.specs.OutputFiles.{OutputsState, Creates, Sets, SameFiles}
@@ -158,3 +159,29 @@ module _ {F : Type 0} (name : F → List ℕ) (files : List F) (distinct : AreDi
         (made.files start)
         (appends_known now.written after.written (name file) moved.front moved.added);
   }
+
+-- ---- where it ends between two files
+
+fronts_midway : {F : Type 0} (name old new : F → List ℕ) → ((file : F) → IsFront (old file) (new file)) → (before later : List F) → AreFronts (files_with name new before ++ files_with name old later) (files_with name new (before ++ later))
+fronts_midway name old new grows [] later = fronts_of_longer name old new grows later
+fronts_midway name old new grows (one ∷ before) later = (refl, front_of_itself (new one), fronts_midway name old new grows before later)
+
+-- what is known of all files is known of some of them
+weaker : (first now : Option FileMap) (held got wanted : FileMap → Type 0) → ((new : FileMap) → got new → wanted new) → IfSome first (λ old. held old → IsSomeAnd now got) → IfSome first (λ old. held old → IsSomeAnd now wanted)
+weaker None now held got wanted gives step = tt
+weaker (Some old) None held got wanted gives step = λ is_held. absurd (step is_held)
+weaker (Some old) (Some new) held got wanted gives step = λ is_held. gives new (step is_held)
+
+-- where it ends with the files before a place, a front of all is made
+pub stops_midway : {F : Type 0} (name : F → List ℕ) (files : List F) (i : ℕ) (first now : OutputsState) (E D : Type 0) (fault : E) (text more : F → List ℕ) → Makes {T = Unit {0}} {E = D} (files_with name text files) (files_midway name (lengthened_by text more) text i files) first now (Ok tt) → Makes {T = Unit {0}} {E = E} (files_with name text files) (files_with name (lengthened_by text more) files) first now (Err fault)
+stops_midway name files i first now E D fault text more made = record {
+  files = λ start.
+      weaker first.written now.written (AllMade (files_with name text files) start) (AllMade (files_midway name (lengthened_by text more) text i files) start) (PartlyMade (files_with name (lengthened_by text more) files) start)
+      (λ new all. record {
+        made = files_midway name (lengthened_by text more) text i files;
+        fronts = subst (λ (list : List _). AreFronts (files_midway name (lengthened_by text more) text i files) (files_with name (lengthened_by text more) list)) (take-append-drop i files)
+            (fronts_midway name text (lengthened_by text more) (λ one. front_of_longer (text one) (more one)) (take i files) (drop i files));
+        holds = λ one. inl (all one);
+      })
+      (made.files start);
+}

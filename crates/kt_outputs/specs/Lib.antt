@@ -4,3 +4,4 @@ pub mod Texts
 pub mod Midway
 pub mod Growing
 pub mod Composing
+pub mod Beside

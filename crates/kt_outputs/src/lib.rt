@@ -2,12 +2,14 @@
 #![tactic(auto)]
 
 mod appending;
+mod beside;
 mod creating;
 mod named;
 mod spill;
 mod texts;
 
 pub use appending::append_texts;
+pub use beside::append_texts_beside;
 pub use creating::create_files;
 pub use named::Named;
 pub use texts::Texts;
