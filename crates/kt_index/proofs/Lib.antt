@@ -1,4 +1,3 @@
 pub mod KeyLemmas
 pub mod CoverLemmas
 pub mod TotalLemmas
-pub mod RiseLemmas

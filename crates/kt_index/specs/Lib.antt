@@ -1,2 +1,3 @@
 pub mod KeyEnds
 pub mod Exposure
+pub mod RiseLaws

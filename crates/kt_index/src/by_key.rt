@@ -39,7 +39,17 @@ impl<T: Keyed> ByKey<T> {
         ensures permutation { IfOk result (IsPermutation rows.now) }
         ensures kept { IfOk result (λ index. (key : ℕ) → filter (λ row. nat_eq (T.key_of row) key) index ≡ filter (λ row. nat_eq (T.key_of row) key) rows.now) }
     {
-        let mut rows = copy_of(alloc, rows)?;
+        let rows = copy_of(alloc, rows)?;
+        let index = ByKey::of_rows(rows)?;
+        Ok(index)
+    }
+
+    /// The rows by rising key, put in order where they are; rows of one key stay in their order. An error is want of memory.
+    pub fn of_rows(rows: Vec<T>) -> Result<ByKey<T>, AllocError>
+        ensures permutation { IfOk result (IsPermutation rows.items) }
+        ensures kept { IfOk result (λ index. (key : ℕ) → filter (λ row. nat_eq (T.key_of row) key) index ≡ filter (λ row. nat_eq (T.key_of row) key) rows.items) }
+    {
+        let mut rows = rows;
         rows.sort_by_key(|row| row.key())?;
         Ok(ByKey { rows })
     }

@@ -115,18 +115,18 @@ fn summary_value(
 }
 
 /// The exposures of the summaries of rows: for each pair of a set and a summary, what the coverages of its units are worth,
-/// each once. What is not there is 0. An error is want of memory.
+/// each once. What is not there is 0. The rows are put in order where they are. An error is want of memory.
 pub fn exposures(
     alloc: Global,
-    rows: &[SummaryUnit],
-    pairs: &[UnitCoverage],
+    rows: Vec<SummaryUnit>,
+    pairs: Vec<UnitCoverage>,
     tivs: &HashMap<u32, u64>,
 ) -> Result<HashMap<(u32, u32), u64>, AllocError>
     requires { AddsUp (value_in tivs.now) }
-    ensures value { IfOk result (λ totals. (key : ℕ × ℕ) → IsTotalOf (summary_covers rows.now pairs.now key) (value_in tivs.now) (unwrap_or (get same_pair totals key) 0)) }
+    ensures value { IfOk result (λ totals. (key : ℕ × ℕ) → IsTotalOf (summary_covers rows.items pairs.items key) (value_in tivs.now) (unwrap_or (get same_pair totals key) 0)) }
 {
-    let rows = ByKey::new(alloc, rows)?;
-    let pairs = ByKey::new(alloc, pairs)?;
+    let rows = ByKey::of_rows(rows)?;
+    let pairs = ByKey::of_rows(pairs)?;
     totals_of(alloc, &rows, &pairs, tivs)
 }
 

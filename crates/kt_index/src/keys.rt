@@ -2,7 +2,7 @@
 ghost use Rattle.std.specs.Prelude.{◌≡◌, ◌*◌, ◌+◌, ◌^◌};
 
 use crate::by_key::Keyed;
-use kt_rec::{FootRow, Item, Occurrence, Vulnerability};
+use kt_rec::{FmXref, FootRow, Item, Occurrence, Vulnerability};
 
 /// The key of two numbers: by the first, and then by the second.
 pub fn pair_key(first: u32, second: u32) -> u64
@@ -44,5 +44,13 @@ impl Keyed for Vulnerability {
 
     fn key(&self) -> u64 {
         pair_key(self.vulnerability_id, self.intensity_bin_id)
+    }
+}
+
+impl Keyed for FmXref {
+    ghost key_of = { λ row. row.output_id };
+
+    fn key(&self) -> u64 {
+        u64::from(self.output_id)
     }
 }

@@ -1,7 +1,7 @@
 -- The outputs that are found by their units are those that have a place.
 use Rattle.std.proofs.Common.{◌≡◌, ℕ, ◌&&◌, ◌||◌, Bool, true, false, cond, nat_eq, List, [], ◌∷◌, Option, Some, None, length, map, refl, sym, ap, ◌∙◌}
 use Rattle.std.proofs.Math.Path.{fun_ext}
-use Rattle.std.specs.Prelude.{option_map}
+use Rattle.std.specs.Prelude.{option_map, slice_get}
 use Rattle.std.specs.Cmp.{nat_eq_equiv}
 use Rattle.std.specs.HashMap.{get}
 use Rattle.std.specs.List.{cons_option, filter, filter_map, flat_map, list_any, range_with_len, zip}
@@ -13,7 +13,7 @@ use Rattle.kt_tree.specs.Members.{any-of, member-filter}
 use Rattle.kt_rec.specs.Rising.{rising, rising-member, rising-rises, rising-unique}
 use Rattle.kt_fmtree.specs.RisingLaws.{rising-filter}
 use Rattle.kt_structure.proofs.CoverageLemmas.{list_any-flat_map}
-use Rattle.kt_insured.specs.Index.{AreIndexed, ids_at, unit_output}
+use Rattle.kt_insured.specs.Index.{AreIndexed, first_of, ids_at, unit_output}
 use Rattle.kt_insured.specs.Insured.{in_order}
 use Rattle.kt_insured.specs.Layout.{outlet_of}
 use Rattle.kt_insured.specs.declared.index.OutputIndex.{OutputIndex}
@@ -92,6 +92,18 @@ made-filter {Y} row_at make test none (id ∷ ids) = by (test id) refl (row_at i
     by false here None is rest = rest
     by false here (Some row) is rest = rest ∙ ap (λ made. cons_option made (filter_map make (filter_map row_at ids))) (sym (none id here row is))
 
+-- the first row of an output is what is found of it
+pub first-found : (id : ℕ) (outputs : List FmXref) → first_of outputs id ≡ lookup (nat_eq id) (map (λ row. (row.output_id, row)) outputs)
+first-found id [] = refl
+first-found id (row ∷ outputs) =
+    by (nat_eq row.output_id id) (first-found id outputs)
+    ∙ ap (λ b. cond b (Some row) (lookup (nat_eq id) (map (λ (row : FmXref). (row.output_id, row)) outputs))) (nat_eq_equiv.symm row.output_id id)
+  where
+    by : (b : Bool) → first_of outputs id ≡ lookup (nat_eq id) (map (λ row. (row.output_id, row)) outputs)
+        → slice_get (cond b (row ∷ filter (λ row. nat_eq row.output_id id) outputs) (filter (λ row. nat_eq row.output_id id) outputs)) 0 ≡ cond b (Some row) (lookup (nat_eq id) (map (λ (row : FmXref). (row.output_id, row)) outputs))
+    by true rest = refl
+    by false rest = rest
+
 module _ (outputs : List FmXref) (index : OutputIndex) (are : AreIndexed outputs index) (keys : List (ℕ × ℕ)) (units : List ℕ) (units_are : units ≡ map (λ key. key.0) keys) where
   -- whether an output is of one of the units
   abbrev of_unit : ℕ → Bool
@@ -138,7 +150,7 @@ module _ (outputs : List FmXref) (index : OutputIndex) (are : AreIndexed outputs
           let clash : true ≡ false = sym some ∙ other in cc
 
   -- the outputs of the units have the places of all
-  pub outlets-found : filter_map (outlet_of keys) (filter_map (get nat_eq index.by_id) (rising (flat_map (ids_at index) units))) ≡ filter_map (outlet_of keys) (in_order outputs)
+  pub outlets-found : filter_map (outlet_of keys) (filter_map (first_of index.by_id) (rising (flat_map (ids_at index) units))) ≡ filter_map (outlet_of keys) (in_order outputs)
   outlets-found =
       ap (λ (row_at : ℕ → Option FmXref). filter_map (outlet_of keys) (filter_map row_at (rising (flat_map (ids_at index) units)))) (fun_ext are.by_id)
       ∙ (ap (λ ids. filter_map (outlet_of keys) (filter_map (row_of outputs) ids)) units-ids

@@ -1,19 +1,16 @@
 //! The outputs of a portfolio, found by their units.
 //! The rule: docs/FINANCIAL_MODULE.md, "Insured losses".
 ghost use Rattle.std.specs.Prelude.{◌≡◌, ◌++◌, ℕ, nat_eq, map, IfOk, OnOk};
-ghost use Rattle.std.specs.HashMap.{get};
 ghost use Rattle.std.specs.List.{filter, filter_map, flat_map};
 ghost use Rattle.std.specs.Map.{lookup};
 ghost use Rattle.kt_rec.specs.Rising.{rising};
-ghost use Rattle.kt_insured.specs.Index.{AreIndexed, ids_at, unit_output};
+ghost use Rattle.kt_insured.specs.Index.{AreIndexed, first_of, ids_at, unit_output};
 
 use kt_fmtree::rising;
 use kt_index::{ByKey, Keyed};
-use kt_keys::first_values;
 use kt_rec::FmXref;
 use kt_tables::Portfolio;
 use std::alloc::{AllocError, Global};
-use std::collections::HashMap;
 
 /// An output of a unit, or of an item.
 #[derive(Clone, Copy, Drop)]
@@ -34,38 +31,28 @@ impl Keyed for UnitOutput {
 #[derive(Drop)]
 pub struct OutputIndex {
     by_unit: ByKey<UnitOutput>,
-    by_id: HashMap<u32, FmXref>,
+    by_id: ByKey<FmXref>,
 }
 
-/// Outputs with their ids.
-fn output_rows(alloc: Global, outputs: &[FmXref]) -> Result<Vec<(u32, FmXref)>, AllocError>
-    ensures value { IfOk result (λ rows. rows.items ≡ map (λ row. (row.output_id, row)) outputs.now) }
+/// The first row of an output.
+fn row_of(rows: &ByKey<FmXref>, id: u32) -> Option<FmXref>
+    ensures value { result ≡ first_of rows.now id }
 {
-    outputs
-        .iter()
-        .map(|row| (row.output_id, *row))
-        .collect(alloc)
+    rows.of(u64::from(id)).first().copied()
 }
 
-/// The first row of each output.
-fn first_rows(alloc: Global, rows: &[(u32, FmXref)]) -> Result<HashMap<u32, FmXref>, AllocError>
-    ensures value { IfOk result (λ found. (id : ℕ) → get nat_eq found id ≡ lookup (nat_eq id) rows.now) }
-{
-    first_values(alloc, rows)
-}
-
-/// The rows of outputs by rising id.
+/// The rows of outputs, in the order of their ids.
 fn rows_in_order(
     alloc: Global,
     ids: &[u32],
-    rows: &HashMap<u32, FmXref>,
+    rows: &ByKey<FmXref>,
 ) -> Result<Vec<FmXref>, AllocError>
-    ensures value { IfOk result (λ found. found.items ≡ filter_map (λ id. get nat_eq rows.now id) ids.now) }
+    ensures value { IfOk result (λ found. found.items ≡ filter_map (first_of rows.now) ids.now) }
 {
     let mut found = Vec::with_capacity(alloc, ids.len())?;
     for id in ids {
-        if let Some(row) = rows.get(id) {
-            found.push(*row)?;
+        if let Some(row) = row_of(rows, *id) {
+            found.push(row)?;
         }
     }
     Ok(found)
@@ -97,11 +84,10 @@ fn by_unit(alloc: Global, outputs: &[FmXref]) -> Result<ByKey<UnitOutput>, Alloc
 }
 
 /// The rows of outputs, by their ids.
-fn by_id(alloc: Global, outputs: &[FmXref]) -> Result<HashMap<u32, FmXref>, AllocError>
-    ensures value { IfOk result (λ found. (id : ℕ) → get nat_eq found id ≡ lookup (nat_eq id) (map (λ row. (row.output_id, row)) outputs.now)) }
+fn by_id(alloc: Global, outputs: &[FmXref]) -> Result<ByKey<FmXref>, AllocError>
+    ensures value { IfOk result (λ index. (id : ℕ) → first_of index id ≡ lookup (nat_eq id) (map (λ row. (row.output_id, row)) outputs.now)) }
 {
-    let pairs = output_rows(alloc, outputs)?;
-    first_rows(alloc, &pairs)
+    ByKey::new(alloc, outputs)
 }
 
 impl OutputIndex {
@@ -139,7 +125,7 @@ impl OutputIndex {
 
     /// The outputs of units, by rising id.
     pub(crate) fn of(&self, alloc: Global, units: &[u32]) -> Result<Vec<FmXref>, AllocError>
-        ensures value { IfOk result (λ found. found.items ≡ filter_map (get nat_eq self.now.by_id) (rising (flat_map (ids_at self.now) units.now))) }
+        ensures value { IfOk result (λ found. found.items ≡ filter_map (first_of self.now.by_id) (rising (flat_map (ids_at self.now) units.now))) }
     {
         let ids = rising(self.ids(alloc, units)?)?;
         let found = rows_in_order(alloc, &ids, &self.by_id)?;

@@ -160,16 +160,17 @@ pub(crate) fn tivs(
     alloc: Global,
     next: &HashMap<(u32, u32), u32>,
     top: u32,
-    covered: &[(u32, Option<u32>)],
+    covered: Vec<(u32, Option<u32>)>,
     coverages: &[Coverage],
 ) -> Result<HashMap<(u32, u32), u64>, AllocError>
     requires distinct { IsDistinct nat_eq (map (λ row. row.coverage_id) coverages.now) }
     requires ranges { All IsCoverage coverages.now }
     requires few { length coverages.now ≤ 100000 }
-    ensures value { IfOk result (λ found. (key : ℕ × ℕ) → IsTotalOf (summary_covers (flat_map (rows_for (get same_pair next.now) top) covered.now) (map own_pair coverages.now) key) (tiv_of coverages.now) (unwrap_or (get same_pair found key) 0)) }
+    ensures value { IfOk result (λ found. (key : ℕ × ℕ) → IsTotalOf (summary_covers (flat_map (rows_for (get same_pair next.now) top) covered.items) (map own_pair coverages.now) key) (tiv_of coverages.now) (unwrap_or (get same_pair found key) 0)) }
 {
-    let rows = climbs(alloc, next, top, covered)?;
+    let rows = climbs(alloc, next, top, &covered)?;
+    drop(covered);
     let pairs = own_pairs(alloc, coverages)?;
     let values = coverage_tivs(alloc, coverages)?;
-    exposures(alloc, &rows, &pairs, &values)
+    exposures(alloc, rows, pairs, &values)
 }

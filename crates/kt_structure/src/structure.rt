@@ -46,7 +46,7 @@ pub(crate) fn structure_at(
     let top_level = top_level(rows);
     let next = next_units(alloc, rows)?;
     let covered = covered_ids(alloc, tables, stage)?;
-    let tivs = tivs(alloc, &next, top_level, &covered, &tables.coverages)?;
+    let tivs = tivs(alloc, &next, top_level, covered, &tables.coverages)?;
     let terms = Terms::new(alloc, policytc(tables, stage), profile(tables, stage))?;
     let layers = layer_links(alloc, policytc(tables, stage))?;
     Ok(Structure {

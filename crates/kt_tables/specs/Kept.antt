@@ -1,5 +1,5 @@
 -- What a portfolio keeps beside its rows, for the lookups.
-use Rattle.std.specs.Prelude.{◌≡◌, ℕ, ◌*◌, ◌+◌, ◌^◌, nat_eq, List, map, Option, None, Some, unwrap_or}
+use Rattle.std.specs.Prelude.{◌≡◌, ℕ, ◌*◌, ◌+◌, ◌^◌, nat_eq, List, Vec, map, Option, None, Some, unwrap_or}
 use Rattle.std.specs.List.{IsDistinct, filter, list_any}
 use Rattle.std.specs.List.Sorted.{IsPermutation, IsNonDecreasingBy}
 use Rattle.std.specs.Map.{lookup}
@@ -44,6 +44,11 @@ AreOccurrences rows occurrences = (event : ℕ) → filter (λ row. nat_eq row.e
 abbrev pub ArePlaces : {S : Type 0} → Rows → HashMap ℕ Place S → Type 0
 ArePlaces rows places = (event : ℕ) → get nat_eq places event ≡ place_in rows event
 
+-- the items by rising id: the table itself where it is in that order, else its rows in that order
+abbrev pub AreById : {A : Type 0} → List Item → Option (Vec Item A) → Type 0
+AreById items None = IsNonDecreasingBy (λ row. row.item_id) items
+AreById items (Some sorted) = IsPermutation items sorted.items × IsNonDecreasingBy (λ row. row.item_id) sorted.items
+
 -- the key of an item: its areaperil, and then its vulnerability
 abbrev pub item_key : Item → ℕ
 item_key row = row.areaperil_id * 2 ^ 32 + row.vulnerability_id
@@ -79,8 +84,7 @@ pub record AreHazardLookups (rows : Rows) (lookups : HazardLookups) : Type 0 whe
 
 -- the lookups of items are those of the rows
 pub record AreItemLookups (rows : Rows) (lookups : ItemLookups) : Type 0 where
-  pub by_id : IsPermutation rows.items lookups.by_id.items
-  pub rising : IsNonDecreasingBy (λ row. row.item_id) lookups.by_id.items
+  pub by_id : AreById rows.items lookups.by_id
   pub by_pair : AreByPair rows lookups.by_pair
   pub pairs : lookups.pairs.items ≡ item_pairs rows.items
 

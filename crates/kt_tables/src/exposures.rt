@@ -107,7 +107,8 @@ pub(crate) fn item_exposures(
     ensures value { IfOk result (λ found. (rule : ℕ) → AreExposures perspective.Gul (rows_of tables.now) rule found) }
 {
     let pairs = parts_of(alloc, &tables.items)?;
-    exposures(alloc, rows, &pairs, tivs)
+    let rows = rows.to_vec(alloc)?;
+    exposures(alloc, rows, pairs, tivs)
 }
 
 /// The exposures of the summaries of outputs, which are these rows.
@@ -127,5 +128,5 @@ pub(crate) fn output_exposures(
     let aggs = first_values(alloc, &pairs)?;
     let units = output_units(alloc, &aggs, rows)?;
     let coverages = unit_coverages(alloc, tables, rule)?;
-    exposures(alloc, &units, &coverages, tivs)
+    exposures(alloc, units, coverages, tivs)
 }

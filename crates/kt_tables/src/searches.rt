@@ -44,7 +44,10 @@ impl Portfolio {
         ensures permutation { IsPermutation self.now.rows.items result.now }
         ensures rising { IsStrictlyIncreasing (map (λ row. row.item_id) result.now) }
     {
-        &self.lookups.items.by_id
+        match &self.lookups.items.by_id {
+            None => &self.tables.items,
+            Some(sorted) => sorted,
+        }
     }
 
     /// The items of an areaperil and a vulnerability, in table order; none where no item has both.

@@ -1,9 +1,9 @@
 //! The lookups of items.
-ghost use Rattle.std.specs.Prelude.{◌≡◌, IfOk};
+ghost use Rattle.std.specs.Prelude.{◌≡◌, true, IfOk};
 ghost use Rattle.std.specs.List.Sorted.{IsPermutation, IsNonDecreasingBy};
 ghost use Rattle.kt_rec.specs.Rows.{rows_of};
 ghost use Rattle.kt_tables.specs.Lookups.{item_pairs};
-ghost use Rattle.kt_tables.specs.Kept.{AreItemLookups};
+ghost use Rattle.kt_tables.specs.Kept.{AreById, AreItemLookups};
 
 use kt_index::ByKey;
 use kt_rec::{Item, Tables};
@@ -13,22 +13,55 @@ use std::collections::BTreeSet;
 /// The lookups of items.
 #[derive(Drop)]
 pub(crate) struct ItemLookups {
-    /// The items by rising id.
-    pub(crate) by_id: Vec<Item>,
+    /// The items by rising id, where the table is in another order.
+    pub(crate) by_id: Option<Vec<Item>>,
     /// The items by areaperil and vulnerability.
     pub(crate) by_pair: ByKey<Item>,
     /// The pairs of areaperil and vulnerability that some item has, each once, rising.
     pub(crate) pairs: Vec<(u32, u32)>,
 }
 
+/// The id of an item.
+fn id_of(row: &Item) -> u32
+    ensures value { result ≡ row.now.item_id }
+{
+    row.item_id
+}
+
+/// Whether items stand by rising id.
+fn is_by_id(items: &[Item]) -> bool
+    ensures rising { result ≡ true → IsNonDecreasingBy (λ row. row.item_id) items.now }
+{
+    let mut last = 0;
+    for row in items {
+        let id = id_of(row);
+        if id < last {
+            return false;
+        }
+        last = id;
+    }
+    true
+}
+
 /// The items by rising id.
-fn by_id(alloc: Global, items: &[Item]) -> Result<Vec<Item>, AllocError>
+fn sorted_by_id(alloc: Global, items: &[Item]) -> Result<Vec<Item>, AllocError>
     ensures permutation { IfOk result (λ sorted. IsPermutation items.now sorted.items) }
     ensures rising { IfOk result (λ sorted. IsNonDecreasingBy (λ row. row.item_id) sorted.items) }
 {
     let mut sorted = items.to_vec(alloc)?;
     sorted.sort_by_key(|row| row.item_id)?;
     Ok(sorted)
+}
+
+/// The items by rising id; nothing where the table is in that order.
+fn by_id(alloc: Global, items: &[Item]) -> Result<Option<Vec<Item>>, AllocError>
+    ensures value { IfOk result (AreById items.now) }
+{
+    if is_by_id(items) {
+        return Ok(None);
+    }
+    let sorted = sorted_by_id(alloc, items)?;
+    Ok(Some(sorted))
 }
 
 /// The pairs of areaperil and vulnerability that some item has, in order.

@@ -1,5 +1,5 @@
 use Rattle.std.proofs.Common.{◌+◌, ◌≤◌, subst, sym}
-use Rattle.kt_index.proofs.RiseLemmas.{RisesTo, rises_none, rises_more, rises_all}
+use Rattle.kt_index.specs.RiseLaws.{RisesTo, rises_none, rises_more, rises_all}
 use Rattle.kt_index.proofs.by_key.is_by_key.Goals as goal
 
 pub loop-row-init : goal.loop-row-init

@@ -1,4 +1,4 @@
-use Rattle.kt_index.proofs.RiseLemmas.{RisesTo}
+use Rattle.kt_index.specs.RiseLaws.{RisesTo}
 use Rattle.kt_index.proofs.by_key.is_by_key.Given as goal
 
 abbrev pub invariant-loop-row : goal.invariant-loop-row

@@ -9,7 +9,7 @@ use Rattle.kt_index.proofs.exposure.exposures.Goals as goal
 pub returns : goal.returns
 returns c = record {
   value =
-      IfOk-weaker c.totals_of.result _ (λ totals. (key : ℕ × ℕ) → IsTotalOf (summary_covers c.args.rows.now c.args.pairs.now key) (value_in c.args.tivs.now) (unwrap_or (get same_pair totals key) 0))
-      (λ totals known key. total-agree _ (summary_covers c.args.rows.now c.args.pairs.now key) _ _ (covers-moved c.args.rows.now c.in_ok-rows.rows c.args.pairs.now c.in_ok-pairs.pairs c.in_ok-rows.ensures.permutation c.in_ok-pairs.ensures.permutation key) (known key))
+      IfOk-weaker c.totals_of.result _ (λ totals. (key : ℕ × ℕ) → IsTotalOf (summary_covers c.args.rows.items c.args.pairs.items key) (value_in c.args.tivs.now) (unwrap_or (get same_pair totals key) 0))
+      (λ totals known key. total-agree _ (summary_covers c.args.rows.items c.args.pairs.items key) _ _ (covers-moved c.args.rows.items c.in_ok-rows.rows c.args.pairs.items c.in_ok-pairs.pairs c.in_ok-rows.ensures.permutation c.in_ok-pairs.ensures.permutation key) (known key))
       c.totals_of.ensures.value;
 }

@@ -1,7 +1,8 @@
-use Rattle.std.proofs.Common.{◌≡◌, nat_eq, take}
+-- The rows of the ids so far.
+use Rattle.std.proofs.Common.{◌≡◌, take}
 use Rattle.std.specs.List.{filter_map}
-use Rattle.std.specs.HashMap.{get}
+use Rattle.kt_insured.specs.Index.{first_of}
 use Rattle.kt_insured.proofs.index.rows_in_order.Given as goal
 
 abbrev pub invariant-loop-id : goal.invariant-loop-id
-invariant-loop-id l = l.found.items ≡ filter_map (λ id. get nat_eq l.rows id) (take l.id-index l.ids)
+invariant-loop-id l = l.found.items ≡ filter_map (first_of l.rows) (take l.id-index l.ids)

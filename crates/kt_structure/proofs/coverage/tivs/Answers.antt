@@ -20,8 +20,8 @@ returns c = record {
   value =
       IfOk-weaker c.exposures.result _ _
       (λ found totals key.
-      subst (λ (value : ℕ → ℕ). IsTotalOf (summary_covers (flat_map (rows_for (get same_pair c.args.next.now) c.args.top) c.args.covered.now) (map own_pair c.args.coverages.now) key) value (unwrap_or (get same_pair found key) 0)) (fun_ext (λ (id : ℕ). ap (λ found. unwrap_or found 0) (c.in_ok-values.ensures.value id)))
-      (subst (λ (rows : List SummaryUnit). IsTotalOf (summary_covers rows (map own_pair c.args.coverages.now) key) (value_in c.in_ok-values.values) (unwrap_or (get same_pair found key) 0)) (c.deref.ensures.value ∙ c.in_ok-rows.ensures.value)
-      (subst (λ (pairs : List UnitCoverage). IsTotalOf (summary_covers c.deref.result.now pairs key) (value_in c.in_ok-values.values) (unwrap_or (get same_pair found key) 0)) (c.deref-2.ensures.value ∙ c.in_ok-pairs.ensures.value) (totals key))))
+      subst (λ (value : ℕ → ℕ). IsTotalOf (summary_covers (flat_map (rows_for (get same_pair c.args.next.now) c.args.top) c.args.covered.items) (map own_pair c.args.coverages.now) key) value (unwrap_or (get same_pair found key) 0)) (fun_ext (λ (id : ℕ). ap (λ found. unwrap_or found 0) (c.in_ok-values.ensures.value id)))
+      (subst (λ (rows : List SummaryUnit). IsTotalOf (summary_covers rows (map own_pair c.args.coverages.now) key) (value_in c.in_ok-values.values) (unwrap_or (get same_pair found key) 0)) (c.in_ok-rows.ensures.value ∙ ap (flat_map (rows_for (get same_pair c.args.next.now) c.args.top)) c.deref.ensures.value)
+      (subst (λ (pairs : List UnitCoverage). IsTotalOf (summary_covers c.in_ok-rows.rows.items pairs key) (value_in c.in_ok-values.values) (unwrap_or (get same_pair found key) 0)) c.in_ok-pairs.ensures.value (totals key))))
       c.exposures.ensures.value;
 }

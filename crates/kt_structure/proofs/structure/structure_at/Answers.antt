@@ -23,7 +23,7 @@ returns c =
     record {
       value = structure-made rows c.args.stage c.requires.ready _ c.in_ok-terms.terms c.in_ok-layers.layers top_is next_is refl
           (subst (λ (policytc : List FmPolicytc). AreTerms policytc (profiles_of rows c.args.stage) c.in_ok-terms.terms) c.policytc.ensures.value (subst (λ (profiles : List FmProfile). AreTerms c.policytc.result.now profiles c.in_ok-terms.terms) c.profile.ensures.value c.in_ok-terms.ensures.value))
-          (tivs-beneath rows c.args.stage c.requires.ready (get same_pair c.in_ok-next.next) c.top_level-top_level.result c.deref.result.now c.deref-2.result.now next_is top_is (c.deref.ensures.value ∙ c.in_ok-covered.ensures.value) c.deref-2.ensures.value (λ key. unwrap_or (get same_pair c.in_ok-tivs.tivs key) 0) c.in_ok-tivs.ensures.value)
+          (tivs-beneath rows c.args.stage c.requires.ready (get same_pair c.in_ok-next.next) c.top_level-top_level.result c.in_ok-covered.covered.items c.deref.result.now next_is top_is c.in_ok-covered.ensures.value c.deref.ensures.value (λ key. unwrap_or (get same_pair c.in_ok-tivs.tivs key) 0) c.in_ok-tivs.ensures.value)
           refl
           (subst (λ (policytc : List FmPolicytc). (key : ℕ) → filter (λ row. nat_eq (link_key row) key) c.in_ok-layers.layers ≡ filter (λ row. nat_eq (link_key row) key) (map layer_link policytc)) c.policytc-2.ensures.value c.in_ok-layers.ensures.kept);
     }

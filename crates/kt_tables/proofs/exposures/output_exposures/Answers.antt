@@ -21,15 +21,15 @@ returns c =
     let rule = c.args.rule in
     let aggs = (λ (id : ℕ). get nat_eq c.in_ok-aggs.aggs id) in
     let known = (λ (id : ℕ). c.in_ok-aggs.ensures.value id ∙ ap (lookup (nat_eq id)) (c.deref-2.ensures.value ∙ (c.in_ok-pairs.ensures.value ∙ ap (map (λ (row : FmXref). (row.output_id, row.agg_id))) c.deref.ensures.value))) in
-    let units = c.deref-3.ensures.value ∙ c.in_ok-units.ensures.value in
+    let units = c.in_ok-units.ensures.value in
     record {
       value =
           IfOk-weaker c.exposures.result _ (AreExposures Il rows rule)
           (λ found totals key.
           total-exposure rows.coverages c.requires.addable.coverages (value_in c.args.tivs.now) (λ id. ap (λ (value : Option ℕ). unwrap_or value 0) (c.requires.tivs id)) _ (summary_has Il rows rule key.0 key.1)
-          (λ coverage. ap (λ (list : List SummaryUnit). summary_covers list c.deref-4.result.now key coverage) units
-          ∙ (output-covers (unit_has rows rule) coverage c.args.rows.now rows.fm_xref c.deref-4.result.now aggs key c.requires.addable.outputs known
-          (λ unit. ap (λ (list : List UnitCoverage). unit_covers list unit coverage) c.deref-4.ensures.value ∙ c.in_ok-coverages.ensures.value unit coverage)
+          (λ coverage. ap (λ (list : List SummaryUnit). summary_covers list c.in_ok-coverages.coverages.items key coverage) units
+          ∙ (output-covers (unit_has rows rule) coverage c.args.rows.now rows.fm_xref c.in_ok-coverages.coverages.items aggs key c.requires.addable.outputs known
+          (λ unit. c.in_ok-coverages.ensures.value unit coverage)
           ∙ ap (λ (list : List SummaryUnit). list_any (λ row. nat_eq row.set key.0 && nat_eq row.summary key.1 && output_has rows rule row.unit coverage) list) c.requires.rows))
           _ (totals key))
           c.exposures.ensures.value;

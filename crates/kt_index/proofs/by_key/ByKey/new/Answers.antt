@@ -1,12 +1,6 @@
-use Rattle.std.proofs.Common.{rules, ◌∙◌, ap, nat_eq}
+use Rattle.std.proofs.Common.{◌∙◌, ap, nat_eq}
 use Rattle.std.specs.List.{filter}
-use Rattle.std.proofs.lemmas.Fn.{always_returns_same}
-use Rattle.std.proofs.lemmas.List.Sorted.{IsNonDecreasingBy-from_sort_by_key}
-use Rattle.kt_index.proofs.KeyLemmas.{kept-from_stable}
 use Rattle.kt_index.proofs.by_key.ByKey.new.Goals as goal
 
-pub invariant_of-result : goal.invariant_of-result
-invariant_of-result g c = IsNonDecreasingBy-from_sort_by_key g.T.Keyed.key_of _ c.in_ok-sort_by_key.ensures.sorted (λ a r q k. search rules)
-
 pub returns-clause-kept : goal.returns-clause-kept
-returns-clause-kept g c = λ wanted. kept-from_stable g.T.Keyed.key_of _ _ wanted (c.in_ok-sort_by_key.ensures.stable g.T.Keyed.key_of (always_returns_same _ _ _ (λ a r f k. search rules))) ∙ ap (filter (λ row. nat_eq (g.T.Keyed.key_of row) wanted)) c.in_ok-rows.ensures.value
+returns-clause-kept g c = λ key. c.in_ok-index.ensures.kept key ∙ ap (filter (λ row. nat_eq (g.T.Keyed.key_of row) key)) c.in_ok-rows.ensures.value

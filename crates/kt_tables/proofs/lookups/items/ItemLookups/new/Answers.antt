@@ -1,16 +1,14 @@
 use Rattle.std.proofs.Common.{◌∙◌, List, ap, nat_eq, subst}
 use Rattle.std.specs.List.{filter}
-use Rattle.std.specs.List.Sorted.{IsPermutation}
 use Rattle.kt_rec.specs.declared.exposure.Item.{Item}
-use Rattle.kt_tables.specs.Kept.{item_key}
+use Rattle.kt_tables.specs.Kept.{AreById, item_key}
 use Rattle.kt_tables.specs.Lookups.{item_pairs}
 use Rattle.kt_tables.proofs.lookups.items.ItemLookups.new.Goals as goal
 
 pub returns : goal.returns
 returns c = record {
   value = record {
-    by_id = subst (λ (rows : List Item). IsPermutation rows c.in_ok-by_id.field-0.items) c.deref.ensures.value c.in_ok-by_id.ensures.permutation;
-    rising = c.in_ok-by_id.ensures.rising;
+    by_id = subst (λ (rows : List Item). AreById rows c.in_ok-by_id.field-0) c.deref.ensures.value c.in_ok-by_id.ensures.value;
     by_pair = λ key. c.in_ok-new.ensures.kept key ∙ ap (filter (λ row. nat_eq (item_key row) key)) c.deref-3.ensures.value;
     pairs = c.in_ok-pairs.ensures.value ∙ ap item_pairs c.deref-2.ensures.value;
   };

@@ -1,7 +1,7 @@
 use Rattle.std.proofs.Common.{rules}
 use Rattle.std.proofs.lemmas.List.Sorted.{IsNonDecreasingBy-from_sort_by_key}
 use Rattle.kt_rec.specs.declared.exposure.Item.{Item}
-use Rattle.kt_tables.proofs.lookups.items.by_id.Goals as goal
+use Rattle.kt_tables.proofs.lookups.items.sorted_by_id.Goals as goal
 
 pub returns-clause-rising : goal.returns-clause-rising
 returns-clause-rising c = IsNonDecreasingBy-from_sort_by_key (λ (row : Item). row.item_id) _ c.in_ok-sort_by_key.ensures.sorted (λ a r q k. search rules)
