@@ -6,13 +6,14 @@ ghost use Rattle.kt_rec.specs.declared.table.Table.TheVariants as table;
 ghost use Rattle.kt_keys.specs.Refusals.{is_loaded};
 ghost use Rattle.kt_checks.specs.TableChecks.{tiv_of};
 ghost use Rattle.kt_gul.specs.GroundUp.{raw_loss, record_with, item_record};
+ghost use Rattle.kt_gul.specs.Steps.{AreTables};
 ghost use Rattle.kt_gul.specs.Coverage.{IsRow, IsStruck, IsGroup, group_total};
 
-use crate::guide::Guide;
 use crate::item::item_losses;
 use crate::pairs::item_pairs;
 use crate::struck::StruckItem;
 use crate::sums::{add_to, zeros};
+use crate::tables::StepTable;
 use kt_stream::{Cdf, LossRecord, Pairs};
 use kt_tables::Portfolio;
 use std::alloc::{AllocError, Global};
@@ -24,13 +25,13 @@ fn struck_losses(
     samples: u32,
     event: u32,
     cdfs: &[Cdf],
-    guides: &[Guide],
+    tables: &[StepTable],
     struck: &StruckItem,
 ) -> Result<Vec<u64>, AllocError>
     requires loaded { is_loaded portfolio.now.need 0 table.Random ≡ true }
     requires samples { samples ≤ 1000 }
     requires struck { IsStruck portfolio.now.rows cdfs.now struck.now }
-    requires guides { length guides.now ≡ length cdfs.now }
+    requires tables { AreTables portfolio.now.rows.damage_bin_dict cdfs.now (length cdfs.now) tables.now }
     ensures value { IfOk result (λ losses. losses.items ≡ map (raw_loss portfolio.now.rows event cdfs.now struck.now.item) (range_with_len 0 (samples + 2))) }
     ensures most { IfOk result (λ losses. All (λ loss. loss ≤ 100200100000000) losses.items) }
 {
@@ -41,7 +42,7 @@ fn struck_losses(
         samples,
         event,
         bins,
-        &guides[struck.cdf],
+        &tables[struck.cdf],
         struck.moments,
         struck.item,
     )
@@ -54,14 +55,14 @@ fn group_losses(
     samples: u32,
     event: u32,
     cdfs: &[Cdf],
-    guides: &[Guide],
+    tables: &[StepTable],
     group: &[StruckItem],
     totals: &mut [u64],
 ) -> Result<Vec<u64>, AllocError>
     requires loaded { is_loaded portfolio.now.need 0 table.Random ≡ true }
     requires samples { samples ≤ 1000 }
     requires struck { All (IsStruck portfolio.now.rows cdfs.now) group.now }
-    requires guides { length guides.now ≡ length cdfs.now }
+    requires tables { AreTables portfolio.now.rows.damage_bin_dict cdfs.now (length cdfs.now) tables.now }
     requires few { length group.now ≤ 100000 }
     requires zeros { IsRow (λ place. 0) (samples + 2) totals.old }
     ensures value { IfOk result (λ losses. losses.items ≡ flat_map (λ struck. map (raw_loss portfolio.now.rows event cdfs.now struck.item) (range_with_len 0 (samples + 2))) group.now) }
@@ -70,7 +71,7 @@ fn group_losses(
 {
     let mut losses = Vec::new(alloc);
     for struck in group {
-        let row = struck_losses(alloc, portfolio, samples, event, cdfs, guides, struck)?;
+        let row = struck_losses(alloc, portfolio, samples, event, cdfs, tables, struck)?;
         add_to(totals, &row);
         losses.extend_from_slice(&row)?;
     }
@@ -139,7 +140,7 @@ pub(crate) fn push_coverage(
     event: u32,
     coverage: u32,
     cdfs: &[Cdf],
-    guides: &[Guide],
+    tables: &[StepTable],
     group: &[StruckItem],
     records: &mut Vec<LossRecord>,
 ) -> Result<(), AllocError>
@@ -147,7 +148,7 @@ pub(crate) fn push_coverage(
     requires value { tiv_of portfolio.now.rows.coverages coverage ≤ 10 ^ 14 }
     requires samples { samples ≤ 1000 }
     requires group { IsGroup portfolio.now.rows event cdfs.now coverage group.now }
-    requires guides { length guides.now ≡ length cdfs.now }
+    requires tables { AreTables portfolio.now.rows.damage_bin_dict cdfs.now (length cdfs.now) tables.now }
     ensures ok { OnOk result (records.new.items ≡ records.old.items ++ filter_map (item_record portfolio.now.rows samples cut event cdfs.now) (map (λ struck. struck.item) group.now)) }
 {
     let mut totals = zeros(alloc, samples as usize + 2)?;
@@ -157,7 +158,7 @@ pub(crate) fn push_coverage(
         samples,
         event,
         cdfs,
-        guides,
+        tables,
         group,
         &mut totals,
     )?;

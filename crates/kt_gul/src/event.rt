@@ -11,11 +11,12 @@ ghost use Rattle.kt_stream.specs.declared.entry.LossRecord.{LossRecord};
 ghost use Rattle.kt_gul.specs.declared.struck.StruckItem.{StruckItem};
 ghost use Rattle.kt_gul.specs.GroundUp.{item_record, ground_up_records};
 ghost use Rattle.kt_gul.specs.StruckItems.{AreCdfs, AreInOrder, item_of};
+ghost use Rattle.kt_gul.specs.Steps.{AreTables};
 ghost use Rattle.kt_gul.specs.Groups.{IsGroupEnd};
 
 use crate::coverage::push_coverage;
-use crate::guide::{Guide, guides_of};
 use crate::struck::{StruckItem, struck_items};
+use crate::tables::{StepTable, tables_of};
 use kt_index::ByKey;
 use kt_stream::{Cdf, LossRecord, Records};
 use kt_tables::Portfolio;
@@ -52,13 +53,13 @@ fn records_of(
     cut: bool,
     event: u32,
     cdfs: &[Cdf],
-    guides: &[Guide],
+    tables: &[StepTable],
     struck: &[StruckItem],
 ) -> Result<Vec<LossRecord>, AllocError>
     requires loaded { is_loaded portfolio.now.need 0 table.Random ≡ true }
     requires samples { samples ≤ 1000 }
     requires order { AreInOrder portfolio.now.rows cdfs.now struck.now }
-    requires guides { length guides.now ≡ length cdfs.now }
+    requires tables { AreTables portfolio.now.rows.damage_bin_dict cdfs.now (length cdfs.now) tables.now }
     ensures value { IfOk result (λ records. records.items ≡ filter_map (item_record portfolio.now.rows samples cut event cdfs.now) (map item_of struck.now)) }
 {
     portfolio.is_valid();
@@ -76,7 +77,7 @@ fn records_of(
             event,
             coverage,
             cdfs,
-            guides,
+            tables,
             group,
             &mut records,
         )?;
@@ -114,7 +115,7 @@ pub fn ground_up(
     ensures good { IfOk result (λ records. All (IsLoss samples) records) }
 {
     portfolio.is_valid();
-    let guides = guides_of(alloc, portfolio.damage_bins(), cdfs)?;
+    let tables = tables_of(alloc, portfolio.damage_bins(), cdfs)?;
     let struck = struck_items(alloc, portfolio, cdfs)?;
     let struck = ByKey::new(alloc, &struck)?;
     let mut records = records_of(
@@ -124,7 +125,7 @@ pub fn ground_up(
         cut,
         event,
         cdfs,
-        &guides,
+        &tables,
         struck.as_slice(),
     )?;
     sort_by_id(&mut records)?;

@@ -7,16 +7,15 @@ ghost use Rattle.kt_keys.specs.Refusals.{is_loaded};
 ghost use Rattle.kt_gul.specs.GroundUp.{item_tiv, loss_by};
 ghost use Rattle.kt_gul.specs.ItemLosses.{AreMoments};
 ghost use Rattle.kt_gul.specs.Sampled.{CanSample};
+ghost use Rattle.kt_gul.specs.Steps.{AreSteps};
 
-use crate::guide::Guide;
 use crate::moments::DamageMoments;
 use crate::random::{first_place, next_place, random_at};
-use crate::sampling::sampled_loss;
+use crate::tables::{StepTable, loss_at};
 use kt_rec::{Item, Random};
 use kt_stream::Bin;
 use kt_tables::Portfolio;
 use std::alloc::{AllocError, Global};
-use std::num::nearest_u64_to_f64;
 
 /// The random numbers of a portfolio.
 fn numbers_of(portfolio: &Portfolio) -> &[Random]
@@ -35,13 +34,14 @@ pub(crate) fn item_losses(
     samples: u32,
     event: u32,
     bins: &[Bin],
-    guide: &Guide,
+    sampler: &StepTable,
     moments: DamageMoments,
     item: Item,
 ) -> Result<Vec<u64>, AllocError>
     requires loaded { is_loaded portfolio.now.need 0 table.Random ≡ true }
     requires samples { samples ≤ 1000 }
     requires ranges { CanSample (item_tiv portfolio.now.rows item) portfolio.now.rows.damage_bin_dict bins.now }
+    requires steps { AreSteps portfolio.now.rows.damage_bin_dict bins.now sampler.now.steps.items }
     requires moments { AreMoments bins.now moments }
     ensures value { IfOk result (λ losses. losses.items ≡ map (loss_by portfolio.now.rows event bins.now item) (range_with_len 0 (samples + 2))) }
     ensures most { IfOk result (λ losses. All (λ loss. loss ≤ 100200100000000) losses.items) }
@@ -49,14 +49,15 @@ pub(crate) fn item_losses(
     let tiv = portfolio.tiv(item.coverage_id);
     let dictionary = portfolio.damage_bins();
     let numbers = numbers_of(portfolio);
-    let value = nearest_u64_to_f64(tiv);
+    let places = &sampler.places;
+    let steps = sampler.steps.as_slice();
     let mut losses = Vec::with_capacity(alloc, samples as usize + 2)?;
     losses.push(moments.loss_deviation(tiv))?;
     losses.push(moments.mean_loss(tiv))?;
     let mut place = first_place(numbers.len() as u64, event, item.group_id);
     for _sample in 0..samples {
         let random = random_at(numbers, place);
-        losses.push(sampled_loss(tiv, value, guide, dictionary, bins, random))?;
+        losses.push(loss_at(tiv, dictionary, bins, places, steps, random))?;
         place = next_place(numbers.len() as u64, place);
     }
     Ok(losses)
