@@ -15,6 +15,7 @@ ghost use Rattle.kt_gul.specs.Steps.{AreTables};
 ghost use Rattle.kt_gul.specs.Groups.{IsGroupEnd};
 
 use crate::coverage::push_coverage;
+use crate::draw::Draw;
 use crate::struck::{StruckItem, struck_items};
 use crate::tables::{StepTable, tables_of};
 use kt_index::ByKey;
@@ -47,38 +48,34 @@ fn between(struck: &[StruckItem], start: usize, end: usize) -> &[StruckItem]
 
 /// The records of struck items, coverage by coverage.
 fn records_of(
-    alloc: Global,
     portfolio: &Portfolio,
-    samples: u32,
-    cut: bool,
-    event: u32,
+    draw: Draw,
     cdfs: &[Cdf],
     tables: &[StepTable],
     struck: &[StruckItem],
 ) -> Result<Vec<LossRecord>, AllocError>
     requires loaded { is_loaded portfolio.now.need 0 table.Random ≡ true }
-    requires samples { samples ≤ 1000 }
+    requires samples { draw.samples ≤ 1000 }
     requires order { AreInOrder portfolio.now.rows cdfs.now struck.now }
     requires tables { AreTables portfolio.now.rows.damage_bin_dict cdfs.now (length cdfs.now) tables.now }
-    ensures value { IfOk result (λ records. records.items ≡ filter_map (item_record portfolio.now.rows samples cut event cdfs.now) (map item_of struck.now)) }
+    ensures value { IfOk result (λ records. records.items ≡ filter_map (item_record portfolio.now.rows draw.samples draw.cut draw.event cdfs.now) (map item_of struck.now)) }
 {
     portfolio.is_valid();
-    let mut records = Vec::new(alloc);
+    let mut records = Vec::new(draw.alloc);
+    let mut losses = Vec::new(draw.alloc);
     let mut start = 0;
     while start < struck.len() {
         let coverage = struck[start].item.coverage_id;
         let end = group_end(struck, start, coverage);
         let group = between(struck, start, end);
-        push_coverage(
-            alloc,
+        losses = push_coverage(
             portfolio,
-            samples,
-            cut,
-            event,
+            draw,
             coverage,
             cdfs,
             tables,
             group,
+            losses,
             &mut records,
         )?;
         start = end;
@@ -118,16 +115,13 @@ pub fn ground_up(
     let tables = tables_of(alloc, portfolio.damage_bins(), cdfs)?;
     let struck = struck_items(alloc, portfolio, cdfs)?;
     let struck = ByKey::new(alloc, &struck)?;
-    let mut records = records_of(
+    let draw = Draw {
         alloc,
-        portfolio,
         samples,
         cut,
         event,
-        cdfs,
-        &tables,
-        struck.as_slice(),
-    )?;
+    };
+    let mut records = records_of(portfolio, draw, cdfs, &tables, struck.as_slice())?;
     sort_by_id(&mut records)?;
     Ok(Records::from_vec(records))
 }

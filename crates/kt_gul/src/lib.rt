@@ -3,6 +3,7 @@
 
 mod coverage;
 mod cut;
+mod draw;
 mod event;
 mod item;
 pub mod laws;
