@@ -33,7 +33,7 @@ falls_parts number before b is = by (nat_lt before b.prob_to) (nat_le number b.p
     by false t one other both = absurd cc
 
 -- a sampled loss is at most the insured value
-loss_behind-le : (tiv number before high : ℕ) (dictionary : List DamageBin) (bins : List Bin) → All IsDamageBin dictionary → high ≤ 1000000 → loss_behind tiv number before high dictionary bins ≤ tiv
+pub loss_behind-le : (tiv number before high : ℕ) (dictionary : List DamageBin) (bins : List Bin) → All IsDamageBin dictionary → high ≤ 1000000 → loss_behind tiv number before high dictionary bins ≤ tiv
 loss_behind-le tiv number before high [] [] ends most = ppm_part-le tiv high most
 loss_behind-le tiv number before high [] (b ∷ bins) ends most = ppm_part-le tiv high most
 loss_behind-le tiv number before high (d ∷ dictionary) [] ends most = ppm_part-le tiv high most

@@ -1,11 +1,13 @@
 -- The losses of the items of a coverage side by side, and their records.
-use Rattle.std.proofs.Common.{◌≡◌, ℕ, zero, suc, ◌+◌, ◌*◌, ◌<◌, ◌≤◌, Bool, List, [], ◌∷◌, ◌++◌, length, take, drop, map, get_or, slice_index, sym, ap, arith, ◌∙◌, append-nil, append_assoc}
-use Rattle.std.specs.List.{All, filter_map, flat_map, range_with_len}
+use Rattle.std.proofs.Common.{◌≡◌, ℕ, zero, suc, ◌+◌, ◌*◌, ◌<◌, ◌≤◌, Bool, true, false, not, cond, nat_eq, refl, subst, List, [], ◌∷◌, ◌++◌, length, take, drop, map, get_or, slice_index, sym, ap, arith, ◌∙◌, append-nil, append_assoc}
+use Rattle.std.specs.List.{filter_map, flat_map, range_with_len}
+use Rattle.std.proofs.lemmas.Bool.{le-ltb}
 use Rattle.std.proofs.lemmas.List.{take_more, drop_more, length-take-le, take_at, drop_at, map-append}
 use Rattle.std.proofs.lemmas.List.Concat.{flat_map-append}
 use Rattle.std.proofs.lemmas.List.Elements.{filter_map-append}
 use Rattle.std.proofs.lemmas.List.FromFn.{length-map-range_with_len, get_or-map-range_with_len}
 use Rattle.std.proofs.lemmas.List.Sums.{sum_by_more, sum_by_more_le}
+use Rattle.kt_money.specs.Sharing.{share_of}
 use Rattle.kt_rec.specs.Rows.{Rows}
 use Rattle.kt_rec.specs.declared.exposure.Item.{Item}
 use Rattle.kt_checks.specs.TableChecks.{tiv_of}
@@ -13,7 +15,7 @@ use Rattle.kt_stream.specs.declared.entry.Cdf.{Cdf}
 use Rattle.kt_stream.specs.declared.entry.LossRecord.{LossRecord}
 use Rattle.kt_stream.specs.declared.entry.Pair.{Pair}
 use Rattle.kt_gul.specs.declared.struck.StruckItem.{StruckItem}
-use Rattle.kt_gul.specs.GroundUp.{item_tiv, raw_loss, coverage_total, final_loss, ground_up_loss, pairs_of, record_with, item_record}
+use Rattle.kt_gul.specs.GroundUp.{item_tiv, raw_loss, coverage_total, total_before, cut_loss, final_loss, ground_up_loss, pairs_of, record_with, item_record}
 use Rattle.kt_gul.specs.Coverage.{IsRow, IsGroup, group_total}
 use Rattle.kt_gul.specs.Gathered.{AreAdded, ArePushed}
 use Rattle.kt_gul.proofs.PairLemmas.{pairs_agree}
@@ -42,7 +44,7 @@ module _ (rows : Rows) (event : ℕ) (cdfs : List Cdf) (group : List StruckItem)
   total_within place i d below = sum_by_more_le (λ struck. raw_loss rows event cdfs struck.item place) group i d below
 
   -- one more item in the totals
-  pub added_more : (width i : ℕ) (d : StruckItem) (row losses longer totals sums : List ℕ) → AreAdded rows event cdfs width (take i group) losses totals → i < length group → row ≡ map (raw_loss rows event cdfs (get_or group i d).item) (range_with_len 0 width) → All (λ loss. loss ≤ 100200100000000) row → longer ≡ losses ++ row → IsRow (λ place. slice_index totals place + slice_index row place) (length totals) sums → AreAdded rows event cdfs width (take (i + 1) group) longer sums
+  pub added_more : (width i : ℕ) (d : StruckItem) (row losses longer totals sums : List ℕ) → AreAdded rows event cdfs width (take i group) losses totals → i < length group → row ≡ map (raw_loss rows event cdfs (get_or group i d).item) (range_with_len 0 width) → ((place : ℕ) → place < width → raw_loss rows event cdfs (get_or group i d).item place ≤ 100200100000000) → longer ≡ losses ++ row → IsRow (λ place. slice_index totals place + slice_index row place) (length totals) sums → AreAdded rows event cdfs width (take (i + 1) group) longer sums
   added_more width i d row losses longer totals sums here below row_is most longer_is sums_are =
       let loss : StruckItem → List ℕ = λ struck. map (raw_loss rows event cdfs struck.item) (range_with_len 0 width) in
       let row_are = row_from_map (raw_loss rows event cdfs (get_or group i d).item) width row row_is in
@@ -55,23 +57,22 @@ module _ (rows : Rows) (event : ℕ) (cdfs : List Cdf) (group : List StruckItem)
     where
       within : (place : ℕ) → place < width → IsRow (raw_loss rows event cdfs (get_or group i d).item) width row → group_total rows event cdfs (take (i + 1) group) place ≤ length (take (i + 1) group) * 100200100000000
       within place inside row_are =
-          let one = most place 0 (omega (arith, row_are.width_is)) in
-          omega (arith, here.within place inside, one, row_are.each place inside, total_more place i d below, length-take-le i group (omega arith), length-take-le (i + 1) group (omega arith))
+          omega (arith, here.within place inside, most place inside, total_more place i d below, length-take-le i group (omega arith), length-take-le (i + 1) group (omega arith))
 
   -- the losses of an item stand in front of those of the later ones
-  pub rest_parts : (width i : ℕ) (d : StruckItem) (rest before : List ℕ) → ArePushed rows event cdfs width group i rest before → i < length group → rest ≡ map (raw_loss rows event cdfs (get_or group i d).item) (range_with_len 0 width) ++ flat_map (λ struck. map (raw_loss rows event cdfs struck.item) (range_with_len 0 width)) (drop (i + 1) group)
-  rest_parts width i d rest before here below =
-      here.rest_are ∙ ap (flat_map (λ struck. map (raw_loss rows event cdfs struck.item) (range_with_len 0 width))) (drop_more group i d below)
+  pub rest_parts : (width i : ℕ) (d : StruckItem) (rest : List ℕ) → rest ≡ flat_map (λ struck. map (raw_loss rows event cdfs struck.item) (range_with_len 0 width)) (drop i group) → i < length group → rest ≡ map (raw_loss rows event cdfs (get_or group i d).item) (range_with_len 0 width) ++ flat_map (λ struck. map (raw_loss rows event cdfs struck.item) (range_with_len 0 width)) (drop (i + 1) group)
+  rest_parts width i d rest here below =
+      here ∙ ap (flat_map (λ struck. map (raw_loss rows event cdfs struck.item) (range_with_len 0 width))) (drop_more group i d below)
 
   -- the losses of an item are those at the front
-  pub row_front : (width i : ℕ) (d : StruckItem) (rest before : List ℕ) → ArePushed rows event cdfs width group i rest before → i < length group → IsRow (raw_loss rows event cdfs (get_or group i d).item) width (take width rest)
-  row_front width i d rest before here below =
-      row_from_map _ width (take width rest) (ap (take width) (rest_parts width i d rest before here below) ∙ take_at _ _ width (length-map-range_with_len (raw_loss rows event cdfs (get_or group i d).item) 0 width))
+  pub row_front : (width i : ℕ) (d : StruckItem) (rest : List ℕ) → rest ≡ flat_map (λ struck. map (raw_loss rows event cdfs struck.item) (range_with_len 0 width)) (drop i group) → i < length group → IsRow (raw_loss rows event cdfs (get_or group i d).item) width (take width rest)
+  row_front width i d rest here below =
+      row_from_map _ width (take width rest) (ap (take width) (rest_parts width i d rest here below) ∙ take_at _ _ width (length-map-range_with_len (raw_loss rows event cdfs (get_or group i d).item) 0 width))
 
   -- and there are as many
-  pub rest_long : (width i : ℕ) (d : StruckItem) (rest before : List ℕ) → ArePushed rows event cdfs width group i rest before → i < length group → width ≤ length rest
-  rest_long width i d rest before here below =
-      let row = row_front width i d rest before here below in
+  pub rest_long : (width i : ℕ) (d : StruckItem) (rest : List ℕ) → rest ≡ flat_map (λ struck. map (raw_loss rows event cdfs struck.item) (range_with_len 0 width)) (drop i group) → i < length group → width ≤ length rest
+  rest_long width i d rest here below =
+      let row = row_front width i d rest here below in
       omega (arith, row.width_is, length-take_le width rest)
     where
       length-take_le : (n : ℕ) (xs : List ℕ) → length (take n xs) ≤ length xs
@@ -80,11 +81,33 @@ module _ (rows : Rows) (event : ℕ) (cdfs : List Cdf) (group : List StruckItem)
       length-take_le (suc n) (x ∷ xs) = omega (arith, length-take_le n xs)
 
   -- the losses of the later items
+  pub rest_more : (width i : ℕ) (d : StruckItem) (rest later : List ℕ) → rest ≡ flat_map (λ struck. map (raw_loss rows event cdfs struck.item) (range_with_len 0 width)) (drop i group) → i < length group → later ≡ drop width rest → later ≡ flat_map (λ struck. map (raw_loss rows event cdfs struck.item) (range_with_len 0 width)) (drop (i + 1) group)
+  rest_more width i d rest later here below later_is =
+      later_is ∙ (ap (drop width) (rest_parts width i d rest here below) ∙ drop_at _ _ width (length-map-range_with_len (raw_loss rows event cdfs (get_or group i d).item) 0 width))
+
+  -- with the totals before them
   pub pushed_more : (width i : ℕ) (d : StruckItem) (rest later before sums : List ℕ) → ArePushed rows event cdfs width group i rest before → i < length group → later ≡ drop width rest → IsRow (λ place. slice_index before place + slice_index (take width rest) place) (length before) sums → ArePushed rows event cdfs width group (i + 1) later sums
   pushed_more width i d rest later before sums here below later_is sums_are = record {
-    rest_are = later_is ∙ (ap (drop width) (rest_parts width i d rest before here below) ∙ drop_at _ _ width (length-map-range_with_len (raw_loss rows event cdfs (get_or group i d).item) 0 width));
-    before_are = row_sum _ _ _ width before (take width rest) sums here.before_are (row_front width i d rest before here below) sums_are (λ place. total_more place i d below);
+    rest_are = rest_more width i d rest later here.rest_are below later_is;
+    before_are = row_sum _ _ _ width before (take width rest) sums here.before_are (row_front width i d rest here.rest_are below) sums_are (λ place. total_more place i d below);
   }
+
+  -- where no total passes the insured value, the pairs of an item are those of its losses
+  pub plain_pairs_are : (cut : Bool) (coverage samples i : ℕ) (d : StruckItem) (row : List ℕ) → IsGroup rows event cdfs coverage group → i < length group → (cut ≡ true → (place : ℕ) → place < samples + 2 → group_total rows event cdfs group place ≤ tiv_of rows.coverages coverage) → IsRow (raw_loss rows event cdfs (get_or group i d).item) (samples + 2) row → pairs_of (λ place. slice_index row place) samples ≡ pairs_of (ground_up_loss rows cut event cdfs (get_or group i d).item) samples
+  plain_pairs_are cut coverage samples i d row is below plain row_are =
+      pairs_agree _ (ground_up_loss rows cut event cdfs (get_or group i d).item) samples (λ place inside.
+      let item = (get_or group i d).item in
+      let loss : Item → ℕ = λ other. raw_loss rows event cdfs other place in
+      row_are.each place inside ∙ sym (kept cut (item_tiv rows item) (coverage_total loss rows.items item.coverage_id) (total_before loss rows.items item) (loss item) place
+      (λ strikes. subst (λ (c : ℕ). coverage_total loss rows.items c ≤ tiv_of rows.coverages c) (sym (is.together i d below)) (omega (arith, is.total_is place, plain strikes place inside)))))
+    where
+      kept : (cut : Bool) (tiv total before loss place : ℕ) → (cut ≡ true → total ≤ tiv) → final_loss cut tiv total before loss place ≡ loss
+      kept false tiv total before loss place fits = refl
+      kept true tiv total before loss place fits = by (not (nat_eq place 0))
+        where
+          by : (b : Bool) → cond b (cut_loss tiv total before loss) loss ≡ loss
+          by false = refl
+          by true = ap (λ t. cond t (share_of tiv total before loss) loss) (le-ltb tiv total (fits refl))
 
   -- the pairs of an item by the totals of its coverage are those of its ground-up losses
   pub item_pairs_are : (cut : Bool) (coverage samples i : ℕ) (d : StruckItem) (tiv : ℕ) (totals before row : List ℕ) → IsGroup rows event cdfs coverage group → i < length group → tiv ≡ tiv_of rows.coverages coverage → IsRow (group_total rows event cdfs group) (samples + 2) totals → IsRow (group_total rows event cdfs (take i group)) (samples + 2) before → IsRow (raw_loss rows event cdfs (get_or group i d).item) (samples + 2) row → pairs_of (λ place. final_loss cut tiv (slice_index totals place) (slice_index before place) (slice_index row place) place) samples ≡ pairs_of (ground_up_loss rows cut event cdfs (get_or group i d).item) samples

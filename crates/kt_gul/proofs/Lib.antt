@@ -1,4 +1,5 @@
 pub mod SampleLemmas
+pub mod StepLemmas
 pub mod MomentLemmas
 pub mod RandomLemmas
 pub mod ItemLemmas

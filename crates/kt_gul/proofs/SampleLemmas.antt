@@ -133,27 +133,3 @@ falls tiv number least dictionary bins k d b can is below passed found =
 -- a share of a value in parts per million is at most the value
 pub ppm_part-le : (tiv factor : ℕ) → factor ≤ 1000000 → ppm_part tiv factor ≤ tiv
 ppm_part-le tiv factor within = part_within tiv factor 1000000 (omega arith) within
-
--- what stands at a place does not depend on what is said where nothing does
-same_at : (bins : List Bin) (k : ℕ) (d b : Bin) → k < length bins → get_or bins k d ≡ get_or bins k b
-same_at [] k d b within = absurd (omega arith)
-same_at (first ∷ bins) zero d b within = refl
-same_at (first ∷ bins) (suc k) d b within = same_at bins k d b (omega arith)
-
--- where a bin ends below a number, so do all before it
-pub below_before : (bins : List Bin) (least k : ℕ) (d : Bin) → AreBins 0 bins → k < length bins → (get_or bins k d).prob_to < least → (b : Bin) (j : ℕ) → j < k + 1 → (get_or bins j b).prob_to < least
-below_before bins least k d are within below b j under = omega (arith, below, ap (λ (bin : Bin). bin.prob_to) (same_at bins k d b within), bins_rise 0 bins are j k b (omega arith) within)
-
--- where a bin ends at a number or above, so do all behind it
-pub above_behind : (bins : List Bin) (least k : ℕ) (d : Bin) → AreBins 0 bins → k < length bins → least ≤ (get_or bins k d).prob_to → (b : Bin) (j : ℕ) → k ≤ j → j < length bins → least ≤ (get_or bins j b).prob_to
-above_behind bins least k d are inside above b j from within = omega (arith, above, ap (λ (bin : Bin). bin.prob_to) (same_at bins k d b inside), bins_rise 0 bins are k j b from within)
-
-is_below : (one least : ℕ) → one < least → nat_lt one least ≡ true
-is_below one least below = grind (arith, nat_tests)
-
-is_not_below : (one least : ℕ) → least ≤ one → nat_lt one least ≡ false
-is_not_below one least above = grind (arith, nat_tests)
-
--- such a place parts the bins
-pub point_from : (bins : List Bin) (least k : ℕ) → ((b : Bin) (j : ℕ) → j < k → (get_or bins j b).prob_to < least) → ((b : Bin) (j : ℕ) → k ≤ j → j < length bins → least ≤ (get_or bins j b).prob_to) → IsPartitionPoint (λ (b : Bin). nat_lt b.prob_to least ≡ true) (λ (b : Bin). nat_lt b.prob_to least ≡ false) bins k
-point_from bins least k below above = (λ j b from under. is_below _ _ (below b j under), λ j b from under. is_not_below _ _ (above b j from under))

@@ -2,6 +2,7 @@ pub mod SampledLoss
 pub mod ItemMoments
 pub mod GroundUp
 pub mod Sampled
+pub mod Steps
 pub mod MomentSums
 pub mod ItemLosses
 pub mod Coverage

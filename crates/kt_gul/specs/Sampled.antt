@@ -1,5 +1,5 @@
 -- What a sample stands on: values and bins in their ranges.
-use Rattle.std.specs.Prelude.{ℕ, zero, suc, ◌^◌, ◌<◌, ◌≤◌, List, length, All, slice_index_or}
+use Rattle.std.specs.Prelude.{ℕ, zero, suc, ◌+◌, ◌*◌, ◌^◌, ◌<◌, ◌≤◌, max, List, length, All, slice_index_or}
 use Rattle.kt_rec.specs.Ranges.{IsDamageBin}
 use Rattle.kt_rec.specs.declared.hazard.DamageBin.{DamageBin}
 use Rattle.kt_stream.specs.Bins.{AreBins}
@@ -14,6 +14,16 @@ pub record IsInBin (tiv low high before upto number : ℕ) : Type 0 where
   pub whole : upto ≤ 1002001000000
   pub above : before ≤ number
   pub below : number ≤ upto
+
+-- a random number and some behind it fall into a bin, and all is in its ranges
+pub record IsLine (low high before upto first span : ℕ) : Type 0 where
+  pub least : low ≤ 1000000
+  pub most : high ≤ 1000000
+  pub wide : before < upto
+  pub whole : upto ≤ 1002001000000
+  pub above : before < max (first * 1000000) 1
+  pub from : before ≤ first * 1000000
+  pub below : (first + span) * 1000000 ≤ upto
 
 -- an insured value, the damage bins and the bins of a distribution are in their ranges, and each bin is a damage bin
 pub record CanSample (tiv : ℕ) (dictionary : List DamageBin) (bins : List Bin) : Type 0 where

@@ -11,11 +11,13 @@ ghost use Rattle.kt_stream.specs.declared.entry.LossRecord.{LossRecord};
 ghost use Rattle.kt_gul.specs.declared.struck.StruckItem.{StruckItem};
 ghost use Rattle.kt_gul.specs.GroundUp.{item_record, ground_up_records};
 ghost use Rattle.kt_gul.specs.StruckItems.{AreCdfs, AreInOrder, item_of};
+ghost use Rattle.kt_gul.specs.Steps.{AreTables};
 ghost use Rattle.kt_gul.specs.Groups.{IsGroupEnd};
 
 use crate::coverage::push_coverage;
-use crate::guide::{Guide, guides_of};
+use crate::draw::Draw;
 use crate::struck::{StruckItem, struck_items};
+use crate::tables::{StepTable, tables_of};
 use kt_index::ByKey;
 use kt_stream::{Cdf, LossRecord, Records};
 use kt_tables::Portfolio;
@@ -46,38 +48,34 @@ fn between(struck: &[StruckItem], start: usize, end: usize) -> &[StruckItem]
 
 /// The records of struck items, coverage by coverage.
 fn records_of(
-    alloc: Global,
     portfolio: &Portfolio,
-    samples: u32,
-    cut: bool,
-    event: u32,
+    draw: Draw,
     cdfs: &[Cdf],
-    guides: &[Guide],
+    tables: &[StepTable],
     struck: &[StruckItem],
 ) -> Result<Vec<LossRecord>, AllocError>
     requires loaded { is_loaded portfolio.now.need 0 table.Random ≡ true }
-    requires samples { samples ≤ 1000 }
+    requires samples { draw.samples ≤ 1000 }
     requires order { AreInOrder portfolio.now.rows cdfs.now struck.now }
-    requires guides { length guides.now ≡ length cdfs.now }
-    ensures value { IfOk result (λ records. records.items ≡ filter_map (item_record portfolio.now.rows samples cut event cdfs.now) (map item_of struck.now)) }
+    requires tables { AreTables portfolio.now.rows.damage_bin_dict cdfs.now (length cdfs.now) tables.now }
+    ensures value { IfOk result (λ records. records.items ≡ filter_map (item_record portfolio.now.rows draw.samples draw.cut draw.event cdfs.now) (map item_of struck.now)) }
 {
     portfolio.is_valid();
-    let mut records = Vec::new(alloc);
+    let mut records = Vec::new(draw.alloc);
+    let mut losses = Vec::new(draw.alloc);
     let mut start = 0;
     while start < struck.len() {
         let coverage = struck[start].item.coverage_id;
         let end = group_end(struck, start, coverage);
         let group = between(struck, start, end);
-        push_coverage(
-            alloc,
+        losses = push_coverage(
             portfolio,
-            samples,
-            cut,
-            event,
+            draw,
             coverage,
             cdfs,
-            guides,
+            tables,
             group,
+            losses,
             &mut records,
         )?;
         start = end;
@@ -114,19 +112,16 @@ pub fn ground_up(
     ensures good { IfOk result (λ records. All (IsLoss samples) records) }
 {
     portfolio.is_valid();
-    let guides = guides_of(alloc, portfolio.damage_bins(), cdfs)?;
+    let tables = tables_of(alloc, portfolio.damage_bins(), cdfs)?;
     let struck = struck_items(alloc, portfolio, cdfs)?;
     let struck = ByKey::new(alloc, &struck)?;
-    let mut records = records_of(
+    let draw = Draw {
         alloc,
-        portfolio,
         samples,
         cut,
         event,
-        cdfs,
-        &guides,
-        struck.as_slice(),
-    )?;
+    };
+    let mut records = records_of(portfolio, draw, cdfs, &tables, struck.as_slice())?;
     sort_by_id(&mut records)?;
     Ok(Records::from_vec(records))
 }

@@ -3,8 +3,8 @@
 
 mod coverage;
 mod cut;
+mod draw;
 mod event;
-mod guide;
 mod item;
 pub mod laws;
 mod moments;
@@ -12,7 +12,9 @@ mod pairs;
 mod quotient;
 mod random;
 mod sampling;
+mod steps;
 mod struck;
 mod sums;
+mod tables;
 
 pub use event::ground_up;

@@ -4,8 +4,12 @@ ghost use Rattle.std.specs.Prelude.{◌≡◌, ℕ, ◌+◌, ◌<◌, ◌≤◌,
 ghost use Rattle.kt_gul.specs.GroundUp.{sidx_at, final_loss, pairs_of};
 
 use crate::cut::final_loss;
+use crate::draw::Draw;
 use kt_stream::{Pair, Pairs};
 use std::alloc::{AllocError, Global};
+
+/// What stands where no pair is yet.
+const NO_PAIR: Pair = Pair { sidx: 0, loss: 0 };
 
 /// The sidx at a place.
 #[inline]
@@ -32,31 +36,61 @@ fn pair_at(place: usize, loss: u64) -> Pair
     }
 }
 
-/// The pairs of losses, with the cut or without it, where `totals` are those of the coverage and `before` those of its items
-/// with lower ids.
-pub(crate) fn item_pairs(
+/// 1 for a loss above 0, else 0.
+#[inline]
+fn one_if(loss: u64) -> usize
+    ensures some { 0 < loss → result ≡ 1 }
+    ensures none { loss ≡ 0 → result ≡ 0 }
+    ensures few { result ≤ 1 }
+{
+    usize::from(loss > 0)
+}
+
+/// The pairs of losses.
+pub(crate) fn plain_pairs(
     alloc: Global,
-    cut: bool,
+    losses: &[u64],
+    samples: u32,
+) -> Result<Pairs, AllocError>
+    requires samples { samples ≤ 1000 }
+    requires losses { length losses.now ≡ samples + 2 }
+    ensures value { IfOk result (λ pairs. pairs ≡ pairs_of (λ place. slice_index losses.now place) samples) }
+{
+    let mut pairs = vec![in alloc; NO_PAIR; samples as usize + 2]?;
+    let mut used = 0;
+    for place in 0..samples as usize + 2 {
+        let loss = losses[place];
+        pairs[used] = pair_at(place, loss);
+        used += one_if(loss);
+    }
+    pairs.truncate(used);
+    Ok(Pairs::from_vec(pairs))
+}
+
+/// The pairs of losses with the cut or without it, where `totals` are those of the coverage and `before` those of its items
+/// with lower ids.
+pub(crate) fn cut_pairs(
+    draw: Draw,
     tiv: u64,
     totals: &[u64],
     before: &[u64],
     losses: &[u64],
-    samples: u32,
 ) -> Result<Pairs, AllocError>
     requires value { tiv ≤ 10 ^ 14 }
-    requires samples { samples ≤ 1000 }
-    requires totals { length totals.now ≡ samples + 2 }
-    requires before { length before.now ≡ samples + 2 }
-    requires losses { length losses.now ≡ samples + 2 }
-    requires within { (place : ℕ) → place < samples + 2 → slice_index before.now place + slice_index losses.now place ≤ slice_index totals.now place }
-    ensures value { IfOk result (λ pairs. pairs ≡ pairs_of (λ place. final_loss cut tiv (slice_index totals.now place) (slice_index before.now place) (slice_index losses.now place) place) samples) }
+    requires samples { draw.samples ≤ 1000 }
+    requires totals { length totals.now ≡ draw.samples + 2 }
+    requires before { length before.now ≡ draw.samples + 2 }
+    requires losses { length losses.now ≡ draw.samples + 2 }
+    requires within { (place : ℕ) → place < draw.samples + 2 → slice_index before.now place + slice_index losses.now place ≤ slice_index totals.now place }
+    ensures value { IfOk result (λ pairs. pairs ≡ pairs_of (λ place. final_loss draw.cut tiv (slice_index totals.now place) (slice_index before.now place) (slice_index losses.now place) place) draw.samples) }
 {
-    let mut pairs = Vec::with_capacity(alloc, samples as usize + 2)?;
-    for place in 0..samples as usize + 2 {
-        let loss = final_loss(cut, tiv, totals[place], before[place], losses[place], place);
-        if loss > 0 {
-            pairs.push(pair_at(place, loss))?;
-        }
+    let mut pairs = vec![in draw.alloc; NO_PAIR; draw.samples as usize + 2]?;
+    let mut used = 0;
+    for place in 0..draw.samples as usize + 2 {
+        let loss = final_loss(draw.cut, tiv, totals[place], before[place], losses[place], place);
+        pairs[used] = pair_at(place, loss);
+        used += one_if(loss);
     }
+    pairs.truncate(used);
     Ok(Pairs::from_vec(pairs))
 }

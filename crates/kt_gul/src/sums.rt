@@ -1,5 +1,5 @@
 //! Losses added place by place.
-ghost use Rattle.std.specs.Prelude.{◌≡◌, ℕ, ◌+◌, ◌<◌, ◌^◌, length, slice_index, IfOk};
+ghost use Rattle.std.specs.Prelude.{◌≡◌, ℕ, ◌+◌, ◌<◌, ◌≤◌, ◌^◌, true, false, length, slice_index, IfOk};
 ghost use Rattle.kt_gul.specs.Coverage.{IsRow};
 
 use std::alloc::{AllocError, Global};
@@ -20,4 +20,19 @@ pub(crate) fn add_to(sums: &mut [u64], losses: &[u64])
     for (place, loss) in losses.iter().enumerate() {
         sums[place] += *loss;
     }
+}
+
+/// Whether it is asked, and some of the sums is above a value.
+pub(crate) fn passes(asked: bool, sums: &[u64], value: u64) -> bool
+    ensures within { result ≡ false → asked ≡ true → (place : ℕ) → place < length sums.now → slice_index sums.now place ≤ value }
+{
+    if !asked {
+        return false;
+    }
+    for sum in sums {
+        if *sum > value {
+            return true;
+        }
+    }
+    false
 }

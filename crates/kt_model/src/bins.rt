@@ -37,7 +37,7 @@ pub(crate) fn bins_of(
     ensures fits { (chance : ℕ → ℕ) → AreChances chance chances.now dictionary.now → IfOk result (λ bins. AreBins 0 bins × (length bins ≤ length dictionary.now)) }
 {
     let count = count_of(chances);
-    let mut bins = Bins::new(alloc);
+    let mut bins = Vec::with_capacity(alloc, count)?;
     let mut before = 0;
     for place in 0..count {
         before += chances[place];
@@ -46,5 +46,5 @@ pub(crate) fn bins_of(
             mean: dictionary[place].interpolation,
         })?;
     }
-    Ok(bins)
+    Ok(Bins::from_vec(bins))
 }

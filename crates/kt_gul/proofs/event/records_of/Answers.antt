@@ -14,8 +14,8 @@ push_coverage-requires-clause-group c =
     let portfolio = c.args.portfolio.now in
     let struck = c.args.struck.now in
     let coverage = (slice_index_or struck c.loop-start.start none).item.coverage_id in
-    subst (λ (group : List StruckItem). IsGroup portfolio.rows c.args.event c.args.cdfs.now coverage group) (sym c.between-group.ensures.value)
-    (group_is portfolio.rows c.args.event c.args.cdfs.now struck c.requires.order c.is_valid.ensures.valid.in_range.items (items_distinct portfolio c.is_valid.ensures.valid) (items_within portfolio c.is_valid.ensures.valid)
+    subst (λ (group : List StruckItem). IsGroup portfolio.rows c.args.draw.event c.args.cdfs.now coverage group) (sym c.between-group.ensures.value)
+    (group_is portfolio.rows c.args.draw.event c.args.cdfs.now struck c.requires.order c.is_valid.ensures.valid.in_range.items (items_distinct portfolio c.is_valid.ensures.valid) (items_within portfolio c.is_valid.ensures.valid)
     c.loop-start.start c.group_end-end.result coverage c.group_end-end.ensures.value c.loop-start.invariant.apart)
 
 pub loop-start-preserved : goal.loop-start-preserved
@@ -25,7 +25,7 @@ loop-start-preserved c =
     let struck = c.args.struck.now in
     let coverage = (slice_index_or struck c.loop-start.start none).item.coverage_id in
     let records = c.loop-start.records.items in
-    done_more portfolio.rows c.args.event c.args.cdfs.now struck c.requires.order c.is_valid.ensures.valid.in_range.items (items_distinct portfolio c.is_valid.ensures.valid) (items_within portfolio c.is_valid.ensures.valid)
+    done_more portfolio.rows c.args.draw.event c.args.cdfs.now struck c.requires.order c.is_valid.ensures.valid.in_range.items (items_distinct portfolio c.is_valid.ensures.valid) (items_within portfolio c.is_valid.ensures.valid)
     c.loop-start.start c.group_end-end.result coverage c.group_end-end.ensures.value c.loop-start.invariant.apart
-    c.args.samples c.args.cut records _ c.loop-start.invariant
-    (c.in_ok-push_coverage.ensures.ok ∙ ap (λ (group : List StruckItem). records ++ filter_map (item_record portfolio.rows c.args.samples c.args.cut c.args.event c.args.cdfs.now) (map item_of group)) c.between-group.ensures.value)
+    c.args.draw.samples c.args.draw.cut records _ c.loop-start.invariant
+    (c.in_ok-losses.ensures.ok ∙ ap (λ (group : List StruckItem). records ++ filter_map (item_record portfolio.rows c.args.draw.samples c.args.draw.cut c.args.draw.event c.args.cdfs.now) (map item_of group)) c.between-group.ensures.value)

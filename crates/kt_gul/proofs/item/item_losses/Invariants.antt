@@ -7,4 +7,4 @@ use Rattle.kt_gul.proofs.item.item_losses.Given as goal
 
 abbrev pub invariant-loop-sample : goal.invariant-loop-sample
 invariant-loop-sample l =
-    AreMade (loss_by l.portfolio.rows l.event l.bins l.fn.item) (random_place (length l.numbers) l.event l.fn.item.group_id) (length l.numbers) l._sample l.losses.items l.place
+    AreMade l.fn.losses.items (loss_by l.portfolio.rows l.fn.draw.event l.bins l.struck.item) (random_place (length l.numbers) l.fn.draw.event l.struck.item.group_id) (length l.numbers) l._sample l.losses.items l.place

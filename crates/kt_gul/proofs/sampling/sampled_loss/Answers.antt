@@ -1,7 +1,7 @@
 use Rattle.std.proofs.Common.{◌*◌, ◌<◌, length, arith}
 use Rattle.kt_rec.specs.declared.hazard.DamageBin.{DamageBin}
 use Rattle.kt_stream.specs.declared.entry.Bin.{Bin}
-use Rattle.kt_gul.proofs.SampleLemmas.{loss_behind-at, loss_behind-past, passed-from, found-from, damage_before-le, falls, ppm_part-le}
+use Rattle.kt_gul.proofs.SampleLemmas.{loss_behind-at, loss_behind-past, passed-from, found-from, damage_before-le, falls}
 use Rattle.kt_gul.proofs.sampling.sampled_loss.Goals as goal
 
 pub ppm_of-requires-clause-factor : goal.ppm_of-requires-clause-factor
@@ -10,8 +10,8 @@ ppm_of-requires-clause-factor c =
     let few = c.requires.few in
     omega (arith, c.damage_before.ensures.value none, damage_before-le c.args.dictionary.now c.place_of-place.result none c.requires.ends (omega arith))
 
-pub returns-then-place-bins-clause-value : goal.returns-then-place-bins-clause-value
-returns-then-place-bins-clause-value c =
+pub returns-then-place-bins : goal.returns-then-place-bins
+returns-then-place-bins c =
     let none : DamageBin = record { bin_index = 0; bin_from = 0; bin_to = 0; interpolation = 0; interval_type = 0 } in
     let no_bin : Bin = record { prob_to = 0; mean = 0 } in
     let at_last = c.if-place-bins.true in
@@ -20,14 +20,7 @@ returns-then-place-bins-clause-value c =
     let part = c.ppm_of.ensures.value in
     let same = c.from-number.ensures in
     let damage = c.damage_before.ensures.value none in
-    cc
-
-pub returns-then-place-bins-clause-most : goal.returns-then-place-bins-clause-most
-returns-then-place-bins-clause-most c =
-    let none : DamageBin = record { bin_index = 0; bin_from = 0; bin_to = 0; interpolation = 0; interval_type = 0 } in
-    let few = c.requires.few in
-    let part = damage_before-le c.args.dictionary.now c.place_of-place.result none c.requires.ends (omega arith) in
-    omega (arith, c.ppm_of.ensures.value, ppm_part-le c.args.tiv c.damage_before.result (omega (arith, c.damage_before.ensures.value none)))
+    record { value = cc }
 
 pub loss_in_bin-requires : goal.loss_in_bin-requires
 loss_in_bin-requires c =
@@ -41,8 +34,8 @@ loss_in_bin-requires c =
     (passed-from c.args.bins.now c.max.result c.place_of-place.result c.place_of-place.ensures.value no_bin)
     (found-from c.args.bins.now c.max.result c.place_of-place.result c.place_of-place.ensures.value no_bin below))
 
-pub returns-clause-value : goal.returns-clause-value
-returns-clause-value c =
+pub returns : goal.returns
+returns c =
     let none : DamageBin = record { bin_index = 0; bin_from = 0; bin_to = 0; interpolation = 0; interval_type = 0 } in
     let no_bin : Bin = record { prob_to = 0; mean = 0 } in
     let within = c.place_of-place.ensures.within in
@@ -54,4 +47,4 @@ returns-clause-value c =
     let loss = c.loss_in_bin.ensures.value in
     let same = c.from-number.ensures in
     let end = c.end_before-before.ensures.value no_bin in
-    cc
+    record { value = cc }

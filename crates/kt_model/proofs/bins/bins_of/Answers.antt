@@ -20,8 +20,8 @@ loop-place-preserved c =
     record {
       before = ap (λ n. n + get_or chances k 0) c.loop-place.invariant.before ∙ sym (sum_by_more (λ n. n) chances k 0 (omega arith));
       bins = λ chance are.
-          ap (λ (bins : List Bin). bins ++ bins_behind chance (c.loop-place.before + get_or chances k 0) (drop (k + 1) dictionary)) c.in_ok-push.ensures.ok
-          ∙ bins_more chance chances dictionary are c.requires.same none c.loop-place.bins (bins_behind chance 0 dictionary) k (count - 1) c.loop-place.before (omega arith) (omega arith) last (c.loop-place.invariant.bins chance are);
+          ap (λ (bins : List Bin). bins ++ bins_behind chance (c.loop-place.before + get_or chances k 0) (drop (k + 1) dictionary)) c.in_ok-push.ensures.items
+          ∙ bins_more chance chances dictionary are c.requires.same none c.loop-place.bins.items (bins_behind chance 0 dictionary) k (count - 1) c.loop-place.before (omega arith) (omega arith) last (c.loop-place.invariant.bins chance are);
     }
 
 pub returns : goal.returns
@@ -29,7 +29,7 @@ returns c =
     let none : DamageBin = record { bin_index = 0; bin_from = 0; bin_to = 0; interpolation = 0; interval_type = 0 } in
     let chances = c.args.chances.now in
     let dictionary = c.args.dictionary.now in
-    let is = λ (chance : ℕ → ℕ) (are : AreChances chance chances dictionary). bins_done chance chances dictionary are c.requires.same none c.loop-place.bins (bins_behind chance 0 dictionary) c.loop-place.place c.loop-place.before (λ k after. c.count_of-count.ensures.none_behind k (omega arith)) (c.loop-place.invariant.bins chance are) in
+    let is = λ (chance : ℕ → ℕ) (are : AreChances chance chances dictionary). c.from_vec.ensures.value ∙ bins_done chance chances dictionary are c.requires.same none c.loop-place.bins.items (bins_behind chance 0 dictionary) c.loop-place.place c.loop-place.before (λ k after. c.count_of-count.ensures.none_behind k (omega arith)) (c.loop-place.invariant.bins chance are) in
     record {
       value = is;
       fits = λ chance are.

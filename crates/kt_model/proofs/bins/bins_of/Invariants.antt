@@ -7,5 +7,5 @@ use Rattle.kt_model.proofs.bins.bins_of.Given as goal
 abbrev pub invariant-loop-place : goal.invariant-loop-place
 invariant-loop-place l = record {
   before : l.before ≡ sum (take l.place l.chances);
-  bins : (chance : ℕ → ℕ) → AreChances chance l.chances l.dictionary → l.bins ++ bins_behind chance l.before (drop l.place l.dictionary) ≡ bins_behind chance 0 l.dictionary;
+  bins : (chance : ℕ → ℕ) → AreChances chance l.chances l.dictionary → l.bins.items ++ bins_behind chance l.before (drop l.place l.dictionary) ≡ bins_behind chance 0 l.dictionary;
 }

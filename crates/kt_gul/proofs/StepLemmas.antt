@@ -1,0 +1,202 @@
+-- Losses by lines of damages in units of 2^-127: what is rounded up adds too little to change a loss.
+use Rattle.std.proofs.Common.{◌≡◌, ◌⊎◌, inl, inr, ℕ, zero, suc, ◌+◌, ◌-◌, ◌*◌, ◌/◌, ◌%◌, ◌^◌, ◌<◌, ◌≤◌, List, [], ◌∷◌, ◌++◌, length, length-append, get_or, max, refl, sym, ap, subst, arith, ◌∙◌}
+use Rattle.std.proofs.lemmas.Nat.{mul-le}
+use Rattle.std.proofs.lemmas.Bool.{cases_lt}
+use Rattle.std.proofs.lemmas.List.{get_or_default, get_or_push}
+use Rattle.std.proofs.Math.ListN.{get_or-append}
+use Rattle.std.proofs.Math.Nat.{add-mul, mul-add, mul_assoc, add-mul-div_right, div-div-eq-div-mul, div-eq_of_lt-le, div-mul-le_self, lt-div-mul-add, le_of_mul-le-mul_right}
+use Rattle.kt_money.specs.Rounding.{half_up, ppm_part}
+use Rattle.kt_rec.specs.declared.hazard.DamageBin.{DamageBin}
+use Rattle.kt_stream.specs.Bins.{AreBins}
+use Rattle.kt_stream.specs.declared.entry.Bin.{Bin}
+use Rattle.kt_stream.specs.declared.entry.Cdf.{Cdf}
+use Rattle.kt_gul.specs.declared.steps.Step.{Step}
+use Rattle.kt_gul.specs.declared.tables.StepTable.{StepTable}
+use Rattle.kt_gul.specs.SampledLoss.{loss_in_bin, sampled_loss}
+use Rattle.kt_gul.specs.Sampled.{CanSample, IsLine, end_before, damage_before}
+use Rattle.kt_gul.specs.Steps.{IsStep, IsBinStep, AreSteps, AreTables}
+use Rattle.kt_gul.proofs.SampleLemmas.{bins_rise, bin_within, damage_within, loss_behind-at, loss_behind-past}
+
+-- what a quotient is
+pub quotient_at : (a b q : ℕ) → 0 < b → q ≡ a / b → (q * b ≤ a) × (a < q * b + b)
+quotient_at a b q some is = rw is (div-mul-le_self a b, lt-div-mul-add some)
+
+-- a product that is less has a factor that is less
+pub less_by : (a b n : ℕ) → a * n < b * n → a < b
+less_by a b n less = by (cases_lt a b)
+  where
+    by : (a < b) ⊎ (b ≤ a) → a < b
+    by (inl is) = is
+    by (inr above) = absurd (omega (arith, less, mul-le b n a n above (omega arith)))
+
+-- a part of a whole, rounded up
+pub scaled_is : (part whole high rest low result : ℕ) → 0 < whole → high ≡ part * 18446744073709551616 / whole → rest ≡ (part * 18446744073709551616 - high * whole) * 9223372036854775808 + (whole - 1) → low ≡ rest / whole → result ≡ high * 9223372036854775808 + low → (part * 2 ^ 127 ≤ result * whole) × (result * whole < part * 2 ^ 127 + whole)
+scaled_is part whole high rest low result some high_is rest_is low_is is =
+    let first = quotient_at _ whole high some high_is in
+    let second = quotient_at rest whole low some low_is in
+    let product : result * whole ≡ high * whole * 9223372036854775808 + low * whole = rw is (simp (add-mul) (grind arith)) in
+    (omega (arith, first, second, product, rest_is), omega (arith, first, second, product, rest_is))
+
+-- a damage that is rounded up by little gives the same loss
+pub rounded_up : (tiv damage unit fraction extra : ℕ) → 0 < unit → fraction * unit ≡ damage * 2 ^ 127 + extra → 2 * (tiv * extra) < 2 ^ 127 → half_up (tiv * damage) unit ≡ (tiv * fraction + 2 ^ 126) / 2 ^ 127
+rounded_up tiv damage unit fraction extra some is little =
+    let q : ℕ = half_up (tiv * damage) unit in
+    let at = quotient_at (2 * (tiv * damage) + unit) (2 * unit) q (omega arith) refl in
+    let whole : tiv * fraction * unit ≡ tiv * damage * 2 ^ 127 + tiv * extra = mul_assoc tiv fraction unit ∙ (ap (λ x. tiv * x) is ∙ spread tiv damage extra) in
+    let twice : q * (2 * unit) ≡ 2 * (q * unit) = grind arith in
+    let low : q * 2 ^ 127 ≤ tiv * fraction + 2 ^ 126 = le_of_mul-le-mul_right {k = unit} (omega (arith, at, whole, twice, left q unit, right (tiv * fraction) unit)) some in
+    let high : tiv * fraction + 2 ^ 126 < (q + 1) * 2 ^ 127 = less_by _ _ unit (omega (arith, at, whole, twice, above q unit, right (tiv * fraction) unit)) in
+    sym (div-eq_of_lt-le (2 ^ 127) low high)
+  where
+    spread : (a b c : ℕ) → a * (b * 2 ^ 127 + c) ≡ a * b * 2 ^ 127 + a * c
+    spread a b c = simp mul-add (grind arith)
+
+    left : (q unit : ℕ) → q * 2 ^ 127 * unit ≡ q * unit * 2 ^ 127
+    left q unit = grind arith
+
+    right : (x unit : ℕ) → (x + 2 ^ 126) * unit ≡ x * unit + 2 ^ 126 * unit
+    right x unit = add-mul x (2 ^ 126) unit
+
+    above : (q unit : ℕ) → (q + 1) * 2 ^ 127 * unit ≡ q * unit * 2 ^ 127 + unit * 2 ^ 127
+    above q unit = simp add-mul (grind arith)
+
+-- the loss at a number of a step, by the damage at its first and its rise
+pub line_is : (tiv base slope unit least rise over : ℕ) → tiv ≤ 10 ^ 14 → 0 < unit → unit ≤ 1002001000000000000 → base * 2 ^ 127 ≤ least * unit → least * unit < base * 2 ^ 127 + unit → slope * over * 2 ^ 127 ≤ rise * over * unit → rise * over * unit ≤ slope * over * 2 ^ 127 + 839999 * unit → half_up (tiv * (base + slope * over)) unit ≡ (tiv * (least + rise * over) + 2 ^ 126) / 2 ^ 127
+line_is tiv base slope unit least rise over value some few low high from to =
+    let extra : ℕ = (least * unit - base * 2 ^ 127) + (rise * over * unit - slope * over * 2 ^ 127) in
+    let is : (least + rise * over) * unit ≡ (base + slope * over) * 2 ^ 127 + extra = omega (arith, add-mul least (rise * over) unit, add-mul base (slope * over) (2 ^ 127), low, from) in
+    let little : extra ≤ 841680840000000000000000 = omega (arith, high, to, few) in
+    rounded_up tiv (base + slope * over) unit (least + rise * over) extra some is (omega (arith, mul-le tiv extra 100000000000000 841680840000000000000000 value little))
+
+-- a rise that is rounded up is not short at any number
+pub rise_least : (slope rise over unit : ℕ) → slope * 2 ^ 127 ≤ rise * unit → slope * over * 2 ^ 127 ≤ rise * over * unit
+rise_least slope rise over unit least =
+    let left : slope * over * 2 ^ 127 ≡ slope * 2 ^ 127 * over = grind arith in
+    let right : rise * over * unit ≡ rise * unit * over = grind arith in
+    omega (arith, left, right, mul-le (slope * 2 ^ 127) over (rise * unit) over least (omega arith))
+
+-- and too much by little
+pub rise_most : (slope rise over unit : ℕ) → rise * unit < slope * 2 ^ 127 + unit → over ≤ 839999 → rise * over * unit ≤ slope * over * 2 ^ 127 + 839999 * unit
+rise_most slope rise over unit most few =
+    let left : slope * over * 2 ^ 127 ≡ slope * 2 ^ 127 * over = grind arith in
+    let right : rise * over * unit ≡ rise * unit * over = grind arith in
+    omega (arith, left, right, add-mul (slope * 2 ^ 127) unit over, mul-le (rise * unit) over (slope * 2 ^ 127 + unit) over (omega arith) (omega arith), mul-le unit over unit 839999 (omega arith) few)
+
+-- the loss by a damage that is one at all numbers
+pub flat_is : (tiv high least over : ℕ) → tiv ≤ 10 ^ 14 → high * 2 ^ 127 ≤ least * 1000000 → least * 1000000 < high * 2 ^ 127 + 1000000 → ppm_part tiv high ≡ (tiv * (least + 0 * over) + 2 ^ 126) / 2 ^ 127
+flat_is tiv high least over value low most =
+    let extra : ℕ = least * 1000000 - high * 2 ^ 127 in
+    let same : least ≡ least + 0 * over = omega arith in
+    rounded_up tiv high 1000000 least extra (omega arith) (omega (arith, low)) (omega (arith, mul-le tiv extra 100000000000000 1000000 value (omega (arith, most)))) ∙ ap (λ least. (tiv * least + 2 ^ 126) / 2 ^ 127) same
+
+-- a product with a number of two words, word by word
+pub words_of : (tiv damage : ℕ) → (tiv * (damage / 18446744073709551616) + tiv * (damage % 18446744073709551616) / 18446744073709551616 + 4611686018427387904) / 9223372036854775808 ≡ (tiv * damage + 2 ^ 126) / 2 ^ 127
+words_of tiv damage =
+    let high : ℕ = damage / 18446744073709551616 in
+    let low : ℕ = damage % 18446744073709551616 in
+    let parts : damage ≡ high * 18446744073709551616 + low = omega arith in
+    let product : tiv * damage ≡ tiv * low + tiv * high * 18446744073709551616 = ap (λ n. tiv * n) parts ∙ spread tiv high low in
+    let sum : tiv * damage + 2 ^ 126 ≡ tiv * low + (tiv * high + 4611686018427387904) * 18446744073709551616 = omega (arith, product, add-mul (tiv * high) 4611686018427387904 18446744073709551616) in
+    let front : (tiv * damage + 2 ^ 126) / 18446744073709551616 ≡ tiv * low / 18446744073709551616 + (tiv * high + 4611686018427387904) = ap (λ n. n / 18446744073709551616) sum ∙ add-mul-div_right (tiv * low) (tiv * high + 4611686018427387904) {z = 18446744073709551616} (omega arith) in
+    ap (λ n. n / 9223372036854775808) (omega (arith, front)) ∙ div-div-eq-div-mul (tiv * damage + 2 ^ 126) 18446744073709551616 9223372036854775808
+  where
+    spread : (a b c : ℕ) → a * (b * 18446744073709551616 + c) ≡ a * c + a * b * 18446744073709551616
+    spread a b c = simp mul-add (grind arith)
+
+-- no damage of a step passes the whole by so much that it has more than 128 bits
+pub line_fits : (base slope unit least rise span : ℕ) → 0 < unit → base + slope * span ≤ unit → least * unit < base * 2 ^ 127 + unit → rise * span * unit ≤ slope * span * 2 ^ 127 + 839999 * unit → least + rise * span < 2 ^ 128
+line_fits base slope unit least rise span some within high to =
+    less_by (least + rise * span) (2 ^ 128) unit (omega (arith, add-mul least (rise * span) unit, within, high, to))
+
+-- the loss in a bin, by the damage at a number and those behind it
+pub bin_loss : (tiv low high before upto first over : ℕ) → before ≤ first * 1000000 → loss_in_bin tiv low high before upto ((first + over) * 1000000) ≡ half_up (tiv * (low * (upto - before) + (high - low) * (1000000 * first - before) + 1000000 * (high - low) * over)) (1000000 * (upto - before))
+bin_loss tiv low high before upto first over from =
+    let number : (first + over) * 1000000 - before ≡ (1000000 * first - before) + 1000000 * over = omega arith in
+    let parts : (high - low) * ((first + over) * 1000000 - before) ≡ (high - low) * (1000000 * first - before) + 1000000 * (high - low) * over = ap (λ n. (high - low) * n) number ∙ spread (high - low) (1000000 * first - before) over in
+    ap (λ damage. half_up (tiv * damage) (1000000 * (upto - before))) (omega (arith, parts))
+  where
+    spread : (rate base over : ℕ) → rate * (base + 1000000 * over) ≡ rate * base + 1000000 * rate * over
+    spread rate base over = simp mul-add (grind arith)
+
+-- the line of a bin is a step of it
+pub bin_line : (low high before upto first most span least rise : ℕ) → IsLine low high before upto first most → span ≤ most → (low * (upto - before) + (high - low) * (1000000 * first - before)) * 2 ^ 127 ≤ least * (1000000 * (upto - before)) → least * (1000000 * (upto - before)) < (low * (upto - before) + (high - low) * (1000000 * first - before)) * 2 ^ 127 + 1000000 * (upto - before) → ((over : ℕ) → over ≤ span → 1000000 * (high - low) * over * 2 ^ 127 ≤ rise * over * (1000000 * (upto - before))) → ((over : ℕ) → over ≤ span → rise * over * (1000000 * (upto - before)) ≤ 1000000 * (high - low) * over * 2 ^ 127 + 839999 * (1000000 * (upto - before))) → IsBinStep low high before upto (record { first = first; span = span; least = least; rise = rise })
+bin_line low high before upto first most span least rise is shorter from to up down =
+    let width : ℕ = upto - before in
+    let base : ℕ = low * width + (high - low) * (1000000 * first - before) in
+    let slope : ℕ = 1000000 * (high - low) in
+    let unit : ℕ = 1000000 * width in
+    let wide = is.wide in
+    let whole = is.whole in
+    let some : 0 < unit = omega arith in
+    let below : (first + span) * 1000000 ≤ upto = omega (arith, is.below, shorter) in
+    let number : (first + span) * 1000000 - before ≡ (1000000 * first - before) + 1000000 * span = omega (arith, is.from) in
+    let parts : (high - low) * ((first + span) * 1000000 - before) ≡ (high - low) * (1000000 * first - before) + slope * span = ap (λ n. (high - low) * n) number ∙ spread (high - low) (1000000 * first - before) span in
+    let within = damage_within low high width ((first + span) * 1000000 - before) is.least is.most (omega (arith, below)) in
+    record {
+      is_step = record {
+        numbers = omega (arith, below, whole);
+        fits = line_fits base slope unit least rise span some (omega (arith, within, parts)) to (down span (omega arith));
+        loss_is = λ tiv over value under. bin_loss tiv low high before upto first over is.from ∙ line_is tiv base slope unit least rise over value some (omega arith) from to (up over under) (down over under);
+      };
+      above = is.above;
+      below = below;
+      wide = wide;
+    }
+  where
+    spread : (rate base over : ℕ) → rate * (base + 1000000 * over) ≡ rate * base + 1000000 * rate * over
+    spread rate base over = simp mul-add (grind arith)
+
+-- the bins before a place end at the latest where the last of them does
+ends_before : (bins : List Bin) (k j : ℕ) (b : Bin) → AreBins 0 bins → k ≤ length bins → j < k → (get_or bins j b).prob_to ≤ end_before 0 bins k b
+ends_before bins zero j b are within under = absurd (omega arith)
+ends_before bins (suc k) j b are within under = bins_rise 0 bins are j k b (omega arith) (omega arith)
+
+-- where the bin before a place ends, that at the place does not end before
+pub end_at_most : (bins : List Bin) (k : ℕ) (b : Bin) → AreBins 0 bins → k < length bins → end_before 0 bins k b ≤ (get_or bins k b).prob_to
+end_at_most bins zero b are below = omega arith
+end_at_most bins (suc k) b are below = bins_rise 0 bins are k (suc k) b (omega arith) below
+
+-- it ends at a probability
+pub end_within : (bins : List Bin) (k : ℕ) (b : Bin) → AreBins 0 bins → k ≤ length bins → end_before 0 bins k b ≤ 1002001000000
+end_within bins zero b are within = omega arith
+end_within bins (suc k) b are within = bin_within 0 k bins b are (omega arith)
+
+-- a step of a bin is one of the distribution
+pub bin_is_step : (dictionary : List DamageBin) (bins : List Bin) (k : ℕ) (d : DamageBin) (b : Bin) (step : Step) → CanSample 0 dictionary bins → k < length bins → IsBinStep (get_or dictionary k d).bin_from (get_or dictionary k d).bin_to (end_before 0 bins k b) (get_or bins k b).prob_to step → IsStep (λ tiv number. sampled_loss tiv dictionary bins number) step
+bin_is_step dictionary bins k d b step can below is = record {
+  numbers = is.is_step.numbers;
+  fits = is.is_step.fits;
+  loss_is = λ tiv over value within.
+      let number : ℕ = (step.first + over) * 1000000 in
+      loss_behind-at tiv number (max number 1) 0 0 dictionary bins k d b refl (omega arith) can.few below
+      (λ j under. omega (arith, ends_before bins k j b can.rising (omega arith) under, is.above)) (omega (arith, is.below, is.wide))
+      ∙ is.is_step.loss_is tiv over value within;
+}
+
+-- and so is the step behind all bins
+pub end_is_step : (dictionary : List DamageBin) (bins : List Bin) (d : DamageBin) (b : Bin) (step : Step) → CanSample 0 dictionary bins → IsStep (λ tiv number. ppm_part tiv (damage_before 0 dictionary (length bins) d)) step → end_before 0 bins (length bins) b < max (step.first * 1000000) 1 → IsStep (λ tiv number. sampled_loss tiv dictionary bins number) step
+end_is_step dictionary bins d b step can is above = record {
+  numbers = is.numbers;
+  fits = is.fits;
+  loss_is = λ tiv over value within.
+      let number : ℕ = (step.first + over) * 1000000 in
+      loss_behind-past tiv number (max number 1) 0 0 dictionary bins d b refl can.few
+      (λ j under. omega (arith, ends_before bins (length bins) j b can.rising (omega arith) under, above))
+      ∙ is.loss_is tiv over value within;
+}
+
+-- the distributions with one more
+pub tables_more : (dictionary : List DamageBin) (cdfs : List Cdf) (i : ℕ) (d : Cdf) (tables longer : List StepTable) (table : StepTable) → AreTables dictionary cdfs i tables → i < length cdfs → AreSteps dictionary (get_or cdfs i d).bins table.steps.items → longer ≡ tables ++ table ∷ [] → AreTables dictionary cdfs (i + 1) longer
+tables_more dictionary cdfs i d tables longer table here below steps longer_is = record {
+  count = omega (arith, ap length longer_is, length-append tables (table ∷ []), here.count);
+  each = λ k t e under. subst (λ (tables : List StepTable). AreSteps dictionary (get_or cdfs k e).bins (get_or tables k t).steps.items) (sym longer_is) (by k t e (cases_lt k i) under);
+}
+  where
+    by : (k : ℕ) (t : StepTable) (e : Cdf) → (k < i) ⊎ (i ≤ k) → k < i + 1 → AreSteps dictionary (get_or cdfs k e).bins (get_or (tables ++ table ∷ []) k t).steps.items
+    by k t e (inl earlier) under =
+        subst (λ (one : StepTable). AreSteps dictionary (get_or cdfs k e).bins one.steps.items) (sym (get_or-append tables (table ∷ []) t k (omega (arith, earlier, here.count)))) (here.each k t e earlier)
+    by k t e (inr last) under =
+        let same : k ≡ i = omega (arith, last, under) in
+        subst (λ (k : ℕ). AreSteps dictionary (get_or cdfs k e).bins (get_or (tables ++ table ∷ []) k t).steps.items) (sym same)
+        (subst (λ (one : StepTable). AreSteps dictionary (get_or cdfs i e).bins one.steps.items) (sym (get_or_push tables table t i here.count))
+        (subst (λ (cdf : Cdf). AreSteps dictionary cdf.bins table.steps.items) (get_or_default cdfs i d e below) steps))
