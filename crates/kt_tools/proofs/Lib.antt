@@ -25,3 +25,4 @@ mod SplitLaws
 mod Served
 mod DoneStages
 mod DoneFiles
+pub mod DueLemmas

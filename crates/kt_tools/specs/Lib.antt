@@ -16,3 +16,4 @@ pub mod RunRows
 pub mod RunDone
 pub mod RunInParts
 pub mod Uses
+pub mod Due

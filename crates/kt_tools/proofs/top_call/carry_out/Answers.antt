@@ -1,6 +1,7 @@
 use Rattle.std.proofs.Common.{◌∙◌, ap, refl, sym, subst}
 use Rattle.kt_ends.specs.Report.{AnswersWords}
 use Rattle.kt_ends.specs.declared.status.Status.TheVariants as status
+use Rattle.kt_tools.specs.Due.{InOrder}
 use Rattle.kt_tools.proofs.Running.{answers_command, by_command, by_words, command_is}
 use Rattle.kt_tools.proofs.top_call.carry_out.Goals as goal
 
@@ -8,7 +9,7 @@ pub run_command-requires-clause-names : goal.run_command-requires-clause-names
 run_command-requires-clause-names g c = λ lives within is. (c.read_command.ensures.names (c.in-Ok.is ∙ ap command_is is)).0
 
 pub returns-in-Ok-clause-ends : goal.returns-in-Ok-clause-ends
-returns-in-Ok-clause-ends g c = by_command c.args.words.now c.in-Ok.command _ _ c.run_command.result _ (sym c.read_command.ensures.value ∙ c.in-Ok.is) c.status_of.ensures c.run_command.ensures
+returns-in-Ok-clause-ends g c = by_command c.args.words.now c.in-Ok.command _ _ c.run_command.result _ (sym c.read_command.ensures.value ∙ c.in-Ok.is) c.status_of.ensures c.run_command.ensures.ends
 
 pub returns-in-Ok-clause-words : goal.returns-in-Ok-clause-words
 returns-in-Ok-clause-words g c = answers_command c.args.words.now c.in-Ok.command c.run_command.result _ (sym c.read_command.ensures.value ∙ c.in-Ok.is) c.status_of.ensures
@@ -18,3 +19,9 @@ returns-in-Err-clause-ends g c = by_words c.args.words.now c.in-Err.stop _ (sym 
 
 pub returns-in-Err-clause-words : goal.returns-in-Err-clause-words
 returns-in-Err-clause-words g c = subst (λ read. AnswersWords read (status.Words c.in-Err.stop)) (sym (sym c.read_command.ensures.value ∙ c.in-Err.is)) refl
+
+pub returns-in-Ok-clause-due : goal.returns-in-Ok-clause-due
+returns-in-Ok-clause-due g c = subst (λ read. InOrder read _ _) (sym (sym c.read_command.ensures.value ∙ c.in-Ok.is)) c.run_command.ensures.due
+
+pub returns-in-Err-clause-due : goal.returns-in-Err-clause-due
+returns-in-Err-clause-due g c = subst (λ read. InOrder read _ _) (sym (sym c.read_command.ensures.value ∙ c.in-Err.is)) (record { outputs = refl; source = refl; sink = refl })

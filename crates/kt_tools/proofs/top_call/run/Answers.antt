@@ -7,4 +7,7 @@ use Rattle.kt_tools.proofs.top_call.run.Goals as goal
 pub returns : goal.returns
 returns g c =
     let words = c.args.words.now in
-    run_ends (command_of words) (words_use (command_of words)) (outcome words) _ _ _ _ c.carry_out-status.result c.report.result c.carry_out-status.ensures.ends c.carry_out-status.ensures.words c.report.ensures.exact
+    record {
+      ends = run_ends (command_of words) (words_use (command_of words)) (outcome words) _ _ _ _ c.carry_out-status.result c.report.result c.carry_out-status.ensures.ends c.carry_out-status.ensures.words c.report.ensures.exact;
+      due = c.carry_out-status.ensures.due;
+    }

@@ -1,19 +1,34 @@
+use Rattle.std.proofs.Common.{refl}
+use Rattle.kt_tools.proofs.DueLemmas.{no_tables}
 use Rattle.kt_tools.proofs.top_call.run_command.Goals as goal
+use Rattle.kt_words.specs.declared.command.Command.TheVariants.{Eltcalc, Kat, Convert, Gen}
 
-pub returns-in-Eltcalc : goal.returns-in-Eltcalc
-returns-in-Eltcalc g c = rw c.in-Eltcalc.is (c.write_event_losses.ensures (g.I.Inputs.state c.args.inputs.now) (g.O.Outputs.state c.args.outputs.now))
+pub returns-in-Eltcalc-clause-ends : goal.returns-in-Eltcalc-clause-ends
+returns-in-Eltcalc-clause-ends g c = rw c.in-Eltcalc.is (c.write_event_losses.ensures (g.I.Inputs.state c.args.inputs.now) (g.O.Outputs.state c.args.outputs.now))
 
 pub kat-requires : goal.kat-requires
 kat-requires g c = c.requires.names c.in-Kat.is
 
-pub returns-in-Kat : goal.returns-in-Kat
-returns-in-Kat g c = rw c.in-Kat.is (c.kat.ensures (g.O.Outputs.state c.args.outputs.now) (g.S.Source.state c.args.source.now))
+pub returns-in-Kat-clause-ends : goal.returns-in-Kat-clause-ends
+returns-in-Kat-clause-ends g c = rw c.in-Kat.is (c.kat.ensures (g.O.Outputs.state c.args.outputs.now) (g.S.Source.state c.args.source.now))
 
-pub returns-in-Convert : goal.returns-in-Convert
-returns-in-Convert g c = rw c.in-Convert.is (c.convert.ensures (g.I.Inputs.state c.args.inputs.now) (g.O.Outputs.state c.args.outputs.now))
+pub returns-in-Convert-clause-ends : goal.returns-in-Convert-clause-ends
+returns-in-Convert-clause-ends g c = rw c.in-Convert.is (c.convert.ensures (g.I.Inputs.state c.args.inputs.now) (g.O.Outputs.state c.args.outputs.now))
 
-pub returns-in-Some : goal.returns-in-Some
-returns-in-Some g c = c.load_and_run.ensures c.args.words.now
+pub returns-in-Some-clause-ends : goal.returns-in-Some-clause-ends
+returns-in-Some-clause-ends g c = c.load_and_run.ensures.ends c.args.words.now
 
-pub returns-in-Gen : goal.returns-in-Gen
-returns-in-Gen g c = rw c.in-Gen.is (c.write_generated.ensures (g.I.Inputs.state c.args.inputs.now) (g.O.Outputs.state c.args.outputs.now) (g.S.Source.state c.args.source.now))
+pub returns-in-Gen-clause-ends : goal.returns-in-Gen-clause-ends
+returns-in-Gen-clause-ends g c = rw c.in-Gen.is (c.write_generated.ensures (g.I.Inputs.state c.args.inputs.now) (g.O.Outputs.state c.args.outputs.now) (g.S.Source.state c.args.source.now))
+
+pub returns-in-Eltcalc-clause-due : goal.returns-in-Eltcalc-clause-due
+returns-in-Eltcalc-clause-due g c = no_tables c.args.command (Eltcalc c.in-Eltcalc.heading) c.in-Eltcalc.is refl _ _
+
+pub returns-in-Kat-clause-due : goal.returns-in-Kat-clause-due
+returns-in-Kat-clause-due g c = no_tables c.args.command Kat c.in-Kat.is refl _ _
+
+pub returns-in-Convert-clause-due : goal.returns-in-Convert-clause-due
+returns-in-Convert-clause-due g c = no_tables c.args.command (Convert c.in-Convert.field-0) c.in-Convert.is refl _ _
+
+pub returns-in-Gen-clause-due : goal.returns-in-Gen-clause-due
+returns-in-Gen-clause-due g c = no_tables c.args.command (Gen c.in-Gen.seed c.in-Gen.items c.in-Gen.events c.in-Gen.workers) c.in-Gen.is refl _ _
