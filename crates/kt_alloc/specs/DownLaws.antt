@@ -1,4 +1,4 @@
--- Lemmas on parts that are given down, level by level.
+-- Laws of parts that are given down, level by level.
 use Rattle.std.proofs.Common.{◌≡◌, ℕ, zero, suc, ◌+◌, ◌*◌, ◌<◌, ◌≤◌, ◌^◌, Bool, true, false, List, [], ◌∷◌, ◌++◌, length, map, take, drop, get_or, refl, sym, ap, subst, ◌∙◌, arith, drop-cons, add-one, append_assoc, append-nil}
 use Rattle.std.specs.List.{All, AllByRecursion, flat_map, sum, sum_by}
 use Rattle.std.proofs.Math.Nat.{div-zero}
