@@ -60,7 +60,7 @@ amount-le parts at d below = get_or-le-sum_by (λ part. part.amount) parts at d 
 
 -- ---- places
 
-shares-length : (all weights given : ℕ) (further : List ℕ) → length (shares_after all weights given further) ≡ length further
+pub shares-length : (all weights given : ℕ) (further : List ℕ) → length (shares_after all weights given further) ≡ length further
 shares-length all weights given [] = refl
 shares-length all weights given (w ∷ further) = ap suc (shares-length all weights (given + w) further)
 

@@ -1,0 +1,11 @@
+//! The losses of a programme at many sidx at once: each unit has a lane, its losses sidx by sidx.
+#![tactic(auto)]
+
+mod climbing;
+mod lane;
+mod plain;
+mod quotient;
+mod shares;
+
+pub use climbing::{Climbed, climb};
+pub use plain::{has_plain_units, layer_looks_back};
