@@ -9,3 +9,4 @@ mod part;
 
 pub use allocation::allocate;
 pub use by_id::{id_at, total_of, zeros};
+pub use part::PlacedPart;

@@ -41,4 +41,5 @@ pub record AreLosses (parts : Parts) (width : ℕ) (lanes : List (Vec ℕ Global
 pub record IsClimbed (parts : Parts) (lanes : List (Vec ℕ Global)) (climbed : Climbed) : Type 0 where
   pub losses : AreLosses parts climbed.width lanes
   pub plain : HasPlainUnits parts
+  pub enough : length parts.levels ≤ length climbed.rows.items
   pub rows : (level : ℕ) → level < length parts.levels → AreLevel parts lanes climbed.width level (level_lanes climbed.rows.items level)

@@ -6,7 +6,7 @@ use Rattle.std.specs.declared.alloc.Global.{Global}
 use Rattle.std.proofs.Common.{inl, inr, refl, sym, ap, subst, ◌∙◌, arith}
 use Rattle.std.proofs.Math.Nat.{zero-div}
 use Rattle.std.proofs.lemmas.Bool.{cases_lt, eqb-true}
-use Rattle.std.proofs.lemmas.List.{length-map, length-append, map-append, take-map, drop-map, get_or-take, get_or-drop, get_or-map}
+use Rattle.std.proofs.lemmas.List.{length-map, length-append, map-append, take-map, take_all, drop-map, get_or-take, get_or-drop, get_or-map}
 use Rattle.std.proofs.lemmas.List.Elements.{All-from_recursion}
 use Rattle.std.proofs.lemmas.List.FromFn.{get_or-map-range_with_len}
 use Rattle.std.proofs.lemmas.List.Sums.{sum_by-cons, sum-map}
@@ -20,11 +20,12 @@ use Rattle.kt_tree.specs.Sums.{each_flat_map}
 use Rattle.kt_tree.specs.TreeLaws.{shares_of}
 use Rattle.kt_fmtree.specs.Carried.{Carried, IsCarriedBy, added, node_carry, row_of}
 use Rattle.kt_fmtree.specs.Parts.{Parts, HasProgramme, units_at}
+use Rattle.kt_fmtree.specs.LoopLaws.{flat_map-goes}
 use Rattle.kt_fmtree.specs.declared.node.Node.{Node}
 use Rattle.kt_alloc.specs.Placed.{weight, weights, amounts_for, parts_from, children_of, no_node, node_at, given_by, level_down, CanShare}
 use Rattle.kt_alloc.specs.declared.part.PlacedPart.{PlacedPart}
 use Rattle.kt_lanes.specs.Lanes.{column, AreWide, AreLanes, losses_of, child_losses, unit_loss}
-use Rattle.kt_lanes.specs.LaneLaws.{All-more}
+use Rattle.kt_lanes.specs.LaneLaws.{All-first, column-at}
 use Rattle.kt_lanes.specs.Climbed.{HasPlainUnits}
 use Rattle.kt_lanes.specs.ClimbedLaws.{child_losses-of, node_carry-loss}
 use Rattle.kt_lanes.specs.Down.{placed, placed_at, ArePlaced, given_losses, AreBacked}
@@ -44,6 +45,39 @@ placed-in (place ∷ places) [] at d same below = absurd (omega arith)
 placed-in (place ∷ places) (amount ∷ amounts) zero d same below = refl
 placed-in (place ∷ places) (amount ∷ amounts) (suc at) d same below = placed-in places amounts at d (omega arith) (omega arith)
 
+-- those of lanes at one sidx
+module _ (width : ℕ) (parts : PlacedLanes) (are : ArePlaced width parts) (at : ℕ) (below : at < length parts.places.items) (k : ℕ) where
+  same-count : length parts.places.items ≡ length (column k parts.lanes.items)
+  same-count = are.count_is ∙ sym (length-map parts.lanes.items (λ (one : Vec ℕ Global). slice_index one.items k))
+
+  pub placed-inside : at < length (placed_at k parts)
+  placed-inside = omega (arith, below, length-placed parts.places.items (column k parts.lanes.items) same-count)
+
+  pub placed-here : (d : PlacedPart) (lane : Vec ℕ Global) → lane ≡ slice_index_or parts.lanes.items at lane → slice_index_or (placed_at k parts) at d ≡ record { place = slice_index parts.places.items at; amount = slice_index lane.items k }
+  placed-here d lane lane_is =
+      placed-in parts.places.items (column k parts.lanes.items) at d same-count below
+      ∙ ap (λ n. record { place = slice_index parts.places.items at; amount = n }) (column-at k at parts.lanes.items lane (omega (arith, below, are.count_is)) ∙ ap (λ (one : Vec ℕ Global). slice_index one.items k) (sym lane_is))
+
+  -- an amount is not above the losses of the children of its unit
+  pub backed-here : (nodes : List Node) (row : List ℕ) → AreBacked nodes row (placed_at k parts) → (lane : Vec ℕ Global) → lane ≡ slice_index_or parts.lanes.items at lane → slice_index lane.items k ≤ sum (child_losses row (node_at nodes (slice_index parts.places.items at)))
+  backed-here nodes row backed lane lane_is =
+      let none : PlacedPart = record { place = 0; amount = 0 } in
+      subst (λ (part : PlacedPart). part.amount ≤ sum (child_losses row (node_at nodes part.place))) (placed-here none lane lane_is)
+      (All-from_recursion (λ (part : PlacedPart). part.amount ≤ sum (child_losses row (node_at nodes part.place))) (placed_at k parts) backed at none placed-inside)
+
+  -- one more unit has given
+  pub gives-more : (nodes : List Node) (row : List ℕ) (lane : Vec ℕ Global) → lane ≡ slice_index_or parts.lanes.items at lane → (node : Node) → node ≡ node_at nodes (slice_index parts.places.items at) → (made more : List PlacedPart) → made ≡ flat_map (given_losses nodes row) (take at (placed_at k parts)) → more ≡ made ++ parts_from node.start (share_out (slice_index lane.items k) (child_losses row node)) → more ≡ flat_map (given_losses nodes row) (take (at + 1) (placed_at k parts))
+  gives-more nodes row lane lane_is node node_is made more so_far more_is =
+      let none : PlacedPart = record { place = 0; amount = 0 } in
+      flat_map-goes (given_losses nodes row) (placed_at k parts) at none made more placed-inside so_far
+      (more_is
+      ∙ (ap (λ (one : Node). made ++ parts_from one.start (share_out (slice_index lane.items k) (child_losses row one))) node_is
+      ∙ ap (λ part. made ++ given_losses nodes row part) (sym (placed-here none lane lane_is))))
+
+-- all of them
+pub placed-all : (width : ℕ) (parts : PlacedLanes) → ArePlaced width parts → (n : ℕ) → length parts.places.items ≤ n → (k : ℕ) → take n (placed_at k parts) ≡ placed_at k parts
+placed-all width parts are n enough k = take_all n (placed_at k parts) (omega (arith, enough, length-placed parts.places.items (column k parts.lanes.items) (are.count_is ∙ sym (length-map parts.lanes.items (λ (one : Vec ℕ Global). slice_index one.items k)))))
+
 placed-append : (places others amounts more : List ℕ) → length places ≡ length amounts → placed (places ++ others) (amounts ++ more) ≡ placed places amounts ++ placed others more
 placed-append [] others [] more same = refl
 placed-append [] others (amount ∷ amounts) more same = absurd (omega arith)
@@ -55,6 +89,14 @@ placed-range start zero [] same = refl
 placed-range start zero (amount ∷ amounts) same = absurd (omega arith)
 placed-range start (suc n) [] same = absurd (omega arith)
 placed-range start (suc n) (amount ∷ amounts) same = ap (λ rest. record { place = start; amount = amount } ∷ rest) (placed-range (start + 1) n amounts (omega arith))
+
+-- one more place
+pub range-more : (start n : ℕ) → range_with_len start (n + 1) ≡ range_with_len start n ++ (start + n) ∷ []
+range-more start n = let e : n + 1 ≡ suc n = omega arith in ap (range_with_len start) e ∙ last start n (start + n) refl
+  where
+    last : (a n j : ℕ) → a + n ≡ j → range_with_len a (suc n) ≡ range_with_len a n ++ j ∷ []
+    last a zero j e = let same : a ≡ j = omega arith in ap (λ k. k ∷ []) same
+    last a (suc n) j e = ap (λ l. a ∷ l) (last (a + 1) n j (omega arith))
 
 length-range : (start n : ℕ) → length (range_with_len start n) ≡ n
 length-range start zero = refl
@@ -88,8 +130,8 @@ module _ (width start count : ℕ) (places others : List ℕ) (lanes more : List
 -- both are wide
 pub wide-both : (width : ℕ) (lanes more : List (Vec ℕ Global)) → AreWide width lanes → AreWide width more → AreWide width (lanes ++ more)
 wide-both width [] more one other = other
-wide-both width (lane ∷ lanes) more one other zero d below = one zero d (omega arith)
-wide-both width (lane ∷ lanes) more one other (suc k) d below = wide-both width lanes more (λ j e inside. one (suc j) e (omega arith)) other k d (omega arith)
+wide-both width (lane ∷ lanes) more one other =
+    All-first (λ (each : Vec ℕ Global). length each.items ≡ width) lane (lanes ++ more) (one zero lane (omega arith)) (wide-both width lanes more (λ k d below. one (suc k) d (omega arith)) other)
 
 -- ---- shares by losses
 

@@ -1,5 +1,5 @@
 -- Laws of lanes: one more lane, one more amount.
-use Rattle.std.specs.Prelude.{◌≡◌, ◌≢◌, ◌⊎◌, ℕ, zero, suc, ◌+◌, ◌<◌, ◌≤◌, ◌^◌, List, [], ◌∷◌, ◌++◌, Vec, All, length, map, take, drop, slice_index, slice_index_or}
+use Rattle.std.specs.Prelude.{◌≡◌, ◌≢◌, ◌⊎◌, ℕ, zero, suc, ◌+◌, ◌-◌, ◌<◌, ◌≤◌, ◌^◌, List, [], ◌∷◌, ◌++◌, Vec, All, length, map, take, drop, slice_index, slice_index_or}
 use Rattle.std.specs.List.{sum, sum_by}
 use Rattle.std.specs.declared.alloc.Global.{Global}
 use Rattle.std.proofs.Common.{inl, inr, slice_set, refl, sym, ap, subst, ◌∙◌, arith}
@@ -16,6 +16,11 @@ All-more P [] x all here zero d below = here
 All-more P [] x all here (suc k) d below = absurd (omega arith)
 All-more P (y ∷ xs) x all here zero d below = all zero d (omega arith)
 All-more P (y ∷ xs) x all here (suc k) d below = All-more P xs x (λ j e inside. all (suc j) e (omega arith)) here k d (omega arith)
+
+-- and so it does of one before them
+pub All-first : {X : Type 0} (P : X → Type 0) (x : X) (xs : List X) → P x → All P xs → All P (x ∷ xs)
+All-first P x xs here all zero d below = here
+All-first P x xs here all (suc k) d below = all k d (omega arith)
 
 pub length-more : {X : Type 0} (xs : List X) (x : X) → length (xs ++ x ∷ []) ≡ length xs + 1
 length-more [] x = refl
@@ -67,6 +72,20 @@ wide-part width lanes wide start count = taken count (drop start lanes) (dropped
     taken zero xs all = λ k d below. absurd (omega arith)
     taken (suc n) [] all = all
     taken (suc n) (x ∷ xs) all = first n x xs (all zero x (omega arith)) (taken n xs (λ k d below. all (suc k) d (omega arith)))
+
+-- how many lanes children have
+pub taken-count : {X : Type 0} (start width : ℕ) (xs : List X) → start + width ≤ length xs → length (take (start + width - start) (drop start xs)) ≡ width
+taken-count {X = X} start width xs fits = let e : start + width - start ≡ width = omega arith in ap (λ n. length (take n (drop start xs))) e ∙ count width (drop start xs) (rest start xs fits)
+  where
+    rest : (start : ℕ) (xs : List X) → start + width ≤ length xs → width ≤ length (drop start xs)
+    rest zero xs fits = omega arith
+    rest (suc start) [] fits = omega arith
+    rest (suc start) (x ∷ xs) fits = rest start xs (omega arith)
+
+    count : (n : ℕ) (xs : List X) → n ≤ length xs → length (take n xs) ≡ n
+    count zero xs fits = refl
+    count (suc n) [] fits = absurd (omega arith)
+    count (suc n) (x ∷ xs) fits = ap suc (count n xs (omega arith))
 
 -- the sum of one more lane
 pub column-sum-more : (k i : ℕ) (lanes : List (Vec ℕ Global)) (d : Vec ℕ Global) → i < length lanes → sum (column k (take (i + 1) lanes)) ≡ sum (column k (take i lanes)) + slice_index (slice_index_or lanes i d).items k

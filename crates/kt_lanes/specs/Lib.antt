@@ -4,3 +4,9 @@ pub mod Climbed
 pub mod ClimbedLaws
 pub mod Shares
 pub mod SharesLaws
+pub mod Down
+pub mod DownLaws
+pub mod ByIdLaws
+pub mod Policies
+pub mod PoliciesLaws
+pub mod LevelsLaws

@@ -6,16 +6,13 @@ use Rattle.std.specs.declared.alloc.Global.{Global}
 use Rattle.kt_money.specs.Sharing.{share_to, share_out}
 use Rattle.kt_lanes.specs.Lanes.{column, AreLanes, IsLane}
 
--- lanes of totals, of their weights, of the next weight, of the weights before it, and of what these were paid
-pub record CanGoOn (totals weights child upto paid : List ℕ) : Type 0 where
+-- lanes of totals, of their weights in all, and of the first weights
+pub record CanPart (totals weights upto : List ℕ) : Type 0 where
   pub weights_wide : length weights ≡ length totals
-  pub child_wide : length child ≡ length totals
   pub upto_wide : length upto ≡ length totals
-  pub paid_wide : length paid ≡ length totals
   pub most : (k : ℕ) → k < length totals → slice_index totals k ≤ slice_index weights k
   pub few : (k : ℕ) → k < length totals → slice_index weights k ≤ 10 ^ 16
-  pub within : (k : ℕ) → k < length totals → slice_index upto k + slice_index child k ≤ slice_index weights k
-  pub paid_is : (k : ℕ) → k < length totals → slice_index paid k ≡ share_to (slice_index totals k) (slice_index weights k) (slice_index upto k)
+  pub within : (k : ℕ) → k < length totals → slice_index upto k ≤ slice_index weights k
 
 -- how far totals are shared out over the lanes of children
 pub record AreSharing (width : ℕ) (totals : List ℕ) (children : List (Vec ℕ Global)) (at : ℕ) (upto paid : List ℕ) (shares : List (Vec ℕ Global)) : Type 0 where

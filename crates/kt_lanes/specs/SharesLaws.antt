@@ -11,8 +11,8 @@ use Rattle.kt_money.specs.Sharing.{share_to, share_of, shares_after, share_out}
 use Rattle.kt_money.specs.SharingLaws.{share_out-adds, share_to-le}
 use Rattle.kt_alloc.specs.DownLaws.{shares-length}
 use Rattle.kt_lanes.specs.Lanes.{column, AreWide, AreLanes, IsLane}
-use Rattle.kt_lanes.specs.LaneLaws.{column-at, column-sum-le, column-sum-more, lanes-are, lanes-more}
-use Rattle.kt_lanes.specs.Shares.{CanGoOn, AreSharing}
+use Rattle.kt_lanes.specs.LaneLaws.{column-at, column-sum-le, column-sum-more, lanes-are, lanes-more, lanes-none}
+use Rattle.kt_lanes.specs.Shares.{CanPart, AreSharing}
 
 -- ---- shares, one by one
 
@@ -57,10 +57,10 @@ module _ (width : ℕ) (totals : List ℕ) (long : length totals ≡ width) (chi
   sharing-begins upto paid upto_is paid_is = record {
     upto_is = record { wide = ap length upto_is ∙ long-zeros width; each = λ k below. ap (λ l. slice_index l k) upto_is ∙ zero-at width k };
     paid_is = record { wide = ap length paid_is ∙ long-zeros width; each = λ k below. ap (λ l. slice_index l k) paid_is ∙ (zero-at width k ∙ sym (none (slice_index totals k) (sum (column k children)))) };
-    shares_are = record { count_is = refl; wide = λ k d below. absurd (omega arith); each = λ k below. refl };
+    shares_are = lanes-none width (λ k. take 0 (share_out (slice_index totals k) (column k children))) (λ k below. refl);
   }
     where
-      long-zeros : (n : ℕ) → length (replicate n 0) ≡ n
+      long-zeros : (n : ℕ) → length {A = ℕ} (replicate n 0) ≡ n
       long-zeros zero = refl
       long-zeros (suc n) = ap suc (long-zeros n)
 
@@ -79,59 +79,75 @@ module _ (width : ℕ) (totals : List ℕ) (long : length totals ≡ width) (chi
     more : (k : ℕ) → sum (column k (take (at + 1) children)) ≡ sum (column k (take at children)) + slice_index child.items k
     more k = column-sum-more k at children child inside ∙ ap (λ (one : Vec ℕ Global). sum (column k (take at children)) + slice_index one.items k) (sym child_is)
 
-    -- the next child can be given its share
-    pub can-go-on : CanGoOn totals weights child.items upto paid
-    can-go-on = record {
-      weights_wide = weights_are.wide ∙ sym long;
-      child_wide = child-wide ∙ sym long;
-      upto_wide = so_far.upto_is.wide ∙ sym long;
-      paid_wide = so_far.paid_is.wide ∙ sym long;
-      most = λ k below. let b = less k below in omega (arith, backed k b, weights_are.each k b);
-      few = λ k below. let b = less k below in omega (arith, few k b, weights_are.each k b);
-      within = λ k below. let b = less k below in omega (arith, so_far.upto_is.each k b, more k, column-sum-le k (at + 1) children, weights_are.each k b);
-      paid_is = λ k below.
-          let b = less k below in
-          so_far.paid_is.each k b ∙ (ap (λ n. share_to (slice_index totals k) n (sum (column k (take at children)))) (sym (weights_are.each k b)) ∙ ap (share_to (slice_index totals k) (slice_index weights k)) (sym (so_far.upto_is.each k b)));
-    }
-      where
-        less : (k : ℕ) → k < length totals → k < width
-        less k below = omega (arith, long)
+    -- its lane can be added
+    pub can-add : (k : ℕ) → k < length upto → slice_index upto k + slice_index child.items k ≤ 10 ^ 17
+    can-add k below =
+        let inside : k < width = omega (arith, below, so_far.upto_is.wide) in
+        omega (arith, so_far.upto_is.each k inside, more k, column-sum-le k (at + 1) children, few k inside)
 
-    -- one more child has its share
-    pub sharing-goes : (upto_now paid_now : List ℕ) (share : Vec ℕ Global) (shares_now : List (Vec ℕ Global))
-        → IsLane (length totals) (λ k. slice_index upto k + slice_index child.items k) upto_now
-        → IsLane (length totals) (λ k. share_to (slice_index totals k) (slice_index weights k) (slice_index upto k + slice_index child.items k)) paid_now
-        → IsLane (length totals) (λ k. share_of (slice_index totals k) (slice_index weights k) (slice_index upto k) (slice_index child.items k)) share.items
-        → shares_now ≡ shares ++ share ∷ []
-        → AreSharing width totals children (at + 1) upto_now paid_now shares_now
-    sharing-goes upto_now paid_now share shares_now upto_is paid_is share_is shares_are = record {
-      upto_is = record { wide = upto_is.wide ∙ long; each = λ k below. upto_is.each k (under k below) ∙ given k below };
-      paid_is = record {
-        wide = paid_is.wide ∙ long;
-        each = λ k below.
-            paid_is.each k (under k below)
-            ∙ (ap (λ n. share_to (slice_index totals k) n (slice_index upto k + slice_index child.items k)) (weights_are.each k below)
-            ∙ ap (share_to (slice_index totals k) (sum (column k children))) (given k below));
-      };
-      shares_are =
-          lanes-more width at (λ k. take at (share_out (slice_index totals k) (column k children))) (λ k. take (at + 1) (share_out (slice_index totals k) (column k children)))
-          (λ k. share_of (slice_index totals k) (slice_index weights k) (slice_index upto k) (slice_index child.items k)) shares shares_now share so_far.shares_are
-          (record { wide = share_is.wide ∙ long; each = λ k below. share_is.each k (under k below) }) shares_are
-          (λ k below.
-          let total = slice_index totals k in
-          let all = sum (column k children) in
-          ap (λ s. take at (share_out total (column k children)) ++ s ∷ [])
-          (ap (λ n. share_of total n (slice_index upto k) (slice_index child.items k)) (weights_are.each k below)
-          ∙ (ap (λ n. share_of total all n (slice_index child.items k)) (so_far.upto_is.each k below ∙ ap sum (sym (take-map (λ (lane : Vec ℕ Global). slice_index lane.items k) at children)))
-          ∙ ap (share_of total all (sum (take at (column k children)))) (ap (λ (one : Vec ℕ Global). slice_index one.items k) child_is ∙ sym (column-at k at children child inside))))
-          ∙ shares-more total (column k children) at (omega (arith, inside, length-map children (λ (lane : Vec ℕ Global). slice_index lane.items k))));
-    }
-      where
-        under : (k : ℕ) → k < width → k < length totals
-        under k below = omega (arith, long)
+    module _ (upto_now : List ℕ) (upto_are : IsLane (length upto) (λ k. slice_index upto k + slice_index child.items k) upto_now) where
+      given : (k : ℕ) → k < width → slice_index upto_now k ≡ sum (column k (take (at + 1) children))
+      given k below = omega (arith, upto_are.each k (subst (λ n. k < n) (sym so_far.upto_is.wide) below), so_far.upto_is.each k below, more k)
 
-        given : (k : ℕ) → k < width → slice_index upto k + slice_index child.items k ≡ sum (column k (take (at + 1) children))
-        given k below = omega (arith, so_far.upto_is.each k below, more k)
+      given-is : IsLane width (λ k. sum (column k (take (at + 1) children))) upto_now
+      given-is = record { wide = upto_are.wide ∙ so_far.upto_is.wide; each = given }
+
+      -- what is due can be told
+      pub can-part : CanPart totals weights upto_now
+      can-part = record {
+        weights_wide = weights_are.wide ∙ sym long;
+        upto_wide = given-is.wide ∙ sym long;
+        most = λ k below. let b = less k below in omega (arith, backed k b, weights_are.each k b);
+        few = λ k below. let b = less k below in omega (arith, few k b, weights_are.each k b);
+        within = λ k below. let b = less k below in omega (arith, given k b, column-sum-le k (at + 1) children, weights_are.each k b);
+      }
+        where
+          less : (k : ℕ) → k < length totals → k < width
+          less k below = omega (arith, long)
+
+      module _ (due : List ℕ) (due_are : IsLane (length totals) (λ k. share_to (slice_index totals k) (slice_index weights k) (slice_index upto_now k)) due) where
+        due-is : IsLane width (λ k. share_to (slice_index totals k) (sum (column k children)) (sum (column k (take (at + 1) children)))) due
+        due-is = record {
+          wide = due_are.wide ∙ long;
+          each = λ k below.
+              due_are.each k (subst (λ n. k < n) (sym long) below)
+              ∙ (ap (λ n. share_to (slice_index totals k) n (slice_index upto_now k)) (weights_are.each k below)
+              ∙ ap (share_to (slice_index totals k) (sum (column k children))) (given k below));
+        }
+
+        -- it is not below what was paid
+        pub due-same : length due ≡ length paid
+        due-same = due-is.wide ∙ sym so_far.paid_is.wide
+
+        pub due-enough : (k : ℕ) → k < length paid → slice_index paid k ≤ slice_index due k
+        due-enough k below =
+            let inside : k < width = omega (arith, below, so_far.paid_is.wide) in
+            omega (arith, so_far.paid_is.each k inside, due-is.each k inside, share_to-le (slice_index totals k) (sum (column k children)) (sum (column k (take at children))) (sum (column k (take (at + 1) children))) (omega (arith, more k)))
+
+        -- one more child has its share
+        pub sharing-goes : (share : Vec ℕ Global) (shares_now : List (Vec ℕ Global)) → IsLane (length paid) (λ k. slice_index due k - slice_index paid k) share.items → shares_now ≡ shares ++ share ∷ [] → AreSharing width totals children (at + 1) upto_now due shares_now
+        sharing-goes share shares_now share_is shares_are = record {
+          upto_is = given-is;
+          paid_is = due-is;
+          shares_are =
+              lanes-more width at (λ k. take at (share_out (slice_index totals k) (column k children))) (λ k. take (at + 1) (share_out (slice_index totals k) (column k children)))
+              (λ k. share_of (slice_index totals k) (sum (column k children)) (sum (column k (take at children))) (slice_index child.items k)) shares shares_now share so_far.shares_are
+              (record {
+                wide = share_is.wide ∙ so_far.paid_is.wide;
+                each = λ k below.
+                    share_is.each k (subst (λ n. k < n) (sym so_far.paid_is.wide) below)
+                    ∙ (ap (λ n. n - slice_index paid k) (due-is.each k below)
+                    ∙ (ap (λ n. share_to (slice_index totals k) (sum (column k children)) (sum (column k (take (at + 1) children))) - n) (so_far.paid_is.each k below)
+                    ∙ ap (λ n. share_to (slice_index totals k) (sum (column k children)) n - share_to (slice_index totals k) (sum (column k children)) (sum (column k (take at children)))) (more k)));
+              }) shares_are
+              (λ k below.
+              let total = slice_index totals k in
+              let all = sum (column k children) in
+              ap (λ s. take at (share_out total (column k children)) ++ s ∷ [])
+              (ap (λ n. share_of total all n (slice_index child.items k)) (ap sum (sym (take-map (λ (lane : Vec ℕ Global). slice_index lane.items k) at children)))
+              ∙ ap (share_of total all (sum (take at (column k children)))) (ap (λ (one : Vec ℕ Global). slice_index one.items k) child_is ∙ sym (column-at k at children child inside)))
+              ∙ shares-more total (column k children) at (omega (arith, inside, length-map children (λ (lane : Vec ℕ Global). slice_index lane.items k))));
+        }
 
   -- all children have their shares
   pub sharing-ends : (at : ℕ) (upto paid : List ℕ) (shares : List (Vec ℕ Global)) → at ≡ length children → AreSharing width totals children at upto paid shares → AreLanes width (length children) (λ k. share_out (slice_index totals k) (column k children)) shares

@@ -20,7 +20,7 @@ pub(crate) fn copy_of(alloc: Global, lane: &[u64]) -> Result<Vec<u64>, AllocErro
 }
 
 /// Adds the amounts of a lane to those of another, in cents.
-pub(crate) fn add_to(lane: &mut [u64], more: &[u64])
+fn add_to(lane: &mut [u64], more: &[u64])
     requires same { length more.now ≡ length lane.old }
     requires few { (k : ℕ) → k < length lane.old → slice_index lane.old k + slice_index more.now k ≤ 10 ^ 17 }
     ensures value { IsLane (length lane.old) (λ k. slice_index lane.old k + slice_index more.now k) lane.new }
@@ -28,6 +28,15 @@ pub(crate) fn add_to(lane: &mut [u64], more: &[u64])
     for k in 0..lane.len() {
         lane[k] += more[k];
     }
+}
+
+/// Adds the amounts of a lane to those of another, in cents.
+pub(crate) fn add_lane(lane: &mut Vec<u64>, more: &[u64])
+    requires same { length more.now ≡ length lane.old.items }
+    requires few { (k : ℕ) → k < length lane.old.items → slice_index lane.old.items k + slice_index more.now k ≤ 10 ^ 17 }
+    ensures value { IsLane (length lane.old.items) (λ k. slice_index lane.old.items k + slice_index more.now k) lane.new.items }
+{
+    add_to(lane, more);
 }
 
 /// The amounts of lanes, added sidx by sidx. An error is want of memory.
@@ -57,6 +66,18 @@ pub(crate) fn apply_lane(profile: &Profile, tiv: u64, lane: &mut [u64])
     for k in 0..lane.len() {
         lane[k] = loss_after(profile, tiv, lane[k]);
     }
+}
+
+/// What a profile leaves of each loss of a lane.
+pub(crate) fn applied_lane(profile: &Profile, tiv: u64, lane: Vec<u64>) -> Vec<u64>
+    requires profile { IsProfile profile.now }
+    requires value { tiv ≤ 10 ^ 14 }
+    requires few { (k : ℕ) → k < length lane.items → slice_index lane.items k ≤ 10 ^ 16 }
+    ensures value { IsLane (length lane.items) (λ k. loss_after profile.now tiv (slice_index lane.items k)) result.items }
+{
+    let mut left = lane;
+    apply_lane(profile, tiv, &mut left);
+    left
 }
 
 /// So many lanes without an amount. An error is want of memory.

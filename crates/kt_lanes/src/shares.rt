@@ -1,39 +1,53 @@
 //! Totals shared out over lanes, sidx by sidx.
 //! The rule: docs/CALCULATION.md, "Share-out".
-ghost use Rattle.std.specs.Prelude.{◌≡◌, ◌+◌, ◌≤◌, ◌<◌, ◌^◌, ℕ, [], ◌∷◌, length, IfOk, OnOk, slice_index};
+ghost use Rattle.std.specs.Prelude.{◌≡◌, ◌-◌, ◌≤◌, ◌<◌, ◌^◌, ℕ, [], ◌∷◌, length, IfOk, slice_index};
 ghost use Rattle.std.specs.List.{sum};
-ghost use Rattle.kt_money.specs.Sharing.{share_of, share_out, share_to};
+ghost use Rattle.kt_money.specs.Sharing.{share_out, share_to};
 ghost use Rattle.kt_lanes.specs.Lanes.{column, AreWide, AreLanes, IsLane};
-ghost use Rattle.kt_lanes.specs.Shares.{CanGoOn};
+ghost use Rattle.kt_lanes.specs.Shares.{CanPart};
 
-use crate::lane::{copy_of, sums_of};
+use crate::lane::{add_lane, copy_of, sums_of};
 use crate::quotient::part_to;
 use kt_alloc::zeros;
 use std::alloc::{AllocError, Global};
 
-/// The share of the next weight at each sidx. The weights up to it, and what they were paid, go on.
-fn next_shares(
+/// The parts of totals in cents that fall to the first weights, sidx by sidx. An error is want of memory.
+fn parts_to(
     alloc: Global,
     totals: &[u64],
     weights: &[u64],
-    child: &[u64],
-    upto: &mut [u64],
-    paid: &mut [u64],
+    upto: &[u64],
 ) -> Result<Vec<u64>, AllocError>
-    requires can { CanGoOn totals.now weights.now child.now upto.old paid.old }
-    ensures upto { OnOk result (IsLane (length totals.now) (λ k. slice_index upto.old k + slice_index child.now k) upto.new) }
-    ensures paid { OnOk result (IsLane (length totals.now) (λ k. share_to (slice_index totals.now k) (slice_index weights.now k) (slice_index upto.old k + slice_index child.now k)) paid.new) }
-    ensures value { IfOk result (λ shares. IsLane (length totals.now) (λ k. share_of (slice_index totals.now k) (slice_index weights.now k) (slice_index upto.old k) (slice_index child.now k)) shares.items) }
+    requires can { CanPart totals.now weights.now upto.now }
+    ensures value { IfOk result (λ parts. IsLane (length totals.now) (λ k. share_to (slice_index totals.now k) (slice_index weights.now k) (slice_index upto.now k)) parts.items) }
 {
-    let mut shares = zeros(alloc, totals.len())?;
+    let mut parts = zeros(alloc, totals.len())?;
     for k in 0..totals.len() {
-        let now = upto[k] + child[k];
-        let due = part_to(totals[k], weights[k], now);
-        shares[k] = due - paid[k];
-        upto[k] = now;
-        paid[k] = due;
+        parts[k] = part_to(totals[k], weights[k], upto[k]);
     }
-    Ok(shares)
+    Ok(parts)
+}
+
+/// What is due and was not paid yet, sidx by sidx, in the place of what was paid.
+fn take_paid(due: &[u64], paid: &mut [u64])
+    requires same { length due.now ≡ length paid.old }
+    requires few { (k : ℕ) → k < length paid.old → slice_index paid.old k ≤ slice_index due.now k }
+    ensures value { IsLane (length paid.old) (λ k. slice_index due.now k - slice_index paid.old k) paid.new }
+{
+    for k in 0..paid.len() {
+        paid[k] = due[k] - paid[k];
+    }
+}
+
+/// What is due and was not paid yet, sidx by sidx.
+fn left_to_pay(due: &[u64], paid: Vec<u64>) -> Vec<u64>
+    requires same { length due.now ≡ length paid.items }
+    requires few { (k : ℕ) → k < length paid.items → slice_index paid.items k ≤ slice_index due.now k }
+    ensures value { IsLane (length paid.items) (λ k. slice_index due.now k - slice_index paid.items k) result.items }
+{
+    let mut left = paid;
+    take_paid(due, &mut left);
+    left
 }
 
 /// The whole of totals, for an only weight. An error is want of memory.
@@ -68,8 +82,10 @@ pub(crate) fn share_lanes(
     let mut paid = zeros(alloc, width)?;
     let mut shares = Vec::with_capacity(alloc, children.len())?;
     for child in children {
-        let next = next_shares(alloc, totals, &weights, child, &mut upto, &mut paid)?;
-        shares.push(next)?;
+        add_lane(&mut upto, child);
+        let due = parts_to(alloc, totals, &weights, &upto)?;
+        shares.push(left_to_pay(&due, paid))?;
+        paid = due;
     }
     Ok(shares)
 }
