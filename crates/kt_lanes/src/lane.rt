@@ -11,7 +11,7 @@ use kt_rules::{Profile, loss_after};
 use std::alloc::{AllocError, Global};
 
 /// A copy of a lane. An error is want of memory.
-pub(crate) fn copy_of(alloc: Global, lane: &[u64]) -> Result<Vec<u64>, AllocError>
+pub fn copy_of(alloc: Global, lane: &[u64]) -> Result<Vec<u64>, AllocError>
     ensures value { IfOk result (λ copy. copy.items ≡ lane.now) }
 {
     let mut copy = Vec::with_capacity(alloc, lane.len())?;
@@ -31,7 +31,7 @@ fn add_to(lane: &mut [u64], more: &[u64])
 }
 
 /// Adds the amounts of a lane to those of another, in cents.
-pub(crate) fn add_lane(lane: &mut Vec<u64>, more: &[u64])
+pub fn add_lane(lane: &mut Vec<u64>, more: &[u64])
     requires same { length more.now ≡ length lane.old.items }
     requires few { (k : ℕ) → k < length lane.old.items → slice_index lane.old.items k + slice_index more.now k ≤ 10 ^ 17 }
     ensures value { IsLane (length lane.old.items) (λ k. slice_index lane.old.items k + slice_index more.now k) lane.new.items }
@@ -81,7 +81,7 @@ pub(crate) fn applied_lane(profile: &Profile, tiv: u64, lane: Vec<u64>) -> Vec<u
 }
 
 /// So many lanes without an amount. An error is want of memory.
-pub(crate) fn zero_lanes(
+pub fn zero_lanes(
     alloc: Global,
     count: usize,
     width: usize,

@@ -11,5 +11,6 @@ mod quotient;
 mod shares;
 
 pub use climbing::{Climbed, climb};
+pub use lane::{add_lane, copy_of, zero_lanes};
 pub use plain::{has_plain_units, layer_looks_back};
 pub use policy::{allocate_lanes, policy_lane};

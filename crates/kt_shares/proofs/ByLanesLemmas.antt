@@ -25,8 +25,12 @@ use Rattle.kt_shares.proofs.RowLemmas.{top-is}
 use Rattle.kt_shares.proofs.TakenLemmas.{loss_by-is, losses-fit, losses-set, losses-sum}
 
 -- a row of three lists
-abbrev shared : List ℕ → List ℕ → List ℕ → Shared
+abbrev pub shared : List ℕ → List ℕ → List ℕ → Shared
 shared all policies totals = record { shares = all; policies = policies; totals = totals }
+
+-- rows of the same lists are the same
+pub row-is : {a b c d e f : List ℕ} → a ≡ b → c ≡ d → e ≡ f → shared a c e ≡ shared b d f
+row-is p q r = λ i. record { shares = p i; policies = q i; totals = r i }
 
 -- ---- the lanes of the ids
 
@@ -148,6 +152,3 @@ module _ (parts : Parts) (tree : Tree) (is : IsProgramme tree parts) (lanes : Li
   layers-row layers within made are loss loss_is =
       row-is (all-shares layers made are) (all-policies layers within made are) (all-policies layers within made are ∙ all-totals (map key_of layers))
       ∙ ap (λ f. row_for tree f rule (map key_of layers)) loss_is
-    where
-      row-is : {a b c d e f : List ℕ} → a ≡ b → c ≡ d → e ≡ f → shared a c e ≡ shared b d f
-      row-is p q r = λ i. record { shares = p i; policies = q i; totals = r i }

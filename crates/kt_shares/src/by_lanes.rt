@@ -87,6 +87,7 @@ fn shares_of(
     ensures wide { IfOk result (λ made. AreWide climbed.now.width made.items) }
     ensures value { IfOk result (λ made. (tree : Tree) → IsProgramme tree programme.now → (k : ℕ) → k < climbed.now.width → column k made.items ≡ shares tree (loss_by tree.ids (column k lanes.now)) rule one.top one.layer) }
 {
+    programme.is_of_a_tree();
     if rule == 0 {
         let made = whole(alloc, policies)?;
         return Ok(made);
