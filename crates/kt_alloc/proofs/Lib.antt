@@ -1,5 +1,1 @@
 pub mod GivingLemmas
-pub mod DownLemmas
-pub mod IdLemmas
-pub mod TreeLemmas
-pub mod AllocateLemmas

@@ -21,8 +21,8 @@ pub fn zeros(alloc: Global, width: usize) -> Result<Vec<u64>, AllocError>
     vec![in alloc; 0; width]
 }
 
-/// The id at a place in the order of the tree.
-fn id_at(programme: &Programme, place: usize) -> u32
+/// The id at a place in the order of the tree, which is counted from 0.
+pub fn id_at(programme: &Programme, place: usize) -> u32
     requires { place < length programme.now.leaves }
     ensures value { result ≡ slice_index (units_at programme.now 0) place }
 {

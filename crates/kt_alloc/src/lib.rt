@@ -8,4 +8,5 @@ mod giving;
 mod part;
 
 pub use allocation::allocate;
-pub use by_id::{total_of, zeros};
+pub use by_id::{id_at, total_of, zeros};
+pub use part::PlacedPart;

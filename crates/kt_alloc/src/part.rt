@@ -3,7 +3,7 @@
 
 /// An amount of the unit at a place of its level, in the order of the tree.
 #[derive(Clone, Copy)]
-pub(crate) struct PlacedPart {
+pub struct PlacedPart {
     /// The place of the unit.
     pub place: usize,
     /// Its amount in cents.

@@ -77,34 +77,3 @@ climbs-along g kept got leaves places losses got_are places_are can =
     let there : CanClimb (map g kept) (leaf_row leaves losses) (length kept) = subst (λ m. CanClimb (map g kept) (leaf_row leaves losses) m) n can in
     let read_back : CanClimb (map g got) (leaf_row leaves losses) (length got) = subst (λ vs. CanClimb (map g vs) (leaf_row leaves losses) (length vs)) (sym got_are) there in
     subst (λ ps. CanClimb (map g got) (leaf_row ps losses) (length got)) (sym places_are) read_back
-
--- a programme can be climbed
-pub programme-climbs : (parts : Parts) → HasProgramme parts → (losses : List ℕ) → length losses ≡ length parts.ids → sum losses ≤ 10 ^ 16 → CanClimb parts.levels (leaf_row parts.leaves losses) (length parts.levels)
-programme-climbs parts has losses same few =
-    let is = has.is in
-    record { each = λ level below. can-carry has.tree parts is losses (same ∙ ap length is.ids_are) few level (subst (λ n. level < n) is.levels_are below) }
-
--- what is carried is that of the tree
-pub programme-carries : (tree : Tree) (parts : Parts) → IsProgramme tree parts → (losses : List ℕ) → length losses ≡ length parts.ids → AreCarried tree (loss_by tree.ids losses) parts (climbed_rows parts.levels (leaf_row parts.leaves losses))
-programme-carries tree parts is losses same =
-    by (length parts.levels) is.levels_are
-  where
-    by : (n : ℕ) → n ≡ tree.top_level → AreCarried tree (loss_by tree.ids losses) parts (record {
-      rows = map (row_of parts losses) (range_with_len 0 n);
-      bases = map (child_sum (row_of parts losses (n - 1))) (get_or parts.levels (n - 1) []);
-    })
-    by zero top = absurd (let above = is.is.levels in omega arith)
-    by (suc last) top =
-        let before : suc last - 1 ≡ last = omega arith in
-        let whole : last + 1 ≡ suc last = omega arith in
-        carried-is tree parts is losses (same ∙ ap length is.ids_are) last top _ (ap (λ n. map (row_of parts losses) (range_with_len 0 n)) (sym whole)) (ap (λ n. map (child_sum (row_of parts losses n)) (get_or parts.levels n [])) before)
-
-pub programme-carried : (parts : Parts) → HasProgramme parts → (losses : List ℕ) → length losses ≡ length parts.ids → sum losses ≤ 10 ^ 16 → IsCarriedBy parts (climbed_rows parts.levels (leaf_row parts.leaves losses))
-programme-carried parts has losses same few =
-    record {
-      tree = has.tree;
-      loss = loss_by has.tree.ids losses;
-      is = has.is;
-      carried_are = programme-carries has.tree parts has.is losses same;
-      few = losses-few has.tree parts has.is losses (same ∙ ap length has.is.ids_are) few;
-    }

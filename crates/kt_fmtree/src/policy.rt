@@ -41,8 +41,8 @@ impl Programme {
         &self.terms[node]
     }
 
-    /// The terms of a layer of a top.
-    fn layer_terms(&self, node: usize, layer: u32) -> &Profile
+    /// The terms of a layer of the top at a place among the tops, which is counted from 0.
+    pub fn layer_terms(&self, node: usize, layer: u32) -> &Profile
         requires node { node < length self.now.tops }
         requires layer { list_any (nat_eq layer) (slice_index_or self.now.layers node []) ≡ true }
         ensures value { (tree : Tree) → IsProgramme tree self.now → result.now ≡ tree.layer_profile (slice_index tree.tops node) layer }
@@ -52,8 +52,8 @@ impl Programme {
         profile_at(self.terms_at(node), place)
     }
 
-    /// What the distinct coverages beneath a top are worth.
-    fn top_tiv(&self, node: usize) -> u64
+    /// What the distinct coverages beneath the top at a place among the tops are worth, in cents.
+    pub fn top_tiv(&self, node: usize) -> u64
         requires node { node < length self.now.tops }
         ensures value { (tree : Tree) → IsProgramme tree self.now → result ≡ tree.tiv tree.top_level (slice_index tree.tops node) }
     {

@@ -3,4 +3,5 @@ pub mod Profiles
 pub mod Rules
 pub mod Steps
 pub mod RuleLaws
+pub mod LossAlone
 pub mod Examples

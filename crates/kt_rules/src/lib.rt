@@ -4,6 +4,7 @@
 mod amounts;
 mod carry;
 pub mod laws;
+mod loss_alone;
 mod profile;
 mod rule;
 mod shared;
@@ -11,5 +12,6 @@ mod steps;
 mod table;
 
 pub use carry::Carry;
+pub use loss_alone::{looks_back, loss_after};
 pub use profile::{BadProfile, Profile};
 pub use rule::apply;

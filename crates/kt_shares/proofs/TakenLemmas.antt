@@ -116,7 +116,7 @@ module _ (width at : ℕ) (placed : List PlacedLosses) (i : ℕ) (d one : Placed
   losses-set = holds-more width (placed_loss (take i placed) at) (placed_loss (take (i + 1) placed) at) losses so_far one.place (slice_index one.losses.items at) inside loss-more
 
   -- they fit
-  pub losses-fit : placed_sum placed at ≤ 10000000000000000 → slice_index_or losses one.place 0 + slice_index one.losses.items at < 2 ^ 64
+  pub losses-fit : placed_sum placed at ≤ 10000000000000000 → slice_index_or losses one.place 0 + slice_index one.losses.items at ≤ 10000000000000000
   losses-fit few =
       omega (
         arith,

@@ -3,6 +3,8 @@ pub mod Layers
 pub mod Taken
 pub mod Row
 pub mod Table
+pub mod Rows
+pub mod ByLanes
 pub mod HoldsLaws
 pub mod LookupLaws
 pub mod SharesLaws

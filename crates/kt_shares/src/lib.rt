@@ -1,6 +1,7 @@
 //! What the layers of a programme have at each sidx of a run of losses: policy losses and the shares of them.
 #![tactic(auto)]
 
+mod by_lanes;
 mod layers;
 mod losses;
 mod pairs;

@@ -19,11 +19,11 @@ use std::marker::Model;
 #[derive(Drop)]
 pub struct Row {
     /// The shares of their policy losses, one behind the other.
-    shares: Vec<u64>,
+    pub(crate) shares: Vec<u64>,
     /// Their policy losses.
-    policies: Vec<u64>,
+    pub(crate) policies: Vec<u64>,
     /// What the shares of each add to.
-    totals: Vec<u64>,
+    pub(crate) totals: Vec<u64>,
 }
 
 impl Model for Row {

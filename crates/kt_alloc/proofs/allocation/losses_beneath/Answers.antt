@@ -1,5 +1,5 @@
 use Rattle.std.proofs.Common.{◌∙◌, ◌≤◌, ◌^◌, true, arith}
-use Rattle.kt_alloc.proofs.AllocateLemmas.{beneath-rises, leaves-places, whole-parts-few, losses-are}
+use Rattle.kt_alloc.specs.AllocateLaws.{beneath-rises, leaves-places, whole-parts-few, losses-are}
 use Rattle.kt_alloc.proofs.allocation.losses_beneath.Goals as goal
 
 pub parts_by_id-requires-clause-rising : goal.parts_by_id-requires-clause-rising

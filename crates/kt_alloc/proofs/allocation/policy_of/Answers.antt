@@ -1,5 +1,5 @@
 use Rattle.std.proofs.Common.{ℕ, ◌≤◌, ◌^◌, sym, subst}
-use Rattle.kt_alloc.proofs.AllocateLemmas.{policy-few}
+use Rattle.kt_alloc.specs.AllocateLaws.{policy-few}
 use Rattle.kt_alloc.proofs.allocation.policy_of.Goals as goal
 
 pub returns-clause-few : goal.returns-clause-few

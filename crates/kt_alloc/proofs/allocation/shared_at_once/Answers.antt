@@ -1,5 +1,5 @@
 use Rattle.std.proofs.Common.{◌∙◌}
-use Rattle.kt_alloc.proofs.AllocateLemmas.{losses-few}
+use Rattle.kt_alloc.specs.AllocateLaws.{losses-few}
 use Rattle.kt_alloc.proofs.allocation.shared_at_once.Goals as goal
 
 pub shares-requires-clause-few : goal.shares-requires-clause-few

@@ -1,5 +1,5 @@
 use Rattle.std.proofs.Common.{◌∙◌, false}
-use Rattle.kt_alloc.proofs.AllocateLemmas.{beneath-rises, leaves-places, shared-few, down-are}
+use Rattle.kt_alloc.specs.AllocateLaws.{beneath-rises, leaves-places, shared-few, down-are}
 use Rattle.kt_alloc.proofs.allocation.shared_down.Goals as goal
 
 pub parts_by_id-requires-clause-rising : goal.parts_by_id-requires-clause-rising

@@ -1,4 +1,4 @@
-use Rattle.kt_alloc.proofs.IdLemmas.{with-missed}
+use Rattle.kt_alloc.specs.IdLaws.{with-missed}
 use Rattle.kt_alloc.proofs.by_id.add_to.Goals as goal
 
 pub returns-in_default : goal.returns-in_default

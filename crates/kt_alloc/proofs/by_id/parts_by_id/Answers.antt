@@ -1,6 +1,6 @@
 use Rattle.std.proofs.Common.{◌∙◌}
 use Rattle.kt_fmtree.specs.Parts.{units_at}
-use Rattle.kt_alloc.proofs.IdLemmas.{no-parts, part-fits, next-part}
+use Rattle.kt_alloc.specs.IdLaws.{no-parts, part-fits, next-part}
 use Rattle.kt_alloc.proofs.by_id.parts_by_id.Goals as goal
 
 pub loop-near-init : goal.loop-near-init

@@ -1,4 +1,4 @@
-use Rattle.kt_alloc.proofs.IdLemmas.{IsSharingBy}
+use Rattle.kt_alloc.specs.IdLaws.{IsSharingBy}
 use Rattle.kt_alloc.proofs.by_id.shares.Given as goal
 
 abbrev pub invariant-loop-weight : goal.invariant-loop-weight

@@ -5,7 +5,7 @@ use Rattle.kt_fmtree.specs.Carried.{CanCarry}
 use Rattle.kt_fmtree.specs.declared.node.Node.{Node}
 use Rattle.kt_alloc.specs.Placed.{level_down}
 use Rattle.kt_alloc.specs.declared.part.PlacedPart.{PlacedPart}
-use Rattle.kt_alloc.proofs.DownLemmas.{row-can, nodes-places, can-next, levels-next}
+use Rattle.kt_alloc.specs.DownLaws.{row-can, nodes-places, can-next, levels-next}
 use Rattle.kt_alloc.proofs.down.+levels_down.Goals as goal
 
 pub level_down-requires-clause-can : goal.level_down-requires-clause-can

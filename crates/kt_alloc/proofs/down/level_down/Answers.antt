@@ -2,7 +2,7 @@ use Rattle.std.proofs.Common.{◌<◌, length, arith}
 use Rattle.std.proofs.lemmas.Grind.{common_steps}
 use Rattle.std.proofs.lemmas.List.Elements.{All-from_recursion}
 use Rattle.kt_alloc.specs.declared.part.PlacedPart.{PlacedPart}
-use Rattle.kt_alloc.proofs.DownLemmas.{amount-le}
+use Rattle.kt_alloc.specs.DownLaws.{amount-le}
 use Rattle.kt_alloc.proofs.down.level_down.Goals as goal
 
 pub push_children-requires-clause-can : goal.push_children-requires-clause-can

@@ -1,4 +1,4 @@
-use Rattle.kt_alloc.proofs.DownLemmas.{AreGiven}
+use Rattle.kt_alloc.specs.DownLaws.{AreGiven}
 use Rattle.kt_alloc.proofs.down.level_down.Given as goal
 
 abbrev pub invariant-loop-part : goal.invariant-loop-part

@@ -1,7 +1,8 @@
 use Rattle.std.proofs.Common.{◌∙◌, ap, sym, subst, length, map}
 use Rattle.kt_fmtree.specs.Parts.{Parts, parts_of, HasProgramme}
 use Rattle.kt_fmtree.specs.Carried.{Carried, climbed_rows, leaf_row, AreCarried, IsCarriedBy, loss_by}
-use Rattle.kt_fmtree.proofs.RowLemmas.{climbs-along, programme-climbs, programme-carries, programme-carried}
+use Rattle.kt_fmtree.specs.ProgrammeLaws.{programme-climbs, programme-carries, programme-carried}
+use Rattle.kt_fmtree.proofs.RowLemmas.{climbs-along}
 use Rattle.kt_fmtree.proofs.programme.Programme.carry.Goals as goal
 
 pub levels_of-requires-clause-can : goal.levels_of-requires-clause-can

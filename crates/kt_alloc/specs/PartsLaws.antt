@@ -18,7 +18,7 @@ use Rattle.kt_fmtree.specs.CarriedLaws.{children-of, map-agree, map-map}
 use Rattle.kt_fmtree.specs.declared.node.Node.{Node}
 use Rattle.kt_alloc.specs.Placed.{weight, amounts_for, parts_from, children_of, no_node, node_at, given_by, level_down, levels_down, CanShare, unit_parts}
 use Rattle.kt_alloc.specs.declared.part.PlacedPart.{PlacedPart}
-use Rattle.kt_alloc.proofs.DownLemmas.{length-map_is, sum_by-map, amounts-length, nodes-places, can-next}
+use Rattle.kt_alloc.specs.DownLaws.{length-map_is, sum_by-map, amounts-length, nodes-places, can-next}
 
 -- ---- what the tree gives down
 

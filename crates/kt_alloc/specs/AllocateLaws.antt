@@ -1,4 +1,4 @@
--- Lemmas on what the ids beneath a top have of a policy loss.
+-- Laws of what the ids beneath a top have of a policy loss.
 use Rattle.std.proofs.Common.{◌≡◌, ℕ, zero, suc, ◌<◌, ◌≤◌, ◌^◌, Bool, true, false, List, [], ◌∷◌, length, map, get_or, refl, sym, ap, subst, ◌∙◌, arith}
 use Rattle.std.specs.List.{AllByRecursion, sum, sum_by}
 use Rattle.std.proofs.lemmas.List.Sums.{sum_by-cons, sum-map}
@@ -12,8 +12,8 @@ use Rattle.kt_fmtree.specs.RisingLaws.{rising-filter}
 use Rattle.kt_fmtree.specs.Carried.{Carried, AreCarried, IsCarriedBy}
 use Rattle.kt_alloc.specs.Placed.{levels_down, CanShare, unit_parts}
 use Rattle.kt_alloc.specs.declared.part.PlacedPart.{PlacedPart}
-use Rattle.kt_alloc.proofs.DownLemmas.{length-map_is, sum_by-map}
-use Rattle.kt_alloc.proofs.TreeLemmas.{tree_parts, tree_parts-shared, levels-given, levels-can, whole-losses, whole-few}
+use Rattle.kt_alloc.specs.DownLaws.{length-map_is, sum_by-map}
+use Rattle.kt_alloc.specs.PartsLaws.{tree_parts, tree_parts-shared, levels-given, levels-can, whole-losses, whole-few}
 
 -- ---- bounds
 

@@ -1,4 +1,4 @@
--- Lemmas on amounts of ids, in order of id.
+-- Laws of amounts of ids, in order of id.
 use Rattle.std.proofs.Common.{◌≡◌, ℕ, zero, suc, ◌+◌, ◌<◌, ◌≤◌, ◌^◌, Bool, true, false, cond, nat_eq, List, [], ◌∷◌, ◌++◌, length, map, take, drop, get_or, refl, sym, ap, subst, ◌∙◌, arith, drop-cons, add-one, append_assoc, append-nil, ◌⊎◌, inl, inr, slice_set, Equal}
 use Rattle.std.specs.Prelude.{Err, ◌||◌, replicate}
 use Rattle.std.specs.List.{AllByRecursion, list_any, sum, sum_by}
@@ -17,7 +17,7 @@ use Rattle.kt_fmtree.specs.RisingLaws.{not-missed}
 use Rattle.kt_alloc.specs.Placed.{unit_parts}
 use Rattle.kt_alloc.specs.ById.{with_more}
 use Rattle.kt_alloc.specs.declared.part.PlacedPart.{PlacedPart}
-use Rattle.kt_alloc.proofs.DownLemmas.{sum_by-map}
+use Rattle.kt_alloc.specs.DownLaws.{sum_by-map}
 
 -- ---- more for one id
 

@@ -1,4 +1,4 @@
--- Lemmas on parts that are given down, level by level.
+-- Laws of parts that are given down, level by level.
 use Rattle.std.proofs.Common.{◌≡◌, ℕ, zero, suc, ◌+◌, ◌*◌, ◌<◌, ◌≤◌, ◌^◌, Bool, true, false, List, [], ◌∷◌, ◌++◌, length, map, take, drop, get_or, refl, sym, ap, subst, ◌∙◌, arith, drop-cons, add-one, append_assoc, append-nil}
 use Rattle.std.specs.List.{All, AllByRecursion, flat_map, sum, sum_by}
 use Rattle.std.proofs.Math.Nat.{div-zero}
@@ -60,7 +60,7 @@ amount-le parts at d below = get_or-le-sum_by (λ part. part.amount) parts at d 
 
 -- ---- places
 
-shares-length : (all weights given : ℕ) (further : List ℕ) → length (shares_after all weights given further) ≡ length further
+pub shares-length : (all weights given : ℕ) (further : List ℕ) → length (shares_after all weights given further) ≡ length further
 shares-length all weights given [] = refl
 shares-length all weights given (w ∷ further) = ap suc (shares-length all weights (given + w) further)
 

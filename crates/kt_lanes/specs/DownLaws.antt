@@ -1,0 +1,244 @@
+-- Laws of amounts that are given down by lanes.
+-- The rule: docs/FINANCIAL_MODULE.md, "Allocation".
+use Rattle.std.specs.Prelude.{◌≡◌, ◌⊎◌, ℕ, zero, suc, ◌+◌, ◌-◌, ◌*◌, ◌/◌, ◌<◌, ◌≤◌, ◌^◌, Bool, true, false, cond, nat_eq, List, [], ◌∷◌, ◌++◌, Vec, All, length, map, take, drop, slice_index, slice_index_or, replicate}
+use Rattle.std.specs.List.{AllByRecursion, flat_map, range_with_len, sum, sum_by}
+use Rattle.std.specs.declared.alloc.Global.{Global}
+use Rattle.std.proofs.Common.{inl, inr, refl, sym, ap, subst, ◌∙◌, arith}
+use Rattle.std.proofs.Math.Nat.{zero-div}
+use Rattle.std.proofs.lemmas.Bool.{cases_lt, eqb-true}
+use Rattle.std.proofs.lemmas.List.{length-map, length-append, map-append, take-map, take_all, drop-map, get_or-take, get_or-drop, get_or-map}
+use Rattle.std.proofs.lemmas.List.Elements.{All-from_recursion}
+use Rattle.std.proofs.lemmas.List.FromFn.{get_or-map-range_with_len}
+use Rattle.std.proofs.lemmas.List.Sums.{sum_by-cons, sum-map}
+use Rattle.kt_money.specs.Sharing.{share_of, shares_after, share_out}
+use Rattle.kt_money.specs.SharingLaws.{share_of-le}
+use Rattle.kt_rules.specs.Amounts.{total}
+use Rattle.kt_rules.specs.LossAlone.{loss_after, loss_after-le}
+use Rattle.kt_rules.specs.Profiles.{IsProfile}
+use Rattle.kt_rules.specs.declared.carry.Carry.{Carry}
+use Rattle.kt_tree.specs.Sums.{each_flat_map}
+use Rattle.kt_tree.specs.TreeLaws.{shares_of}
+use Rattle.kt_fmtree.specs.Carried.{Carried, IsCarriedBy, added, node_carry, row_of}
+use Rattle.kt_fmtree.specs.Parts.{Parts, HasProgramme, units_at}
+use Rattle.kt_fmtree.specs.LoopLaws.{flat_map-goes}
+use Rattle.kt_fmtree.specs.declared.node.Node.{Node}
+use Rattle.kt_alloc.specs.Placed.{weight, weights, amounts_for, parts_from, children_of, no_node, node_at, given_by, level_down, CanShare}
+use Rattle.kt_alloc.specs.declared.part.PlacedPart.{PlacedPart}
+use Rattle.kt_lanes.specs.Lanes.{column, AreWide, AreLanes, losses_of, child_losses, unit_loss}
+use Rattle.kt_lanes.specs.LaneLaws.{All-first, column-at}
+use Rattle.kt_lanes.specs.Climbed.{HasPlainUnits}
+use Rattle.kt_lanes.specs.ClimbedLaws.{child_losses-of, node_carry-loss}
+use Rattle.kt_lanes.specs.Down.{placed, placed_at, ArePlaced, given_losses, AreBacked}
+use Rattle.kt_lanes.specs.declared.down.PlacedLanes.{PlacedLanes}
+
+-- ---- amounts in places
+
+pub length-placed : (places amounts : List ℕ) → length places ≡ length amounts → length (placed places amounts) ≡ length places
+length-placed [] amounts same = refl
+length-placed (place ∷ places) [] same = absurd (omega arith)
+length-placed (place ∷ places) (amount ∷ amounts) same = ap suc (length-placed places amounts (omega arith))
+
+-- the amount in a place
+pub placed-in : (places amounts : List ℕ) (at : ℕ) (d : PlacedPart) → length places ≡ length amounts → at < length places → slice_index_or (placed places amounts) at d ≡ record { place = slice_index places at; amount = slice_index amounts at }
+placed-in [] amounts at d same below = absurd (omega arith)
+placed-in (place ∷ places) [] at d same below = absurd (omega arith)
+placed-in (place ∷ places) (amount ∷ amounts) zero d same below = refl
+placed-in (place ∷ places) (amount ∷ amounts) (suc at) d same below = placed-in places amounts at d (omega arith) (omega arith)
+
+-- those of lanes at one sidx
+module _ (width : ℕ) (parts : PlacedLanes) (are : ArePlaced width parts) (at : ℕ) (below : at < length parts.places.items) (k : ℕ) where
+  same-count : length parts.places.items ≡ length (column k parts.lanes.items)
+  same-count = are.count_is ∙ sym (length-map parts.lanes.items (λ (one : Vec ℕ Global). slice_index one.items k))
+
+  pub placed-inside : at < length (placed_at k parts)
+  placed-inside = omega (arith, below, length-placed parts.places.items (column k parts.lanes.items) same-count)
+
+  pub placed-here : (d : PlacedPart) (lane : Vec ℕ Global) → lane ≡ slice_index_or parts.lanes.items at lane → slice_index_or (placed_at k parts) at d ≡ record { place = slice_index parts.places.items at; amount = slice_index lane.items k }
+  placed-here d lane lane_is =
+      placed-in parts.places.items (column k parts.lanes.items) at d same-count below
+      ∙ ap (λ n. record { place = slice_index parts.places.items at; amount = n }) (column-at k at parts.lanes.items lane (omega (arith, below, are.count_is)) ∙ ap (λ (one : Vec ℕ Global). slice_index one.items k) (sym lane_is))
+
+  -- an amount is not above the losses of the children of its unit
+  pub backed-here : (nodes : List Node) (row : List ℕ) → AreBacked nodes row (placed_at k parts) → (lane : Vec ℕ Global) → lane ≡ slice_index_or parts.lanes.items at lane → slice_index lane.items k ≤ sum (child_losses row (node_at nodes (slice_index parts.places.items at)))
+  backed-here nodes row backed lane lane_is =
+      let none : PlacedPart = record { place = 0; amount = 0 } in
+      subst (λ (part : PlacedPart). part.amount ≤ sum (child_losses row (node_at nodes part.place))) (placed-here none lane lane_is)
+      (All-from_recursion (λ (part : PlacedPart). part.amount ≤ sum (child_losses row (node_at nodes part.place))) (placed_at k parts) backed at none placed-inside)
+
+  -- one more unit has given
+  pub gives-more : (nodes : List Node) (row : List ℕ) (lane : Vec ℕ Global) → lane ≡ slice_index_or parts.lanes.items at lane → (node : Node) → node ≡ node_at nodes (slice_index parts.places.items at) → (made more : List PlacedPart) → made ≡ flat_map (given_losses nodes row) (take at (placed_at k parts)) → more ≡ made ++ parts_from node.start (share_out (slice_index lane.items k) (child_losses row node)) → more ≡ flat_map (given_losses nodes row) (take (at + 1) (placed_at k parts))
+  gives-more nodes row lane lane_is node node_is made more so_far more_is =
+      let none : PlacedPart = record { place = 0; amount = 0 } in
+      flat_map-goes (given_losses nodes row) (placed_at k parts) at none made more placed-inside so_far
+      (more_is
+      ∙ (ap (λ (one : Node). made ++ parts_from one.start (share_out (slice_index lane.items k) (child_losses row one))) node_is
+      ∙ ap (λ part. made ++ given_losses nodes row part) (sym (placed-here none lane lane_is))))
+
+-- all of them
+pub placed-all : (width : ℕ) (parts : PlacedLanes) → ArePlaced width parts → (n : ℕ) → length parts.places.items ≤ n → (k : ℕ) → take n (placed_at k parts) ≡ placed_at k parts
+placed-all width parts are n enough k = take_all n (placed_at k parts) (omega (arith, enough, length-placed parts.places.items (column k parts.lanes.items) (are.count_is ∙ sym (length-map parts.lanes.items (λ (one : Vec ℕ Global). slice_index one.items k)))))
+
+placed-append : (places others amounts more : List ℕ) → length places ≡ length amounts → placed (places ++ others) (amounts ++ more) ≡ placed places amounts ++ placed others more
+placed-append [] others [] more same = refl
+placed-append [] others (amount ∷ amounts) more same = absurd (omega arith)
+placed-append (place ∷ places) others [] more same = absurd (omega arith)
+placed-append (place ∷ places) others (amount ∷ amounts) more same = ap (λ rest. record { place = place; amount = amount } ∷ rest) (placed-append places others amounts more (omega arith))
+
+placed-range : (start n : ℕ) (amounts : List ℕ) → length amounts ≡ n → placed (range_with_len start n) amounts ≡ parts_from start amounts
+placed-range start zero [] same = refl
+placed-range start zero (amount ∷ amounts) same = absurd (omega arith)
+placed-range start (suc n) [] same = absurd (omega arith)
+placed-range start (suc n) (amount ∷ amounts) same = ap (λ rest. record { place = start; amount = amount } ∷ rest) (placed-range (start + 1) n amounts (omega arith))
+
+-- one more place
+pub range-more : (start n : ℕ) → range_with_len start (n + 1) ≡ range_with_len start n ++ (start + n) ∷ []
+range-more start n = let e : n + 1 ≡ suc n = omega arith in ap (range_with_len start) e ∙ last start n (start + n) refl
+  where
+    last : (a n j : ℕ) → a + n ≡ j → range_with_len a (suc n) ≡ range_with_len a n ++ j ∷ []
+    last a zero j e = let same : a ≡ j = omega arith in ap (λ k. k ∷ []) same
+    last a (suc n) j e = ap (λ l. a ∷ l) (last (a + 1) n j (omega arith))
+
+length-range : (start n : ℕ) → length (range_with_len start n) ≡ n
+length-range start zero = refl
+length-range start (suc n) = ap suc (length-range (start + 1) n)
+
+-- what holds of amounts in places holds of the places
+pub places-all : (P : ℕ → Type 0) (places amounts : List ℕ) → length places ≡ length amounts → AllByRecursion (λ (part : PlacedPart). P part.place) (placed places amounts) → All P places
+places-all P places amounts same all = λ at d below. by places amounts same all at d below
+  where
+    by : (places amounts : List ℕ) → length places ≡ length amounts → AllByRecursion (λ (part : PlacedPart). P part.place) (placed places amounts) → (at d : ℕ) → at < length places → P (slice_index_or places at d)
+    by [] amounts same all at d below = absurd (omega arith)
+    by (place ∷ places) [] same all at d below = absurd (omega arith)
+    by (place ∷ places) (amount ∷ amounts) same all zero d below = all.0
+    by (place ∷ places) (amount ∷ amounts) same all (suc at) d below = by places amounts (omega arith) all.1 at d (omega arith)
+
+-- lanes of places side by side, behind others
+module _ (width start count : ℕ) (places others : List ℕ) (lanes more : List (Vec ℕ Global)) (same : length places ≡ length lanes) (others_are : others ≡ places ++ range_with_len start count) where
+  pub behind-count : (all : List (Vec ℕ Global)) → all ≡ lanes ++ more → length more ≡ count → length others ≡ length all
+  behind-count all all_is long =
+      ap length others_are ∙ (length-append places (range_with_len start count) ∙ (omega (arith, same, long, length-range start count) ∙ sym (ap length all_is ∙ length-append lanes more)))
+
+  pub behind-placed : (all : List (Vec ℕ Global)) → all ≡ lanes ++ more → length more ≡ count → (k : ℕ) (amounts : List ℕ) → column k more ≡ amounts → placed others (column k all) ≡ placed places (column k lanes) ++ parts_from start amounts
+  behind-placed all all_is long k amounts amounts_are =
+      let f : Vec ℕ Global → ℕ = λ lane. slice_index lane.items k in
+      ap (λ ps. placed ps (column k all)) others_are
+      ∙ (ap (λ ls. placed (places ++ range_with_len start count) (column k ls)) all_is
+      ∙ (ap (placed (places ++ range_with_len start count)) (map-append f lanes more)
+      ∙ (placed-append places (range_with_len start count) (column k lanes) (column k more) (same ∙ sym (length-map lanes f))
+      ∙ ap (λ ps. placed places (column k lanes) ++ ps) (placed-range start count (column k more) (length-map more f ∙ long) ∙ ap (parts_from start) amounts_are))))
+
+-- both are wide
+pub wide-both : (width : ℕ) (lanes more : List (Vec ℕ Global)) → AreWide width lanes → AreWide width more → AreWide width (lanes ++ more)
+wide-both width [] more one other = other
+wide-both width (lane ∷ lanes) more one other =
+    All-first (λ (each : Vec ℕ Global). length each.items ≡ width) lane (lanes ++ more) (one zero lane (omega arith)) (wide-both width lanes more (λ k d below. one (suc k) d (omega arith)) other)
+
+-- ---- shares by losses
+
+-- nothing has no shares
+zero-shares : (weights given : ℕ) (further : List ℕ) → shares_after 0 weights given further ≡ replicate (length further) 0
+zero-shares weights given [] = refl
+zero-shares weights given (w ∷ further) =
+    let here : share_of 0 weights given w ≡ 0 = omega (arith, none (given + w), none given) in
+    ap (λ n. n ∷ shares_after 0 weights (given + w) further) here ∙ ap (λ rest. 0 ∷ rest) (zero-shares weights (given + w) further)
+  where
+    none : (upto : ℕ) → 0 * upto / weights ≡ 0
+    none upto = let e : 0 * upto ≡ 0 = omega arith in ap (λ n. n / weights) e ∙ zero-div weights
+
+-- an amount that is not above the losses that children carry is shared out by these
+pub backed-shares : (amount : ℕ) (children : List Carry) → amount ≤ sum (losses_of children) → share_out amount (losses_of children) ≡ share_out amount (weights children)
+backed-shares amount children few = by (nat_eq (sum_by (λ carry. carry.loss) children) 0) refl
+  where
+    length-each : {X Y : Type 0} (f : X → Y) (xs : List X) → length (map f xs) ≡ length xs
+    length-each f [] = refl
+    length-each f (x ∷ xs) = ap suc (length-each f xs)
+
+    by : (b : Bool) → nat_eq (sum_by (λ carry. carry.loss) children) 0 ≡ b → share_out amount (losses_of children) ≡ share_out amount (map (λ carry. cond b (total carry) carry.loss) children)
+    by false some = refl
+    by true none =
+        let nothing : amount ≡ 0 = omega (arith, few, sum-map (λ (carry : Carry). carry.loss) children, eqb-true (sum_by (λ carry. carry.loss) children) 0 none) in
+        rw nothing (zero-shares (sum (losses_of children)) 0 (losses_of children)
+        ∙ (ap (λ n. replicate n 0) (length-each (λ (carry : Carry). carry.loss) children ∙ sym (length-each total children))
+        ∙ sym (zero-shares (sum (map total children)) 0 (map total children))))
+
+-- a unit gives by losses what it gives
+pub backed-down : (nodes : List Node) (row : List Carry) (parts : List PlacedPart) → AreBacked nodes (losses_of row) parts → flat_map (given_losses nodes (losses_of row)) parts ≡ level_down false nodes row parts
+backed-down nodes row [] backed = refl
+backed-down nodes row (part ∷ parts) backed =
+    let node = node_at nodes part.place in
+    let children = children_of row node in
+    let losses = child_losses-of row node in
+    let here : share_out part.amount (child_losses (losses_of row) node) ≡ amounts_for false part.amount children =
+    ap (share_out part.amount) losses ∙ backed-shares part.amount children (subst (λ ls. part.amount ≤ sum ls) losses backed.0) in
+    ap (λ amounts. parts_from node.start amounts ++ flat_map (given_losses nodes (losses_of row)) parts) here
+    ∙ ap (λ rest. given_by false nodes row part ++ rest) (backed-down nodes row parts backed.1)
+
+-- ---- shares are backed
+
+-- the share of a child is not above its loss
+shares-backed : (row : List ℕ) (amount weights given start : ℕ) (further : List ℕ) → amount ≤ weights → ((j : ℕ) → j < length further → slice_index further j ≡ slice_index row (start + j)) → AllByRecursion (λ part. part.amount ≤ slice_index row part.place) (parts_from start (shares_after amount weights given further))
+shares-backed row amount weights given start [] few same = tt
+shares-backed row amount weights given start (w ∷ further) few same =
+    let first : w ≡ slice_index row start = same 0 (omega arith) ∙ (let e : start + 0 ≡ start = omega arith in ap (slice_index row) e) in
+    (
+      omega (arith, share_of-le amount weights given w few, first),
+      shares-backed row amount weights (given + w) (start + 1) further few (λ j below. same (suc j) (omega arith) ∙ (let e : start + suc j ≡ start + 1 + j = omega arith in ap (slice_index row) e)),
+    )
+
+children-backed : (row : List ℕ) (node : Node) (amount : ℕ) → amount ≤ sum (child_losses row node) → AllByRecursion (λ part. part.amount ≤ slice_index row part.place) (parts_from node.start (share_out amount (child_losses row node)))
+children-backed row node amount few =
+    shares-backed row amount (sum (child_losses row node)) 0 node.start (child_losses row node) few
+    (λ j below. get_or-take node.width (drop node.start row) j 0 (inside j node.width (drop node.start row) below) ∙ get_or-drop node.start row j 0)
+  where
+    inside : (j n : ℕ) (xs : List ℕ) → j < length (take n xs) → j < n
+    inside j zero xs below = absurd (omega arith)
+    inside j (suc n) [] below = absurd (omega arith)
+    inside zero (suc n) (x ∷ xs) below = omega arith
+    inside (suc j) (suc n) (x ∷ xs) below = omega (arith, inside j n xs (omega arith))
+
+-- what is given is not above what the children carry
+pub given-backed : (nodes : List Node) (row : List ℕ) (parts : List PlacedPart) → AreBacked nodes row parts → AllByRecursion (λ part. part.amount ≤ slice_index row part.place) (flat_map (given_losses nodes row) parts)
+given-backed nodes row parts backed =
+    each_flat_map (λ part. part.amount ≤ sum (child_losses row (node_at nodes part.place))) (λ part. part.amount ≤ slice_index row part.place) (given_losses nodes row)
+    (λ part few. children-backed row (node_at nodes part.place) part.amount few) parts backed
+
+module _ (parts : Parts) (has : HasProgramme parts) (plain : HasPlainUnits parts) (losses : List ℕ) where
+  -- what a unit carries is not above what its children do
+  unit-le : (level : ℕ) → level < length parts.levels → (place : ℕ) → slice_index (losses_of (row_of parts losses (suc level))) place ≤ sum (child_losses (losses_of (row_of parts losses level)) (node_at (slice_index_or parts.levels level []) place))
+  unit-le level below place = by (cases_lt place (length nodes))
+    where
+      nodes : List Node
+      nodes = slice_index_or parts.levels level []
+
+      node : Node
+      node = node_at (slice_index_or parts.levels level []) place
+
+      before : List Carry
+      before = row_of parts losses level
+
+      past : {X : Type 0} (f : X → ℕ) (xs : List X) (at : ℕ) → length xs ≤ at → slice_index (map f xs) at ≡ 0
+      past f [] at most = refl
+      past f (x ∷ xs) zero most = absurd (omega arith)
+      past f (x ∷ xs) (suc at) most = past f xs at (omega arith)
+
+      at-of : {X : Type 0} (f : X → Carry) (xs : List X) (at : ℕ) (d : X) → at < length xs → slice_index (losses_of (map f xs)) at ≡ (f (slice_index_or xs at d)).loss
+      at-of f [] at d less = absurd (omega arith)
+      at-of f (x ∷ xs) zero d less = refl
+      at-of f (x ∷ xs) (suc at) d less = at-of f xs at d (omega arith)
+
+      long : {X : Type 0} (f : X → Carry) (xs : List X) → length (map f xs) ≡ length xs
+      long f [] = refl
+      long f (x ∷ xs) = ap suc (long f xs)
+
+      by : (place < length (slice_index_or parts.levels level [])) ⊎ (length (slice_index_or parts.levels level []) ≤ place) → slice_index (losses_of (map (node_carry (row_of parts losses level)) (slice_index_or parts.levels level []))) place ≤ sum (child_losses (losses_of (row_of parts losses level)) (node_at (slice_index_or parts.levels level []) place))
+      by (inr most) = omega (arith, past (λ (carry : Carry). carry.loss) (map (node_carry before) nodes) place (omega (arith, most, long (node_carry before) nodes)))
+      by (inl less) =
+          let right = has.is.nodes_are level (subst (λ n. level < n) has.is.levels_are below) place no_node less in
+          let profile : IsProfile node.profile = subst IsProfile (sym right.profile_is) (has.is.is.profiles (suc level) node.unit) in
+          let all = sum (child_losses (losses_of before) node) in
+          omega (arith, at-of (node_carry before) nodes place no_node less, node_carry-loss before node (plain level below place no_node less), loss_after-le node.profile (shares_of node.profile profile) node.tiv all)
+
+  -- so what is given to a level is backed there
+  pub next-backed : (level : ℕ) → suc level < length parts.levels → (amounts : List PlacedPart) → AllByRecursion (λ part. part.amount ≤ slice_index (losses_of (row_of parts losses (suc level))) part.place) amounts → AreBacked (slice_index_or parts.levels level []) (losses_of (row_of parts losses level)) amounts
+  next-backed level below [] all = tt
+  next-backed level below (part ∷ amounts) all = (omega (arith, all.0, unit-le level (omega arith) part.place), next-backed level below amounts all.1)

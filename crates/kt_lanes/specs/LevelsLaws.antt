@@ -1,0 +1,81 @@
+-- Laws of amounts that are given down by lanes, from a level to the next one below.
+-- The rule: docs/FINANCIAL_MODULE.md, "Allocation".
+use Rattle.std.specs.Prelude.{◌≡◌, ℕ, zero, suc, ◌+◌, ◌-◌, ◌<◌, ◌≤◌, ◌^◌, false, List, [], ◌∷◌, Vec, All, length, map, slice_index, slice_index_or}
+use Rattle.std.specs.List.{AllByRecursion, flat_map, sum}
+use Rattle.std.specs.declared.alloc.Global.{Global}
+use Rattle.std.proofs.Common.{refl, sym, ap, subst, ◌∙◌, arith}
+use Rattle.std.proofs.lemmas.List.{length-map}
+use Rattle.std.proofs.lemmas.List.FromFn.{get_or-map-range_with_len}
+use Rattle.kt_fmtree.specs.Carried.{row_from, row_of, leaf_row}
+use Rattle.kt_fmtree.specs.Parts.{Parts, HasProgramme, units_at}
+use Rattle.kt_fmtree.specs.declared.node.Node.{Node}
+use Rattle.kt_alloc.specs.DownLaws.{can-next, nodes-places, levels-next}
+use Rattle.kt_alloc.specs.Placed.{level_down, levels_down, node_at, CanShare}
+use Rattle.kt_alloc.specs.declared.part.PlacedPart.{PlacedPart}
+use Rattle.kt_lanes.specs.Lanes.{column, losses_of, CanTake, child_losses}
+use Rattle.kt_lanes.specs.Climbed.{IsClimbed, carried_at, level_lanes}
+use Rattle.kt_lanes.specs.ClimbedLaws.{can-take}
+use Rattle.kt_lanes.specs.Down.{AreBacked, ArePlaced, CanGive, given_losses, placed_at}
+use Rattle.kt_lanes.specs.DownLaws.{backed-down, given-backed, next-backed, places-all}
+use Rattle.kt_lanes.specs.PoliciesLaws.{carried}
+use Rattle.kt_lanes.specs.declared.climbing.Climbed.{Climbed}
+use Rattle.kt_lanes.specs.declared.down.PlacedLanes.{PlacedLanes}
+
+module _ (parts : Parts) (has : HasProgramme parts) (lanes : List (Vec ℕ Global)) (climbed : Climbed) (is_climbed : IsClimbed parts lanes climbed) where
+  -- what is carried at a level
+  pub row-at : (k level : ℕ) → level < length parts.levels → slice_index_or (carried_at parts lanes k).rows level [] ≡ row_of parts (column k lanes) level
+  row-at k level below = get_or-map-range_with_len (row_from parts.levels (leaf_row parts.leaves (column k lanes))) 0 (length parts.levels) level level [] below (omega arith)
+
+  module _ (level next : ℕ) (level_is : level ≡ suc next) (amounts : PlacedLanes) (placed : ArePlaced climbed.width amounts) (can : (k : ℕ) → k < climbed.width → CanGive parts (column k lanes) level (placed_at k amounts)) where
+    some : 0 < climbed.width
+    some = is_climbed.losses.some
+
+    within : level ≤ length parts.levels
+    within = (can 0 some).can.within
+
+    pub next-below : next < length parts.levels
+    next-below = omega (arith, within)
+
+    pub next-row : next < length climbed.rows.items
+    next-row = omega (arith, next-below, is_climbed.enough)
+
+    -- what the level below carries is not too much
+    pub next-takes : All (CanTake climbed.width (level_lanes climbed.rows.items next)) (slice_index_or parts.levels next [])
+    next-takes = can-take parts has climbed.width lanes is_climbed.losses next next-below (level_lanes climbed.rows.items next) (is_climbed.rows next next-below)
+
+    -- the places are those of nodes
+    pub next-places : All (λ place. place < length (slice_index_or parts.levels next [])) amounts.places.items
+    next-places =
+        places-all (λ place. place < length (slice_index_or parts.levels next [])) amounts.places.items (column 0 amounts.lanes.items) (placed.count_is ∙ sym (length-map amounts.lanes.items (λ (one : Vec ℕ Global). slice_index one.items 0)))
+        (nodes-places parts false level next level_is (placed_at 0 amounts) (can 0 some).can)
+
+    -- the amounts are backed by what the level below carries
+    pub next-backs : (k : ℕ) → k < climbed.width → AreBacked (slice_index_or parts.levels next []) (column k (level_lanes climbed.rows.items next)) (placed_at k amounts)
+    next-backs k less = subst (λ row. AreBacked (slice_index_or parts.levels next []) row (placed_at k amounts)) (sym ((is_climbed.rows next next-below).each k less)) ((can k less).backed next level_is)
+
+    module _ (given : PlacedLanes) (given_are : (k : ℕ) → k < climbed.width → placed_at k given ≡ flat_map (given_losses (slice_index_or parts.levels next []) (column k (level_lanes climbed.rows.items next))) (placed_at k amounts)) where
+      by-losses : (k : ℕ) → k < climbed.width → placed_at k given ≡ flat_map (given_losses (slice_index_or parts.levels next []) (losses_of (row_of parts (column k lanes) next))) (placed_at k amounts)
+      by-losses k less = given_are k less ∙ ap (λ row. flat_map (given_losses (slice_index_or parts.levels next []) row) (placed_at k amounts)) ((is_climbed.rows next next-below).each k less)
+
+      -- what is given is what the rows give
+      pub given-down : (k : ℕ) → k < climbed.width → placed_at k given ≡ level_down false (slice_index_or parts.levels next []) (slice_index_or (carried_at parts lanes k).rows next []) (placed_at k amounts)
+      given-down k less =
+          by-losses k less
+          ∙ (backed-down (slice_index_or parts.levels next []) (row_of parts (column k lanes) next) (placed_at k amounts) ((can k less).backed next level_is)
+          ∙ ap (λ row. level_down false (slice_index_or parts.levels next []) row (placed_at k amounts)) (sym (row-at k next next-below)))
+
+      -- it can be given on
+      pub gives-next : (k : ℕ) → k < climbed.width → CanGive parts (column k lanes) next (placed_at k given)
+      gives-next k less = record {
+        can = can-next parts (carried_at parts lanes k) (carried parts has lanes climbed is_climbed k less) false level next level_is (placed_at k amounts) (placed_at k given) (can k less).can (given-down k less);
+        backed = λ last is. by last is (subst (λ ps. AllByRecursion (λ part. part.amount ≤ slice_index (losses_of (row_of parts (column k lanes) next)) part.place) ps) (sym (by-losses k less)) (given-backed (slice_index_or parts.levels next []) (losses_of (row_of parts (column k lanes) next)) (placed_at k amounts) ((can k less).backed next level_is)));
+      }
+        where
+          by : (last : ℕ) → next ≡ suc last → AllByRecursion (λ part. part.amount ≤ slice_index (losses_of (row_of parts (column k lanes) next)) part.place) (placed_at k given) → AreBacked (slice_index_or parts.levels last []) (losses_of (row_of parts (column k lanes) last)) (placed_at k given)
+          by last is all =
+              next-backed parts has is_climbed.plain (column k lanes) last (subst (λ n. n < length parts.levels) is next-below) (placed_at k given)
+              (subst (λ n. AllByRecursion (λ part. part.amount ≤ slice_index (losses_of (row_of parts (column k lanes) n)) part.place) (placed_at k given)) is all)
+
+      -- and what is given then is given in all
+      pub given-on : (k : ℕ) → k < climbed.width → (last : List PlacedPart) → last ≡ levels_down false parts.levels (carried_at parts lanes k).rows next (placed_at k given) → last ≡ levels_down false parts.levels (carried_at parts lanes k).rows level (placed_at k amounts)
+      given-on k less last last_is = levels-next false parts.levels (carried_at parts lanes k).rows level next level_is (placed_at k amounts) (placed_at k given) last (given-down k less) last_is

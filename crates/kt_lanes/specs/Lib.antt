@@ -1,0 +1,12 @@
+pub mod Lanes
+pub mod LaneLaws
+pub mod Climbed
+pub mod ClimbedLaws
+pub mod Shares
+pub mod SharesLaws
+pub mod Down
+pub mod DownLaws
+pub mod ByIdLaws
+pub mod Policies
+pub mod PoliciesLaws
+pub mod LevelsLaws

@@ -1,0 +1,110 @@
+//! Amounts of units given down a programme by lanes, level by level.
+//! The rule: docs/FINANCIAL_MODULE.md, "Allocation".
+ghost use Rattle.std.specs.Prelude.{◌≡◌, ◌+◌, ◌≤◌, ◌<◌, ◌^◌, ◌++◌, ℕ, false, length, All, IfOk, OnOk, slice_index};
+ghost use Rattle.std.specs.List.{flat_map, range_with_len, sum};
+ghost use Rattle.kt_money.specs.Sharing.{share_out};
+ghost use Rattle.kt_alloc.specs.Placed.{levels_down, parts_from};
+ghost use Rattle.kt_lanes.specs.Lanes.{column, AreWide, CanTake, child_losses};
+ghost use Rattle.kt_lanes.specs.Climbed.{IsClimbed, carried_at};
+ghost use Rattle.kt_lanes.specs.Down.{AreBacked, ArePlaced, CanGive, given_losses, placed_at};
+
+use crate::climbing::{Climbed, lanes_at};
+use crate::shares::share_lanes;
+use kt_fmtree::{Node, Programme};
+use std::alloc::{AllocError, Global};
+
+/// Amounts of units in places of their level, a lane each.
+#[derive(Drop)]
+pub(crate) struct PlacedLanes {
+    /// The places of the units, in the order of the tree.
+    pub places: Vec<usize>,
+    /// Their amounts in cents, sidx by sidx.
+    pub lanes: Vec<Vec<u64>>,
+}
+
+/// Puts places side by side behind others.
+fn push_places(start: usize, width: usize, places: &mut Vec<usize>) -> Result<(), AllocError>
+    requires { start + width < 2 ^ 63 }
+    ensures value { OnOk result (places.new.items ≡ places.old.items ++ range_with_len start width) }
+{
+    for at in 0..width {
+        places.push(start + at)?;
+    }
+    Ok(())
+}
+
+/// Puts what a unit gives to its children behind what others gave.
+fn push_children(
+    alloc: Global,
+    node: &Node,
+    width: usize,
+    below: &[Vec<u64>],
+    totals: &[u64],
+    given: &mut PlacedLanes,
+) -> Result<(), AllocError>
+    requires can { CanTake width below.now node.now }
+    requires wide { AreWide width below.now }
+    requires totals { length totals.now ≡ width }
+    requires backed { (k : ℕ) → k < width → slice_index totals.now k ≤ sum (child_losses (column k below.now) node.now) }
+    requires given { ArePlaced width given.old }
+    ensures given { OnOk result (ArePlaced width given.new) }
+    ensures value { OnOk result ((k : ℕ) → k < width → placed_at k given.new ≡ placed_at k given.old ++ parts_from node.now.start (share_out (slice_index totals.now k) (child_losses (column k below.now) node.now))) }
+{
+    let children = &below[node.start..node.start + node.width];
+    let mut shares = share_lanes(alloc, width, totals, children)?;
+    push_places(node.start, node.width, &mut given.places)?;
+    given.lanes.append(&mut shares)?;
+    Ok(())
+}
+
+/// What amounts of the units of a level give to those of the level below. An error is want of memory.
+fn level_down(
+    alloc: Global,
+    nodes: &[Node],
+    width: usize,
+    below: &[Vec<u64>],
+    parts: &PlacedLanes,
+) -> Result<PlacedLanes, AllocError>
+    requires can { All (CanTake width below.now) nodes.now }
+    requires wide { AreWide width below.now }
+    requires parts { ArePlaced width parts.now }
+    requires places { All (λ place. place < length nodes.now) parts.now.places.items }
+    requires backed { (k : ℕ) → k < width → AreBacked nodes.now (column k below.now) (placed_at k parts.now) }
+    ensures given { IfOk result (ArePlaced width) }
+    ensures value { IfOk result (λ given. (k : ℕ) → k < width → placed_at k given ≡ flat_map (given_losses nodes.now (column k below.now)) (placed_at k parts.now)) }
+{
+    let mut given = PlacedLanes {
+        places: Vec::new(alloc),
+        lanes: Vec::new(alloc),
+    };
+    for (at, place) in parts.places.iter().enumerate() {
+        push_children(alloc, &nodes[*place], width, below, &parts.lanes[at], &mut given)?;
+    }
+    Ok(given)
+}
+
+/// What amounts of the units of a level give to the ids beneath them. An error is want of memory.
+pub(crate) fn lanes_down(
+    alloc: Global,
+    programme: &Programme,
+    lanes: &[Vec<u64>],
+    climbed: &Climbed,
+    level: usize,
+    parts: PlacedLanes,
+) -> Result<PlacedLanes, AllocError>
+    requires climbed { IsClimbed programme.now lanes.now climbed.now }
+    requires parts { ArePlaced climbed.now.width parts }
+    requires can { (k : ℕ) → k < climbed.now.width → CanGive programme.now (column k lanes.now) level (placed_at k parts) }
+    ensures parts { IfOk result (ArePlaced climbed.now.width) }
+    ensures value { IfOk result (λ given. (k : ℕ) → k < climbed.now.width → placed_at k given ≡ levels_down false programme.now.levels (carried_at programme.now lanes.now k).rows level (placed_at k parts)) }
+{
+    if level == 0 {
+        return Ok(parts);
+    }
+    programme.is_of_a_tree();
+    let next = level - 1;
+    let below = lanes_at(&climbed.rows, next);
+    let given = level_down(alloc, programme.nodes_above(next), climbed.width, below, &parts)?;
+    let last = lanes_down(alloc, programme, lanes, climbed, next, given)?;
+    Ok(last)
+}
