@@ -4,15 +4,18 @@ use Rattle.std.proofs.lemmas.Nat.{mul-le}
 use Rattle.std.proofs.lemmas.Bool.{cases_lt}
 use Rattle.std.proofs.lemmas.List.{get_or_default, get_or_push}
 use Rattle.std.proofs.Math.ListN.{get_or-append}
-use Rattle.std.proofs.Math.Nat.{add-mul, mul-add, mul_assoc, add-mul-div_right, div-div-eq-div-mul, div-eq_of_lt-le, div-mul-le_self, lt-div-mul-add, le_of_mul-le-mul_right}
+use Rattle.std.proofs.Math.Nat.{add-mul, mul-add, mul_assoc, add-mul-div_right, div-div-eq-div-mul, div-eq_of_lt-le, div-lt_iff_lt-mul, div-mul-le_self, lt-div-mul-add, le_of_mul-le-mul_right}
 use Rattle.kt_money.specs.Rounding.{half_up, ppm_part}
 use Rattle.kt_rec.specs.declared.hazard.DamageBin.{DamageBin}
 use Rattle.kt_stream.specs.Bins.{AreBins}
 use Rattle.kt_stream.specs.declared.entry.Bin.{Bin}
 use Rattle.kt_stream.specs.declared.entry.Cdf.{Cdf}
+use Rattle.kt_gul.specs.declared.moments.DamageMoments.{DamageMoments}
 use Rattle.kt_gul.specs.declared.steps.Step.{Step}
 use Rattle.kt_gul.specs.declared.tables.StepTable.{StepTable}
 use Rattle.kt_gul.specs.SampledLoss.{loss_in_bin, sampled_loss}
+use Rattle.kt_gul.specs.ItemLosses.{AreMoments}
+use Rattle.kt_gul.specs.ItemMoments.{means_behind, damage_deviation}
 use Rattle.kt_gul.specs.Sampled.{CanSample, IsLine, end_before, damage_before}
 use Rattle.kt_gul.specs.Steps.{IsStep, IsBinStep, AreSteps, AreTables}
 use Rattle.kt_gul.proofs.SampleLemmas.{bins_rise, bin_within, damage_within, loss_behind-at, loss_behind-past}
@@ -28,6 +31,15 @@ less_by a b n less = by (cases_lt a b)
     by : (a < b) ⊎ (b ≤ a) → a < b
     by (inl is) = is
     by (inr above) = absurd (omega (arith, less, mul-le b n a n above (omega arith)))
+
+-- a part of at most one and a half has 128 bits
+pub scaled_fits : (part whole high rest low : ℕ) → 0 < whole → 2 * part ≤ 3 * whole → high ≡ part * 18446744073709551616 / whole → rest ≡ (part * 18446744073709551616 - high * whole) * 9223372036854775808 + (whole - 1) → low ≡ rest / whole → high * 9223372036854775808 + low < 2 ^ 128
+scaled_fits part whole high rest low some within high_is rest_is low_is =
+    let first = quotient_at _ whole high some high_is in
+    let second = quotient_at rest whole low some low_is in
+    let few : high < 27670116110564327425 = less_by high 27670116110564327425 whole (omega (arith, first)) in
+    let small : low < 9223372036854775809 = less_by low 9223372036854775809 whole (omega (arith, first, second, rest_is)) in
+    omega arith
 
 -- a part of a whole, rounded up
 pub scaled_is : (part whole high rest low result : ℕ) → 0 < whole → high ≡ part * 18446744073709551616 / whole → rest ≡ (part * 18446744073709551616 - high * whole) * 9223372036854775808 + (whole - 1) → low ≡ rest / whole → result ≡ high * 9223372036854775808 + low → (part * 2 ^ 127 ≤ result * whole) × (result * whole < part * 2 ^ 127 + whole)
@@ -90,18 +102,57 @@ flat_is tiv high least over value low most =
     rounded_up tiv high 1000000 least extra (omega arith) (omega (arith, low)) (omega (arith, mul-le tiv extra 100000000000000 1000000 value (omega (arith, most)))) ∙ ap (λ least. (tiv * least + 2 ^ 126) / 2 ^ 127) same
 
 -- a product with a number of two words, word by word
-pub words_of : (tiv damage : ℕ) → (tiv * (damage / 18446744073709551616) + tiv * (damage % 18446744073709551616) / 18446744073709551616 + 4611686018427387904) / 9223372036854775808 ≡ (tiv * damage + 2 ^ 126) / 2 ^ 127
-words_of tiv damage =
+pub words_of : (tiv damage half : ℕ) → (tiv * (damage / 18446744073709551616) + tiv * (damage % 18446744073709551616) / 18446744073709551616 + half) / 9223372036854775808 ≡ (tiv * damage + half * 18446744073709551616) / 2 ^ 127
+words_of tiv damage half =
     let high : ℕ = damage / 18446744073709551616 in
     let low : ℕ = damage % 18446744073709551616 in
     let parts : damage ≡ high * 18446744073709551616 + low = omega arith in
     let product : tiv * damage ≡ tiv * low + tiv * high * 18446744073709551616 = ap (λ n. tiv * n) parts ∙ spread tiv high low in
-    let sum : tiv * damage + 2 ^ 126 ≡ tiv * low + (tiv * high + 4611686018427387904) * 18446744073709551616 = omega (arith, product, add-mul (tiv * high) 4611686018427387904 18446744073709551616) in
-    let front : (tiv * damage + 2 ^ 126) / 18446744073709551616 ≡ tiv * low / 18446744073709551616 + (tiv * high + 4611686018427387904) = ap (λ n. n / 18446744073709551616) sum ∙ add-mul-div_right (tiv * low) (tiv * high + 4611686018427387904) {z = 18446744073709551616} (omega arith) in
-    ap (λ n. n / 9223372036854775808) (omega (arith, front)) ∙ div-div-eq-div-mul (tiv * damage + 2 ^ 126) 18446744073709551616 9223372036854775808
+    let sum : tiv * damage + half * 18446744073709551616 ≡ tiv * low + (tiv * high + half) * 18446744073709551616 = omega (arith, product, add-mul (tiv * high) half 18446744073709551616) in
+    let front : (tiv * damage + half * 18446744073709551616) / 18446744073709551616 ≡ tiv * low / 18446744073709551616 + (tiv * high + half) = ap (λ n. n / 18446744073709551616) sum ∙ add-mul-div_right (tiv * low) (tiv * high + half) {z = 18446744073709551616} (omega arith) in
+    ap (λ n. n / 9223372036854775808) (omega (arith, front)) ∙ div-div-eq-div-mul (tiv * damage + half * 18446744073709551616) 18446744073709551616 9223372036854775808
   where
     spread : (a b c : ℕ) → a * (b * 18446744073709551616 + c) ≡ a * c + a * b * 18446744073709551616
     spread a b c = simp mul-add (grind arith)
+
+-- a part that is rounded up by little is the same, rounded down
+pub rounded_down : (tiv damage unit fraction extra : ℕ) → 0 < unit → fraction * unit ≡ damage * 2 ^ 127 + extra → tiv * extra < 2 ^ 127 → tiv * fraction / 2 ^ 127 ≡ tiv * damage / unit
+rounded_down tiv damage unit fraction extra some is little =
+    let q : ℕ = tiv * damage / unit in
+    let at = quotient_at (tiv * damage) unit q some refl in
+    let whole : tiv * fraction * unit ≡ tiv * damage * 2 ^ 127 + tiv * extra = mul_assoc tiv fraction unit ∙ (ap (λ x. tiv * x) is ∙ spread tiv damage extra) in
+    let low : q * 2 ^ 127 ≤ tiv * fraction = le_of_mul-le-mul_right {k = unit} (omega (arith, at, whole, left q unit)) some in
+    let high : tiv * fraction < (q + 1) * 2 ^ 127 = less_by _ _ unit (omega (arith, at, whole, above q unit)) in
+    div-eq_of_lt-le (2 ^ 127) low high
+  where
+    spread : (a b c : ℕ) → a * (b * 2 ^ 127 + c) ≡ a * b * 2 ^ 127 + a * c
+    spread a b c = simp mul-add (grind arith)
+
+    left : (q unit : ℕ) → q * 2 ^ 127 * unit ≡ q * unit * 2 ^ 127
+    left q unit = grind arith
+
+    above : (q unit : ℕ) → (q + 1) * 2 ^ 127 * unit ≡ q * unit * 2 ^ 127 + unit * 2 ^ 127
+    above q unit = simp add-mul (grind arith)
+
+-- the moments of a damage in units of 2^-127, rounded up
+pub moments_are : (bins : List Bin) (mean deviation : ℕ) (moments : DamageMoments) → mean ≡ means_behind 0 bins → deviation ≡ damage_deviation bins → deviation ≤ 1002001000000000000 → mean * 2 ^ 127 ≤ moments.mean * 1000000000000000000 → moments.mean * 1000000000000000000 < mean * 2 ^ 127 + 1000000000000000000 → deviation * 2 ^ 127 ≤ moments.deviation * 1000000000000000000 → moments.deviation * 1000000000000000000 < deviation * 2 ^ 127 + 1000000000000000000 → AreMoments bins moments
+moments_are bins mean deviation moments mean_is deviation_is few mean_least mean_most deviation_least deviation_most = record {
+  mean_is = λ tiv value.
+      let extra : ℕ = moments.mean * 1000000000000000000 - mean * 2 ^ 127 in
+      sym (rounded_up tiv mean 1000000000000000000 moments.mean extra (omega arith) (omega (arith, mean_least)) (omega (arith, mul-le tiv extra 100000000000000 1000000000000000000 value (omega (arith, mean_most))))) ∙ ap (λ mean. half_up (tiv * mean) 1000000000000000000) mean_is;
+  deviation_is = λ tiv value.
+      let extra : ℕ = moments.deviation * 1000000000000000000 - deviation * 2 ^ 127 in
+      rounded_down tiv deviation 1000000000000000000 moments.deviation extra (omega arith) (omega (arith, deviation_least)) (omega (arith, mul-le tiv extra 100000000000000 1000000000000000000 value (omega (arith, deviation_most)))) ∙ ap (λ deviation. tiv * deviation / 1000000000000000000) deviation_is;
+  few = omega (arith, deviation_is, few);
+}
+
+-- a deviation of a loss is a little above the insured value at the most
+pub deviation_few : (tiv deviation : ℕ) → tiv ≤ 10 ^ 14 → deviation ≤ 1002001000000000000 → tiv * deviation / 10 ^ 18 ≤ 100200100000000
+deviation_few tiv deviation value few =
+    let product = mul-le tiv deviation 100000000000000 1002001000000000000 value few in
+    let up = (div-lt_iff_lt-mul {k = 10 ^ 18} {x = tiv * deviation} {y = 100200100000001} (omega arith)).1 in
+    let below = up (omega arith) in
+    omega arith
 
 -- no damage of a step passes the whole by so much that it has more than 128 bits
 pub line_fits : (base slope unit least rise span : ℕ) → 0 < unit → base + slope * span ≤ unit → least * unit < base * 2 ^ 127 + unit → rise * span * unit ≤ slope * span * 2 ^ 127 + 839999 * unit → least + rise * span < 2 ^ 128

@@ -23,6 +23,9 @@ use kt_stream::{Cdf, LossRecord, Records};
 use kt_tables::Portfolio;
 use std::alloc::{AllocError, Global};
 
+/// Room for so many losses: with a list of a mebibyte the allocator keeps what an event gives back for the next one.
+const ROOM: usize = 131_072;
+
 /// The place behind the items of a coverage, the first of which stands at `start`.
 fn group_end(struck: &[StruckItem], start: usize, coverage: u32) -> usize
     requires within { start < length struck.now }
@@ -62,7 +65,8 @@ fn records_of(
 {
     portfolio.is_valid();
     let mut records = Vec::new(draw.alloc);
-    let mut losses = Vec::new(draw.alloc);
+    let list = Vec::with_capacity(draw.alloc, ROOM)?;
+    let mut losses = list;
     let mut start = 0;
     while start < struck.len() {
         let coverage = struck[start].item.coverage_id;

@@ -29,6 +29,7 @@ fn numbers_of(portfolio: &Portfolio) -> &[Random]
 }
 
 /// Appends the losses of a struck item by its distribution, in the order of their sidx.
+#[inline(never)]
 pub(crate) fn item_losses(
     portfolio: &Portfolio,
     draw: Draw,
@@ -52,12 +53,12 @@ pub(crate) fn item_losses(
     let steps = sampler.steps.as_slice();
     let mut losses = losses;
     losses.reserve(draw.samples as usize + 2)?;
-    losses.push(struck.moments.loss_deviation(tiv))?;
-    losses.push(struck.moments.mean_loss(tiv))?;
+    losses.push_reserved(struck.moments.loss_deviation(tiv));
+    losses.push_reserved(struck.moments.mean_loss(tiv));
     let mut place = first_place(numbers.len() as u64, draw.event, struck.item.group_id);
     for _sample in 0..draw.samples {
         let random = random_at(numbers, place);
-        losses.push(loss_at(tiv, dictionary, bins, places, steps, random))?;
+        losses.push_reserved(loss_at(tiv, dictionary, bins, places, steps, random));
         place = next_place(numbers.len() as u64, place);
     }
     Ok(losses)

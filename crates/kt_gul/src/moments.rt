@@ -1,19 +1,31 @@
 //! The mean and the deviation of the damage of a distribution, and of the loss of an insured value by it.
 //! The rule: docs/CALCULATION.md, "Mean and deviation of an item".
 ghost use Rattle.std.specs.Prelude.{◌≡◌, ◌≤◌, ◌-◌, ◌*◌, ◌/◌, ◌^◌, min};
-ghost use Rattle.kt_money.specs.Rounding.{half_up, root};
+ghost use Rattle.kt_money.specs.Rounding.{root};
+ghost use Rattle.kt_gul.specs.ItemLosses.{AreMoments};
 ghost use Rattle.kt_gul.specs.ItemMoments.{means_behind, damage_deviation};
+ghost use Rattle.kt_gul.specs.Steps.{line_loss};
 ghost use Rattle.kt_stream.specs.Bins.{AreBins};
 
-use kt_money::{div_half_up, isqrt};
+use crate::steps::{line_loss, line_part, scaled};
+use kt_money::isqrt;
 use kt_stream::Bin;
 
 /// 10^18, the whole in the units of a damage: the products of a probability and parts per million.
-const WHOLE: u128 = 1_000_000_000_000_000_000;
+const WHOLE: u64 = 1_000_000_000_000_000_000;
+
+/// The mean and the deviation of a damage, in units of 2^-127 of the insured value, rounded up.
+#[derive(Clone, Copy)]
+pub struct DamageMoments {
+    /// The mean.
+    pub(crate) mean: u128,
+    /// The standard deviation.
+    pub(crate) deviation: u128,
+}
 
 /// The mean and the deviation of a damage, in units of 10^-18 of the insured value.
 #[derive(Clone, Copy)]
-pub struct DamageMoments {
+pub struct WholeMoments {
     /// The mean.
     pub(crate) mean: u64,
     /// The standard deviation, rounded down.
@@ -21,7 +33,7 @@ pub struct DamageMoments {
 }
 
 /// The mean and the deviation of the damage of a distribution.
-pub(crate) fn damage_moments(bins: &[Bin]) -> DamageMoments
+fn whole_moments(bins: &[Bin]) -> WholeMoments
     requires { AreBins 0 bins.now }
     ensures mean { result.mean ≡ means_behind 0 bins.now }
     ensures deviation { result.deviation ≡ damage_deviation bins.now }
@@ -37,7 +49,7 @@ pub(crate) fn damage_moments(bins: &[Bin]) -> DamageMoments
         squares += u128::from(part) * u128::from(bin.mean);
         before = bin.prob_to;
     }
-    DamageMoments {
+    WholeMoments {
         mean: means,
         deviation: deviation(means, squares),
     }
@@ -54,24 +66,33 @@ fn deviation(means: u64, squares: u128) -> u64
     isqrt((squares * 1_000_000_000_000).saturating_sub(square))
 }
 
+/// The mean and the deviation of the damage of a distribution, ready for insured values.
+pub(crate) fn damage_moments(bins: &[Bin]) -> DamageMoments
+    requires { AreBins 0 bins.now }
+    ensures value { AreMoments bins.now result }
+{
+    let moments = whole_moments(bins);
+    DamageMoments {
+        mean: scaled(moments.mean, WHOLE),
+        deviation: scaled(moments.deviation, WHOLE),
+    }
+}
+
 impl DamageMoments {
     /// The mean loss of an insured value.
     pub(crate) fn mean_loss(&self, tiv: u64) -> u64
         requires value { tiv ≤ 10 ^ 14 }
-        requires mean { self.now.mean ≤ 1002001000000000000 }
-        ensures value { result ≡ min tiv (half_up (tiv * self.now.mean) (10 ^ 18)) }
+        ensures value { result ≡ min tiv (line_loss tiv self.now.mean) }
         ensures most { result ≤ tiv }
     {
-        tiv.min(div_half_up(u128::from(tiv) * u128::from(self.mean), WHOLE) as u64)
+        tiv.min(line_loss(tiv, self.mean))
     }
 
     /// The standard deviation of the loss of an insured value.
     pub(crate) fn loss_deviation(&self, tiv: u64) -> u64
         requires value { tiv ≤ 10 ^ 14 }
-        requires deviation { self.now.deviation ≤ 1002001000000000000 }
-        ensures value { result ≡ tiv * self.now.deviation / 10 ^ 18 }
-        ensures most { result ≤ 100200100000000 }
+        ensures value { result ≡ tiv * self.now.deviation / 2 ^ 127 }
     {
-        (u128::from(tiv) * u128::from(self.deviation) / WHOLE) as u64
+        line_part(tiv, self.deviation)
     }
 }

@@ -47,6 +47,7 @@ fn one_if(loss: u64) -> usize
 }
 
 /// The pairs of losses.
+#[inline(never)]
 pub(crate) fn plain_pairs(
     alloc: Global,
     losses: &[u64],
@@ -69,6 +70,7 @@ pub(crate) fn plain_pairs(
 
 /// The pairs of losses with the cut or without it, where `totals` are those of the coverage and `before` those of its items
 /// with lower ids.
+#[inline(never)]
 pub(crate) fn cut_pairs(
     draw: Draw,
     tiv: u64,

@@ -1,6 +1,6 @@
 //! The steps of a distribution: the random numbers that fall into one bin, and the losses at them by one line of damages.
 //! The rule: docs/CALCULATION.md, "Sampled loss".
-ghost use Rattle.std.specs.Prelude.{◌≡◌, ℕ, ◌+◌, ◌-◌, ◌*◌, ◌<◌, ◌≤◌, ◌^◌, max, IfSome};
+ghost use Rattle.std.specs.Prelude.{◌≡◌, ℕ, ◌+◌, ◌-◌, ◌*◌, ◌/◌, ◌<◌, ◌≤◌, ◌^◌, max, IfSome};
 ghost use Rattle.kt_gul.specs.Sampled.{IsLine};
 ghost use Rattle.kt_gul.specs.Steps.{line_loss, IsStep, IsBinStep};
 ghost use Rattle.kt_money.specs.Rounding.{ppm_part};
@@ -39,18 +39,36 @@ impl Step {
         requires fits { self.now.least + self.now.rise * self.now.span < 2 ^ 128 }
         ensures value { result ≡ line_loss tiv (self.now.least + self.now.rise * over) }
     {
-        let damage = self.least + self.rise * u128::from(over);
-        let value = u128::from(tiv);
-        let low = value * (damage % WORD) / WORD;
-        ((value * (damage / WORD) + low + WORD / 4) / (WORD / 2)) as u64
+        line_loss(tiv, self.least + self.rise * u128::from(over))
     }
 }
 
-/// A part of a whole in units of 2^-127, rounded up.
-fn scaled(part: u64, whole: u64) -> u128
+/// The loss of an insured value by a damage in units of 2^-127, to the nearest whole, halves up.
+#[inline]
+pub(crate) fn line_loss(tiv: u64, damage: u128) -> u64
+    requires value { tiv ≤ 10 ^ 14 }
+    ensures value { result ≡ line_loss tiv damage }
+{
+    let value = u128::from(tiv);
+    let low = value * (damage % WORD) / WORD;
+    ((value * (damage / WORD) + low + WORD / 4) / (WORD / 2)) as u64
+}
+
+/// The part of an insured value by a part in units of 2^-127, rounded down.
+pub(crate) fn line_part(tiv: u64, part: u128) -> u64
+    requires value { tiv ≤ 10 ^ 14 }
+    ensures value { result ≡ tiv * part / 2 ^ 127 }
+{
+    let value = u128::from(tiv);
+    let low = value * (part % WORD) / WORD;
+    ((value * (part / WORD) + low) / (WORD / 2)) as u64
+}
+
+/// A part of a whole in units of 2^-127, rounded up. It may pass the whole by a half.
+pub(crate) fn scaled(part: u64, whole: u64) -> u128
     requires some { 0 < whole }
     requires few { whole < 2 ^ 62 }
-    requires within { part ≤ whole }
+    requires within { 2 * part ≤ 3 * whole }
     ensures least { part * 2 ^ 127 ≤ result * whole }
     ensures most { result * whole < part * 2 ^ 127 + whole }
 {

@@ -29,10 +29,9 @@ pub(crate) fn passes(asked: bool, sums: &[u64], value: u64) -> bool
     if !asked {
         return false;
     }
+    let mut highest = 0;
     for sum in sums {
-        if *sum > value {
-            return true;
-        }
+        highest = highest.max(*sum);
     }
-    false
+    highest > value
 }

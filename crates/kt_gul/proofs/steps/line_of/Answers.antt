@@ -7,7 +7,7 @@ pub scaled-requires-clause-within : goal.scaled-requires-clause-within
 scaled-requires-clause-within c =
     let below = c.requires.below in
     let within = damage_within c.args.low c.args.high (c.args.upto - c.args.before) (1000000 * c.args.first - c.args.before) c.requires.least c.requires.most (omega arith) in
-    rw (c.from.ensures, c.from-2.ensures, c.from-rate.ensures, c.saturating_sub.ensures) within
+    rw (c.from.ensures, c.from-2.ensures, c.from-rate.ensures, c.saturating_sub.ensures) (omega (arith, within))
 
 pub returns : goal.returns
 returns c = record {

@@ -13,7 +13,7 @@ loop-place-init c = subst (λ (struck : List StruckItem). AreStruck c.args.portf
 pub loop-place-preserved : goal.loop-place-preserved
 loop-place-preserved c =
     let moments = c.damage_moments-moments in
-    let bins_moments : AreMoments c.as_slice.result.now moments.result = record { mean_is = moments.ensures.mean; deviation_is = moments.ensures.deviation; mean_within = moments.ensures.most_mean; deviation_within = moments.ensures.most_deviation } in
+    let bins_moments : AreMoments c.as_slice.result.now moments.result = moments.ensures.value in
     struck_more c.args.portfolio.now.rows c.args.cdfs.now c.loop-place.place c.index-cdfs-place.result c.is_valid.ensures.valid.in_range c.requires c.loop-place-test.true c.index-cdfs-place.is moments.result _ _
     (subst (λ (bins : List Bin). AreMoments bins moments.result) c.as_slice.ensures.value bins_moments)
     c.loop-place.invariant
