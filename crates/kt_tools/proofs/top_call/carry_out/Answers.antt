@@ -1,7 +1,9 @@
 use Rattle.std.proofs.Common.{◌∙◌, ap, refl, sym, subst}
 use Rattle.kt_ends.specs.Report.{AnswersWords}
 use Rattle.kt_ends.specs.declared.status.Status.TheVariants as status
-use Rattle.kt_tools.specs.Due.{InOrder}
+use Rattle.kt_ends.specs.World.{world}
+use Rattle.kt_tools.proofs.DueLemmas.{command_first, words_first}
+use Rattle.kt_words.specs.Command.{command_of}
 use Rattle.kt_tools.proofs.Running.{answers_command, by_command, by_words, command_is}
 use Rattle.kt_tools.proofs.top_call.carry_out.Goals as goal
 
@@ -21,7 +23,14 @@ pub returns-in-Err-clause-words : goal.returns-in-Err-clause-words
 returns-in-Err-clause-words g c = subst (λ read. AnswersWords read (status.Words c.in-Err.stop)) (sym (sym c.read_command.ensures.value ∙ c.in-Err.is)) refl
 
 pub returns-in-Ok-clause-due : goal.returns-in-Ok-clause-due
-returns-in-Ok-clause-due g c = subst (λ read. InOrder read _ _) (sym (sym c.read_command.ensures.value ∙ c.in-Ok.is)) c.run_command.ensures.due
+returns-in-Ok-clause-due g c =
+    command_first (command_of c.args.words.now) c.in-Ok.command
+    (world (g.I.Inputs.state c.args.inputs.now) (g.O.Outputs.state c.args.outputs.now) (g.S.Source.state c.args.source.now) (g.K.Sink.state c.args.sink.now))
+    (world (g.I.Inputs.state c.run_command.new.inputs) (g.O.Outputs.state c.run_command.new.outputs) (g.S.Source.state c.run_command.new.source) (g.K.Sink.state c.run_command.new.sink))
+    (sym c.read_command.ensures.value ∙ c.in-Ok.is) c.run_command.ensures.due
 
 pub returns-in-Err-clause-due : goal.returns-in-Err-clause-due
-returns-in-Err-clause-due g c = subst (λ read. InOrder read _ _) (sym (sym c.read_command.ensures.value ∙ c.in-Err.is)) (record { outputs = refl; source = refl; sink = refl })
+returns-in-Err-clause-due g c =
+    words_first (command_of c.args.words.now) c.in-Err.stop
+    (world (g.I.Inputs.state c.args.inputs.now) (g.O.Outputs.state c.args.outputs.now) (g.S.Source.state c.args.source.now) (g.K.Sink.state c.args.sink.now))
+    (sym c.read_command.ensures.value ∙ c.in-Err.is)

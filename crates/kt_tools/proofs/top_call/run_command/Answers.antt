@@ -28,7 +28,7 @@ pub returns-in-Kat-clause-due : goal.returns-in-Kat-clause-due
 returns-in-Kat-clause-due g c = no_tables c.args.command Kat c.in-Kat.is refl _ _
 
 pub returns-in-Convert-clause-due : goal.returns-in-Convert-clause-due
-returns-in-Convert-clause-due g c = no_tables c.args.command (Convert c.in-Convert.field-0) c.in-Convert.is refl _ _
+returns-in-Convert-clause-due g c = no_tables c.args.command (Convert c.in-Convert.conversion) c.in-Convert.is refl _ _
 
 pub returns-in-Gen-clause-due : goal.returns-in-Gen-clause-due
 returns-in-Gen-clause-due g c = no_tables c.args.command (Gen c.in-Gen.seed c.in-Gen.items c.in-Gen.events c.in-Gen.workers) c.in-Gen.is refl _ _
