@@ -4,3 +4,4 @@ pub mod ExposureLemmas
 pub mod DamageLemmas
 pub mod SummaryLemmas
 pub mod KeptLemmas
+pub mod SummaryKeyLemmas

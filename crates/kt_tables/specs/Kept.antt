@@ -25,12 +25,21 @@ use Rattle.kt_tables.specs.declared.lookups.periods.PeriodLookups.{PeriodLookups
 use Rattle.kt_tables.specs.declared.lookups.summaries.SummaryLookups.{SummaryLookups}
 use Rattle.kt_index.specs.declared.exposure.SummaryUnit.{SummaryUnit}
 use Rattle.kt_tables.specs.declared.summaries.Summaries.{Summaries}
+use Rattle.kt_tables.specs.declared.summaries.UnitSummary.{UnitSummary}
 use Rattle.kt_tables.specs.declared.portfolio.Portfolio.TheInside.{Inside}
+
+-- the summary of a unit in a set, by a row
+abbrev pub unit_summary : SummaryUnit → UnitSummary
+unit_summary row = record { set = row.set; unit = row.unit; summary = row.summary }
+
+-- the key of such a summary: its set, and then its unit
+abbrev pub unit_key : UnitSummary → ℕ
+unit_key row = row.set * 2 ^ 32 + row.unit
 
 -- the summaries of ids are those of their rows
 pub record AreSummaries (rows : List SummaryUnit) (summaries : Summaries) : Type 0 where
   pub sets : (set : ℕ) → contains nat_eq summaries.sets set ≡ list_any (nat_eq set) (map (λ row. row.set) rows)
-  pub by_id : (key : ℕ × ℕ) → get same_pair summaries.by_id key ≡ lookup (same_pair key) (map (λ row. ((row.unit, row.set), row.summary)) rows)
+  pub by_id : (key : ℕ) → filter (λ row. nat_eq (unit_key row) key) summaries.by_id ≡ filter (λ row. nat_eq (unit_key row) key) (map unit_summary rows)
 
 -- the insured value of each coverage is that of its first row
 abbrev pub AreTivs : {S : Type 0} → Rows → HashMap ℕ ℕ S → Type 0

@@ -2,6 +2,7 @@
 ghost use Rattle.std.specs.Prelude.{◌≡◌, map, IfOk};
 
 use crate::place::Place;
+use crate::summaries::UnitSummary;
 use kt_index::{SummaryUnit, UnitCoverage};
 use kt_rec::{FmSummaryXref, FmXref, FootprintIdx, GulSummaryXref, Item};
 use std::alloc::{AllocError, Global};
@@ -96,11 +97,15 @@ impl Part<u32> for SummaryUnit {
     }
 }
 
-/// The unit of a summary with its set, and the summary.
-impl Part<((u32, u32), u32)> for SummaryUnit {
-    ghost part_of = { λ row. ((row.unit, row.set), row.summary) };
+/// The summary of a unit in a set.
+impl Part<UnitSummary> for SummaryUnit {
+    ghost part_of = { λ row. record { set = row.set; unit = row.unit; summary = row.summary } };
 
-    fn part(&self) -> ((u32, u32), u32) {
-        ((self.unit, self.set), self.summary)
+    fn part(&self) -> UnitSummary {
+        UnitSummary {
+            set: self.set,
+            unit: self.unit,
+            summary: self.summary,
+        }
     }
 }

@@ -14,7 +14,7 @@ ghost use Rattle.kt_tables.specs.Lookups.{damages_at, item_pairs, items_with, pa
 
 use crate::place::Place;
 use crate::portfolio::Portfolio;
-use crate::summaries::Summaries;
+use crate::summaries::{Summaries, first_summary};
 use kt_index::{pair_key, rows_between, rows_of};
 use kt_rec::{DamageBin, Item, Occurrence, Perspective, Vulnerability};
 use std::collections::HashMap;
@@ -166,8 +166,9 @@ impl Portfolio {
     pub fn summary_of(&self, perspective: Perspective, set: u32, id: u32) -> Option<u32>
         ensures value { result ≡ summary_in perspective self.now.rows set id }
     {
+        self.is_valid();
         let summaries = self.summaries(perspective);
-        summaries.by_id.get(&(id, set)).copied()
+        first_summary(summaries.by_id.of(pair_key(set, id)))
     }
 
     /// The exposure of a summary of a set in cents: the insured values of the distinct coverages of all items, or outputs,

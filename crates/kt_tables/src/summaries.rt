@@ -1,20 +1,46 @@
 //! The summaries of items or of outputs, by set and id, with their exposures.
-ghost use Rattle.std.specs.Prelude.{◌≡◌, IfOk};
+ghost use Rattle.std.specs.Prelude.{◌≡◌, IfOk, option_map, slice_get};
 ghost use Rattle.kt_tables.specs.Kept.{AreSummaries};
 
 use crate::columns::parts_of;
-use kt_index::SummaryUnit;
-use kt_keys::{pair_values, set_of};
+use kt_index::{ByKey, Keyed, SummaryUnit, pair_key};
+use kt_keys::set_of;
 use std::alloc::{AllocError, Global};
 use std::collections::{HashMap, HashSet};
+
+/// The summary that a unit has in a set.
+#[derive(Clone, Copy, Drop)]
+pub(crate) struct UnitSummary {
+    pub(crate) set: u32,
+    pub(crate) unit: u32,
+    pub(crate) summary: u32,
+}
+
+impl Keyed for UnitSummary {
+    ghost use Rattle.std.specs.Prelude.{◌*◌, ◌+◌, ◌^◌};
+
+    ghost key_of = { λ row. row.set * 2 ^ 32 + row.unit };
+
+    fn key(&self) -> u64 {
+        pair_key(self.set, self.unit)
+    }
+}
+
+/// The summary of the first row, where there is one.
+pub(crate) fn first_summary(rows: &[UnitSummary]) -> Option<u32>
+    ensures value { result ≡ option_map (λ row. row.summary) (slice_get rows.now 0) }
+{
+    let row = rows.first()?;
+    Some(row.summary)
+}
 
 /// The summaries of items or of outputs.
 #[derive(Drop)]
 pub(crate) struct Summaries {
     /// The summary sets.
     pub(crate) sets: HashSet<u32>,
-    /// The summary of an id in a set.
-    pub(crate) by_id: HashMap<(u32, u32), u32>,
+    /// The summaries of ids, by set and id.
+    pub(crate) by_id: ByKey<UnitSummary>,
     /// The exposures of the summaries, by set and summary.
     pub(crate) exposures: HashMap<(u32, u32), u64>,
 }
@@ -30,10 +56,10 @@ impl Summaries {
         ensures exposures { IfOk result (λ summaries. summaries.exposures ≡ exposures) }
     {
         let sets: Vec<u32> = parts_of(alloc, rows)?;
-        let pairs: Vec<((u32, u32), u32)> = parts_of(alloc, rows)?;
+        let units: Vec<UnitSummary> = parts_of(alloc, rows)?;
         Ok(Summaries {
             sets: set_of(alloc, &sets)?,
-            by_id: pair_values(alloc, &pairs)?,
+            by_id: ByKey::of_rows(units)?,
             exposures,
         })
     }

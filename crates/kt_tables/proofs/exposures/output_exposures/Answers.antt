@@ -8,8 +8,7 @@ use Rattle.kt_rec.specs.Rows.{rows_of}
 use Rattle.kt_rec.specs.declared.financial.FmXref.{FmXref}
 use Rattle.kt_rec.specs.declared.perspective.Perspective.TheVariants.{Il}
 use Rattle.kt_index.specs.declared.exposure.SummaryUnit.{SummaryUnit}
-use Rattle.kt_index.specs.declared.exposure.UnitCoverage.{UnitCoverage}
-use Rattle.kt_index.specs.Exposure.{unit_covers, summary_covers, value_in}
+use Rattle.kt_index.specs.Exposure.{summary_covers, value_in}
 use Rattle.kt_tables.specs.Lookups.{unit_has, output_has, summary_has}
 use Rattle.kt_tables.specs.Kept.{AreExposures}
 use Rattle.kt_tables.proofs.ExposureLemmas.{output-covers, total-exposure}

@@ -1,4 +1,4 @@
-use Rattle.std.proofs.Common.{rules, nat_eq}
+use Rattle.std.proofs.Common.{rules}
 use Rattle.std.proofs.lemmas.Fn.{always_returns_same}
 use Rattle.std.proofs.lemmas.List.Sorted.{IsNonDecreasingBy-from_sort_by_key}
 use Rattle.kt_index.proofs.KeyLemmas.{kept-from_stable}

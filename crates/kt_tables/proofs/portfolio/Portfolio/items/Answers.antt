@@ -1,4 +1,4 @@
-use Rattle.std.proofs.Common.{List, Some, None, map, subst, sym}
+use Rattle.std.proofs.Common.{List, Some, map, subst, sym}
 use Rattle.std.specs.List.Sorted.{IsStrictlyIncreasing}
 use Rattle.std.proofs.lemmas.List.Sorted.{IsPermutation-refl}
 use Rattle.kt_rec.specs.Rows.{rows_of}
