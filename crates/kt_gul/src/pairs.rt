@@ -48,11 +48,7 @@ fn one_if(loss: u64) -> usize
 
 /// The pairs of losses.
 #[inline(never)]
-pub(crate) fn plain_pairs(
-    alloc: Global,
-    losses: &[u64],
-    samples: u32,
-) -> Result<Pairs, AllocError>
+pub(crate) fn plain_pairs(alloc: Global, losses: &[u64], samples: u32) -> Result<Pairs, AllocError>
     requires samples { samples ≤ 1000 }
     requires losses { length losses.now ≡ samples + 2 }
     ensures value { IfOk result (λ pairs. pairs ≡ pairs_of (λ place. slice_index losses.now place) samples) }
@@ -89,7 +85,14 @@ pub(crate) fn cut_pairs(
     let mut pairs = vec![in draw.alloc; NO_PAIR; draw.samples as usize + 2]?;
     let mut used = 0;
     for place in 0..draw.samples as usize + 2 {
-        let loss = final_loss(draw.cut, tiv, totals[place], before[place], losses[place], place);
+        let loss = final_loss(
+            draw.cut,
+            tiv,
+            totals[place],
+            before[place],
+            losses[place],
+            place,
+        );
         pairs[used] = pair_at(place, loss);
         used += one_if(loss);
     }
