@@ -46,6 +46,19 @@ fn one_if(loss: u64) -> usize
     usize::from(loss > 0)
 }
 
+/// The pair of a sample's loss at a place.
+#[inline]
+fn sample_pair(place: usize, loss: u64) -> Pair
+    requires least { 2 ≤ place }
+    requires most { place ≤ 1001 }
+    ensures value { result ≡ record { sidx = sidx_at place; loss = loss } }
+{
+    Pair {
+        sidx: (place as u32 - 1).cast_signed(),
+        loss,
+    }
+}
+
 /// The pairs of losses.
 #[inline(never)]
 pub(crate) fn plain_pairs(alloc: Global, losses: &[u64], samples: u32) -> Result<Pairs, AllocError>
@@ -54,10 +67,13 @@ pub(crate) fn plain_pairs(alloc: Global, losses: &[u64], samples: u32) -> Result
     ensures value { IfOk result (λ pairs. pairs ≡ pairs_of (λ place. slice_index losses.now place) samples) }
 {
     let mut pairs = vec![in alloc; NO_PAIR; samples as usize + 2]?;
-    let mut used = 0;
-    for place in 0..samples as usize + 2 {
+    pairs[0] = pair_at(0, losses[0]);
+    let mut used = one_if(losses[0]);
+    pairs[used] = pair_at(1, losses[1]);
+    used += one_if(losses[1]);
+    for place in 2..samples as usize + 2 {
         let loss = losses[place];
-        pairs[used] = pair_at(place, loss);
+        pairs[used] = sample_pair(place, loss);
         used += one_if(loss);
     }
     pairs.truncate(used);

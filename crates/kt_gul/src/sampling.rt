@@ -61,6 +61,7 @@ pub(crate) fn damage_before(dictionary: &[DamageBin], place: usize) -> u32
 }
 
 /// The loss of an insured value by a distribution, at a random number in parts per million.
+#[inline(never)]
 pub(crate) fn sampled_loss(tiv: u64, dictionary: &[DamageBin], bins: &[Bin], random: u32) -> u64
     requires { CanSample tiv dictionary.now bins.now }
     ensures value { result ≡ sampled_loss tiv dictionary.now bins.now (random * 1000000) }
