@@ -1,8 +1,7 @@
-use Rattle.std.proofs.Common.{◌≤◌, List, length, subst, sym, arith}
+use Rattle.std.proofs.Common.{List, length, subst, sym, arith}
 use Rattle.std.proofs.lemmas.List.Elements.{All-push}
 use Rattle.kt_rec.specs.declared.hazard.DamageBin.{DamageBin}
 use Rattle.kt_stream.specs.declared.entry.Bin.{Bin}
-use Rattle.kt_money.specs.Rounding.{ppm_part}
 use Rattle.kt_gul.specs.declared.steps.Step.{Step}
 use Rattle.kt_gul.specs.SampledLoss.{sampled_loss}
 use Rattle.kt_gul.specs.Steps.{IsStep, AreSteps}
