@@ -32,6 +32,20 @@ less_by a b n less = by (cases_lt a b)
     by (inl is) = is
     by (inr above) = absurd (omega (arith, less, mul-le b n a n above (omega arith)))
 
+-- products in units of 2^-127
+in_units : (a b c : ℕ) → a * (b * 2 ^ 127 + c) ≡ a * b * 2 ^ 127 + a * c
+in_units a b c = simp mul-add (grind arith)
+
+by_unit : (q unit : ℕ) → q * 2 ^ 127 * unit ≡ q * unit * 2 ^ 127
+by_unit q unit = grind arith
+
+next_by_unit : (q unit : ℕ) → (q + 1) * 2 ^ 127 * unit ≡ q * unit * 2 ^ 127 + unit * 2 ^ 127
+next_by_unit q unit = simp add-mul (grind arith)
+
+-- the damage at a number behind the first
+rate_over : (rate base over : ℕ) → rate * (base + 1000000 * over) ≡ rate * base + 1000000 * rate * over
+rate_over rate base over = simp mul-add (grind arith)
+
 -- a part of at most one and a half has 128 bits
 pub scaled_fits : (part whole high rest low : ℕ) → 0 < whole → 2 * part ≤ 3 * whole → high ≡ part * 18446744073709551616 / whole → rest ≡ (part * 18446744073709551616 - high * whole) * 9223372036854775808 + (whole - 1) → low ≡ rest / whole → high * 9223372036854775808 + low < 2 ^ 128
 scaled_fits part whole high rest low some within high_is rest_is low_is =
@@ -41,36 +55,16 @@ scaled_fits part whole high rest low some within high_is rest_is low_is =
     let small : low < 9223372036854775809 = less_by low 9223372036854775809 whole (omega (arith, first, second, rest_is)) in
     omega arith
 
--- a part of a whole, rounded up
-pub scaled_is : (part whole high rest low result : ℕ) → 0 < whole → high ≡ part * 18446744073709551616 / whole → rest ≡ (part * 18446744073709551616 - high * whole) * 9223372036854775808 + (whole - 1) → low ≡ rest / whole → result ≡ high * 9223372036854775808 + low → (part * 2 ^ 127 ≤ result * whole) × (result * whole < part * 2 ^ 127 + whole)
-scaled_is part whole high rest low result some high_is rest_is low_is is =
-    let first = quotient_at _ whole high some high_is in
-    let second = quotient_at rest whole low some low_is in
-    let product : result * whole ≡ high * whole * 9223372036854775808 + low * whole = rw is (simp (add-mul) (grind arith)) in
-    (omega (arith, first, second, product, rest_is), omega (arith, first, second, product, rest_is))
-
 -- a damage that is rounded up by little gives the same loss
 pub rounded_up : (tiv damage unit fraction extra : ℕ) → 0 < unit → fraction * unit ≡ damage * 2 ^ 127 + extra → 2 * (tiv * extra) < 2 ^ 127 → half_up (tiv * damage) unit ≡ (tiv * fraction + 2 ^ 126) / 2 ^ 127
 rounded_up tiv damage unit fraction extra some is little =
     let q : ℕ = half_up (tiv * damage) unit in
     let at = quotient_at (2 * (tiv * damage) + unit) (2 * unit) q (omega arith) refl in
-    let whole : tiv * fraction * unit ≡ tiv * damage * 2 ^ 127 + tiv * extra = mul_assoc tiv fraction unit ∙ (ap (λ x. tiv * x) is ∙ spread tiv damage extra) in
+    let whole : tiv * fraction * unit ≡ tiv * damage * 2 ^ 127 + tiv * extra = mul_assoc tiv fraction unit ∙ (ap (λ x. tiv * x) is ∙ in_units tiv damage extra) in
     let twice : q * (2 * unit) ≡ 2 * (q * unit) = grind arith in
-    let low : q * 2 ^ 127 ≤ tiv * fraction + 2 ^ 126 = le_of_mul-le-mul_right {k = unit} (omega (arith, at, whole, twice, left q unit, right (tiv * fraction) unit)) some in
-    let high : tiv * fraction + 2 ^ 126 < (q + 1) * 2 ^ 127 = less_by _ _ unit (omega (arith, at, whole, twice, above q unit, right (tiv * fraction) unit)) in
+    let low : q * 2 ^ 127 ≤ tiv * fraction + 2 ^ 126 = le_of_mul-le-mul_right {k = unit} (omega (arith, at, whole, twice, by_unit q unit, add-mul (tiv * fraction) (2 ^ 126) unit)) some in
+    let high : tiv * fraction + 2 ^ 126 < (q + 1) * 2 ^ 127 = less_by _ _ unit (omega (arith, at, whole, twice, next_by_unit q unit, add-mul (tiv * fraction) (2 ^ 126) unit)) in
     sym (div-eq_of_lt-le (2 ^ 127) low high)
-  where
-    spread : (a b c : ℕ) → a * (b * 2 ^ 127 + c) ≡ a * b * 2 ^ 127 + a * c
-    spread a b c = simp mul-add (grind arith)
-
-    left : (q unit : ℕ) → q * 2 ^ 127 * unit ≡ q * unit * 2 ^ 127
-    left q unit = grind arith
-
-    right : (x unit : ℕ) → (x + 2 ^ 126) * unit ≡ x * unit + 2 ^ 126 * unit
-    right x unit = add-mul x (2 ^ 126) unit
-
-    above : (q unit : ℕ) → (q + 1) * 2 ^ 127 * unit ≡ q * unit * 2 ^ 127 + unit * 2 ^ 127
-    above q unit = simp add-mul (grind arith)
 
 -- the loss at a number of a step, by the damage at its first and its rise
 pub line_is : (tiv base slope unit least rise over : ℕ) → tiv ≤ 10 ^ 14 → 0 < unit → unit ≤ 1002001000000000000 → base * 2 ^ 127 ≤ least * unit → least * unit < base * 2 ^ 127 + unit → slope * over * 2 ^ 127 ≤ rise * over * unit → rise * over * unit ≤ slope * over * 2 ^ 127 + 839999 * unit → half_up (tiv * (base + slope * over)) unit ≡ (tiv * (least + rise * over) + 2 ^ 126) / 2 ^ 127
@@ -120,19 +114,10 @@ pub rounded_down : (tiv damage unit fraction extra : ℕ) → 0 < unit → fract
 rounded_down tiv damage unit fraction extra some is little =
     let q : ℕ = tiv * damage / unit in
     let at = quotient_at (tiv * damage) unit q some refl in
-    let whole : tiv * fraction * unit ≡ tiv * damage * 2 ^ 127 + tiv * extra = mul_assoc tiv fraction unit ∙ (ap (λ x. tiv * x) is ∙ spread tiv damage extra) in
-    let low : q * 2 ^ 127 ≤ tiv * fraction = le_of_mul-le-mul_right {k = unit} (omega (arith, at, whole, left q unit)) some in
-    let high : tiv * fraction < (q + 1) * 2 ^ 127 = less_by _ _ unit (omega (arith, at, whole, above q unit)) in
+    let whole : tiv * fraction * unit ≡ tiv * damage * 2 ^ 127 + tiv * extra = mul_assoc tiv fraction unit ∙ (ap (λ x. tiv * x) is ∙ in_units tiv damage extra) in
+    let low : q * 2 ^ 127 ≤ tiv * fraction = le_of_mul-le-mul_right {k = unit} (omega (arith, at, whole, by_unit q unit)) some in
+    let high : tiv * fraction < (q + 1) * 2 ^ 127 = less_by _ _ unit (omega (arith, at, whole, next_by_unit q unit)) in
     div-eq_of_lt-le (2 ^ 127) low high
-  where
-    spread : (a b c : ℕ) → a * (b * 2 ^ 127 + c) ≡ a * b * 2 ^ 127 + a * c
-    spread a b c = simp mul-add (grind arith)
-
-    left : (q unit : ℕ) → q * 2 ^ 127 * unit ≡ q * unit * 2 ^ 127
-    left q unit = grind arith
-
-    above : (q unit : ℕ) → (q + 1) * 2 ^ 127 * unit ≡ q * unit * 2 ^ 127 + unit * 2 ^ 127
-    above q unit = simp add-mul (grind arith)
 
 -- the moments of a damage in units of 2^-127, rounded up
 pub moments_are : (bins : List Bin) (mean deviation : ℕ) (moments : DamageMoments) → mean ≡ means_behind 0 bins → deviation ≡ damage_deviation bins → deviation ≤ 1002001000000000000 → mean * 2 ^ 127 ≤ moments.mean * 1000000000000000000 → moments.mean * 1000000000000000000 < mean * 2 ^ 127 + 1000000000000000000 → deviation * 2 ^ 127 ≤ moments.deviation * 1000000000000000000 → moments.deviation * 1000000000000000000 < deviation * 2 ^ 127 + 1000000000000000000 → AreMoments bins moments
@@ -163,11 +148,8 @@ line_fits base slope unit least rise span some within high to =
 pub bin_loss : (tiv low high before upto first over : ℕ) → before ≤ first * 1000000 → loss_in_bin tiv low high before upto ((first + over) * 1000000) ≡ half_up (tiv * (low * (upto - before) + (high - low) * (1000000 * first - before) + 1000000 * (high - low) * over)) (1000000 * (upto - before))
 bin_loss tiv low high before upto first over from =
     let number : (first + over) * 1000000 - before ≡ (1000000 * first - before) + 1000000 * over = omega arith in
-    let parts : (high - low) * ((first + over) * 1000000 - before) ≡ (high - low) * (1000000 * first - before) + 1000000 * (high - low) * over = ap (λ n. (high - low) * n) number ∙ spread (high - low) (1000000 * first - before) over in
+    let parts : (high - low) * ((first + over) * 1000000 - before) ≡ (high - low) * (1000000 * first - before) + 1000000 * (high - low) * over = ap (λ n. (high - low) * n) number ∙ rate_over (high - low) (1000000 * first - before) over in
     ap (λ damage. half_up (tiv * damage) (1000000 * (upto - before))) (omega (arith, parts))
-  where
-    spread : (rate base over : ℕ) → rate * (base + 1000000 * over) ≡ rate * base + 1000000 * rate * over
-    spread rate base over = simp mul-add (grind arith)
 
 -- the line of a bin is a step of it
 pub bin_line : (low high before upto first most span least rise : ℕ) → IsLine low high before upto first most → span ≤ most → (low * (upto - before) + (high - low) * (1000000 * first - before)) * 2 ^ 127 ≤ least * (1000000 * (upto - before)) → least * (1000000 * (upto - before)) < (low * (upto - before) + (high - low) * (1000000 * first - before)) * 2 ^ 127 + 1000000 * (upto - before) → ((over : ℕ) → over ≤ span → 1000000 * (high - low) * over * 2 ^ 127 ≤ rise * over * (1000000 * (upto - before))) → ((over : ℕ) → over ≤ span → rise * over * (1000000 * (upto - before)) ≤ 1000000 * (high - low) * over * 2 ^ 127 + 839999 * (1000000 * (upto - before))) → IsBinStep low high before upto (record { first = first; span = span; least = least; rise = rise })
@@ -181,7 +163,7 @@ bin_line low high before upto first most span least rise is shorter from to up d
     let some : 0 < unit = omega arith in
     let below : (first + span) * 1000000 ≤ upto = omega (arith, is.below, shorter) in
     let number : (first + span) * 1000000 - before ≡ (1000000 * first - before) + 1000000 * span = omega (arith, is.from) in
-    let parts : (high - low) * ((first + span) * 1000000 - before) ≡ (high - low) * (1000000 * first - before) + slope * span = ap (λ n. (high - low) * n) number ∙ spread (high - low) (1000000 * first - before) span in
+    let parts : (high - low) * ((first + span) * 1000000 - before) ≡ (high - low) * (1000000 * first - before) + slope * span = ap (λ n. (high - low) * n) number ∙ rate_over (high - low) (1000000 * first - before) span in
     let within = damage_within low high width ((first + span) * 1000000 - before) is.least is.most (omega (arith, below)) in
     record {
       is_step = record {
@@ -193,9 +175,6 @@ bin_line low high before upto first most span least rise is shorter from to up d
       below = below;
       wide = wide;
     }
-  where
-    spread : (rate base over : ℕ) → rate * (base + 1000000 * over) ≡ rate * base + 1000000 * rate * over
-    spread rate base over = simp mul-add (grind arith)
 
 -- the bins before a place end at the latest where the last of them does
 ends_before : (bins : List Bin) (k j : ℕ) (b : Bin) → AreBins 0 bins → k ≤ length bins → j < k → (get_or bins j b).prob_to ≤ end_before 0 bins k b

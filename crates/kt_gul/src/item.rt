@@ -9,8 +9,8 @@ ghost use Rattle.kt_gul.specs.ItemLosses.{AreMoments};
 ghost use Rattle.kt_gul.specs.Sampled.{CanSample};
 ghost use Rattle.kt_gul.specs.Steps.{AreSteps};
 
-use crate::random::{first_place, next_place, random_at};
 use crate::draw::Draw;
+use crate::random::{first_place, next_place, random_at};
 use crate::struck::StruckItem;
 use crate::tables::{StepTable, loss_at};
 use kt_rec::Random;

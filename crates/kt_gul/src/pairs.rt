@@ -46,22 +46,34 @@ fn one_if(loss: u64) -> usize
     usize::from(loss > 0)
 }
 
+/// The pair of a sample's loss at a place.
+#[inline]
+fn sample_pair(place: usize, loss: u64) -> Pair
+    requires least { 2 ≤ place }
+    requires most { place ≤ 1001 }
+    ensures value { result ≡ record { sidx = sidx_at place; loss = loss } }
+{
+    Pair {
+        sidx: (place as u32 - 1).cast_signed(),
+        loss,
+    }
+}
+
 /// The pairs of losses.
 #[inline(never)]
-pub(crate) fn plain_pairs(
-    alloc: Global,
-    losses: &[u64],
-    samples: u32,
-) -> Result<Pairs, AllocError>
+pub(crate) fn plain_pairs(alloc: Global, losses: &[u64], samples: u32) -> Result<Pairs, AllocError>
     requires samples { samples ≤ 1000 }
     requires losses { length losses.now ≡ samples + 2 }
     ensures value { IfOk result (λ pairs. pairs ≡ pairs_of (λ place. slice_index losses.now place) samples) }
 {
     let mut pairs = vec![in alloc; NO_PAIR; samples as usize + 2]?;
-    let mut used = 0;
-    for place in 0..samples as usize + 2 {
+    pairs[0] = pair_at(0, losses[0]);
+    let mut used = one_if(losses[0]);
+    pairs[used] = pair_at(1, losses[1]);
+    used += one_if(losses[1]);
+    for place in 2..samples as usize + 2 {
         let loss = losses[place];
-        pairs[used] = pair_at(place, loss);
+        pairs[used] = sample_pair(place, loss);
         used += one_if(loss);
     }
     pairs.truncate(used);
@@ -89,7 +101,14 @@ pub(crate) fn cut_pairs(
     let mut pairs = vec![in draw.alloc; NO_PAIR; draw.samples as usize + 2]?;
     let mut used = 0;
     for place in 0..draw.samples as usize + 2 {
-        let loss = final_loss(draw.cut, tiv, totals[place], before[place], losses[place], place);
+        let loss = final_loss(
+            draw.cut,
+            tiv,
+            totals[place],
+            before[place],
+            losses[place],
+            place,
+        );
         pairs[used] = pair_at(place, loss);
         used += one_if(loss);
     }

@@ -21,7 +21,10 @@ fn loss_in_bin(tiv: u64, low: u32, high: u32, before: u64, upto: u64, number: u6
 {
     let width = upto - before;
     let damage = u64::from(low) * width + u64::from(high.saturating_sub(low)) * (number - before);
-    div_half_up(u128::from(tiv) * u128::from(damage), u128::from(PPM * width)) as u64
+    div_half_up(
+        u128::from(tiv) * u128::from(damage),
+        u128::from(PPM * width),
+    ) as u64
 }
 
 /// The place of the first bin that ends at the number or above; the number of bins where there is none.
@@ -58,12 +61,8 @@ pub(crate) fn damage_before(dictionary: &[DamageBin], place: usize) -> u32
 }
 
 /// The loss of an insured value by a distribution, at a random number in parts per million.
-pub(crate) fn sampled_loss(
-    tiv: u64,
-    dictionary: &[DamageBin],
-    bins: &[Bin],
-    random: u32,
-) -> u64
+#[inline(never)]
+pub(crate) fn sampled_loss(tiv: u64, dictionary: &[DamageBin], bins: &[Bin], random: u32) -> u64
     requires { CanSample tiv dictionary.now bins.now }
     ensures value { result ≡ sampled_loss tiv dictionary.now bins.now (random * 1000000) }
 {
@@ -78,12 +77,5 @@ pub(crate) fn sampled_loss(
         bin_to,
         ..
     } = dictionary[place];
-    loss_in_bin(
-        tiv,
-        bin_from,
-        bin_to,
-        before,
-        bins[place].prob_to,
-        number,
-    )
+    loss_in_bin(tiv, bin_from, bin_to, before, bins[place].prob_to, number)
 }

@@ -84,7 +84,11 @@ fn span_of(slope: u64, span: u32) -> u32
     ensures within { result ≤ span }
     ensures few { 0 < slope → result ≤ 839999 }
 {
-    if slope == 0 { span } else { span.min(MOST_SPAN) }
+    if slope == 0 {
+        span
+    } else {
+        span.min(MOST_SPAN)
+    }
 }
 
 /// How much the damage rises from number to number.

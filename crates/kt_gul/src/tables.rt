@@ -68,11 +68,7 @@ fn push_step(
 }
 
 /// Appends the step behind all bins.
-fn push_end(
-    dictionary: &[DamageBin],
-    bins: &[Bin],
-    steps: &mut Vec<Step>,
-) -> Result<(), AllocError>
+fn push_end(dictionary: &[DamageBin], bins: &[Bin], steps: &mut Vec<Step>) -> Result<(), AllocError>
     requires ranges { CanSample 0 dictionary.now bins.now }
     requires steps { AreSteps dictionary.now bins.now steps.old.items }
     ensures steps { OnOk result (AreSteps dictionary.now bins.now steps.new.items) }

@@ -1,9 +1,7 @@
-use Rattle.std.proofs.Common.{◌≡◌, ℕ, List, ◌<◌, ◌+◌, ◌++◌, length, drop, map, slice_index_or, ap, ◌∙◌, sym, arith}
-use Rattle.std.specs.List.{range_with_len}
+use Rattle.std.proofs.Common.{◌≡◌, ℕ, List, ◌<◌, ◌+◌, ◌++◌, length, drop, ap, ◌∙◌, sym, arith}
 use Rattle.std.proofs.lemmas.Grind.{common_steps}
 use Rattle.std.proofs.lemmas.List.{drop_at, length-take-le}
 use Rattle.kt_gul.specs.declared.struck.StruckItem.{StruckItem}
-use Rattle.kt_gul.specs.GroundUp.{raw_loss}
 use Rattle.kt_gul.proofs.CoverageLemmas.{row_from_map, added_more}
 use Rattle.kt_gul.proofs.coverage.group_losses.Goals as goal
 

@@ -1,4 +1,4 @@
-use Rattle.std.proofs.Common.{◌≡◌, ℕ, List, ◌+◌, length, slice_index_or, arith, ap, ◌∙◌, sym, subst}
+use Rattle.std.proofs.Common.{ℕ, List, ◌+◌, length, slice_index_or, arith, ap, ◌∙◌, sym, subst}
 use Rattle.std.proofs.lemmas.Grind.{common_steps}
 use Rattle.kt_gul.specs.declared.struck.StruckItem.{StruckItem}
 use Rattle.kt_gul.specs.Coverage.{IsRow}

@@ -1,4 +1,4 @@
-use Rattle.std.proofs.Common.{◌+◌, arith}
+use Rattle.std.proofs.Common.{arith}
 use Rattle.kt_money.specs.SharingLaws.{share_of-le}
 use Rattle.kt_gul.proofs.cut.cut_loss.Goals as goal
 

@@ -1,7 +1,6 @@
-use Rattle.std.proofs.Common.{ℕ, ◌+◌, length, slice_index, refl, arith}
+use Rattle.std.proofs.Common.{slice_index, arith}
 use Rattle.std.proofs.lemmas.Grind.{common_steps}
 use Rattle.std.proofs.lemmas.List.{length-set}
-use Rattle.kt_stream.specs.declared.entry.Pair.{Pair}
 use Rattle.kt_gul.specs.GroundUp.{final_loss}
 use Rattle.kt_gul.proofs.PairLemmas.{pairs_put}
 use Rattle.kt_gul.proofs.pairs.cut_pairs.Goals as goal

@@ -1,4 +1,4 @@
-use Rattle.std.proofs.Common.{◌+◌, ◌-◌, ◌*◌, arith}
+use Rattle.std.proofs.Common.{◌-◌, ◌*◌, arith}
 use Rattle.kt_gul.proofs.SampleLemmas.{damage_within}
 use Rattle.kt_gul.proofs.StepLemmas.{bin_line}
 use Rattle.kt_gul.proofs.steps.line_of.Goals as goal

@@ -1,8 +1,7 @@
-use Rattle.std.proofs.Common.{◌≤◌, List, length, subst, sym, arith}
+use Rattle.std.proofs.Common.{List, length, subst, sym, arith}
 use Rattle.std.proofs.lemmas.List.Elements.{All-push}
 use Rattle.kt_rec.specs.declared.hazard.DamageBin.{DamageBin}
 use Rattle.kt_stream.specs.declared.entry.Bin.{Bin}
-use Rattle.kt_money.specs.Rounding.{ppm_part}
 use Rattle.kt_gul.specs.declared.steps.Step.{Step}
 use Rattle.kt_gul.specs.SampledLoss.{sampled_loss}
 use Rattle.kt_gul.specs.Steps.{IsStep, AreSteps}
@@ -25,8 +24,8 @@ returns c =
     let none : DamageBin = record { bin_index = 0; bin_from = 0; bin_to = 0; interpolation = 0; interval_type = 0 } in
     let no_bin : Bin = record { prob_to = 0; mean = 0 } in
     let step = end_is_step c.args.dictionary.now c.args.bins.now none no_bin c.end_step.result c.requires.ranges
-        (rw (c.damage_before-high.ensures.value none) at c.end_step.ensures.value)
-        (rw (c.end_before.ensures.value no_bin) at c.end_step.ensures.above) in
+    (rw (c.damage_before-high.ensures.value none) at c.end_step.ensures.value)
+    (rw (c.end_before.ensures.value no_bin) at c.end_step.ensures.above) in
     record {
       steps = subst (λ (steps : List Step). AreSteps c.args.dictionary.now c.args.bins.now steps) (sym c.in_ok-push.ensures.items) (All-push (λ (step : Step). IsStep (λ tiv number. sampled_loss tiv c.args.dictionary.now c.args.bins.now number) step) c.args.steps.now.items c.end_step.result c.requires.steps step);
     }
