@@ -179,8 +179,7 @@ backed-down nodes row (part ∷ parts) backed =
 shares-backed : (row : List ℕ) (amount weights given start : ℕ) (further : List ℕ) → amount ≤ weights → ((j : ℕ) → j < length further → slice_index further j ≡ slice_index row (start + j)) → AllByRecursion (λ part. part.amount ≤ slice_index row part.place) (parts_from start (shares_after amount weights given further))
 shares-backed row amount weights given start [] few same = tt
 shares-backed row amount weights given start (w ∷ further) few same =
-    let first : w ≡ slice_index row start = same 0 (omega arith) ∙ (let e : start + 0 ≡ start = omega arith in ap (slice_index row) e) in
-    (
+    let first : w ≡ slice_index row start = same 0 (omega arith) ∙ (let e : start + 0 ≡ start = omega arith in ap (slice_index row) e) in (
       omega (arith, share_of-le amount weights given w few, first),
       shares-backed row amount weights (given + w) (start + 1) further few (λ j below. same (suc j) (omega arith) ∙ (let e : start + suc j ≡ start + 1 + j = omega arith in ap (slice_index row) e)),
     )

@@ -132,7 +132,14 @@ pub fn climb(
     let mut rows = Vec::with_capacity(alloc, programme.depth())?;
     rows.push(leaves)?;
     for level in 1..programme.depth() {
-        let row = next_lanes(alloc, programme, width, lanes, level - 1, lanes_at(&rows, level - 1))?;
+        let row = next_lanes(
+            alloc,
+            programme,
+            width,
+            lanes,
+            level - 1,
+            lanes_at(&rows, level - 1),
+        )?;
         rows.push(row)?;
     }
     Ok(Climbed { width, rows })

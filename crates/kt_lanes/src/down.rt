@@ -78,7 +78,14 @@ fn level_down(
         lanes: Vec::new(alloc),
     };
     for (at, place) in parts.places.iter().enumerate() {
-        push_children(alloc, &nodes[*place], width, below, &parts.lanes[at], &mut given)?;
+        push_children(
+            alloc,
+            &nodes[*place],
+            width,
+            below,
+            &parts.lanes[at],
+            &mut given,
+        )?;
     }
     Ok(given)
 }
@@ -104,7 +111,13 @@ pub(crate) fn lanes_down(
     programme.is_of_a_tree();
     let next = level - 1;
     let below = lanes_at(&climbed.rows, next);
-    let given = level_down(alloc, programme.nodes_above(next), climbed.width, below, &parts)?;
+    let given = level_down(
+        alloc,
+        programme.nodes_above(next),
+        climbed.width,
+        below,
+        &parts,
+    )?;
     let last = lanes_down(alloc, programme, lanes, climbed, next, given)?;
     Ok(last)
 }

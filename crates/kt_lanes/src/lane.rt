@@ -7,7 +7,7 @@ ghost use Rattle.kt_rules.specs.Profiles.{IsProfile};
 ghost use Rattle.kt_lanes.specs.Lanes.{column, AreWide, AreLanes, IsLane};
 
 use kt_alloc::zeros;
-use kt_rules::{Profile, loss_after};
+use kt_rules::{Profile, apply_each};
 use std::alloc::{AllocError, Global};
 
 /// A copy of a lane. An error is want of memory.
@@ -63,9 +63,7 @@ pub(crate) fn apply_lane(profile: &Profile, tiv: u64, lane: &mut [u64])
     requires few { (k : ℕ) → k < length lane.old → slice_index lane.old k ≤ 10 ^ 16 }
     ensures value { IsLane (length lane.old) (λ k. loss_after profile.now tiv (slice_index lane.old k)) lane.new }
 {
-    for k in 0..lane.len() {
-        lane[k] = loss_after(profile, tiv, lane[k]);
-    }
+    apply_each(profile, tiv, lane);
 }
 
 /// What a profile leaves of each loss of a lane.
@@ -81,11 +79,7 @@ pub(crate) fn applied_lane(profile: &Profile, tiv: u64, lane: Vec<u64>) -> Vec<u
 }
 
 /// So many lanes without an amount. An error is want of memory.
-pub fn zero_lanes(
-    alloc: Global,
-    count: usize,
-    width: usize,
-) -> Result<Vec<Vec<u64>>, AllocError>
+pub fn zero_lanes(alloc: Global, count: usize, width: usize) -> Result<Vec<Vec<u64>>, AllocError>
     ensures value { IfOk result (λ lanes. AreLanes width count (λ k. replicate count 0) lanes.items) }
 {
     let mut lanes = Vec::with_capacity(alloc, count)?;

@@ -8,6 +8,7 @@ mod lane;
 mod plain;
 mod policy;
 mod quotient;
+mod shared;
 mod shares;
 
 pub use climbing::{Climbed, climb};

@@ -35,7 +35,12 @@ fn top_lane(
     programme.is_of_a_tree();
     let last = programme.depth() - 1;
     let nodes = programme.nodes_above(last);
-    let lane = base_lane(alloc, &nodes[node], climbed.width, lanes_at(&climbed.rows, last))?;
+    let lane = base_lane(
+        alloc,
+        &nodes[node],
+        climbed.width,
+        lanes_at(&climbed.rows, last),
+    )?;
     Ok(lane)
 }
 
@@ -114,7 +119,13 @@ fn shared_down(
     programme.is_of_a_tree();
     let top = top_part(alloc, node as usize, policy)?;
     let parts = lanes_down(alloc, programme, lanes, climbed, programme.depth(), top)?;
-    let shares = lanes_by_id(alloc, programme, programme.beneath(node), climbed.width, &parts)?;
+    let shares = lanes_by_id(
+        alloc,
+        programme,
+        programme.beneath(node),
+        climbed.width,
+        &parts,
+    )?;
     Ok(shares)
 }
 

@@ -1,9 +1,55 @@
 //! The part of a total that falls to the first of weights.
 //! The rule: docs/CALCULATION.md, "Share-out".
-ghost use Rattle.std.specs.Prelude.{◌≡◌, ◌≤◌, ◌^◌};
+ghost use Rattle.std.specs.Prelude.{◌≡◌, ◌≤◌, ◌<◌, ◌/◌, ◌^◌, IsTrue};
 ghost use Rattle.kt_money.specs.Sharing.{share_to};
 
+use std::num::nearest_u64_to_f64;
+
+/// Whether a guess is `a / b`.
+#[inline]
+fn is_quotient(a: u128, b: u64, guess: u64) -> bool
+    requires { 0 < b }
+    ensures value { IsTrue result → a / b ≡ guess }
+{
+    let divisor = u128::from(b);
+    let product = u128::from(guess) * divisor;
+    product <= a && a - product < divisor
+}
+
+/// `a / b`. A guess is given that is nearly always right, and to test it takes a fifth of the time of a division of 128 bits.
+#[inline]
+fn quotient(a: u128, b: u64, guess: u64) -> u64
+    requires positive { 0 < b }
+    requires fits { a / b < 2 ^ 64 }
+    ensures value { result ≡ a / b }
+{
+    if is_quotient(a, b, guess) {
+        return guess;
+    }
+    (a / u128::from(b)) as u64
+}
+
+/// A number from 0 to 2^51, to the nearest whole number; of any other, some number. Where 2^52 is added to it, the whole number
+/// stands in its lowest 52 bits.
+#[inline]
+fn nearest_whole(x: f64) -> u64 {
+    let lifted = x + 4_503_599_627_370_496.0;
+    if lifted >= 4_503_599_627_370_496.0 {
+        lifted.to_bits() & 0x000f_ffff_ffff_ffff
+    } else {
+        0
+    }
+}
+
+/// What the part of a total is likely to be, from numbers that are rounded. A part that is whole comes out whole.
+#[inline]
+fn guess(total: u64, weights: u64, upto: u64) -> u64 {
+    let product = nearest_u64_to_f64(total) * nearest_u64_to_f64(upto);
+    nearest_whole(product / nearest_u64_to_f64(weights) - 0.499)
+}
+
 /// The part of a total in cents that falls to the first weights, rounded down. It is not above the weights in all.
+#[inline]
 pub(crate) fn part_to(total: u64, weights: u64, upto: u64) -> u64
     requires most { total ≤ weights }
     requires bound { weights ≤ 10 ^ 16 }
@@ -13,9 +59,9 @@ pub(crate) fn part_to(total: u64, weights: u64, upto: u64) -> u64
     if weights == 0 {
         return 0;
     }
-    let product = u128::from(total) * u128::from(upto);
-    if product <= u128::from(u64::MAX) {
-        return product as u64 / weights;
-    }
-    (product / u128::from(weights)) as u64
+    quotient(
+        u128::from(total) * u128::from(upto),
+        weights,
+        guess(total, weights, upto),
+    )
 }

@@ -4,4 +4,5 @@ pub mod Rules
 pub mod Steps
 pub mod RuleLaws
 pub mod LossAlone
+pub mod Each
 pub mod Examples

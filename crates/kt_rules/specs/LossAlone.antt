@@ -35,10 +35,10 @@ alone-cond : (test : Bool) (carry : Carry) → (cond test (deduct carry.loss car
 alone-cond true carry = refl
 alone-cond false carry = refl
 
-alone-franchise : (amount : ℕ) (carry : Carry) → (franchise amount carry).loss ≡ (franchise amount (untouched carry.loss)).loss
+pub alone-franchise : (amount : ℕ) (carry : Carry) → (franchise amount carry).loss ≡ (franchise amount (untouched carry.loss)).loss
 alone-franchise amount carry = alone-cond (nat_lt carry.loss amount) carry
 
-alone-reverse_franchise : (amount : ℕ) (carry : Carry) → (reverse_franchise amount carry).loss ≡ (reverse_franchise amount (untouched carry.loss)).loss
+pub alone-reverse_franchise : (amount : ℕ) (carry : Carry) → (reverse_franchise amount carry).loss ≡ (reverse_franchise amount (untouched carry.loss)).loss
 alone-reverse_franchise amount carry = alone-cond (nat_lt amount carry.loss) carry
 
 -- each of the table

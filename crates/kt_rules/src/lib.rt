@@ -3,6 +3,7 @@
 
 mod amounts;
 mod carry;
+mod each;
 pub mod laws;
 mod loss_alone;
 mod profile;
@@ -12,6 +13,7 @@ mod steps;
 mod table;
 
 pub use carry::Carry;
+pub use each::apply_each;
 pub use loss_alone::{looks_back, loss_after};
 pub use profile::{BadProfile, Profile};
 pub use rule::apply;

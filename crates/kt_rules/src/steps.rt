@@ -58,7 +58,7 @@ pub(crate) enum Step {
 }
 
 /// The first deductible as a part of an amount.
-fn part_of(terms: &Profile, amount: u64) -> u64
+pub(crate) fn part_of(terms: &Profile, amount: u64) -> u64
     requires terms { IsProfile terms.now }
     requires part { is_deductible_part terms.now.rule ≡ true }
     requires amount { amount ≤ 10 ^ 17 }
@@ -68,7 +68,7 @@ fn part_of(terms: &Profile, amount: u64) -> u64
 }
 
 /// The first deductible as a part of an amount, within the minimum and the maximum.
-fn bounded_part_of(terms: &Profile, amount: u64) -> u64
+pub(crate) fn bounded_part_of(terms: &Profile, amount: u64) -> u64
     requires terms { IsProfile terms.now }
     requires part { is_deductible_part terms.now.rule ≡ true }
     requires amount { amount ≤ 10 ^ 17 }

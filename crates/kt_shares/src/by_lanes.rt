@@ -17,7 +17,9 @@ use crate::layers::TopLayer;
 use crate::losses::PlacedLosses;
 use crate::row::Row;
 use kt_fmtree::Programme;
-use kt_lanes::{Climbed, add_lane, allocate_lanes, copy_of, layer_looks_back, policy_lane, zero_lanes};
+use kt_lanes::{
+    Climbed, add_lane, allocate_lanes, copy_of, layer_looks_back, policy_lane, zero_lanes,
+};
 use std::alloc::{AllocError, Global};
 
 /// What a layer has, sidx by sidx from -2 up.
@@ -151,6 +153,15 @@ fn push_column(lanes: &[Vec<u64>], at: usize, amounts: &mut Vec<u64>) -> Result<
     Ok(())
 }
 
+/// How many amounts layers have at a sidx, as far as it is counted.
+fn count_of(made: &[LayerLanes]) -> usize {
+    let mut count: usize = 0;
+    for one in made {
+        count = count.saturating_add(one.shares.len());
+    }
+    count
+}
+
 /// What layers have at a sidx, which is counted from -2. An error is want of memory.
 pub(crate) fn row_from_lanes(
     alloc: Global,
@@ -160,7 +171,7 @@ pub(crate) fn row_from_lanes(
     requires { All (HasSidx at) made.now }
     ensures value { IfOk result (λ row. row ≡ lane_row at made.now) }
 {
-    let mut shares = Vec::new(alloc);
+    let mut shares = Vec::with_capacity(alloc, count_of(made))?;
     let mut policies = Vec::with_capacity(alloc, made.len())?;
     let mut totals = Vec::with_capacity(alloc, made.len())?;
     for one in made {

@@ -93,11 +93,7 @@ fn table_by_rows(
 }
 
 /// The rows of what layers have by lanes. An error is want of memory.
-fn rows_from_lanes(
-    alloc: Global,
-    made: &[LayerLanes],
-    samples: u32,
-) -> Result<Vec<Row>, AllocError>
+fn rows_from_lanes(alloc: Global, made: &[LayerLanes], samples: u32) -> Result<Vec<Row>, AllocError>
     requires samples { samples ≤ 1000 }
     requires wide { (at : ℕ) → at < samples + 3 → All (HasSidx at) made.now }
     ensures value { IfOk result (λ table. table.items ≡ map (λ row. lane_row (row_place row - 2147483646) made.now) (range_with_len 0 (samples + 1))) }

@@ -24,8 +24,8 @@ rows_from_lanes-requires-clause-wide c = λ at below.
 pub returns : goal.returns
 returns c = record {
   value = λ tree loss is are.
-    let width = ap length c.ids.ensures.value in
-    let lanes = subst (λ (all : List (Vec ℕ Global)). AreIdLanes (length c.ids.result.now) (c.args.samples + 3) c.args.placed.now all) (sym c.deref.ensures.value) c.in_ok-lanes.ensures.value in
+      let width = ap length c.ids.ensures.value in
+      let lanes = subst (λ (all : List (Vec ℕ Global)). AreIdLanes (length c.ids.result.now) (c.args.samples + 3) c.args.placed.now all) (sym c.deref.ensures.value) c.in_ok-lanes.ensures.value in
       let found : c.deref.result.now ≡ c.deref-2.result.now = c.deref.ensures.value ∙ sym c.deref-2.ensures.value in
       let there = subst (λ (all : List (Vec ℕ Global)). AreIdLanes (length c.ids.result.now) (c.args.samples + 3) c.args.placed.now all) found lanes in
       let layers = subst (λ n. AreLayers c.args.programme.now c.deref-2.result.now n c.args.rule c.args.layers.now c.in_ok-made.made.items) c.in_ok-climbed.ensures.width c.in_ok-made.ensures.value in

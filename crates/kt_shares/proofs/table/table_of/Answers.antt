@@ -26,10 +26,10 @@ table_from-requires-clause-few g c =
 pub returns : goal.returns
 returns g c = record {
   value = λ tree is.
-    let records = map g.T.RunEntry.entry_of c.args.records.now in
-    let ids = c.args.programme.now.ids in
-    let samples = c.args.samples in
-    let are = subst (λ (placed : List PlacedLosses). ArePlaced ids samples records placed) (sym c.deref.ensures.value) (subst (λ (ids : List ℕ). ArePlaced ids samples records c.in_ok-placed.placed.items) c.ids.ensures.value c.in_ok-placed.ensures.value) in
-    c.in_ok-table.ensures.value tree (λ at. taken_loss tree records (sidx_at (2147483646 + at))) is (taken-are ids samples records c.deref.result.now are tree is.ids_are)
-    ∙ table-are ids samples records c.deref.result.now are tree is.ids_are c.args.rule (map key_of c.args.layers.now);
+      let records = map g.T.RunEntry.entry_of c.args.records.now in
+      let ids = c.args.programme.now.ids in
+      let samples = c.args.samples in
+      let are = subst (λ (placed : List PlacedLosses). ArePlaced ids samples records placed) (sym c.deref.ensures.value) (subst (λ (ids : List ℕ). ArePlaced ids samples records c.in_ok-placed.placed.items) c.ids.ensures.value c.in_ok-placed.ensures.value) in
+      c.in_ok-table.ensures.value tree (λ at. taken_loss tree records (sidx_at (2147483646 + at))) is (taken-are ids samples records c.deref.result.now are tree is.ids_are)
+      ∙ table-are ids samples records c.deref.result.now are tree is.ids_are c.args.rule (map key_of c.args.layers.now);
 }
