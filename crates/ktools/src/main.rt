@@ -4,13 +4,16 @@
 #![tactic(auto)]
 
 mod arguments;
+mod streams;
 
 use arguments::words_of;
 use kt_out::{DirInputs, DirOutputs, Open, StdErr, StdSink, StdSource};
 use kt_tools::{Status, run};
 use std::process::ExitCode;
+use streams::hold_closed_streams;
 
 fn main(rt: HostRuntime) -> ExitCode {
+    let _held = hold_closed_streams(&rt);
     let alloc = rt.alloc();
     // A want of memory for the words is that of the run: nothing is read or written.
     let status = match words_of(&rt, alloc) {
