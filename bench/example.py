@@ -82,8 +82,10 @@ def not_a_front(files, whole, names):
     if missing and names.index(missing[0]) < len(files):
         return f"there is no {missing[0]}, but there are {len(files)} files"
     for name in names:
-        if not whole[name].startswith(files.get(name, b"")):
-            return f"{name} is no front of its text: {files[name][:200]!r}"
+        found = files.get(name, b"")
+        if not whole[name].startswith(found):
+            at = len(os.path.commonprefix([whole[name], found]))
+            return f"{name} is no front of its text: at byte {at} it goes on with {found[at:at + 80]!r}"
     return ""
 
 
