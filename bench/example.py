@@ -60,10 +60,10 @@ def output_names(losses, sets=(1, 2)):
 
 
 def output_files(folder):
-    """What stands in the folder `output` of a run's folder: the bytes by name."""
+    """What stands in the folder `output` of a run's folder, where it may be looked into: the bytes by name."""
     found = {}
     output = os.path.join(folder, "output")
-    if os.path.isdir(output):
+    if os.path.isdir(output) and os.access(output, os.R_OK | os.X_OK):
         for name in os.listdir(output):
             path = os.path.join(output, name)
             if os.path.isfile(path):
