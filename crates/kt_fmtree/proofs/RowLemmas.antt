@@ -1,13 +1,10 @@
 -- Lemmas on rows that are carried up, level by level.
-use Rattle.std.proofs.Common.{◌≡◌, ℕ, zero, suc, ◌+◌, ◌-◌, ◌<◌, ◌≤◌, ◌^◌, List, [], ◌∷◌, ◌++◌, length, map, get_or, refl, sym, ap, subst, ◌∙◌, arith}
-use Rattle.std.specs.List.{All, range_with_len, sum}
+use Rattle.std.proofs.Common.{◌≡◌, ℕ, suc, ◌+◌, ◌-◌, ◌<◌, ◌≤◌, List, [], ◌∷◌, ◌++◌, length, map, get_or, refl, sym, ap, subst, ◌∙◌, arith}
+use Rattle.std.specs.List.{All, range_with_len}
 use Rattle.std.proofs.lemmas.List.{map-append}
 use Rattle.std.proofs.lemmas.List.FromFn.{length-map-range_with_len, get_or-map-range_with_len, map-range_with_len_more}
 use Rattle.kt_rules.specs.declared.carry.Carry.{Carry}
-use Rattle.kt_tree.specs.Tree.{Tree}
-use Rattle.kt_fmtree.specs.Parts.{Parts, IsProgramme, HasProgramme}
-use Rattle.kt_fmtree.specs.Carried.{Carried, child_sum, node_carry, leaf_row, row_from, row_of, climbed_rows, loss_by, CanCarry, CanClimb, AreCarried, IsCarriedBy}
-use Rattle.kt_fmtree.specs.CarriedLaws.{can-carry, carried-is, losses-few}
+use Rattle.kt_fmtree.specs.Carried.{Carried, child_sum, node_carry, leaf_row, row_from, climbed_rows, CanCarry, CanClimb}
 use Rattle.kt_fmtree.specs.declared.node.Node.{Node}
 
 pub length-map_is : {X Y : Type 0} (g : X → Y) (xs : List X) → length (map g xs) ≡ length xs

@@ -1,15 +1,15 @@
 -- Laws of lanes by rising id.
 -- The rule: docs/FINANCIAL_MODULE.md, "Allocation".
-use Rattle.std.specs.Prelude.{◌≡◌, ◌≢◌, ◌⊎◌, ℕ, ◌+◌, ◌<◌, ◌≤◌, ◌^◌, List, [], Vec, All, length, map, take, replicate, slice_index, slice_index_or}
+use Rattle.std.specs.Prelude.{◌≡◌, ◌≢◌, ◌⊎◌, ℕ, ◌+◌, ◌<◌, ◌≤◌, ◌^◌, List, [], Vec, length, map, take, replicate, slice_index, slice_index_or}
 use Rattle.std.specs.List.{sum_by}
 use Rattle.std.specs.declared.alloc.Global.{Global}
-use Rattle.std.proofs.Common.{inl, inr, slice_set, refl, sym, ap, subst, ◌∙◌, arith}
+use Rattle.std.proofs.Common.{inl, inr, slice_set, sym, ap, subst, ◌∙◌, arith}
 use Rattle.std.proofs.lemmas.Bool.{cases_eq}
 use Rattle.std.proofs.lemmas.List.{get_or-set_same, get_or-set_other, length-map, length-set, map-set}
 use Rattle.kt_rec.specs.Rising.{IsRising}
 use Rattle.kt_tree.specs.Sharing.{part_of}
 use Rattle.kt_alloc.specs.ById.{with_more}
-use Rattle.kt_alloc.specs.IdLaws.{no-parts, next-part, part-fits, with-found, with-missed}
+use Rattle.kt_alloc.specs.IdLaws.{no-parts, next-part, part-fits, with-found}
 use Rattle.kt_alloc.specs.Placed.{unit_parts}
 use Rattle.kt_alloc.specs.declared.part.PlacedPart.{PlacedPart}
 use Rattle.kt_lanes.specs.Lanes.{column, AreWide, AreLanes, IsLane}

@@ -5,21 +5,21 @@ use Rattle.std.specs.List.{sum, sum_by}
 use Rattle.std.specs.declared.alloc.Global.{Global}
 use Rattle.std.proofs.Common.{inl, inr, refl, sym, ap, subst, ◌∙◌, arith}
 use Rattle.std.proofs.lemmas.Bool.{cases_lt}
-use Rattle.std.proofs.lemmas.List.{length-map, take-map, drop-map, get_or-map}
+use Rattle.std.proofs.lemmas.List.{length-map, take-map, drop-map}
 use Rattle.std.proofs.lemmas.List.Sums.{sum_by-cons, sum-map}
 use Rattle.kt_rules.specs.Amounts.{total}
 use Rattle.kt_rules.specs.LossAlone.{looks_back, loss_after, loss-alone}
 use Rattle.kt_rules.specs.Profiles.{IsProfile}
 use Rattle.kt_rules.specs.declared.carry.Carry.{Carry}
 use Rattle.kt_tree.specs.Sums.{sum_by-below}
-use Rattle.kt_tree.specs.Tree.{Tree, whole_loss}
-use Rattle.kt_fmtree.specs.Parts.{Parts, IsNode, IsProgramme, HasProgramme, units_at}
+use Rattle.kt_tree.specs.Tree.{whole_loss}
+use Rattle.kt_fmtree.specs.Parts.{Parts, IsNode, HasProgramme, units_at}
 use Rattle.kt_fmtree.specs.Carried.{added, child_sum, node_carry, leaf_row, row_of, CanCarry}
 use Rattle.kt_fmtree.specs.CarriedLaws.{can-carry, map-agree, map-map}
 use Rattle.kt_fmtree.specs.declared.node.Node.{Node}
-use Rattle.kt_lanes.specs.Lanes.{column, AreWide, AreLanes, losses_of, child_losses, unit_loss, CanTake}
+use Rattle.kt_lanes.specs.Lanes.{column, AreLanes, losses_of, child_losses, unit_loss, CanTake}
 use Rattle.kt_lanes.specs.LaneLaws.{lanes-are, length-more}
-use Rattle.kt_lanes.specs.Climbed.{ArePlain, HasPlainUnits, AreLevel, AreLosses, level_lanes}
+use Rattle.kt_lanes.specs.Climbed.{HasPlainUnits, AreLevel, AreLosses, level_lanes}
 
 -- ---- losses of children
 

@@ -1,30 +1,29 @@
 -- Laws of amounts that are given down by lanes.
 -- The rule: docs/FINANCIAL_MODULE.md, "Allocation".
-use Rattle.std.specs.Prelude.{◌≡◌, ◌⊎◌, ℕ, zero, suc, ◌+◌, ◌-◌, ◌*◌, ◌/◌, ◌<◌, ◌≤◌, ◌^◌, Bool, true, false, cond, nat_eq, List, [], ◌∷◌, ◌++◌, Vec, All, length, map, take, drop, slice_index, slice_index_or, replicate}
+use Rattle.std.specs.Prelude.{◌≡◌, ◌⊎◌, ℕ, zero, suc, ◌+◌, ◌*◌, ◌/◌, ◌<◌, ◌≤◌, Bool, true, false, cond, nat_eq, List, [], ◌∷◌, ◌++◌, Vec, All, length, map, take, drop, slice_index, slice_index_or, replicate}
 use Rattle.std.specs.List.{AllByRecursion, flat_map, range_with_len, sum, sum_by}
 use Rattle.std.specs.declared.alloc.Global.{Global}
 use Rattle.std.proofs.Common.{inl, inr, refl, sym, ap, subst, ◌∙◌, arith}
 use Rattle.std.proofs.Math.Nat.{zero-div}
 use Rattle.std.proofs.lemmas.Bool.{cases_lt, eqb-true}
-use Rattle.std.proofs.lemmas.List.{length-map, length-append, map-append, take-map, take_all, drop-map, get_or-take, get_or-drop, get_or-map}
+use Rattle.std.proofs.lemmas.List.{length-map, length-append, map-append, take_all, get_or-take, get_or-drop}
 use Rattle.std.proofs.lemmas.List.Elements.{All-from_recursion}
-use Rattle.std.proofs.lemmas.List.FromFn.{get_or-map-range_with_len}
-use Rattle.std.proofs.lemmas.List.Sums.{sum_by-cons, sum-map}
+use Rattle.std.proofs.lemmas.List.Sums.{sum-map}
 use Rattle.kt_money.specs.Sharing.{share_of, shares_after, share_out}
 use Rattle.kt_money.specs.SharingLaws.{share_of-le}
 use Rattle.kt_rules.specs.Amounts.{total}
-use Rattle.kt_rules.specs.LossAlone.{loss_after, loss_after-le}
+use Rattle.kt_rules.specs.LossAlone.{loss_after-le}
 use Rattle.kt_rules.specs.Profiles.{IsProfile}
 use Rattle.kt_rules.specs.declared.carry.Carry.{Carry}
 use Rattle.kt_tree.specs.Sums.{each_flat_map}
 use Rattle.kt_tree.specs.TreeLaws.{shares_of}
-use Rattle.kt_fmtree.specs.Carried.{Carried, IsCarriedBy, added, node_carry, row_of}
-use Rattle.kt_fmtree.specs.Parts.{Parts, HasProgramme, units_at}
+use Rattle.kt_fmtree.specs.Carried.{node_carry, row_of}
+use Rattle.kt_fmtree.specs.Parts.{Parts, HasProgramme}
 use Rattle.kt_fmtree.specs.LoopLaws.{flat_map-goes}
 use Rattle.kt_fmtree.specs.declared.node.Node.{Node}
-use Rattle.kt_alloc.specs.Placed.{weight, weights, amounts_for, parts_from, children_of, no_node, node_at, given_by, level_down, CanShare}
+use Rattle.kt_alloc.specs.Placed.{weights, amounts_for, parts_from, children_of, no_node, node_at, given_by, level_down}
 use Rattle.kt_alloc.specs.declared.part.PlacedPart.{PlacedPart}
-use Rattle.kt_lanes.specs.Lanes.{column, AreWide, AreLanes, losses_of, child_losses, unit_loss}
+use Rattle.kt_lanes.specs.Lanes.{column, AreWide, losses_of, child_losses}
 use Rattle.kt_lanes.specs.LaneLaws.{All-first, column-at}
 use Rattle.kt_lanes.specs.Climbed.{HasPlainUnits}
 use Rattle.kt_lanes.specs.ClimbedLaws.{child_losses-of, node_carry-loss}

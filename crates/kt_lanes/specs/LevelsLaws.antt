@@ -1,18 +1,17 @@
 -- Laws of amounts that are given down by lanes, from a level to the next one below.
 -- The rule: docs/FINANCIAL_MODULE.md, "Allocation".
-use Rattle.std.specs.Prelude.{◌≡◌, ℕ, zero, suc, ◌+◌, ◌-◌, ◌<◌, ◌≤◌, ◌^◌, false, List, [], ◌∷◌, Vec, All, length, map, slice_index, slice_index_or}
-use Rattle.std.specs.List.{AllByRecursion, flat_map, sum}
+use Rattle.std.specs.Prelude.{◌≡◌, ℕ, suc, ◌<◌, ◌≤◌, false, List, [], Vec, All, length, slice_index, slice_index_or}
+use Rattle.std.specs.List.{AllByRecursion, flat_map}
 use Rattle.std.specs.declared.alloc.Global.{Global}
-use Rattle.std.proofs.Common.{refl, sym, ap, subst, ◌∙◌, arith}
+use Rattle.std.proofs.Common.{sym, ap, subst, ◌∙◌, arith}
 use Rattle.std.proofs.lemmas.List.{length-map}
 use Rattle.std.proofs.lemmas.List.FromFn.{get_or-map-range_with_len}
 use Rattle.kt_fmtree.specs.Carried.{row_from, row_of, leaf_row}
-use Rattle.kt_fmtree.specs.Parts.{Parts, HasProgramme, units_at}
-use Rattle.kt_fmtree.specs.declared.node.Node.{Node}
+use Rattle.kt_fmtree.specs.Parts.{Parts, HasProgramme}
 use Rattle.kt_alloc.specs.DownLaws.{can-next, nodes-places, levels-next}
-use Rattle.kt_alloc.specs.Placed.{level_down, levels_down, node_at, CanShare}
+use Rattle.kt_alloc.specs.Placed.{level_down, levels_down}
 use Rattle.kt_alloc.specs.declared.part.PlacedPart.{PlacedPart}
-use Rattle.kt_lanes.specs.Lanes.{column, losses_of, CanTake, child_losses}
+use Rattle.kt_lanes.specs.Lanes.{column, losses_of, CanTake}
 use Rattle.kt_lanes.specs.Climbed.{IsClimbed, carried_at, level_lanes}
 use Rattle.kt_lanes.specs.ClimbedLaws.{can-take}
 use Rattle.kt_lanes.specs.Down.{AreBacked, ArePlaced, CanGive, given_losses, placed_at}

@@ -1,34 +1,33 @@
 -- Laws of policy losses by lanes, and of what the ids beneath a top have of them.
 -- The rules: docs/FINANCIAL_MODULE.md, "Policy losses", "Allocation".
-use Rattle.std.specs.Prelude.{◌≡◌, ℕ, zero, suc, ◌+◌, ◌-◌, ◌<◌, ◌≤◌, ◌^◌, Bool, true, false, cond, nat_eq, List, [], ◌∷◌, Vec, All, length, map, slice_index, slice_index_or}
+use Rattle.std.specs.Prelude.{◌≡◌, ℕ, suc, ◌-◌, ◌<◌, ◌≤◌, ◌^◌, Bool, true, false, cond, nat_eq, List, [], ◌∷◌, Vec, All, length, map, slice_index, slice_index_or}
 use Rattle.std.specs.List.{AllByRecursion, filter, list_any, sum, sum_by}
 use Rattle.std.specs.declared.alloc.Global.{Global}
 use Rattle.std.proofs.Common.{refl, sym, ap, subst, ◌∙◌, arith}
 use Rattle.std.proofs.lemmas.List.{length-map, get_or-map, get_or_default}
 use Rattle.kt_money.specs.Sharing.{share_out}
-use Rattle.kt_rec.specs.Rising.{IsRising}
 use Rattle.kt_rules.specs.LossAlone.{looks_back, loss_after, loss-alone, loss_after-le}
 use Rattle.kt_rules.specs.Profiles.{IsProfile}
 use Rattle.kt_rules.specs.declared.carry.Carry.{Carry}
 use Rattle.kt_rules.specs.declared.profile.Profile.{Profile}
 use Rattle.kt_tree.specs.Sharing.{part_of, shared_at_once, shared_down}
 use Rattle.kt_tree.specs.Sums.{each_member}
-use Rattle.kt_tree.specs.Tree.{Tree, base_of, beneath, comes_to, policy_loss, whole_loss}
+use Rattle.kt_tree.specs.Tree.{Tree, base_of, beneath, comes_to, whole_loss}
 use Rattle.kt_tree.specs.TreeLaws.{shares_of}
-use Rattle.kt_fmtree.specs.Carried.{Carried, AreCarried, IsCarriedBy, child_sum, loss_by, row_of}
+use Rattle.kt_fmtree.specs.Carried.{AreCarried, IsCarriedBy, child_sum, loss_by, row_of}
 use Rattle.kt_fmtree.specs.CarriedLaws.{loss_by-at, losses-few as all-few, map-agree, map-map}
 use Rattle.kt_fmtree.specs.Parts.{Parts, IsProgramme, HasProgramme, units_at}
 use Rattle.kt_fmtree.specs.PartsLaws.{base-at, beneath-are}
 use Rattle.kt_fmtree.specs.ProgrammeLaws.{programme-carries}
 use Rattle.kt_fmtree.specs.declared.node.Node.{Node}
-use Rattle.kt_alloc.specs.AllocateLaws.{beneath-rises, down-are, leaves-places, losses-few, policy-few, shared-few, top-can}
+use Rattle.kt_alloc.specs.AllocateLaws.{down-are, leaves-places, losses-few, shared-few, top-can}
 use Rattle.kt_alloc.specs.Placed.{levels_down, no_node, node_at, unit_parts}
 use Rattle.kt_alloc.specs.declared.part.PlacedPart.{PlacedPart}
 use Rattle.kt_lanes.specs.Lanes.{column, AreLanes, IsLane, CanTake, child_losses, losses_of}
 use Rattle.kt_lanes.specs.LaneLaws.{lanes-are}
 use Rattle.kt_lanes.specs.Climbed.{IsClimbed, carried_at, level_lanes}
 use Rattle.kt_lanes.specs.ClimbedLaws.{can-take, child_sum-loss}
-use Rattle.kt_lanes.specs.Down.{AreBacked, ArePlaced, CanGive, placed_at}
+use Rattle.kt_lanes.specs.Down.{CanGive, placed_at}
 use Rattle.kt_lanes.specs.DownLaws.{places-all}
 use Rattle.kt_lanes.specs.Policies.{top_losses, IsTopBase, IsPolicy}
 use Rattle.kt_lanes.specs.declared.climbing.Climbed.{Climbed}

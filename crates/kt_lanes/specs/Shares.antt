@@ -1,6 +1,6 @@
 -- Totals that are shared out over lanes, child by child.
 -- The rule: docs/CALCULATION.md, "Share-out".
-use Rattle.std.specs.Prelude.{◌≡◌, ℕ, ◌+◌, ◌<◌, ◌≤◌, ◌^◌, List, Vec, length, slice_index, take}
+use Rattle.std.specs.Prelude.{◌≡◌, ℕ, ◌<◌, ◌≤◌, ◌^◌, List, Vec, length, slice_index, take}
 use Rattle.std.specs.List.{sum}
 use Rattle.std.specs.declared.alloc.Global.{Global}
 use Rattle.kt_money.specs.Sharing.{share_to, share_out}

@@ -1,13 +1,13 @@
 -- What steps leave of many losses, each by itself.
 -- The rules: docs/FINANCIAL_MODULE.md, "Steps".
-use Rattle.std.specs.Prelude.{◌≡◌, ℕ, zero, suc, ◌+◌, ◌-◌, ◌<◌, ◌≤◌, ◌^◌, ◌&&◌, Bool, true, false, cond, nat_lt, List, [], ◌∷◌, length, slice_index}
+use Rattle.std.specs.Prelude.{◌≡◌, ℕ, ◌<◌, ◌≤◌, ◌^◌, ◌&&◌, Bool, true, false, cond, nat_lt, List, [], ◌∷◌, length, slice_index}
 use Rattle.std.proofs.Common.{refl, sym, ap, subst, ◌∙◌, arith}
 use Rattle.std.proofs.lemmas.Bool.{and_parts, true≢false}
 use Rattle.kt_rules.specs.declared.carry.Carry.{Carry}
 use Rattle.kt_rules.specs.declared.profile.Profile.{Profile}
 use Rattle.kt_rules.specs.declared.steps.Step.{Step}
 use Rattle.kt_rules.specs.declared.steps.Step.TheVariants as step
-use Rattle.kt_rules.specs.Amounts.{deduct, franchise, reverse_franchise}
+use Rattle.kt_rules.specs.Amounts.{deduct}
 use Rattle.kt_rules.specs.LossAlone.{untouched, alone-franchise, alone-reverse_franchise}
 use Rattle.kt_rules.specs.Profiles.{IsProfile}
 use Rattle.kt_rules.specs.RuleLaws.{ppm_part-le}

@@ -6,7 +6,7 @@ use Rattle.std.proofs.Common.{refl, arith, ap, ◌∙◌}
 use Rattle.std.proofs.lemmas.Bool.{true≢false, eqb-true}
 use Rattle.kt_rules.specs.declared.carry.Carry.{Carry}
 use Rattle.kt_rules.specs.declared.profile.Profile.{Profile}
-use Rattle.kt_rules.specs.Amounts.{total, deduct, franchise, reverse_franchise}
+use Rattle.kt_rules.specs.Amounts.{deduct, franchise, reverse_franchise}
 use Rattle.kt_rules.specs.RuleLaws.{AreShares, loss-le-total}
 use Rattle.kt_rules.specs.Rules.{Rule, rules, rule_among, rule_of, applied}
 

@@ -1,17 +1,17 @@
 -- The losses of rows.
-use Rattle.std.proofs.Common.{◌≡◌, ℕ, zero, suc, ◌+◌, ◌-◌, ◌<◌, ◌≤◌, false, cond, nat_eq, ℤ, List, [], ◌∷◌, length, map, slice_index, refl, sym, ap, subst, ◌∙◌, arith}
+use Rattle.std.proofs.Common.{◌≡◌, ℕ, ◌+◌, ◌-◌, ◌<◌, ◌≤◌, cond, nat_eq, List, [], ◌∷◌, map, slice_index, refl, sym, ap, ◌∙◌, arith}
 use Rattle.std.specs.List.{AllByRecursion, list_any, range_with_len}
 use Rattle.kt_stream.specs.declared.entry.LossRecord.{LossRecord}
 use Rattle.kt_runs.specs.RunLosses.{AreWithin}
 use Rattle.kt_runs.specs.Sidx.{sidx_at}
 use Rattle.kt_tree.specs.Tree.{Tree}
 use Rattle.kt_shares.specs.LookupLaws.{member-at}
-use Rattle.kt_shares.specs.Row.{Shared, row_for}
+use Rattle.kt_shares.specs.Row.{row_for}
 use Rattle.kt_shares.specs.RowLaws.{each-range, place-in}
 use Rattle.kt_shares.specs.Rows.{ArePlacedLosses}
 use Rattle.kt_shares.specs.Shares.{id_loss, taken_loss}
 use Rattle.kt_shares.specs.Table.{row_place, table_for}
-use Rattle.kt_shares.specs.Taken.{ArePlaced, placed_loss, placed_sum}
+use Rattle.kt_shares.specs.Taken.{ArePlaced, placed_sum}
 use Rattle.kt_shares.specs.declared.losses.PlacedLosses.{PlacedLosses}
 
 -- what agrees at each row of a range makes the same rows

@@ -1,6 +1,6 @@
 -- What layers have at all sidx of a run, by lanes.
 -- The rules: docs/FINANCIAL_MODULE.md, "Allocation", "Insured losses".
-use Rattle.std.specs.Prelude.{◌≡◌, ℕ, ◌+◌, ◌<◌, ◌≤◌, false, List, [], ◌∷◌, Vec, All, length, map, slice_index}
+use Rattle.std.specs.Prelude.{◌≡◌, ℕ, ◌<◌, false, List, [], ◌∷◌, Vec, All, length, map, slice_index}
 use Rattle.std.specs.List.{flat_map}
 use Rattle.std.specs.declared.alloc.Global.{Global}
 use Rattle.kt_rules.specs.LossAlone.{looks_back}

@@ -1,4 +1,4 @@
-use Rattle.std.proofs.Common.{◌≡◌, ◌∙◌, ◌+◌, ap, slice_index_or, slice_set, arith}
+use Rattle.std.proofs.Common.{◌∙◌, ◌+◌, ap, slice_set, arith}
 use Rattle.std.proofs.lemmas.List.{get_or_read}
 use Rattle.kt_alloc.specs.IdLaws.{with-found}
 use Rattle.kt_alloc.proofs.by_id.add_at.Goals as goal

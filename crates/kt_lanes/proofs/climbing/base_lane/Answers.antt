@@ -1,6 +1,6 @@
 use Rattle.std.proofs.Common.{◌≡◌, ◌≤◌, ◌+◌, ◌-◌, ◌^◌, ◌∙◌, ℕ, List, take, drop, sym, ap, subst, arith}
 use Rattle.std.specs.List.{sum}
-use Rattle.kt_lanes.specs.Lanes.{column, child_losses}
+use Rattle.kt_lanes.specs.Lanes.{column}
 use Rattle.kt_lanes.specs.LaneLaws.{column-part}
 use Rattle.kt_lanes.proofs.climbing.base_lane.Goals as goal
 

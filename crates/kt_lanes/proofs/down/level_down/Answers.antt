@@ -1,6 +1,6 @@
 use Rattle.std.proofs.Common.{◌≡◌, ◌≤◌, ◌<◌, ◌∙◌, ◌++◌, ℕ, List, length, slice_index, slice_index_or, sym, ap, subst, arith}
 use Rattle.std.specs.List.{flat_map, sum}
-use Rattle.std.proofs.lemmas.List.{get_or_default, get_or_read, length-map, take_all}
+use Rattle.std.proofs.lemmas.List.{get_or_default, get_or_read}
 use Rattle.kt_money.specs.Sharing.{share_out}
 use Rattle.kt_fmtree.specs.declared.node.Node.{Node}
 use Rattle.kt_alloc.specs.Placed.{no_node, node_at, parts_from}

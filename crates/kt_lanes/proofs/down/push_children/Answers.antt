@@ -1,4 +1,4 @@
-use Rattle.std.proofs.Common.{◌≡◌, ◌≤◌, ◌<◌, ◌+◌, ◌-◌, ◌^◌, ◌∙◌, ℕ, List, Vec, Global, length, slice_index, take, drop, sym, ap, subst, arith}
+use Rattle.std.proofs.Common.{◌≡◌, ◌≤◌, ◌+◌, ◌-◌, ◌^◌, ◌∙◌, ℕ, List, Vec, Global, length, slice_index, take, drop, sym, ap, subst, arith}
 use Rattle.std.specs.List.{sum}
 use Rattle.kt_money.specs.Sharing.{share_out}
 use Rattle.kt_lanes.specs.Lanes.{AreWide, child_losses, column}

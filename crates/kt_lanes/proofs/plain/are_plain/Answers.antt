@@ -1,4 +1,4 @@
-use Rattle.std.proofs.Common.{◌≡◌, ◌≤◌, ◌∙◌, false, take, length, sym, subst, arith}
+use Rattle.std.proofs.Common.{◌≡◌, ◌∙◌, false, take, sym, subst, arith}
 use Rattle.std.proofs.lemmas.List.{take_more, take_all}
 use Rattle.kt_rules.specs.LossAlone.{looks_back}
 use Rattle.kt_fmtree.specs.declared.node.Node.{Node}

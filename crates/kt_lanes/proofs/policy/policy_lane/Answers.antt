@@ -1,4 +1,4 @@
-use Rattle.std.proofs.Common.{◌≡◌, ◌≤◌, ◌<◌, ◌^◌, ℕ, slice_index, sym, subst}
+use Rattle.std.proofs.Common.{◌≤◌, ◌<◌, ◌^◌, sym, subst}
 use Rattle.kt_lanes.specs.PoliciesLaws.{policies, top-few}
 use Rattle.kt_lanes.proofs.policy.policy_lane.Goals as goal
 

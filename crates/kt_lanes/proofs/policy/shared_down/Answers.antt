@@ -1,4 +1,4 @@
-use Rattle.std.proofs.Common.{◌≡◌, ◌≤◌, ◌<◌, ◌^◌, ◌∙◌, ℕ, List, [], ◌∷◌, false, length, slice_index, sym, ap, subst}
+use Rattle.std.proofs.Common.{◌≡◌, ◌<◌, ◌∙◌, ℕ, List, [], ◌∷◌, false, length, slice_index, sym, ap, subst}
 use Rattle.kt_alloc.specs.AllocateLaws.{beneath-rises}
 use Rattle.kt_alloc.specs.Placed.{levels_down}
 use Rattle.kt_alloc.specs.declared.part.PlacedPart.{PlacedPart}

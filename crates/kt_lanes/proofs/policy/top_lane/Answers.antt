@@ -1,4 +1,4 @@
-use Rattle.std.proofs.Common.{◌≡◌, ◌-◌, ◌<◌, ◌∙◌, ℕ, List, Vec, Global, [], length, slice_index_or, sym, ap, subst, arith}
+use Rattle.std.proofs.Common.{◌≡◌, ◌-◌, ◌<◌, ◌∙◌, ℕ, List, Vec, Global, [], length, slice_index_or, sym, ap, subst}
 use Rattle.std.specs.List.{sum}
 use Rattle.kt_fmtree.specs.declared.node.Node.{Node}
 use Rattle.kt_lanes.specs.Lanes.{CanTake, IsLane, child_losses, column}

@@ -1,4 +1,4 @@
-use Rattle.std.proofs.Common.{◌≡◌, ◌≤◌, ◌<◌, ◌+◌, ◌-◌, ◌^◌, ◌∙◌, ℕ, List, length, slice_index, sym, ap, subst, arith}
+use Rattle.std.proofs.Common.{◌≡◌, ◌≤◌, ◌<◌, ◌+◌, ◌-◌, ◌^◌, ℕ, List, length, slice_index, sym, subst, arith}
 use Rattle.kt_money.specs.Sharing.{share_to}
 use Rattle.kt_lanes.specs.Lanes.{IsLane}
 use Rattle.kt_lanes.specs.Shares.{CanPart}

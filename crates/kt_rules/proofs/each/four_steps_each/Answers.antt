@@ -1,4 +1,4 @@
-use Rattle.std.proofs.Common.{◌≡◌, ℕ, List, length, get_or, sym, subst}
+use Rattle.std.proofs.Common.{◌≡◌, List, length, get_or, sym, subst}
 use Rattle.kt_rules.specs.declared.steps.Step.{Step}
 use Rattle.kt_rules.specs.declared.steps.Step.TheVariants as step
 use Rattle.kt_rules.specs.Each.{IsEach, each-few, each-then, step_loss, steps_loss}

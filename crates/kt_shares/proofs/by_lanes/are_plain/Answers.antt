@@ -1,4 +1,4 @@
-use Rattle.std.proofs.Common.{◌≡◌, ◌≤◌, ◌∙◌, List, take, length, slice_index_or, sym, subst, arith}
+use Rattle.std.proofs.Common.{◌∙◌, List, take, slice_index_or, sym, subst, arith}
 use Rattle.std.specs.List.{All}
 use Rattle.std.proofs.lemmas.List.{take_more, take_all}
 use Rattle.kt_lanes.specs.LaneLaws.{All-more}

@@ -1,4 +1,4 @@
-use Rattle.std.proofs.Common.{◌≡◌, ◌<◌, ◌≤◌, ◌+◌, ◌-◌, ◌∙◌, ℕ, List, Vec, Global, length, map, sym, ap, subst, arith}
+use Rattle.std.proofs.Common.{◌≡◌, ◌<◌, ◌+◌, ◌-◌, ◌∙◌, ℕ, List, Vec, Global, length, map, sym, ap, subst, arith}
 use Rattle.std.specs.List.{All, range_with_len}
 use Rattle.kt_shares.specs.ByLanes.{AreIdLanes, AreLayers, HasSidx, lane_row}
 use Rattle.kt_shares.specs.Layers.{key_of}
