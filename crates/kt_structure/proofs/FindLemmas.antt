@@ -1,6 +1,6 @@
 -- What a plan finds is what the tree of the tables has.
 use Rattle.std.proofs.Common.{◌≡◌, ℕ, ◌+◌, ◌*◌, ◌^◌, ◌<◌, ◌≤◌, Bool, true, false, cond, List, [], ◌∷◌, map, refl, ap, sym, subst, ◌∙◌, nat_eq, Option, None, Some, arith}
-use Rattle.std.specs.Prelude.{◌&&◌, option_map, nat_lt}
+use Rattle.std.specs.Prelude.{◌&&◌, option_map}
 use Rattle.std.specs.List.{All, AllByRecursion, IsDistinct, cons_option, filter, filter_map, flat_map, sum_by}
 use Rattle.std.specs.HashMap.{get}
 use Rattle.std.specs.Map.{lookup}

@@ -1,5 +1,5 @@
 -- The structure that is made of the tables is that of their tree.
-use Rattle.std.proofs.Common.{◌≡◌, ℕ, zero, suc, ◌+◌, ◌^◌, ◌<◌, ◌≤◌, Bool, true, false, cond, List, [], ◌∷◌, Option, None, Some, map, nat_eq, refl, sym, ap, subst, ◌∙◌, ◌*◌, arith}
+use Rattle.std.proofs.Common.{◌≡◌, ℕ, zero, suc, ◌+◌, ◌^◌, ◌<◌, ◌≤◌, Bool, true, false, cond, List, [], ◌∷◌, Option, None, Some, map, nat_eq, refl, sym, ap, ◌∙◌, arith}
 use Rattle.std.specs.Prelude.{◌&&◌, ◌||◌}
 use Rattle.std.specs.Cmp.{nat_eq_equiv}
 use Rattle.std.specs.List.{AllByRecursion, filter, list_any}
@@ -12,7 +12,6 @@ use Rattle.kt_keys.specs.Climbing.{after, climbed, next_unit}
 use Rattle.kt_tree.specs.Programme.{or_first, tiv_beneath, tree_of}
 use Rattle.kt_structure.specs.ProgrammeLaws.{tree_of-is}
 use Rattle.kt_rec.specs.Rising.{rising-member, rising-rises}
-use Rattle.kt_tree.specs.Tree.{is_unit}
 use Rattle.kt_tree.specs.TreeLaws.{climbed-last}
 use Rattle.kt_structure.specs.Plan.{AreTerms, found_terms, layer_link, link_key, linked}
 use Rattle.kt_structure.specs.Ready.{IsReady}

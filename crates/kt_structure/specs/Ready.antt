@@ -1,5 +1,5 @@
 -- What the tables of a programme keep, so that it can be made.
-use Rattle.std.specs.Prelude.{◌≡◌, ℕ, suc, ◌≤◌, ◌<◌, true, max, List, [], ◌∷◌, length, All, slice_index_or}
+use Rattle.std.specs.Prelude.{◌≡◌, ℕ, ◌≤◌, ◌<◌, true, max, List, [], ◌∷◌, length, All, slice_index_or}
 use Rattle.std.specs.List.{fold}
 use Rattle.std.proofs.Common.{arith}
 use Rattle.std.proofs.lemmas.List.Elements.{recursion_from_All}
