@@ -1,6 +1,6 @@
 -- A run of all stages over a made-up set, in memory.
 use Rattle.std.proofs.Common.{◌≡◌, ◌∙◌, ℕ, Bool, true, false, List, [], ◌∷◌, length, Option, None, Some, Result, Ok, Err, refl, sym, ap, subst, arith, inl, inr}
-use Rattle.std.specs.Prelude.{◌⊎◌, ◌&&◌, ◌++◌, is_some, map, nat_lt, if◌then◌else◌}
+use Rattle.std.specs.Prelude.{◌⊎◌, ◌&&◌, ◌++◌, is_some, map, nat_lt, if◌then◌else◌, MatchResult}
 use Rattle.std.specs.List.{list_all}
 use Rattle.kt_cells.specs.declared.stop.TableStop.{TableStop}
 use Rattle.kt_cells.specs.declared.stop.TableStop.TheVariants as table
@@ -252,3 +252,7 @@ shown_stopped found uses run before (stop.Refused why) stops = ends_refused foun
 shown_stopped found uses run before stop.ReadFault stops = absurd stops
 shown_stopped found uses run before stop.WriteFault stops = absurd stops
 shown_stopped found uses run before stop.NoMemory stops = ends_for_memory found uses (λ files source. shown run) before before (untouched uses before)
+
+-- memory was wanting before the run began
+pub memory_in_memory : {T : Type 0} (made : T → Type 0) (run : Outcome) (answer : Result T ToolStop) (why : ToolStop) → answer ≡ Err why → why ≡ stop.NoMemory → MatchResult answer made (StopsInMemory run)
+memory_in_memory {T} made run answer why is none = subst (λ (one : Result T ToolStop). MatchResult one made (StopsInMemory run)) (sym (is ∙ ap (λ (s : ToolStop). Err s) none)) tt

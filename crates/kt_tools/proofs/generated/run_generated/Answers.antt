@@ -1,4 +1,5 @@
 use Rattle.std.proofs.Common.{◌≡◌, ◌∙◌, ap, subst, sym}
+use Rattle.std.proofs.lemmas.Result.{err_from_is_err_and}
 use Rattle.kt_ends.specs.declared.status.Status.TheVariants as status
 use Rattle.kt_ends.specs.Stops.{stop_status}
 use Rattle.kt_event.specs.Needs.{chain_need}
@@ -10,8 +11,13 @@ use Rattle.kt_load.specs.Loaded.{loaded}
 use Rattle.kt_out.specs.MemoryObjects.{SureFiles}
 use Rattle.kt_out.specs.NamedFiles.{bytes_of}
 use Rattle.kt_tools.specs.GeneratedRun.{StopsInMemory, generated_run, generated_terms}
-use Rattle.kt_tools.proofs.GeneratedLemmas.{ends_by_terms, footprint_known, loaded_for_run, made_in_memory, no_sink, no_source, still_held, stops_in_memory, sure_inputs, unloaded_in_memory}
+use Rattle.kt_tools.proofs.GeneratedLemmas.{ends_by_terms, footprint_known, loaded_for_run, made_in_memory, memory_in_memory, no_sink, no_source, still_held, stops_in_memory, sure_inputs, unloaded_in_memory}
 use Rattle.kt_tools.proofs.generated.run_generated.Goals as goal
+
+pub returns-in_err-files : goal.returns-in_err-files
+returns-in_err-files g c =
+    let stop = err_from_is_err_and c.from_residual-in_err-files.result c.from_residual-in_err-files.ensures.1 in
+    memory_in_memory _ (generated_run c.args.seed c.args.items c.args.events) c.from_residual-in_err-files.result stop.0 stop.1 stop.2
 
 pub returns-in-Err : goal.returns-in-Err
 returns-in-Err g c =
