@@ -104,6 +104,8 @@ module _ (terms : Terms) (rows : Rows) (inputs inputs_now : InputsState) (output
     files = λ files bytes finds. makes (run_input terms rows files) (is_run has files (finds.files_told refl));
     counted = counted_by answer counts stop;
     at_end = λ used. absurd (false≢true used);
+    hides_none = λ used. absurd (false≢true used);
+    unwritten = λ whole. absurd (false≢true whole);
     kept = record { files = held_by answer counts; inputs = may_change true refl; outputs = may_change true refl; source = λ unused. refl; sink = λ unused. refl };
   }
 

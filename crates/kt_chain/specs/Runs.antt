@@ -139,7 +139,7 @@ RoundMakes run done events before after (Err NoMemory) = MakesSome run done even
 
 -- the objects that a run uses: the input files and the output files
 abbrev pub chain_uses : Uses
-chain_uses = record { inputs = true; outputs = true; source = false; sink = false }
+chain_uses = record { inputs = true; outputs = true; source = false; whole = false; sink = false }
 
 -- what a run made of the output files, where they tell what they hold
 abbrev pub RunMakes : RunInput → OutputsState → OutputsState → Result (Unit {0}) ToolStop → Type 0

@@ -1,6 +1,6 @@
 -- How a run ends, by its status: what it says, what it has written, and which faults were counted.
 -- The rules: docs/REFUSALS.md, "Statuses".
-use Rattle.std.specs.Prelude.{◌≡◌, ◌⊎◌, ℕ, true, List, [], ◌∷◌, ◌++◌, Option, Some, None, Result, IfSome, IsSomeAnd}
+use Rattle.std.specs.Prelude.{◌≡◌, ◌⊎◌, ℕ, true, false, List, [], ◌∷◌, ◌++◌, Option, Some, None, Result, IfSome, IsSomeAnd}
 use Rattle.std.specs.Option.{option_or}
 use Rattle.kt_out.specs.Counts.{Rose}
 use Rattle.kt_out.specs.InputFiles.{InputsState}
@@ -8,6 +8,7 @@ use Rattle.kt_out.specs.NamedFiles.{File, FileMap, bytes_of}
 use Rattle.kt_out.specs.OutputFiles.{OutputsState}
 use Rattle.kt_out.specs.Reading.{SourceState}
 use Rattle.kt_out.specs.Writing.{SinkState}
+use Rattle.kt_ends.specs.Hiding.{HidesNone}
 use Rattle.kt_ends.specs.Outcome.{Outcome}
 use Rattle.kt_ends.specs.Stops.{end_status}
 use Rattle.kt_ends.specs.World.{World, Uses, Finds, KeepsOthers, world}
@@ -33,6 +34,11 @@ Verdict wanted end = BySettled end (wanted ≡ end) (Unit {0})
 abbrev pub IsMissing : Status → Type 0
 IsMissing (status.Refused (refusal.Missing name)) = Unit {0}
 IsMissing end = ⊥
+
+-- a run that was refused, whatever for
+abbrev pub IsRefusal : Status → Type 0
+IsRefusal (status.Refused why) = Unit {0}
+IsRefusal end = ⊥
 
 -- ---- what the sink has gained
 
@@ -155,6 +161,8 @@ pub record Ended (found : FileMap → List ℕ → Type 0) (uses : Uses) (made :
   pub files : (files : FileMap) (source : List ℕ) → found files source → FilesMade (made files source).files before.outputs after.outputs end
   pub counted : Counted before after end
   pub at_end : uses.source ≡ true → AtEnd before.source.left after.source.left end
+  pub hides_none : uses.source ≡ true → uses.whole ≡ false → (files : FileMap) (source : List ℕ) → found files source → HidesNone (made files) before.source after.source end
+  pub unwritten : uses.whole ≡ true → (files : FileMap) (source : List ℕ) → found files source → IsRefusal (made files source).status → after.sink ≡ before.sink
   pub kept : KeepsOthers uses before after
 
 -- how a tool ends that finds what the objects that it uses tell

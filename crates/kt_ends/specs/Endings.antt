@@ -3,7 +3,7 @@
 use Rattle.std.proofs.Common.{subst, sym, ap, ◌∙◌, refl, inl, inr}
 use Rattle.std.proofs.lemmas.Bool.{false≢true}
 use Rattle.std.proofs.lemmas.List.{append-nil, take-append-drop}
-use Rattle.std.specs.Prelude.{◌≡◌, ℕ, Bool, true, List, [], ◌++◌, take, drop, Option, Some, None, IfSome, IsSomeAnd, Result, Ok, Err}
+use Rattle.std.specs.Prelude.{◌≡◌, ℕ, Bool, true, false, List, [], ◌∷◌, ◌++◌, take, drop, Option, Some, None, IfSome, IsSomeAnd, Result, Ok, Err}
 use Rattle.kt_out.specs.Counts.{Rose}
 use Rattle.kt_out.specs.InputFiles.{InputsState, CountsFault, CountsMiss}
 use Rattle.kt_out.specs.NamedFiles.{File, FileMap}
@@ -12,7 +12,8 @@ use Rattle.kt_out.specs.Reading.{SourceState}
 use Rattle.kt_out.specs.Writing.{SinkState, Gains, GainsFront, WritesAll}
 use Rattle.kt_out.specs.declared.fault.Fault.{Fault}
 use Rattle.kt_out.specs.declared.fault.Fault.TheVariants.{Failed, OutOfMemory}
-use Rattle.kt_ends.specs.Ending.{AtEnd, BySettled, Verdict, SinkGains, FilesMade, GainedFront, IsMissing, Made, PartlyMade, NoCount, KeepsReads, KeepsWrites, Counted, Ended}
+use Rattle.kt_ends.specs.Ending.{AtEnd, BySettled, Verdict, SinkGains, FilesMade, GainedFront, IsMissing, IsRefusal, Made, PartlyMade, NoCount, KeepsReads, KeepsWrites, Counted, Ended}
+use Rattle.kt_ends.specs.Hiding.{HidesNone, IsUnrefused, none_failed}
 use Rattle.kt_ends.specs.Outcome.{Outcome}
 use Rattle.kt_ends.specs.Stops.{fault_stop, stop_status}
 use Rattle.kt_ends.specs.World.{World, Uses, Keeps, KeepsOthers}
@@ -100,13 +101,15 @@ kept_writes before now outputs sink = record { outputs = ap (λ (state : Outputs
 
 module _ (found : FileMap → List ℕ → Type 0) (uses : Uses) (made : FileMap → List ℕ → Outcome) (before now : World) where
   -- a run ends that has written nothing
-  ends_empty : (end : Status) → ((files : FileMap) (source : List ℕ) → found files source → ComesToNothing (made files source) end) → now.outputs ≡ before.outputs → now.sink ≡ before.sink → Counted before now end → (uses.source ≡ true → AtEnd before.source.left now.source.left end) → KeepsOthers uses before now → Ended found uses made before now end
-  ends_empty end is outputs sink counted at_end kept = record {
+  ends_empty : (end : Status) → ((files : FileMap) (source : List ℕ) → found files source → ComesToNothing (made files source) end) → now.outputs ≡ before.outputs → now.sink ≡ before.sink → Counted before now end → (uses.source ≡ true → AtEnd before.source.left now.source.left end) → (uses.whole ≡ false → (read : List ℕ → Outcome) → HidesNone read before.source now.source end) → KeepsOthers uses before now → Ended found uses made before now end
+  ends_empty end is outputs sink counted at_end hides kept = record {
     verdict = λ files source finds. says_end (made files source) end (is files source finds);
     output = λ files source finds. gains_nothing (made files source) end before.sink now.sink (is files source finds) (ap (λ (state : SinkState). state.taken) sink);
     files = λ files source finds. makes_nothing (made files source) end before.outputs now.outputs (is files source finds) (ap (λ (state : OutputsState). state.written) outputs);
     counted = counted;
     at_end = at_end;
+    hides_none = λ used by_record files source finds. hides by_record (made files);
+    unwritten = λ whole files source finds refused. sink;
     kept = kept;
   }
 
@@ -129,11 +132,11 @@ module _ (found : FileMap → List ℕ → Type 0) (uses : Uses) (made : FileMap
 
   -- it ends for want of memory
   pub ends_for_memory : UnderWay uses before now → Ended found uses made before now status.NoMemory
-  ends_for_memory way = ends_empty status.NoMemory (λ files source finds. tt) way.outputs way.sink (no_count way) (λ used. tt) (keeps_others way)
+  ends_for_memory way = ends_empty status.NoMemory (λ files source finds. tt) way.outputs way.sink (no_count way) (λ used. tt) (λ by_record read. tt) (keeps_others way)
 
   -- its words are faulty
   pub ends_words : (stop : WordStop) → UnderWay uses before now → ((files : FileMap) (source : List ℕ) → found files source → made files source ≡ nothing (status.Words stop)) → Ended found uses made before now (status.Words stop)
-  ends_words stop way is = ends_empty (status.Words stop) is way.outputs way.sink (no_count way) (λ used. tt) (keeps_others way)
+  ends_words stop way is = ends_empty (status.Words stop) is way.outputs way.sink (no_count way) (λ used. tt) (λ by_record read. tt) (keeps_others way)
 
   -- a refusal for another reason than a missing file counts nothing
   counted_other : (why : Refusal) → (IsMissing (status.Refused why) → ⊥) → NoCount before now → Counted before now (status.Refused why)
@@ -142,7 +145,7 @@ module _ (found : FileMap → List ℕ → Type 0) (uses : Uses) (made : FileMap
 
   -- it is refused, and not for a missing file
   pub ends_refused : (why : Refusal) → (IsMissing (status.Refused why) → ⊥) → UnderWay uses before now → ((files : FileMap) (source : List ℕ) → found files source → made files source ≡ nothing (status.Refused why)) → Ended found uses made before now (status.Refused why)
-  ends_refused why other way is = ends_empty (status.Refused why) is way.outputs way.sink (counted_other why other (no_count way)) (λ used. tt) (keeps_others way)
+  ends_refused why other way is = ends_empty (status.Refused why) is way.outputs way.sink (counted_other why other (no_count way)) (λ used. tt) (λ by_record read. tt) (keeps_others way)
 
   -- ---- a fault or a miss ends it
 
@@ -152,6 +155,7 @@ module _ (found : FileMap → List ℕ → Type 0) (uses : Uses) (made : FileMap
       ends_empty (status.Refused (refusal.Missing name)) is outputs sink
       (record { faults = record { reads = record { inputs = missed.faults; source = ap (λ (state : SourceState). state.faults) source }; writes = kept_writes before now outputs sink }; missed = missed.counted })
       (λ read. tt)
+      (λ by_record read. tt)
       (record { files = missed.kept; inputs = may_change uses.inputs used; outputs = λ unused. outputs; source = λ unused. source; sink = λ unused. sink })
 
   -- a read of the input files failed, and all else is as it was
@@ -160,14 +164,16 @@ module _ (found : FileMap → List ℕ → Type 0) (uses : Uses) (made : FileMap
       ends_empty status.ReadFault (λ files bytes finds. tt) outputs sink
       (record { rose = inr (failed.counted, ap (λ (state : SourceState). state.faults) source); writes = kept_writes before now outputs sink; misses = failed.misses })
       (λ read. tt)
+      (λ by_record read. none_failed read before.source now.source status.ReadFault (ap (λ (state : SourceState). state.faults) source))
       (record { files = failed.kept; inputs = may_change uses.inputs used; outputs = λ unused. outputs; source = λ unused. source; sink = λ unused. sink })
 
-  -- a read of the source failed, before anything was written
-  pub ends_unread_source : uses.source ≡ true → Rose before.source.faults now.source.faults → now.inputs ≡ before.inputs → now.outputs ≡ before.outputs → now.sink ≡ before.sink → Ended found uses made before now status.ReadFault
-  ends_unread_source used failed inputs outputs sink =
+  -- a read of the source failed that is read to its end first, so before anything was written
+  pub ends_unread_source : uses.source ≡ true → uses.whole ≡ true → Rose before.source.faults now.source.faults → now.inputs ≡ before.inputs → now.outputs ≡ before.outputs → now.sink ≡ before.sink → Ended found uses made before now status.ReadFault
+  ends_unread_source used whole failed inputs outputs sink =
       ends_empty status.ReadFault (λ files bytes finds. tt) outputs sink
       (record { rose = inl (failed, ap (λ (state : InputsState). state.faults) inputs); writes = kept_writes before now outputs sink; misses = ap (λ (state : InputsState). state.misses) inputs })
       (λ read. tt)
+      (λ by_record. absurd (false≢true (sym by_record ∙ whole)))
       (record { files = ap (λ (state : InputsState). state.held) inputs; inputs = λ unused. inputs; outputs = λ unused. outputs; source = may_change uses.source used; sink = λ unused. sink })
 
 -- ---- what was made of the input is written
@@ -210,6 +216,8 @@ module _ (found : FileMap → List ℕ → Type 0) (uses : Uses) (made : FileMap
     files = λ files source finds. makes_none (made files source).files end before.outputs now.outputs (ap (λ (outcome : Outcome). outcome.files) (is files source finds)) (ap (λ (state : OutputsState). state.written) way.outputs);
     counted = counted;
     at_end = at_end;
+    hides_none = λ used by_record files source finds. none_failed (made files) before.source now.source end way.reads;
+    unwritten = λ whole files source finds refused. absurd (subst (λ (outcome : Outcome). IsRefusal outcome.status) (is files source finds) refused);
     kept = record { files = ap (λ (state : InputsState). state.held) way.inputs; inputs = λ unused. way.inputs; outputs = λ unused. way.outputs; source = way.source; sink = may_change uses.sink way.sink };
   }
 
@@ -230,13 +238,19 @@ ends_written found uses made before now text answer way wrote is = by_answer fou
 
 -- ---- the same end, said of another outcome
 
+hidden_as : (made made_now : List ℕ → Outcome) (before now : SourceState) (end : Status) → ((bytes : List ℕ) → made bytes ≡ made_now bytes) → HidesNone made before now end → HidesNone made_now before now end
+hidden_as made made_now before now status.ReadFault same hides = λ rose byte read rest was is. subst (λ (outcome : Outcome). IsUnrefused outcome.status) (same (byte ∷ read)) (hides rose byte read rest was is)
+hidden_as made made_now before now end same hides = tt
+
 -- where what is found and what is made of it are the same, so is the end
-pub ends_as : (found found_now : FileMap → List ℕ → Type 0) (uses : Uses) (made made_now : FileMap → List ℕ → Outcome) (before now : World) (end : Status) → ((files : FileMap) (source : List ℕ) → found_now files source → found files source × (made files source ≡ made_now files source)) → Ended found uses made before now end → Ended found_now uses made_now before now end
+pub ends_as : (found found_now : FileMap → List ℕ → Type 0) (uses : Uses) (made made_now : FileMap → List ℕ → Outcome) (before now : World) (end : Status) → ((files : FileMap) (source : List ℕ) → found_now files source → found files source × ((bytes : List ℕ) → made files bytes ≡ made_now files bytes)) → Ended found uses made before now end → Ended found_now uses made_now before now end
 ends_as found found_now uses made made_now before now end same ended = record {
-  verdict = λ files bytes finds. let one = same files bytes finds in subst (λ (outcome : Outcome). Verdict outcome.status end) one.1 (ended.verdict files bytes one.0);
-  output = λ files bytes finds. let one = same files bytes finds in subst (λ (outcome : Outcome). SinkGains outcome.output before.sink now.sink end) one.1 (ended.output files bytes one.0);
-  files = λ files bytes finds. let one = same files bytes finds in subst (λ (outcome : Outcome). FilesMade outcome.files before.outputs now.outputs end) one.1 (ended.files files bytes one.0);
+  verdict = λ files bytes finds. let one = same files bytes finds in subst (λ (outcome : Outcome). Verdict outcome.status end) (one.1 bytes) (ended.verdict files bytes one.0);
+  output = λ files bytes finds. let one = same files bytes finds in subst (λ (outcome : Outcome). SinkGains outcome.output before.sink now.sink end) (one.1 bytes) (ended.output files bytes one.0);
+  files = λ files bytes finds. let one = same files bytes finds in subst (λ (outcome : Outcome). FilesMade outcome.files before.outputs now.outputs end) (one.1 bytes) (ended.files files bytes one.0);
   counted = ended.counted;
   at_end = ended.at_end;
+  hides_none = λ used by_record files source finds. let one = same files source finds in hidden_as (made files) (made_now files) before.source now.source end one.1 (ended.hides_none used by_record files source one.0);
+  unwritten = λ whole files source finds refused. let one = same files source finds in ended.unwritten whole files source one.0 (subst (λ (outcome : Outcome). IsRefusal outcome.status) (sym (one.1 source)) refused);
   kept = ended.kept;
 }

@@ -3,7 +3,9 @@ pub mod Status
 pub mod Stops
 pub mod Outcome
 pub mod World
+pub mod Hiding
 pub mod Ending
 pub mod Report
 pub mod Endings
 pub mod RunEnds
+pub mod Clear

@@ -1,14 +1,15 @@
 -- How a run ends, its report included.
 -- The rules: docs/REFUSALS.md, "Statuses" and "Texts".
 use Rattle.std.proofs.Common.{subst, sym, refl, inl, inr}
-use Rattle.std.specs.Prelude.{◌≡◌, ◌⊎◌, ℕ, true, List, [], ◌∷◌, ◌++◌, Option, Some, None, Result, Ok, Err, IfSome, IsSomeAnd}
+use Rattle.std.specs.Prelude.{◌≡◌, ℕ, true, false, List, [], ◌∷◌, ◌++◌, Option, Some, None, Result, Ok, Err, IfSome, IsSomeAnd}
 use Rattle.std.proofs.lemmas.List.{append-nil}
 use Rattle.kt_out.specs.NamedFiles.{File, FileMap}
 use Rattle.kt_out.specs.OutputFiles.{OutputsState}
 use Rattle.kt_out.specs.Writing.{SinkState}
-use Rattle.kt_ends.specs.Ending.{Verdict, SinkGains, GainedFront, AreFronts, FilesMade, PartlyMade, AllMade, NoCount, Counted, AtEnd, Ended, ToolEnds, IsMissing}
+use Rattle.kt_ends.specs.Ending.{Verdict, SinkGains, GainedFront, AreFronts, FilesMade, PartlyMade, AllMade, Counted, AtEnd, ToolEnds, IsMissing, IsRefusal}
+use Rattle.kt_ends.specs.Hiding.{HidesNone}
 use Rattle.kt_ends.specs.Outcome.{Outcome}
-use Rattle.kt_ends.specs.Report.{AnswersWords, IsNoWords, Reported, LacksMemory, MayLackMemory, SaysWhy, CountedBy, LosesMissing}
+use Rattle.kt_ends.specs.Report.{AnswersWords, IsNoWords, Reported, LacksMemory, MayLackMemory, SaysWhy, CountedBy}
 use Rattle.kt_ends.specs.Stops.{end_status}
 use Rattle.kt_ends.specs.World.{World, Uses, Finds, KeepsOthers}
 use Rattle.kt_ends.specs.declared.status.Refusal.TheVariants as refusal
@@ -38,6 +39,10 @@ pub record RunEnded (read : Result Command WordStop) (uses : Uses) (made : FileM
   pub unchanged : KeepsOthers uses before after
   -- A run that is done has read a source that it uses to its end.
   pub at_end : uses.source ≡ true → AtEnd before.source.left after.source.left answer
+  -- A read of the source that failed hides no refusal: what was read before it is refused for nothing but its end.
+  pub hides_none : uses.source ≡ true → uses.whole ≡ false → (files : FileMap) (source : List ℕ) → Finds uses before files source → HidesNone (made files) before.source after.source answer
+  -- Where a source that is read to its end first is refused, nothing was written, whatever the answer.
+  pub unwritten : uses.whole ≡ true → (files : FileMap) (source : List ℕ) → Finds uses before files source → IsRefusal (made files source).status → after.sink ≡ before.sink
 
 -- ---- what a settled run has written is a front of itself
 
@@ -109,6 +114,8 @@ module _ (read : Result Command WordStop) (uses : Uses) (made : FileMap → List
     line = record { wanted = wanted; own = ended.verdict; lacks = lacks };
     unchanged = ended.kept;
     at_end = λ used. tt;
+    hides_none = λ used by_record files source finds. tt;
+    unwritten = ended.unwritten;
   }
 
   -- a tool's end with what standard error gained by the same answer
@@ -122,6 +129,8 @@ module _ (read : Result Command WordStop) (uses : Uses) (made : FileMap → List
     line = line;
     unchanged = ended.kept;
     at_end = ended.at_end;
+    hides_none = ended.hides_none;
+    unwritten = ended.unwritten;
   }
 
   by_answer : (wanted answer : Status) → ToolEnds uses made before after wanted → Reported wanted answer err err_now → AnswersWords read answer → RunEnded read uses made before after err err_now answer

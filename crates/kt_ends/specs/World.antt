@@ -17,17 +17,22 @@ pub record World : Type 0 where
 abbrev pub world : InputsState → OutputsState → SourceState → SinkState → World
 world inputs outputs source sink = record { inputs = inputs; outputs = outputs; source = source; sink = sink }
 
--- the objects that a command uses
+-- the objects that a command uses, and whether it reads its source to the end before it judges it, or record by record
 pub record Uses : Type 0 where
   pub inputs : Bool
   pub outputs : Bool
   pub source : Bool
+  pub whole : Bool
   pub sink : Bool
 
 -- a command finds these files and these bytes of the source: where it uses them, they are what the objects tell
 pub record Finds (uses : Uses) (before : World) (files : FileMap) (source : List ℕ) : Type 0 where
   pub files_told : uses.inputs ≡ true → before.inputs.held ≡ Some files
   pub source_told : uses.source ≡ true → before.source.left ≡ Some source
+
+-- it finds these files, whatever the source gives
+pub record FindsFiles (uses : Uses) (before : World) (files : FileMap) : Type 0 where
+  pub files_told : uses.inputs ≡ true → before.inputs.held ≡ Some files
 
 -- what is not used is as it was
 abbrev pub Keeps : {H : Type 0} → Bool → H → H → Type 0

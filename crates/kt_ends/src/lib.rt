@@ -1,6 +1,7 @@
 //! How a run ends: its status, what it has written by then, and the line of a refusal.
 #![tactic(auto)]
 
+pub mod laws;
 mod line;
 mod reporting;
 mod shared;

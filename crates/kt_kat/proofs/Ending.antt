@@ -141,6 +141,8 @@ module _ (names : List (List ℕ)) (before now : InputsState) (outputs : Outputs
         files = λ files bytes finds. makes_none (kat_outcome names files).files end outputs outputs (outcome_none (files_of names files)) refl;
         counted = counted;
         at_end = λ used. absurd (false≢true used);
+        hides_none = λ used. absurd (false≢true used);
+        unwritten = λ whole. absurd (false≢true whole);
         kept = record { files = held; inputs = λ unused. absurd (false≢true (sym unused)); outputs = λ unused. refl; source = λ unused. refl; sink = λ unused. absurd (false≢true (sym unused)) };
       }
 

@@ -37,4 +37,4 @@ kat_outcome names files = by_files (files_of names files)
 
 -- `kat` reads named files, and writes to the sink
 abbrev pub kat_uses : Uses
-kat_uses = record { inputs = true; outputs = false; source = false; sink = true }
+kat_uses = record { inputs = true; outputs = false; source = false; whole = false; sink = true }

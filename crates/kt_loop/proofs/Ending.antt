@@ -1,5 +1,5 @@
 -- How a run of a stage ends, once all that was pending is written.
-use Rattle.std.proofs.Common.{◌≡◌, ◌⊎◌, ℕ, Bool, true, false, List, [], ◌++◌, Option, Some, None, Result, Ok, Err, refl, sym, ap, ◌∙◌, subst, append-nil, inl, inr}
+use Rattle.std.proofs.Common.{◌≡◌, ◌⊎◌, ℕ, Bool, true, false, List, [], ◌∷◌, ◌++◌, Option, Some, None, Result, Ok, Err, refl, sym, ap, ◌∙◌, subst, append-nil, inl, inr}
 use Rattle.std.specs.Prelude.{IfSome, IsSomeAnd, OnOk}
 use Rattle.kt_out.specs.Counts.{Rose}
 use Rattle.kt_out.specs.InputFiles.{InputsState, CountsFault}
@@ -9,6 +9,7 @@ use Rattle.kt_out.specs.Reading.{SourceState}
 use Rattle.kt_out.specs.Writing.{SinkState}
 use Rattle.kt_stream.specs.declared.stop.StreamStop.{StreamStop}
 use Rattle.kt_ends.specs.Ending.{Made, PartlyMade, NoCount, Counted, CountedRead, CountedWrite, AtEnd}
+use Rattle.kt_ends.specs.Hiding.{HidesNone, IsUnrefused, none_failed}
 use Rattle.kt_ends.specs.Outcome.{Outcome}
 use Rattle.kt_ends.specs.Stops.{end_status, stop_status}
 use Rattle.kt_ends.specs.World.{World, world, Finds}
@@ -20,10 +21,10 @@ use Rattle.kt_ends.specs.declared.tool_stop.ToolStop.{ToolStop}
 use Rattle.kt_ends.specs.declared.tool_stop.ToolStop.TheVariants as stop
 use Rattle.kt_loop.specs.Calculation.{Calculation}
 use Rattle.kt_loop.specs.Contents.{Contents}
-use Rattle.kt_loop.specs.Counts.{CountsRead, CountsWrite}
+use Rattle.kt_loop.specs.Counts.{CountsRead, CountsWrite, StopCounts}
 use Rattle.kt_loop.specs.Given.{Given, Spills}
 use Rattle.kt_loop.specs.Outcome.{ended_by, outcome}
-use Rattle.kt_loop.specs.Running.{stream_uses, EndsRun}
+use Rattle.kt_loop.specs.Running.{stream_uses, EndsRun, Makes}
 use Rattle.kt_loop.specs.Settling.{IsSettled, Settles, IsEnd}
 
 abbrev some_list : List ℕ → Option (List ℕ)
@@ -170,25 +171,42 @@ not_unused : used ≡ false → ⊥
 not_unused is = cc
 
 module _ {H E S : Type 0} (calculation : Calculation H E S Refusal) (contents : List ℕ → Contents H E) (stood : S → Type 0) (asks : Bool) (made : FileMap → List ℕ → Outcome) (inputs inputs_now : InputsState) (outputs : OutputsState) (source source_now : SourceState) (sink sink_now : SinkState) (end : Status) where
+  hidden_by : (of : FileMap) (last : Status) → ((start : S) → stood start → HidesNone (λ (bytes : List ℕ). outcome calculation start (contents bytes)) source source_now last) → ((bytes : List ℕ) → Makes calculation (contents bytes) stood (made of bytes)) → HidesNone (made of) source source_now last
+  hidden_by of status.ReadFault hides told = λ rose byte read rest was is.
+      let makes = told (byte ∷ read) in
+      subst (λ (o : Outcome). IsUnrefused o.status) (sym makes.is) (hides makes.start makes.stood rose byte read rest was is)
+  hidden_by of last hides told = tt
+
   pub ends_run : ((start : S) → stood start → IfSome source.left (λ bytes. IsEnd (outcome calculation start (contents bytes)) sink.taken sink_now.taken end)) → Counted (world inputs outputs source sink) (world inputs_now outputs source_now sink_now) end
-      → AtEnd source.left source_now.left end → inputs_now.held ≡ inputs.held → EndsRun calculation contents stood asks made (world inputs outputs source sink) (world inputs_now outputs source_now sink_now) end
-  ends_run ends counted at_end held keeps told =
+      → AtEnd source.left source_now.left end → ((start : S) → stood start → HidesNone (λ (bytes : List ℕ). outcome calculation start (contents bytes)) source source_now end) → inputs_now.held ≡ inputs.held → EndsRun calculation contents stood asks made (world inputs outputs source sink) (world inputs_now outputs source_now sink_now) end
+  ends_run ends counted at_end hides held keeps told =
       let is_end : (files : FileMap) (bytes : List ℕ) → Finds (stream_uses asks) (world inputs outputs source sink) files bytes → IsEnd (made files bytes) sink.taken sink_now.taken end =
       λ files bytes finds.
-      let makes = told files bytes finds in
+      let makes = told files bytes (record { files_told = finds.files_told }) in
       subst (λ (o : Outcome). IsEnd o sink.taken sink_now.taken end) (sym makes.is)
       (at_some source.left (λ (xs : List ℕ). IsEnd (outcome calculation makes.start (contents xs)) sink.taken sink_now.taken end) bytes (finds.source_told refl) (ends makes.start makes.stood)) in
       record {
         verdict = λ files bytes finds. (is_end files bytes finds).verdict;
         output = λ files bytes finds. (is_end files bytes finds).output;
         files = λ files bytes finds.
-            let makes = told files bytes finds in
+            let makes = told files bytes (record { files_told = finds.files_told }) in
             let none : (made files bytes).files ≡ [] = ap (λ (o : Outcome). o.files) makes.is ∙ no_files calculation (contents bytes).head (contents bytes).fault _ _ in
             subst (λ (wanted : List File). IfSome outputs.written (λ written. IsSomeAnd outputs.written (λ now. Made wanted written now end))) (sym none) (files_as_before outputs.written end);
         counted = counted;
         at_end = λ uses. at_end;
+        hides_none = λ uses by_record files bytes finds. hidden_by files end hides (λ read. told files read (record { files_told = finds.files_told }));
+        unwritten = λ whole. absurd (not_unused (sym whole));
         kept = record { files = held; inputs = keeps; outputs = λ unused. refl; source = λ unused. absurd (not_unused unused); sink = λ unused. absurd (not_unused unused) };
       }
+
+-- a stop that is answered hides what the loop hid: it read on behind none that refuses
+pub hidden_stop : (hidden : List ℕ → Outcome) (inputs inputs_now : InputsState) (source source_now : SourceState) (faults faults_now : ℕ) (why answer : ToolStop) → StopCounts inputs inputs_now source.faults source_now.faults faults faults_now why
+    → (why ≡ stop.ReadFault → answer ≡ stop.ReadFault) → HidesNone hidden source source_now (stop_status why) → HidesNone hidden source source_now (stop_status answer)
+hidden_stop hidden inputs inputs_now source source_now faults faults_now (stop.Refused (refusal.Missing name)) answer counts same hides = absurd counts
+hidden_stop hidden inputs inputs_now source source_now faults faults_now (stop.Refused why) answer counts same hides = none_failed hidden source source_now (stop_status answer) counts.1
+hidden_stop hidden inputs inputs_now source source_now faults faults_now stop.ReadFault answer counts same hides = subst (λ (one : ToolStop). HidesNone hidden source source_now (stop_status one)) (sym (same refl)) hides
+hidden_stop hidden inputs inputs_now source source_now faults faults_now stop.WriteFault answer counts same hides = none_failed hidden source source_now (stop_status answer) counts.1
+hidden_stop hidden inputs inputs_now source source_now faults faults_now stop.NoMemory answer counts same hides = none_failed hidden source source_now (stop_status answer) counts.1
 
 -- a run that did not end with Done promises nothing of the rest of the source
 pub stop_at_end : (left now : Option (List ℕ)) (why : ToolStop) → AtEnd left now (stop_status why)

@@ -107,11 +107,11 @@ read_as T U inputs inputs_now reads reads_now faults faults_now stop.NoMemory by
 module _ {T H E S : Type 0} (calculation : Calculation H E S Refusal) (represents : (List ℕ → Contents H E) → List ℕ → List (Placed E) → T → Type 0) (fresh : (List ℕ → Contents H E) → Type 0) (stood stands : S → Type 0) (left : Option (List ℕ)) (taken taken_now : Option (List ℕ)) (reader : T) (out : List ℕ) where
   -- at the front of the file
   pub going_front : Going calculation represents fresh stood stands left left taken taken_now reader out 0 → Going calculation represents fresh stood stands left (left_from left 0) taken taken_now reader out 0
-  going_front going = record { fed = going.fed; represented = going.represented; read = subst (λ (now : Option (List ℕ)). HasRead left now going.fed) (sym (left_first left)) going.read; turned = going.turned; within = going.within; course = going.course }
+  going_front going = record { fed = going.fed; represented = going.represented; read = subst (λ (now : Option (List ℕ)). HasRead left now going.fed) (sym (left_first left)) going.read; turned = going.turned; within = going.within; unrefused = going.unrefused; course = going.course }
 
   -- blocks need not be counted
   pub going_uncounted : (left_now : Option (List ℕ)) (turns : ℕ) → Going calculation represents fresh stood stands left left_now taken taken_now reader out turns → Going calculation represents fresh stood stands left left_now taken taken_now reader out 0
-  going_uncounted left_now turns going = record { fed = going.fed; represented = going.represented; read = going.read; turned = omega arith; within = going.within; course = going.course }
+  going_uncounted left_now turns going = record { fed = going.fed; represented = going.represented; read = going.read; turned = omega arith; within = going.within; unrefused = going.unrefused; course = going.course }
 
 -- what holds whatever is answered holds where that is Ok
 pub on_ok : {A B : Type 0} (result : Result A B) (P : Type 0) → P → OnOk result P

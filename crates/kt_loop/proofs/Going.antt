@@ -1,19 +1,21 @@
 -- The turns of the loop: what was read, and where the calculation came by it.
-use Rattle.std.proofs.Common.{◌≡◌, ℕ, ◌+◌, ◌≤◌, ◌<◌, ◌^◌, List, [], ◌++◌, length, take, drop, Option, Some, None, Result, Err, refl, sym, ap, ◌∙◌, append_assoc, subst, append-nil, arith}
+use Rattle.std.proofs.Common.{◌≡◌, ℕ, ◌+◌, ◌≤◌, ◌<◌, ◌^◌, List, [], ◌++◌, length, take, drop, Option, Some, None, Result, Ok, Err, refl, sym, ap, ◌∷◌, ◌⊎◌, inl, inr, ◌∙◌, append_assoc, subst, append-nil, arith}
 use Rattle.std.specs.Prelude.{IfSome}
-use Rattle.std.proofs.lemmas.List.{take-append-drop, take_at, length-take-le, length-append}
-use Rattle.kt_out.specs.Reading.{Gives, GivesKnown}
+use Rattle.std.proofs.lemmas.List.{append_cancel_right, take-append-drop, take_at, length-take-le, length-append}
+use Rattle.kt_out.specs.Reading.{Gives, GivesKnown, SourceState}
 use Rattle.kt_stream.specs.declared.entry.Placed.{Placed}
 use Rattle.kt_stream.specs.declared.stop.StreamStop.{StreamStop}
+use Rattle.kt_stream.specs.declared.stop.StreamStop.TheVariants.{Cut}
+use Rattle.kt_ends.specs.Hiding.{HidesNone, IsUnrefused}
 use Rattle.kt_ends.specs.declared.status.Refusal.{Refusal}
 use Rattle.kt_ends.specs.declared.status.Refusal.TheVariants.{Stream}
-use Rattle.kt_ends.specs.declared.status.Status.TheVariants.{Refused}
+use Rattle.kt_ends.specs.declared.status.Status.TheVariants.{ReadFault, Refused}
 use Rattle.kt_ends.specs.declared.tool_stop.ToolStop.{ToolStop}
 use Rattle.kt_ends.specs.declared.tool_stop.ToolStop.TheVariants as stop
-use Rattle.kt_loop.specs.Calculation.{Calculation, Course, started, course_of}
-use Rattle.kt_loop.specs.Contents.{Contents, Grows, refused}
+use Rattle.kt_loop.specs.Calculation.{Calculation, Course, ending, started, course_of}
+use Rattle.kt_loop.specs.Contents.{Contents, Grows, IsOpenEnd, refused}
 use Rattle.kt_loop.specs.Given.{Given, GivenFront}
-use Rattle.kt_loop.specs.Outcome.{outcome}
+use Rattle.kt_loop.specs.Outcome.{ended_by, outcome}
 use Rattle.kt_loop.specs.Reading.{GoesOn}
 use Rattle.kt_loop.specs.Settling.{IsSettled, Settles}
 use Rattle.kt_loop.specs.Steps.{Stands, Refuses, Comes}
@@ -79,16 +81,17 @@ pub record Going {T H E S : Type 0} (calculation : Calculation H E S Refusal) (r
   pub read : HasRead left left_now fed
   pub turned : turns ≤ length fed
   pub within : length fed ≤ 2 ^ 40
+  pub unrefused : (contents : List ℕ → Contents H E) → fresh contents → (fed ≡ []) ⊎ IsOpenEnd (contents fed).fault
   pub course : (contents : List ℕ → Contents H E) (start : S) → fresh contents → stood start → Stands stands taken taken_now out (course_of calculation start (contents fed).head (contents fed).entries)
 
 module _ {T H E S : Type 0} (calculation : Calculation H E S Refusal) (represents : (List ℕ → Contents H E) → List ℕ → List (Placed E) → T → Type 0) (fresh : (List ℕ → Contents H E) → Type 0) (stood stands : S → Type 0) (left left_now taken taken_now : Option (List ℕ)) (reader : T) (out : List ℕ) where
   pub going_first : ((contents : List ℕ → Contents H E) → fresh contents → represents contents [] (contents []).entries reader)
       → ((contents : List ℕ → Contents H E) (start : S) → fresh contents → stood start → Stands stands taken taken_now out (course_of calculation start (contents []).head (contents []).entries)) → Going calculation represents fresh stood stands left left taken taken_now reader out 0
-  going_first represented course = record { fed = []; represented = represented; read = read_none left; turned = omega arith; within = omega arith; course = course }
+  going_first represented course = record { fed = []; represented = represented; read = read_none left; turned = omega arith; within = omega arith; unrefused = λ contents is_so. inl refl; course = course }
 
   pub going_more : (stands_next : S → Type 0) (left_next taken_next : Option (List ℕ)) (next : T) (out_next : List ℕ) (turns : ℕ) (room filled piece : List ℕ) (n : ℕ)
       → (going : Going calculation represents fresh stood stands left left_now taken taken_now reader out turns) → GivesKnown left_now left_next room filled n → piece ≡ take n filled → 0 < n → n ≤ length filled
-      → ((contents : List ℕ → Contents H E) → fresh contents → GoesOn (represents contents) (going.fed ++ piece) (contents (going.fed ++ piece)).entries next) → (first : List ℕ → Contents H E) → fresh first
+      → ((contents : List ℕ → Contents H E) → fresh contents → GoesOn contents (represents contents) (going.fed ++ piece) (contents (going.fed ++ piece)).entries next) → (first : List ℕ → Contents H E) → fresh first
       → ((contents : List ℕ → Contents H E) (start : S) → fresh contents → stood start → Stands stands_next taken taken_next out_next (course_of calculation start (contents (going.fed ++ piece)).head (contents (going.fed ++ piece)).entries))
       → Going calculation represents fresh stood stands_next left left_next taken taken_next next out_next (turns + 1)
   going_more stands_next left_next taken_next next out_next turns room filled piece n going gives is some fits on first is_fresh course = record {
@@ -97,6 +100,7 @@ module _ {T H E S : Type 0} (calculation : Calculation H E S Refusal) (represent
     read = read_more left left_now left_next going.fed room filled piece n going.read gives is;
     turned = omega (arith, going.turned, length-append going.fed piece, ap length is, length-take-le n filled fits);
     within = (on first is_fresh).within;
+    unrefused = λ contents is_so. inr (on contents is_so).unrefused;
     course = course;
   }
 
@@ -140,6 +144,39 @@ module _ {H E S : Type 0} (calculation : Calculation H E S Refusal) (contents : 
         → IfSome left (λ bytes. Settles (outcome calculation start (contents bytes)) taken now pending result)
     ended_so U None next pending fed result all settles = tt
     ended_so U (Some bytes) next pending fed result all settles = subst (λ (xs : List ℕ). Settles (outcome calculation start (contents xs)) taken now pending result) (sym all.0) settles
+
+-- ---- what a failed read hides
+
+-- bytes that are read and bytes that are left are the same whoever says so
+same_read : (bytes fed read rest : List ℕ) (now : Option (List ℕ)) → HasRead (Some bytes) now fed → bytes ≡ read ++ rest → now ≡ Some rest → fed ≡ read
+same_read bytes fed read rest now has is left =
+    let same : has.0 ≡ rest = some_same has.0 rest (sym has.1 ∙ left) in
+    append_cancel_right fed read rest (ap (λ (xs : List ℕ). fed ++ xs) (sym same) ∙ sym has.2 ∙ is)
+  where
+    some_same : (a b : List ℕ) → some_list a ≡ some_list b → a ≡ b
+    some_same a b is = cc
+
+module _ {H E S : Type 0} (calculation : Calculation H E S Refusal) where
+  -- a course that stands over bytes of which the end alone is wrong is not refused
+  unrefused_by : (head : Option H) (fault : Option StreamStop) (text : List ℕ) (reached : Result S Refusal) (at : S) → reached ≡ Ok at → IsOpenEnd fault → IsUnrefused (ended_by calculation head fault text reached).status
+  unrefused_by head fault text (Err why) at is sound = cc
+  unrefused_by head None text (Ok state) at is sound = tt
+  unrefused_by head (Some (Cut byte)) text (Ok state) at is sound = tt
+  unrefused_by head (Some fault) text (Ok state) at is sound = absurd sound
+
+  module _ (contents : List ℕ → Contents H E) (start : S) (stands : S → Type 0) (taken now : Option (List ℕ)) (pending fed : List ℕ) (standing : Stands stands taken now pending (course_of calculation start (contents fed).head (contents fed).entries)) where
+    -- bytes over which a course stands are not refused
+    unrefused_fed : (byte : ℕ) (read : List ℕ) → fed ≡ byte ∷ read → (fed ≡ []) ⊎ IsOpenEnd (contents fed).fault → IsUnrefused (outcome calculation start (contents (byte ∷ read))).status
+    unrefused_fed byte read is (inl none) = cc
+    unrefused_fed byte read is (inr sound) =
+        subst (λ (bytes : List ℕ). IsUnrefused (outcome calculation start (contents bytes)).status) is
+        (unrefused_by (contents fed).head (contents fed).fault (course_of calculation start (contents fed).head (contents fed).entries).text _ standing.at standing.reached sound)
+
+    -- a read that fails behind them hides nothing
+    pub hides_nothing : (before after : SourceState) → HasRead before.left after.left fed → (fed ≡ []) ⊎ IsOpenEnd (contents fed).fault → HidesNone (λ (bytes : List ℕ). outcome calculation start (contents bytes)) before after ReadFault
+    hides_nothing before after has sound = λ rose byte read rest was is.
+        let told : HasRead (Some ((byte ∷ read) ++ rest)) after.left fed = subst (λ (left : Option (List ℕ)). HasRead left after.left fed) was has in
+        unrefused_fed byte read (same_read ((byte ∷ read) ++ rest) fed (byte ∷ read) rest after.left told refl is) sound
 
 -- before the first byte
 pub standing_first : {S : Type 0} (stands : S → Type 0) (start : S) (before : Option (List ℕ)) (out : List ℕ) → out ≡ [] → stands start → Stands {R = Refusal} stands before before out (started start)

@@ -115,7 +115,7 @@ fed_stands contents represents (Some stop) fed taken new feeds = feeds.stands
 
 -- what a reader stands for after a piece, once all records of it were taken
 pub fed_all : {T H E : Type 0} (contents : List ℕ → Contents H E) (represents : List ℕ → List (Placed E) → T → Type 0) (stop : Option StreamStop) (fed : List ℕ) (taken taken_now : List (Placed E)) (new now : T) → FeedsBy contents represents stop fed taken new → represents fed taken_now now → FeedsBy contents represents stop fed taken_now now
-fed_all contents represents None fed taken taken_now new now feeds stands = record { stands = stands; within = feeds.within }
+fed_all contents represents None fed taken taken_now new now feeds stands = record { stands = stands; within = feeds.within; unrefused = feeds.unrefused }
 fed_all contents represents (Some stop) fed taken taken_now new now feeds stands = record { stands = stands; refused = feeds.refused }
 
 -- a header that was read before is read still

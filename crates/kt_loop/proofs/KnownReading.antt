@@ -12,7 +12,7 @@ use Rattle.kt_stream.specs.Reader.{Reading, IsPlaced}
 use Rattle.kt_stream.specs.Reader.{Feeds as FeedsRecords, Finishes as FinishesRecords}
 use Rattle.kt_stream.specs.Stream.{Form, stream_of}
 use Rattle.kt_loop.specs.KnownStreams.{StandsKnown, known_beside, known_contents, known_header, with_known, IsKnownHead, IsPlacedKnown}
-use Rattle.kt_loop.specs.Contents.{Contents, Grows, refused}
+use Rattle.kt_loop.specs.Contents.{Contents, Grows, IsOpenEnd, refused}
 use Rattle.kt_loop.specs.Reading.{AreGood, IsRead, Feeds, Finishes}
 use Rattle.kt_loop.specs.RecordStreams.{contents_of, StandsFor}
 use Rattle.kt_loop.specs.declared.known_reader.KnownHead.{KnownHead}
@@ -60,7 +60,11 @@ module _ {B E : Type 0} (form : Form E) where
   pub feeds_known : (stays : Stays form) (old new : KnownReader E B) (piece : List ℕ) (answer : Result (Unit {0}) StreamStop) → new.known ≡ old.known → FeedsRecords E form old.reader piece answer new.reader → Feeds stood old piece new answer
   feeds_known stays old new piece (Ok done) same_known feeds = λ contents fed taken stands.
       let inner = feeds_so form stays old.reader new.reader piece (Ok done) feeds (contents_of form old.reader.shape) fed taken (plain old contents fed taken stands) in
-      record { stands = record { is = carried old new contents same_known feeds.1 stands.is; represents = inner.stands.represents }; within = inner.within }
+      record {
+        stands = record { is = carried old new contents same_known feeds.1 stands.is; represents = inner.stands.represents };
+        within = inner.within;
+        unrefused = subst (λ (known : List ℕ → Contents (KnownHead B) E). IsOpenEnd (known (fed ++ piece)).fault) (sym stands.is) inner.unrefused;
+      }
   feeds_known stays old new piece (Err OutOfMemory) same_known feeds = tt
   feeds_known stays old new piece (Err stop) same_known feeds = λ contents fed taken stands.
       let inner = feeds_so form stays old.reader new.reader piece (Err stop) feeds (contents_of form old.reader.shape) fed taken (plain old contents fed taken stands) in

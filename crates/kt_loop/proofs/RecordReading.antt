@@ -10,7 +10,7 @@ use Rattle.kt_stream.specs.Growth.{GrowsTo}
 use Rattle.kt_stream.specs.Reader.{Reading, Represents, Extends, IsAt, stream_by}
 use Rattle.kt_stream.specs.Reader.{Feeds as FeedsRecords, Finishes as FinishesRecords}
 use Rattle.kt_stream.specs.Stream.{Form, Stream, End, Whole, Partial, Refused, after, stream_of, refusal, fault_at}
-use Rattle.kt_loop.specs.Contents.{Contents, Grows, IsRefused}
+use Rattle.kt_loop.specs.Contents.{Contents, Grows, IsOpenEnd, IsRefused}
 use Rattle.kt_loop.specs.Reading.{IsRead, GoesOn, IsStopped, Feeds, Finishes}
 use Rattle.kt_loop.specs.RecordStreams.{contents_of, StandsFor}
 
@@ -21,6 +21,12 @@ fault_refused : (n : ℕ) (end : End) (stop : StreamStop) → refusal end ≡ So
 fault_refused n Whole stop is = absurd (none_is_some stop is)
 fault_refused n Partial stop is = absurd (none_is_some stop is)
 fault_refused n (Refused other) stop is = is
+
+-- where nothing refuses the bytes, their end alone is wrong
+open_end : (n : ℕ) (end : End) → refusal end ≡ None → IsOpenEnd (fault_at n end)
+open_end n Whole none = tt
+open_end n Partial none = tt
+open_end n (Refused stop) none = cc
 
 module _ {E : Type 0} (form : Form E) where
   abbrev pub Stays : Type 0
@@ -42,8 +48,12 @@ module _ {E : Type 0} (form : Form E) where
   within_limit : (stop : Option StreamStop) (place bytes : ℕ) → stop ≡ None → IsAt stop place bytes → bytes ≤ 2 ^ 40
   within_limit stop place bytes none at = let told : IsAt None place bytes = subst (λ (s : Option StreamStop). IsAt s place bytes) none at in told.1
 
-  goes_on_so : (old new : Reading E) (piece : List ℕ) (contents : List ℕ → Contents Head E) (fed : List ℕ) (taken : List (Placed E)) → new.stop ≡ None → StandsFor E form contents (fed ++ piece) taken new → GoesOn (λ (bytes : List ℕ) (records : List (Placed E)) (r : Reading E). StandsFor E form contents bytes records r) (fed ++ piece) taken new
-  goes_on_so old new piece contents fed taken none stands = record { stands = stands; within = within_limit new.stop _ _ none stands.represents.place }
+  goes_on_so : (old new : Reading E) (piece : List ℕ) (contents : List ℕ → Contents Head E) (fed : List ℕ) (taken : List (Placed E)) → new.stop ≡ None → StandsFor E form contents (fed ++ piece) taken new → GoesOn contents (λ (bytes : List ℕ) (records : List (Placed E)) (r : Reading E). StandsFor E form contents bytes records r) (fed ++ piece) taken new
+  goes_on_so old new piece contents fed taken none stands = record {
+    stands = stands;
+    within = within_limit new.stop _ _ none stands.represents.place;
+    unrefused = subst (λ (known : List ℕ → Contents Head E). IsOpenEnd (known (fed ++ piece)).fault) (sym stands.is) (open_end (length (fed ++ piece)) (stream_of form new.shape (fed ++ piece)).end (sym stands.represents.stop ∙ none));
+  }
 
   stopped_so : (stays : Stays) (new : Reading E) (contents : List ℕ → Contents Head E) (fed : List ℕ) (taken : List (Placed E)) (stop : StreamStop) → new.stop ≡ Some stop → StandsFor E form contents fed taken new → IsStopped contents (λ (bytes : List ℕ) (records : List (Placed E)) (r : Reading E). StandsFor E form contents bytes records r) fed taken stop new
   stopped_so stays new contents fed taken stop is stands = record {

@@ -3,6 +3,7 @@
 use Rattle.std.specs.Prelude.{◌≡◌, List, [], ◌++◌, ℕ, Option, Some, None}
 use Rattle.kt_stream.specs.declared.entry.Placed.{Placed}
 use Rattle.kt_stream.specs.declared.stop.StreamStop.{StreamStop}
+use Rattle.kt_stream.specs.declared.stop.StreamStop.TheVariants.{Cut}
 
 -- the header of a stream, its whole good records, and its first fault where it ends here
 pub record Contents (H E : Type 0) : Type 0 where
@@ -15,6 +16,12 @@ pub record Grows {H E : Type 0} (before now : Contents H E) : Type 0 where
   pub head : (head : H) → before.head ≡ Some head → now.head ≡ Some head
   pub entries : (later : List (Placed E)) × (now.entries ≡ before.entries ++ later)
   pub headless : before.head ≡ None → before.entries ≡ []
+
+-- a first fault that more bytes can mend: none, or that the stream is cut off where it ends
+abbrev pub IsOpenEnd : Option StreamStop → Type 0
+IsOpenEnd None = Unit {0}
+IsOpenEnd (Some (Cut byte)) = Unit {0}
+IsOpenEnd (Some stop) = ⊥
 
 -- the same header and records, refused so
 abbrev pub refused : {H E : Type 0} → Contents H E → StreamStop → Contents H E

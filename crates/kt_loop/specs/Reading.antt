@@ -5,17 +5,18 @@ use Rattle.std.specs.List.{AllByRecursion}
 use Rattle.kt_stream.specs.declared.entry.Placed.{Placed}
 use Rattle.kt_stream.specs.declared.stop.StreamStop.{StreamStop}
 use Rattle.kt_stream.specs.declared.stop.StreamStop.TheVariants.{OutOfMemory}
-use Rattle.kt_loop.specs.Contents.{Contents, IsRefused}
+use Rattle.kt_loop.specs.Contents.{Contents, IsOpenEnd, IsRefused}
 
 -- a reader from which these records were taken holds what else was read
 pub record IsRead {H E : Type 0} (contents : Contents H E) (taken : List (Placed E)) (header : Option H) (held : List (Placed E)) : Type 0 where
   pub head : header ≡ contents.head
   pub records : contents.entries ≡ taken ++ held
 
--- the reader was given the piece too, and goes on; a stream has at most 2^40 bytes
-pub record GoesOn {T E : Type 0} (represents : List ℕ → List (Placed E) → T → Type 0) (fed : List ℕ) (taken : List (Placed E)) (new : T) : Type 0 where
+-- the reader was given the piece too, and goes on: nothing is wrong with the bytes but where they end; a stream has at most 2^40
+pub record GoesOn {T H E : Type 0} (contents : List ℕ → Contents H E) (represents : List ℕ → List (Placed E) → T → Type 0) (fed : List ℕ) (taken : List (Placed E)) (new : T) : Type 0 where
   pub stands : represents fed taken new
   pub within : length fed ≤ 2 ^ 40
+  pub unrefused : IsOpenEnd (contents fed).fault
 
 -- the reader was given the piece too, and the stream is refused whatever follows
 pub record IsStopped {T H E : Type 0} (contents : List ℕ → Contents H E) (represents : List ℕ → List (Placed E) → T → Type 0) (fed : List ℕ) (taken : List (Placed E)) (stop : StreamStop) (new : T) : Type 0 where
@@ -24,7 +25,7 @@ pub record IsStopped {T H E : Type 0} (contents : List ℕ → Contents H E) (re
 
 -- what feeding a piece does where nothing refuses the stream, or something does
 abbrev pub FeedsBy : {T H E : Type 0} → (List ℕ → Contents H E) → (List ℕ → List (Placed E) → T → Type 0) → Option StreamStop → List ℕ → List (Placed E) → T → Type 0
-FeedsBy contents represents None fed taken new = GoesOn represents fed taken new
+FeedsBy contents represents None fed taken new = GoesOn contents represents fed taken new
 FeedsBy contents represents (Some stop) fed taken new = IsStopped contents represents fed taken stop new
 
 -- a piece was fed, and this refuses the stream, if anything does

@@ -7,9 +7,11 @@ ghost use Rattle.kt_out.specs.OutputFiles.{OutputsState};
 ghost use Rattle.kt_out.specs.Reading.{SourceState};
 ghost use Rattle.kt_out.specs.Writing.{SinkState};
 ghost use Rattle.kt_ends.specs.Ending.{AtEnd, Counted};
+ghost use Rattle.kt_ends.specs.Hiding.{HidesNone};
 ghost use Rattle.kt_ends.specs.Outcome.{Outcome};
 ghost use Rattle.kt_ends.specs.World.{world};
 ghost use Rattle.kt_ends.specs.Stops.{end_status, stop_status};
+ghost use Rattle.kt_ends.specs.declared.tool_stop.ToolStop.TheVariants.{ReadFault};
 ghost use Rattle.kt_loop.specs.Contents.{Contents};
 ghost use Rattle.kt_loop.specs.Counts.{CountsRead, StopCounts};
 ghost use Rattle.kt_loop.specs.Outcome.{outcome};
@@ -48,6 +50,7 @@ fn read_all<R: StreamReader, W, T: Stage<R::Head, R::Entry, W>, S: Source, K: Si
     ensures settled { (contents : List ℕ → Contents R.Head R.Entry) (start : T.State) → R.represents contents [] [] reader.old → T.is_at start stage.old beside.old → IfSome (S.state source.old).left (λ bytes. Settles (outcome T.calculation start (contents bytes)) (K.state sink.old).taken (K.state sink.new).taken out.new result) }
     ensures counted { (others : InputsState) → CountsRead (T.inputs others beside.old) (T.inputs others beside.new) (S.state source.old).faults (S.state source.new).faults (K.state sink.old).faults (K.state sink.new).faults result }
     ensures at_end { AtEnd (S.state source.old).left (S.state source.new).left (end_status result) }
+    ensures hides_none { (contents : List ℕ → Contents R.Head R.Entry) (start : T.State) → R.represents contents [] [] reader.old → T.is_at start stage.old beside.old → HidesNone (λ bytes. outcome T.calculation start (contents bytes)) (S.state source.old) (S.state source.new) (end_status result) }
 {
     R::what_is_read_stays();
     R::what_is_held_was_read();
@@ -80,6 +83,7 @@ fn read_all<R: StreamReader, W, T: Stage<R::Head, R::Entry, W>, S: Source, K: Si
 pub(crate) fn settle<K: Sink>(stop: ToolStop, sink: &mut K, out: &mut Bytes) -> ToolStop
     ensures end { (made : Outcome) (before : Option (List ℕ)) → StopSettles made before (K.state sink.old).taken out.old stop → IsEnd made before (K.state sink.new).taken (stop_status result) }
     ensures counted { (inputs : InputsState) (inputs_now : InputsState) (outputs : OutputsState) (source : SourceState) (source_now : SourceState) (first : SinkState) → StopCounts inputs inputs_now source.faults source_now.faults first.faults (K.state sink.old).faults stop → Counted (world inputs outputs source first) (world inputs_now outputs source_now (K.state sink.new)) (stop_status result) }
+    ensures unread { stop ≡ ReadFault → result ≡ ReadFault }
 {
     match stop {
         ToolStop::Refused(refusal) => match spill(sink, out) {

@@ -53,9 +53,10 @@ within made source few = rw (le-leb (length source) source_limit few) refl
 beyond : (made : List ℕ → Outcome) (source : List ℕ) → source_limit < length source → within_limit made source ≡ nothing (status.Refused (refusal.TooLarge source_name))
 beyond made source many = rw (lt-leb (length source) source_limit many) refl
 
--- a tool that makes a text of the source uses the source and the sink
+-- a tool that makes a text of the source uses the source, which it reads to its end first, and the sink
 pub record MakesOfSource (uses : Uses) : Type 0 where
   pub source : uses.source ≡ true
+  pub whole : uses.whole ≡ true
   pub sink : uses.sink ≡ true
 
 module _ (uses : Uses) (made : List ℕ → Outcome) (inputs : InputsState) (outputs : OutputsState) (before now : SourceState) (sink : SinkState) (makes : MakesOfSource uses) where
@@ -76,7 +77,7 @@ module _ (uses : Uses) (made : List ℕ → Outcome) (inputs : InputsState) (out
   -- the source was not read
   pub ends_unread : (stop : ToolStop) → ReadsWhole before now (Err stop) → ToolEnds uses outcome at_first (world inputs outputs now sink) (stop_status stop)
   ends_unread (tool.Refused why) read = subst (λ (r : Refusal). ToolEnds uses outcome at_first (world inputs outputs now sink) (status.Refused r)) (sym read.1) (ends_refused _ uses _ _ _ (refusal.TooLarge source_name) (λ missing. missing) (way read.0) (λ files bytes finds. beyond made bytes (told_of (λ source. source_limit < length source) before.left bytes (told files bytes finds) read.2)))
-  ends_unread tool.ReadFault read = ends_unread_source _ uses _ _ _ makes.source read refl refl refl
+  ends_unread tool.ReadFault read = ends_unread_source _ uses _ _ _ makes.source makes.whole read refl refl refl
   ends_unread tool.WriteFault read = absurd read
   ends_unread tool.NoMemory read = ends_for_memory _ uses _ _ _ (way read)
 

@@ -43,9 +43,9 @@ module _ (words : List (List ℕ)) (command : Command) (need : Need) (needs : co
   at_last = world now outputs source sink
 
   -- the outcome by what the tables come to
-  by_tables : (files : FileMap) (bytes : List ℕ) (tables : Result Rows LoadStop) → Finds uses at_first files bytes → IfSome before.held (λ files. loaded files need ≡ tables)
+  by_tables : (files : FileMap) (told bytes : List ℕ) (tables : Result Rows LoadStop) → Finds uses at_first files told → IfSome before.held (λ files. loaded files need ≡ tables)
       → command_outcome words command files bytes ≡ with_tables tables (λ rows. tool_outcome words command files (record { rows = rows; need = need }) bytes)
-  by_tables files bytes tables finds tells =
+  by_tables files told bytes tables finds tells =
       ap (λ (one : Option Need). over_tables one files (λ portfolio. tool_outcome words command files portfolio bytes)) needs
       ∙ ap (λ (r : Result Rows LoadStop). with_tables r (λ rows. tool_outcome words command files (record { rows = rows; need = need }) bytes)) (told_of (λ f. loaded f need ≡ tables) before.held files (finds.files_told (uses_files command need needs)) tells)
 
@@ -55,13 +55,13 @@ module _ (words : List (List ℕ)) (command : Command) (need : Need) (needs : co
 
   -- a refusal that is no missing file
   refuses : (stop : LoadStop) (why : Refusal) → (IsMissing (status.Refused why) → ⊥) → stop_status (load_stop stop) ≡ status.Refused why → now ≡ before → IfSome before.held (λ files. loaded files need ≡ Err stop) → ToolEnds uses (command_outcome words command) at_first at_last (status.Refused why)
-  refuses stop why other is same tells = ends_refused _ uses _ _ _ why other (way same) (λ files bytes finds. by_tables files bytes (Err stop) finds tells ∙ ap nothing is)
+  refuses stop why other is same tells = ends_refused _ uses _ _ _ why other (way same) (λ files bytes finds. by_tables files bytes bytes (Err stop) finds tells ∙ ap nothing is)
 
   -- the tables are refused, or could not be read
   pub ends_unloaded : (stop : LoadStop) → IfSome before.held (λ files. TellsLoad (loaded files need) stop) → AfterStop before now stop → ToolEnds uses (command_outcome words command) at_first at_last (stop_status (load_stop stop))
   ends_unloaded load.ReadFault tells after = ends_unread_files _ uses _ _ _ (uses_files command need needs) after refl refl refl
   ends_unloaded load.OutOfMemory tells after = ends_for_memory _ uses _ _ _ (way after)
-  ends_unloaded (load.Missing name) tells after = ends_missing _ uses _ _ _ name (uses_files command need needs) after refl refl refl (λ files bytes finds. by_tables files bytes (Err (load.Missing name)) finds tells)
+  ends_unloaded (load.Missing name) tells after = ends_missing _ uses _ _ _ name (uses_files command need needs) after refl refl refl (λ files bytes finds. by_tables files bytes bytes (Err (load.Missing name)) finds tells)
   ends_unloaded (load.Table name table.OutOfMemory) tells after = ends_for_memory _ uses _ _ _ (way after)
   ends_unloaded stop tells after = refuses stop _ (λ missing. missing) refl after tells
 
@@ -71,5 +71,5 @@ module _ (words : List (List ℕ)) (command : Command) (need : Need) (needs : co
   ends_over portfolio is same tells after end ended =
       let portfolio_is : record { rows = portfolio.rows; need = need } ≡ portfolio = ap (λ (one : Need). record { rows = portfolio.rows; need = one }) (sym is) in
       ends_as (Finds uses at_first) (Finds uses at_first) uses (λ files bytes. tool_outcome words command files portfolio bytes) (command_outcome words command) at_first after end
-      (λ files bytes finds. (finds, sym (by_tables files bytes (Ok portfolio.rows) finds tells ∙ ap (λ (one : PortfolioRows). tool_outcome words command files one bytes) portfolio_is)))
+      (λ files told finds. (finds, λ bytes. sym (by_tables files told bytes (Ok portfolio.rows) finds tells ∙ ap (λ (one : PortfolioRows). tool_outcome words command files one bytes) portfolio_is)))
       (subst (λ (state : InputsState). ToolEnds uses (λ files bytes. tool_outcome words command files portfolio bytes) (world state outputs source sink) after end) same ended)

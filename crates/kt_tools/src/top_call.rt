@@ -196,7 +196,8 @@ fn carry_out<R: Threads + Sync, G: Gate + Sync, I: Inputs, O: Outputs, S: Source
 ///
 /// `RunEnded` of kt_ends says a sentence a field how it ends. What it says of the words and the input rests on those objects alone
 /// that the command uses and that tell what they hold. Where the words are faulty, or the tables refused, no object behind them
-/// was due yet, so that none of its failures hides the refusal. What a later refusal leaves of the source is not promised.
+/// was due yet, so that none of its failures hides the refusal; and a refusal that was found is the answer, so that none of the later
+/// failures hides it. What a later refusal leaves of the source is not promised.
 pub fn run<R: Threads + Sync, G: Gate + Sync, I: Inputs, O: Outputs, S: Source, K: Sink, E: Sink>(
     rt: &R,
     alloc: Global,

@@ -1,9 +1,12 @@
-use Rattle.std.proofs.Common.{ℕ, [], ◌++◌, Option, Err, refl, ap, subst, ◌∙◌, take, length, arith}
+use Rattle.std.proofs.Common.{ℕ, List, [], ◌++◌, Option, Err, refl, sym, ap, subst, ◌∙◌, take, length, arith}
 use Rattle.std.proofs.lemmas.Grind.{common_steps}
 use Rattle.kt_out.specs.Reading.{GivesKnown}
 use Rattle.kt_stream.specs.declared.stop.StreamStop.{StreamStop}
 use Rattle.kt_loop.specs.Reading.{FeedsBy}
-use Rattle.kt_loop.proofs.Going.{read_none, fed_of, read_more, read_all, filled_block, going_first, going_more, stopped, faulted, stream_refused, ended_so, standing_first}
+use Rattle.kt_ends.specs.Hiding.{none_failed}
+use Rattle.kt_ends.specs.Stops.{end_status, stop_status}
+use Rattle.kt_loop.specs.Outcome.{outcome}
+use Rattle.kt_loop.proofs.Going.{HasRead, hides_nothing, read_none, fed_of, read_more, read_all, filled_block, going_first, going_more, stopped, faulted, stream_refused, ended_so, standing_first}
 use Rattle.kt_loop.proofs.Stepping.{counts_behind, counts_as, counts_read, no_inputs}
 use Rattle.kt_loop.proofs.run.read_all.Goals as goal
 
@@ -103,3 +106,20 @@ returns-in_default-clause-settled g c = grind (arith, common_steps)
 
 pub returns-in-Err-read-clause-counted : goal.returns-in-Err-read-clause-counted
 returns-in-Err-read-clause-counted g c = grind (arith, common_steps)
+
+pub returns-in-Err-clause-hides_none : goal.returns-in-Err-clause-hides_none
+returns-in-Err-clause-hides_none g c contents start fresh at = none_failed (λ bytes. outcome g.T.Stage.calculation start (contents bytes)) _ _ (stop_status c.in-Err.why) refl
+
+pub returns-in-Err-read-clause-hides_none : goal.returns-in-Err-read-clause-hides_none
+returns-in-Err-read-clause-hides_none g c contents start fresh at =
+    let going = c.turns.invariant.going in
+    hides_nothing g.T.Stage.calculation contents start (λ state. g.T.Stage.is_at state c.turns.stage c.turns.beside) _ _ c.turns.out going.fed (going.course contents start fresh at) _ _
+    (subst (λ (now : Option (List ℕ)). HasRead (g.S.Source.state c.args.source.now).left now going.fed) (sym c.in-Err-read.ensures.moved.kept) going.read) (going.unrefused contents fresh)
+
+pub returns-then-read-eq0-clause-hides_none : goal.returns-then-read-eq0-clause-hides_none
+returns-then-read-eq0-clause-hides_none g c contents start fresh at =
+    none_failed (λ bytes. outcome g.T.Stage.calculation start (contents bytes)) _ _ (end_status c.finish.result) (c.in-Ok-read.ensures.moved.counted ∙ c.turns.invariant.reads)
+
+pub returns-in-Err-turn-clause-hides_none : goal.returns-in-Err-turn-clause-hides_none
+returns-in-Err-turn-clause-hides_none g c contents start fresh at =
+    none_failed (λ bytes. outcome g.T.Stage.calculation start (contents bytes)) _ _ (stop_status c.in-Err-turn.why) (c.in-Ok-read.ensures.moved.counted ∙ c.turns.invariant.reads)

@@ -9,5 +9,5 @@ use Rattle.kt_tools.proofs.convert.convert.Goals as goal
 pub returns : goal.returns
 returns g c inputs outputs =
     let made : List ℕ → Outcome = λ bytes. converted (other_form c.args.conversion bytes) in
-    ends_text (command_uses (Convert c.args.conversion)) made inputs outputs _ _ _ (record { source = refl; sink = refl }) (other_form c.args.conversion c.in-Ok.bytes.items) (g.K.Sink.state c.write_form.new.sink) c.in-Ok.bytes.items c.write_form.result c.text_end.result c.in-Ok.ensures.value refl
+    ends_text (command_uses (Convert c.args.conversion)) made inputs outputs _ _ _ (record { source = refl; whole = refl; sink = refl }) (other_form c.args.conversion c.in-Ok.bytes.items) (g.K.Sink.state c.write_form.new.sink) c.in-Ok.bytes.items c.write_form.result c.text_end.result c.in-Ok.ensures.value refl
     (rw c.as_slice.ensures.value at c.write_form.ensures) c.text_end.ensures
