@@ -26,7 +26,7 @@ use kt_files::OutputFile;
 use kt_files::laws::names_are_distinct;
 use kt_load::RoundRows;
 use kt_out::{Fault, Gate, Inputs, Outputs};
-use kt_outputs::append_texts;
+use kt_outputs::append_texts_beside;
 use kt_part::laws::Claims;
 use kt_part::{RoundStop, run_round};
 use kt_tables::Portfolio;
@@ -120,8 +120,9 @@ fn fold_round<R: Threads + Sync, G: Gate + Sync>(
     }
 }
 
-/// Appends the rows of the parts that are kept to the files, and lets the parts go.
-fn write_kept<R, G, O: Outputs>(
+/// Appends the rows of the parts that are kept to the files, and lets the parts go. The texts of as many files as the run has workers
+/// are made side by side.
+fn write_kept<R: Threads + Sync, G, O: Outputs>(
     run: &Run<'_, R, G>,
     fold: &mut RunFold<'_>,
     outputs: &mut O,
@@ -139,7 +140,14 @@ fn write_kept<R, G, O: Outputs>(
         samples: fold.samples(),
         parts: fold.kept(),
     };
-    let answer = append_texts(run.alloc, outputs, run.files, &texts);
+    let answer = append_texts_beside(
+        run.rt,
+        run.alloc,
+        outputs,
+        run.files,
+        &texts,
+        run.workers as usize,
+    );
     match answer {
         Ok(()) => {
             fold.let_go();
