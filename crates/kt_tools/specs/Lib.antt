@@ -1,4 +1,3 @@
-pub mod ByEvents
 pub mod Converting
 pub mod FootprintText
 pub mod GulOutcome
@@ -9,11 +8,5 @@ pub mod Needs
 pub mod GeneratedRun
 pub mod Outcome
 pub mod RunEnds
-pub mod SplitFacts
-pub mod SplitRuns
-pub mod RunNeeds
-pub mod RunRows
-pub mod RunDone
-pub mod RunInParts
 pub mod Uses
 pub mod Due

@@ -1,0 +1,17 @@
+mod RunsOfEvents
+mod ModelByEvents
+mod GulByEvents
+mod LossesByEvents
+mod TablesByEvents
+mod Piping
+mod SplitStages
+mod SplitRun
+mod SplitInsured
+mod SplitAll
+mod NoLosses
+mod SplitTables
+mod SplitFiles
+mod SplitLaws
+mod Served
+mod DoneStages
+mod DoneFiles

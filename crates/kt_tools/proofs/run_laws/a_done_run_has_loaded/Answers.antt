@@ -1,5 +1,0 @@
-use Rattle.kt_tools.specs.RunDone.{run_is_done}
-use Rattle.kt_tools.proofs.run_laws.a_done_run_has_loaded.Goals as goal
-
-pub returns : goal.returns
-returns c = run_is_done
