@@ -19,7 +19,7 @@ pub enum PeriodTable {
 }
 
 /// Appends the names of a table's columns, and then its rows of a set of a perspective: those of the cells, at these return
-/// periods where it is a curve. An error is want of memory.
+/// periods where it is a curve. An error is want of memory; then some of the table may stand behind what was there.
 pub fn append_table(
     out: &mut Bytes,
     kind: PeriodTable,
