@@ -1,24 +1,20 @@
 //! A script of cases, taken line by line.
 //! The language of the cases: README.md.
 
-ghost use Rattle.std.specs.Prelude.{◌<◌};
-
+use crate::answers::Answers;
 use crate::files::Files;
-use crate::grids::values_seen;
 use crate::not_taken::NotTaken;
-use crate::runs::{load, run_adapted, run_in_memory, run_surely};
 use crate::seen::{Seen, is_look};
 use crate::settings::Settings;
 use crate::texts::{numbered, range};
 use crate::words::{words_of, words_seen};
-use kt_schema::{COVERAGES, FOOTPRINT, Schema};
-use kt_tools::Words;
+use kt_words::Words;
 use std::alloc::{AllocGlobal, Global};
 use std::thread::Threads;
 
 /// The state between two lines.
 #[derive(Drop)]
-pub(crate) struct Script {
+pub struct Script {
     alloc: Global,
     /// The numbers of all cases, and those of this one.
     base: Settings,
@@ -40,7 +36,7 @@ pub(crate) struct Script {
 
 impl Script {
     /// No line yet.
-    pub(crate) fn new(alloc: Global) -> Self {
+    pub fn new(alloc: Global) -> Self {
         Script {
             alloc,
             base: Settings::new(),
@@ -58,22 +54,23 @@ impl Script {
     }
 
     /// How many answers were compared.
-    pub(crate) fn compared(&self) -> u32 {
+    pub fn compared(&self) -> u32 {
         self.compared
     }
 
     /// The answers that are not the wanted ones, a line each.
-    pub(crate) fn differences(&self) -> &str {
+    pub fn differences(&self) -> &str {
         self.differences.as_str()
     }
 
     /// Takes a line, or tells that it is not taken. An error is want of memory.
-    pub(crate) fn take<R: Threads + Sync + AllocGlobal>(
+    pub fn take<R: Threads + Sync + AllocGlobal, A: Answers>(
         &mut self,
         rt: &R,
+        answers: &A,
         line: &str,
     ) -> Result<(), NotTaken> {
-        match self.take_line(rt, line) {
+        match self.take_line(rt, answers, line) {
             Ok(()) => Ok(()),
             Err(NotTaken) => {
                 self.differences.push_str("not taken: ")?;
@@ -85,9 +82,10 @@ impl Script {
     }
 
     /// Takes a line.
-    fn take_line<R: Threads + Sync + AllocGlobal>(
+    fn take_line<R: Threads + Sync + AllocGlobal, A: Answers>(
         &mut self,
         rt: &R,
+        answers: &A,
         line: &str,
     ) -> Result<(), NotTaken> {
         if line.is_empty() || line.starts_with('#') {
@@ -97,7 +95,7 @@ impl Script {
             return self.files.add_row(row);
         }
         match line.split_once(" => ") {
-            Some((question, wanted)) => self.ask(rt, question, wanted),
+            Some((question, wanted)) => self.ask(rt, answers, question, wanted),
             None => self.change(line),
         }
     }
@@ -162,36 +160,25 @@ impl Script {
         }
     }
 
-    /// The values of the source as the text of a table.
-    fn values<const N: usize>(&self, schema: &Schema<N>) -> Result<Seen, NotTaken>
-        requires { N < 100 }
-    {
-        values_seen(self.alloc, schema, self.files.get("source"))
-    }
-
     /// What a question leaves.
-    fn see<R: Threads + Sync + AllocGlobal>(
+    fn see<R: Threads + Sync + AllocGlobal, A: Answers>(
         &self,
         rt: &R,
+        answers: &A,
         kind: &str,
         words: &Words,
     ) -> Result<Seen, NotTaken> {
         match kind {
             "words" => words_seen(self.alloc, words),
-            "coverages" => self.values(&COVERAGES),
-            "footprint" => self.values(&FOOTPRINT),
-            "load" => load(self.alloc, &self.files, &self.settings),
-            "run" => run_in_memory(rt, words, &self.files, &self.settings),
-            "sure" => run_surely(rt, words, &self.files, &self.settings),
-            "std" => run_adapted(rt, words, &self.files, &self.settings),
-            _ => Err(NotTaken),
+            _ => answers.see(rt, kind, words, &self.files, &self.settings),
         }
     }
 
     /// Sees what a question leaves for each number.
-    fn see_all<R: Threads + Sync + AllocGlobal>(
+    fn see_all<R: Threads + Sync + AllocGlobal, A: Answers>(
         &mut self,
         rt: &R,
+        answers: &A,
         question: &str,
     ) -> Result<(), NotTaken> {
         let (kind, words) = question.split_once(' ').unwrap_or((question, ""));
@@ -199,21 +186,22 @@ impl Script {
         self.seen = Vec::new(self.alloc);
         for number in self.first..=self.last {
             let _is_swept = self.settings.set(self.swept.as_str(), number);
-            let seen = self.see(rt, kind, &words)?;
+            let seen = self.see(rt, answers, kind, &words)?;
             self.seen.push(seen)?;
         }
         Ok(())
     }
 
     /// Compares the answer of a question with the wanted one, for each number.
-    fn ask<R: Threads + Sync + AllocGlobal>(
+    fn ask<R: Threads + Sync + AllocGlobal, A: Answers>(
         &mut self,
         rt: &R,
+        answers: &A,
         question: &str,
         wanted: &str,
     ) -> Result<(), NotTaken> {
         if !is_look(question) {
-            self.see_all(rt, question)?;
+            self.see_all(rt, answers, question)?;
         }
         if self.seen.is_empty() {
             return Err(NotTaken);

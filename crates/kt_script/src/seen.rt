@@ -9,7 +9,7 @@ use std::alloc::{AllocError, Global};
 
 /// What a question left: its answer, and the output and the output files where there was a run.
 #[derive(Drop)]
-pub(crate) struct Seen {
+pub struct Seen {
     pub(crate) answer: String,
     pub(crate) output: Vec<u8>,
     pub(crate) files: MemOutputs,
@@ -135,7 +135,7 @@ pub(crate) fn is_look(question: &str) -> bool {
 
 impl Seen {
     /// What a question left that has this answer and is no run.
-    pub(crate) fn of_text(alloc: Global, answer: String) -> Self {
+    pub fn of_text(alloc: Global, answer: String) -> Self {
         Seen {
             answer,
             output: Vec::new(alloc),
@@ -144,7 +144,7 @@ impl Seen {
     }
 
     /// What a run or a load left.
-    pub(crate) fn new(
+    pub fn new(
         alloc: Global,
         code: u8,
         output: &[u8],
@@ -158,7 +158,7 @@ impl Seen {
     }
 
     /// The same with output files.
-    pub(crate) fn with_files(self, files: MemOutputs) -> Self {
+    pub fn with_files(self, files: MemOutputs) -> Self {
         Seen {
             answer: self.answer,
             output: self.output,
@@ -190,7 +190,7 @@ impl Seen {
 }
 
 /// What a run leaves that writes nothing and ends so.
-pub(crate) fn ended(alloc: Global, status: Status) -> Result<Seen, NotTaken> {
+pub fn ended(alloc: Global, status: Status) -> Result<Seen, NotTaken> {
     let mut err = SureSink::new(alloc);
     let code = report(alloc, status, &mut err).code();
     Seen::new(alloc, code, &[], err.taken())

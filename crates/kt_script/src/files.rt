@@ -33,7 +33,7 @@ struct NamedFile {
 
 /// The files of a case: of one name the last counts. Those that stand before the first case are in all of them.
 #[derive(Drop)]
-pub(crate) struct Files {
+pub struct Files {
     alloc: Global,
     list: Vec<NamedFile>,
     base: usize,
@@ -118,7 +118,7 @@ impl Files {
     }
 
     /// The bytes or lines that are given under this name, none where there are none.
-    pub(crate) fn get(&self, name: &str) -> &[u8] {
+    pub fn get(&self, name: &str) -> &[u8] {
         match find(&self.list, name) {
             Some(file) => file.bytes.as_slice(),
             None => &[],
@@ -126,7 +126,7 @@ impl Files {
     }
 
     /// The first bytes of the source, which is what was turned where there is such.
-    pub(crate) fn source(&self, cut: u32) -> &[u8] {
+    pub fn source(&self, cut: u32) -> &[u8] {
         let source = match find(&self.list, "turned") {
             Some(file) => file.bytes.as_slice(),
             None => self.get("source"),
@@ -221,7 +221,7 @@ impl Files {
     }
 
     /// The tables that are loaded.
-    pub(crate) fn loaded(&self) -> Result<TableSet, AllocError> {
+    pub fn loaded(&self) -> Result<TableSet, AllocError> {
         let mut loaded = TableSet::new();
         for id in load_order() {
             if self.loads(file_name(self.alloc, id)?.as_slice()) {
@@ -252,7 +252,7 @@ impl Files {
     }
 
     /// The files as inputs.
-    pub(crate) fn inputs(&self, settings: &Settings) -> Result<MemInputs, NotTaken> {
+    pub fn inputs(&self, settings: &Settings) -> Result<MemInputs, NotTaken> {
         let fails = vec![in self.alloc; settings.files as u64]?;
         let mut inputs = MemInputs::new(self.alloc, fails, settings.most.max(1) as u64);
         for n in 0..self.list.len() {

@@ -7,7 +7,7 @@ use kt_out::{Absent, Fault, Inputs, MemInputs};
 /// Input files of which one says another size than it has. A read behind its bytes fails, as in a file
 /// that has become shorter.
 #[derive(Drop)]
-pub(crate) struct SaidSize<'a> {
+pub struct SaidSize<'a> {
     files: MemInputs,
     name: &'a [u8],
     size: u64,
@@ -17,7 +17,7 @@ pub(crate) struct SaidSize<'a> {
 
 impl<'a> SaidSize<'a> {
     /// The file of this name says this size.
-    pub(crate) fn new(files: MemInputs, name: &'a [u8], size: u64) -> Self {
+    pub fn new(files: MemInputs, name: &'a [u8], size: u64) -> Self {
         SaidSize {
             files,
             name,

@@ -7,7 +7,7 @@ use std::io::{ErrorKind, Read, Write};
 
 /// The calls of a reader or a writer.
 #[derive(Clone, Copy)]
-pub(crate) struct Calls {
+pub struct Calls {
     /// How many are interrupted before each other one.
     interrupted: u32,
     /// How many were interrupted behind the last other one.
@@ -21,7 +21,7 @@ pub(crate) struct Calls {
 
 impl Calls {
     /// No call so far.
-    pub(crate) fn new(settings: &Settings, failing: u32) -> Self {
+    pub fn new(settings: &Settings, failing: u32) -> Self {
         Calls {
             interrupted: settings.interrupted,
             waited: 0,
@@ -48,9 +48,9 @@ impl Calls {
 
 /// A reader of some bytes.
 #[derive(Drop)]
-pub(crate) struct Reader<'a> {
-    pub(crate) calls: Calls,
-    pub(crate) left: &'a [u8],
+pub struct Reader<'a> {
+    pub calls: Calls,
+    pub left: &'a [u8],
 }
 
 impl Read for Reader<'_> {
@@ -64,9 +64,9 @@ impl Read for Reader<'_> {
 
 /// A writer whose bytes are kept.
 #[derive(Drop)]
-pub(crate) struct Writer<'a> {
-    pub(crate) calls: Calls,
-    pub(crate) taken: &'a mut Vec<u8>,
+pub struct Writer<'a> {
+    pub calls: Calls,
+    pub taken: &'a mut Vec<u8>,
 }
 
 impl Write for Writer<'_> {

@@ -3,29 +3,29 @@
 
 /// The numbers of a case.
 #[derive(Clone, Copy)]
-pub(crate) struct Settings {
+pub struct Settings {
     /// How many samples a load is for, by which allocation rule, and whether net of reinsurance: 1, or 0.
-    pub(crate) samples: u32,
-    pub(crate) rule: u32,
-    pub(crate) net: u32,
+    pub samples: u32,
+    pub rule: u32,
+    pub net: u32,
     /// The number of periods of the occurrences.
-    pub(crate) periods: u32,
+    pub periods: u32,
     /// The size that the file in `says` says.
-    pub(crate) size: u32,
+    pub size: u32,
     /// The most bytes that a call moves.
-    pub(crate) most: u32,
+    pub most: u32,
     /// The source ends behind so many bytes.
-    pub(crate) cut: u32,
+    pub cut: u32,
     /// The call that fails, counted from 1, of the files, the output files, the source, the sink and standard error; 0 for none.
-    pub(crate) files: u32,
-    pub(crate) outputs: u32,
-    pub(crate) source: u32,
-    pub(crate) sink: u32,
-    pub(crate) err: u32,
+    pub files: u32,
+    pub outputs: u32,
+    pub source: u32,
+    pub sink: u32,
+    pub err: u32,
     /// So many calls of a reader or a writer are interrupted before each one that moves bytes.
-    pub(crate) interrupted: u32,
+    pub interrupted: u32,
     /// How often the words are run over the same reader and writer.
-    pub(crate) times: u32,
+    pub times: u32,
 }
 
 impl Settings {

@@ -5,7 +5,7 @@ use std::io;
 
 /// A line is none of the language, or no memory was there for it.
 #[derive(Clone, Copy)]
-pub(crate) struct NotTaken;
+pub struct NotTaken;
 
 impl From<AllocError> for NotTaken {
     fn from(_: AllocError) -> Self {
