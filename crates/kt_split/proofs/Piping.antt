@@ -28,9 +28,10 @@ use Rattle.kt_tables.specs.Lookups.{event_ids}
 use Rattle.kt_tables.specs.Portfolio.{PortfolioRows}
 use Rattle.kt_words.specs.declared.command.Command.{Command}
 use Rattle.kt_words.specs.declared.command.Command.TheVariants.{Eve}
-use Rattle.kt_tools.specs.Loading.{with_tables}
+use Rattle.kt_front.specs.Loading.{with_tables}
 use Rattle.kt_tools.specs.Needs.{command_need}
-use Rattle.kt_tools.specs.Outcome.{command_outcome, event_bytes, over_tables, tool_outcome}
+use Rattle.kt_front.specs.EventList.{event_bytes}
+use Rattle.kt_tools.specs.Outcome.{command_outcome, over_tables, tool_outcome}
 use Rattle.kt_split.specs.SplitRuns.{AreFiles, IsServed, JoinsParts, handed, handed_by, part_outcome, piped}
 
 -- ---- what commands give of stretches of the events

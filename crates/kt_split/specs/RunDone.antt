@@ -15,7 +15,7 @@ use Rattle.kt_load.specs.declared.stop.LoadStop.TheVariants as load
 use Rattle.kt_out.specs.NamedFiles.{FileMap}
 use Rattle.kt_rec.specs.Rows.{Rows}
 use Rattle.kt_rec.specs.declared.perspective.Perspective.{Perspective}
-use Rattle.kt_tools.specs.Loading.{load_stop, table_stop, with_tables}
+use Rattle.kt_front.specs.Loading.{load_stop, table_stop, with_tables}
 use Rattle.kt_tools.specs.Needs.{chain_terms}
 use Rattle.kt_tools.specs.Outcome.{command_outcome}
 use Rattle.kt_words.specs.declared.command.Command.TheVariants.{Chain}

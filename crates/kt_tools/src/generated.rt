@@ -12,12 +12,12 @@ ghost use Rattle.kt_tools.specs.Uses.{command_uses};
 ghost use Rattle.kt_words.specs.Command.{IsGen};
 ghost use Rattle.kt_words.specs.declared.command.Command.TheVariants as Command;
 
-use crate::stops::load_stop;
 use kt_chain::{ChainOptions, run_chain};
 use kt_ends::{ToolStop, write_stop};
 use kt_event::{Terms, chain_need};
 use kt_files::laws::names_are_distinct;
 use kt_files::{OutputFile, output_files};
+use kt_front::load_stop;
 use kt_gen::{generate, made_files_are_shown, push_file_lines};
 use kt_load::load;
 use kt_money::Bytes;
