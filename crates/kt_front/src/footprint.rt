@@ -8,7 +8,7 @@ ghost use Rattle.kt_front.specs.Converting.{StopsText};
 ghost use Rattle.kt_front.specs.FootprintText.{IsPlaceStop, footprint_text, text_of};
 ghost use Rattle.kt_loop.specs.Running.{stream_uses};
 
-use crate::convert::text_end;
+use crate::conversion::text_end;
 use crate::whole_source::read_whole;
 use kt_blocks::write_footprint;
 use kt_checks::first_misplaced;

@@ -1,7 +1,7 @@
 //! The tools from the tables to ground-up losses, and those between the texts and the files of tables.
 #![tactic(auto)]
 
-mod convert;
+mod conversion;
 mod eve;
 mod footprint;
 mod getmodel;
@@ -9,7 +9,7 @@ mod gulcalc;
 mod stops;
 mod whole_source;
 
-pub use convert::convert;
+pub use conversion::convert;
 pub use eve::write_events;
 pub use footprint::footprint_to_text;
 pub use getmodel::write_distributions;

@@ -144,12 +144,7 @@ impl Seen {
     }
 
     /// What a run or a load left.
-    pub fn new(
-        alloc: Global,
-        code: u8,
-        output: &[u8],
-        line: &[u8],
-    ) -> Result<Self, NotTaken> {
+    pub fn new(alloc: Global, code: u8, output: &[u8], line: &[u8]) -> Result<Self, NotTaken> {
         Ok(Seen {
             answer: status_text(alloc, code, line)?,
             output: output.to_vec(alloc)?,

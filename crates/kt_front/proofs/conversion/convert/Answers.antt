@@ -3,7 +3,7 @@ use Rattle.kt_ends.specs.Outcome.{Outcome}
 use Rattle.kt_front.specs.Converting.{converted, other_form}
 use Rattle.kt_loop.specs.Running.{stream_uses}
 use Rattle.kt_front.proofs.Converting.{ends_text}
-use Rattle.kt_front.proofs.convert.convert.Goals as goal
+use Rattle.kt_front.proofs.conversion.convert.Goals as goal
 
 pub returns : goal.returns
 returns g c inputs outputs =

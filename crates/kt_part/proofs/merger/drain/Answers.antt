@@ -2,7 +2,7 @@ use Rattle.std.proofs.Common.{◌≡◌, suc, List, [], ◌∷◌, ◌++◌, len
 use Rattle.rtrb.specs.Ring.{received, known_items}
 use Rattle.kt_part.specs.declared.inbox.Item.{Item}
 use Rattle.kt_part.proofs.ArrivalLemmas.{moved}
-use Rattle.kt_part.proofs.merge.drain.Goals as goal
+use Rattle.kt_part.proofs.merger.drain.Goals as goal
 
 pub loop-turn-preserved : goal.loop-turn-preserved
 loop-turn-preserved g c =

@@ -1,6 +1,6 @@
 use Rattle.kt_part.specs.Arrivals.{HasCome, all_received}
 use Rattle.kt_part.specs.Lanes.{AreSame}
-use Rattle.kt_part.proofs.merge.merge.Given as goal
+use Rattle.kt_part.proofs.merger.merge.Given as goal
 
 abbrev pub invariant-loop-turn : goal.invariant-loop-turn
 invariant-loop-turn g l = record {

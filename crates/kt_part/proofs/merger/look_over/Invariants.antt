@@ -1,6 +1,6 @@
 use Rattle.kt_part.specs.Arrivals.{HasCome, all_received}
 use Rattle.kt_part.specs.Lanes.{AreSame}
-use Rattle.kt_part.proofs.merge.look_over.Given as goal
+use Rattle.kt_part.proofs.merger.look_over.Given as goal
 
 abbrev pub invariant-loop-place : goal.invariant-loop-place
 invariant-loop-place g l = record {

@@ -34,7 +34,7 @@ fn look_over<B: Drop>(inbox: &mut Inbox<B>, lanes: &mut [Lane<B>])
 }
 
 /// Looks over all lanes until `count` items have come, or it has looked often enough. It never waits.
-pub(crate) fn merge<B: Drop>(count: u32, inbox: &mut Inbox<B>, lanes: &mut [Lane<B>])
+pub fn merge<B: Drop>(count: u32, inbox: &mut Inbox<B>, lanes: &mut [Lane<B>])
     ensures same { AreSame lanes.old lanes.new }
     ensures come { HasCome inbox.old (all_received lanes.old) → HasCome inbox.new (all_received lanes.new) }
 {

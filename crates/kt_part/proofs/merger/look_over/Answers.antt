@@ -5,7 +5,7 @@ use Rattle.rtrb.specs.declared.consumer.Consumer.{Consumer}
 use Rattle.kt_part.specs.Arrivals.{HasCome}
 use Rattle.kt_part.specs.declared.inbox.Item.{Item}
 use Rattle.kt_part.proofs.LaneLemmas.{same-set, come-set}
-use Rattle.kt_part.proofs.merge.look_over.Goals as goal
+use Rattle.kt_part.proofs.merger.look_over.Goals as goal
 
 pub loop-place-preserved : goal.loop-place-preserved
 loop-place-preserved g c =
