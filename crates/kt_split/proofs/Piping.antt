@@ -1,5 +1,5 @@
 -- Commands one after the other, over stretches of the event list, and the streams of its parts joined.
-use Rattle.std.proofs.Common.{◌≡◌, ◌≤◌, ◌+◌, ℕ, zero, suc, List, [], ◌∷◌, ◌++◌, length, map, Option, Some, Ok, Result, append-nil, refl, sym, ap, ◌∙◌, subst, flat_map, arith, ◌-◌}
+use Rattle.std.proofs.Common.{◌≡◌, ◌≤◌, ℕ, zero, suc, List, [], ◌∷◌, ◌++◌, length, map, Option, Some, Ok, Result, append-nil, refl, sym, ap, ◌∙◌, subst, flat_map, arith, ◌-◌}
 use Rattle.std.proofs.lemmas.Grind.{flat_map-append}
 use Rattle.std.specs.List.{AllByRecursion, range_with_len}
 use Rattle.kt_ends.specs.Outcome.{Outcome}
