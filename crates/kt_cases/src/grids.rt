@@ -2,11 +2,10 @@
 //! The language: README.md.
 ghost use Rattle.std.specs.Prelude.{◌<◌};
 
-use crate::not_taken::NotTaken;
-use crate::seen::{Seen, ended};
 use kt_ends::status_of;
 use kt_rec::Name;
 use kt_schema::{Schema, TableStop, schema_rows};
+use kt_script::{NotTaken, Seen, ended};
 use kt_text::{FieldStop, Grid, fields};
 use kt_tools::table_stop;
 use std::alloc::Global;

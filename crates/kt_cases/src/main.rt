@@ -3,26 +3,18 @@
 //! The cases: data; how one is written: README.md.
 #![tactic(auto)]
 
-mod adapted;
-mod files;
 mod grids;
-mod not_taken;
 mod runs;
-mod said_size;
-mod script;
-mod seen;
-mod settings;
-mod texts;
-mod words;
+mod tools;
 
-use not_taken::NotTaken;
-use script::Script;
+use kt_script::{NotTaken, Script};
 use std::alloc::AllocGlobal;
 use std::fs;
 use std::fs::Files;
 use std::io::Print;
 use std::process::ExitCode;
 use std::thread::Threads;
+use tools::Tools;
 
 /// The files of the cases.
 const DATA: [&str; 5] = ["words", "loads", "runs", "faults", "chains"];
@@ -42,7 +34,7 @@ fn compare_all<R: Threads + Sync + AllocGlobal + Files + Print>(
     let text = fs::read_to_string(rt, name)?;
     let mut script = Script::new(rt.alloc());
     for line in text.lines() {
-        script.take(rt, line)?;
+        script.take(rt, &Tools, line)?;
     }
     print_end(rt, name, &script)
 }

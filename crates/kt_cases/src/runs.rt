@@ -1,12 +1,6 @@
 //! Loads, and runs of the tools over objects of several kinds.
 //! The language: README.md.
 
-use crate::adapted::{Calls, Reader, Writer};
-use crate::files::Files;
-use crate::not_taken::NotTaken;
-use crate::said_size::SaidSize;
-use crate::seen::{Seen, ended};
-use crate::settings::Settings;
 use kt_checks::Need;
 use kt_ends::status_of;
 use kt_load::load as load_tables;
@@ -14,6 +8,7 @@ use kt_out::{
     Inputs, MemInputs, MemOutputs, MemSink, MemSource, Open, Outputs, Sink, Source, StdErr,
     StdSink, StdSource, SureInputs, SureOutputs, SureSink, SureSource,
 };
+use kt_script::{Calls, Files, NotTaken, Reader, SaidSize, Seen, Settings, Writer, ended};
 use kt_tools::{Status, Words, load_stop, run};
 use std::alloc::{AllocError, AllocGlobal, Global};
 use std::thread::Threads;

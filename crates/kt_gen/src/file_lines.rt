@@ -61,33 +61,3 @@ pub fn push_file_lines<F: Named>(
     }
     Ok(())
 }
-
-#[cfg(test)]
-mod tests {
-    use super::*;
-    use kt_out::Outputs;
-
-    /// A file of this name.
-    #[derive(Clone, Copy)]
-    struct Called(&'static [u8]);
-
-    impl Named for Called {
-        ghost name = { λ called. called.0.now };
-
-        fn push_name(&self, out: &mut Name) -> Result<(), OutOfMemory> {
-            out.append(self.0)
-        }
-    }
-
-    #[test]
-    fn counts_lines_and_bytes_and_leaves_out_what_is_not_there(rt: HostRuntime) {
-        let alloc = rt.alloc();
-        let mut outputs = SureOutputs::new(alloc);
-        let appended = outputs.append(b"a.csv", b"event_id\n1\n2");
-        assert!(rt; appended.is_ok());
-        let mut out = Bytes::new(alloc);
-        let files = [Called(b"b.csv"), Called(b"a.csv")];
-        push_file_lines(alloc, &mut out, &files, &outputs).expect(&rt, "memory");
-        assert_eq!(rt; out.as_slice(), b"a.csv 2 12\n".as_slice());
-    }
-}

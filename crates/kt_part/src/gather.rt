@@ -9,7 +9,7 @@ use crate::fold::Fold;
 use crate::inbox::{Arm, Inbox};
 use crate::lanes::Lanes;
 use crate::laws::{Claims, Pass};
-use crate::merge::drain;
+use crate::merger::drain;
 use crate::reorder::Reorder;
 use crate::round::RoundStop;
 use crate::work::Work;

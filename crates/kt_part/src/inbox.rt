@@ -6,13 +6,15 @@ use std::alloc::Global;
 
 /// What a worker sends: a number with its block, or with none where memory was wanting for it.
 #[derive(Drop)]
-pub(crate) struct Item<B> {
-    pub(crate) number: u32,
-    pub(crate) block: Option<B>,
+pub struct Item<B> {
+    /// The number.
+    pub number: u32,
+    /// Its block.
+    pub block: Option<B>,
 }
 
 /// The end of a lane at which a worker's items come out.
-pub(crate) type Lane<B> = Consumer<Item<B>, Global>;
+pub type Lane<B> = Consumer<Item<B>, Global>;
 
 /// What a worker works with: its pass, and the end of its lane into which it sends.
 #[derive(Drop)]
@@ -23,10 +25,13 @@ pub(crate) struct Arm<B> {
 
 /// What has come over all lanes: the blocks by their numbers, whether one came for which there was no room, and how many came.
 #[derive(Drop)]
-pub(crate) struct Inbox<B> {
-    pub(crate) reorder: Reorder<Option<B>>,
-    pub(crate) is_spoiled: bool,
-    pub(crate) arrived: u32,
+pub struct Inbox<B> {
+    /// The blocks by their numbers.
+    pub reorder: Reorder<Option<B>>,
+    /// Whether one came for which there was no room.
+    pub is_spoiled: bool,
+    /// How many came.
+    pub arrived: u32,
 }
 
 impl<B: Drop> Inbox<B> {

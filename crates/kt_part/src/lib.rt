@@ -8,15 +8,15 @@ mod gather;
 mod inbox;
 mod lanes;
 pub mod laws;
-mod merge;
+mod merger;
 mod reorder;
 mod round;
 mod shared;
-#[cfg(test)]
-mod tests;
 mod work;
 
 pub use fold::Fold;
+pub use inbox::{Inbox, Item};
+pub use merger::merge;
 pub use reorder::Reorder;
 pub use round::{RoundStop, run_round};
 pub use work::Work;

@@ -13,7 +13,7 @@ use crate::gather::{fold_held, gather};
 use crate::inbox::{Arm, Inbox, Lane};
 use crate::lanes::make_lanes;
 use crate::laws::{Claims, Pass};
-use crate::merge::merge;
+use crate::merger::merge;
 use crate::reorder::Reorder;
 use crate::work::Work;
 use std::alloc::Global;

@@ -11,7 +11,7 @@ use Rattle.kt_rec.specs.declared.perspective.Perspective.TheVariants.{Gul, Il, R
 use Rattle.kt_words.specs.declared.command.Command.{Command}
 use Rattle.kt_words.specs.declared.command.Command.TheVariants.{FmcalcNet, Getmodel, Summarycalc}
 use Rattle.kt_split.proofs.Served.{split_run}
-use Rattle.kt_split.specs.RunInParts.{IsDoneOver}
+use Rattle.kt_split.specs.RunDone.{IsDoneOver}
 use Rattle.kt_split.specs.RunNeeds.{IsOfRun}
 use Rattle.kt_split.specs.SplitRuns.{EachFits, IsSplitRun, ground_up_stages, loss_stages, split_stages}
 

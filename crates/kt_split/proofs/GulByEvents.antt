@@ -22,8 +22,8 @@ use Rattle.kt_stream.specs.declared.entry.LossRecord.{LossRecord}
 use Rattle.kt_stream.specs.declared.entry.Placed.{Placed}
 use Rattle.kt_stream.specs.declared.kind.Head.{Head}
 use Rattle.kt_stream.specs.declared.kind.StreamKind.TheVariants.{Cdf as CdfKind, Gul}
-use Rattle.kt_tools.specs.GulOutcome.{gul_head, gul_outcome, gul_runs, run_losses}
-use Rattle.kt_tools.specs.ModelOutcome.{plain_head}
+use Rattle.kt_front.specs.GulOutcome.{gul_head, gul_outcome, gul_runs, run_losses}
+use Rattle.kt_front.specs.ModelOutcome.{plain_head}
 use Rattle.kt_split.specs.ByEvents.{losses_of_cdfs}
 
 module _ (rows : Rows) (samples : ℕ) (cut : Bool) where

@@ -22,8 +22,8 @@ use Rattle.kt_stream.specs.declared.entry.Cdf.{Cdf}
 use Rattle.kt_stream.specs.declared.event_id.EventId.{EventId}
 use Rattle.kt_stream.specs.declared.kind.Head.{Head}
 use Rattle.kt_stream.specs.declared.kind.StreamKind.TheVariants.{Cdf as CdfKind}
-use Rattle.kt_tools.specs.ModelOutcome.{ModelTables, event_step, model_calculation, model_outcome, model_tables, plain_head}
-use Rattle.kt_tools.specs.Outcome.{event_bytes}
+use Rattle.kt_front.specs.ModelOutcome.{ModelTables, event_step, model_calculation, model_outcome, model_tables, plain_head}
+use Rattle.kt_front.specs.EventList.{event_bytes}
 use Rattle.kt_split.specs.ByEvents.{cdfs_of, event_entry}
 
 module _ (made : ModelTables) where

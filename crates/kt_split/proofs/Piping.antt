@@ -1,5 +1,5 @@
 -- Commands one after the other, over stretches of the event list, and the streams of its parts joined.
-use Rattle.std.proofs.Common.{◌≡◌, ◌≤◌, ◌+◌, ℕ, zero, suc, List, [], ◌∷◌, ◌++◌, length, map, Option, Some, Ok, Result, append-nil, refl, sym, ap, ◌∙◌, subst, flat_map, arith, ◌-◌}
+use Rattle.std.proofs.Common.{◌≡◌, ◌≤◌, ℕ, zero, suc, List, [], ◌∷◌, ◌++◌, length, map, Option, Some, Ok, Result, append-nil, refl, sym, ap, ◌∙◌, subst, flat_map, arith, ◌-◌}
 use Rattle.std.proofs.lemmas.Grind.{flat_map-append}
 use Rattle.std.specs.List.{AllByRecursion, range_with_len}
 use Rattle.kt_ends.specs.Outcome.{Outcome}
@@ -28,9 +28,10 @@ use Rattle.kt_tables.specs.Lookups.{event_ids}
 use Rattle.kt_tables.specs.Portfolio.{PortfolioRows}
 use Rattle.kt_words.specs.declared.command.Command.{Command}
 use Rattle.kt_words.specs.declared.command.Command.TheVariants.{Eve}
-use Rattle.kt_tools.specs.Loading.{with_tables}
+use Rattle.kt_front.specs.Loading.{with_tables}
 use Rattle.kt_tools.specs.Needs.{command_need}
-use Rattle.kt_tools.specs.Outcome.{command_outcome, event_bytes, over_tables, tool_outcome}
+use Rattle.kt_front.specs.EventList.{event_bytes}
+use Rattle.kt_tools.specs.Outcome.{command_outcome, over_tables, tool_outcome}
 use Rattle.kt_split.specs.SplitRuns.{AreFiles, IsServed, JoinsParts, handed, handed_by, part_outcome, piped}
 
 -- ---- what commands give of stretches of the events

@@ -1,6 +1,8 @@
 -- The summary streams of the parts of a split run, joined, give the files of the run of all stages.
 use Rattle.std.proofs.Common.{◌≡◌, ◌≤◌, ℕ, true, List, [], ◌∷◌, ◌++◌, refl, sym, ap, ap₂, ◌∙◌, subst, flat_map}
 use Rattle.std.specs.List.{range_with_len}
+use Rattle.kt_chain.specs.Events.{run_input}
+use Rattle.kt_chain.specs.SetRecords.{set_records}
 use Rattle.kt_elt.specs.PeriodLoss.{period_losses, plt_heading_text}
 use Rattle.kt_ends.specs.Outcome.{Outcome}
 use Rattle.kt_ends.specs.declared.status.Status.TheVariants.{Done}
@@ -31,9 +33,9 @@ use Rattle.kt_split.proofs.TablesByEvents.{elt_makes, plt_makes}
 use Rattle.kt_tools.specs.Needs.{command_need}
 use Rattle.kt_tools.specs.Outcome.{tool_outcome}
 use Rattle.kt_split.specs.SplitFacts.{ModelFacts, ReadsAll, good_summary}
-use Rattle.kt_split.specs.SplitRuns.{AreFiles, GivesTables, IsServed, JoinsParts, footprint_of, part_outcome, set_contents, set_records}
+use Rattle.kt_split.specs.SplitRuns.{AreFiles, GivesTables, IsServed, JoinsParts, footprint_of, part_outcome, set_contents}
 
-module _ (files : FileMap) (terms : Terms) (rows : Rows) (reads : ReadsAll) (together : PartsMakeTheEvents) (model : ModelFacts rows) (eve : (p n : ℕ) → IsServed files terms.samples (footprint_of files) rows (Eve p n)) (set : SummarySet) (of : ℕ → List SummaryRecord) (same : (event : ℕ) → of event ≡ set_records terms rows files set event) where
+module _ (files : FileMap) (terms : Terms) (rows : Rows) (reads : ReadsAll) (together : PartsMakeTheEvents) (model : ModelFacts rows) (eve : (p n : ℕ) → IsServed files terms.samples (footprint_of files) rows (Eve p n)) (set : SummarySet) (of : ℕ → List SummaryRecord) (same : (event : ℕ) → of event ≡ set_records (run_input terms rows files) set event) where
   abbrev events_of : List ℕ
   events_of = event_ids rows
 
@@ -43,7 +45,7 @@ module _ (files : FileMap) (terms : Terms) (rows : Rows) (reads : ReadsAll) (tog
   abbrev the_bytes : List ℕ
   the_bytes = stream_bytes summary_form summary_shape set_head of events_of
 
-  records_same : (events : List ℕ) → flat_map of events ≡ flat_map (set_records terms rows files set) events
+  records_same : (events : List ℕ) → flat_map of events ≡ flat_map (set_records (run_input terms rows files) set) events
   records_same [] = refl
   records_same (event ∷ later) = ap₂ (λ (xs ys : List SummaryRecord). xs ++ ys) (same event) (records_same later)
 

@@ -30,7 +30,7 @@ use Rattle.kt_words.specs.declared.command.Command.TheVariants.{Eve, Fmcalc, Fmc
 use Rattle.kt_split.proofs.RunsOfEvents.{losses_run}
 use Rattle.kt_split.proofs.SplitStages.{StandsAt, WholeFits, insured_one, net_one, next_stands, stands_join, summary_one}
 use Rattle.kt_split.specs.ByEvents.{IsLossRun}
-use Rattle.kt_tools.specs.GulOutcome.{gul_head}
+use Rattle.kt_front.specs.GulOutcome.{gul_head}
 use Rattle.kt_split.specs.SplitFacts.{InsuredFacts, NetFacts, ReadsAll, SummaryFacts, good_loss, good_summary}
 use Rattle.kt_split.specs.SplitRuns.{IsServed, JoinsParts}
 

@@ -37,9 +37,9 @@ use Rattle.kt_split.proofs.ModelByEvents.{ids_are}
 use Rattle.kt_split.proofs.RunsOfEvents.{IsCdfOf, cdfs_run, losses_run}
 use Rattle.kt_split.proofs.SplitStages.{StandsAt, WholeFits, gul_one, model_one, next_stands, stands_join, whole_is}
 use Rattle.kt_split.specs.ByEvents.{IsLossRun, cdfs_of, event_entry, losses_of_cdfs}
-use Rattle.kt_tools.specs.GulOutcome.{gul_head}
-use Rattle.kt_tools.specs.ModelOutcome.{plain_head}
-use Rattle.kt_tools.specs.Outcome.{event_bytes}
+use Rattle.kt_front.specs.GulOutcome.{gul_head}
+use Rattle.kt_front.specs.ModelOutcome.{plain_head}
+use Rattle.kt_front.specs.EventList.{event_bytes}
 use Rattle.kt_split.specs.SplitFacts.{GulFacts, ModelFacts, ReadsAll, good_cdf, good_event, good_loss}
 use Rattle.kt_split.specs.SplitRuns.{IsServed, IsSplitRun, JoinsParts, footprint_of}
 

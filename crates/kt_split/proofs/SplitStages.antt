@@ -43,10 +43,11 @@ use Rattle.kt_split.proofs.LossesByEvents.{judged_makes}
 use Rattle.kt_split.proofs.ModelByEvents.{IsUnrefused, model_makes}
 use Rattle.kt_split.proofs.Piping.{Makes, MakesOne, command_is, eve_is, makes_more, parts_join, part_stretch}
 use Rattle.kt_split.specs.ByEvents.{IsLossRun, cdfs_of, event_entry, losses_of_cdfs}
-use Rattle.kt_tools.specs.GulOutcome.{gul_head}
-use Rattle.kt_tools.specs.ModelOutcome.{model_tables, plain_head}
+use Rattle.kt_front.specs.GulOutcome.{gul_head}
+use Rattle.kt_front.specs.ModelOutcome.{model_tables, plain_head}
 use Rattle.kt_tools.specs.Needs.{command_need}
-use Rattle.kt_tools.specs.Outcome.{event_bytes, tool_outcome}
+use Rattle.kt_front.specs.EventList.{event_bytes}
+use Rattle.kt_tools.specs.Outcome.{tool_outcome}
 use Rattle.kt_split.specs.SplitFacts.{ReadsAll, good_cdf, good_event, good_loss}
 use Rattle.kt_split.specs.SplitRuns.{IsServed, JoinsParts, part_outcome}
 

@@ -3,6 +3,7 @@ use Rattle.std.proofs.Common.{◌≡◌, ◌≤◌, ◌≢◌, ℕ, zero, suc, B
 use Rattle.std.specs.List.{range_with_len}
 use Rattle.std.proofs.lemmas.List.Elements.{recursion_from_All}
 use Rattle.kt_chain.specs.Events.{RunInput, foot_of, run_input}
+use Rattle.kt_chain.specs.SetRecords.{set_records}
 use Rattle.kt_chain.specs.Files.{event_text, text_whole}
 use Rattle.kt_curve.specs.Losses.{same_perspective}
 use Rattle.kt_elt.specs.EventLoss.{elt_heading_text, event_loss_rows}
@@ -29,7 +30,7 @@ use Rattle.kt_tree.specs.Programme.{tree_of}
 use Rattle.kt_split.proofs.NoLosses.{losses_are}
 use Rattle.kt_split.specs.ByEvents.{cdfs_of, losses_of_cdfs}
 use Rattle.kt_split.specs.SplitFacts.{ModelFacts}
-use Rattle.kt_split.specs.SplitRuns.{footprint_of, has_set, same_set, set_records}
+use Rattle.kt_split.specs.SplitRuns.{footprint_of, has_set, same_set}
 
 -- ---- the records of a set in the block of an event
 
@@ -78,7 +79,7 @@ module _ (terms : Terms) (rows : Rows) (files : FileMap) (model : ModelFacts row
   losses_at event = losses_of_cdfs rows terms.samples terms.cut (cdfs_of rows (footprint_of files) event)
 
   abbrev records_in : SummarySet → ℕ → List SummaryRecord
-  records_in set event = set_records terms rows files set event
+  records_in set event = set_records (run_input terms rows files) set event
 
   ground_up_is : (event : ℕ) → losses_at event ≡ ground_up_of terms rows event (foot_of run_of event)
   ground_up_is event =

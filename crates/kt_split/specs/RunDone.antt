@@ -1,4 +1,4 @@
--- What the words of a run of all stages that ends with all its tables tell: which tables it loaded, and that it was done over them.
+-- A run of all stages that is done, and that its words tell it: which tables it loaded, and that it was done over them.
 -- The rules: docs/COMMANDS.md, "chain"; docs/REFUSALS.md, "Order".
 use Rattle.std.specs.Prelude.{◌≡◌, ℕ, Bool, List, refl, Result, Ok, Err}
 use Rattle.kt_cells.specs.declared.stop.TableStop.{TableStop}
@@ -15,16 +15,20 @@ use Rattle.kt_load.specs.declared.stop.LoadStop.TheVariants as load
 use Rattle.kt_out.specs.NamedFiles.{FileMap}
 use Rattle.kt_rec.specs.Rows.{Rows}
 use Rattle.kt_rec.specs.declared.perspective.Perspective.{Perspective}
-use Rattle.kt_tools.specs.Loading.{load_stop, table_stop, with_tables}
+use Rattle.kt_front.specs.Loading.{load_stop, table_stop, with_tables}
 use Rattle.kt_tools.specs.Needs.{chain_terms}
 use Rattle.kt_tools.specs.Outcome.{command_outcome}
 use Rattle.kt_words.specs.declared.command.Command.TheVariants.{Chain}
 
+-- the run of all stages over these files, whose tables have these rows, ends with all its tables
+pub record IsDoneOver (files : FileMap) (terms : Terms) (rows : Rows) : Type 0 where
+  pub loads : loaded files (chain_need terms) ≡ Ok rows
+  pub done : (chain_outcome (run_input terms rows files)).status ≡ Done
+
 -- a run with these terms loads its tables from these files, and ends with all tables of its events
 pub record IsDoneRun (files : FileMap) (terms : Terms) : Type 0 where
   pub rows : Rows
-  pub loads : loaded files (chain_need terms) ≡ Ok rows
-  pub done : (chain_outcome (run_input terms rows files)).status ≡ Done
+  pub over : IsDoneOver files terms rows
 
 -- what stops a table is no end with all tables
 table_stops : (name : List ℕ) (why : TableStop) → stop_status (table_stop name why) ≡ Done → ⊥
@@ -48,5 +52,5 @@ pub run_is_done : (words : List (List ℕ)) (samples : ℕ) (cut : Bool) (rule :
 run_is_done words samples cut rule last stages workers batch files source is = by (loaded files (chain_need (chain_terms samples cut rule last stages))) refl is
   where
     by : (read : Result Rows LoadStop) → loaded files (chain_need (chain_terms samples cut rule last stages)) ≡ read → (with_tables read (λ rows. chain_outcome (run_input (chain_terms samples cut rule last stages) rows files))).status ≡ Done → IsDoneRun files (chain_terms samples cut rule last stages)
-    by (Ok rows) loads h = record { rows = rows; loads = loads; done = h }
+    by (Ok rows) loads h = record { rows = rows; over = record { loads = loads; done = h } }
     by (Err why) loads h = absurd (load_stops why h)

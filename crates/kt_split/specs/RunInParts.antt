@@ -1,16 +1,12 @@
--- A run of all stages that is done, and the runs of single tools over parts of its event list.
+-- That the tools give, from the joined streams of the parts of the event list, the files of the run of all stages.
 -- The rules: docs/COMMANDS.md, "Split runs".
-use Rattle.std.specs.Prelude.{◌≡◌, ◌≤◌, ℕ, true, List, [], Ok}
+use Rattle.std.specs.Prelude.{◌≡◌, ◌≤◌, ℕ, true, List, []}
 use Rattle.std.specs.List.{range_with_len}
-use Rattle.kt_chain.specs.Events.{run_input}
-use Rattle.kt_chain.specs.Outcome.{chain_outcome}
 use Rattle.kt_ends.specs.declared.status.Status.TheVariants.{Done}
-use Rattle.kt_event.specs.Needs.{chain_need}
 use Rattle.kt_event.specs.declared.terms.SummarySet.{SummarySet}
 use Rattle.kt_event.specs.declared.terms.Terms.{Terms}
 use Rattle.kt_files.specs.declared.file.SetTable.TheVariants.{AverageAnnualLoss, EventLoss, ExceedanceCurve, PeriodLoss}
 use Rattle.kt_kat.specs.Outcome.{kat_outcome}
-use Rattle.kt_load.specs.Loaded.{loaded}
 use Rattle.kt_loop.specs.Outcome.{gives}
 use Rattle.kt_out.specs.NamedFiles.{FileMap}
 use Rattle.kt_rec.specs.Rows.{Rows}
@@ -18,11 +14,6 @@ use Rattle.kt_rec.specs.declared.curve.Curve.{Curve}
 use Rattle.kt_words.specs.declared.command.Command.TheVariants.{Aalcalc, Eltcalc, Leccalc, Pltcalc}
 use Rattle.kt_tools.specs.Outcome.{command_outcome}
 use Rattle.kt_split.specs.SplitRuns.{AreFiles, file_text, part_outcome, split_stages}
-
--- the run of all stages over these files, whose tables have these rows, ends with all its tables
-pub record IsDoneOver (files : FileMap) (terms : Terms) (rows : Rows) : Type 0 where
-  pub loads : loaded files (chain_need terms) ≡ Ok rows
-  pub done : (chain_outcome (run_input terms rows files)).status ≡ Done
 
 -- the tools over these bytes give the four tables that the run of all stages makes of a set
 pub record GivesFiles (files : FileMap) (terms : Terms) (rows : Rows) (set : SummarySet) (summaries : List ℕ) : Type 0 where

@@ -2,8 +2,9 @@
 -- The rules: docs/COMMANDS.md, "Split runs".
 use Rattle.std.specs.Prelude.{◌≡◌, ◌≤◌, ℕ, Bool, true, false, List, [], ◌∷◌, ◌++◌, length, map, Option, Some, None, Ok, ◌==◌, ◌&&◌, nat_eq, unwrap_or}
 use Rattle.std.specs.List.{AllByRecursion, flat_map, list_any, range_with_len}
-use Rattle.kt_chain.specs.Events.{block_of, run_input}
+use Rattle.kt_chain.specs.Events.{run_input}
 use Rattle.kt_chain.specs.Files.{text_whole}
+use Rattle.kt_chain.specs.SetRecords.{set_records}
 use Rattle.kt_checks.specs.Checks.{samples_refusal}
 use Rattle.kt_ends.specs.Outcome.{Outcome}
 use Rattle.kt_ends.specs.declared.status.Status.{Status}
@@ -11,7 +12,6 @@ use Rattle.kt_ends.specs.declared.status.Status.TheVariants.{Done}
 use Rattle.kt_curve.specs.Losses.{same_perspective}
 use Rattle.kt_event.specs.declared.terms.SummarySet.{SummarySet}
 use Rattle.kt_event.specs.declared.terms.Terms.{Terms}
-use Rattle.kt_files.specs.Parts.{records_of_set}
 use Rattle.kt_files.specs.declared.file.OutputFile.TheVariants.{OfSet}
 use Rattle.kt_files.specs.declared.file.SetTable.{SetTable}
 use Rattle.kt_files.specs.declared.file.SetTable.TheVariants.{EventLoss, PeriodLoss}
@@ -185,17 +185,13 @@ has_set set sets = list_any (same_set set) sets
 
 -- ---- the tables of a set
 
--- what each event gives in a set
-abbrev pub set_records : Terms → Rows → FileMap → SummarySet → ℕ → List SummaryRecord
-set_records terms rows files set event = records_of_set set (block_of (run_input terms rows files) event).summaries
-
 -- the text of the file of a set in the run of all stages
 abbrev pub file_text : Terms → Rows → FileMap → SummarySet → SetTable → List ℕ
 file_text terms rows files set table = text_whole (run_input terms rows files) (event_ids rows) (OfSet set table)
 
 -- a summary stream with the records of all events in a set, as it is read
 abbrev pub set_contents : Terms → Rows → FileMap → SummarySet → Contents Head SummaryRecord
-set_contents terms rows files set = whole_contents summary_form summary_shape (record { samples = terms.samples; set = set.set }) (flat_map (set_records terms rows files set) (event_ids rows))
+set_contents terms rows files set = whole_contents summary_form summary_shape (record { samples = terms.samples; set = set.set }) (flat_map (set_records (run_input terms rows files) set) (event_ids rows))
 
 -- the tools over these bytes give the event and the period loss table that the run of all stages makes of the set, and over all periods
 -- what comes of the records of all events in the set

@@ -8,7 +8,8 @@ ghost use Rattle.kt_out.specs.NamedFiles.{FileMap};
 ghost use Rattle.kt_rec.specs.declared.perspective.Perspective.TheVariants.{Gul, Il, Ri};
 ghost use Rattle.kt_words.specs.declared.command.Command.TheVariants.{Getmodel};
 ghost use Rattle.kt_split.specs.SplitFacts.{GroundUpFacts, LossFacts};
-ghost use Rattle.kt_split.specs.RunInParts.{IsDoneOver, JoinedGiveFiles};
+ghost use Rattle.kt_split.specs.RunDone.{IsDoneOver};
+ghost use Rattle.kt_split.specs.RunInParts.{JoinedGiveFiles};
 ghost use Rattle.kt_split.specs.SplitRuns.{EachFits, JoinsParts, ground_up_stages, has_set, loss_stages, split_stages};
 
 use kt_eve::parts_make_the_events;

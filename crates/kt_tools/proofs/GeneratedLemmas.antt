@@ -53,7 +53,7 @@ use Rattle.kt_rec.specs.declared.table.Table.TheVariants as rec_table
 use Rattle.kt_rec.specs.declared.table.TableId.{TableId}
 use Rattle.kt_schema.specs.Loading.{loaded_rows}
 use Rattle.kt_tools.specs.GeneratedRun.{MadeInMemory, StopsInMemory, generated_map, generated_run, generated_terms, shown, shown_by}
-use Rattle.kt_tools.specs.Loading.{load_stop, table_stop, with_tables}
+use Rattle.kt_front.specs.Loading.{load_stop, table_stop, with_tables}
 
 -- ---- no table is missing
 

@@ -18,8 +18,8 @@ use Rattle.kt_rec.specs.declared.table.Table.TheVariants as table
 use Rattle.kt_rec.specs.declared.table.TableId.{TableId}
 use Rattle.kt_rec.specs.declared.table_set.TableSet.{TableSet}
 use Rattle.kt_tables.specs.Portfolio.{PortfolioRows}
-use Rattle.kt_tools.specs.Loading.{IsOfFiles}
-use Rattle.kt_tools.specs.ModelStage.{IsModelReady}
+use Rattle.kt_front.specs.Loading.{IsOfFiles}
+use Rattle.kt_front.specs.ModelStage.{IsModelReady}
 use Rattle.kt_tools.specs.Needs.{chain_terms, command_need}
 use Rattle.kt_tools.specs.Uses.{command_uses}
 use Rattle.kt_words.specs.Command.{AreNet, IsChain}

@@ -21,7 +21,7 @@ use Rattle.kt_out.specs.Reading.{SourceState}
 use Rattle.kt_out.specs.Writing.{SinkState}
 use Rattle.kt_rec.specs.Rows.{Rows}
 use Rattle.kt_tables.specs.Portfolio.{PortfolioRows}
-use Rattle.kt_tools.specs.Loading.{load_stop, with_tables}
+use Rattle.kt_front.specs.Loading.{load_stop, with_tables}
 use Rattle.kt_tools.specs.Needs.{command_need}
 use Rattle.kt_tools.specs.Outcome.{command_outcome, over_tables, tool_outcome}
 use Rattle.kt_tools.specs.Uses.{command_uses}

@@ -20,7 +20,7 @@ use Rattle.kt_gen.specs.Shown.{lines_of_files}
 use Rattle.kt_load.specs.Loaded.{loaded}
 use Rattle.kt_chain.specs.Events.{run_input}
 use Rattle.kt_chain.specs.Outcome.{chain_outcome}
-use Rattle.kt_tools.specs.Loading.{with_tables}
+use Rattle.kt_front.specs.Loading.{with_tables}
 use Rattle.kt_tools.specs.Needs.{chain_terms}
 
 -- what is computed of a made-up set: net losses behind its one reinsurance stage by rule 2, with 100 samples, where the losses of a

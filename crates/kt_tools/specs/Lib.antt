@@ -1,9 +1,3 @@
-pub mod Converting
-pub mod FootprintText
-pub mod GulOutcome
-pub mod Loading
-pub mod ModelOutcome
-pub mod ModelStage
 pub mod Needs
 pub mod GeneratedRun
 pub mod Outcome

@@ -1,31 +1,19 @@
 -- What a run of a command gives: its status, the bytes that it writes to the sink, and its output files.
 -- The rules: docs/COMMANDS.md.
-use Rattle.std.specs.Prelude.{ℕ, List, [], length, nat_le, Option, Some, None, Result, Ok, Err, if◌then◌else◌}
-use Rattle.std.specs.List.{flat_map}
-use Rattle.byteorder.specs.Endian.{little_bytes}
+use Rattle.std.specs.Prelude.{ℕ, List, [], Option, Some, None, Result, Ok, Err}
 use Rattle.kt_out.specs.NamedFiles.{FileMap}
-use Rattle.kt_rec.specs.Rows.{Rows, no_rows}
-use Rattle.kt_rec.specs.declared.hazard.FootprintIdx.{FootprintIdx}
-use Rattle.kt_rec.specs.declared.table.Table.TheVariants as table
-use Rattle.kt_keys.specs.FirstRow.{first_where}
+use Rattle.kt_rec.specs.Rows.{no_rows}
 use Rattle.kt_keys.specs.declared.need.Need.{Need}
-use Rattle.kt_checks.specs.TableChecks.{is_misplaced}
-use Rattle.kt_eve.specs.Parts.{part_of}
-use Rattle.kt_load.specs.FileNames.{file_name_of, table_at}
 use Rattle.kt_load.specs.Loaded.{loaded}
-use Rattle.kt_schema.specs.Footprint.{footprint_csv}
-use Rattle.kt_tables.specs.Lookups.{event_ids}
 use Rattle.kt_tables.specs.Portfolio.{PortfolioRows}
 use Rattle.kt_words.specs.Command.{command_of}
 use Rattle.kt_words.specs.FileNames.{file_names}
 use Rattle.kt_words.specs.declared.command.Command.{Command}
 use Rattle.kt_words.specs.declared.command.Command.TheVariants.{Fmcalc, FmcalcNet, Summarycalc, Eltcalc, Pltcalc, Aalcalc, Leccalc, Kat, Convert, FootprintText, Eve, Getmodel, Gulcalc, Chain, Gen}
-use Rattle.kt_words.specs.declared.command.Conversion.{Conversion}
 use Rattle.kt_words.specs.declared.stop.WordStop.{WordStop}
-use Rattle.kt_ends.specs.Endings.{nothing, writes_text}
+use Rattle.kt_ends.specs.Endings.{nothing}
 use Rattle.kt_ends.specs.Outcome.{Outcome}
-use Rattle.kt_ends.specs.declared.status.Refusal.TheVariants.{TooLarge, Check}
-use Rattle.kt_ends.specs.declared.status.Status.TheVariants.{Words, Refused}
+use Rattle.kt_ends.specs.declared.status.Status.TheVariants.{Words}
 use Rattle.kt_losses.specs.Judged.{judged_outcome}
 use Rattle.kt_losses.specs.Tables.{insured_table, net_table, summary_table}
 use Rattle.kt_periods.specs.EventLossTable.{elt_outcome}
@@ -34,37 +22,14 @@ use Rattle.kt_periods.specs.PeriodTables.{aal_rows_outcome, lec_rows_outcome}
 use Rattle.kt_kat.specs.Outcome.{kat_outcome}
 use Rattle.kt_chain.specs.Events.{run_input}
 use Rattle.kt_chain.specs.Outcome.{chain_outcome}
-use Rattle.kt_tools.specs.Converting.{source_limit, source_name, other_form, converted}
+use Rattle.kt_front.specs.Converting.{convert_outcome}
+use Rattle.kt_front.specs.EventList.{eve_outcome}
+use Rattle.kt_front.specs.FootprintText.{footprint_text}
+use Rattle.kt_front.specs.GulOutcome.{gul_outcome}
+use Rattle.kt_front.specs.Loading.{with_tables}
+use Rattle.kt_front.specs.ModelOutcome.{model_outcome}
 use Rattle.kt_tools.specs.GeneratedRun.{generated_outcome}
-use Rattle.kt_tools.specs.GulOutcome.{gul_outcome}
-use Rattle.kt_tools.specs.Loading.{with_tables}
-use Rattle.kt_tools.specs.ModelOutcome.{model_outcome}
 use Rattle.kt_tools.specs.Needs.{base_need, chain_terms, command_need}
-
--- what is made of the source: one that is too large is refused, whatever else is wrong with it
-abbrev pub within_limit : (List ℕ → Outcome) → List ℕ → Outcome
-within_limit made source = if nat_le (length source) source_limit then made source else nothing (Refused (TooLarge source_name))
-
--- the conversion of the source
-abbrev pub convert_outcome : Conversion → List ℕ → Outcome
-convert_outcome conversion source = within_limit (λ bytes. converted (other_form conversion bytes)) source
-
--- the text of a footprint by its index, unless a row of the index lies outside it
-abbrev pub text_unless : List FootprintIdx → List ℕ → Option ℕ → Outcome
-text_unless index bytes None = converted (footprint_csv bytes index)
-text_unless index bytes (Some row) = nothing (Refused (Check 9 (file_name_of (table_at 0 table.FootprintIdx)) row))
-
--- the text of the source, a footprint, by its index: the index is judged by the size of the source first
-abbrev pub footprint_text : List FootprintIdx → List ℕ → Outcome
-footprint_text index source = within_limit (λ bytes. text_unless index bytes (first_where (is_misplaced (length bytes)) index)) source
-
--- the ids of events as a stream: four bytes each, the lowest first
-abbrev pub event_bytes : List ℕ → List ℕ
-event_bytes ids = flat_map (little_bytes 4) ids
-
--- the events of a part of the event list
-abbrev pub eve_outcome : ℕ → ℕ → Rows → Outcome
-eve_outcome part parts rows = writes_text (event_bytes (part_of (event_ids rows) part parts))
 
 -- the outcome of each tool, over its words, the named files, the portfolio of the tables that it needs, and the source
 abbrev pub tool_outcome : List (List ℕ) → Command → FileMap → PortfolioRows → List ℕ → Outcome

@@ -1,28 +1,34 @@
 //! A run of all stages over a made-up set, in memory.
 //! The rules: docs/GENERATOR.md, "What is shown of a run"; docs/COMMANDS.md, "gen".
-ghost use Rattle.std.specs.Prelude.{◌≡◌, [], MatchResult};
+ghost use Rattle.std.specs.Prelude.{◌≡◌, ◌≤◌, ℕ, [], Ok, Some, MatchResult};
 ghost use Rattle.kt_ends.specs.Ending.{ToolEnds};
 ghost use Rattle.kt_ends.specs.Stops.{end_status};
 ghost use Rattle.kt_ends.specs.World.{world};
+ghost use Rattle.kt_event.specs.Needs.{chain_need as need_of_terms};
+ghost use Rattle.kt_gen.specs.Generated.{generated_files};
+ghost use Rattle.kt_load.specs.EventRows.{HasFootprint};
+ghost use Rattle.kt_load.specs.Loaded.{loaded};
 ghost use Rattle.kt_out.specs.InputFiles.{InputsState};
+ghost use Rattle.kt_out.specs.NamedFiles.{bytes_of};
 ghost use Rattle.kt_out.specs.OutputFiles.{OutputsState};
 ghost use Rattle.kt_out.specs.Reading.{SourceState};
-ghost use Rattle.kt_tools.specs.GeneratedRun.{MadeInMemory, StopsInMemory, generated_outcome, generated_run, generated_terms as terms_of_generated};
+ghost use Rattle.kt_tools.specs.GeneratedRun.{MadeInMemory, StopsInMemory, generated_map, generated_outcome, generated_run, generated_terms as terms_of_generated};
 ghost use Rattle.kt_tools.specs.Uses.{command_uses};
 ghost use Rattle.kt_words.specs.Command.{IsGen};
 ghost use Rattle.kt_words.specs.declared.command.Command.TheVariants as Command;
 
-use crate::stops::load_stop;
 use kt_chain::{ChainOptions, run_chain};
 use kt_ends::{ToolStop, write_stop};
 use kt_event::{Terms, chain_need};
 use kt_files::laws::names_are_distinct;
 use kt_files::{OutputFile, output_files};
+use kt_front::load_stop;
 use kt_gen::{generate, made_files_are_shown, push_file_lines};
 use kt_load::load;
 use kt_money::Bytes;
-use kt_out::{Gate, Sink, SureOutputs, write_all};
+use kt_out::{Gate, Sink, SureInputs, SureOutputs, write_all};
 use kt_rec::Perspective;
+use kt_tables::Portfolio;
 use std::alloc::Global;
 use std::thread::Threads;
 
@@ -39,6 +45,59 @@ fn generated_terms() -> Terms
         rule: 2,
         last: Perspective::Ri,
         stages: 1,
+    }
+}
+
+/// Runs all stages over the tables of a made-up set, into output files in memory, which must be empty. It answers these files in
+/// the order of their making. An error is the refusal of the run, or want of memory.
+fn run_loaded<R: Threads + Sync, G: Gate + Sync>(
+    rt: &R,
+    gate: &G,
+    alloc: Global,
+    workers: u32,
+    portfolio: &Portfolio,
+    inputs: &mut SureInputs,
+    outputs: &mut SureOutputs,
+) -> Result<Vec<OutputFile>, ToolStop>
+    requires some { 1 ≤ workers }
+    requires few { workers ≤ 16 }
+    requires need { portfolio.now.need ≡ need_of_terms terms_of_generated }
+    requires file { HasFootprint (Some (bytes_of inputs.old.files)) portfolio.now.rows.footprint_size }
+    requires none { outputs.old ≡ [] }
+    ensures { (seed items events : ℕ) → loaded (generated_map seed items events) (need_of_terms terms_of_generated) ≡ Ok portfolio.now.rows → Some (bytes_of inputs.old.files) ≡ Some (generated_map seed items events) → MatchResult result (λ files. MadeInMemory (generated_run seed items events) outputs.new files.items) (StopsInMemory (generated_run seed items events)) }
+{
+    let terms = generated_terms();
+    let files = output_files(alloc, portfolio, terms.last)?;
+    let options = ChainOptions {
+        terms,
+        workers,
+        batch: BATCH,
+    };
+    names_are_distinct();
+    made_files_are_shown();
+    match run_chain(rt, gate, alloc, &options, portfolio, inputs, outputs) {
+        Ok(()) => Ok(files),
+        Err(stop) => Err(stop),
+    }
+}
+
+/// Loads the tables of a made-up set, and runs all stages over them. A function of its own, so that it alone lets the tables go.
+fn load_set_and_run<R: Threads + Sync, G: Gate + Sync>(
+    rt: &R,
+    gate: &G,
+    alloc: Global,
+    workers: u32,
+    inputs: &mut SureInputs,
+    outputs: &mut SureOutputs,
+) -> Result<Vec<OutputFile>, ToolStop>
+    requires some { 1 ≤ workers }
+    requires few { workers ≤ 16 }
+    requires none { outputs.old ≡ [] }
+    ensures { (seed items events : ℕ) → inputs.old ≡ record { files = generated_files seed items events; misses = 0 } → MatchResult result (λ files. MadeInMemory (generated_run seed items events) outputs.new files.items) (StopsInMemory (generated_run seed items events)) }
+{
+    match load(alloc, inputs, chain_need(&generated_terms())) {
+        Ok(portfolio) => run_loaded(rt, gate, alloc, workers, &portfolio, inputs, outputs),
+        Err(stop) => Err(load_stop(stop)),
     }
 }
 
@@ -59,23 +118,7 @@ fn run_generated<R: Threads + Sync, G: Gate + Sync>(
     ensures { MatchResult result (λ files. MadeInMemory (generated_run seed items events) outputs.new files.items) (StopsInMemory (generated_run seed items events)) }
 {
     let mut inputs = generate(alloc, seed, items, events)?;
-    let terms = generated_terms();
-    let portfolio = match load(alloc, &mut inputs, chain_need(&terms)) {
-        Ok(portfolio) => portfolio,
-        Err(stop) => return Err(load_stop(stop)),
-    };
-    let files = output_files(alloc, &portfolio, terms.last)?;
-    let options = ChainOptions {
-        terms,
-        workers,
-        batch: BATCH,
-    };
-    names_are_distinct();
-    made_files_are_shown();
-    match run_chain(rt, gate, alloc, &options, &portfolio, &mut inputs, outputs) {
-        Ok(()) => Ok(files),
-        Err(stop) => Err(stop),
-    }
+    load_set_and_run(rt, gate, alloc, workers, &mut inputs, outputs)
 }
 
 /// Makes a set of this seed with so many items and events, runs all stages over it by so many workers, and writes a line for each

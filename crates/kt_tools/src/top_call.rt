@@ -6,7 +6,7 @@ ghost use Rattle.kt_ends.specs.Report.{AnswersWords};
 ghost use Rattle.kt_ends.specs.Stops.{end_status};
 ghost use Rattle.kt_ends.specs.World.{world};
 ghost use Rattle.kt_tools.specs.Due.{InOrder, TablesFirst};
-ghost use Rattle.kt_tools.specs.Loading.{IsOfFiles};
+ghost use Rattle.kt_front.specs.Loading.{IsOfFiles};
 ghost use Rattle.kt_tools.specs.Needs.{command_need as need_of_command};
 ghost use Rattle.kt_tools.specs.Outcome.{command_outcome, outcome, tool_outcome};
 ghost use Rattle.kt_tools.specs.RunEnds.{RunEnds};
@@ -15,18 +15,15 @@ ghost use Rattle.kt_words.specs.Command.{IsCommand, command_of};
 ghost use Rattle.kt_words.specs.FileNames.{file_names};
 ghost use Rattle.kt_words.specs.declared.command.Command.TheVariants as Command;
 
-use crate::convert::convert;
-use crate::eve::write_events;
-use crate::footprint::footprint_to_text;
 use crate::generated::write_generated;
-use crate::getmodel::write_distributions;
-use crate::gulcalc::write_ground_up;
 use crate::need::command_need;
-use crate::stops::load_stop;
 use kt_chain::{ChainOptions, run_chain};
 use kt_checks::Need;
 use kt_ends::{Status, ToolStop, report, status_of};
 use kt_event::Terms;
+use kt_front::{
+    convert, footprint_to_text, load_stop, write_distributions, write_events, write_ground_up,
+};
 use kt_kat::kat;
 use kt_load::load;
 use kt_losses::{write_insured, write_net, write_summaries};

@@ -3,7 +3,7 @@ use Rattle.std.specs.Prelude.{IfSome}
 use Rattle.kt_keys.specs.declared.need.Need.{Need}
 use Rattle.kt_load.specs.Loaded.{loaded}
 use Rattle.kt_out.specs.InputFiles.{InputsState}
-use Rattle.kt_tools.specs.Loading.{IsOfFiles}
+use Rattle.kt_front.specs.Loading.{IsOfFiles}
 use Rattle.kt_tools.proofs.DueLemmas.{loaded_first, kept_first}
 use Rattle.kt_tools.proofs.TableEnds.{ends_over, ends_unloaded}
 use Rattle.kt_tools.proofs.top_call.load_and_run.Goals as goal

@@ -1,0 +1,99 @@
+-- The runs of a stream of distributions are what ground-up losses are made of.
+use Rattle.std.proofs.Common.{◌≡◌, ℕ, ◌+◌, ◌*◌, ◌<◌, ◌^◌, Bool, true, false, List, [], ◌∷◌, ◌++◌, zero, suc, Option, None, Some, length, get_or, map, take, refl, ap, sym, subst, arith, add-one, ◌∙◌}
+use Rattle.std.proofs.lemmas.List.{take_more}
+use Rattle.std.specs.Prelude.{nat_eq, nat_lt, ◌&&◌, ◌||◌, slice_index}
+use Rattle.std.specs.List.{AllByRecursion, flat_map}
+use Rattle.std.specs.List.Sorted.{IsStrictlyIncreasing}
+use Rattle.std.proofs.lemmas.Bool.{eqb-true, ltb-true}
+use Rattle.std.proofs.lemmas.List.Elements.{All-from_recursion}
+use Rattle.kt_gul.specs.GroundUp.{ground_up_records}
+use Rattle.kt_gul.specs.StruckItems.{AreCdfs, cdf_key as place_key}
+use Rattle.kt_ends.specs.declared.status.Refusal.{Refusal}
+use Rattle.kt_loop.specs.ByRun.{RunCalculation, by_run, outcome_by_run}
+use Rattle.kt_loop.specs.Contents.{Contents}
+use Rattle.kt_loop.specs.KnownStreams.{known_beside, with_known}
+use Rattle.kt_loop.specs.Outcome.{outcome}
+use Rattle.kt_loop.specs.Runs.{IsRun, bare, cdf_key, goes_on}
+use Rattle.kt_loop.specs.declared.known_reader.KnownHead.{KnownHead}
+use Rattle.kt_loop.specs.declared.run_key.RunKey.{RunKey}
+use Rattle.kt_stream.specs.declared.stop.StreamStop.{StreamStop}
+use Rattle.kt_rec.specs.Rows.{Rows}
+use Rattle.kt_stream.specs.Bins.{IsCdf, cdf_form, cdf_shape}
+use Rattle.kt_stream.specs.Losses.{loss_bytes}
+use Rattle.kt_stream.specs.Reader.{IsPlaced}
+use Rattle.kt_stream.specs.declared.entry.Cdf.{Cdf}
+use Rattle.kt_stream.specs.declared.entry.Placed.{Placed}
+use Rattle.kt_stream.specs.declared.kind.Head.{Head}
+use Rattle.kt_front.specs.GulOutcome.{GulOptions, gul_runs, run_losses}
+
+-- the keys of two pairs are in the order of the pairs
+key_rises : (one two other next : ℕ) → two < 2 ^ 32 → next < 2 ^ 32 → (nat_lt one other || (nat_eq one other && nat_lt two next)) ≡ true → one * 2 ^ 32 + two < other * 2 ^ 32 + next
+key_rises one two other next short fits is = by_tests (nat_lt one other) (nat_eq one other) (nat_lt two next) refl refl refl is
+  where
+    by_tests : (less same later : Bool) → nat_lt one other ≡ less → nat_eq one other ≡ same → nat_lt two next ≡ later → (less || (same && later)) ≡ true → one * 2 ^ 32 + two < other * 2 ^ 32 + next
+    by_tests true same later l s r h = omega (arith, ltb-true one other l)
+    by_tests false true true l s r h = omega (arith, eqb-true one other s, ltb-true two next r)
+    by_tests false true false l s r h = cc
+    by_tests false false later l s r h = cc
+
+both_parts : (a b : Bool) → (a && b) ≡ true → (a ≡ true) × (b ≡ true)
+both_parts true b is = (refl, is)
+both_parts false b is = cc
+
+module _ (bins : ℕ) (head : Head) where
+  abbrev IsGood : Placed Cdf → Type 0
+  IsGood placed = IsPlaced Cdf cdf_form (λ shape samples cdf. IsCdf shape.bins cdf) (cdf_shape bins) head placed
+
+  each_good : (run : List (Placed Cdf)) → AllByRecursion IsGood run → AllByRecursion (IsCdf bins) (bare run)
+  each_good [] all = tt
+  each_good (placed ∷ later) all = (all.0.good, each_good later all.1)
+
+  -- the next of a run has a greater key
+  step : (first second : Placed Cdf) → IsGood first → IsGood second → goes_on (cdf_key first.entry) (cdf_key second.entry) ≡ true → place_key first.entry < place_key second.entry
+  step first second one other is =
+      let short = one.good.vulnerability.1 in
+      let fits = other.good.vulnerability.1 in
+      key_rises first.entry.areaperil first.entry.vulnerability second.entry.areaperil second.entry.vulnerability (omega arith) (omega arith) (both_parts _ _ is).1
+
+  rises : (run : List (Placed Cdf)) → AllByRecursion IsGood run → IsRun cdf_key run → (k : ℕ) → suc k < length (map place_key (bare run)) → slice_index (map place_key (bare run)) k < slice_index (map place_key (bare run)) (suc k)
+  rises [] all is k within = absurd (omega arith)
+  rises (last ∷ []) all is k within = absurd (omega arith)
+  rises (first ∷ (second ∷ later)) all is zero within = step first second all.0 all.1.0 is.0
+  rises (first ∷ (second ∷ later)) all is (suc k) within = rises (second ∷ later) all.1 is.1 k (omega arith)
+
+  rising : (run : List (Placed Cdf)) → AllByRecursion IsGood run → IsRun cdf_key run → IsStrictlyIncreasing (map place_key (bare run))
+  rising run all is = λ k within. subst (λ n. slice_index (map place_key (bare run)) k < slice_index (map place_key (bare run)) n) (sym (add-one k)) (rises run all is k (subst (λ n. n < length (map place_key (bare run))) (add-one k) within))
+
+  pub are_cdfs : (run : List (Placed Cdf)) → AllByRecursion IsGood run → IsRun cdf_key run → AreCdfs bins (bare run)
+  are_cdfs run all is = record { each = All-from_recursion (IsCdf bins) (bare run) (each_good run all); rising = rising run all is }
+
+-- the losses of a run that is not empty
+pub losses_of_run : (rows : Rows) (options : GulOptions) (run : List (Placed Cdf)) (first : Placed Cdf) → 0 < length run → first ≡ get_or run 0 first → run_losses rows options (bare run) ≡ flat_map loss_bytes (ground_up_records rows options.0 options.1 first.entry.event (bare run))
+losses_of_run rows options [] first some is = absurd (omega arith)
+losses_of_run rows options (placed ∷ later) first some is = ap (λ (one : Placed Cdf). flat_map loss_bytes (ground_up_records rows options.0 options.1 one.entry.event (bare (placed ∷ later)))) (sym is)
+
+-- records without their places, one behind the others
+bare_push : (run : List (Placed Cdf)) (placed : Placed Cdf) → bare (run ++ placed ∷ []) ≡ bare run ++ placed.entry ∷ []
+bare_push [] placed = refl
+bare_push (first ∷ later) placed = ap (λ (rest : List Cdf). first.entry ∷ rest) (bare_push later placed)
+
+-- one more record of a run
+pub bare_more : (run : List (Placed Cdf)) (i : ℕ) (placed : Placed Cdf) → i < length run → placed ≡ get_or run i placed → bare (take (i + 1) run) ≡ bare (take i run) ++ placed.entry ∷ []
+bare_more run i placed within is = ap bare (take_more run i placed within ∙ ap (λ (one : Placed Cdf). take i run ++ one ∷ []) (sym is)) ∙ bare_push (take i run) placed
+
+-- ---- the outcome, whatever is known beside the header
+
+-- a calculation run by run in words of its runs
+abbrev GivesText : Type 0 → Type 0
+GivesText H = (key : Cdf → RunKey) (runs : RunCalculation H Cdf GulOptions Refusal) (kept : GulOptions) (head : H) (entries : List (Placed Cdf)) (fault : Option StreamStop) → outcome (by_run key runs) (record { kept = kept; run = [] }) (record { head = Some head; entries = entries; fault = fault }) ≡ outcome_by_run key runs head (runs.opens head kept).text (runs.opens head kept).next entries fault
+
+-- with rows that are known beside the header the losses are those of these rows
+pub same_losses : {B : Type 0} (rows_in : B → Rows) (known : B) (options : GulOptions) (contents : Contents Head Cdf) → GivesText Head → GivesText (KnownHead B) → outcome (by_run cdf_key (gul_runs (λ (head : Head). rows_in known))) (record { kept = options; run = [] }) contents ≡ outcome (by_run cdf_key (gul_runs (λ (head : KnownHead B). rows_in head.known))) (record { kept = options; run = [] }) (known_beside known contents)
+same_losses {B} rows_in known options contents plain beside = by_head contents.head contents.fault
+  where
+    by_head : (head : Option Head) (fault : Option StreamStop) → outcome (by_run cdf_key (gul_runs (λ (h : Head). rows_in known))) (record { kept = options; run = [] }) (record { head = head; entries = contents.entries; fault = fault }) ≡ outcome (by_run cdf_key (gul_runs (λ (h : KnownHead B). rows_in h.known))) (record { kept = options; run = [] }) (known_beside known (record { head = head; entries = contents.entries; fault = fault }))
+    by_head None None = refl
+    by_head None (Some stop) = refl
+    by_head (Some head) fault =
+        plain cdf_key (gul_runs (λ (h : Head). rows_in known)) options head contents.entries fault
+        ∙ sym (beside cdf_key (gul_runs (λ (h : KnownHead B). rows_in h.known)) options (with_known known head) contents.entries fault)

@@ -1,0 +1,6 @@
+pub mod Reading
+pub mod Converting
+pub mod EveLemmas
+pub mod FootprintLemmas
+mod GulLemmas
+mod ModelLemmas

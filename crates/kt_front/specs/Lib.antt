@@ -1,0 +1,7 @@
+pub mod Loading
+pub mod Converting
+pub mod FootprintText
+pub mod EventList
+pub mod ModelOutcome
+pub mod ModelStage
+pub mod GulOutcome

@@ -1,0 +1,143 @@
+//! The tool that makes the damage distributions of the events of a stream.
+//! The rules: docs/COMMANDS.md, "getmodel".
+ghost use Rattle.std.specs.Prelude.{◌≡◌, ◌++◌, true, OnOk, IfErr};
+ghost use Rattle.std.specs.List.{flat_map};
+ghost use Rattle.kt_ends.specs.Ending.{ToolEnds};
+ghost use Rattle.kt_ends.specs.Stops.{end_status};
+ghost use Rattle.kt_ends.specs.World.{world};
+ghost use Rattle.kt_keys.specs.Refusals.{is_loaded};
+ghost use Rattle.kt_loop.specs.Steps.{StepsBy};
+ghost use Rattle.kt_out.specs.OutputFiles.{OutputsState};
+ghost use Rattle.kt_rec.specs.declared.table.Table.TheVariants as table;
+ghost use Rattle.kt_stream.specs.Bins.{cdf_bytes};
+ghost use Rattle.kt_front.specs.ModelOutcome.{ModelTables, model_outcome, rows_step};
+ghost use Rattle.kt_front.specs.ModelStage.{IsModelReady, IsRowStop};
+ghost use Rattle.kt_loop.specs.Running.{stream_uses};
+
+use crate::stops::load_stop;
+use kt_ends::{Refusal, ToolStop};
+use kt_load::foot_rows;
+use kt_loop::laws::what_is_read_can_be_taken;
+use kt_loop::{Stage, run_stage};
+use kt_model::{ModelStop, distributions};
+use kt_money::{Bytes, OutOfMemory};
+use kt_out::{Inputs, Sink, Source};
+use kt_rec::FootRow;
+use kt_stream::{Cdf, EventId, EventReader, Head, StreamKind, put_cdf, put_head};
+use kt_tables::Portfolio;
+use std::alloc::Global;
+
+/// Appends distributions, one after the other.
+fn put_cdfs(out: &mut Bytes, records: &[Cdf]) -> Result<(), OutOfMemory>
+    ensures { OnOk result (out.new ≡ out.old ++ flat_map cdf_bytes records.now) }
+{
+    for record in records {
+        put_cdf(out, record)?;
+    }
+    Ok(())
+}
+
+/// Appends the distributions of an event whose footprint has these rows, unless one of them is refused.
+fn put_event(
+    alloc: Global,
+    portfolio: &Portfolio,
+    event: u32,
+    rows: &[FootRow],
+    out: &mut Bytes,
+) -> Result<(), ToolStop>
+    requires loaded { is_loaded portfolio.now.need 0 table.DamageBinDict ≡ true }
+    ensures step { (made : ModelTables) → portfolio.now.rows ≡ made.rows → StepsBy (rows_step made event rows.now) (λ next. next ≡ made) out.old out.new result }
+    ensures stops { IfErr result IsRowStop }
+{
+    match distributions(alloc, portfolio, event, rows) {
+        Ok(records) => {
+            put_cdfs(out, records.as_slice())?;
+            Ok(())
+        }
+        Err(ModelStop::Row { row, cause }) => {
+            Err(ToolStop::Refused(Refusal::Row { event, row, cause }))
+        }
+        Err(ModelStop::OutOfMemory) => Err(ToolStop::NoMemory),
+    }
+}
+
+/// The damage distributions of the events of a stream, whose rows the input files have.
+#[derive(Drop)]
+struct Distributions<'a> {
+    alloc: Global,
+    portfolio: &'a Portfolio,
+}
+
+impl<'a, I: Inputs> Stage<Head, EventId, I> for Distributions<'a> {
+    ghost use Rattle.std.specs.Prelude.{◌≡◌};
+    ghost use Rattle.kt_stream.specs.EventIds.{event_form, event_shape};
+    ghost use Rattle.kt_stream.specs.Header.{IsHead};
+    ghost use Rattle.kt_stream.specs.Pairs.{IsId};
+    ghost use Rattle.kt_stream.specs.Reader.{IsPlaced};
+    ghost use Rattle.kt_stream.specs.declared.event_id.EventId.{EventId};
+    ghost use Rattle.kt_stream.specs.declared.kind.StreamKind.TheVariants.{Events};
+    ghost use Rattle.kt_front.specs.ModelOutcome.{ModelTables, model_calculation};
+    ghost use Rattle.kt_front.specs.ModelStage.{IsModelReady, HoldsFootprint};
+
+    ghost State = { ModelTables };
+
+    ghost calculation = { model_calculation };
+
+    ghost is_at = { λ made stage inputs. (stage.portfolio.now.rows ≡ made.rows) × HoldsFootprint (I.state inputs).held made.footprint };
+
+    ghost is_ready = { λ _ stage inputs. IsModelReady stage.portfolio.now (I.state inputs).held };
+
+    ghost accepts = { IsHead Events };
+
+    ghost is_good = { IsPlaced EventId event_form (λ shape samples entry. IsId entry.event) event_shape };
+
+    ghost inputs = { λ _ inputs. I.state inputs };
+
+    fn open(&mut self, _inputs: &mut I, _head: Head, out: &mut Bytes) -> Result<(), ToolStop> {
+        let head = Head { samples: 0, set: 0 };
+        put_head(out, StreamKind::Cdf, head)?;
+        Ok(())
+    }
+
+    fn take(
+        &mut self,
+        inputs: &mut I,
+        _head: Head,
+        _at: u64,
+        entry: EventId,
+        out: &mut Bytes,
+    ) -> Result<(), ToolStop> {
+        match foot_rows(self.alloc, inputs, self.portfolio, entry.event) {
+            Ok(rows) => put_event(
+                self.alloc,
+                self.portfolio,
+                entry.event,
+                rows.as_slice(),
+                out,
+            ),
+            Err(stop) => Err(load_stop(stop)),
+        }
+    }
+
+    fn end(&mut self, _inputs: &mut I, _head: Head, _out: &mut Bytes) -> Result<(), ToolStop> {
+        Ok(())
+    }
+}
+
+/// Reads the ids of events and writes their damage distributions by a portfolio and the footprint's file.
+pub fn write_distributions<I: Inputs, S: Source, K: Sink>(
+    alloc: Global,
+    portfolio: &Portfolio,
+    inputs: &mut I,
+    source: &mut S,
+    sink: &mut K,
+) -> Result<(), ToolStop>
+    requires ready { IsModelReady portfolio.now (I.state inputs.old).held }
+    // The output files are none of its objects.
+    ensures { (outputs : OutputsState) → ToolEnds (stream_uses true) (λ files bytes. model_outcome files portfolio.now.rows bytes) (world (I.state inputs.old) outputs (S.state source.old) (K.state sink.old)) (world (I.state inputs.new) outputs (S.state source.new) (K.state sink.new)) (end_status result) }
+{
+    what_is_read_can_be_taken::<EventId>();
+    let mut reader = EventReader::new(alloc);
+    let mut stage = Distributions { alloc, portfolio };
+    run_stage(alloc, &mut reader, &mut stage, inputs, source, sink)
+}

@@ -1,0 +1,9 @@
+use Rattle.kt_part.specs.Arrivals.{HasCome, all_received}
+use Rattle.kt_part.specs.Lanes.{AreSame}
+use Rattle.kt_part.proofs.merger.merge.Given as goal
+
+abbrev pub invariant-loop-turn : goal.invariant-loop-turn
+invariant-loop-turn g l = record {
+  same : AreSame l.fn.lanes l.lanes;
+  come : HasCome l.fn.inbox (all_received l.fn.lanes) → HasCome l.inbox (all_received l.lanes);
+}

@@ -1,0 +1,26 @@
+//! That a trial could not be made.
+
+use std::alloc::{AllocError, AllocFailed};
+use std::io;
+
+/// No memory was there, or nothing could be printed.
+#[derive(Clone, Copy)]
+pub(crate) struct Failure;
+
+impl From<AllocError> for Failure {
+    fn from(_: AllocError) -> Self {
+        Failure
+    }
+}
+
+impl<T: Drop> From<AllocFailed<T>> for Failure {
+    fn from(_: AllocFailed<T>) -> Self {
+        Failure
+    }
+}
+
+impl From<io::Error> for Failure {
+    fn from(_: io::Error) -> Self {
+        Failure
+    }
+}
