@@ -40,6 +40,11 @@ both_parts : (a b : Bool) → (a && b) ≡ true → (a ≡ true) × (b ≡ true)
 both_parts true b is = (refl, is)
 both_parts false b is = cc
 
+-- the records of a run are those that it holds
+map_bare : (run : List (Placed Cdf)) → map (λ placed. placed.entry) run ≡ bare run
+map_bare [] = refl
+map_bare (placed ∷ later) = ap (λ (rest : List Cdf). placed.entry ∷ rest) (map_bare later)
+
 module _ (bins : ℕ) (head : Head) where
   abbrev IsGood : Placed Cdf → Type 0
   IsGood placed = IsPlaced Cdf cdf_form (λ shape samples cdf. IsCdf shape.bins cdf) (cdf_shape bins) head placed
@@ -64,22 +69,15 @@ module _ (bins : ℕ) (head : Head) where
   rising : (run : List (Placed Cdf)) → AllByRecursion IsGood run → IsRun cdf_key run → IsStrictlyIncreasing (map place_key (bare run))
   rising run all is = λ k within. subst (λ n. slice_index (map place_key (bare run)) k < slice_index (map place_key (bare run)) n) (sym (add-one k)) (rises run all is k (subst (λ n. n < length (map place_key (bare run))) (add-one k) within))
 
-  pub are_cdfs : (run : List (Placed Cdf)) → AllByRecursion IsGood run → IsRun cdf_key run → AreCdfs bins (bare run)
-  are_cdfs run all is = record { each = All-from_recursion (IsCdf bins) (bare run) (each_good run all); rising = rising run all is }
+  pub are_cdfs : (run : List (Placed Cdf)) → AllByRecursion IsGood run → IsRun cdf_key run → AreCdfs bins (map (λ placed. placed.entry) run)
+  are_cdfs run all is = subst (AreCdfs bins) (sym (map_bare run)) (record { each = All-from_recursion (IsCdf bins) (bare run) (each_good run all); rising = rising run all is })
 
 -- the losses of a run that is not empty
-pub losses_of_run : (rows : Rows) (options : GulOptions) (run : List (Placed Cdf)) (first : Placed Cdf) → 0 < length run → first ≡ get_or run 0 first → run_losses rows options (bare run) ≡ flat_map loss_bytes (ground_up_records rows options.0 options.1 first.entry.event (bare run))
+pub losses_of_run : (rows : Rows) (options : GulOptions) (run : List (Placed Cdf)) (first : Placed Cdf) → 0 < length run → first ≡ get_or run 0 first → run_losses rows options (bare run) ≡ flat_map loss_bytes (ground_up_records rows options.0 options.1 first.entry.event (map (λ placed. placed.entry) run))
 losses_of_run rows options [] first some is = absurd (omega arith)
-losses_of_run rows options (placed ∷ later) first some is = ap (λ (one : Placed Cdf). flat_map loss_bytes (ground_up_records rows options.0 options.1 one.entry.event (bare (placed ∷ later)))) (sym is)
-
--- records without their places, one behind the others
-bare_push : (run : List (Placed Cdf)) (placed : Placed Cdf) → bare (run ++ placed ∷ []) ≡ bare run ++ placed.entry ∷ []
-bare_push [] placed = refl
-bare_push (first ∷ later) placed = ap (λ (rest : List Cdf). first.entry ∷ rest) (bare_push later placed)
-
--- one more record of a run
-pub bare_more : (run : List (Placed Cdf)) (i : ℕ) (placed : Placed Cdf) → i < length run → placed ≡ get_or run i placed → bare (take (i + 1) run) ≡ bare (take i run) ++ placed.entry ∷ []
-bare_more run i placed within is = ap bare (take_more run i placed within ∙ ap (λ (one : Placed Cdf). take i run ++ one ∷ []) (sym is)) ∙ bare_push (take i run) placed
+losses_of_run rows options (placed ∷ later) first some is =
+    ap (λ (one : Placed Cdf). flat_map loss_bytes (ground_up_records rows options.0 options.1 one.entry.event (bare (placed ∷ later)))) (sym is)
+    ∙ ap (λ (cdfs : List Cdf). flat_map loss_bytes (ground_up_records rows options.0 options.1 first.entry.event cdfs)) (sym (map_bare (placed ∷ later)))
 
 -- ---- the outcome, whatever is known beside the header
 

@@ -1,49 +1,21 @@
 //! The tool that makes the ground-up losses of a stream of damage distributions.
 //! The rules: docs/COMMANDS.md, "gulcalc".
-ghost use Rattle.std.specs.Prelude.{◌≡◌, ◌++◌, ◌≤◌, true, length, OnOk, IfOk};
+ghost use Rattle.std.specs.Prelude.{◌≡◌, ◌≤◌, true, length};
 ghost use Rattle.kt_ends.specs.Ending.{StreamToolEnds};
 ghost use Rattle.kt_keys.specs.Refusals.{is_loaded};
-ghost use Rattle.kt_loop.specs.Runs.{bare};
 ghost use Rattle.kt_rec.specs.declared.table.Table.TheVariants as table;
 ghost use Rattle.kt_front.specs.GulOutcome.{gul_outcome};
 ghost use Rattle.kt_loop.specs.Running.{stream_uses};
 
 use kt_ends::ToolStop;
-use kt_gul::ground_up;
+use kt_gul::put_ground_up;
 use kt_loop::laws::{runs_give_their_text, what_is_read_with_more_known_can_be_taken};
 use kt_loop::{KnownHead, KnownReader, RunStage, run_by_run};
-use kt_losses::put_losses;
 use kt_money::Bytes;
 use kt_out::{Sink, Source};
-use kt_stream::{Bin, Bins, Cdf, CdfReader, Head, Placed, StreamKind, put_head};
+use kt_stream::{Cdf, CdfReader, Head, Placed, StreamKind, put_head};
 use kt_tables::Portfolio;
-use std::alloc::{AllocError, Global};
-
-/// The same bins.
-fn copy_bins(alloc: Global, bins: &[Bin]) -> Result<Bins, AllocError>
-    ensures { IfOk result (λ same. same ≡ bins.now) }
-{
-    let mut items = Vec::with_capacity(alloc, bins.len())?;
-    items.extend_from_slice(bins)?;
-    Ok(Bins::from_vec(items))
-}
-
-/// The distributions of a run without their places in the stream.
-fn bare_run(alloc: Global, run: &[Placed<Cdf>]) -> Result<Vec<Cdf>, AllocError>
-    ensures { IfOk result (λ cdfs. cdfs.items ≡ bare run.now) }
-{
-    let mut cdfs = Vec::with_capacity(alloc, run.len())?;
-    for placed in run {
-        let cdf = &placed.entry;
-        cdfs.push(Cdf {
-            event: cdf.event,
-            areaperil: cdf.areaperil,
-            vulnerability: cdf.vulnerability,
-            bins: copy_bins(alloc, cdf.bins.as_slice())?,
-        })?;
-    }
-    Ok(cdfs)
-}
+use std::alloc::Global;
 
 /// The ground-up losses of the runs of a stream of distributions, by the portfolio that is known with its header.
 #[derive(Drop)]
@@ -111,16 +83,15 @@ impl<'a> RunStage<KnownHead<&'a Portfolio>, Cdf, ()> for GroundUp {
             return Ok(());
         }
         let event = run[0].entry.event;
-        let cdfs = bare_run(self.alloc, run)?;
-        let records = ground_up(
+        put_ground_up(
             self.alloc,
             head.known,
             self.samples,
             self.cut,
             event,
-            cdfs.as_slice(),
+            run,
+            out,
         )?;
-        put_losses(out, records.as_slice())?;
         Ok(())
     }
 }

@@ -110,26 +110,27 @@ module _ (rows : Rows) (event : ℕ) (cdfs : List Cdf) (group : List StruckItem)
           by true = ap (λ t. cond t (share_of tiv total before loss) loss) (le-ltb tiv total (fits refl))
 
   -- the pairs of an item by the totals of its coverage are those of its ground-up losses
-  pub item_pairs_are : (cut : Bool) (coverage samples i : ℕ) (d : StruckItem) (tiv : ℕ) (totals before row : List ℕ) → IsGroup rows event cdfs coverage group → i < length group → tiv ≡ tiv_of rows.coverages coverage → IsRow (group_total rows event cdfs group) (samples + 2) totals → IsRow (group_total rows event cdfs (take i group)) (samples + 2) before → IsRow (raw_loss rows event cdfs (get_or group i d).item) (samples + 2) row → pairs_of (λ place. final_loss cut tiv (slice_index totals place) (slice_index before place) (slice_index row place) place) samples ≡ pairs_of (ground_up_loss rows cut event cdfs (get_or group i d).item) samples
-  item_pairs_are cut coverage samples i d tiv totals before row is below tiv_is totals_are before_are row_are =
+  pub cut_pairs_are : (cut : Bool) (coverage samples i : ℕ) (d : StruckItem) (tiv : ℕ) (totals before row made : List ℕ) → IsGroup rows event cdfs coverage group → i < length group → tiv ≡ tiv_of rows.coverages coverage → IsRow (group_total rows event cdfs group) (samples + 2) totals → IsRow (group_total rows event cdfs (take i group)) (samples + 2) before → IsRow (raw_loss rows event cdfs (get_or group i d).item) (samples + 2) row → IsRow (λ place. final_loss cut tiv (slice_index totals place) (slice_index before place) (slice_index row place) place) (samples + 2) made → pairs_of (λ place. slice_index made place) samples ≡ pairs_of (ground_up_loss rows cut event cdfs (get_or group i d).item) samples
+  cut_pairs_are cut coverage samples i d tiv totals before row made is below tiv_is totals_are before_are row_are made_are =
       pairs_agree _ (ground_up_loss rows cut event cdfs (get_or group i d).item) samples (λ place inside.
       let item = (get_or group i d).item in
       let of_coverage = is.together i d below in
       let value : tiv ≡ item_tiv rows item = tiv_is ∙ ap (tiv_of rows.coverages) (sym of_coverage) in
       let total : slice_index totals place ≡ coverage_total (λ row. raw_loss rows event cdfs row place) rows.items item.coverage_id = totals_are.each place inside ∙ (is.total_is place ∙ ap (coverage_total (λ row. raw_loss rows event cdfs row place) rows.items) (sym of_coverage)) in
       let earlier = before_are.each place inside ∙ is.before_is place i d below in
-      same cut place _ _ _ _ _ _ _ _ value total earlier (row_are.each place inside))
+      made_are.each place inside ∙ same cut place _ _ _ _ _ _ _ _ value total earlier (row_are.each place inside))
     where
       same : (cut : Bool) (place a b c e x y z w : ℕ) → a ≡ x → b ≡ y → c ≡ z → e ≡ w → final_loss cut a b c e place ≡ final_loss cut x y z w place
       same cut place a b c e x y z w p q r s = ap (λ a. final_loss cut a b c e place) p ∙ (ap (λ b. final_loss cut x b c e place) q ∙ (ap (λ c. final_loss cut x y c e place) r ∙ ap (λ e. final_loss cut x y z e place) s))
 
-  -- the record of one more item
-  pub records_more : (cut : Bool) (samples i : ℕ) (d : StruckItem) (pairs : List Pair) (first records longer : List LossRecord) → i < length group → pairs ≡ pairs_of (ground_up_loss rows cut event cdfs (get_or group i d).item) samples → records ≡ first ++ filter_map (item_record rows samples cut event cdfs) (map (λ struck. struck.item) (take i group)) → longer ≡ records ++ filter_map (record_with event (get_or group i d).item.item_id) (pairs ∷ []) → longer ≡ first ++ filter_map (item_record rows samples cut event cdfs) (map (λ struck. struck.item) (take (i + 1) group))
-  records_more cut samples i d pairs first records longer below pairs_are records_are longer_is =
+  -- the pieces of the record of one more item
+  pub pieces_more : {A : Type 0} (spelled : LossRecord → List A) (cut : Bool) (samples i : ℕ) (d : StruckItem) (pairs : List Pair) (first pieces longer : List A) → i < length group → pairs ≡ pairs_of (ground_up_loss rows cut event cdfs (get_or group i d).item) samples → pieces ≡ first ++ flat_map spelled (filter_map (item_record rows samples cut event cdfs) (map (λ struck. struck.item) (take i group))) → longer ≡ pieces ++ flat_map spelled (filter_map (record_with event (get_or group i d).item.item_id) (pairs ∷ [])) → longer ≡ first ++ flat_map spelled (filter_map (item_record rows samples cut event cdfs) (map (λ struck. struck.item) (take (i + 1) group)))
+  pieces_more spelled cut samples i d pairs first pieces longer below pairs_are pieces_are longer_is =
       let made = item_record rows samples cut event cdfs in
       let item : StruckItem → Item = λ struck. struck.item in
       let done = map item (take i group) in
-      longer_is ∙ (ap (λ pairs. records ++ filter_map (record_with event (get_or group i d).item.item_id) (pairs ∷ [])) pairs_are
-      ∙ (ap (λ records. records ++ filter_map made ((get_or group i d).item ∷ [])) records_are
-      ∙ (append_assoc first (filter_map made done) (filter_map made ((get_or group i d).item ∷ []))
-      ∙ ap (λ more. first ++ more) (sym (filter_map-append made done ((get_or group i d).item ∷ [])) ∙ ap (filter_map made) (sym (map-append item (take i group) (get_or group i d ∷ [])) ∙ ap (map item) (sym (take_more group i d below)))))))
+      let next = (get_or group i d).item ∷ [] in
+      longer_is ∙ (ap (λ pairs. pieces ++ flat_map spelled (filter_map (record_with event (get_or group i d).item.item_id) (pairs ∷ []))) pairs_are
+      ∙ (ap (λ pieces. pieces ++ flat_map spelled (filter_map made next)) pieces_are
+      ∙ (append_assoc first (flat_map spelled (filter_map made done)) (flat_map spelled (filter_map made next))
+      ∙ ap (λ more. first ++ more) (sym (flat_map-append spelled (filter_map made done) (filter_map made next)) ∙ ap (flat_map spelled) (sym (filter_map-append made done next) ∙ ap (filter_map made) (sym (map-append item (take i group) (get_or group i d ∷ [])) ∙ ap (map item) (sym (take_more group i d below))))))))

@@ -1,11 +1,11 @@
 -- The records of an event by rising id: made coverage by coverage and sorted, they are those of the items by rising id.
-use Rattle.std.proofs.Common.{◌≡◌, ◌⊎◌, ℕ, zero, suc, ◌+◌, ◌<◌, ◌≤◌, ◌&&◌, not, Bool, true, false, cond, nat_eq, nat_lt, List, [], ◌∷◌, map, Option, Some, None, refl, sym, ap, subst, arith, ◌∙◌, inl, inr}
+use Rattle.std.proofs.Common.{◌≡◌, ◌⊎◌, ℕ, zero, suc, ◌+◌, ◌<◌, ◌≤◌, ◌&&◌, not, Bool, true, false, cond, nat_eq, nat_lt, List, [], ◌∷◌, length, get_or, map, Option, Some, None, refl, sym, ap, subst, arith, ◌∙◌, inl, inr}
 use Rattle.std.specs.List.{AllByRecursion, IsDistinct, cons_option, filter, filter_map, range_with_len, sum_by}
 use Rattle.std.specs.List.Sorted.{IsPermutation, IsNonDecreasingBy}
 use Rattle.std.proofs.lemmas.Bool.{ltb-true, ltb-false, cases_lt}
 use Rattle.std.proofs.lemmas.Bool.Decides.{nat_tests}
 use Rattle.std.proofs.lemmas.List.Elements.{All-filter, recursion_from_All, All-from_recursion}
-use Rattle.std.proofs.lemmas.List.Sorted.{All-permutation, sum_by-IsPermutation}
+use Rattle.std.proofs.lemmas.List.Sorted.{All-permutation, IsPermutation-refl, sum_by-IsPermutation}
 use Rattle.std.proofs.lemmas.List.Sums.{sum_by-cons}
 use Rattle.std.proofs.lemmas.Map.Keys.{IsDistinct-head, IsDistinct-tail}
 use Rattle.kt_money.specs.Sharing.{share_of}
@@ -17,7 +17,7 @@ use Rattle.kt_stream.specs.declared.entry.LossRecord.{LossRecord}
 use Rattle.kt_stream.specs.declared.entry.Pair.{Pair}
 use Rattle.kt_gul.specs.GroundUp.{by_id, insert_by_id, final_loss, ground_up_loss, item_record, ground_up_records, pair_at, pairs_of, record_with}
 use Rattle.kt_gul.specs.declared.struck.StruckItem.{StruckItem}
-use Rattle.kt_gul.specs.StruckItems.{AreInOrder, has_cdf, item_of}
+use Rattle.kt_gul.specs.StruckItems.{AreInOrder, has_cdf, id_of, item_of}
 use Rattle.kt_gul.proofs.GroupLemmas.{raw_loss-none, sum_by-filter}
 use Rattle.kt_gul.proofs.PairLemmas.{pairs_agree}
 
@@ -237,10 +237,19 @@ record_id event id (pair ∷ pairs) entry is = sym (ap (λ (entry : LossRecord).
 
 -- ---- the records of an event
 
+-- struck items by rising id have their items so
+items_rise : (struck : List StruckItem) → IsNonDecreasingBy id_of struck → ItemsRise (map item_of struck)
+items_rise [] rising = tt
+items_rise (one ∷ struck) rising = (above one.item.item_id struck (λ k d below. rising 0 (suc k) d (omega arith) (omega arith)), items_rise struck (λ i j d before below. rising (suc i) (suc j) d (omega arith) (omega arith)))
+  where
+    above : (low : ℕ) (struck : List StruckItem) → ((k : ℕ) (d : StruckItem) → k < length struck → low ≤ id_of (get_or struck k d)) → AllByRecursion (λ other. low ≤ other.item_id) (map item_of struck)
+    above low [] each = tt
+    above low (other ∷ others) each = (each 0 other (omega arith), above low others (λ k d below. each (suc k) d (omega arith)))
+
 -- the records of struck items, in order, are those of all items by rising id
-pub records_are : (rows : Rows) (samples : ℕ) (cut : Bool) (event : ℕ) (cdfs : List Cdf) (struck : List StruckItem) (records sorted : List LossRecord) → AreInOrder rows cdfs struck → IsDistinct nat_eq (map (λ row. row.item_id) rows.items) → records ≡ filter_map (item_record rows samples cut event cdfs) (map item_of struck) → IsPermutation records sorted → IsNonDecreasingBy (λ entry. entry.id) sorted → sorted ≡ ground_up_records rows samples cut event cdfs
-records_are rows samples cut event cdfs struck records sorted order distinct records_is moved rising =
-    unique find sorted (filter_map made (by_id rows.items)) (rising_from sorted rising) (made_rise made own_id (by_id rows.items) (by_id_rise rows.items)) sorted_known (known made own_id find (by_id rows.items) (by_id_each (λ row. find row.item_id ≡ made row) rows.items each)) counts
+in_rising_order : (rows : Rows) (samples : ℕ) (cut : Bool) (event : ℕ) (cdfs : List Cdf) (struck : List StruckItem) (records sorted : List LossRecord) → AreInOrder rows cdfs struck → IsDistinct nat_eq (map (λ row. row.item_id) rows.items) → records ≡ filter_map (item_record rows samples cut event cdfs) (map item_of struck) → IsPermutation records sorted → Rising sorted → sorted ≡ ground_up_records rows samples cut event cdfs
+in_rising_order rows samples cut event cdfs struck records sorted order distinct records_is moved rising =
+    unique find sorted (filter_map made (by_id rows.items)) rising (made_rise made own_id (by_id rows.items) (by_id_rise rows.items)) sorted_known (known made own_id find (by_id rows.items) (by_id_each (λ row. find row.item_id ≡ made row) rows.items each)) counts
   where
     made : Item → Option LossRecord
     made = item_record rows samples cut event cdfs
@@ -272,3 +281,14 @@ records_are rows samples cut event cdfs struck records sorted order distinct rec
         ∙ (sum_by-IsPermutation w (filter (has_cdf cdfs) rows.items) (map item_of struck) order.items_are
         ∙ (sum_by-filter (has_cdf cdfs) w (λ row none. ap (weight made own_id id) (record_none rows samples cut event cdfs row none)) rows.items
         ∙ (sym (by_id_sum w rows.items) ∙ sym (count_made made own_id id (by_id rows.items)))))))
+
+-- sorted by their ids they are the records of the event
+pub records_are : (rows : Rows) (samples : ℕ) (cut : Bool) (event : ℕ) (cdfs : List Cdf) (struck : List StruckItem) (records sorted : List LossRecord) → AreInOrder rows cdfs struck → IsDistinct nat_eq (map (λ row. row.item_id) rows.items) → records ≡ filter_map (item_record rows samples cut event cdfs) (map item_of struck) → IsPermutation records sorted → IsNonDecreasingBy (λ entry. entry.id) sorted → sorted ≡ ground_up_records rows samples cut event cdfs
+records_are rows samples cut event cdfs struck records sorted order distinct records_is moved rising = in_rising_order rows samples cut event cdfs struck records sorted order distinct records_is moved (rising_from sorted rising)
+
+-- where the struck items stand by rising id, they are so as they are made
+pub direct_records : (rows : Rows) (samples : ℕ) (cut : Bool) (event : ℕ) (cdfs : List Cdf) (struck : List StruckItem) → AreInOrder rows cdfs struck → IsDistinct nat_eq (map (λ row. row.item_id) rows.items) → IsNonDecreasingBy id_of struck → filter_map (item_record rows samples cut event cdfs) (map item_of struck) ≡ ground_up_records rows samples cut event cdfs
+direct_records rows samples cut event cdfs struck order distinct rising =
+    let records = filter_map (item_record rows samples cut event cdfs) (map item_of struck) in
+    in_rising_order rows samples cut event cdfs struck records records order distinct refl (IsPermutation-refl records)
+    (made_rise (item_record rows samples cut event cdfs) (λ row entry is. record_id event row.item_id (pairs_of (ground_up_loss rows cut event cdfs row) samples) entry is) (map item_of struck) (items_rise struck rising))

@@ -1,10 +1,11 @@
 -- The struck items of one coverage among all.
-use Rattle.std.proofs.Common.{◌≡◌, ◌≢◌, ◌⊎◌, ℕ, zero, suc, ◌+◌, ◌-◌, ◌*◌, ◌/◌, ◌^◌, ◌<◌, ◌≤◌, ◌&&◌, Bool, true, false, cond, nat_eq, nat_lt, List, [], ◌∷◌, ◌++◌, length, take, drop, map, get_or, min, refl, sym, ap, subst, arith, ◌∙◌, inl, inr}
-use Rattle.std.specs.List.{All, AllByRecursion, IsDistinct, filter, filter_map, sum_by}
+use Rattle.std.proofs.Common.{◌≡◌, ◌≢◌, ◌⊎◌, ℕ, zero, suc, ◌+◌, ◌-◌, ◌*◌, ◌/◌, ◌^◌, ◌<◌, ◌≤◌, ◌&&◌, Bool, true, false, cond, nat_eq, nat_lt, List, [], ◌∷◌, ◌++◌, length, take, drop, map, get_or, min, refl, sym, ap, subst, arith, ◌∙◌, append_assoc, inl, inr}
+use Rattle.std.specs.List.{All, AllByRecursion, IsDistinct, filter, filter_map, flat_map, sum_by}
 use Rattle.std.specs.Cmp.{nat_eq_equiv}
 use Rattle.std.proofs.lemmas.Bool.{eqb-false, cases_lt}
 use Rattle.std.proofs.lemmas.Bool.Decides.{nat_tests}
 use Rattle.std.proofs.lemmas.List.{get_or-map, length-map, length-take-le, length-drop, get_or-take, get_or-drop, get_or_default, drop-drop, map-append}
+use Rattle.std.proofs.lemmas.List.Concat.{flat_map-append}
 use Rattle.std.proofs.lemmas.List.Elements.{All-filter, filter_map-append}
 use Rattle.std.proofs.lemmas.List.Sorted.{All-permutation, IsPermutation-map, length_permutation, sum_by-IsPermutation}
 use Rattle.std.proofs.lemmas.List.Sums.{sum_by-cons, sum_by-take-drop}
@@ -311,14 +312,17 @@ module _ (rows : Rows) (event : ℕ) (cdfs : List Cdf) (struck : List StruckItem
     }
 
     -- the records of one more coverage
-    pub done_more : (samples : ℕ) (cut : Bool) (records longer : List LossRecord) → AreDone rows samples cut event cdfs struck start records → longer ≡ records ++ filter_map (item_record rows samples cut event cdfs) (map item_of group) → AreDone rows samples cut event cdfs struck last longer
-    done_more samples cut records longer here longer_is = record {
+    pub done_more : {A : Type 0} (spelled : LossRecord → List A) (samples : ℕ) (cut : Bool) (first pieces longer : List A) → AreDone spelled rows samples cut event cdfs struck start first pieces → longer ≡ pieces ++ flat_map spelled (filter_map (item_record rows samples cut event cdfs) (map item_of group)) → AreDone spelled rows samples cut event cdfs struck last first longer
+    done_more spelled samples cut first pieces longer here longer_is = record {
       within = end.within;
-      records_are =
+      pieces_are =
           let made = item_record rows samples cut event cdfs in
-          longer_is ∙ (ap (λ records. records ++ filter_map made (map item_of group)) here.records_are
-          ∙ (sym (filter_map-append made (map item_of (take start struck)) (map item_of group))
-          ∙ ap (filter_map made) (sym (map-append item_of (take start struck) group) ∙ ap (map item_of) (sym (take_parts start (last - start) struck) ∙ ap (λ n. take n struck) (omega (arith, end.after))))));
+          let done = map item_of (take start struck) in
+          let next = map item_of group in
+          longer_is ∙ (ap (λ pieces. pieces ++ flat_map spelled (filter_map made next)) here.pieces_are
+          ∙ (append_assoc first (flat_map spelled (filter_map made done)) (flat_map spelled (filter_map made next))
+          ∙ ap (λ more. first ++ more) (sym (flat_map-append spelled (filter_map made done) (filter_map made next)) ∙ ap (flat_map spelled) (sym (filter_map-append made done next)
+          ∙ ap (filter_map made) (sym (map-append item_of (take start struck) group) ∙ ap (map item_of) (sym (take_parts start (last - start) struck) ∙ ap (λ n. take n struck) (omega (arith, end.after))))))));
       apart = λ k j d before behind below. by k j d before behind below (cases_lt k start);
     }
       where

@@ -1,8 +1,10 @@
 -- The pairs of losses, place by place.
-use Rattle.std.proofs.Common.{◌≡◌, ℕ, zero, suc, ◌+◌, ◌<◌, ◌≤◌, List, [], ◌∷◌, ◌++◌, length, take, set, get_or, refl, sym, ap, arith, ◌∙◌, add-one, append-nil}
-use Rattle.std.specs.List.{filter_map, range_with_len, cons_option}
-use Rattle.std.proofs.lemmas.List.{take_more, take-set, length-set, get_or-set_same}
+use Rattle.std.proofs.Common.{◌≡◌, ℕ, zero, suc, ◌+◌, ◌<◌, ◌≤◌, ◌*◌, pos, List, [], ◌∷◌, ◌++◌, length, take, drop, set, get_or, refl, sym, ap, arith, ◌∙◌, add-one, append-nil, append_assoc}
+use Rattle.std.specs.List.{filter_map, flat_map, range_with_len, cons_option}
+use Rattle.std.proofs.lemmas.List.{take_at, take_more, take-set, length-append, length-set, length-take-le, get_or-set_same, flat_map_more}
 use Rattle.std.proofs.lemmas.List.Elements.{filter_map-append}
+use Rattle.kt_stream.specs.Pairs.{end_bytes, pair_bytes, pairs_bytes}
+use Rattle.kt_stream.specs.declared.entry.LossRecord.{LossRecord}
 use Rattle.kt_stream.specs.declared.entry.Pair.{Pair}
 use Rattle.kt_gul.specs.GroundUp.{pair_at, pairs_of, sidx_at}
 
@@ -62,3 +64,85 @@ pairs_agree f g samples same = from 0 (samples + 2) (λ place low high. same pla
         let first = ap (pair_at a) (same a (omega arith) (omega arith)) in
         let rest = from (a + 1) n (λ place low high. same place (omega arith) (omega arith)) in
         ap (λ first. cons_option first (filter_map (λ place. pair_at place (f place)) (range_with_len (a + 1) n))) first ∙ ap (cons_option (pair_at a (g a))) rest
+
+-- ---- their bytes
+
+-- the pairs of losses up to a place
+abbrev pub pairs_below : (ℕ → ℕ) → ℕ → List Pair
+pairs_below f n = filter_map (λ place. pair_at place (f place)) (range_with_len 0 n)
+
+-- a pair has twelve bytes
+pair_length : (pair : Pair) → length (pair_bytes pair) ≡ 12
+unfolding pair_bytes
+pair_length pair = refl
+
+-- the bytes of pairs up to a place stand in front, and these are so many pairs
+pub record IsSpelled (f : ℕ → ℕ) (n used : ℕ) (bytes : List ℕ) : Type 0 where
+  pub count : length bytes ≡ 12036
+  pub within : used ≤ n
+  pub used_is : used ≡ length (pairs_below f n)
+  pub front_is : take (12 * used) bytes ≡ flat_map pair_bytes (pairs_below f n)
+
+-- no pairs yet
+pub spelled_none : (f : ℕ → ℕ) (bytes : List ℕ) → length bytes ≡ 12036 → IsSpelled f 0 0 bytes
+spelled_none f bytes count = record { count = count; within = omega arith; used_is = refl; front_is = refl }
+
+-- the bytes behind a front that is kept
+written_front : (used : ℕ) (bytes fields rest written : List ℕ) → 12 * used + 12 ≤ length bytes → length fields ≡ 12 → written ≡ take (12 * used) bytes ++ (fields ++ rest) → take (12 * used + 12) written ≡ take (12 * used) bytes ++ fields
+written_front used bytes fields rest written room long is =
+    let front = take (12 * used) bytes in
+    ap (take (12 * used + 12)) (is ∙ sym (append_assoc front fields rest)) ∙ take_at (front ++ fields) rest (12 * used + 12) (length-append front fields ∙ omega (arith, length-take-le (12 * used) bytes (omega arith)))
+
+-- one more place: its bytes are kept where it has a loss
+pub spelled_more : (f : ℕ → ℕ) (n loss used more : ℕ) (pair : Pair) (bytes written : List ℕ) → IsSpelled f n used bytes → n < 1002 → loss ≡ f n → pair ≡ record { sidx = sidx_at n; loss = loss } → (0 < loss → more ≡ 1) → (loss ≡ 0 → more ≡ 0) → length written ≡ length bytes → written ≡ take (12 * used) bytes ++ (pair_bytes pair ++ drop (12 * used + 12) bytes) → IsSpelled f (n + 1) (used + more) written
+spelled_more f n zero used more pair bytes written here few is pair_is some none long written_is =
+    let same = pairs_skip f n (pairs_below f n) refl is in
+    let kept : more ≡ 0 = none refl in
+    let front = take (12 * used) bytes in
+    record {
+      count = long ∙ here.count;
+      within = omega (arith, here.within);
+      used_is = omega (arith, here.used_is, ap length same);
+      front_is =
+          ap (λ k. take k written) (omega arith) ∙ (ap (take (12 * used)) written_is
+          ∙ (take_at front (pair_bytes pair ++ drop (12 * used + 12) bytes) (12 * used) (length-take-le (12 * used) bytes (omega (arith, here.count, here.within)))
+          ∙ (here.front_is ∙ ap (flat_map pair_bytes) same)));
+    }
+spelled_more f n (suc less) used more pair bytes written here few is pair_is some none long written_is =
+    let pairs = pairs_below f n in
+    let longer = pairs_push f n (suc less) pair pairs (pairs ++ pair ∷ []) refl is (omega arith) pair_is refl in
+    let kept : more ≡ 1 = some (omega arith) in
+    record {
+      count = long ∙ here.count;
+      within = omega (arith, here.within);
+      used_is = omega (arith, here.used_is, ap length longer, length-append pairs (pair ∷ []));
+      front_is =
+          ap (λ k. take k written) (omega arith) ∙ (written_front used bytes (pair_bytes pair) (drop (12 * used + 12) bytes) written (omega (arith, here.count, here.within)) (pair_length pair) written_is
+          ∙ (ap (λ front. front ++ pair_bytes pair) here.front_is ∙ (flat_map_more pair_bytes [] pairs pair ∙ ap (flat_map pair_bytes) longer)));
+    }
+
+-- pairs stand one after the other, with the end pair behind them
+pairs_bytes_are : (pairs : List Pair) → flat_map pair_bytes pairs ++ end_bytes ≡ pairs_bytes pairs
+unfolding pairs_bytes
+pairs_bytes_are [] = refl
+pairs_bytes_are (pair ∷ pairs) = append_assoc (pair_bytes pair) (flat_map pair_bytes pairs) end_bytes ∙ ap (λ rest. pair_bytes pair ++ rest) (pairs_bytes_are pairs)
+
+-- with the end pair all is written
+pub spelled_all : (f : ℕ → ℕ) (samples used : ℕ) (end : Pair) (bytes written : List ℕ) → IsSpelled f (samples + 2) used bytes → samples ≤ 1000 → end ≡ record { sidx = pos 0; loss = 0 } → written ≡ take (12 * used) bytes ++ (pair_bytes end ++ drop (12 * used + 12) bytes) → take (12 * (used + 1)) written ≡ pairs_bytes (pairs_of f samples)
+unfolding end_bytes pair_bytes
+spelled_all f samples used end bytes written here few end_is written_is =
+    ap (λ k. take k written) (omega arith) ∙ (written_front used bytes (pair_bytes end) (drop (12 * used + 12) bytes) written (omega (arith, here.count, here.within)) (pair_length end) written_is
+    ∙ (ap (λ front. front ++ pair_bytes end) here.front_is ∙ (ap (λ (end : Pair). flat_map pair_bytes (pairs_below f (samples + 2)) ++ pair_bytes end) end_is ∙ pairs_bytes_are (pairs_of f samples))))
+
+-- no pairs have no bytes before the end pair
+pub no_pairs : (f : ℕ → ℕ) (samples used n : ℕ) (bytes : List ℕ) → IsSpelled f n used bytes → n ≡ samples + 2 → used ≡ 0 → pairs_of f samples ≡ []
+no_pairs f samples used n bytes here all none = empty (pairs_of f samples) (ap (λ n. length (pairs_below f n)) (sym all) ∙ (sym here.used_is ∙ none))
+  where
+    empty : (pairs : List Pair) → length pairs ≡ 0 → pairs ≡ []
+    empty [] is = refl
+    empty (pair ∷ pairs) is = absurd (omega arith)
+
+-- records one by one are the records
+pub one_by_one : (records : List LossRecord) → flat_map (λ entry. entry ∷ []) records ≡ records
+one_by_one [] = refl
+one_by_one (entry ∷ records) = ap (λ rest. entry ∷ rest) (one_by_one records)

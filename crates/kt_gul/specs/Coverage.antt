@@ -4,6 +4,7 @@ use Rattle.std.specs.List.{sum_by}
 use Rattle.kt_rec.specs.Rows.{Rows}
 use Rattle.kt_stream.specs.declared.entry.Cdf.{Cdf}
 use Rattle.kt_gul.specs.declared.struck.StruckItem.{StruckItem}
+use Rattle.kt_gul.specs.declared.sums.Scratch.{Scratch}
 use Rattle.kt_gul.specs.GroundUp.{item_tiv, bins_of, raw_loss, coverage_total, total_before}
 use Rattle.kt_gul.specs.ItemLosses.{AreMoments}
 use Rattle.kt_gul.specs.Sampled.{CanSample}
@@ -12,6 +13,12 @@ use Rattle.kt_gul.specs.Sampled.{CanSample}
 pub record IsRow (loss : ℕ → ℕ) (width : ℕ) (losses : List ℕ) : Type 0 where
   pub width_is : length losses ≡ width
   pub each : (place : ℕ) → place < width → slice_index losses place ≡ loss place
+
+-- what is kept from coverage to coverage has rows of so many places
+pub record IsScratch (width : ℕ) (scratch : Scratch) : Type 0 where
+  pub totals : length scratch.totals.items ≡ width
+  pub before : length scratch.before.items ≡ width
+  pub cut : length scratch.cut.items ≡ width
 
 -- an item has the distribution at its place among those of the event, with the moments of the damage
 pub record IsStruck (rows : Rows) (cdfs : List Cdf) (struck : StruckItem) : Type 0 where

@@ -27,6 +27,10 @@ has_cdf cdfs row = list_any (λ cdf. has_pair cdf.areaperil cdf.vulnerability ro
 abbrev pub item_of : StruckItem → Item
 item_of struck = struck.item
 
+-- the id of a struck item
+abbrev pub id_of : StruckItem → ℕ
+id_of struck = struck.item.item_id
+
 -- struck items are those of the first so many distributions
 pub record AreStruck (rows : Rows) (cdfs : List Cdf) (upto : ℕ) (struck : List StruckItem) : Type 0 where
   pub items_are : IsPermutation (filter (has_cdf (take upto cdfs)) rows.items) (map item_of struck)

@@ -1,21 +1,22 @@
 //! The records of the items of one coverage that an event strikes.
 //! The rules: docs/CALCULATION.md, "Coverage cut"; docs/STREAMS.md, "Records".
-ghost use Rattle.std.specs.Prelude.{◌≡◌, ℕ, ◌+◌, ◌*◌, ◌<◌, ◌≤◌, ◌^◌, true, length, slice_index, map, drop, All, IfOk, OnOk, List, [], ◌∷◌, ◌++◌};
+ghost use Rattle.std.specs.Prelude.{◌≡◌, ℕ, ◌+◌, ◌*◌, ◌<◌, ◌≤◌, ◌^◌, true, length, slice_index, map, drop, All, IfOk, OnOk, [], ◌++◌};
 ghost use Rattle.std.specs.List.{filter_map, flat_map, range_with_len};
 ghost use Rattle.kt_rec.specs.declared.table.Table.TheVariants as table;
 ghost use Rattle.kt_keys.specs.Refusals.{is_loaded};
 ghost use Rattle.kt_checks.specs.TableChecks.{tiv_of};
-ghost use Rattle.kt_gul.specs.GroundUp.{raw_loss, record_with, item_record};
+ghost use Rattle.kt_gul.specs.GroundUp.{raw_loss, item_record};
 ghost use Rattle.kt_gul.specs.Steps.{AreTables};
-ghost use Rattle.kt_gul.specs.Coverage.{IsRow, IsStruck, IsGroup, group_total};
+ghost use Rattle.kt_gul.specs.Coverage.{IsRow, IsScratch, IsStruck, IsGroup, group_total};
 
+use crate::cut::cut_row;
 use crate::draw::Draw;
+use crate::exit::Exit;
+use crate::held::HeldCdf;
 use crate::item::item_losses;
-use crate::pairs::{cut_pairs, plain_pairs};
 use crate::struck::StruckItem;
-use crate::sums::{add_to, passes, zeros};
+use crate::sums::{Scratch, add_to, clear, passes};
 use crate::tables::StepTable;
-use kt_stream::{Cdf, LossRecord, Pairs};
 use kt_tables::Portfolio;
 use std::alloc::AllocError;
 
@@ -23,7 +24,7 @@ use std::alloc::AllocError;
 fn struck_losses(
     portfolio: &Portfolio,
     draw: Draw,
-    cdfs: &[Cdf],
+    cdfs: &[HeldCdf<'_>],
     tables: &[StepTable],
     struck: &StruckItem,
     losses: Vec<u64>,
@@ -35,7 +36,7 @@ fn struck_losses(
     ensures value { IfOk result (λ longer. longer.items ≡ losses.items ++ map (raw_loss portfolio.now.rows draw.event cdfs.now struck.now.item) (range_with_len 0 (draw.samples + 2))) }
     ensures most { IfOk result (λ _. (place : ℕ) → place < draw.samples + 2 → raw_loss portfolio.now.rows draw.event cdfs.now struck.now.item place ≤ 100200100000000) }
 {
-    let bins = cdfs[struck.cdf].bins.as_slice();
+    let bins = cdfs[struck.cdf].bins();
     item_losses(portfolio, draw, bins, &tables[struck.cdf], struck, losses)
 }
 
@@ -52,7 +53,7 @@ fn behind(losses: &[u64], done: usize) -> &[u64]
 fn group_losses(
     portfolio: &Portfolio,
     draw: Draw,
-    cdfs: &[Cdf],
+    cdfs: &[HeldCdf<'_>],
     tables: &[StepTable],
     group: &[StruckItem],
     totals: &mut [u64],
@@ -78,44 +79,28 @@ fn group_losses(
     Ok(losses)
 }
 
-/// Appends the record of an event and an id, where there are pairs.
-fn push_record(
-    event: u32,
-    id: u32,
-    pairs: Pairs,
-    records: &mut Vec<LossRecord>,
-) -> Result<(), AllocError>
-    ensures ok { OnOk result (records.new.items ≡ records.old.items ++ filter_map (record_with event id) (pairs ∷ [])) }
-{
-    if !pairs.as_slice().is_empty() {
-        records.push(LossRecord { event, id, pairs })?;
-    }
-    Ok(())
-}
-
 /// Appends the records of the struck items of a coverage, by their losses before the cut, which stand one item behind the
 /// other: these are their losses, since none is cut.
-fn push_plain(
+fn push_plain<E: Exit>(
     portfolio: &Portfolio,
     draw: Draw,
     coverage: u32,
-    cdfs: &[Cdf],
+    cdfs: &[HeldCdf<'_>],
     group: &[StruckItem],
     losses: &[u64],
-    records: &mut Vec<LossRecord>,
+    exit: &mut E,
 ) -> Result<(), AllocError>
     requires samples { draw.samples ≤ 1000 }
     requires group { IsGroup portfolio.now.rows draw.event cdfs.now coverage group.now }
     requires losses { losses.now ≡ flat_map (λ struck. map (raw_loss portfolio.now.rows draw.event cdfs.now struck.item) (range_with_len 0 (draw.samples + 2))) group.now }
     requires plain { draw.cut ≡ true → (place : ℕ) → place < draw.samples + 2 → group_total portfolio.now.rows draw.event cdfs.now group.now place ≤ tiv_of portfolio.now.rows.coverages coverage }
-    ensures ok { OnOk result (records.new.items ≡ records.old.items ++ filter_map (item_record portfolio.now.rows draw.samples draw.cut draw.event cdfs.now) (map (λ struck. struck.item) group.now)) }
+    ensures ok { OnOk result (E.pieces exit.new ≡ E.pieces exit.old ++ flat_map E.spelled (filter_map (item_record portfolio.now.rows draw.samples draw.cut draw.event cdfs.now) (map (λ struck. struck.item) group.now))) }
 {
     let width = draw.samples as usize + 2;
     let mut rest = losses;
     for struck in group {
         let (row, later) = rest.split_at(width);
-        let pairs = plain_pairs(draw.alloc, row, draw.samples)?;
-        push_record(draw.event, struck.item.item_id, pairs, records)?;
+        exit.put(draw, struck.item.item_id, row)?;
         rest = later;
     }
     Ok(())
@@ -123,68 +108,92 @@ fn push_plain(
 
 /// Appends the records of the struck items of a coverage, by their losses before the cut, which stand one item behind the
 /// other, and the totals of these.
-fn push_cut(
+fn push_cut<E: Exit>(
     portfolio: &Portfolio,
     draw: Draw,
     coverage: u32,
-    cdfs: &[Cdf],
+    cdfs: &[HeldCdf<'_>],
     group: &[StruckItem],
     losses: &[u64],
     totals: &[u64],
-    records: &mut Vec<LossRecord>,
+    before: &mut [u64],
+    cut: &mut [u64],
+    exit: &mut E,
 ) -> Result<(), AllocError>
     requires value { tiv_of portfolio.now.rows.coverages coverage ≤ 10 ^ 14 }
     requires samples { draw.samples ≤ 1000 }
     requires group { IsGroup portfolio.now.rows draw.event cdfs.now coverage group.now }
     requires losses { losses.now ≡ flat_map (λ struck. map (raw_loss portfolio.now.rows draw.event cdfs.now struck.item) (range_with_len 0 (draw.samples + 2))) group.now }
     requires totals { IsRow (group_total portfolio.now.rows draw.event cdfs.now group.now) (draw.samples + 2) totals.now }
+    requires before { length before.old ≡ draw.samples + 2 }
+    requires cut { length cut.old ≡ draw.samples + 2 }
     requires most { (place : ℕ) → place < draw.samples + 2 → group_total portfolio.now.rows draw.event cdfs.now group.now place < 2 ^ 64 }
-    ensures ok { OnOk result (records.new.items ≡ records.old.items ++ filter_map (item_record portfolio.now.rows draw.samples draw.cut draw.event cdfs.now) (map (λ struck. struck.item) group.now)) }
+    ensures ok { OnOk result (E.pieces exit.new ≡ E.pieces exit.old ++ flat_map E.spelled (filter_map (item_record portfolio.now.rows draw.samples draw.cut draw.event cdfs.now) (map (λ struck. struck.item) group.now))) }
 {
     let tiv = portfolio.tiv(coverage);
     let width = draw.samples as usize + 2;
-    let mut sums = zeros(draw.alloc, width)?;
-    let before = sums.as_mut_slice();
+    clear(before);
     let mut rest = losses;
     for struck in group {
         let (row, later) = rest.split_at(width);
-        let pairs = cut_pairs(draw, tiv, totals, before, row)?;
-        push_record(draw.event, struck.item.item_id, pairs, records)?;
+        cut_row(draw, tiv, totals, before, row, cut);
+        exit.put(draw, struck.item.item_id, cut)?;
         add_to(before, row);
         rest = later;
     }
     Ok(())
 }
 
-/// Appends the records of the struck items of a coverage, which are all those of it, by rising id. The list is for their losses,
-/// and is handed back.
-pub(crate) fn push_coverage(
+/// Appends the records of the struck items of a coverage, which are all those of it, by rising id. What is kept for their losses
+/// is handed back.
+pub(crate) fn push_coverage<E: Exit>(
     portfolio: &Portfolio,
     draw: Draw,
     coverage: u32,
-    cdfs: &[Cdf],
+    cdfs: &[HeldCdf<'_>],
     tables: &[StepTable],
     group: &[StruckItem],
-    losses: Vec<u64>,
-    records: &mut Vec<LossRecord>,
-) -> Result<Vec<u64>, AllocError>
+    scratch: Scratch,
+    exit: &mut E,
+) -> Result<Scratch, AllocError>
     requires loaded { is_loaded portfolio.now.need 0 table.Random ≡ true }
     requires value { tiv_of portfolio.now.rows.coverages coverage ≤ 10 ^ 14 }
     requires samples { draw.samples ≤ 1000 }
     requires group { IsGroup portfolio.now.rows draw.event cdfs.now coverage group.now }
     requires tables { AreTables portfolio.now.rows.damage_bin_dict cdfs.now (length cdfs.now) tables.now }
-    ensures ok { OnOk result (records.new.items ≡ records.old.items ++ filter_map (item_record portfolio.now.rows draw.samples draw.cut draw.event cdfs.now) (map (λ struck. struck.item) group.now)) }
+    requires scratch { IsScratch (draw.samples + 2) scratch }
+    ensures scratch { IfOk result (IsScratch (draw.samples + 2)) }
+    ensures ok { OnOk result (E.pieces exit.new ≡ E.pieces exit.old ++ flat_map E.spelled (filter_map (item_record portfolio.now.rows draw.samples draw.cut draw.event cdfs.now) (map (λ struck. struck.item) group.now))) }
 {
-    let mut totals = zeros(draw.alloc, draw.samples as usize + 2)?;
-    let mut losses = losses;
+    let Scratch {
+        mut losses,
+        mut totals,
+        mut before,
+        mut cut,
+    } = scratch;
     losses.clear();
+    clear(&mut totals);
     let losses = group_losses(portfolio, draw, cdfs, tables, group, &mut totals, losses)?;
     if passes(draw.cut, &totals, portfolio.tiv(coverage)) {
         push_cut(
-            portfolio, draw, coverage, cdfs, group, &losses, &totals, records,
+            portfolio,
+            draw,
+            coverage,
+            cdfs,
+            group,
+            &losses,
+            &totals,
+            &mut before,
+            &mut cut,
+            exit,
         )?;
-        return Ok(losses);
+    } else {
+        push_plain(portfolio, draw, coverage, cdfs, group, &losses, exit)?;
     }
-    push_plain(portfolio, draw, coverage, cdfs, group, &losses, records)?;
-    Ok(losses)
+    Ok(Scratch {
+        losses,
+        totals,
+        before,
+        cut,
+    })
 }

@@ -1,9 +1,11 @@
 //! The cut of the losses of a coverage to its insured value.
 //! The rule: docs/CALCULATION.md, "Coverage cut".
-ghost use Rattle.std.specs.Prelude.{◌≡◌, ◌+◌, ◌<◌, ◌≤◌, ◌^◌};
+ghost use Rattle.std.specs.Prelude.{◌≡◌, ℕ, ◌+◌, ◌<◌, ◌≤◌, ◌^◌, length, slice_index};
 ghost use Rattle.kt_money.specs.Sharing.{share_to};
+ghost use Rattle.kt_gul.specs.Coverage.{IsRow};
 ghost use Rattle.kt_gul.specs.GroundUp.{cut_loss, final_loss};
 
+use crate::draw::Draw;
 use crate::quotient::quotient;
 use std::num::nearest_u64_to_f64;
 
@@ -62,14 +64,7 @@ fn cut_loss(tiv: u64, total: u64, before: u64, loss: u64) -> u64
 
 /// The loss at a place of an item, with the cut or without it.
 #[inline]
-pub(crate) fn final_loss(
-    cut: bool,
-    tiv: u64,
-    total: u64,
-    before: u64,
-    loss: u64,
-    place: usize,
-) -> u64
+fn final_loss(cut: bool, tiv: u64, total: u64, before: u64, loss: u64, place: usize) -> u64
     requires value { tiv ≤ 10 ^ 14 }
     requires within { before + loss ≤ total }
     ensures value { result ≡ final_loss cut tiv total before loss place }
@@ -79,5 +74,35 @@ pub(crate) fn final_loss(
         cut_loss(tiv, total, before, loss)
     } else {
         loss
+    }
+}
+
+/// Writes the losses of an item over a row, with the cut or without it, where `totals` are those of the coverage and `before`
+/// those of its items with lower ids.
+#[inline(never)]
+pub(crate) fn cut_row(
+    draw: Draw,
+    tiv: u64,
+    totals: &[u64],
+    before: &[u64],
+    losses: &[u64],
+    row: &mut [u64],
+)
+    requires value { tiv ≤ 10 ^ 14 }
+    requires totals { length totals.now ≡ length row.old }
+    requires before { length before.now ≡ length row.old }
+    requires losses { length losses.now ≡ length row.old }
+    requires within { (place : ℕ) → place < length row.old → slice_index before.now place + slice_index losses.now place ≤ slice_index totals.now place }
+    ensures value { IsRow (λ place. final_loss draw.cut tiv (slice_index totals.now place) (slice_index before.now place) (slice_index losses.now place) place) (length row.old) row.new }
+{
+    for place in 0..row.len() {
+        row[place] = final_loss(
+            draw.cut,
+            tiv,
+            totals[place],
+            before[place],
+            losses[place],
+            place,
+        );
     }
 }

@@ -1,30 +1,32 @@
 //! The ground-up losses of an event, as records.
 //! The rules: docs/CALCULATION.md, "Sampled loss", "Mean and deviation of an item", "Coverage cut".
-ghost use Rattle.std.specs.Prelude.{◌≡◌, ◌+◌, ◌-◌, ◌<◌, ◌≤◌, true, length, map, take, drop, All, IfOk, slice_index_or};
-ghost use Rattle.std.specs.List.{filter_map};
+ghost use Rattle.std.specs.Prelude.{◌≡◌, ◌+◌, ◌-◌, ◌<◌, ◌≤◌, true, length, map, take, drop, All, IfOk, OnOk, ◌++◌, slice_index_or};
+ghost use Rattle.std.specs.List.{filter_map, flat_map};
 ghost use Rattle.std.specs.List.Sorted.{IsPermutation, IsNonDecreasingBy};
 ghost use Rattle.kt_rec.specs.declared.table.Table.TheVariants as table;
 ghost use Rattle.kt_keys.specs.Refusals.{is_loaded};
-ghost use Rattle.kt_stream.specs.Losses.{IsLoss};
+ghost use Rattle.kt_stream.specs.Losses.{IsLoss, loss_bytes};
 ghost use Rattle.kt_stream.specs.Pairs.{IsId};
 ghost use Rattle.kt_stream.specs.declared.entry.LossRecord.{LossRecord};
 ghost use Rattle.kt_gul.specs.declared.struck.StruckItem.{StruckItem};
 ghost use Rattle.kt_gul.specs.GroundUp.{item_record, ground_up_records};
-ghost use Rattle.kt_gul.specs.StruckItems.{AreCdfs, AreInOrder, item_of};
+ghost use Rattle.kt_gul.specs.StruckItems.{AreCdfs, AreInOrder, id_of, item_of};
 ghost use Rattle.kt_gul.specs.Steps.{AreTables};
 ghost use Rattle.kt_gul.specs.Groups.{IsGroupEnd};
 
 use crate::coverage::push_coverage;
 use crate::draw::Draw;
-use crate::struck::{StruckItem, struck_items};
+use crate::exit::{Exit, Written};
+use crate::held::{CdfEntry, HeldCdf, held_cdfs};
+use crate::struck::{StruckItem, is_by_id, struck_items};
+use crate::sums::Scratch;
 use crate::tables::{StepTable, tables_of};
 use kt_index::ByKey;
-use kt_stream::{Cdf, LossRecord, Records};
+use kt_money::Bytes;
+use kt_stream::{Cdf, LossRecord, Records, put_loss};
 use kt_tables::Portfolio;
 use std::alloc::{AllocError, Global};
-
-/// Room for so many losses: with a list of a mebibyte the allocator keeps what an event gives back for the next one.
-const ROOM: usize = 131_072;
+use std::mem::replace;
 
 /// The place behind the items of a coverage, the first of which stands at `start`.
 fn group_end(struck: &[StruckItem], start: usize, coverage: u32) -> usize
@@ -49,42 +51,34 @@ fn between(struck: &[StruckItem], start: usize, end: usize) -> &[StruckItem]
     &struck[start..end]
 }
 
-/// The records of struck items, coverage by coverage.
-fn records_of(
+/// Puts the records of struck items, coverage by coverage.
+fn put_groups<E: Exit>(
     portfolio: &Portfolio,
     draw: Draw,
-    cdfs: &[Cdf],
+    cdfs: &[HeldCdf<'_>],
     tables: &[StepTable],
     struck: &[StruckItem],
-) -> Result<Vec<LossRecord>, AllocError>
+    exit: &mut E,
+) -> Result<(), AllocError>
     requires loaded { is_loaded portfolio.now.need 0 table.Random ≡ true }
     requires samples { draw.samples ≤ 1000 }
     requires order { AreInOrder portfolio.now.rows cdfs.now struck.now }
     requires tables { AreTables portfolio.now.rows.damage_bin_dict cdfs.now (length cdfs.now) tables.now }
-    ensures value { IfOk result (λ records. records.items ≡ filter_map (item_record portfolio.now.rows draw.samples draw.cut draw.event cdfs.now) (map item_of struck.now)) }
+    ensures ok { OnOk result (E.pieces exit.new ≡ E.pieces exit.old ++ flat_map E.spelled (filter_map (item_record portfolio.now.rows draw.samples draw.cut draw.event cdfs.now) (map item_of struck.now))) }
 {
     portfolio.is_valid();
-    let mut records = Vec::new(draw.alloc);
-    let list = Vec::with_capacity(draw.alloc, ROOM)?;
-    let mut losses = list;
+    let mut scratch = Scratch::new(draw.alloc, draw.samples as usize + 2)?;
     let mut start = 0;
     while start < struck.len() {
         let coverage = struck[start].item.coverage_id;
         let end = group_end(struck, start, coverage);
         let group = between(struck, start, end);
-        losses = push_coverage(
-            portfolio,
-            draw,
-            coverage,
-            cdfs,
-            tables,
-            group,
-            losses,
-            &mut records,
+        scratch = push_coverage(
+            portfolio, draw, coverage, cdfs, tables, group, scratch, exit,
         )?;
         start = end;
     }
-    Ok(records)
+    Ok(())
 }
 
 /// Puts records in the order of their ids.
@@ -94,6 +88,76 @@ fn sort_by_id(records: &mut Vec<LossRecord>) -> Result<(), AllocError>
 {
     records.sort_by_key(|entry| entry.id)?;
     Ok(())
+}
+
+/// The records of struck items by rising id.
+fn records_by_id(
+    portfolio: &Portfolio,
+    draw: Draw,
+    cdfs: &[HeldCdf<'_>],
+    tables: &[StepTable],
+    struck: &[StruckItem],
+) -> Result<Vec<LossRecord>, AllocError>
+    requires loaded { is_loaded portfolio.now.need 0 table.Random ≡ true }
+    requires samples { draw.samples ≤ 1000 }
+    requires order { AreInOrder portfolio.now.rows cdfs.now struck.now }
+    requires tables { AreTables portfolio.now.rows.damage_bin_dict cdfs.now (length cdfs.now) tables.now }
+    ensures value { IfOk result (λ records. records.items ≡ ground_up_records portfolio.now.rows draw.samples draw.cut draw.event cdfs.now) }
+{
+    portfolio.is_valid();
+    let mut records = Vec::new(draw.alloc);
+    put_groups(portfolio, draw, cdfs, tables, struck, &mut records)?;
+    sort_by_id(&mut records)?;
+    Ok(records)
+}
+
+/// Appends the bytes of records.
+fn put_records(out: &mut Bytes, records: &[LossRecord]) -> Result<(), AllocError>
+    ensures ok { OnOk result (out.new ≡ out.old ++ flat_map loss_bytes records.now) }
+{
+    for record in records {
+        put_loss(out, record)?;
+    }
+    Ok(())
+}
+
+/// Appends the bytes of the records of struck items that stand by rising id.
+fn put_written(
+    portfolio: &Portfolio,
+    draw: Draw,
+    cdfs: &[HeldCdf<'_>],
+    tables: &[StepTable],
+    struck: &[StruckItem],
+    out: &mut Bytes,
+) -> Result<(), AllocError>
+    requires loaded { is_loaded portfolio.now.need 0 table.Random ≡ true }
+    requires samples { draw.samples ≤ 1000 }
+    requires order { AreInOrder portfolio.now.rows cdfs.now struck.now }
+    requires tables { AreTables portfolio.now.rows.damage_bin_dict cdfs.now (length cdfs.now) tables.now }
+    requires rising { IsNonDecreasingBy id_of struck.now }
+    ensures ok { OnOk result (out.new ≡ out.old ++ flat_map loss_bytes (ground_up_records portfolio.now.rows draw.samples draw.cut draw.event cdfs.now)) }
+{
+    portfolio.is_valid();
+    let before = replace(out, Bytes::new(draw.alloc));
+    let mut written = Written::new(draw.alloc, before)?;
+    put_groups(portfolio, draw, cdfs, tables, struck, &mut written)?;
+    *out = written.into_bytes();
+    Ok(())
+}
+
+/// The items that an event strikes, by coverage and then by id.
+fn struck_in_order(
+    alloc: Global,
+    portfolio: &Portfolio,
+    cdfs: &[HeldCdf<'_>],
+) -> Result<ByKey<StruckItem>, AllocError>
+    requires { AreCdfs (length portfolio.now.rows.damage_bin_dict) cdfs.now }
+    ensures order { IfOk result (AreInOrder portfolio.now.rows cdfs.now) }
+{
+    let struck = struck_items(alloc, portfolio, cdfs)?;
+    let struck = ByKey::of_rows(struck)?;
+    struck.as_slice();
+    Ok(struck)
 }
 
 /// The records of the ground-up losses of an event, by rising id of the item: of each item its deviation, its mean and so
@@ -116,16 +180,49 @@ pub fn ground_up(
     ensures good { IfOk result (λ records. All (IsLoss samples) records) }
 {
     portfolio.is_valid();
-    let tables = tables_of(alloc, portfolio.damage_bins(), cdfs)?;
-    let struck = struck_items(alloc, portfolio, cdfs)?;
-    let struck = ByKey::new(alloc, &struck)?;
+    let cdfs = held_cdfs(alloc, cdfs)?;
+    let tables = tables_of(alloc, portfolio.damage_bins(), &cdfs)?;
+    let struck = struck_in_order(alloc, portfolio, &cdfs)?;
     let draw = Draw {
         alloc,
         samples,
         cut,
         event,
     };
-    let mut records = records_of(portfolio, draw, cdfs, &tables, struck.as_slice())?;
-    sort_by_id(&mut records)?;
+    let records = records_by_id(portfolio, draw, &cdfs, &tables, struck.as_slice())?;
     Ok(Records::from_vec(records))
+}
+
+/// Appends the records of the ground-up losses of an event as they stand in a stream: those of `ground_up`, which says what must
+/// hold. An error is want of memory.
+pub fn put_ground_up<T: CdfEntry>(
+    alloc: Global,
+    portfolio: &Portfolio,
+    samples: u32,
+    cut: bool,
+    event: u32,
+    cdfs: &[T],
+    out: &mut Bytes,
+) -> Result<(), AllocError>
+    requires random { is_loaded portfolio.now.need 0 table.Random ≡ true }
+    requires samples { samples ≤ 1000 }
+    requires cdfs { AreCdfs (length portfolio.now.rows.damage_bin_dict) (map T.cdf_of cdfs.now) }
+    ensures ok { OnOk result (out.new ≡ out.old ++ flat_map loss_bytes (ground_up_records portfolio.now.rows samples cut event (map T.cdf_of cdfs.now))) }
+{
+    portfolio.is_valid();
+    let cdfs = held_cdfs(alloc, cdfs)?;
+    let tables = tables_of(alloc, portfolio.damage_bins(), &cdfs)?;
+    let struck = struck_in_order(alloc, portfolio, &cdfs)?;
+    let struck = struck.as_slice();
+    let draw = Draw {
+        alloc,
+        samples,
+        cut,
+        event,
+    };
+    if is_by_id(struck) {
+        return put_written(portfolio, draw, &cdfs, &tables, struck, out);
+    }
+    let records = records_by_id(portfolio, draw, &cdfs, &tables, struck)?;
+    put_records(out, &records)
 }

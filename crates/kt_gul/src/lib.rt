@@ -5,6 +5,8 @@ mod coverage;
 mod cut;
 mod draw;
 mod event;
+mod exit;
+mod held;
 mod item;
 pub mod laws;
 mod moments;
@@ -17,4 +19,5 @@ mod struck;
 mod sums;
 mod tables;
 
-pub use event::ground_up;
+pub use event::{ground_up, put_ground_up};
+pub use held::CdfEntry;

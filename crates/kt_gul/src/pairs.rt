@@ -1,15 +1,17 @@
 //! The pairs of an item's record.
-//! The rules: docs/CALCULATION.md, "Coverage cut"; docs/STREAMS.md, "Records".
-ghost use Rattle.std.specs.Prelude.{◌≡◌, ℕ, ◌+◌, ◌<◌, ◌≤◌, ◌^◌, length, slice_index, IfOk, List, [], ◌∷◌, ◌++◌, OnOk, OnErr};
-ghost use Rattle.kt_gul.specs.GroundUp.{sidx_at, final_loss, pairs_of};
+//! The rule: docs/STREAMS.md, "Records".
+ghost use Rattle.std.specs.Prelude.{◌≡◌, ◌+◌, ◌*◌, ◌<◌, ◌≤◌, length, slice_index, take, IfOk, []};
+ghost use Rattle.kt_gul.specs.GroundUp.{sidx_at, pairs_of};
+ghost use Rattle.kt_stream.specs.Pairs.{pairs_bytes};
 
-use crate::cut::final_loss;
-use crate::draw::Draw;
-use kt_stream::{Pair, Pairs};
+use kt_stream::{END, Pair, Pairs, write_pair};
 use std::alloc::{AllocError, Global};
 
 /// What stands where no pair is yet.
 const NO_PAIR: Pair = Pair { sidx: 0, loss: 0 };
+
+/// The length of a pair in bytes.
+const PAIR: usize = 12;
 
 /// The sidx at a place.
 #[inline]
@@ -59,20 +61,20 @@ fn sample_pair(place: usize, loss: u64) -> Pair
     }
 }
 
-/// The pairs of losses.
+/// The pairs of an item's losses. An error is want of memory.
 #[inline(never)]
-pub(crate) fn plain_pairs(alloc: Global, losses: &[u64], samples: u32) -> Result<Pairs, AllocError>
+pub(crate) fn row_pairs(alloc: Global, row: &[u64], samples: u32) -> Result<Pairs, AllocError>
     requires samples { samples ≤ 1000 }
-    requires losses { length losses.now ≡ samples + 2 }
-    ensures value { IfOk result (λ pairs. pairs ≡ pairs_of (λ place. slice_index losses.now place) samples) }
+    requires row { length row.now ≡ samples + 2 }
+    ensures value { IfOk result (λ pairs. pairs ≡ pairs_of (λ place. slice_index row.now place) samples) }
 {
     let mut pairs = vec![in alloc; NO_PAIR; samples as usize + 2]?;
-    pairs[0] = pair_at(0, losses[0]);
-    let mut used = one_if(losses[0]);
-    pairs[used] = pair_at(1, losses[1]);
-    used += one_if(losses[1]);
+    pairs[0] = pair_at(0, row[0]);
+    let mut used = one_if(row[0]);
+    pairs[used] = pair_at(1, row[1]);
+    used += one_if(row[1]);
     for place in 2..samples as usize + 2 {
-        let loss = losses[place];
+        let loss = row[place];
         pairs[used] = sample_pair(place, loss);
         used += one_if(loss);
     }
@@ -80,38 +82,31 @@ pub(crate) fn plain_pairs(alloc: Global, losses: &[u64], samples: u32) -> Result
     Ok(Pairs::from_vec(pairs))
 }
 
-/// The pairs of losses with the cut or without it, where `totals` are those of the coverage and `before` those of its items
-/// with lower ids.
+/// Writes the pairs of an item's losses and the end pair behind them, and answers how many bytes these are: 0 where there is no
+/// pair.
 #[inline(never)]
-pub(crate) fn cut_pairs(
-    draw: Draw,
-    tiv: u64,
-    totals: &[u64],
-    before: &[u64],
-    losses: &[u64],
-) -> Result<Pairs, AllocError>
-    requires value { tiv ≤ 10 ^ 14 }
-    requires samples { draw.samples ≤ 1000 }
-    requires totals { length totals.now ≡ draw.samples + 2 }
-    requires before { length before.now ≡ draw.samples + 2 }
-    requires losses { length losses.now ≡ draw.samples + 2 }
-    requires within { (place : ℕ) → place < draw.samples + 2 → slice_index before.now place + slice_index losses.now place ≤ slice_index totals.now place }
-    ensures value { IfOk result (λ pairs. pairs ≡ pairs_of (λ place. final_loss draw.cut tiv (slice_index totals.now place) (slice_index before.now place) (slice_index losses.now place) place) draw.samples) }
+pub(crate) fn write_row(bytes: &mut [u8], row: &[u64], samples: u32) -> usize
+    requires samples { samples ≤ 1000 }
+    requires row { length row.now ≡ samples + 2 }
+    requires bytes { length bytes.old ≡ 12036 }
+    ensures none { result ≡ 0 → pairs_of (λ place. slice_index row.now place) samples ≡ [] }
+    ensures some { 0 < result → 0 < length (pairs_of (λ place. slice_index row.now place) samples) }
+    ensures bytes { 0 < result → take result bytes.new ≡ pairs_bytes (pairs_of (λ place. slice_index row.now place) samples) }
+    ensures within { result ≤ length bytes.old }
+    ensures room { length bytes.new ≡ length bytes.old }
 {
-    let mut pairs = vec![in draw.alloc; NO_PAIR; draw.samples as usize + 2]?;
-    let mut used = 0;
-    for place in 0..draw.samples as usize + 2 {
-        let loss = final_loss(
-            draw.cut,
-            tiv,
-            totals[place],
-            before[place],
-            losses[place],
-            place,
-        );
-        pairs[used] = pair_at(place, loss);
+    write_pair(bytes, 0, &pair_at(0, row[0]));
+    let mut used = one_if(row[0]);
+    write_pair(bytes, PAIR * used, &pair_at(1, row[1]));
+    used += one_if(row[1]);
+    for place in 2..samples as usize + 2 {
+        let loss = row[place];
+        write_pair(bytes, PAIR * used, &sample_pair(place, loss));
         used += one_if(loss);
     }
-    pairs.truncate(used);
-    Ok(Pairs::from_vec(pairs))
+    if used == 0 {
+        return 0;
+    }
+    write_pair(bytes, PAIR * used, &END);
+    PAIR * (used + 1)
 }

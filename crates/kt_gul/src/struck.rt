@@ -3,12 +3,13 @@
 ghost use Rattle.std.specs.Prelude.{◌≡◌, true, length, map, IfOk, OnOk, ◌++◌};
 ghost use Rattle.kt_rec.specs.declared.table.Table.TheVariants as table;
 ghost use Rattle.kt_keys.specs.Refusals.{is_loaded};
-ghost use Rattle.kt_gul.specs.StruckItems.{AreCdfs, AreStruck, AreInOrder};
+ghost use Rattle.kt_gul.specs.StruckItems.{AreCdfs, AreStruck, id_of};
+ghost use Rattle.std.specs.List.Sorted.{IsNonDecreasingBy};
 
+use crate::held::HeldCdf;
 use crate::moments::{DamageMoments, damage_moments};
 use kt_index::{Keyed, pair_key};
 use kt_rec::Item;
-use kt_stream::Cdf;
 use kt_tables::Portfolio;
 use std::alloc::{AllocError, Global};
 
@@ -21,6 +22,15 @@ pub struct StruckItem {
     pub(crate) cdf: usize,
     /// The moments of its damage.
     pub(crate) moments: DamageMoments,
+}
+
+impl StruckItem {
+    /// The item's id.
+    fn id(&self) -> u32
+        ensures value { result ≡ id_of self.now }
+    {
+        self.item.item_id
+    }
 }
 
 impl Keyed for StruckItem {
@@ -56,7 +66,7 @@ fn push_items(
 pub(crate) fn struck_items(
     alloc: Global,
     portfolio: &Portfolio,
-    cdfs: &[Cdf],
+    cdfs: &[HeldCdf<'_>],
 ) -> Result<Vec<StruckItem>, AllocError>
     requires { AreCdfs (length portfolio.now.rows.damage_bin_dict) cdfs.now }
     ensures value { IfOk result (λ struck. AreStruck portfolio.now.rows cdfs.now (length cdfs.now) struck.items) }
@@ -64,9 +74,24 @@ pub(crate) fn struck_items(
     portfolio.is_valid();
     let mut struck = Vec::new(alloc);
     for (place, cdf) in cdfs.iter().enumerate() {
-        let moments = damage_moments(cdf.bins.as_slice());
-        let items = portfolio.items_of(cdf.areaperil, cdf.vulnerability);
+        let moments = damage_moments(cdf.bins());
+        let items = portfolio.items_of(cdf.areaperil(), cdf.vulnerability());
         push_items(items, place, moments, &mut struck)?;
     }
     Ok(struck)
+}
+
+/// Whether struck items stand by rising id.
+pub(crate) fn is_by_id(struck: &[StruckItem]) -> bool
+    ensures rising { result ≡ true → IsNonDecreasingBy id_of struck.now }
+{
+    let mut last = 0;
+    for one in struck {
+        let id = one.id();
+        if id < last {
+            return false;
+        }
+        last = id;
+    }
+    true
 }

@@ -1,14 +1,51 @@
 //! Losses added place by place.
 ghost use Rattle.std.specs.Prelude.{◌≡◌, ℕ, ◌+◌, ◌<◌, ◌≤◌, ◌^◌, true, false, length, slice_index, IfOk};
-ghost use Rattle.kt_gul.specs.Coverage.{IsRow};
+ghost use Rattle.kt_gul.specs.Coverage.{IsRow, IsScratch};
 
 use std::alloc::{AllocError, Global};
 
+/// Room for so many losses: with a list of a mebibyte the allocator keeps what an event gives back for the next one.
+const ROOM: usize = 131_072;
+
+/// What is kept from coverage to coverage.
+#[derive(Drop)]
+pub struct Scratch {
+    /// The losses of its items before the cut, one item behind the other.
+    pub(crate) losses: Vec<u64>,
+    /// Their totals, place by place.
+    pub(crate) totals: Vec<u64>,
+    /// The totals of the items before one.
+    pub(crate) before: Vec<u64>,
+    /// The losses of one item behind the cut.
+    pub(crate) cut: Vec<u64>,
+}
+
+impl Scratch {
+    /// For rows of so many places. An error is want of memory.
+    pub(crate) fn new(alloc: Global, width: usize) -> Result<Scratch, AllocError>
+        ensures value { IfOk result (IsScratch width) }
+    {
+        Ok(Scratch {
+            losses: Vec::with_capacity(alloc, ROOM)?,
+            totals: zeros(alloc, width)?,
+            before: zeros(alloc, width)?,
+            cut: zeros(alloc, width)?,
+        })
+    }
+}
+
 /// As many zeros.
-pub(crate) fn zeros(alloc: Global, width: usize) -> Result<Vec<u64>, AllocError>
+fn zeros(alloc: Global, width: usize) -> Result<Vec<u64>, AllocError>
     ensures value { IfOk result (λ sums. IsRow (λ place. 0) width sums.items) }
 {
     vec![in alloc; 0; width]
+}
+
+/// Makes sums 0.
+pub(crate) fn clear(sums: &mut [u64])
+    ensures value { IsRow (λ place. 0) (length sums.old) sums.new }
+{
+    sums.fill(0);
 }
 
 /// Adds losses to sums, place by place.

@@ -7,10 +7,11 @@ ghost use Rattle.kt_gul.specs.SampledLoss.{sampled_loss};
 ghost use Rattle.kt_gul.specs.Sampled.{CanSample};
 ghost use Rattle.kt_gul.specs.Steps.{AreSteps, AreTables};
 
+use crate::held::HeldCdf;
 use crate::sampling::{damage_before, end_before, sampled_loss};
 use crate::steps::{Step, bin_step, end_step};
 use kt_rec::DamageBin;
-use kt_stream::{Bin, Cdf};
+use kt_stream::Bin;
 use std::alloc::{AllocError, Global};
 
 /// How many groups the random numbers are in: 8,192 parts per million each.
@@ -100,7 +101,7 @@ impl StepTable {
 pub(crate) fn tables_of(
     alloc: Global,
     dictionary: &[DamageBin],
-    cdfs: &[Cdf],
+    cdfs: &[HeldCdf<'_>],
 ) -> Result<Vec<StepTable>, AllocError>
     requires ends { All IsDamageBin dictionary.now }
     requires cdfs { All (IsCdf (length dictionary.now)) cdfs.now }
@@ -108,7 +109,7 @@ pub(crate) fn tables_of(
 {
     let mut tables = Vec::with_capacity(alloc, cdfs.len())?;
     for cdf in cdfs {
-        tables.push(StepTable::new(alloc, dictionary, cdf.bins.as_slice())?)?;
+        tables.push(StepTable::new(alloc, dictionary, cdf.bins())?)?;
     }
     Ok(tables)
 }

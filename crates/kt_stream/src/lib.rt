@@ -29,4 +29,4 @@ pub use reader::RecordReader;
 pub use stop::{RecordCause, StreamStop};
 pub use summary::SummaryReader;
 pub use unit::Entry;
-pub use write::{put_cdf, put_head, put_loss, put_summary};
+pub use write::{END, loss_front, put_cdf, put_head, put_loss, put_summary, write_pair};

@@ -1,8 +1,9 @@
 //! Writes headers and records.
 //! The rules: docs/STREAMS.md, "Headers" and "Records".
-ghost use Rattle.std.specs.Prelude.{◌≡◌, ◌+◌, ◌<◌, ◌≤◌, ◌^◌, ℕ, List, ◌++◌, length, OnOk, OnErr};
+ghost use Rattle.std.specs.Prelude.{◌≡◌, ◌+◌, ◌<◌, ◌≤◌, ◌^◌, ℕ, List, ◌++◌, length, take, drop, OnOk, OnErr};
 ghost use Rattle.std.specs.Int.{w32, cast_unsigned};
 ghost use Rattle.byteorder.specs.Endian.{little_bytes};
+ghost use Rattle.kt_stream.specs.declared.entry.Pair.{Pair};
 ghost use Rattle.kt_stream.specs.declared.read.Read.TheVariants.{Got};
 ghost use Rattle.kt_stream.specs.Header.{header_bytes, header_in, IsHead};
 ghost use Rattle.kt_stream.specs.Pairs.{pairs_bytes, pair_bytes};
@@ -15,6 +16,9 @@ use crate::entry::{Bin, Cdf, LossRecord, Pair, SummaryRecord};
 use crate::kind::{Head, StreamKind};
 use byteorder::{ByteOrder, LittleEndian};
 use kt_money::{Bytes, OutOfMemory};
+
+/// The pair behind those of a record.
+pub const END: Pair = Pair { sidx: 0, loss: 0 };
 
 /// Appends the header of a stream of a kind; what the kind has no field for is left out. An error is want
 /// of memory, and nothing is appended then. A header in its ranges is read back, whatever follows it.
@@ -58,10 +62,19 @@ pub fn put_loss(out: &mut Bytes, entry: &LossRecord) -> Result<(), OutOfMemory>
 
     ensures unchanged { OnErr result (out.new ≡ out.old) }
 {
-    let mut front = [0; 8];
-    LittleEndian::write_u32(&mut front, entry.event);
-    LittleEndian::write_u32(&mut front[4..], entry.id);
+    let front = loss_front(entry.event, entry.id);
     put_pair_record(out, &front, entry.pairs.as_slice())
+}
+
+/// The bytes in front of the pairs of a record of losses: those of the event and of the id.
+#[inline]
+pub fn loss_front(event: u32, id: u32) -> [u8; 8]
+    ensures front { (pairs : List Pair) → loss_bytes (record { event = event; id = id; pairs = pairs }) ≡ result ++ pairs_bytes pairs }
+{
+    let mut front = [0; 8];
+    LittleEndian::write_u32(&mut front, event);
+    LittleEndian::write_u32(&mut front[4..], id);
+    front
 }
 
 /// Appends a damage distribution. An error is want of memory, and nothing is appended then. A distribution in its
@@ -142,9 +155,9 @@ fn put_fields_and_pairs(out: &mut Bytes, fields: &[u8], pairs: &[Pair]) -> Resul
 {
     out.append(fields)?;
     for pair in pairs {
-        put_pair(out, word_of(pair), pair.loss)?;
+        put_pair(out, pair)?;
     }
-    put_pair(out, 0, 0)?;
+    put_pair(out, &END)?;
     Ok(())
 }
 
@@ -156,15 +169,26 @@ fn word_of(pair: &Pair) -> u32
     pair.sidx.cast_unsigned()
 }
 
-/// Appends a pair by the four bytes of its sidx as a number.
+/// Appends a pair.
 #[inline]
-fn put_pair(out: &mut Bytes, word: u32, loss: u64) -> Result<(), OutOfMemory>
-    ensures ok { OnOk result (out.new ≡ out.old ++ (little_bytes 4 word ++ little_bytes 8 loss)) }
+fn put_pair(out: &mut Bytes, pair: &Pair) -> Result<(), OutOfMemory>
+    ensures ok { OnOk result (out.new ≡ out.old ++ pair_bytes pair.now) }
 
     ensures unchanged { OnErr result (out.new ≡ out.old) }
 {
     let mut bytes = [0; 12];
-    LittleEndian::write_u32(&mut bytes, word);
-    LittleEndian::write_u64(&mut bytes[4..], loss);
+    write_pair(&mut bytes, 0, pair);
     out.append(&bytes)
+}
+
+/// Writes a pair over the twelve bytes from a place on.
+#[inline]
+pub fn write_pair(bytes: &mut [u8], at: usize, pair: &Pair)
+    requires { at + 12 ≤ length bytes.old }
+    ensures value { bytes.new ≡ take at bytes.old ++ (pair_bytes pair.now ++ drop (at + 12) bytes.old) }
+{
+    let mut fields = [0; 12];
+    LittleEndian::write_u32(&mut fields, word_of(pair));
+    LittleEndian::write_u64(&mut fields[4..], pair.loss);
+    bytes[at..at + 12].copy_from_slice(&fields);
 }

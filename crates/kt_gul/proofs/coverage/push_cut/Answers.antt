@@ -2,19 +2,20 @@ use Rattle.std.proofs.Common.{◌≡◌, ℕ, List, ◌<◌, ◌+◌, length, ta
 use Rattle.std.proofs.lemmas.Grind.{common_steps}
 use Rattle.kt_gul.specs.declared.struck.StruckItem.{StruckItem}
 use Rattle.kt_gul.specs.Coverage.{IsRow}
-use Rattle.kt_gul.specs.GroundUp.{raw_loss}
-use Rattle.kt_gul.proofs.CoverageLemmas.{rest_long, row_front, total_within, pushed_more, item_pairs_are, records_more}
+use Rattle.kt_gul.specs.GroundUp.{final_loss, raw_loss}
+use Rattle.kt_gul.proofs.CoverageLemmas.{rest_long, row_front, total_within, pushed_more, cut_pairs_are, pieces_more}
 use Rattle.kt_gul.proofs.coverage.push_cut.Goals as goal
 
 pub split_at-requires : goal.split_at-requires
-split_at-requires c =
+split_at-requires g c =
     let none : StruckItem = record { item = record { item_id = 0; coverage_id = 0; areaperil_id = 0; vulnerability_id = 0; group_id = 0 }; cdf = 0; moments = record { mean = 0; deviation = 0 } } in
     rest_long c.args.portfolio.now.rows c.args.draw.event c.args.cdfs.now c.args.group.now (c.args.draw.samples + 2) c.loop-struck.struck-index none _ c.loop-struck.invariant.pushed.rest_are c.loop-struck-test.true
 
-pub cut_pairs-requires-clause-within : goal.cut_pairs-requires-clause-within
-cut_pairs-requires-clause-within c = λ place inside.
+pub cut_row-requires-clause-within : goal.cut_row-requires-clause-within
+cut_row-requires-clause-within g c = λ place below.
     let none : StruckItem = record { item = record { item_id = 0; coverage_id = 0; areaperil_id = 0; vulnerability_id = 0; group_id = 0 }; cdf = 0; moments = record { mean = 0; deviation = 0 } } in
     let here = c.loop-struck.invariant.pushed in
+    let inside : place < c.args.draw.samples + 2 = omega (arith, c.loop-struck.invariant.width) in
     let row = row_front c.args.portfolio.now.rows c.args.draw.event c.args.cdfs.now c.args.group.now (c.args.draw.samples + 2) c.loop-struck.struck-index none _ here.rest_are c.loop-struck-test.true in
     let front : slice_index c.split_at.result.0.now place ≡ slice_index (take (c.args.draw.samples + 2) c.loop-struck.rest.now) place = ap (λ (row : List ℕ). slice_index row place) c.split_at.ensures.front in
     omega (
@@ -27,14 +28,14 @@ cut_pairs-requires-clause-within c = λ place inside.
     )
 
 pub add_to-requires-clause-width : goal.add_to-requires-clause-width
-add_to-requires-clause-width c =
+add_to-requires-clause-width g c =
     let none : StruckItem = record { item = record { item_id = 0; coverage_id = 0; areaperil_id = 0; vulnerability_id = 0; group_id = 0 }; cdf = 0; moments = record { mean = 0; deviation = 0 } } in
     let here = c.loop-struck.invariant.pushed in
     let row = row_front c.args.portfolio.now.rows c.args.draw.event c.args.cdfs.now c.args.group.now (c.args.draw.samples + 2) c.loop-struck.struck-index none _ here.rest_are c.loop-struck-test.true in
     ap length c.split_at.ensures.front ∙ (row.width_is ∙ sym here.before_are.width_is)
 
 pub add_to-requires-clause-fits : goal.add_to-requires-clause-fits
-add_to-requires-clause-fits c = λ place below.
+add_to-requires-clause-fits g c = λ place below.
     let none : StruckItem = record { item = record { item_id = 0; coverage_id = 0; areaperil_id = 0; vulnerability_id = 0; group_id = 0 }; cdf = 0; moments = record { mean = 0; deviation = 0 } } in
     let here = c.loop-struck.invariant.pushed in
     let inside : place < c.args.draw.samples + 2 = omega (arith, here.before_are.width_is) in
@@ -50,7 +51,7 @@ add_to-requires-clause-fits c = λ place below.
     )
 
 pub loop-struck-preserved : goal.loop-struck-preserved
-loop-struck-preserved c =
+loop-struck-preserved g c =
     let none : StruckItem = record { item = record { item_id = 0; coverage_id = 0; areaperil_id = 0; vulnerability_id = 0; group_id = 0 }; cdf = 0; moments = record { mean = 0; deviation = 0 } } in
     let rows = c.args.portfolio.now.rows in
     let group = c.args.group.now in
@@ -60,17 +61,19 @@ loop-struck-preserved c =
     let row = row_front rows c.args.draw.event c.args.cdfs.now group (c.args.draw.samples + 2) i none _ here.rest_are below in
     let row_are = subst (λ (row : List ℕ). IsRow (raw_loss rows c.args.draw.event c.args.cdfs.now (slice_index_or group i none).item) (c.args.draw.samples + 2) row) (sym c.split_at.ensures.front) row in
     let sums = subst (λ (row : List ℕ). IsRow (λ place. slice_index c.loop-struck.before place + slice_index row place) (length c.loop-struck.before) c.add_to.new.sums) c.split_at.ensures.front c.add_to.ensures.value in
-    let pairs = c.in_ok-pairs.ensures.value ∙ item_pairs_are rows c.args.draw.event c.args.cdfs.now group c.args.draw.cut c.args.coverage c.args.draw.samples i none c.tiv-tiv.result c.args.totals.now c.loop-struck.before c.split_at.result.0.now c.requires.group below c.tiv-tiv.ensures.value c.requires.totals here.before_are row_are in
+    let made = subst (λ (width : ℕ). IsRow (λ place. final_loss c.args.draw.cut c.tiv-tiv.result (slice_index c.args.totals.now place) (slice_index c.loop-struck.before place) (slice_index c.split_at.result.0.now place) place) width c.cut_row.new.row) c.loop-struck.invariant.width c.cut_row.ensures.value in
+    let pairs = cut_pairs_are rows c.args.draw.event c.args.cdfs.now group c.args.draw.cut c.args.coverage c.args.draw.samples i none c.tiv-tiv.result c.args.totals.now c.loop-struck.before c.split_at.result.0.now c.cut_row.new.row c.requires.group below c.tiv-tiv.ensures.value c.requires.totals here.before_are row_are made in
     record {
       pushed = pushed_more rows c.args.draw.event c.args.cdfs.now group (c.args.draw.samples + 2) i none _ _ _ _ here below c.split_at.ensures.back sums;
-      records_are = records_more rows c.args.draw.event c.args.cdfs.now group c.args.draw.cut c.args.draw.samples i none c.in_ok-pairs.pairs c.args.records.now.items c.loop-struck.records.items _ below pairs c.loop-struck.invariant.records_are c.in_ok-push_record.ensures.ok;
+      width = made.width_is;
+      pieces_are = pieces_more rows c.args.draw.event c.args.cdfs.now group g.E.Exit.spelled c.args.draw.cut c.args.draw.samples i none _ (g.E.Exit.pieces c.args.exit.now) (g.E.Exit.pieces c.loop-struck.exit) _ below pairs c.loop-struck.invariant.pieces_are c.in_ok-put.ensures.ok;
     }
 
 pub loop-struck-init : goal.loop-struck-init
-loop-struck-init c = grind (arith, common_steps)
+loop-struck-init g c = grind (arith, common_steps)
 
 pub returns : goal.returns
-returns c = grind (arith, common_steps)
+returns g c = grind (arith, common_steps)
 
-pub cut_pairs-requires-clause-losses : goal.cut_pairs-requires-clause-losses
-cut_pairs-requires-clause-losses c = grind (arith, common_steps)
+pub cut_row-requires-clause-losses : goal.cut_row-requires-clause-losses
+cut_row-requires-clause-losses g c = grind (arith, common_steps)

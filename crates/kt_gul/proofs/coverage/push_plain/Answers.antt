@@ -3,22 +3,22 @@ use Rattle.std.proofs.lemmas.Grind.{common_steps}
 use Rattle.kt_gul.specs.declared.struck.StruckItem.{StruckItem}
 use Rattle.kt_gul.specs.Coverage.{IsRow}
 use Rattle.kt_gul.specs.GroundUp.{raw_loss}
-use Rattle.kt_gul.proofs.CoverageLemmas.{rest_long, rest_more, row_front, plain_pairs_are, records_more}
+use Rattle.kt_gul.proofs.CoverageLemmas.{rest_long, rest_more, row_front, plain_pairs_are, pieces_more}
 use Rattle.kt_gul.proofs.coverage.push_plain.Goals as goal
 
 pub split_at-requires : goal.split_at-requires
-split_at-requires c =
+split_at-requires g c =
     let none : StruckItem = record { item = record { item_id = 0; coverage_id = 0; areaperil_id = 0; vulnerability_id = 0; group_id = 0 }; cdf = 0; moments = record { mean = 0; deviation = 0 } } in
     rest_long c.args.portfolio.now.rows c.args.draw.event c.args.cdfs.now c.args.group.now (c.args.draw.samples + 2) c.loop-struck.struck-index none _ c.loop-struck.invariant.rest_are c.loop-struck-test.true
 
-pub plain_pairs-requires-clause-losses : goal.plain_pairs-requires-clause-losses
-plain_pairs-requires-clause-losses c =
+pub put-requires-clause-row : goal.put-requires-clause-row
+put-requires-clause-row g c =
     let none : StruckItem = record { item = record { item_id = 0; coverage_id = 0; areaperil_id = 0; vulnerability_id = 0; group_id = 0 }; cdf = 0; moments = record { mean = 0; deviation = 0 } } in
     let row = row_front c.args.portfolio.now.rows c.args.draw.event c.args.cdfs.now c.args.group.now (c.args.draw.samples + 2) c.loop-struck.struck-index none _ c.loop-struck.invariant.rest_are c.loop-struck-test.true in
     ap length c.split_at.ensures.front ∙ row.width_is
 
 pub loop-struck-preserved : goal.loop-struck-preserved
-loop-struck-preserved c =
+loop-struck-preserved g c =
     let none : StruckItem = record { item = record { item_id = 0; coverage_id = 0; areaperil_id = 0; vulnerability_id = 0; group_id = 0 }; cdf = 0; moments = record { mean = 0; deviation = 0 } } in
     let rows = c.args.portfolio.now.rows in
     let group = c.args.group.now in
@@ -27,14 +27,14 @@ loop-struck-preserved c =
     let here = c.loop-struck.invariant in
     let row = row_front rows c.args.draw.event c.args.cdfs.now group (c.args.draw.samples + 2) i none _ here.rest_are below in
     let row_are = subst (λ (row : List ℕ). IsRow (raw_loss rows c.args.draw.event c.args.cdfs.now (slice_index_or group i none).item) (c.args.draw.samples + 2) row) (sym c.split_at.ensures.front) row in
-    let pairs = c.in_ok-pairs.ensures.value ∙ plain_pairs_are rows c.args.draw.event c.args.cdfs.now group c.args.draw.cut c.args.coverage c.args.draw.samples i none c.split_at.result.0.now c.requires.group below c.requires.plain row_are in
+    let pairs = plain_pairs_are rows c.args.draw.event c.args.cdfs.now group c.args.draw.cut c.args.coverage c.args.draw.samples i none c.split_at.result.0.now c.requires.group below c.requires.plain row_are in
     record {
       rest_are = rest_more rows c.args.draw.event c.args.cdfs.now group (c.args.draw.samples + 2) i none _ _ here.rest_are below c.split_at.ensures.back;
-      records_are = records_more rows c.args.draw.event c.args.cdfs.now group c.args.draw.cut c.args.draw.samples i none c.in_ok-pairs.pairs c.args.records.now.items c.loop-struck.records.items _ below pairs here.records_are c.in_ok-push_record.ensures.ok;
+      pieces_are = pieces_more rows c.args.draw.event c.args.cdfs.now group g.E.Exit.spelled c.args.draw.cut c.args.draw.samples i none _ (g.E.Exit.pieces c.args.exit.now) (g.E.Exit.pieces c.loop-struck.exit) _ below pairs here.pieces_are c.in_ok-put.ensures.ok;
     }
 
 pub loop-struck-init : goal.loop-struck-init
-loop-struck-init c = grind (arith, common_steps)
+loop-struck-init g c = grind (arith, common_steps)
 
 pub returns : goal.returns
-returns c = grind (arith, common_steps)
+returns g c = grind (arith, common_steps)

@@ -13,8 +13,8 @@ loop-place-init c = subst (λ (struck : List StruckItem). AreStruck c.args.portf
 pub loop-place-preserved : goal.loop-place-preserved
 loop-place-preserved c =
     let moments = c.damage_moments-moments in
-    let bins_moments : AreMoments c.as_slice.result.now moments.result = moments.ensures.value in
+    let bins_moments : AreMoments c.bins.result.now moments.result = moments.ensures.value in
     struck_more c.args.portfolio.now.rows c.args.cdfs.now c.loop-place.place c.index-cdfs-place.result c.is_valid.ensures.valid.in_range c.requires c.loop-place-test.true c.index-cdfs-place.is moments.result _ _
-    (subst (λ (bins : List Bin). AreMoments bins moments.result) c.as_slice.ensures.value bins_moments)
+    (subst (λ (bins : List Bin). AreMoments bins moments.result) c.bins.ensures.value bins_moments)
     c.loop-place.invariant
-    (c.in_ok-push_items.ensures.ok ∙ ap (λ (items : List Item). c.loop-place.struck.items ++ map (λ item. record { item = item; cdf = c.loop-place.place; moments = moments.result }) items) c.items_of-items.ensures.value)
+    (c.in_ok-push_items.ensures.ok ∙ ap (λ (items : List Item). c.loop-place.struck.items ++ map (λ item. record { item = item; cdf = c.loop-place.place; moments = moments.result }) items) (rw (c.areaperil.ensures.value, c.vulnerability.ensures.value) at c.items_of-items.ensures.value))

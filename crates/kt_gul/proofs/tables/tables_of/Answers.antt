@@ -10,13 +10,13 @@ pub new-requires : goal.new-requires
 new-requires c =
     let cdf = c.requires.cdfs c.loop-cdf.cdf-index c.cdf-item.result c.loop-cdf-test.true in
     let few = cdf.few in
-    subst (λ (bins : List Bin). CanSample 0 c.args.dictionary.now bins) (sym (c.as_slice.ensures.value ∙ ap (λ (cdf : Cdf). cdf.bins) c.cdf-item.is))
+    subst (λ (bins : List Bin). CanSample 0 c.args.dictionary.now bins) (sym (c.bins.ensures.value ∙ ap (λ (cdf : Cdf). cdf.bins) c.cdf-item.is))
     (record { value = omega arith; ends = c.requires.ends; few = omega arith; rising = cdf.bins })
 
 pub loop-cdf-preserved : goal.loop-cdf-preserved
 loop-cdf-preserved c =
     tables_more c.args.dictionary.now c.args.cdfs.now c.loop-cdf.cdf-index c.cdf-item.result c.loop-cdf.tables.items _ c.in_ok-new.field-0 c.loop-cdf.invariant c.loop-cdf-test.true
-    (subst (λ (bins : List Bin). AreSteps c.args.dictionary.now bins c.in_ok-new.field-0.steps.items) (c.as_slice.ensures.value ∙ ap (λ (cdf : Cdf). cdf.bins) c.cdf-item.is) c.in_ok-new.ensures.steps)
+    (subst (λ (bins : List Bin). AreSteps c.args.dictionary.now bins c.in_ok-new.field-0.steps.items) (c.bins.ensures.value ∙ ap (λ (cdf : Cdf). cdf.bins) c.cdf-item.is) c.in_ok-new.ensures.steps)
     c.in_ok-push.ensures.items
 
 pub returns : goal.returns

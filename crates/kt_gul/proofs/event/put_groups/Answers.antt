@@ -1,0 +1,53 @@
+use Rattle.std.proofs.Common.{List, ◌∙◌, ◌++◌, map, ap, sym, subst, slice_index_or, append-nil, arith}
+use Rattle.std.proofs.lemmas.List.{take_all}
+use Rattle.std.specs.List.{filter_map, flat_map}
+use Rattle.kt_tables.specs.PortfolioLaws.{items_distinct, items_within}
+use Rattle.kt_gul.specs.declared.struck.StruckItem.{StruckItem}
+use Rattle.kt_gul.specs.Coverage.{IsGroup}
+use Rattle.kt_gul.specs.GroundUp.{item_record}
+use Rattle.kt_gul.specs.StruckItems.{item_of}
+use Rattle.kt_gul.proofs.GroupLemmas.{group_is, done_more}
+use Rattle.kt_gul.proofs.event.put_groups.Goals as goal
+
+pub push_coverage-requires-clause-group : goal.push_coverage-requires-clause-group
+push_coverage-requires-clause-group g c =
+    let none : StruckItem = record { item = record { item_id = 0; coverage_id = 0; areaperil_id = 0; vulnerability_id = 0; group_id = 0 }; cdf = 0; moments = record { mean = 0; deviation = 0 } } in
+    let portfolio = c.args.portfolio.now in
+    let struck = c.args.struck.now in
+    let coverage = (slice_index_or struck c.loop-start.start none).item.coverage_id in
+    subst (λ (group : List StruckItem). IsGroup portfolio.rows c.args.draw.event c.args.cdfs.now coverage group) (sym c.between-group.ensures.value)
+    (group_is portfolio.rows c.args.draw.event c.args.cdfs.now struck c.requires.order c.is_valid.ensures.valid.in_range.items (items_distinct portfolio c.is_valid.ensures.valid) (items_within portfolio c.is_valid.ensures.valid)
+    c.loop-start.start c.group_end-end.result coverage c.group_end-end.ensures.value c.loop-start.invariant.done.apart)
+
+pub loop-start-preserved : goal.loop-start-preserved
+loop-start-preserved g c =
+    let none : StruckItem = record { item = record { item_id = 0; coverage_id = 0; areaperil_id = 0; vulnerability_id = 0; group_id = 0 }; cdf = 0; moments = record { mean = 0; deviation = 0 } } in
+    let portfolio = c.args.portfolio.now in
+    let struck = c.args.struck.now in
+    let coverage = (slice_index_or struck c.loop-start.start none).item.coverage_id in
+    let pieces = g.E.Exit.pieces c.loop-start.exit in
+    record {
+      done = done_more portfolio.rows c.args.draw.event c.args.cdfs.now struck c.requires.order c.is_valid.ensures.valid.in_range.items (items_distinct portfolio c.is_valid.ensures.valid) (items_within portfolio c.is_valid.ensures.valid)
+          c.loop-start.start c.group_end-end.result coverage c.group_end-end.ensures.value c.loop-start.invariant.done.apart
+          g.E.Exit.spelled c.args.draw.samples c.args.draw.cut (g.E.Exit.pieces c.args.exit.now) pieces _ c.loop-start.invariant.done
+          (c.in_ok-scratch-2.ensures.ok ∙ ap (λ (group : List StruckItem). pieces ++ flat_map g.E.Exit.spelled (filter_map (item_record portfolio.rows c.args.draw.samples c.args.draw.cut c.args.draw.event c.args.cdfs.now) (map item_of group))) c.between-group.ensures.value);
+      scratch = c.in_ok-scratch-2.ensures.scratch;
+    }
+
+pub loop-start-init : goal.loop-start-init
+loop-start-init g c = record {
+  done = record {
+    within = omega arith;
+    pieces_are = sym (append-nil (g.E.Exit.pieces c.args.exit.now));
+    apart = λ k j d before behind below. absurd (omega arith);
+  };
+  scratch = c.in_ok-scratch.ensures.value;
+}
+
+pub returns : goal.returns
+returns g c =
+    let first = g.E.Exit.pieces c.args.exit.now in
+    let made = item_record c.args.portfolio.now.rows c.args.draw.samples c.args.draw.cut c.args.draw.event c.args.cdfs.now in
+    record {
+      ok = c.loop-start.invariant.done.pieces_are ∙ ap (λ (struck : List StruckItem). first ++ flat_map g.E.Exit.spelled (filter_map made (map item_of struck))) (take_all c.loop-start.start c.args.struck.now (omega (arith, c.loop-start-test.false)));
+    }

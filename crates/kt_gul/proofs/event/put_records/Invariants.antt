@@ -1,0 +1,8 @@
+-- The records so far.
+use Rattle.std.proofs.Common.{◌≡◌, ◌++◌, take}
+use Rattle.std.specs.List.{flat_map}
+use Rattle.kt_stream.specs.Losses.{loss_bytes}
+use Rattle.kt_gul.proofs.event.put_records.Given as goal
+
+abbrev pub invariant-loop-record : goal.invariant-loop-record
+invariant-loop-record l = l.out ≡ l.fn.out ++ flat_map loss_bytes (take l.record-index l.records)

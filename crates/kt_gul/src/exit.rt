@@ -1,0 +1,115 @@
+//! Where the records of an event's losses go: into a list, or into the bytes of a stream.
+//! The rules: docs/CALCULATION.md, "Coverage cut"; docs/STREAMS.md, "Records".
+ghost use Rattle.std.specs.Prelude.{◌≡◌, ◌+◌, ◌*◌, ◌≤◌, ◌++◌, [], ◌∷◌, length, slice_index, IfOk, OnOk};
+ghost use Rattle.std.specs.List.{filter_map, flat_map};
+ghost use Rattle.kt_gul.specs.GroundUp.{pairs_of, record_with};
+
+use crate::draw::Draw;
+use crate::pairs::{row_pairs, write_row};
+use kt_money::Bytes;
+use kt_stream::{LossRecord, loss_front};
+use std::alloc::{AllocError, Global};
+use std::marker::Model;
+
+/// The bytes of the pairs of a record with 1,000 samples, with the end pair.
+const MOST_PAIRS: usize = 12_036;
+
+/// What takes the losses of items as records.
+pub trait Exit {
+    ghost use Rattle.std.specs.Prelude.{List};
+    ghost use Rattle.kt_stream.specs.declared.entry.LossRecord.{LossRecord};
+
+    /// What it is made of.
+    ghost Piece: { Type 0 };
+
+    /// The pieces that it has.
+    ghost pieces: { Self → List Piece };
+
+    /// The pieces of a record.
+    ghost spelled: { LossRecord → List Piece };
+
+    /// Appends the record of an item's losses by their places, where one is above 0. An error
+    /// is want of memory.
+    fn put(&mut self, draw: Draw, id: u32, row: &[u64]) -> Result<(), AllocError>
+        requires samples { draw.samples ≤ 1000 }
+        requires row { length row.now ≡ draw.samples + 2 }
+        ensures ok { OnOk result (pieces self.new ≡ pieces self.old ++ flat_map spelled (filter_map (record_with draw.event id) (pairs_of (λ place. slice_index row.now place) draw.samples ∷ []))) };
+}
+
+impl Exit for Vec<LossRecord> {
+    ghost use Rattle.std.specs.Prelude.{[], ◌∷◌};
+    ghost use Rattle.kt_stream.specs.declared.entry.LossRecord.{LossRecord};
+
+    ghost Piece = { LossRecord };
+
+    ghost pieces = { λ records. records.items };
+
+    ghost spelled = { λ entry. entry ∷ [] };
+
+    fn put(&mut self, draw: Draw, id: u32, row: &[u64]) -> Result<(), AllocError> {
+        let pairs = row_pairs(draw.alloc, row, draw.samples)?;
+        if !pairs.as_slice().is_empty() {
+            self.push(LossRecord {
+                event: draw.event,
+                id,
+                pairs,
+            })?;
+        }
+        Ok(())
+    }
+}
+
+/// The bytes of a stream, which get the records of losses. Contracts see the bytes.
+#[derive(Drop)]
+pub struct Written {
+    out: Bytes,
+    /// The bytes of one record's pairs.
+    room: Vec<u8>,
+}
+
+impl Model for Written {
+    ghost use Rattle.std.specs.Prelude.{◌≡◌, ℕ, List, length};
+
+    ghost Value = { List ℕ };
+
+    ghost view = { λ written. written.out };
+
+    ghost invariant = { λ written. length written.room.items ≡ 12036 };
+}
+
+impl Written {
+    /// Behind these bytes. An error is want of memory.
+    pub(crate) fn new(alloc: Global, out: Bytes) -> Result<Written, AllocError>
+        ensures value { IfOk result (λ written. written ≡ out) }
+    {
+        let room = vec![in alloc; 0; MOST_PAIRS]?;
+        Ok(Written { out, room })
+    }
+
+    /// The bytes.
+    pub(crate) fn into_bytes(self) -> Bytes
+        ensures value { result ≡ self }
+    {
+        self.out
+    }
+}
+
+impl Exit for Written {
+    ghost use Rattle.std.specs.Prelude.{ℕ};
+    ghost use Rattle.kt_stream.specs.Losses.{loss_bytes};
+
+    ghost Piece = { ℕ };
+
+    ghost pieces = { λ bytes. bytes };
+
+    ghost spelled = { loss_bytes };
+
+    fn put(&mut self, draw: Draw, id: u32, row: &[u64]) -> Result<(), AllocError> {
+        let used = write_row(self.room.as_mut_slice(), row, draw.samples);
+        if used != 0 {
+            self.out.append(&loss_front(draw.event, id))?;
+            self.out.append(&self.room[..used])?;
+        }
+        Ok(())
+    }
+}
