@@ -5,7 +5,7 @@ use Rattle.std.proofs.lemmas.List.{get_or-map, length-map}
 use Rattle.std.proofs.lemmas.List.FromFn.{fill_by_all, get_or-map-range_with_len, length-map-range_with_len}
 use Rattle.std.proofs.lemmas.List.Sums.{sum_by-cons}
 use Rattle.kt_stream.specs.declared.entry.LossRecord.{LossRecord}
-use Rattle.kt_runs.specs.Sidx.{pair_of, sidx_at}
+use Rattle.kt_runs.specs.Sidx.{sidx_at}
 use Rattle.kt_tree.specs.Sums.{sum_by-agree}
 use Rattle.kt_tree.specs.Tree.{Tree}
 use Rattle.kt_fmtree.specs.CarriedLaws.{map-map}
@@ -16,7 +16,7 @@ use Rattle.kt_shares.specs.ByLanes.{AreLayers}
 use Rattle.kt_shares.specs.Kept.{lane_row}
 use Rattle.kt_shares.specs.Layers.{key_of}
 use Rattle.kt_shares.specs.Row.{Shared, no_shares, row_for}
-use Rattle.kt_shares.specs.RowLaws.{each-range, filter_map-agree}
+use Rattle.kt_shares.specs.RowLaws.{each-range, pairs-agree}
 use Rattle.kt_shares.specs.Shares.{taken_loss}
 use Rattle.kt_shares.specs.Table.{HasAmounts, pairs_by_row, row_at, row_place, sampled_sum, table_for}
 use Rattle.kt_shares.specs.Taken.{AreIdLanes}
@@ -95,9 +95,7 @@ module _ (amount : Shared → ℕ) (table : List Shared) (lane : List ℕ) (lane
   -- their pairs
   pub lane-pairs : pairs_by_row (slice_index lane) (length lane) ≡ pairs_by_row (λ row. amount (row_at table row)) (length table)
   lane-pairs =
-      ap (pairs_by_row (slice_index lane)) lane-long
-      ∙ filter_map-agree (λ row. pair_of (sidx_at (row_place row)) (slice_index lane row)) (λ row. pair_of (sidx_at (row_place row)) (amount (row_at table row))) (range_with_len 0 (length table))
-      (each-range (λ row. pair_of (sidx_at (row_place row)) (slice_index lane row) ≡ pair_of (sidx_at (row_place row)) (amount (row_at table row))) 0 (length table) (λ row low high. ap (pair_of (sidx_at (row_place row))) (lane-at row (omega (arith, high)))))
+      ap (pairs_by_row (slice_index lane)) lane-long ∙ pairs-agree (slice_index lane) (λ row. amount (row_at table row)) (length table) lane-at
 
   -- their sum over the samples
   pub lane-sampled : sum_by (slice_index lane) (range_with_len 1 (length lane - 1)) ≡ sampled_sum amount table
