@@ -1,11 +1,10 @@
 -- Lists that are looked up, and lists behind each other.
-use Rattle.std.proofs.Common.{◌≡◌, ℕ, zero, suc, ◌+◌, ◌-◌, ◌<◌, ◌≤◌, Bool, true, false, cond, List, [], ◌∷◌, ◌++◌, Option, Some, None, length, map, take, drop, slice_index, slice_index_or, refl, sym, ap, ◌∙◌, arith, add-one, append_assoc, append-nil, drop-cons, ◌*◌}
+use Rattle.std.proofs.Common.{◌≡◌, ℕ, zero, suc, ◌+◌, ◌-◌, ◌<◌, ◌≤◌, Bool, true, false, cond, List, [], ◌∷◌, ◌++◌, Option, Some, None, length, map, take, drop, slice_index, slice_index_or, refl, sym, ap, ◌∙◌, arith, add-one, append_assoc, append-nil, drop-cons}
 use Rattle.std.specs.Prelude.{unwrap_or}
-use Rattle.std.specs.List.{cons_option, filter_map, range_with_len, sum_by, zip}
+use Rattle.std.specs.List.{cons_option, filter_map, range_with_len, zip}
 use Rattle.std.specs.Map.{lookup}
 use Rattle.std.specs.Option.{option_or}
 use Rattle.std.proofs.lemmas.List.{map-append, take_more}
-use Rattle.std.proofs.lemmas.List.Sums.{sum_by-cons}
 use Rattle.kt_shares.specs.RowLaws.{made-more}
 
 -- ---- lookups

@@ -1,6 +1,6 @@
 //! What the ids of a programme cede of the losses of a run.
 //! The rule: docs/FINANCIAL_MODULE.md, "Reinsurance".
-ghost use Rattle.std.specs.Prelude.{◌≡◌, ◌⊎◌, ◌+◌, ◌≤◌, map, All, IfOk, length};
+ghost use Rattle.std.specs.Prelude.{◌≡◌, ◌⊎◌, ◌+◌, ◌≤◌, ◌<◌, map, All, IfOk, length};
 ghost use Rattle.kt_stream.specs.Losses.{IsLoss};
 ghost use Rattle.kt_runs.specs.RunLosses.{AreWithin};
 ghost use Rattle.kt_ri.specs.Ceded.{AreCeded, AreCededShares, AreRows, HasShares};
@@ -20,6 +20,7 @@ fn ceded_lanes(
     table: &Table,
 ) -> Result<Vec<Vec<u64>>, AllocError>
     requires rows { length table.now ≡ rows }
+    requires within { All (λ place. place < width) places.now }
     requires shares { All (λ row. HasShares width places.now row.shares) table.now }
     ensures value { IfOk result (λ ceded. AreCededShares width places.now table.now (length places.now) ceded.items) }
 {

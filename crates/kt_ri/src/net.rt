@@ -59,6 +59,17 @@ fn take_behind(losses: &mut [u64], ceded: &[Vec<u64>], place: Option<usize>, lef
     }
 }
 
+/// What is left of losses of an id whose place may be absent, or what it cedes.
+fn left_behind(losses: Vec<u64>, ceded: &[Vec<u64>], place: Option<usize>, left: bool) -> Vec<u64>
+    requires place { IsPlaceIn ceded.now place }
+    requires wide { AreWide (length losses.items) ceded.now }
+    ensures value { IsLane (length losses.items) (λ row. part_behind left (slice_index losses.items row) (ceded_in ceded.now place row)) result.items }
+{
+    let mut behind = losses;
+    take_behind(&mut behind, ceded, place, left);
+    behind
+}
+
 /// What is left of a record, or what its id cedes, row by row.
 fn pairs_behind(
     alloc: Global,
@@ -75,9 +86,9 @@ fn pairs_behind(
     requires few { (sidx : ℤ) → loss_of sidx entry.now.pairs ≤ 10000000000000000 }
     ensures value { IfOk result (λ pairs. pairs ≡ pairs_behind left ceded.now samples place entry.now.pairs) }
 {
-    let mut losses = losses_of(alloc, samples, entry.pairs.as_slice())?;
-    take_behind(&mut losses, ceded, place, left);
-    let pairs = lane_pairs(alloc, &losses)?;
+    let losses = losses_of(alloc, samples, entry.pairs.as_slice())?;
+    let behind = left_behind(losses, ceded, place, left);
+    let pairs = lane_pairs(alloc, &behind)?;
     Ok(pairs)
 }
 

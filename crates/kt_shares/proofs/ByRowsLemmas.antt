@@ -1,11 +1,11 @@
 -- What layers have at all sidx of a run, row by row, and as lanes.
-use Rattle.std.proofs.Common.{◌≡◌, ◌⊎◌, inl, inr, ℕ, zero, suc, ◌+◌, ◌<◌, ◌≤◌, List, [], ◌∷◌, ◌++◌, Vec, Global, length, map, take, slice_index, slice_index_or, refl, sym, ap, subst, ◌∙◌, arith}
+use Rattle.std.proofs.Common.{◌≡◌, ◌⊎◌, inl, inr, ℕ, zero, suc, ◌+◌, ◌<◌, ◌≤◌, List, [], ◌∷◌, ◌++◌, Vec, Global, length, map, take, slice_index, refl, sym, ap, subst, ◌∙◌, arith}
 use Rattle.std.proofs.lemmas.Bool.{cases_lt}
 use Rattle.std.proofs.lemmas.List.{get_or-map, length-map, take_all, take_more}
 use Rattle.kt_tree.specs.Tree.{Tree, policy_loss}
 use Rattle.kt_fmtree.specs.Carried.{loss_by}
 use Rattle.kt_fmtree.specs.Parts.{Parts, HasProgramme, IsProgramme}
-use Rattle.kt_lanes.specs.Lanes.{AreLanes, AreWide, IsLane, column}
+use Rattle.kt_lanes.specs.Lanes.{AreLanes, AreWide, column}
 use Rattle.kt_lanes.specs.LaneLaws.{lanes-are, lanes-more, lanes-none, length-more}
 use Rattle.kt_shares.specs.ByLanes.{AreLayers, AreRows, row_in}
 use Rattle.kt_shares.specs.Layers.{key_of}
@@ -114,7 +114,7 @@ module _ (parts : Parts) (lanes : List (Vec ℕ Global)) (rule : ℕ) (layers : 
       shares_wide = subst (λ n. AreWide n made.shares.items) are.shares_many shares.wide;
       policies_wide = subst (λ n. AreWide n made.policies.items) are.policies_many policies.wide;
       rows = λ tree is k below. record {
-          shares_are = shares.each k (omega (arith, below, are.shares_many)) ∙ (are.rows tree is k below).shares_are;
-          policies_are = policies.each k (omega (arith, below, are.policies_many)) ∙ (are.rows tree is k below).policies_are;
-        };
+        shares_are = shares.each k (omega (arith, below, are.shares_many)) ∙ (are.rows tree is k below).shares_are;
+        policies_are = policies.each k (omega (arith, below, are.policies_many)) ∙ (are.rows tree is k below).policies_are;
+      };
     }

@@ -1,7 +1,7 @@
 -- The losses of a run by the places of their ids.
-use Rattle.std.proofs.Common.{◌≡◌, ℕ, zero, suc, ◌+◌, ◌<◌, ◌≤◌, ◌^◌, ◌||◌, Bool, true, false, cond, nat_eq, ℤ, List, [], ◌∷◌, Vec, Global, length, map, take, replicate, slice_index, slice_index_or, refl, sym, ap, subst, ◌∙◌, arith}
+use Rattle.std.proofs.Common.{◌≡◌, ℕ, ◌+◌, ◌<◌, ◌≤◌, ◌^◌, ◌||◌, Bool, true, false, cond, nat_eq, ℤ, List, [], ◌∷◌, Vec, Global, length, map, take, replicate, slice_index, slice_index_or, refl, sym, ap, subst, ◌∙◌, arith}
 use Rattle.std.specs.Cmp.{nat_eq_equiv}
-use Rattle.std.specs.List.{list_any, sum, sum_by}
+use Rattle.std.specs.List.{list_any, sum}
 use Rattle.std.proofs.Math.Path.{fun_ext}
 use Rattle.std.proofs.lemmas.Bool.{eqb-true}
 use Rattle.std.proofs.lemmas.List.{get_or-map, take_all}
@@ -11,7 +11,7 @@ use Rattle.kt_runs.specs.RunLosses.{AreWithin, loss_of, run_loss}
 use Rattle.kt_runs.specs.Sidx.{sidx_at}
 use Rattle.kt_alloc.specs.ById.{with_more}
 use Rattle.kt_tree.specs.Sums.{sum_by-below}
-use Rattle.kt_tree.specs.Tree.{Tree, IsTree}
+use Rattle.kt_tree.specs.Tree.{Tree}
 use Rattle.kt_fmtree.specs.Carried.{loss_by}
 use Rattle.kt_fmtree.specs.Parts.{Parts, IsProgramme}
 use Rattle.kt_lanes.specs.Climbed.{AreLosses}

@@ -75,13 +75,7 @@ fn add_record(lane: &mut Vec<u64>, samples: u32, entry: &LossRecord)
 }
 
 /// Adds the losses of a record to the lane of its id, which stands in this place.
-fn add_at(
-    ids: &[u32],
-    lanes: &mut Vec<Vec<u64>>,
-    samples: u32,
-    place: usize,
-    entry: &LossRecord,
-)
+fn add_at(ids: &[u32], lanes: &mut Vec<Vec<u64>>, samples: u32, place: usize, entry: &LossRecord)
     requires samples { samples ≤ 1000 }
     requires rising { IsRising ids.now }
     requires same { length lanes.old.items ≡ length ids.now }
@@ -97,13 +91,7 @@ fn add_at(
 
 /// Adds the losses of a record to the lane of its id, if that is among these. It is looked for in a place first: records stand by
 /// rising id mostly.
-fn add_by_id(
-    ids: &[u32],
-    lanes: &mut Vec<Vec<u64>>,
-    samples: u32,
-    near: usize,
-    entry: &LossRecord,
-)
+fn add_by_id(ids: &[u32], lanes: &mut Vec<Vec<u64>>, samples: u32, near: usize, entry: &LossRecord)
     requires samples { samples ≤ 1000 }
     requires rising { IsRising ids.now }
     requires same { length lanes.old.items ≡ length ids.now }

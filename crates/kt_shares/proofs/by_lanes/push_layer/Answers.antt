@@ -1,5 +1,3 @@
-use Rattle.std.proofs.Common.{List, sym, subst}
-use Rattle.kt_lanes.specs.Policies.{IsPolicy}
 use Rattle.kt_shares.proofs.ByLanesLemmas.{layers-more}
 use Rattle.kt_shares.proofs.by_lanes.push_layer.Goals as goal
 

@@ -1,4 +1,4 @@
-use Rattle.std.proofs.Common.{◌≡◌, ◌≤◌, ◌<◌, ◌∙◌, List, Vec, Global, ℕ, length, slice_index, ap, sym, subst, arith}
+use Rattle.std.proofs.Common.{◌∙◌, List, Vec, Global, ℕ, length, slice_index, ap, subst, arith}
 use Rattle.std.specs.List.{sum}
 use Rattle.std.proofs.lemmas.List.{length-map}
 use Rattle.kt_fmtree.specs.Carried.{AreCarried, loss_by}

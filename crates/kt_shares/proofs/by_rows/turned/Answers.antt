@@ -1,4 +1,4 @@
-use Rattle.std.proofs.Common.{◌≡◌, ◌<◌, List, Vec, Global, ℕ, length, take, sym, subst, arith}
+use Rattle.std.proofs.Common.{◌≡◌, List, Vec, Global, ℕ, length, take, sym, subst, arith}
 use Rattle.kt_lanes.specs.Lanes.{AreLanes}
 use Rattle.kt_shares.specs.ByLanes.{row_in}
 use Rattle.kt_shares.proofs.ByRowsLemmas.{turned-end, turned-more, turned-start}

@@ -1,4 +1,4 @@
-use Rattle.std.proofs.Common.{◌++◌, ◌∷◌, [], ◌∙◌, List, ap, slice_index_or, sym, subst, take}
+use Rattle.std.proofs.Common.{◌++◌, ◌∙◌, List, ap, slice_index_or, sym, subst, take}
 use Rattle.std.proofs.lemmas.List.{take_more}
 use Rattle.std.proofs.lemmas.List.Elements.{All-from_recursion}
 use Rattle.kt_tree.specs.Tree.{policy_loss}

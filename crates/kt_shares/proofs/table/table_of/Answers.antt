@@ -1,4 +1,4 @@
-use Rattle.std.proofs.Common.{◌∙◌, List, Vec, Global, ℕ, map, sym, subst}
+use Rattle.std.proofs.Common.{List, Vec, Global, ℕ, map, sym, subst}
 use Rattle.kt_shares.specs.Taken.{AreIdLanes}
 use Rattle.kt_shares.proofs.IdLemmas.{ids-losses}
 use Rattle.kt_shares.proofs.TableLemmas.{table-are}

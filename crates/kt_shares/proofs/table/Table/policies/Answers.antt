@@ -1,4 +1,4 @@
-use Rattle.std.proofs.Common.{◌≡◌, ◌<◌, ◌∙◌, List, length, map, slice_index, ap, sym, subst, arith}
+use Rattle.std.proofs.Common.{◌∙◌, length, map, slice_index, ap, sym, subst, arith}
 use Rattle.std.specs.Prelude.{All}
 use Rattle.std.proofs.lemmas.List.{get_or_read}
 use Rattle.kt_shares.specs.Row.{Shared}
