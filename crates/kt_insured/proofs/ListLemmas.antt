@@ -1,11 +1,10 @@
 -- Lists that are looked up, and lists behind each other.
-use Rattle.std.proofs.Common.{◌≡◌, ℕ, zero, suc, ◌+◌, ◌-◌, ◌<◌, ◌≤◌, Bool, true, false, cond, List, [], ◌∷◌, ◌++◌, Option, Some, None, length, map, take, drop, slice_index, slice_index_or, refl, sym, ap, ◌∙◌, arith, add-one, append_assoc, append-nil, drop-cons, ◌*◌}
+use Rattle.std.proofs.Common.{◌≡◌, ℕ, zero, suc, ◌+◌, ◌-◌, ◌<◌, ◌≤◌, Bool, true, false, cond, List, [], ◌∷◌, ◌++◌, Option, Some, None, length, map, take, drop, slice_index, slice_index_or, refl, sym, ap, ◌∙◌, arith, add-one, append_assoc, append-nil, drop-cons}
 use Rattle.std.specs.Prelude.{unwrap_or}
-use Rattle.std.specs.List.{cons_option, filter_map, range_with_len, sum_by, zip}
+use Rattle.std.specs.List.{cons_option, filter_map, range_with_len, zip}
 use Rattle.std.specs.Map.{lookup}
 use Rattle.std.specs.Option.{option_or}
 use Rattle.std.proofs.lemmas.List.{map-append, take_more}
-use Rattle.std.proofs.lemmas.List.Sums.{sum_by-cons}
 use Rattle.kt_shares.specs.RowLaws.{made-more}
 
 -- ---- lookups
@@ -88,14 +87,6 @@ pushed-more f xs old now next i d below now_is next_is =
     ∙ (append_assoc old (map f (take i xs)) (f (slice_index_or xs i d) ∷ [])
     ∙ ap (λ made. old ++ made) (sym (ap (map f) (take_more xs i d below) ∙ map-append f (take i xs) (slice_index_or xs i d ∷ [])))))
 
--- numbers of a range, added
-pub summed-more : (f : ℕ → ℕ) (a n : ℕ) → sum_by f (range_with_len a (n + 1)) ≡ sum_by f (range_with_len a n) + f (a + n)
-summed-more f a n = ap (λ m. sum_by f (range_with_len a m)) (add-one n) ∙ from a n
-  where
-    from : (a n : ℕ) → sum_by f (range_with_len a (suc n)) ≡ sum_by f (range_with_len a n) + f (a + n)
-    from a zero = let e : a + 0 ≡ a = omega arith in omega (arith, sum_by-cons f a [], ap f e)
-    from a (suc n) = let e : a + 1 + n ≡ a + suc n = omega arith in omega (arith, sum_by-cons f a (range_with_len (a + 1) (suc n)), sum_by-cons f a (range_with_len (a + 1) n), from (a + 1) n, ap f e)
-
 -- what is left of a list at a place in it
 pub left-at : {X : Type 0} (xs : List X) (place : ℕ) (d : X) → place < length xs → drop place xs ≡ slice_index_or xs place d ∷ drop (place + 1) xs
 left-at xs place d below = rw (add-one, drop-cons xs place d) refl
@@ -113,8 +104,3 @@ made-push f xs now next i d y below now_is found next_is = made-more f xs now ne
 
 pub made-skip : {X Y : Type 0} (f : X → Option Y) (xs : List X) (now : List Y) (i : ℕ) (d : X) → i < length xs → now ≡ filter_map f (take i xs) → f (slice_index_or xs i d) ≡ None → now ≡ filter_map f (take (i + 1) xs)
 made-skip f xs now i d below now_is none = made-more f xs now now i d below now_is (sym (append-nil now) ∙ ap (λ one. now ++ cons_option one []) (sym none))
-
--- numbers of a range that are each at most 10^16
-pub summed-few : (f : ℕ → ℕ) (a n : ℕ) → ((k : ℕ) → a ≤ k → k < a + n → f k ≤ 10000000000000000) → sum_by f (range_with_len a n) ≤ n * 10000000000000000
-summed-few f a zero few = omega arith
-summed-few f a (suc n) few = omega (arith, sum_by-cons f a (range_with_len (a + 1) n), few a (omega arith) (omega arith), summed-few f (a + 1) n (λ k low high. few k (omega arith) (omega arith)))

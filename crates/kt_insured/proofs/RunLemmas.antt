@@ -1,5 +1,5 @@
 -- The insured losses of a run, from its table.
-use Rattle.std.proofs.Common.{◌≡◌, ℕ, ◌<◌, ◌≤◌, List, length, map, ap, ◌∙◌, arith}
+use Rattle.std.proofs.Common.{◌≡◌, ℕ, ◌<◌, List, length, map, ap, ◌∙◌}
 use Rattle.std.specs.Prelude.{All}
 use Rattle.std.specs.List.{AllByRecursion, filter_map}
 use Rattle.kt_stream.specs.declared.entry.LossRecord.{LossRecord}
@@ -10,9 +10,7 @@ use Rattle.kt_fmtree.specs.Parts.{Parts, IsProgramme}
 use Rattle.kt_shares.specs.Layers.{key_of}
 use Rattle.kt_shares.specs.Row.{Shared}
 use Rattle.kt_shares.specs.Shares.{layers_of}
-use Rattle.kt_shares.specs.Table.{table_for}
-use Rattle.kt_shares.specs.TableLaws.{table-length}
-use Rattle.kt_insured.specs.Bounds.{HasAmounts}
+use Rattle.kt_shares.specs.Table.{HasAmounts, table_for}
 use Rattle.kt_insured.specs.Insured.{insured_records, layer_sums}
 use Rattle.kt_insured.specs.Layout.{IsLayout, Laid}
 use Rattle.kt_insured.specs.Table.{record_in, sums_in}
@@ -21,16 +19,12 @@ use Rattle.kt_insured.specs.declared.layout.Outlet.{Outlet}
 use Rattle.kt_insured.specs.declared.sums.LayerSum.{LayerSum}
 use Rattle.kt_insured.proofs.TableLemmas.{amounts-within, places-within, records-are, sums-are}
 
-module _ (tree : Tree) (parts : Parts) (is : IsProgramme tree parts) (outputs : List FmXref) (layout : Laid) (laid : IsLayout tree outputs parts layout) (samples : ℕ) (records : List LossRecord) (within : AreWithin records) (rule : ℕ) (rule_is : rule ≡ layout.rule) (layers : List TopLayer) (layers_are : layers ≡ layout.layers) (items table : List Shared) (items_are : items ≡ table_for tree rule samples records (map key_of layers)) (table_is : table ≡ items) where
+module _ (tree : Tree) (parts : Parts) (is : IsProgramme tree parts) (outputs : List FmXref) (layout : Laid) (laid : IsLayout tree outputs parts layout) (samples : ℕ) (records : List LossRecord) (within : AreWithin records) (rule : ℕ) (rule_is : rule ≡ layout.rule) (layers : List TopLayer) (layers_are : layers ≡ layout.layers) (table : List Shared) (table_is : table ≡ table_for tree rule samples records (map key_of layers)) where
   keys-are : map key_of layers ≡ layers_of tree
   keys-are = ap (map key_of) layers_are ∙ laid.layers_are
 
   full : table ≡ table_for tree layout.rule samples records (layers_of tree)
-  full = table_is ∙ (items_are ∙ (ap (λ rule. table_for tree rule samples records (map key_of layers)) rule_is ∙ ap (table_for tree layout.rule samples records) keys-are))
-
-  -- there is a row for the mean and one for each sample
-  pub run-rows : samples ≤ 1000 → (1 ≤ length table) × (length table ≤ 1001)
-  run-rows few = let long = table-length tree layout.rule samples records (layers_of tree) table full in (omega arith, omega arith)
+  full = table_is ∙ (ap (λ rule. table_for tree rule samples records (map key_of layers)) rule_is ∙ ap (table_for tree layout.rule samples records) keys-are)
 
   -- each output has its place in each row
   pub run-places : (outlets : List Outlet) → outlets ≡ layout.outlets → AllByRecursion (λ outlet. All (λ row. outlet.place < length row.shares) table) outlets

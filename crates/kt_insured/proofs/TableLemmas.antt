@@ -1,5 +1,5 @@
 -- The rows of all sidx, and what they give for outputs and layers.
-use Rattle.std.proofs.Common.{◌≡◌, ℕ, suc, ◌+◌, ◌-◌, ◌<◌, ◌≤◌, ◌^◌, ℤ, pos, List, [], ◌∷◌, Option, Some, None, length, map, slice_index, slice_index_or, refl, sym, ap, subst, ◌∙◌, arith}
+use Rattle.std.proofs.Common.{◌≡◌, ℕ, suc, ◌+◌, ◌-◌, ◌<◌, ℤ, pos, List, [], ◌∷◌, Option, Some, None, length, map, slice_index, slice_index_or, refl, sym, ap, subst, ◌∙◌, arith}
 use Rattle.std.specs.Prelude.{All, option_map, unwrap_or}
 use Rattle.std.specs.List.{AllByRecursion, cons_option, filter_map, range_with_len, sum, sum_by}
 use Rattle.std.proofs.lemmas.List.{get_or-map, length-map}
@@ -16,36 +16,16 @@ use Rattle.kt_shares.specs.Row.{Shared, row_for}
 use Rattle.kt_shares.specs.RowLaws.{each-range, filter_map-agree, rows-are, sample-place}
 use Rattle.kt_shares.specs.Shares.{insured_range, layers_of, record_with, sample_range, shares, taken_loss}
 use Rattle.kt_shares.specs.SharesLaws.{policy-le, shares-sum, taken-few}
-use Rattle.kt_shares.specs.Table.{pairs_by_row, row_at, row_place, table_for}
+use Rattle.kt_shares.specs.Table.{HasAmounts, pairs_by_row, row_at, row_place, sampled_sum, table_for}
 use Rattle.kt_shares.specs.TableLaws.{each-row, row-is, table-length}
-use Rattle.kt_insured.specs.Bounds.{HasAmounts}
 use Rattle.kt_insured.specs.Insured.{in_order, insured_records, layer_sum, layer_sums, output_loss, output_record, sum_with}
 use Rattle.kt_insured.specs.Layout.{keys, outlet_of, place_in}
-use Rattle.kt_insured.specs.Table.{pairs_in, record_in, sampled_sum, sum_in, sums_in}
+use Rattle.kt_insured.specs.Table.{pairs_in, record_in, sum_in, sums_in}
 use Rattle.kt_shares.specs.declared.layers.TopLayer.{TopLayer}
 use Rattle.kt_insured.specs.declared.layout.Outlet.{Outlet}
-use Rattle.kt_insured.proofs.ListLemmas.{filter_map-twice, place-none, place-some, followed, summed-few, summed-more}
+use Rattle.kt_insured.proofs.ListLemmas.{filter_map-twice, place-none, place-some, followed}
 use Rattle.kt_insured.proofs.OutputLemmas.{length-row, output-is}
 use Rattle.kt_insured.proofs.SumLemmas.{sum_by-mapped}
-
--- ---- amounts of the samples, added row by row
-
-module _ (amount : Shared → ℕ) (table : List Shared) (row sum more : ℕ) (some : 1 ≤ row) (so_far : sum ≡ sum_by (λ k. amount (row_at table k)) (range_with_len 1 (row - 1))) (more_is : more ≡ amount (row_at table row)) where
-  -- one more row
-  pub sampled-more : sum + more ≡ sum_by (λ k. amount (row_at table k)) (range_with_len 1 (row + 1 - 1))
-  sampled-more =
-      let here : row + 1 - 1 ≡ row - 1 + 1 = omega arith in
-      let last : 1 + (row - 1) ≡ row = omega arith in
-      omega (arith, so_far, more_is, ap (λ n. sum_by (λ k. amount (row_at table k)) (range_with_len 1 n)) here, summed-more (λ k. amount (row_at table k)) 1 (row - 1), ap (λ n. amount (row_at table n)) last)
-
-  -- it fits
-  pub sampled-fits : length table ≤ 1001 → row < length table → ((k : ℕ) → k < length table → amount (row_at table k) ≤ 10000000000000000) → sum + more < 2 ^ 64
-  sampled-fits rows below few =
-      omega (arith, so_far, more_is, few row below, summed-few (λ k. amount (row_at table k)) 1 (row - 1) (λ k low high. few k (omega arith)))
-
--- all rows of the samples
-pub sampled-all : (amount : Shared → ℕ) (table : List Shared) (row sum : ℕ) → 1 ≤ length table → row ≤ length table → length table ≤ row → sum ≡ sum_by (λ k. amount (row_at table k)) (range_with_len 1 (row - 1)) → sum ≡ sampled_sum amount table
-sampled-all amount table row sum some most least so_far = let same : row ≡ length table = omega arith in so_far ∙ ap (λ n. sum_by (λ k. amount (row_at table k)) (range_with_len 1 (n - 1))) same
 
 -- ---- the table of a run
 

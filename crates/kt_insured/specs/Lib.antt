@@ -3,5 +3,4 @@ pub mod Layout
 pub mod Index
 pub mod Table
 pub mod Whole
-pub mod Bounds
 pub mod Examples

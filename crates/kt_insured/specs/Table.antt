@@ -1,12 +1,12 @@
 -- What outputs and layers have in the rows of all sidx.
 -- The rule: docs/FINANCIAL_MODULE.md, "Insured losses".
-use Rattle.std.specs.Prelude.{ℕ, ◌+◌, ◌-◌, List, [], ◌∷◌, length, Option, slice_index}
-use Rattle.std.specs.List.{cons_option, range_with_len, sum_by}
+use Rattle.std.specs.Prelude.{ℕ, ◌+◌, List, [], ◌∷◌, length, Option, slice_index}
+use Rattle.std.specs.List.{cons_option}
 use Rattle.kt_stream.specs.declared.entry.LossRecord.{LossRecord}
 use Rattle.kt_stream.specs.declared.entry.Pair.{Pair}
 use Rattle.kt_shares.specs.Row.{Shared}
 use Rattle.kt_shares.specs.Shares.{record_with}
-use Rattle.kt_shares.specs.Table.{pairs_by_row, row_at}
+use Rattle.kt_shares.specs.Table.{pairs_by_row, row_at, sampled_sum}
 use Rattle.kt_shares.specs.declared.layers.TopLayer.{TopLayer}
 use Rattle.kt_insured.specs.Insured.{sum_with}
 use Rattle.kt_insured.specs.declared.layout.Outlet.{Outlet}
@@ -19,10 +19,6 @@ pairs_in table place = pairs_by_row (λ row. slice_index (row_at table row).shar
 -- the record of an output in a table
 abbrev pub record_in : ℕ → List Shared → Outlet → Option LossRecord
 record_in event table outlet = record_with event outlet.id (pairs_in table outlet.place)
-
--- amounts of the samples added
-abbrev pub sampled_sum : (Shared → ℕ) → List Shared → ℕ
-sampled_sum amount table = sum_by (λ row. amount (row_at table row)) (range_with_len 1 (length table - 1))
 
 -- the sum of the layer in a place
 abbrev pub sum_in : ℕ → List Shared → TopLayer → ℕ → Option LayerSum

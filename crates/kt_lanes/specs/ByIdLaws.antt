@@ -34,15 +34,15 @@ module _ (width place : ℕ) (lanes : List (Vec ℕ Global)) (wide : AreWide wid
 -- ---- more for one id
 
 -- what is added in a place fits
-pub found-fits : (width place : ℕ) (found : List (Vec ℕ Global)) (lane : List ℕ) (before : Vec ℕ Global) → AreWide width found → place < length found → before ≡ slice_index_or found place before → ((k : ℕ) → k < width → slice_index (column k found) place + slice_index lane k ≤ 10 ^ 17) → (k : ℕ) → k < length before.items → slice_index before.items k + slice_index lane k ≤ 10 ^ 17
-found-fits width place found lane before wide inside before_is few k below =
+pub found-fits : (width place : ℕ) (found : List (Vec ℕ Global)) (more : ℕ → ℕ) (before : Vec ℕ Global) → AreWide width found → place < length found → before ≡ slice_index_or found place before → ((k : ℕ) → k < width → slice_index (column k found) place + more k < 2 ^ 64) → (k : ℕ) → k < length before.items → slice_index before.items k + more k < 2 ^ 64
+found-fits width place found more before wide inside before_is few k below =
     let long : length before.items ≡ width = ap (λ (one : Vec ℕ Global). length one.items) before_is ∙ wide place before inside in
     let same : slice_index before.items k ≡ slice_index (column k found) place = ap (λ (one : Vec ℕ Global). slice_index one.items k) before_is ∙ sym (column-at k place found before inside) in
     omega (arith, same, few k (omega (arith, below, long)))
 
 -- an id that is found has more
-pub more-found : (ids : List ℕ) → IsRising ids → (width place id : ℕ) (found : List (Vec ℕ Global)) (lane : List ℕ) (before now : Vec ℕ Global) → length found ≡ length ids → AreWide width found → place < length ids → slice_index ids place ≡ id → before ≡ slice_index_or found place before → IsLane (length before.items) (λ k. slice_index before.items k + slice_index lane k) now.items → (all : List (Vec ℕ Global)) → all ≡ slice_set found place now → AreLanes width (length ids) (λ k. with_more ids (column k found) id (slice_index lane k)) all
-more-found ids rises width place id found lane before now same wide below here before_is now_is all all_is =
+pub more-found : (ids : List ℕ) → IsRising ids → (width place id : ℕ) (found : List (Vec ℕ Global)) (more : ℕ → ℕ) (before now : Vec ℕ Global) → length found ≡ length ids → AreWide width found → place < length ids → slice_index ids place ≡ id → before ≡ slice_index_or found place before → IsLane (length before.items) (λ k. slice_index before.items k + more k) now.items → (all : List (Vec ℕ Global)) → all ≡ slice_set found place now → AreLanes width (length ids) (λ k. with_more ids (column k found) id (more k)) all
+more-found ids rises width place id found more before now same wide below here before_is now_is all all_is =
     let inside : place < length found = omega (arith, below, same) in
     let long : length before.items ≡ width = ap (λ (one : Vec ℕ Global). length one.items) before_is ∙ wide place before inside in
     record {
@@ -52,8 +52,8 @@ more-found ids rises width place id found lane before now same wide below here b
           let old : slice_index before.items k ≡ slice_index (column k found) place = ap (λ (one : Vec ℕ Global). slice_index one.items k) before_is ∙ sym (column-at k place found before inside) in
           ap (column k) all_is
           ∙ (set-column width place found wide inside now k
-          ∙ (ap (slice_set (column k found) place) (now_is.each k (subst (λ n. k < n) (sym long) less) ∙ ap (λ n. n + slice_index lane k) old)
-          ∙ with-found ids (column k found) id (slice_index lane k) place rises (length-map found (λ (one : Vec ℕ Global). slice_index one.items k) ∙ same) below here));
+          ∙ (ap (slice_set (column k found) place) (now_is.each k (subst (λ n. k < n) (sym long) less) ∙ ap (λ n. n + more k) old)
+          ∙ with-found ids (column k found) id (more k) place rises (length-map found (λ (one : Vec ℕ Global). slice_index one.items k) ∙ same) below here));
     }
 
 -- ---- lanes of parts, one after the other
@@ -64,10 +64,10 @@ module _ (width : ℕ) (units ids : List ℕ) (parts : PlacedLanes) (are : ArePl
     no_part = record { place = 0; amount = 0 }
 
     -- the next lane fits
-    pub lane-fits : ((k : ℕ) → k < width → sum_by (λ part. part.amount) (placed_at k parts) ≤ 10 ^ 17) → (k place : ℕ) → k < width → place < length ids → slice_index (column k found) place + slice_index lane.items k ≤ 10 ^ 17
+    pub lane-fits : ((k : ℕ) → k < width → sum_by (λ part. part.amount) (placed_at k parts) ≤ 10 ^ 17) → (k place : ℕ) → k < width → place < length ids → slice_index (column k found) place + slice_index lane.items k < 2 ^ 64
     lane-fits few k place less within =
-        subst (λ (part : PlacedPart). slice_index (column k found) place + part.amount ≤ 10 ^ 17) (placed-here width parts are at below k no_part lane lane_is)
-        (part-fits units ids (column k found) (placed_at k parts) at no_part (placed-inside width parts are at below k) (few k less) (so_far.each k less) place within)
+        subst (λ (part : PlacedPart). slice_index (column k found) place + part.amount < 2 ^ 64) (placed-here width parts are at below k no_part lane lane_is)
+        (omega (arith, part-fits units ids (column k found) (placed_at k parts) at no_part (placed-inside width parts are at below k) (few k less) (so_far.each k less) place within))
 
     -- the next lane is added
     pub lane-next : (id : ℕ) → id ≡ slice_index units (slice_index parts.places.items at) → (more : List (Vec ℕ Global)) → AreLanes width (length ids) (λ k. with_more ids (column k found) id (slice_index lane.items k)) more → AreLanes width (length ids) (λ k. map (part_of (unit_parts units (take (at + 1) (placed_at k parts)))) ids) more

@@ -4,7 +4,7 @@ use Rattle.std.specs.Prelude.{◌≡◌, ℕ, zero, suc, ◌+◌, ◌-◌, ◌*�
 use Rattle.std.specs.List.{sum}
 use Rattle.std.specs.declared.alloc.Global.{Global}
 use Rattle.std.proofs.Common.{refl, sym, ap, subst, ◌∙◌, arith}
-use Rattle.std.proofs.Math.Nat.{zero-div}
+use Rattle.std.proofs.Math.Nat.{div-zero, mul-div_cancel, zero-div}
 use Rattle.std.proofs.lemmas.List.{length-map, take_more, take_all, take-map}
 use Rattle.std.proofs.lemmas.List.Sums.{sum_by-cons}
 use Rattle.kt_money.specs.Sharing.{share_to, share_of, shares_after, share_out}
@@ -42,6 +42,11 @@ only-share total (w ∷ []) one few =
     let same : total ≡ share = omega (arith, all, sum_by-cons (λ (n : ℕ). n) share []) in
     ap (λ n. n ∷ []) same
 
+-- all weights together are due the whole
+whole-due : (total weights : ℕ) → total ≤ weights → total ≡ share_to total weights weights
+whole-due total zero few = let none : total ≡ 0 = omega arith in none ∙ sym (div-zero (total * zero))
+whole-due total (suc n) few = sym (mul-div_cancel total {n = suc n} (omega arith))
+
 -- ---- lanes
 
 module _ (width : ℕ) (totals : List ℕ) (long : length totals ≡ width) (children : List (Vec ℕ Global)) where
@@ -72,6 +77,12 @@ module _ (width : ℕ) (totals : List ℕ) (long : length totals ≡ width) (chi
       none : (total weights : ℕ) → share_to total weights 0 ≡ 0
       none total weights = let e : total * 0 ≡ 0 = omega arith in ap (λ n. n / weights) e ∙ zero-div weights
 
+  -- all children have their shares
+  pub sharing-ends : (at : ℕ) (upto paid : List ℕ) (shares : List (Vec ℕ Global)) → at ≡ length children → AreSharing width totals children at upto paid shares → AreLanes width (length children) (λ k. share_out (slice_index totals k) (column k children)) shares
+  sharing-ends at upto paid shares at_is so_far =
+      lanes-are width at (length children) (λ k. take at (share_out (slice_index totals k) (column k children))) (λ k. share_out (slice_index totals k) (column k children)) shares so_far.shares_are at_is
+      (λ k below. take_all at (share_out (slice_index totals k) (column k children)) (omega (arith, at_is, shares-length (slice_index totals k) (sum (column k children)) 0 (column k children), length-map children (λ (lane : Vec ℕ Global). slice_index lane.items k))))
+
   module _ (wide : AreWide width children) (few : (k : ℕ) → k < width → sum (column k children) ≤ 10 ^ 16) (backed : (k : ℕ) → k < width → slice_index totals k ≤ sum (column k children)) (weights : List ℕ) (weights_are : IsLane width (λ k. sum (column k children)) weights) (at : ℕ) (child : Vec ℕ Global) (inside : at < length children) (child_is : child ≡ slice_index_or children at child) (upto paid : List ℕ) (shares : List (Vec ℕ Global)) (so_far : AreSharing width totals children at upto paid shares) where
     child-wide : length child.items ≡ width
     child-wide = ap (λ (one : Vec ℕ Global). length one.items) child_is ∙ wide at child inside
@@ -80,7 +91,7 @@ module _ (width : ℕ) (totals : List ℕ) (long : length totals ≡ width) (chi
     more k = column-sum-more k at children child inside ∙ ap (λ (one : Vec ℕ Global). sum (column k (take at children)) + slice_index one.items k) (sym child_is)
 
     -- its lane can be added
-    pub can-add : (k : ℕ) → k < length upto → slice_index upto k + slice_index child.items k ≤ 10 ^ 17
+    pub can-add : (k : ℕ) → k < length upto → slice_index upto k + slice_index child.items k < 2 ^ 64
     can-add k below =
         let inside : k < width = omega (arith, below, so_far.upto_is.wide) in
         omega (arith, so_far.upto_is.each k inside, more k, column-sum-le k (at + 1) children, few k inside)
@@ -149,8 +160,30 @@ module _ (width : ℕ) (totals : List ℕ) (long : length totals ≡ width) (chi
               ∙ shares-more total (column k children) at (omega (arith, inside, length-map children (λ (lane : Vec ℕ Global). slice_index lane.items k))));
         }
 
-  -- all children have their shares
-  pub sharing-ends : (at : ℕ) (upto paid : List ℕ) (shares : List (Vec ℕ Global)) → at ≡ length children → AreSharing width totals children at upto paid shares → AreLanes width (length children) (λ k. share_out (slice_index totals k) (column k children)) shares
-  sharing-ends at upto paid shares at_is so_far =
-      lanes-are width at (length children) (λ k. take at (share_out (slice_index totals k) (column k children))) (λ k. share_out (slice_index totals k) (column k children)) shares so_far.shares_are at_is
-      (λ k below. take_all at (share_out (slice_index totals k) (column k children)) (omega (arith, at_is, shares-length (slice_index totals k) (sum (column k children)) 0 (column k children), length-map children (λ (lane : Vec ℕ Global). slice_index lane.items k))))
+    -- the last child has what is left of the totals
+    module _ (last : at + 1 ≡ length children) where
+      all-are : IsLane (length upto) (λ k. slice_index upto k + slice_index child.items k) weights
+      all-are = record {
+        wide = weights_are.wide ∙ sym so_far.upto_is.wide;
+        each = λ k below.
+            let inside : k < width = omega (arith, below, so_far.upto_is.wide) in
+            let all : sum (column k (take (at + 1) children)) ≡ sum (column k children) = ap (λ lanes. sum (column k lanes)) (take_all (at + 1) children (omega (arith, last))) in
+            omega (arith, weights_are.each k inside, so_far.upto_is.each k inside, more k, all);
+      }
+
+      whole-part : IsLane (length totals) (λ k. share_to (slice_index totals k) (slice_index weights k) (slice_index weights k)) totals
+      whole-part = record {
+        wide = refl;
+        each = λ k below.
+            let inside : k < width = omega (arith, below, long) in
+            whole-due (slice_index totals k) (slice_index weights k) (omega (arith, backed k inside, weights_are.each k inside));
+      }
+
+      pub last-same : length totals ≡ length paid
+      last-same = due-same weights all-are totals whole-part
+
+      pub last-enough : (k : ℕ) → k < length paid → slice_index paid k ≤ slice_index totals k
+      last-enough = due-enough weights all-are totals whole-part
+
+      pub sharing-last : (share : Vec ℕ Global) (shares_now : List (Vec ℕ Global)) → IsLane (length paid) (λ k. slice_index totals k - slice_index paid k) share.items → shares_now ≡ shares ++ share ∷ [] → AreLanes width (length children) (λ k. share_out (slice_index totals k) (column k children)) shares_now
+      sharing-last share shares_now share_is shares_are = sharing-ends (at + 1) weights totals shares_now last (sharing-goes weights all-are totals whole-part share shares_now share_is shares_are)

@@ -21,7 +21,7 @@ fn add_at(ids: &[u32], found: &mut Vec<Vec<u64>>, place: usize, id: u32, lane: &
     requires rising { IsRising ids.now }
     requires same { length found.old.items ≡ length ids.now }
     requires wide { AreWide (length lane.now) found.old.items }
-    requires few { (k place : ℕ) → k < length lane.now → place < length ids.now → slice_index (column k found.old.items) place + slice_index lane.now k ≤ 10 ^ 17 }
+    requires few { (k place : ℕ) → k < length lane.now → place < length ids.now → slice_index (column k found.old.items) place + slice_index lane.now k < 2 ^ 64 }
     requires within { place < length ids.now }
     requires here { slice_index ids.now place ≡ id }
     ensures value { AreLanes (length lane.now) (length ids.now) (λ k. with_more ids.now (column k found.old.items) id (slice_index lane.now k)) found.new.items }
@@ -35,7 +35,7 @@ fn add_by_id(ids: &[u32], found: &mut Vec<Vec<u64>>, near: usize, id: u32, lane:
     requires rising { IsRising ids.now }
     requires same { length found.old.items ≡ length ids.now }
     requires wide { AreWide (length lane.now) found.old.items }
-    requires few { (k place : ℕ) → k < length lane.now → place < length ids.now → slice_index (column k found.old.items) place + slice_index lane.now k ≤ 10 ^ 17 }
+    requires few { (k place : ℕ) → k < length lane.now → place < length ids.now → slice_index (column k found.old.items) place + slice_index lane.now k < 2 ^ 64 }
     ensures value { AreLanes (length lane.now) (length ids.now) (λ k. with_more ids.now (column k found.old.items) id (slice_index lane.now k)) found.new.items }
 {
     if near < ids.len() && ids[near] == id {

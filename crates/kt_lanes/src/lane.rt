@@ -22,7 +22,7 @@ pub fn copy_of(alloc: Global, lane: &[u64]) -> Result<Vec<u64>, AllocError>
 /// Adds the amounts of a lane to those of another, in cents.
 fn add_to(lane: &mut [u64], more: &[u64])
     requires same { length more.now ≡ length lane.old }
-    requires few { (k : ℕ) → k < length lane.old → slice_index lane.old k + slice_index more.now k ≤ 10 ^ 17 }
+    requires few { (k : ℕ) → k < length lane.old → slice_index lane.old k + slice_index more.now k < 2 ^ 64 }
     ensures value { IsLane (length lane.old) (λ k. slice_index lane.old k + slice_index more.now k) lane.new }
 {
     for k in 0..lane.len() {
@@ -33,7 +33,7 @@ fn add_to(lane: &mut [u64], more: &[u64])
 /// Adds the amounts of a lane to those of another, in cents.
 pub fn add_lane(lane: &mut Vec<u64>, more: &[u64])
     requires same { length more.now ≡ length lane.old.items }
-    requires few { (k : ℕ) → k < length lane.old.items → slice_index lane.old.items k + slice_index more.now k ≤ 10 ^ 17 }
+    requires few { (k : ℕ) → k < length lane.old.items → slice_index lane.old.items k + slice_index more.now k < 2 ^ 64 }
     ensures value { IsLane (length lane.old.items) (λ k. slice_index lane.old.items k + slice_index more.now k) lane.new.items }
 {
     add_to(lane, more);

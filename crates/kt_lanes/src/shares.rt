@@ -59,8 +59,8 @@ fn whole_lane(alloc: Global, totals: &[u64]) -> Result<Vec<Vec<u64>>, AllocError
     Ok(shares)
 }
 
-/// Totals in cents, shared out over the lanes of children, sidx by sidx. No total is above what the children have in all. An
-/// error is want of memory.
+/// Totals in cents, shared out over the lanes of children, sidx by sidx. No total is above what the children have in all, so the
+/// last child has what the others leave. An error is want of memory.
 pub(crate) fn share_lanes(
     alloc: Global,
     width: usize,
@@ -73,6 +73,9 @@ pub(crate) fn share_lanes(
     requires backed { (k : ℕ) → k < width → slice_index totals.now k ≤ sum (column k children.now) }
     ensures value { IfOk result (λ shares. AreLanes width (length children.now) (λ k. share_out (slice_index totals.now k) (column k children.now)) shares.items) }
 {
+    if children.is_empty() {
+        return Ok(Vec::new(alloc));
+    }
     if children.len() == 1 {
         let shares = whole_lane(alloc, totals)?;
         return Ok(shares);
@@ -81,11 +84,13 @@ pub(crate) fn share_lanes(
     let mut upto = zeros(alloc, width)?;
     let mut paid = zeros(alloc, width)?;
     let mut shares = Vec::with_capacity(alloc, children.len())?;
-    for child in children {
-        add_lane(&mut upto, child);
+    let last = children.len() - 1;
+    for at in 0..last {
+        add_lane(&mut upto, &children[at]);
         let due = parts_to(alloc, totals, &weights, &upto)?;
         shares.push(left_to_pay(&due, paid))?;
         paid = due;
     }
+    shares.push(left_to_pay(totals, paid))?;
     Ok(shares)
 }

@@ -1,11 +1,11 @@
 -- What the places of ids have of a row of shares is what the ids cede.
-use Rattle.std.proofs.Common.{◌≡◌, ℕ, suc, ◌+◌, ◌<◌, ◌≤◌, ◌^◌, Bool, true, false, cond, nat_eq, List, [], ◌∷◌, ◌++◌, ◌⊎◌, inl, inr, length, map, slice_index, slice_index_or, slice_set, take, refl, sym, ap, subst, ◌∙◌, arith}
+use Rattle.std.proofs.Common.{◌≡◌, ℕ, zero, suc, ◌+◌, ◌<◌, ◌≤◌, ◌^◌, Bool, true, false, cond, nat_eq, List, [], ◌∷◌, ◌++◌, ◌⊎◌, inl, inr, Vec, Global, replicate, length, map, slice_index, slice_index_or, slice_set, take, refl, sym, ap, subst, ◌∙◌, arith}
 use Rattle.std.specs.Prelude.{All, unwrap_or, Some}
 use Rattle.std.specs.Cmp.{nat_eq_equiv}
 use Rattle.std.specs.List.{AllByRecursion, IsDistinct, flat_map, filter, list_any, sum, sum_by, zip}
 use Rattle.std.specs.Map.{lookup}
 use Rattle.std.proofs.lemmas.Bool.{eqb-true}
-use Rattle.std.proofs.lemmas.List.{length-append, length-map, take_all}
+use Rattle.std.proofs.lemmas.List.{get_or-map, length-append, length-map, length-set, take_all}
 use Rattle.std.proofs.lemmas.List.Elements.{recursion_from_All}
 use Rattle.std.proofs.lemmas.List.Sums.{sum_by-append, sum_by-cons, sum_by-take-le, sum_by_more}
 use Rattle.std.proofs.lemmas.Slice.Zip.{get_or-zip}
@@ -22,13 +22,16 @@ use Rattle.kt_fmtree.specs.PartsLaws.{beneath-are}
 use Rattle.kt_shares.specs.Layers.{IsTopLayer, key_of}
 use Rattle.kt_shares.specs.HoldsLaws.{holds-more}
 use Rattle.kt_shares.specs.LookupLaws.{same-place, zip-append}
-use Rattle.kt_shares.specs.Row.{Shared, row_for}
+use Rattle.kt_lanes.specs.ByIdLaws.{set-column, set-wide}
+use Rattle.kt_lanes.specs.LaneLaws.{column-at}
+use Rattle.kt_lanes.specs.Lanes.{AreLanes, AreWide, IsLane, column}
+use Rattle.kt_shares.specs.Row.{Shared, no_shares, row_for}
 use Rattle.kt_shares.specs.Shares.{layers_of, part_of_id, shares, taken_loss}
 use Rattle.kt_shares.specs.SharesLaws.{length-allocated, taken-few}
 use Rattle.kt_shares.specs.Table.{row_at, row_place, table_for}
 use Rattle.kt_shares.specs.TableLaws.{each-row, row-is, table-length}
 use Rattle.kt_shares.specs.declared.layers.TopLayer.{TopLayer}
-use Rattle.kt_ri.specs.Ceded.{AreRows, HasShares, share_at}
+use Rattle.kt_ri.specs.Ceded.{AreCededShares, AreRows, HasShares, share_at, shares_at}
 use Rattle.kt_ri.specs.Ceding.{AreLayers, ArePlaces, HasFewLayers, owners_of}
 use Rattle.kt_ri.specs.Reinsurance.{ceded_at, ceded_loss}
 use Rattle.kt_ri.proofs.FewLemmas.{ceded-le}
@@ -195,12 +198,68 @@ module _ (width : ℕ) (places shares : List ℕ) (has : HasShares width places 
     each = λ place inside. held.each place inside ∙ ap (sum_by (λ (pair : ℕ × ℕ). cond (nat_eq pair.0 place) pair.1 0)) (take_all k (zip places shares) (omega (arith, length-paired places shares has.many)));
   }
 
--- ---- the rows of a run
+-- ---- lane by lane
 
--- how far the rows have come
-pub record AreCededRows (width : ℕ) (places : List ℕ) (table : List Shared) (count : ℕ) (rows : List (List ℕ)) : Type 0 where
-  pub many : length rows ≡ count
-  pub each : (row : ℕ) → row < count → Holds width (share_at places (row_at table row).shares) (slice_index_or rows row [])
+module _ (width : ℕ) (places : List ℕ) (table : List Shared) where
+  -- no share
+  pub ceded-start : (ceded : List (Vec ℕ Global)) → AreLanes (length table) width (λ row. replicate width 0) ceded → AreCededShares width places table 0 ceded
+  ceded-start ceded are = record {
+    count_is = are.count_is;
+    wide = are.wide;
+    each = λ row below. subst (Holds width (λ place. 0)) (sym (are.each row below)) (record { width_is = long width; each = λ place inside. none width place });
+  }
+    where
+      long : (n : ℕ) → length {A = ℕ} (replicate n 0) ≡ n
+      long zero = refl
+      long (suc n) = ap suc (long n)
+
+      none : (n place : ℕ) → slice_index (replicate n 0) place ≡ 0
+      none zero place = refl
+      none (suc n) zero = refl
+      none (suc n) (suc place) = none n place
+
+  module _ (has : All (λ row. HasShares width places row.shares) table) (k : ℕ) (below : k < length places) (ceded : List (Vec ℕ Global)) (so_far : AreCededShares width places table k ceded) (place : ℕ) (place_is : place ≡ slice_index places k) (before : Vec ℕ Global) (before_is : before ≡ slice_index_or ceded place before) (lane : List ℕ) (lane_is : lane ≡ map (λ (row : Shared). slice_index row.shares k) table) where
+    fits-in : (row : ℕ) → row < length table → HasShares width places (row_at table row).shares
+    fits-in row inside = has row no_shares inside
+
+    old : (row : ℕ) → row < length table → place < length ceded → slice_index before.items row ≡ slice_index (column row ceded) place
+    old row inside within = ap (λ (one : Vec ℕ Global). slice_index one.items row) before_is ∙ sym (column-at row place ceded before within)
+
+    more : (row : ℕ) → row < length table → slice_index lane row ≡ slice_index (row_at table row).shares k
+    more row inside = ap (λ all. slice_index all row) lane_is ∙ get_or-map (λ (row : Shared). slice_index row.shares k) table row no_shares 0 inside
+
+    module _ (within : place < length ceded) where
+      pub before-wide : length before.items ≡ length table
+      before-wide = ap (λ (one : Vec ℕ Global). length one.items) before_is ∙ so_far.wide place before within
+
+      -- its lane has as many rows
+      pub lane-wide : length lane ≡ length before.items
+      lane-wide = ap length lane_is ∙ (length-map table (λ (row : Shared). slice_index row.shares k) ∙ sym before-wide)
+
+      -- the next share fits
+      pub lane-fits : (row : ℕ) → row < length before.items → slice_index before.items row + slice_index lane row < 2 ^ 64
+      lane-fits row less =
+          let inside : row < length table = omega (arith, less, before-wide) in
+          let fits = ceded-fits width places (row_at table row).shares (fits-in row inside) k below (column row ceded) (so_far.each row inside) in
+          omega (arith, old row inside within, more row inside, ap (slice_index (column row ceded)) place_is, fits)
+
+      -- with it
+      pub lane-more : (now : Vec ℕ Global) → IsLane (length before.items) (λ row. slice_index before.items row + slice_index lane row) now.items → (all : List (Vec ℕ Global)) → all ≡ slice_set ceded place now → AreCededShares width places table (k + 1) all
+      lane-more now now_is all all_is = record {
+        count_is = ap length all_is ∙ (length-set ceded place now ∙ so_far.count_is);
+        wide = subst (AreWide (length table)) (sym all_is) (set-wide (length table) place ceded so_far.wide within now (now_is.wide ∙ before-wide));
+        each = λ row inside.
+            let set = ceded-set width places (row_at table row).shares (fits-in row inside) k below (column row ceded) (so_far.each row inside) in
+            let amount : slice_index now.items row ≡ slice_index (column row ceded) (slice_index places k) + slice_index (row_at table row).shares k =
+            omega (arith, now_is.each row (omega (arith, inside, before-wide)), old row inside within, more row inside, ap (slice_index (column row ceded)) place_is) in
+            subst (Holds width (shares_at places (row_at table row).shares (k + 1)))
+            (sym (ap (column row) all_is
+            ∙ (set-column (length table) place ceded so_far.wide within now row
+            ∙ (ap (slice_set (column row ceded) place) amount ∙ ap (λ n. slice_set (column row ceded) n (slice_index (column row ceded) (slice_index places k) + slice_index (row_at table row).shares k)) place_is))))
+            set;
+      }
+
+-- ---- the rows of a run
 
 module _ (tree : Tree) (parts : Parts) (is : IsProgramme tree parts) (few : HasFewLayers parts) (ids : List ℕ) (ids_are : ids ≡ parts.ids) (places : List ℕ) (are : ArePlaces parts places) (rule samples : ℕ) (rule_is : (rule ≡ 1) ⊎ (rule ≡ 2)) (records : List LossRecord) (within : AreWithin records) (table : List Shared) (table_is : table ≡ table_for tree rule samples records (layers_of tree)) where
   shared : nat_eq rule 0 ≡ false
@@ -215,20 +274,19 @@ module _ (tree : Tree) (parts : Parts) (is : IsProgramme tree parts) (few : HasF
       subst (λ n. All (λ row. HasShares n places row.shares) table) (ap length (sym ids_are)) (each-row tree rule samples records (layers_of tree) table table_is (λ row. HasShares (length parts.ids) places row.shares)
       (λ row. row-fits tree parts is places are (taken_loss tree records (sidx_at (row_place row))) rule shared few (omega (arith, taken-few tree is.is records (sidx_at (row_place row)), within (sidx_at (row_place row))))))
 
-  module _ (rows : List (List ℕ)) (held : (row : ℕ) → row < length table → Holds (length ids) (share_at places (row_at table row).shares) (slice_index_or rows row [])) where
-    inside : (row : ℕ) → row < samples + 1 → row < length table
-    inside row below = omega (arith, below, table-length tree rule samples records (layers_of tree) table table_is)
+  module _ (ceded : List (Vec ℕ Global)) (held : AreCededShares (length ids) places table (length places) ceded) where
+    long : length table ≡ samples + 1
+    long = table-length tree rule samples records (layers_of tree) table table_is
 
-    -- the sums of the rows are what the ids cede
-    pub run-ceded : (row place : ℕ) → row < samples + 1 → place < length parts.ids → slice_index (slice_index_or rows row []) place ≡ ceded_at tree rule records (slice_index parts.ids place) (sidx_at (row_place row))
+    -- the sums of the shares are what the ids cede
+    pub run-ceded : (row place : ℕ) → row < samples + 1 → place < length parts.ids → slice_index (column row ceded) place ≡ ceded_at tree rule records (slice_index parts.ids place) (sidx_at (row_place row))
     run-ceded row place below here =
-        (held row (inside row below)).each place (subst (λ ids. place < length ids) (sym ids_are) here)
+        let inside : row < length table = omega (arith, below, long) in
+        let own = ceded-all (length ids) places (row_at table row).shares (run-fits row no_shares inside) (length places) (omega arith) (column row ceded) (held.each row inside) in
+        own.each place (subst (λ ids. place < length ids) (sym ids_are) here)
         ∙ (ap (λ (one : Shared). share_at places one.shares place) (row-is tree rule samples records (layers_of tree) table table_is row below)
         ∙ ceded-is tree parts is places are (taken_loss tree records (sidx_at (row_place row))) rule shared place here)
 
-    -- so many of them
-    pub run-rows : length rows ≡ length table → AreRows (length parts.ids) samples rows
-    run-rows many = record {
-      many = many ∙ table-length tree rule samples records (layers_of tree) table table_is;
-      each = λ row below. (held row (inside row below)).width_is ∙ ap length ids_are;
-    }
+    -- a lane for each id
+    pub run-rows : AreRows (length parts.ids) samples ceded
+    run-rows = record { many = held.count_is ∙ ap length ids_are; each = subst (λ n. AreWide n ceded) long held.wide }

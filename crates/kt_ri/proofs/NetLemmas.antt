@@ -1,5 +1,5 @@
 -- What is left of the records of a run, record by record.
-use Rattle.std.proofs.Common.{◌≡◌, ℕ, ◌+◌, ◌-◌, ◌<◌, ◌≤◌, ◌||◌, Bool, true, false, cond, nat_eq, ℤ, List, [], ◌∷◌, Option, Some, None, length, map, refl, sym, ap, subst, ◌∙◌, arith}
+use Rattle.std.proofs.Common.{◌≡◌, ℕ, ◌+◌, ◌-◌, ◌<◌, ◌≤◌, ◌||◌, Bool, true, false, cond, nat_eq, ℤ, List, [], ◌∷◌, Vec, Global, Option, Some, None, length, map, refl, sym, ap, subst, ◌∙◌, arith}
 use Rattle.std.specs.Prelude.{All, unwrap_or}
 use Rattle.std.specs.List.{AllByRecursion, cons_option, filter, filter_map, list_any, sum_by}
 use Rattle.std.proofs.lemmas.List.Elements.{All-from_recursion, recursion_from_All}
@@ -26,10 +26,10 @@ use Rattle.kt_ri.specs.Reinsurance.{ceded_at, ceded_loss, net_record, net_record
 
 -- ---- places
 
--- the place of an id is in each row
-pub place-inside : (ids : List ℕ) (id samples : ℕ) (rows : List (List ℕ)) → AreRows (length ids) samples rows → (place : Option ℕ) → IsPlaceOf ids id place → (row : ℕ) → row < samples + 1 → IsPlaceIn rows place row
-place-inside ids id samples rows are None is row below = tt
-place-inside ids id samples rows are (Some place) is row below = (omega (arith, are.many), subst (λ n. place < n) (sym (are.each row below)) is.0)
+-- the place of an id has a lane
+pub place-inside : (ids : List ℕ) (id samples : ℕ) (ceded : List (Vec ℕ Global)) → AreRows (length ids) samples ceded → (place : Option ℕ) → IsPlaceOf ids id place → IsPlaceIn ceded place
+place-inside ids id samples ceded are None is = tt
+place-inside ids id samples ceded are (Some place) is = omega (arith, is.0, are.many)
 
 -- an id that is not one of the programme's is beneath no top
 filter-none : (test : ℕ → Bool) (id : ℕ) (ids : List ℕ) → list_any (nat_eq id) ids ≡ false → list_any (nat_eq id) (filter test ids) ≡ false
@@ -56,15 +56,15 @@ ceded-none tree losses rule id none = over (layers_of tree)
         )
 
 -- what stands at the place of an id is what it cedes
-module _ (tree : Tree) (parts : Parts) (is : IsProgramme tree parts) (rule samples : ℕ) (records : List LossRecord) (rows : List (List ℕ)) (are : AreCeded parts rule samples records rows) (id : ℕ) where
-  ceded-at : (place : Option ℕ) → IsPlaceOf parts.ids id place → (row : ℕ) → row < samples + 1 → ceded_in rows place row ≡ ceded_at tree rule records id (sidx_at (row_place row))
+module _ (tree : Tree) (parts : Parts) (is : IsProgramme tree parts) (rule samples : ℕ) (records : List LossRecord) (ceded : List (Vec ℕ Global)) (are : AreCeded parts rule samples records ceded) (id : ℕ) where
+  ceded-at : (place : Option ℕ) → IsPlaceOf parts.ids id place → (row : ℕ) → row < samples + 1 → ceded_in ceded place row ≡ ceded_at tree rule records id (sidx_at (row_place row))
   ceded-at None none row below = sym (ceded-none tree _ rule id (subst (λ ids. list_any (nat_eq id) ids ≡ false) is.ids_are none))
   ceded-at (Some place) found row below = are tree is row place below found.0 ∙ ap (λ id. ceded_at tree rule records id (sidx_at (row_place row))) found.1
 
   -- the pairs of a record are those of its net losses, or of its ceded ones
-  pub behind-are : (place : Option ℕ) → IsPlaceOf parts.ids id place → (left : Bool) (pairs : List Pair) → pairs_behind left rows samples place pairs ≡ pairs_of (λ sidx. part_behind left (loss_of sidx pairs) (ceded_at tree rule records id sidx)) (insured_range samples)
+  pub behind-are : (place : Option ℕ) → IsPlaceOf parts.ids id place → (left : Bool) (pairs : List Pair) → pairs_behind left ceded samples place pairs ≡ pairs_of (λ sidx. part_behind left (loss_of sidx pairs) (ceded_at tree rule records id sidx)) (insured_range samples)
   behind-are place found left pairs =
-      rows-are samples (λ row. part_behind left (loss_of (sidx_at (row_place row)) pairs) (ceded_in rows place row)) (λ sidx. part_behind left (loss_of sidx pairs) (ceded_at tree rule records id sidx))
+      rows-are samples (λ row. part_behind left (loss_of (sidx_at (row_place row)) pairs) (ceded_in ceded place row)) (λ sidx. part_behind left (loss_of sidx pairs) (ceded_at tree rule records id sidx))
       (λ row below. ap (part_behind left (loss_of (sidx_at (row_place row)) pairs)) (ceded-at place found row below))
 
 -- ---- net losses are records of a stream, and a run

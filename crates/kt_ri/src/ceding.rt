@@ -12,7 +12,7 @@ ghost use Rattle.kt_ri.specs.Ceding.{AreLayers, ArePlaces, HasFewLayers};
 use crate::places::owner_places;
 use kt_fmtree::Programme;
 use kt_runs::RunEntry;
-use kt_shares::{Row, TopLayer, table_of, top_layers};
+use kt_shares::{Table, TopLayer, table_of, top_layers};
 use std::alloc::{AllocError, Global};
 use std::marker::Model;
 
@@ -81,12 +81,12 @@ impl CedingProgramme {
         samples: u32,
         rule: u32,
         records: &[T],
-    ) -> Result<Vec<Row>, AllocError>
+    ) -> Result<Table, AllocError>
         requires samples { samples ≤ 1000 }
         requires rule { rule ≤ 2 }
         requires records { All (IsLoss samples) (map T.entry_of records.now) }
         requires within { AreWithin (map T.entry_of records.now) }
-        ensures value { IfOk result (λ table. (tree : Tree) → IsProgramme tree self.now → table.items ≡ table_for tree rule samples (map T.entry_of records.now) (layers_of tree)) }
+        ensures value { IfOk result (λ table. (tree : Tree) → IsProgramme tree self.now → table ≡ table_for tree rule samples (map T.entry_of records.now) (layers_of tree)) }
     {
         let layers = self.layers();
         let table = table_of(alloc, &self.programme, samples, rule, layers, records)?;

@@ -59,15 +59,15 @@ fn behind<T: RunEntry>(
     ensures net { IfOk result (λ made. (tree : Tree) → IsProgramme tree ceding.now → made.net ≡ net_records tree rule samples (map T.entry_of records.now)) }
     ensures ceded { IfOk result (λ made. (tree : Tree) → IsProgramme tree ceding.now → with_ceded ≡ true → made.ceded ≡ ceded_records tree rule samples (map T.entry_of records.now)) }
 {
-    let rows = ceded_of(alloc, ceding, samples, rule, records)?;
-    let net = records_behind(alloc, ceding, samples, &rows, records, true)?;
+    let shares = ceded_of(alloc, ceding, samples, rule, records)?;
+    let net = records_behind(alloc, ceding, samples, &shares, records, true)?;
     if !with_ceded {
         return Ok(Reinsured {
             net,
             ceded: Records::new(alloc),
         });
     }
-    let ceded = records_behind(alloc, ceding, samples, &rows, records, false)?;
+    let ceded = records_behind(alloc, ceding, samples, &shares, records, false)?;
     Ok(Reinsured { net, ceded })
 }
 

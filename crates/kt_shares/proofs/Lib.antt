@@ -1,5 +1,7 @@
 pub mod LayerLemmas
-pub mod TakenLemmas
+pub mod LossLemmas
+pub mod IdLemmas
 pub mod RowLemmas
-pub mod TableLemmas
 pub mod ByLanesLemmas
+pub mod ByRowsLemmas
+pub mod TableLemmas

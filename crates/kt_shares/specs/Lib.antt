@@ -1,10 +1,10 @@
 pub mod Shares
 pub mod Layers
-pub mod Taken
 pub mod Row
 pub mod Table
-pub mod Rows
+pub mod Taken
 pub mod ByLanes
+pub mod Kept
 pub mod HoldsLaws
 pub mod LookupLaws
 pub mod SharesLaws

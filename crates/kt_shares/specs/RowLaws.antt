@@ -90,3 +90,9 @@ rows-are samples amount loss same =
     (λ row low high. ap (pair_of (sidx_at (row_place row))) (same row (omega arith))))
     ∙ (sym (filter_map-map (λ sidx. pair_of sidx (loss sidx)) (λ row. sidx_at (row_place row)) (range_with_len 0 (samples + 1)))
     ∙ ap (filter_map (λ sidx. pair_of sidx (loss sidx))) (sym (range-is samples)))
+
+-- amounts that agree in so many rows have the same pairs
+pub pairs-agree : (one other : ℕ → ℕ) (rows : ℕ) → ((row : ℕ) → row < rows → one row ≡ other row) → pairs_by_row one rows ≡ pairs_by_row other rows
+pairs-agree one other rows same =
+    filter_map-agree (λ row. pair_of (sidx_at (row_place row)) (one row)) (λ row. pair_of (sidx_at (row_place row)) (other row)) (range_with_len 0 rows)
+    (each-range (λ row. pair_of (sidx_at (row_place row)) (one row) ≡ pair_of (sidx_at (row_place row)) (other row)) 0 rows (λ row low high. ap (pair_of (sidx_at (row_place row))) (same row (omega (arith, high)))))

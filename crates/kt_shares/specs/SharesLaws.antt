@@ -33,19 +33,29 @@ pub cond-le : (b : Bool) (n : ℕ) → cond b n 0 ≤ n
 cond-le true n = omega arith
 cond-le false n = omega arith
 
--- the losses that a tree takes are not more than those of the run
-pub taken-few : (tree : Tree) → IsTree tree → (records : List LossRecord) (sidx : ℤ) → sum (map (taken_loss tree records sidx) tree.ids) ≤ run_loss sidx records
-taken-few tree is records sidx =
+-- the losses of the ids of a tree are not more than those of the run
+pub ids-few : (tree : Tree) → IsTree tree → (records : List LossRecord) (sidx : ℤ) → sum (map (id_loss records sidx) tree.ids) ≤ run_loss sidx records
+ids-few tree is records sidx =
     omega (
       arith,
-      sum-map (taken_loss tree records sidx) tree.ids,
-      sum_by-below (taken_loss tree records sidx) (id_loss records sidx) tree.ids (λ id. cond-le (list_any (nat_eq id) tree.ids) (id_loss records sidx id)),
+      sum-map (id_loss records sidx) tree.ids,
       sum_by-swap (λ id (entry : LossRecord). cond (nat_eq entry.id id) (loss_of sidx entry.pairs) 0) tree.ids records,
       sum_by-below (λ (entry : LossRecord). sum_by (λ id. cond (nat_eq entry.id id) (loss_of sidx entry.pairs) 0) tree.ids) (λ (entry : LossRecord). loss_of sidx entry.pairs) records (λ entry. once entry),
     )
   where
     once : (entry : LossRecord) → sum_by (λ id. cond (nat_eq entry.id id) (loss_of sidx entry.pairs) 0) tree.ids ≤ loss_of sidx entry.pairs
     once entry = omega (arith, sum_by-one (loss_of sidx entry.pairs) entry.id tree.ids is.ids_once, cond-le (list_any (nat_eq entry.id) tree.ids) (loss_of sidx entry.pairs))
+
+-- and so are those that a tree takes
+pub taken-few : (tree : Tree) → IsTree tree → (records : List LossRecord) (sidx : ℤ) → sum (map (taken_loss tree records sidx) tree.ids) ≤ run_loss sidx records
+taken-few tree is records sidx =
+    omega (
+      arith,
+      sum-map (taken_loss tree records sidx) tree.ids,
+      sum_by-below (taken_loss tree records sidx) (id_loss records sidx) tree.ids (λ id. cond-le (list_any (nat_eq id) tree.ids) (id_loss records sidx id)),
+      sum-map (id_loss records sidx) tree.ids,
+      ids-few tree is records sidx,
+    )
 
 -- a policy loss is not more than the losses of all ids
 pub policy-le : (tree : Tree) → IsTree tree → (losses : ℕ → ℕ) (top layer : ℕ) → policy_loss tree losses top layer ≤ sum (map losses tree.ids)

@@ -1,7 +1,7 @@
 -- The rows of all sidx.
 -- The rule: docs/FINANCIAL_MODULE.md, "Insured losses".
-use Rattle.std.specs.Prelude.{ℕ, ◌+◌, cond, nat_eq, List, map, slice_index_or}
-use Rattle.std.specs.List.{filter_map, range_with_len}
+use Rattle.std.specs.Prelude.{ℕ, ◌+◌, ◌-◌, ◌<◌, ◌≤◌, cond, nat_eq, List, length, map, slice_index, slice_index_or}
+use Rattle.std.specs.List.{filter_map, range_with_len, sum_by}
 use Rattle.kt_stream.specs.declared.entry.LossRecord.{LossRecord}
 use Rattle.kt_stream.specs.declared.entry.Pair.{Pair}
 use Rattle.kt_runs.specs.Sidx.{pair_of, sidx_at}
@@ -24,3 +24,14 @@ row_at table row = slice_index_or table row no_shares
 -- the pairs of so many rows, where their amounts are above 0
 abbrev pub pairs_by_row : (ℕ → ℕ) → ℕ → List Pair
 pairs_by_row amount rows = filter_map (λ row. pair_of (sidx_at (row_place row)) (amount row)) (range_with_len 0 rows)
+
+-- amounts of the samples added
+abbrev pub sampled_sum : (Shared → ℕ) → List Shared → ℕ
+sampled_sum amount table = sum_by (λ row. amount (row_at table row)) (range_with_len 1 (length table - 1))
+
+-- a row has a policy loss and a total in a place, of at most 10^16 cents
+pub record HasAmounts (place : ℕ) (row : Shared) : Type 0 where
+  pub policy : place < length row.policies
+  pub total : place < length row.totals
+  pub policy_few : slice_index row.policies place ≤ 10000000000000000
+  pub total_few : slice_index row.totals place ≤ 10000000000000000

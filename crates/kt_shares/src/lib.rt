@@ -2,6 +2,7 @@
 #![tactic(auto)]
 
 mod by_lanes;
+mod by_rows;
 mod layers;
 mod losses;
 mod pairs;
@@ -11,6 +12,5 @@ mod table;
 
 pub use layers::{TopLayer, top_layers};
 pub use losses::{ids_of, losses_of};
-pub use pairs::{push_loss, push_record};
-pub use row::Row;
-pub use table::{loss_in_row, table_of};
+pub use pairs::{lane_pairs, push_record};
+pub use table::{Table, table_of};

@@ -1,40 +1,54 @@
-//! The losses of a run by the places of their ids.
+//! The losses of a run row by row: row 0 is that of the mean, and each row from 1 up is that of the sample with its number.
 //! The rule: docs/FINANCIAL_MODULE.md, "Insured losses".
-ghost use Rattle.std.specs.Prelude.{◌≡◌, ℤ, ◌+◌, ◌<◌, ◌≤◌, map, All, IfOk};
+ghost use Rattle.std.specs.Prelude.{◌≡◌, ℕ, ℤ, ◌+◌, ◌<◌, ◌≤◌, ◌^◌, length, map, All, IfOk, slice_index};
 ghost use Rattle.std.specs.List.{AllByRecursion};
 ghost use Rattle.kt_stream.specs.Losses.{IsLoss};
 ghost use Rattle.kt_stream.specs.Pairs.{IsPair};
-ghost use Rattle.kt_runs.specs.Adding.{Holds};
 ghost use Rattle.kt_runs.specs.RunLosses.{AreWithin, loss_of};
 ghost use Rattle.kt_runs.specs.Sidx.{sidx_at};
 ghost use Rattle.kt_rec.specs.Rising.{IsRising};
+ghost use Rattle.kt_alloc.specs.ById.{with_more};
+ghost use Rattle.kt_lanes.specs.Lanes.{AreLanes, AreWide, IsLane, column};
 ghost use Rattle.kt_shares.specs.Shares.{ids_of};
-ghost use Rattle.kt_shares.specs.Taken.{ArePlaced, IsPlacing, IsWithin, placed_loss, placed_sum};
+ghost use Rattle.kt_shares.specs.Table.{row_place};
+ghost use Rattle.kt_shares.specs.Taken.{AreIdLanes};
 
-use kt_runs::{RunEntry, add_pairs, zeros};
+use kt_lanes::zero_lanes;
+use kt_runs::{RunEntry, place_of, zeros};
 use kt_stream::{LossRecord, Pair};
 use std::alloc::{AllocError, Global};
 
-/// The place of sidx -2, the least of a stream.
-const FIRST: u64 = 2_147_483_646;
+/// The place of sidx -2, which has no row.
+const FIRST: u32 = 2_147_483_646;
 
-/// The losses of a record, sidx by sidx from -2 up, with the place of its id.
-#[derive(Drop)]
-pub(crate) struct PlacedLosses {
-    /// The place of the id among those of a programme.
-    pub place: usize,
-    /// The loss in cents at each sidx.
-    pub losses: Vec<u64>,
+/// The place of sidx 0: those of the samples come behind it.
+const MIDDLE: u32 = 2_147_483_648;
+
+/// Adds the losses of pairs to a lane, row by row.
+fn add_losses(lane: &mut [u64], samples: u32, pairs: &[Pair])
+    requires samples { samples ≤ 1000 }
+    requires wide { length lane.old ≡ samples + 1 }
+    requires pairs { AllByRecursion (IsPair samples) pairs.now }
+    requires few { (row : ℕ) → row < samples + 1 → slice_index lane.old row + loss_of (sidx_at (row_place row)) pairs.now < 2 ^ 64 }
+    ensures value { IsLane (samples + 1) (λ row. slice_index lane.old row + loss_of (sidx_at (row_place row)) pairs.now) lane.new }
+{
+    for pair in pairs {
+        let place = place_of(pair);
+        if place > FIRST {
+            lane[place.saturating_sub(MIDDLE) as usize] += pair.loss;
+        }
+    }
 }
 
-/// The losses of pairs in cents, sidx by sidx from -2 up to the number of samples. An error is want of memory.
+/// The losses of pairs in cents, row by row. An error is want of memory.
 pub fn losses_of(alloc: Global, samples: u32, pairs: &[Pair]) -> Result<Vec<u64>, AllocError>
+    requires samples { samples ≤ 1000 }
     requires pairs { AllByRecursion (IsPair samples) pairs.now }
     requires few { (sidx : ℤ) → loss_of sidx pairs.now ≤ 10000000000000000 }
-    ensures value { IfOk result (λ losses. Holds (samples + 3) (λ k. loss_of (sidx_at (2147483646 + k)) pairs.now) losses.items) }
+    ensures value { IfOk result (λ losses. IsLane (samples + 1) (λ row. loss_of (sidx_at (row_place row)) pairs.now) losses.items) }
 {
-    let mut losses = zeros(alloc, samples as usize + 3)?;
-    add_pairs(&mut losses, FIRST, pairs);
+    let mut losses = zeros(alloc, samples as usize + 1)?;
+    add_losses(&mut losses, samples, pairs);
     Ok(losses)
 }
 
@@ -49,64 +63,68 @@ pub fn ids_of<T: RunEntry>(alloc: Global, records: &[T]) -> Result<Vec<u32>, All
     Ok(ids)
 }
 
-/// The losses of a record with the place of its id among rising ids; none where it is not among them.
-fn placed(
-    alloc: Global,
-    ids: &[u32],
-    samples: u32,
-    entry: &LossRecord,
-) -> Result<Option<PlacedLosses>, AllocError>
-    requires rising { IsRising ids.now }
+/// Adds the losses of a record to a lane.
+fn add_record(lane: &mut Vec<u64>, samples: u32, entry: &LossRecord)
+    requires samples { samples ≤ 1000 }
+    requires wide { length lane.old.items ≡ samples + 1 }
     requires entry { IsLoss samples entry.now }
-    requires few { (sidx : ℤ) → loss_of sidx entry.now.pairs ≤ 10000000000000000 }
-    ensures value { IfOk result (IsPlacing ids.now samples entry.now) }
+    requires few { (row : ℕ) → row < samples + 1 → slice_index lane.old.items row + loss_of (sidx_at (row_place row)) entry.now.pairs < 2 ^ 64 }
+    ensures value { IsLane (samples + 1) (λ row. slice_index lane.old.items row + loss_of (sidx_at (row_place row)) entry.now.pairs) lane.new.items }
 {
-    match ids.binary_search(&entry.id) {
-        Ok(place) => {
-            let losses = losses_of(alloc, samples, entry.pairs.as_slice())?;
-            Ok(Some(PlacedLosses { place, losses }))
-        }
-        Err(_) => Ok(None),
+    add_losses(lane, samples, entry.pairs.as_slice());
+}
+
+/// Adds the losses of a record to the lane of its id, which stands in this place.
+fn add_at(ids: &[u32], lanes: &mut Vec<Vec<u64>>, samples: u32, place: usize, entry: &LossRecord)
+    requires samples { samples ≤ 1000 }
+    requires rising { IsRising ids.now }
+    requires same { length lanes.old.items ≡ length ids.now }
+    requires wide { AreWide (samples + 1) lanes.old.items }
+    requires entry { IsLoss samples entry.now }
+    requires few { (row place : ℕ) → row < samples + 1 → place < length ids.now → slice_index (column row lanes.old.items) place + loss_of (sidx_at (row_place row)) entry.now.pairs < 2 ^ 64 }
+    requires within { place < length ids.now }
+    requires here { slice_index ids.now place ≡ entry.now.id }
+    ensures value { AreLanes (samples + 1) (length ids.now) (λ row. with_more ids.now (column row lanes.old.items) entry.now.id (loss_of (sidx_at (row_place row)) entry.now.pairs)) lanes.new.items }
+{
+    add_record(&mut lanes[place], samples, entry);
+}
+
+/// Adds the losses of a record to the lane of its id, if that is among these. It is looked for in a place first: records stand by
+/// rising id mostly.
+fn add_by_id(ids: &[u32], lanes: &mut Vec<Vec<u64>>, samples: u32, near: usize, entry: &LossRecord)
+    requires samples { samples ≤ 1000 }
+    requires rising { IsRising ids.now }
+    requires same { length lanes.old.items ≡ length ids.now }
+    requires wide { AreWide (samples + 1) lanes.old.items }
+    requires entry { IsLoss samples entry.now }
+    requires few { (row place : ℕ) → row < samples + 1 → place < length ids.now → slice_index (column row lanes.old.items) place + loss_of (sidx_at (row_place row)) entry.now.pairs < 2 ^ 64 }
+    ensures value { AreLanes (samples + 1) (length ids.now) (λ row. with_more ids.now (column row lanes.old.items) entry.now.id (loss_of (sidx_at (row_place row)) entry.now.pairs)) lanes.new.items }
+{
+    if near < ids.len() && ids[near] == entry.id {
+        add_at(ids, lanes, samples, near, entry);
+        return;
+    }
+    if let Ok(place) = ids.binary_search(&entry.id) {
+        add_at(ids, lanes, samples, place, entry);
     }
 }
 
-/// The losses of the records whose ids are among rising ids.
-pub(crate) fn placed_losses<T: RunEntry>(
+/// The lanes of rising ids, with the losses of the records that have these ids. An error is want of memory.
+pub(crate) fn id_lanes<T: RunEntry>(
     alloc: Global,
     ids: &[u32],
     samples: u32,
     records: &[T],
-) -> Result<Vec<PlacedLosses>, AllocError>
+) -> Result<Vec<Vec<u64>>, AllocError>
+    requires samples { samples ≤ 1000 }
     requires rising { IsRising ids.now }
     requires records { All (IsLoss samples) (map T.entry_of records.now) }
     requires within { AreWithin (map T.entry_of records.now) }
-    ensures value { IfOk result (λ losses. ArePlaced ids.now samples (map T.entry_of records.now) losses.items) }
+    ensures value { IfOk result (λ lanes. AreIdLanes ids.now samples (map T.entry_of records.now) lanes.items) }
 {
-    let mut losses = Vec::new(alloc);
-    for held in records {
-        if let Some(one) = placed(alloc, ids, samples, held.entry())? {
-            losses.push(one)?;
-        }
+    let mut lanes = zero_lanes(alloc, ids.len(), samples as usize + 1)?;
+    for (near, held) in records.iter().enumerate() {
+        add_by_id(ids, &mut lanes, samples, near, held.entry());
     }
-    Ok(losses)
-}
-
-/// The losses of all ids at one sidx, which is counted from -2.
-pub(crate) fn losses_at(
-    alloc: Global,
-    width: usize,
-    placed: &[PlacedLosses],
-    at: usize,
-    sidxs: usize,
-) -> Result<Vec<u64>, AllocError>
-    requires each { AllByRecursion (IsWithin width sidxs) placed.now }
-    requires at { at < sidxs }
-    requires few { placed_sum placed.now at ≤ 10000000000000000 }
-    ensures value { IfOk result (λ losses. Holds width (placed_loss placed.now at) losses.items) }
-{
-    let mut losses = zeros(alloc, width)?;
-    for one in placed {
-        losses[one.place] += one.losses[at];
-    }
-    Ok(losses)
+    Ok(lanes)
 }

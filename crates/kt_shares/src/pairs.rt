@@ -1,16 +1,17 @@
 //! The pairs of the rows of a run, and records of them.
 //! The rule: docs/FINANCIAL_MODULE.md, "Insured losses".
-ghost use Rattle.std.specs.Prelude.{◌≡◌, ◌≤◌, ◌++◌, [], OnErr, OnOk};
+ghost use Rattle.std.specs.Prelude.{◌≡◌, ◌≤◌, ◌++◌, [], length, slice_index, IfOk, OnErr, OnOk};
 ghost use Rattle.std.specs.List.{cons_option};
 ghost use Rattle.kt_runs.specs.Sidx.{pair_of, sidx_at};
 ghost use Rattle.kt_shares.specs.Shares.{record_with};
-ghost use Rattle.kt_shares.specs.Table.{row_place};
+ghost use Rattle.kt_shares.specs.Table.{pairs_by_row, row_place};
 
 use kt_runs::sidx_at;
 use kt_stream::{LossRecord, Pair, Pairs};
-use std::alloc::AllocError;
+use std::alloc::{AllocError, Global};
 
 /// The pair of a row.
+#[inline]
 fn pair_at(row: u32, loss: u64) -> Pair
     requires { row ≤ 1000 }
     ensures value { result ≡ record { sidx = sidx_at (row_place row); loss = loss } }
@@ -26,17 +27,38 @@ fn pair_at(row: u32, loss: u64) -> Pair
     }
 }
 
-/// Appends the pair of a row with a loss in cents, where the loss is above 0. Row 0 is that of the mean, and each row from 1 to
-/// 1,000 is that of the sample with its number. An error is want of memory, and the pairs stay as they are.
-pub fn push_loss(pairs: &mut Pairs, row: u32, loss: u64) -> Result<(), AllocError>
+/// Appends the pair of a row with a loss, where the loss is above 0.
+#[inline]
+fn push_loss(pairs: &mut Vec<Pair>, row: u32, loss: u64) -> Result<(), AllocError>
     requires row { row ≤ 1000 }
-    ensures ok { OnOk result (pairs.new ≡ pairs.old ++ cons_option (pair_of (sidx_at (row_place row)) loss) []) }
-    ensures unchanged { OnErr result (pairs.new ≡ pairs.old) }
+    ensures ok { OnOk result (pairs.new.items ≡ pairs.old.items ++ cons_option (pair_of (sidx_at (row_place row)) loss) []) }
 {
     if loss > 0 {
         pairs.push(pair_at(row, loss))?;
     }
     Ok(())
+}
+
+/// How many amounts of a lane are above 0.
+fn count_of(lane: &[u64]) -> usize {
+    let mut count: usize = 0;
+    for loss in lane {
+        count = count.saturating_add(usize::from(*loss > 0));
+    }
+    count
+}
+
+/// The pairs of a lane of losses in cents, where they are above 0. The first is that of the mean, and behind it stand those of the
+/// samples, at most 1,000. An error is want of memory.
+pub fn lane_pairs(alloc: Global, lane: &[u64]) -> Result<Pairs, AllocError>
+    requires { length lane.now ≤ 1001 }
+    ensures value { IfOk result (λ pairs. pairs ≡ pairs_by_row (slice_index lane.now) (length lane.now)) }
+{
+    let mut pairs = Vec::with_capacity(alloc, count_of(lane))?;
+    for row in 0..lane.len() {
+        push_loss(&mut pairs, row as u32, lane[row])?;
+    }
+    Ok(Pairs::from_vec(pairs))
 }
 
 /// Appends the record of pairs of an event and an id, where there are some. An error is want of memory, and the records stay as

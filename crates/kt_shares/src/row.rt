@@ -1,60 +1,26 @@
-//! The policy losses of the layers at one sidx, and what they are shared out to.
+//! What layers have at one sidx: their policy losses, and what they are shared out to.
 //! The rule: docs/FINANCIAL_MODULE.md, "Insured losses".
-ghost use Rattle.std.specs.Prelude.{◌≡◌, ◌≤◌, ◌^◌, ℕ, [], ◌∷◌, map, slice_index, IfOk};
-ghost use Rattle.std.specs.List.{AllByRecursion, sum};
+ghost use Rattle.std.specs.Prelude.{◌≡◌, ◌≤◌, ℕ, [], ◌∷◌, slice_index, IfOk};
+ghost use Rattle.std.specs.List.{AllByRecursion};
 ghost use Rattle.kt_tree.specs.Tree.{Tree, policy_loss};
 ghost use Rattle.kt_fmtree.specs.Carried.{AreCarried, IsCarriedBy};
 ghost use Rattle.kt_fmtree.specs.Parts.{IsProgramme};
 ghost use Rattle.kt_shares.specs.Shares.{shares};
-ghost use Rattle.kt_shares.specs.Layers.{IsTopLayer, key_of};
-ghost use Rattle.kt_shares.specs.Row.{row_for};
+ghost use Rattle.kt_shares.specs.Layers.{IsTopLayer};
+ghost use Rattle.kt_shares.specs.Row.{HasRow};
 
 use crate::layers::TopLayer;
-use kt_alloc::{allocate, total_of, zeros};
+use kt_alloc::{allocate, zeros};
 use kt_fmtree::{Levels, Programme};
 use std::alloc::{AllocError, Global};
-use std::marker::Model;
 
 /// What layers have at one sidx.
 #[derive(Drop)]
-pub struct Row {
-    /// The shares of their policy losses, one behind the other.
-    pub(crate) shares: Vec<u64>,
-    /// Their policy losses.
-    pub(crate) policies: Vec<u64>,
-    /// What the shares of each add to.
-    pub(crate) totals: Vec<u64>,
-}
-
-impl Model for Row {
-    ghost use Rattle.kt_shares.specs.Row.{Shared, shared_out};
-
-    ghost Value = { Shared };
-
-    ghost view = { shared_out };
-}
-
-impl Row {
-    /// The shares of the policy losses of the layers in cents, one behind the other.
-    pub fn shares(&self) -> &[u64]
-        ensures value { result.now ≡ self.now.shares }
-    {
-        &self.shares
-    }
-
-    /// The policy losses of the layers in cents.
-    pub fn policies(&self) -> &[u64]
-        ensures value { result.now ≡ self.now.policies }
-    {
-        &self.policies
-    }
-
-    /// What the shares of each layer add to in cents.
-    pub fn totals(&self) -> &[u64]
-        ensures value { result.now ≡ self.now.totals }
-    {
-        &self.totals
-    }
+pub(crate) struct Row {
+    /// The shares of their policy losses in cents, one behind the other.
+    pub shares: Vec<u64>,
+    /// Their policy losses in cents.
+    pub policies: Vec<u64>,
 }
 
 /// A policy loss that stays whole.
@@ -80,7 +46,6 @@ fn shares_of(
     requires levels { IsCarriedBy programme.now levels.now }
     requires policy { (tree : Tree) (loss : ℕ → ℕ) → IsProgramme tree programme.now → AreCarried tree loss programme.now levels.now → policy ≡ policy_loss tree loss (slice_index tree.tops one.node) one.layer }
     ensures value { IfOk result (λ made. (tree : Tree) (loss : ℕ → ℕ) → IsProgramme tree programme.now → AreCarried tree loss programme.now levels.now → made.items ≡ shares tree loss rule one.top one.layer) }
-    ensures few { IfOk result (λ made. sum made.items ≤ 10 ^ 16) }
 {
     if rule == 0 {
         let made = whole(alloc, policy)?;
@@ -110,21 +75,15 @@ pub(crate) fn row_of(
     requires rule { rule ≤ 2 }
     requires layers { AllByRecursion (IsTopLayer programme.now) layers.now }
     requires levels { IsCarriedBy programme.now levels.now }
-    ensures value { IfOk result (λ row. (tree : Tree) (loss : ℕ → ℕ) → IsProgramme tree programme.now → AreCarried tree loss programme.now levels.now → row ≡ row_for tree loss rule (map key_of layers.now)) }
+    ensures value { IfOk result (λ row. (tree : Tree) (loss : ℕ → ℕ) → IsProgramme tree programme.now → AreCarried tree loss programme.now levels.now → HasRow tree loss rule layers.now row.shares.items row.policies.items) }
 {
     let mut shares = Vec::new(alloc);
     let mut policies = Vec::with_capacity(alloc, layers.len())?;
-    let mut totals = Vec::with_capacity(alloc, layers.len())?;
     for one in layers {
         let policy = programme.policy(levels, one.node, one.layer);
         let made = shares_of(alloc, programme, levels, rule, *one, policy)?;
         policies.push(policy)?;
-        totals.push(total_of(&made))?;
         shares.extend_from_slice(&made)?;
     }
-    Ok(Row {
-        shares,
-        policies,
-        totals,
-    })
+    Ok(Row { shares, policies })
 }

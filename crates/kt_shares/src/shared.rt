@@ -1,12 +1,12 @@
 //! The types of this crate may be sent to threads and shared by them.
 use crate::layers::TopLayer;
-use crate::row::Row;
+use crate::table::Table;
 
 /// Takes what may be sent to threads and shared by them.
 fn is_shared<T: Send + Sync>(_: &T) {}
 
 /// Each type once.
-pub(crate) fn are_shared(layer: &TopLayer, row: &Row) {
+pub(crate) fn are_shared(layer: &TopLayer, table: &Table) {
     is_shared(layer);
-    is_shared(row);
+    is_shared(table);
 }

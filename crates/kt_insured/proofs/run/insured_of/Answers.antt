@@ -1,24 +1,15 @@
 use Rattle.std.proofs.Common.{map}
-use Rattle.kt_insured.proofs.RunLemmas.{run-amounts, run-places, run-records, run-rows, run-sums}
+use Rattle.kt_insured.proofs.RunLemmas.{run-amounts, run-places, run-records, run-sums}
 use Rattle.kt_insured.proofs.run.insured_of.Goals as goal
 
-pub records_of-requires-clause-rows : goal.records_of-requires-clause-rows
-records_of-requires-clause-rows g c = (run-rows c.is_of_a_tree.ensures.kept.tree c.args.programme.now c.is_of_a_tree.ensures.kept.is c.args.portfolio.now.rows.fm_xref c.args.layout.now (c.requires.layout c.is_of_a_tree.ensures.kept.tree c.is_of_a_tree.ensures.kept.is) c.args.samples (map g.T.RunEntry.entry_of c.args.records.now) c.requires.within c.rule.result c.rule.ensures.value c.layers-layers.result.now c.layers-layers.ensures.value c.in_ok-table.table.items c.deref.result.now (c.in_ok-table.ensures.value c.is_of_a_tree.ensures.kept.tree c.is_of_a_tree.ensures.kept.is) c.deref.ensures.value c.requires.samples).1
+pub records_of-requires : goal.records_of-requires
+records_of-requires g c = record { places = run-places c.is_of_a_tree.ensures.kept.tree c.args.programme.now c.is_of_a_tree.ensures.kept.is c.args.portfolio.now.rows.fm_xref c.args.layout.now (c.requires.layout c.is_of_a_tree.ensures.kept.tree c.is_of_a_tree.ensures.kept.is) c.args.samples (map g.T.RunEntry.entry_of c.args.records.now) c.requires.within c.rule.result c.rule.ensures.value c.layers-layers.result.now c.layers-layers.ensures.value c.in_ok-table.table (c.in_ok-table.ensures.value c.is_of_a_tree.ensures.kept.tree c.is_of_a_tree.ensures.kept.is) c.outlets.result.now c.outlets.ensures.value }
 
-pub records_of-requires-clause-places : goal.records_of-requires-clause-places
-records_of-requires-clause-places g c = run-places c.is_of_a_tree.ensures.kept.tree c.args.programme.now c.is_of_a_tree.ensures.kept.is c.args.portfolio.now.rows.fm_xref c.args.layout.now (c.requires.layout c.is_of_a_tree.ensures.kept.tree c.is_of_a_tree.ensures.kept.is) c.args.samples (map g.T.RunEntry.entry_of c.args.records.now) c.requires.within c.rule.result c.rule.ensures.value c.layers-layers.result.now c.layers-layers.ensures.value c.in_ok-table.table.items c.deref.result.now (c.in_ok-table.ensures.value c.is_of_a_tree.ensures.kept.tree c.is_of_a_tree.ensures.kept.is) c.deref.ensures.value c.outlets.result.now c.outlets.ensures.value
-
-pub sums_of-requires-clause-some : goal.sums_of-requires-clause-some
-sums_of-requires-clause-some g c = (run-rows c.is_of_a_tree.ensures.kept.tree c.args.programme.now c.is_of_a_tree.ensures.kept.is c.args.portfolio.now.rows.fm_xref c.args.layout.now (c.requires.layout c.is_of_a_tree.ensures.kept.tree c.is_of_a_tree.ensures.kept.is) c.args.samples (map g.T.RunEntry.entry_of c.args.records.now) c.requires.within c.rule.result c.rule.ensures.value c.layers-layers.result.now c.layers-layers.ensures.value c.in_ok-table.table.items c.deref-2.result.now (c.in_ok-table.ensures.value c.is_of_a_tree.ensures.kept.tree c.is_of_a_tree.ensures.kept.is) c.deref-2.ensures.value c.requires.samples).0
-
-pub sums_of-requires-clause-rows : goal.sums_of-requires-clause-rows
-sums_of-requires-clause-rows g c = (run-rows c.is_of_a_tree.ensures.kept.tree c.args.programme.now c.is_of_a_tree.ensures.kept.is c.args.portfolio.now.rows.fm_xref c.args.layout.now (c.requires.layout c.is_of_a_tree.ensures.kept.tree c.is_of_a_tree.ensures.kept.is) c.args.samples (map g.T.RunEntry.entry_of c.args.records.now) c.requires.within c.rule.result c.rule.ensures.value c.layers-layers.result.now c.layers-layers.ensures.value c.in_ok-table.table.items c.deref-2.result.now (c.in_ok-table.ensures.value c.is_of_a_tree.ensures.kept.tree c.is_of_a_tree.ensures.kept.is) c.deref-2.ensures.value c.requires.samples).1
-
-pub sums_of-requires-clause-places : goal.sums_of-requires-clause-places
-sums_of-requires-clause-places g c = run-amounts c.is_of_a_tree.ensures.kept.tree c.args.programme.now c.is_of_a_tree.ensures.kept.is c.args.portfolio.now.rows.fm_xref c.args.layout.now (c.requires.layout c.is_of_a_tree.ensures.kept.tree c.is_of_a_tree.ensures.kept.is) c.args.samples (map g.T.RunEntry.entry_of c.args.records.now) c.requires.within c.rule.result c.rule.ensures.value c.layers-layers.result.now c.layers-layers.ensures.value c.in_ok-table.table.items c.deref-2.result.now (c.in_ok-table.ensures.value c.is_of_a_tree.ensures.kept.tree c.is_of_a_tree.ensures.kept.is) c.deref-2.ensures.value
+pub sums_of-requires : goal.sums_of-requires
+sums_of-requires g c = record { places = run-amounts c.is_of_a_tree.ensures.kept.tree c.args.programme.now c.is_of_a_tree.ensures.kept.is c.args.portfolio.now.rows.fm_xref c.args.layout.now (c.requires.layout c.is_of_a_tree.ensures.kept.tree c.is_of_a_tree.ensures.kept.is) c.args.samples (map g.T.RunEntry.entry_of c.args.records.now) c.requires.within c.rule.result c.rule.ensures.value c.layers-layers.result.now c.layers-layers.ensures.value c.in_ok-table.table (c.in_ok-table.ensures.value c.is_of_a_tree.ensures.kept.tree c.is_of_a_tree.ensures.kept.is) }
 
 pub returns-clause-records : goal.returns-clause-records
-returns-clause-records g c = λ tree is. run-records tree c.args.programme.now is c.args.portfolio.now.rows.fm_xref c.args.layout.now (c.requires.layout tree is) c.args.samples (map g.T.RunEntry.entry_of c.args.records.now) c.requires.within c.rule.result c.rule.ensures.value c.layers-layers.result.now c.layers-layers.ensures.value c.in_ok-table.table.items c.deref.result.now (c.in_ok-table.ensures.value tree is) c.deref.ensures.value c.event_of-event.result c.outlets.result.now c.in_ok-made.made c.event_of-event.ensures.value c.outlets.ensures.value c.in_ok-made.ensures.value
+returns-clause-records g c = λ tree is. run-records tree c.args.programme.now is c.args.portfolio.now.rows.fm_xref c.args.layout.now (c.requires.layout tree is) c.args.samples (map g.T.RunEntry.entry_of c.args.records.now) c.requires.within c.rule.result c.rule.ensures.value c.layers-layers.result.now c.layers-layers.ensures.value c.in_ok-table.table (c.in_ok-table.ensures.value tree is) c.event_of-event.result c.outlets.result.now c.in_ok-made.made c.event_of-event.ensures.value c.outlets.ensures.value c.in_ok-made.ensures.value
 
 pub returns-clause-layers : goal.returns-clause-layers
-returns-clause-layers g c = λ tree is. run-sums tree c.args.programme.now is c.args.portfolio.now.rows.fm_xref c.args.layout.now (c.requires.layout tree is) c.args.samples (map g.T.RunEntry.entry_of c.args.records.now) c.requires.within c.rule.result c.rule.ensures.value c.layers-layers.result.now c.layers-layers.ensures.value c.in_ok-table.table.items c.deref-2.result.now (c.in_ok-table.ensures.value tree is) c.deref-2.ensures.value c.event_of-event.result c.in_ok-sums.sums c.event_of-event.ensures.value c.in_ok-sums.ensures.value
+returns-clause-layers g c = λ tree is. run-sums tree c.args.programme.now is c.args.portfolio.now.rows.fm_xref c.args.layout.now (c.requires.layout tree is) c.args.samples (map g.T.RunEntry.entry_of c.args.records.now) c.requires.within c.rule.result c.rule.ensures.value c.layers-layers.result.now c.layers-layers.ensures.value c.in_ok-table.table (c.in_ok-table.ensures.value tree is) c.event_of-event.result c.in_ok-sums.sums c.event_of-event.ensures.value c.in_ok-sums.ensures.value

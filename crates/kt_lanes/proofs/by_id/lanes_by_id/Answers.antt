@@ -23,7 +23,7 @@ add_by_id-requires-clause-few c =
     let inside : near < length parts.lanes.items = omega (arith, below, c.requires.parts.count_is) in
     let read : lane ≡ slice_index_or parts.lanes.items near lane = get_or_read parts.lanes.items near lane inside c.index.ensures lane in
     let long : length lane.items ≡ c.args.width = ap (λ (one : Vec ℕ Global). length one.items) read ∙ c.requires.parts.wide near lane inside in
-    subst (λ (one : List ℕ). (k place : ℕ) → k < length one → place < length c.args.ids.now → slice_index (column k c.loop-near.found.items) place + slice_index one k ≤ 10 ^ 17) (sym c.deref.ensures.value)
+    subst (λ (one : List ℕ). (k place : ℕ) → k < length one → place < length c.args.ids.now → slice_index (column k c.loop-near.found.items) place + slice_index one k < 2 ^ 64) (sym c.deref.ensures.value)
     (λ k place less within. lane-fits c.args.width (units_at c.args.programme.now 0) c.args.ids.now parts c.requires.parts near below lane read c.loop-near.found.items c.loop-near.invariant c.requires.few k place (subst (λ n. k < n) long less) within)
 
 pub loop-near-preserved : goal.loop-near-preserved

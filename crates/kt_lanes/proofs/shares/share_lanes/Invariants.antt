@@ -1,5 +1,5 @@
 use Rattle.kt_lanes.specs.Shares.{AreSharing}
 use Rattle.kt_lanes.proofs.shares.share_lanes.Given as goal
 
-abbrev pub invariant-loop-child : goal.invariant-loop-child
-invariant-loop-child l = AreSharing l.width l.totals l.children l.child-index l.upto.items l.paid.items l.shares.items
+abbrev pub invariant-loop-at : goal.invariant-loop-at
+invariant-loop-at l = AreSharing l.width l.totals l.children l.at l.upto.items l.paid.items l.shares.items

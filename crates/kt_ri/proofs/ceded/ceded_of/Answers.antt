@@ -1,20 +1,28 @@
-use Rattle.std.proofs.Common.{◌∙◌, map}
-use Rattle.std.proofs.lemmas.List.{length-map}
+use Rattle.std.proofs.Common.{◌<◌, List, ℕ, length, map, sym, subst}
+use Rattle.std.specs.Prelude.{All}
+use Rattle.kt_shares.specs.Shares.{layers_of}
+use Rattle.kt_shares.specs.TableLaws.{table-length}
 use Rattle.kt_ri.proofs.CededLemmas.{run-ceded, run-fits, run-rows}
 use Rattle.kt_ri.proofs.ceded.ceded_of.Goals as goal
 
-pub ceded_rows-requires : goal.ceded_rows-requires
-ceded_rows-requires g c =
+pub ceded_lanes-requires-clause-rows : goal.ceded_lanes-requires-clause-rows
+ceded_lanes-requires-clause-rows g c =
     let kept = c.is_ceding.ensures.tree in
-    record { shares = run-fits kept.tree c.args.stage.now kept.is c.is_ceding.ensures.few c.ids.result.now c.ids.ensures.value c.places.result.now c.places.ensures.places c.args.rule c.args.samples c.requires.rule (map g.T.RunEntry.entry_of c.args.records.now) c.requires.within c.deref.result.now (c.deref.ensures.value ∙ c.in_ok-table.ensures.value kept.tree kept.is) }
+    table-length kept.tree c.args.rule c.args.samples (map g.T.RunEntry.entry_of c.args.records.now) (layers_of kept.tree) c.in_ok-table.table (c.in_ok-table.ensures.value kept.tree kept.is)
+
+pub ceded_lanes-requires-clause-within : goal.ceded_lanes-requires-clause-within
+ceded_lanes-requires-clause-within g c = subst (λ (ids : List ℕ). All (λ place. place < length ids) c.places.result.now) (sym c.ids.ensures.value) c.places.ensures.places.within
+
+pub ceded_lanes-requires-clause-shares : goal.ceded_lanes-requires-clause-shares
+ceded_lanes-requires-clause-shares g c =
+    let kept = c.is_ceding.ensures.tree in
+    run-fits kept.tree c.args.stage.now kept.is c.is_ceding.ensures.few c.ids.result.now c.ids.ensures.value c.places.result.now c.places.ensures.places c.args.rule c.args.samples c.requires.rule (map g.T.RunEntry.entry_of c.args.records.now) c.requires.within c.in_ok-table.table (c.in_ok-table.ensures.value kept.tree kept.is)
 
 pub returns-clause-rows : goal.returns-clause-rows
 returns-clause-rows g c =
     let kept = c.is_ceding.ensures.tree in
-    run-rows kept.tree c.args.stage.now kept.is c.is_ceding.ensures.few c.ids.result.now c.ids.ensures.value c.places.result.now c.places.ensures.places c.args.rule c.args.samples c.requires.rule (map g.T.RunEntry.entry_of c.args.records.now) c.requires.within c.deref.result.now (c.deref.ensures.value ∙ c.in_ok-table.ensures.value kept.tree kept.is)
-    (map (λ row. row.items) c.in_ok-rows.rows.items) c.in_ok-rows.ensures.value (length-map c.in_ok-rows.rows.items (λ row. row.items) ∙ c.in_ok-rows.ensures.many)
+    run-rows kept.tree c.args.stage.now kept.is c.is_ceding.ensures.few c.ids.result.now c.ids.ensures.value c.places.result.now c.places.ensures.places c.args.rule c.args.samples c.requires.rule (map g.T.RunEntry.entry_of c.args.records.now) c.requires.within c.in_ok-table.table (c.in_ok-table.ensures.value kept.tree kept.is) c.in_ok-ceded.ceded.items c.in_ok-ceded.ensures.value
 
 pub returns-clause-value : goal.returns-clause-value
 returns-clause-value g c = λ tree is.
-    run-ceded tree c.args.stage.now is c.is_ceding.ensures.few c.ids.result.now c.ids.ensures.value c.places.result.now c.places.ensures.places c.args.rule c.args.samples c.requires.rule (map g.T.RunEntry.entry_of c.args.records.now) c.requires.within c.deref.result.now (c.deref.ensures.value ∙ c.in_ok-table.ensures.value tree is)
-    (map (λ row. row.items) c.in_ok-rows.rows.items) c.in_ok-rows.ensures.value
+    run-ceded tree c.args.stage.now is c.is_ceding.ensures.few c.ids.result.now c.ids.ensures.value c.places.result.now c.places.ensures.places c.args.rule c.args.samples c.requires.rule (map g.T.RunEntry.entry_of c.args.records.now) c.requires.within c.in_ok-table.table (c.in_ok-table.ensures.value tree is) c.in_ok-ceded.ceded.items c.in_ok-ceded.ensures.value

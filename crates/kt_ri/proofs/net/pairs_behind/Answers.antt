@@ -1,19 +1,28 @@
-use Rattle.std.proofs.Common.{◌+◌, ◌∙◌, List, map, sym, subst}
-use Rattle.kt_runs.specs.Adding.{Holds}
+use Rattle.std.proofs.Common.{◌≡◌, ◌+◌, ◌<◌, ◌∙◌, ℕ, length, slice_index, ap, sym, subst}
+use Rattle.kt_lanes.specs.Lanes.{IsLane}
 use Rattle.kt_runs.specs.RunLosses.{loss_of}
 use Rattle.kt_runs.specs.Sidx.{sidx_at}
-use Rattle.kt_stream.specs.declared.entry.Pair.{Pair}
-use Rattle.kt_shares.specs.RowLaws.{rows-more}
-use Rattle.kt_shares.specs.Table.{row_place}
+use Rattle.kt_shares.specs.RowLaws.{pairs-agree}
+use Rattle.kt_shares.specs.Table.{pairs_by_row, row_place}
 use Rattle.kt_ri.specs.Ceded.{ceded_in, part_behind}
 use Rattle.kt_ri.proofs.net.pairs_behind.Goals as goal
 
-pub loop-row-preserved : goal.loop-row-preserved
-loop-row-preserved c =
-    let rows = map (λ row. row.items) c.args.rows.now in
+pub returns : goal.returns
+returns c =
     let pairs = c.args.entry.now.pairs in
-    let held = subst (λ (pairs : List Pair). Holds (c.args.samples + 3) (λ k. loss_of (sidx_at (2147483646 + k)) pairs) c.deref.result.now) c.as_slice.ensures.value (subst (Holds (c.args.samples + 3) (λ k. loss_of (sidx_at (2147483646 + k)) c.as_slice.result.now)) (sym c.deref.ensures.value) c.in_ok-losses.ensures.value) in
-    let loss = c.loss_in_row-loss.ensures.value (λ sidx. loss_of sidx pairs) held in
-    rows-more (λ row. part_behind c.args.left (loss_of (sidx_at (row_place row)) pairs) (ceded_in rows c.args.place row)) c.loop-row.row c.part_behind.result c.loop-row.pairs c.push_loss.new.pairs c.loop-row.invariant
-    (c.part_behind.ensures.value ∙ (λ i. part_behind c.args.left (loss i) (c.ceded_in-ceded.ensures.value i)))
-    c.in_ok-push_loss.ensures.ok
+    let width = c.args.samples + 1 in
+    let loss : ℕ → ℕ = λ row. loss_of (sidx_at (row_place row)) pairs in
+    let before = c.in_ok-losses.losses.items in
+    let lane = c.deref.result.now in
+    let losses = subst (λ pairs. IsLane width (λ row. loss_of (sidx_at (row_place row)) pairs) before) c.as_slice.ensures.value c.in_ok-losses.ensures.value in
+    let left : IsLane (length before) (λ row. part_behind c.args.left (slice_index before row) (ceded_in c.args.ceded.now c.args.place row)) lane =
+    subst (IsLane (length before) (λ row. part_behind c.args.left (slice_index before row) (ceded_in c.args.ceded.now c.args.place row))) (sym c.deref.ensures.value) c.left_behind-behind.ensures.value in
+    let long : length lane ≡ width = left.wide ∙ losses.wide in
+    let each : (row : ℕ) → row < width → slice_index lane row ≡ part_behind c.args.left (loss row) (ceded_in c.args.ceded.now c.args.place row) =
+    λ row below. left.each row (subst (λ n. row < n) (sym losses.wide) below) ∙ ap (λ n. part_behind c.args.left n (ceded_in c.args.ceded.now c.args.place row)) (losses.each row below) in
+    record {
+      value =
+          c.in_ok-pairs.ensures.value
+          ∙ (ap (pairs_by_row (slice_index lane)) long
+          ∙ pairs-agree (slice_index lane) (λ row. part_behind c.args.left (loss row) (ceded_in c.args.ceded.now c.args.place row)) width each);
+    }

@@ -1,0 +1,104 @@
+-- The losses of a run by the places of their ids.
+use Rattle.std.proofs.Common.{◌≡◌, ℕ, ◌+◌, ◌<◌, ◌≤◌, ◌^◌, ◌||◌, Bool, true, false, cond, nat_eq, ℤ, List, [], ◌∷◌, Vec, Global, length, map, take, replicate, slice_index, slice_index_or, refl, sym, ap, subst, ◌∙◌, arith}
+use Rattle.std.specs.Cmp.{nat_eq_equiv}
+use Rattle.std.specs.List.{list_any, sum}
+use Rattle.std.proofs.Math.Path.{fun_ext}
+use Rattle.std.proofs.lemmas.Bool.{eqb-true}
+use Rattle.std.proofs.lemmas.List.{get_or-map, take_all}
+use Rattle.std.proofs.lemmas.List.Sums.{get_or-le-sum_by, sum_by_more, sum_by-take-le}
+use Rattle.kt_stream.specs.declared.entry.LossRecord.{LossRecord}
+use Rattle.kt_runs.specs.RunLosses.{AreWithin, loss_of, run_loss}
+use Rattle.kt_runs.specs.Sidx.{sidx_at}
+use Rattle.kt_alloc.specs.ById.{with_more}
+use Rattle.kt_tree.specs.Sums.{sum_by-below}
+use Rattle.kt_tree.specs.Tree.{Tree}
+use Rattle.kt_fmtree.specs.Carried.{loss_by}
+use Rattle.kt_fmtree.specs.Parts.{Parts, IsProgramme}
+use Rattle.kt_lanes.specs.Climbed.{AreLosses}
+use Rattle.kt_lanes.specs.Lanes.{AreLanes, column}
+use Rattle.kt_shares.specs.Shares.{id_loss, taken_loss}
+use Rattle.kt_shares.specs.SharesLaws.{cond-le, ids-few}
+use Rattle.kt_shares.specs.Table.{row_place}
+use Rattle.kt_shares.specs.Taken.{AreIdLanes}
+
+-- no records have no loss
+pub ids-start : (ids : List ℕ) (samples : ℕ) (lanes : List (Vec ℕ Global)) → AreLanes (samples + 1) (length ids) (λ row. replicate (length ids) 0) lanes → AreIdLanes ids samples [] lanes
+ids-start ids samples lanes are = record { count_is = are.count_is; wide = are.wide; each = λ row below. are.each row below ∙ none (sidx_at (row_place row)) ids }
+  where
+    none : (sidx : ℤ) (ids : List ℕ) → replicate (length ids) 0 ≡ map (id_loss [] sidx) ids
+    none sidx [] = refl
+    none sidx (id ∷ ids) = ap (λ rest. 0 ∷ rest) (none sidx ids)
+
+-- what an id has is not more than all
+id-le : (records : List LossRecord) (sidx : ℤ) (id : ℕ) → id_loss records sidx id ≤ run_loss sidx records
+id-le records sidx id = sum_by-below (λ (entry : LossRecord). cond (nat_eq entry.id id) (loss_of sidx entry.pairs) 0) (λ (entry : LossRecord). loss_of sidx entry.pairs) records (λ entry. cond-le (nat_eq entry.id id) (loss_of sidx entry.pairs))
+
+module _ (ids : List ℕ) (samples : ℕ) (records : List LossRecord) (i : ℕ) (d entry : LossRecord) (below : i < length records) (is : entry ≡ slice_index_or records i d) (lanes : List (Vec ℕ Global)) (so_far : AreIdLanes ids samples (take i records) lanes) where
+  -- the next record fits
+  pub ids-fit : AreWithin records → (row place : ℕ) → row < samples + 1 → place < length ids → slice_index (column row lanes) place + loss_of (sidx_at (row_place row)) entry.pairs < 2 ^ 64
+  ids-fit within row place inside here =
+      let sidx = sidx_at (row_place row) in
+      omega (
+        arith,
+        ap (λ all. slice_index all place) (so_far.each row inside),
+        get_or-map (id_loss (take i records) sidx) ids place 0 0 here,
+        id-le (take i records) sidx (slice_index ids place),
+        sum_by-take-le (λ (one : LossRecord). loss_of sidx one.pairs) records i,
+        get_or-le-sum_by (λ (one : LossRecord). loss_of sidx one.pairs) records i d below,
+        ap (λ (one : LossRecord). loss_of sidx one.pairs) is,
+        within sidx,
+      )
+
+  -- with it, its id has more
+  pub ids-more : (more : List (Vec ℕ Global)) → AreLanes (samples + 1) (length ids) (λ row. with_more ids (column row lanes) entry.id (loss_of (sidx_at (row_place row)) entry.pairs)) more → AreIdLanes ids samples (take (i + 1) records) more
+  ids-more more are = record {
+    count_is = are.count_is;
+    wide = are.wide;
+    each = λ row inside.
+        let sidx = sidx_at (row_place row) in
+        are.each row inside ∙ (ap (λ all. with_more ids all entry.id (loss_of sidx entry.pairs)) (so_far.each row inside) ∙ each sidx ids);
+  }
+    where
+      one : (sidx : ℤ) (id : ℕ) → id_loss (take i records) sidx id + cond (nat_eq entry.id id) (loss_of sidx entry.pairs) 0 ≡ id_loss (take (i + 1) records) sidx id
+      one sidx id =
+          ap (λ (one : LossRecord). id_loss (take i records) sidx id + cond (nat_eq one.id id) (loss_of sidx one.pairs) 0) is
+          ∙ sym (sum_by_more (λ (one : LossRecord). cond (nat_eq one.id id) (loss_of sidx one.pairs) 0) records i d below)
+
+      each : (sidx : ℤ) (ids : List ℕ) → with_more ids (map (id_loss (take i records) sidx) ids) entry.id (loss_of sidx entry.pairs) ≡ map (id_loss (take (i + 1) records) sidx) ids
+      each sidx [] = refl
+      each sidx (id ∷ ids) =
+          ap (λ n. n ∷ with_more ids (map (id_loss (take i records) sidx) ids) entry.id (loss_of sidx entry.pairs)) (one sidx id)
+          ∙ ap (λ rest. id_loss (take (i + 1) records) sidx id ∷ rest) (each sidx ids)
+
+-- all records
+pub ids-end : (ids : List ℕ) (samples : ℕ) (records : List LossRecord) (i : ℕ) (lanes : List (Vec ℕ Global)) → length records ≤ i → AreIdLanes ids samples (take i records) lanes → AreIdLanes ids samples records lanes
+ids-end ids samples records i lanes past are = subst (λ (all : List LossRecord). AreIdLanes ids samples all lanes) (take_all i records past) are
+
+-- ---- losses by id
+
+-- amounts of ids are found by id
+loss_by-map : (loss : ℕ → ℕ) (ids : List ℕ) (id : ℕ) → loss_by ids (map loss ids) id ≡ cond (list_any (nat_eq id) ids) (loss id) 0
+loss_by-map loss [] id = refl
+loss_by-map loss (first ∷ ids) id = ap (λ b. cond b (loss first) (loss_by ids (map loss ids) id)) (nat_eq_equiv.symm first id) ∙ by (nat_eq id first) refl (loss_by-map loss ids id)
+  where
+    by : (b : Bool) → nat_eq id first ≡ b → loss_by ids (map loss ids) id ≡ cond (list_any (nat_eq id) ids) (loss id) 0 → cond b (loss first) (loss_by ids (map loss ids) id) ≡ cond (b || list_any (nat_eq id) ids) (loss id) 0
+    by true is rest = ap loss (sym (eqb-true id first is))
+    by false is rest = rest
+
+module _ (tree : Tree) (parts : Parts) (is : IsProgramme tree parts) (samples : ℕ) (records : List LossRecord) (lanes : List (Vec ℕ Global)) (are : AreIdLanes parts.ids samples records lanes) where
+  -- they are what the tree takes
+  pub taken-by : (row : ℕ) → row < samples + 1 → loss_by tree.ids (column row lanes) ≡ taken_loss tree records (sidx_at (row_place row))
+  taken-by row below =
+      ap (loss_by tree.ids) (are.each row below ∙ ap (map (id_loss records (sidx_at (row_place row)))) is.ids_are)
+      ∙ fun_ext (loss_by-map (id_loss records (sidx_at (row_place row))) tree.ids)
+
+  -- and can be carried up
+  pub ids-losses : AreWithin records → AreLosses parts (samples + 1) lanes
+  ids-losses within = record {
+    some = omega arith;
+    count_is = are.count_is;
+    wide = are.wide;
+    few = λ row below.
+        let sidx = sidx_at (row_place row) in
+        omega (arith, ap sum (are.each row below ∙ ap (map (id_loss records sidx)) is.ids_are), ids-few tree is.is records sidx, within sidx);
+  }
