@@ -1,11 +1,11 @@
 -- The cells of a row with a place for each sample.
-use Rattle.std.proofs.Common.{◌≡◌, ℕ, zero, suc, ◌+◌, ◌<◌, ◌≤◌, List, [], ◌∷◌, length, get_or, set, arith, refl, sym, ap, ◌∙◌, cond, Some, None, Option}
+use Rattle.std.proofs.Common.{◌≡◌, ℕ, zero, suc, ◌+◌, ◌<◌, ◌≤◌, List, [], ◌∷◌, length, get_or, set, arith, refl, sym, ap, ◌∙◌, cond, Some, None, Option, ◌++◌, take}
 use Rattle.std.specs.Prelude.{Bool, true, false, ◌||◌, not, nat_eq, All, IfSome}
 use Rattle.std.specs.List.{list_any}
 use Rattle.std.proofs.Math.ListN.{replicate}
 use Rattle.std.proofs.lemmas.Bool.Decides.{nat_tests, Decides-eqb}
-use Rattle.std.proofs.lemmas.List.Elements.{All-head, All-tail, All-cons}
-use Rattle.std.proofs.lemmas.List.{length-set}
+use Rattle.std.proofs.lemmas.List.Elements.{All-head, All-tail, All-cons, All-weaker, All-from_get_or, All-get_or}
+use Rattle.std.proofs.lemmas.List.{length-set, length-take-le, take_more, get_or_default, get_or-take}
 use Rattle.kt_period_cells.specs.declared.cell.Cell.{Cell}
 use Rattle.kt_period_cells.specs.declared.row.Row.{Row}
 use Rattle.kt_period_cells.specs.RowCells.{SampleCells, with_place, placed, listed_or_placed, cells_of, HasPlace, IsWide, cell_in, sample_at, IsRising, CellFits, Changes, one_of}
@@ -246,3 +246,56 @@ any_placed k (x ∷ cs) = by_test (nat_eq x.total 0) (any_placed (suc k) cs)
     by_test : (b : Bool) → list_any has_total cs ≡ has_any (placed (suc k) cs) → (not b || list_any has_total cs) ≡ has_any (with_place b k x (placed (suc k) cs))
     by_test true later = later
     by_test false later = refl
+
+-- ---- a cell behind those of lower samples
+
+-- places have no cells of lower samples
+placed_nothing : (k : ℕ) (cs : List Cell) → All (λ (one : ℕ × Cell). one.0 < k) (placed k cs) → placed k cs ≡ []
+placed_nothing k [] low = refl
+placed_nothing k (x ∷ cs) low = by_test (nat_eq x.total 0) low (placed_nothing (suc k) cs)
+  where
+    by_test : (b : Bool) → All (λ (one : ℕ × Cell). one.0 < k) (with_place b k x (placed (suc k) cs)) → (All (λ (one : ℕ × Cell). one.0 < suc k) (placed (suc k) cs) → placed (suc k) cs ≡ []) → with_place b k x (placed (suc k) cs) ≡ []
+    by_test true low later = later (All-weaker (λ (one : ℕ × Cell). one.0 < k) (λ (one : ℕ × Cell). one.0 < suc k) (λ one less. omega (arith, less)) (placed (suc k) cs) low)
+    by_test false low later = let wrong : k < k = All-head (λ (one : ℕ × Cell). one.0 < k) (k, x) (placed (suc k) cs) low in absurd (omega (arith, wrong))
+
+-- a cell in the place of a sample above all that have one
+pub placed_behind : (k : ℕ) (cs : List Cell) (i s : ℕ) (c : Cell) → s ≡ k + i → i < length cs → 1 ≤ c.total → All (λ (one : ℕ × Cell). one.0 < s) (placed k cs) → placed k (set cs i c) ≡ placed k cs ++ (s, c) ∷ []
+placed_behind k [] i s c is within some low = absurd (omega (arith, within))
+placed_behind k (x ∷ cs) zero s c is within some low =
+    let same : s ≡ k = omega (arith, is) in
+    let here : All (λ (one : ℕ × Cell). one.0 < k) (placed k (x ∷ cs)) = rw same at low in
+    let none : placed k (x ∷ cs) ≡ [] = placed_nothing k (x ∷ cs) here in
+    let later : placed (suc k) cs ≡ [] = by_test (nat_eq x.total 0) none in
+    let above : nat_eq c.total 0 ≡ false = grind (arith, nat_tests) in
+    ap (λ b. with_place b k c (placed (suc k) cs)) above ∙ ap (λ (rest : SampleCells). (k, c) ∷ rest) later ∙ ap (λ n. (n, c) ∷ []) (sym same) ∙ ap (λ (front : SampleCells). front ++ (s, c) ∷ []) (sym none)
+  where
+    by_test : (b : Bool) → with_place b k x (placed (suc k) cs) ≡ [] → placed (suc k) cs ≡ []
+    by_test true none = none
+    by_test false none = cc
+placed_behind k (x ∷ cs) (suc i) s c is within some low = by_test (nat_eq x.total 0) low (placed_behind (suc k) cs i s c (omega (arith, is)) (omega (arith, within)) some)
+  where
+    by_test : (b : Bool) → All (λ (one : ℕ × Cell). one.0 < s) (with_place b k x (placed (suc k) cs)) → (All (λ (one : ℕ × Cell). one.0 < s) (placed (suc k) cs) → placed (suc k) (set cs i c) ≡ placed (suc k) cs ++ (s, c) ∷ []) →
+        with_place b k x (placed (suc k) (set cs i c)) ≡ with_place b k x (placed (suc k) cs) ++ (s, c) ∷ []
+    by_test true low later = later low
+    by_test false low later = ap (λ (rest : SampleCells). (k, x) ∷ rest) (later (All-tail (λ (one : ℕ × Cell). one.0 < s) (k, x) (placed (suc k) cs) low))
+
+-- cells before one are of lower samples
+pub lower_before : (cells : SampleCells) (i : ℕ) (d : ℕ × Cell) → IsRising cells → i < length cells → All (λ (one : ℕ × Cell). one.0 < (get_or cells i d).0) (take i cells)
+lower_before cells i d rising within =
+    All-from_get_or (λ (one : ℕ × Cell). one.0 < (get_or cells i d).0) (take i cells) d
+    (λ j inside.
+    let less : j < i = omega (arith, inside, length-take-le i cells (omega (arith, within))) in
+    let none : ℕ × Cell = (0, record { total = 0; maximum = 0 }) in
+    let here : (get_or cells j d).0 < (get_or cells i d).0 =
+    rw (get_or_default cells j d none (omega (arith, less, within)), get_or_default cells i d none within) (rising j i less within) in
+    rw (get_or-take i cells j d less) here)
+
+-- the cells of one more
+pub places_more : (cs new : List Cell) (cells : SampleCells) (i samples : ℕ) (d : ℕ × Cell) → IsRising cells → All (CellFits samples) cells → length cs ≡ samples + 1 → i < length cells → placed 0 cs ≡ take i cells →
+    new ≡ set cs (get_or cells i d).0 (get_or cells i d).1 → placed 0 new ≡ take (i + 1) cells
+places_more cs new cells i samples d rising fits len within before is =
+    let one : ℕ × Cell = get_or cells i d in
+    let fit : CellFits samples one = All-get_or (CellFits samples) cells i d within fits in
+    ap (placed 0) is
+    ∙ placed_behind 0 cs one.0 one.0 one.1 (omega arith) (omega (arith, fit.sample, len)) fit.some (rw before (lower_before cells i d rising within))
+    ∙ ap (λ (front : SampleCells). front ++ one ∷ []) before ∙ sym (take_more cells i d within)

@@ -1,5 +1,5 @@
 -- The bounds of rows and of a table, after one row changed or was put behind the others.
-use Rattle.std.proofs.Common.{◌≡◌, ℕ, ◌+◌, ◌<◌, ◌≤◌, List, [], ◌∷◌, ◌++◌, length, get_or, set, arith, refl, sym, ap, ◌∙◌, subst, cond, Some, None, Option}
+use Rattle.std.proofs.Common.{◌≡◌, ℕ, ◌+◌, ◌<◌, ◌≤◌, List, [], ◌∷◌, ◌++◌, length, map, get_or, set, arith, refl, sym, ap, ◌∙◌, subst, cond, Some, None, Option}
 use Rattle.std.specs.Prelude.{ℤ, Bool, true, false, All, nat_eq, IfSome}
 use Rattle.std.specs.Option.{option_or}
 use Rattle.std.proofs.lemmas.List.Elements.{All-set, All-append, All-cons, All-nil, All-head, All-tail, All-get_or}
@@ -11,10 +11,10 @@ use Rattle.kt_period_cells.specs.declared.row.Row.{Row}
 use Rattle.kt_period_cells.specs.Standing.{sidx_in_range, total_in, maximum_in, most_total, raised}
 use Rattle.kt_period_cells.specs.Amounts.{sample_of}
 use Rattle.kt_period_cells.specs.RowCells.{cells_of, IsWide, SampleCells, cell_in, RowFits, CellFits, Changes}
-use Rattle.kt_period_cells.specs.Rows.{index_key, same_index, same_row, row_keys, place_of, IsTable}
+use Rattle.kt_period_cells.specs.Rows.{index_key, same_index, same_row, row_keys, place_of, key_in, entries_of, IsTable}
 use Rattle.kt_period_cells.proofs.RowKeys.{row_exact, row_itself, same_row_back, sample_within}
 use Rattle.kt_period_cells.proofs.Places.{keys_set, place_push, apart_push, keys_push, length_keys}
-use Rattle.kt_period_cells.proofs.Tables.{length_set, entries_push}
+use Rattle.kt_period_cells.proofs.Tables.{length_set, entries_push, entries_same}
 
 -- a row within its bounds, after one of its cells changed
 pub fits_changed : (periods samples s : ℕ) (old new : Row) (cell : Option Cell) → RowFits periods samples old → Changes old new s cell → IfSome cell (λ one. CellFits samples (s, one)) → RowFits periods samples new
@@ -100,3 +100,17 @@ table_push periods samples held index new_index rows key new table missing first
         or_none_place : (o : Option ℕ) → option_or o None ≡ o
         or_none_place (Some x) = refl
         or_none_place None = refl
+
+-- with the cells of one row in other places
+pub table_widened : (periods samples held : ℕ) (index : List (IndexKey × ℕ)) (rows : List Row) (i : ℕ) (old new : Row) → IsTable periods samples held index rows → i < length rows → old ≡ get_or rows i old →
+    new.key ≡ old.key → cells_of new ≡ cells_of old → IsWide samples new.places.items → IsTable periods samples held index (set rows i new)
+table_widened periods samples held index rows i old new table within is key cells wide =
+    let fits = table_row periods samples held index rows i old table within is in
+    table_set periods samples held held index rows i old new table within is key
+    (record { first = rw key fits.first; last = rw key fits.last; wide = wide; rising = rw cells fits.rising; cells = rw cells fits.cells })
+    (let same : length (cells_of new) ≡ length (cells_of old) = ap length cells in omega (arith, same))
+
+-- and their entries
+pub entries_widened : (rows : List Row) (i : ℕ) (old new : Row) → old ≡ get_or rows i old → new.key ≡ old.key → cells_of new ≡ cells_of old → entries_of (set rows i new) ≡ entries_of rows
+entries_widened rows i old new is key cells =
+    entries_same rows i old new is (ap (λ (k : RowKey). map (λ one. (key_in k one.0, one.1)) (cells_of new)) key ∙ ap (λ (found : SampleCells). map (λ one. (key_in old.key one.0, one.1)) found) cells)

@@ -11,6 +11,7 @@ use std::alloc::Global;
 mod amounts;
 mod listed;
 mod room;
+mod widening;
 
 pub(crate) use amounts::amount;
 use listed::{listed_cell, place};

@@ -105,7 +105,20 @@ impl Rows {
         Err(AllocError)
     }
 
-    /// Where a row stands, which is put behind the others if it is not there. An error is want of memory.
+    /// Gives each sample of a row a place, where there is one. An error is want of memory.
+    fn widen(&mut self, place: usize) -> Result<(), OutOfMemory>
+        ensures size { (self.new.periods ≡ self.old.periods) × (self.new.samples ≡ self.old.samples) }
+        ensures entries { entries_of self.new.rows ≡ entries_of self.old.rows }
+        ensures rows { row_keys self.new.rows ≡ row_keys self.old.rows }
+    {
+        if place >= self.rows.len() {
+            return Ok(());
+        }
+        self.rows[place].widen(self.alloc, self.samples)
+    }
+
+    /// Where a row stands, which is put behind the others if it is not there, and given a place for each sample where the record
+    /// is wide. An error is want of memory.
     fn row(&mut self, key: RowKey, wide: bool) -> Result<usize, OutOfMemory>
         requires first { 1 ≤ key.period }
         requires last { key.period ≤ self.old.periods }
@@ -115,7 +128,12 @@ impl Rows {
         ensures ok { IfOk result (λ place. place_of key (row_keys self.new.rows) ≡ Some place) }
     {
         match self.find(key) {
-            Some(place) => Ok(place),
+            Some(place) => {
+                if wide {
+                    self.widen(place)?;
+                }
+                Ok(place)
+            }
             None => self.open(key, wide),
         }
     }
