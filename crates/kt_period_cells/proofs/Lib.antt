@@ -1,4 +1,3 @@
-pub mod Keys
 pub mod Steps
 pub mod Walks
 pub mod RowCells
@@ -17,4 +16,6 @@ pub mod SetEntries
 pub mod SetRows
 pub mod RowAmounts
 pub mod RoomLemmas
+pub mod SameLosses
+pub mod RaisedRows
 pub mod IdLists

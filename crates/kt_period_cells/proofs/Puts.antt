@@ -38,7 +38,7 @@ row_of_key periods samples held s index rows key i row table found sidx sample_i
     }
 
 -- a cell that is there, or one more
-one_or_extra : (o : Option Cell) → one_of o + extra o ≡ 1
+pub one_or_extra : (o : Option Cell) → one_of o + extra o ≡ 1
 one_or_extra (Some cell) = refl
 one_or_extra None = refl
 

@@ -1,23 +1,16 @@
 -- Rows with room for the losses of a record, after one of them was added.
-use Rattle.std.proofs.Common.{◌≡◌, ℕ, zero, suc, ◌+◌, ◌*◌, ◌-◌, ◌<◌, ◌≤◌, List, [], ◌∷◌, length, get_or, set, take, drop, arith, refl, sym, ap, ◌∙◌, subst, cond, mul-add, add-mul, Some, None, Option}
-use Rattle.std.specs.Prelude.{Bool, true, false, nat_eq, nat_lt, nat_le, All}
-use Rattle.std.proofs.lemmas.Bool.Decides.{nat_tests}
+use Rattle.std.proofs.Common.{◌≡◌, ℕ, zero, suc, ◌+◌, ◌*◌, ◌-◌, ◌<◌, ◌≤◌, List, [], ◌∷◌, length, get_or, set, take, arith, ap, ◌∙◌, subst, cond, add-mul, Some, None, Option}
+use Rattle.std.specs.Prelude.{Bool, true, false, nat_eq, All}
 use Rattle.std.proofs.lemmas.List.{take_more}
-use Rattle.std.proofs.lemmas.List.Sums.{sum_by-cons}
 use Rattle.std.proofs.lemmas.List.Elements.{All-get_or, All-set, All-push, All-weaker}
-use Rattle.kt_stream.specs.declared.entry.Pair.{Pair}
-use Rattle.kt_rec.specs.declared.perspective.CellKey.{CellKey}
 use Rattle.kt_period_cells.specs.declared.cell.Cell.{Cell}
-use Rattle.kt_period_cells.specs.declared.cell.CellStop.TheVariants as cell_stop
 use Rattle.kt_period_cells.specs.declared.row.Row.{Row}
 use Rattle.kt_period_cells.specs.declared.rows.Spot.{Spot}
-use Rattle.kt_period_cells.specs.Losses.{is_added}
-use Rattle.kt_period_cells.specs.Standing.{raised, total_in, maximum_in, refusal_of, most_cells, most_total}
+use Rattle.kt_period_cells.specs.Standing.{raised, total_in, maximum_in, most_total}
 use Rattle.kt_period_cells.specs.RowCells.{cells_of, cell_in, placed, CellFits}
 use Rattle.kt_period_cells.specs.SummaryRows.{row_at}
-use Rattle.kt_period_cells.specs.Room.{IsRoomy, IsRoomyAt, AreRoomy, added_sum}
+use Rattle.kt_period_cells.specs.Room.{IsRoomy, IsRoomyAt, AreRoomy}
 use Rattle.kt_period_cells.proofs.PlacedCells.{some_cell, placed_cells, placed_get}
-use Rattle.kt_period_cells.proofs.Steps.{extra}
 use Rattle.kt_period_cells.proofs.SetRows.{row_is}
 
 -- ---- one place
@@ -92,16 +85,6 @@ all_roomy_set rows i new loss more spots within f room =
 pub roomy_same : (a b : ℕ) (spots : List Spot) (rows : List Row) → a ≡ b → AreRoomy a spots rows → AreRoomy b spots rows
 roomy_same a b spots rows same room = subst (λ n. AreRoomy n spots rows) same room
 
--- no refusal where there is room
-pub no_refusal : (held : ℕ) (old : Option Cell) (key : CellKey) (loss : ℕ) → held < most_cells → total_in old + loss ≤ most_total → None ≡ refusal_of held old key loss
-no_refusal held None key loss few room =
-    let below : nat_le most_cells held ≡ false = grind (arith, nat_tests) in
-    let low : nat_lt most_total loss ≡ false = grind (arith, nat_tests) in
-    sym (ap (λ b. cond b (Some (cell_stop.Cells held)) (cond (nat_lt most_total loss) (Some (cell_stop.Period key 0 loss)) None)) below ∙ ap (λ b. cond b (Some (cell_stop.Period key 0 loss)) None) low)
-no_refusal held (Some cell) key loss few room =
-    let low : nat_lt most_total (cell.total + loss) ≡ false = grind (arith, nat_tests) in
-    sym (ap (λ b. cond b (Some (cell_stop.Period key cell.total loss)) None) low)
-
 -- room in the cell of a sample with a place
 pub roomy_cell : (loss : ℕ) (row : Row) (s : ℕ) (d : Cell) → s < length row.places.items → IsRoomy loss row → total_in (cell_in (cells_of row) s) + loss ≤ most_total
 roomy_cell loss row s d within room =
@@ -112,21 +95,7 @@ roomy_cell loss row s d within room =
 pub raised_within : (samples s loss : ℕ) (old : Option Cell) → s ≤ samples → 1 ≤ loss → total_in old + loss ≤ most_total → maximum_in old ≤ most_total → CellFits samples (s, raised old loss)
 raised_within samples s loss old low some room greatest = record { sample = low; some = omega (arith, some); most = room; greatest = omega (arith, greatest, room) }
 
--- at most one cell more
-pub extra_low : (o : Option Cell) → extra o ≤ 1
-extra_low None = omega arith
-extra_low (Some cell) = omega arith
-
 -- ---- amounts
-
--- nothing is left behind the last
-pub none_left : (n k loss more : ℕ) → n ≤ k → (n - k) * loss + more ≡ more
-none_left n k loss more past = let none : n - k ≡ 0 = omega (arith, past) in rw none (omega arith)
-
--- less room
-pub all_roomy_less : (more less : ℕ) (spots : List Spot) (rows : List Row) → less ≤ more → AreRoomy more spots rows → AreRoomy less spots rows
-all_roomy_less more less spots rows low room =
-    All-weaker (λ (spot : Spot). IsRoomyAt more (row_at rows spot.row)) (λ (spot : Spot). IsRoomyAt less (row_at rows spot.row)) (λ spot here. roomy_less more less low (row_at rows spot.row) here) spots room
 
 -- what is left for one spot less
 pub one_less : (n k loss more : ℕ) → k < n → (n - k) * loss + more ≡ loss + ((n - (k + 1)) * loss + more)
@@ -136,15 +105,3 @@ one_less n k loss more less =
   where
     split : (m : ℕ) → (1 + m) * loss + more ≡ loss + (m * loss + more)
     split m = simp (add-mul) (omega arith)
-
--- the sum of one pair more
-pub sum_next : (pairs : List Pair) (i : ℕ) (d : Pair) → i < length pairs → added_sum (drop i pairs) ≡ cond (is_added (get_or pairs i d)) (get_or pairs i d).loss 0 + added_sum (drop (i + 1) pairs)
-sum_next [] i d within = absurd (omega (arith, within))
-sum_next (pair ∷ pairs) zero d within = sum_by-cons (λ (pair : Pair). cond (is_added pair) pair.loss 0) pair pairs
-sum_next (pair ∷ pairs) (suc i) d within =
-    let behind : suc i + 1 ≡ suc (i + 1) = omega arith in
-    sum_next pairs i d (omega (arith, within)) ∙ ap (λ n. cond (is_added (get_or pairs i d)) (get_or pairs i d).loss 0 + added_sum (drop n (pair ∷ pairs))) (sym behind)
-
--- what is left for one pair less
-pub times_next : (n a b c : ℕ) → a ≡ b + c → n * a ≡ n * b + n * c
-times_next n a b c is = rw is (simp (mul-add) refl)

@@ -11,7 +11,7 @@ use Rattle.kt_period_cells.specs.declared.cell.CellStop.{CellStop}
 use Rattle.kt_rec.specs.declared.perspective.CellKey.{CellKey}
 use Rattle.kt_period_cells.specs.Losses.{KeyLoss, Added, all_losses, losses_of, maximum}
 use Rattle.kt_period_cells.specs.Standing.{Standing, stop_at, first_stop, or_else}
-use Rattle.kt_period_cells.specs.Journal.{loss_of, noted_losses, Recalls, Going, Clear, Returns}
+use Rattle.kt_period_cells.specs.Journal.{loss_of, noted_losses, Recalls, Going, Returns}
 
 -- the first of three causes
 or_else_else : (a b c : Option CellStop) → or_else (or_else a b) c ≡ or_else a (or_else b c)
@@ -137,23 +137,3 @@ pub going_passed : {X : Type 0} (f : X → List KeyLoss) (xs : List X) (i : ℕ)
     f (get_or xs i d) ≡ [] → Going before (flat_map f (take i xs)) changes entries → Going before (flat_map f (take (i + 1) xs)) changes entries
 going_passed f xs i d before changes entries inside same going =
     going_pair f xs i d before [] changes entries inside same (rw (append-nil (flat_map f (take i xs))) going)
-
--- ---- losses that are noted nowhere
-
--- nothing was done yet
-pub clear_none : (before : List KeyLoss) (entries : List (CellKey × Cell)) → Standing before entries → Clear before [] entries
-clear_none before entries stands = record { stands = rw (append-nil before) stands; clear = refl }
-
--- one more loss is in
-pub clear_more : {X : Type 0} (f : X → KeyLoss) (xs : List X) (i : ℕ) (d : X) (one : KeyLoss) (before done : List KeyLoss) (es entries : List (CellKey × Cell)) → i < length xs → f (get_or xs i d) ≡ one → Clear before (done ++ map f (take i xs)) es →
-    (stop_at (before ++ (done ++ map f (take i xs))) one ≡ None) × Standing ((before ++ (done ++ map f (take i xs))) ++ one ∷ []) entries → Clear before (done ++ map f (take (i + 1) xs)) entries
-clear_more f xs i d one before done es entries inside is going put =
-    rw (loss_more f xs i d one inside is, ← append_assoc done (map f (take i xs)) (one ∷ []))
-    (record { stands = rw (append_assoc before (done ++ map f (take i xs)) (one ∷ [])) at put.1; clear = clear_push before (done ++ map f (take i xs)) one going.clear put.0 })
-
--- a pair's losses are in
-pub clear_pair : {X : Type 0} (f : X → List KeyLoss) (xs : List X) (i : ℕ) (d : X) (before further : List KeyLoss) (entries : List (CellKey × Cell)) → i < length xs →
-    f (get_or xs i d) ≡ further → Clear before (flat_map f (take i xs) ++ further) entries → Clear before (flat_map f (take (i + 1) xs)) entries
-clear_pair f xs i d before further entries inside same going =
-    let front : flat_map f (take (i + 1) xs) ≡ flat_map f (take i xs) ++ f (get_or xs i d) = ap (flat_map f) (take_more xs i d inside) ∙ flat_map-append f (take i xs) (get_or xs i d ∷ []) ∙ ap (λ zs. flat_map f (take i xs) ++ zs) (flat_map-cons f (get_or xs i d) [] ∙ append-nil (f (get_or xs i d))) in
-    rw (front, same) going

@@ -1,22 +1,20 @@
 //! Adding a record of which no loss passes a limit: nothing is noted, since nothing has to be taken back.
 //! The rules: docs/CALCULATION.md, "Periods"; docs/LIMITS.md, "Cells".
-ghost use Rattle.std.specs.Prelude.{◌≡◌, ◌+◌, ◌*◌, ◌<◌, ◌≤◌, ◌^◌, ℕ, pos, ◌≤ℤ◌, List, ◌∷◌, [], ◌++◌, map, All, IfSome, Some, None, true, length};
+ghost use Rattle.std.specs.Prelude.{◌≡◌, ◌+◌, ◌*◌, ◌≤◌, ◌^◌, ℕ, pos, ◌≤ℤ◌, List, ◌∷◌, [], ◌++◌, All, IfSome, true, length};
 ghost use Rattle.std.specs.List.{flat_map};
 ghost use Rattle.kt_rec.specs.declared.perspective.CellKey.{CellKey};
 ghost use Rattle.kt_rec.specs.declared.perspective.Perspective.{Perspective};
 ghost use Rattle.kt_period_cells.specs.declared.rows.Spot.{Spot};
 ghost use Rattle.kt_period_cells.specs.Losses.{KeyLoss, is_added};
-ghost use Rattle.kt_period_cells.specs.Amounts.{sample_of};
-ghost use Rattle.kt_period_cells.specs.Standing.{Standing, sidx_in_range, most_cells, most_total, stop_at};
-ghost use Rattle.kt_period_cells.specs.Rows.{entries_of, row_keys, row_of, place_of, IsSpot, spot_loss, spot_losses};
+ghost use Rattle.kt_period_cells.specs.Standing.{Standing, cell_at, most_cells, most_total, total_in};
+ghost use Rattle.kt_period_cells.specs.Rows.{entries_of, row_keys, IsSpot, spot_losses};
 ghost use Rattle.kt_period_cells.specs.Room.{IsRoomyAt, AreRoomy, added_sum};
 ghost use Rattle.kt_period_cells.specs.SummaryRows.{row_at};
 ghost use Rattle.kt_period_cells.specs.Journal.{Clear};
 
 use super::{Rows, Spot};
 use crate::cell::is_added;
-use crate::raising::{MOST_CELLS, MOST_TOTAL, held_with};
-use crate::samples::pair_sample;
+use crate::raising::{MOST_CELLS, MOST_TOTAL};
 use kt_stream::Pair;
 
 /// The sum of the losses that are added up.
@@ -97,41 +95,29 @@ impl Rows {
         }
     }
 
-    /// Adds one loss, above 0, to the cell of a sample in a row that has room for it.
-    fn put_within(&mut self, row: usize, sample: u32, loss: u64)
-        requires sample { sample ≤ self.old.samples }
-        requires some { 1 ≤ loss }
-        requires few { length (entries_of self.old.rows) < most_cells }
-        requires room { IsRoomyAt loss (row_at self.old.rows row) }
+    /// Adds the losses of the pairs to the row at a spot, which has room for them.
+    fn add_spot(&mut self, pairs: &[Pair], spot: &Spot)
+        requires sidx { All (λ pair. pair.sidx ≤ℤ pos self.old.samples) pairs.now }
+        requires few { length (entries_of self.old.rows) + length pairs.now ≤ most_cells }
+        requires room { IsRoomyAt (added_sum pairs.now) (row_at self.old.rows spot.now.row) }
         ensures size { (self.new.periods ≡ self.old.periods) × (self.new.samples ≡ self.old.samples) }
         ensures rows { row_keys self.new.rows ≡ row_keys self.old.rows }
-        ensures count { length (entries_of self.new.rows) ≤ length (entries_of self.old.rows) + 1 }
-        ensures room { (more : ℕ) (spots : List Spot) → AreRoomy (loss + more) spots self.old.rows → AreRoomy more spots self.new.rows }
-        ensures step { (losses : List KeyLoss) (key : CellKey) → place_of (row_of key) (row_keys self.old.rows) ≡ Some row → sample ≡ sample_of key.sidx → sidx_in_range self.old.samples key.sidx ≡ true → Standing losses (entries_of self.old.rows) → (stop_at losses (record { key = key; loss = loss }) ≡ None) × Standing (losses ++ (record { key = key; loss = loss }) ∷ []) (entries_of self.new.rows) }
+        ensures count { length (entries_of self.new.rows) ≤ length (entries_of self.old.rows) + length pairs.now }
+        ensures room { (more : ℕ) (spots : List Spot) → AreRoomy (added_sum pairs.now + more) spots self.old.rows → AreRoomy more spots self.new.rows }
+        ensures step { (perspective : Perspective) (set summary : ℕ) (before : List KeyLoss) → IsSpot perspective set summary (row_keys self.old.rows) spot.now → Standing before (entries_of self.old.rows) → Standing (before ++ flat_map (spot_losses perspective set summary (spot.now ∷ [])) pairs.now) (entries_of self.new.rows) }
     {
-        let old = self.rows[row].raise(sample, loss);
-        self.held = held_with(self.held, old);
+        let opened = self.rows[spot.row].raise_all(pairs, self.samples);
+        self.held += opened;
     }
 
-    /// Adds the losses of a pair to the rows at spots, which have room for them.
-    fn add_pair_within(&mut self, pair: &Pair, spots: &[Spot])
-        requires added { is_added pair.now ≡ true }
-        requires sidx { sidx_in_range self.old.samples pair.now.sidx ≡ true }
-        requires few { length (entries_of self.old.rows) + length spots.now ≤ most_cells }
-        requires room { AreRoomy (length spots.now * pair.now.loss) spots.now self.old.rows }
-        ensures size { (self.new.periods ≡ self.old.periods) × (self.new.samples ≡ self.old.samples) }
-        ensures rows { row_keys self.new.rows ≡ row_keys self.old.rows }
-        ensures count { length (entries_of self.new.rows) ≤ length (entries_of self.old.rows) + length spots.now }
-        ensures room { (more : ℕ) → AreRoomy (length spots.now * pair.now.loss + more) spots.now self.old.rows → AreRoomy more spots.now self.new.rows }
-        ensures step { (perspective : Perspective) (set summary : ℕ) (before done : List KeyLoss) → All (IsSpot perspective set summary (row_keys self.old.rows)) spots.now → Clear before done (entries_of self.old.rows) → Clear before (done ++ map (spot_loss perspective set summary pair.now) spots.now) (entries_of self.new.rows) }
+    /// The total of each cell is within its limit.
+    fn keeps_totals(&self)
+        ensures { (key : CellKey) → total_in (cell_at (entries_of self.now.rows) key) ≤ most_total }
     {
-        let sample = pair_sample(pair);
-        for spot in spots {
-            self.put_within(spot.row, sample, pair.loss);
-        }
+        let _held = self.held;
     }
 
-    /// Adds the losses of the pairs, pair by pair, to the rows at spots, which have room for them.
+    /// Adds the losses of the pairs to the rows at spots, which have room for them.
     pub(crate) fn add_within(&mut self, pairs: &[Pair], spots: &[Spot])
         requires sidx { All (λ pair. pair.sidx ≤ℤ pos self.old.samples) pairs.now }
         requires few { length (entries_of self.old.rows) + length spots.now * length pairs.now ≤ most_cells }
@@ -139,11 +125,9 @@ impl Rows {
         ensures size { (self.new.periods ≡ self.old.periods) × (self.new.samples ≡ self.old.samples) }
         ensures step { (perspective : Perspective) (set summary : ℕ) (before : List KeyLoss) → All (IsSpot perspective set summary (row_keys self.old.rows)) spots.now → Standing before (entries_of self.old.rows) → Clear before (flat_map (spot_losses perspective set summary spots.now) pairs.now) (entries_of self.new.rows) }
     {
-        for pair in pairs {
-            if !is_added(pair) {
-                continue;
-            }
-            self.add_pair_within(pair, spots);
+        for spot in spots {
+            self.add_spot(pairs, spot);
         }
+        self.keeps_totals();
     }
 }
