@@ -3,11 +3,11 @@ use Rattle.std.proofs.Common.{◌≡◌, ◌⊎◌, ◌<◌, ◌+◌, ℕ, List,
 use Rattle.std.specs.List.{flat_map}
 use Rattle.std.specs.Option.{option_or}
 use Rattle.std.proofs.lemmas.Grind.{flat_map-append}
-use Rattle.kt_curve.specs.Journal.{Adds}
-use Rattle.kt_curve.specs.Losses.{Added, all_losses, losses_of}
-use Rattle.kt_curve.specs.Standing.{KeptCells, StandsFor, first_stop}
-use Rattle.kt_curve.specs.declared.cell.CellStop.{CellStop}
-use Rattle.kt_curve.specs.declared.cell.CellStop.TheVariants as cell_stop
+use Rattle.kt_period_cells.specs.Journal.{Adds}
+use Rattle.kt_period_cells.specs.Losses.{Added, all_losses, losses_of}
+use Rattle.kt_period_cells.specs.Standing.{KeptCells, StandsFor, first_stop}
+use Rattle.kt_period_cells.specs.declared.cell.CellStop.{CellStop}
+use Rattle.kt_period_cells.specs.declared.cell.CellStop.TheVariants as cell_stop
 use Rattle.kt_ends.specs.declared.status.Refusal.{Refusal}
 use Rattle.kt_event.specs.declared.block.Summaries.{Summaries}
 use Rattle.kt_periods.specs.Adding.{cell_refusal, first_refusal, refusal_of}

@@ -2,8 +2,8 @@
 use Rattle.std.proofs.Common.{◌≡◌, List, [], ◌∷◌, ◌++◌, take, Option, Some, None, Result, Ok, Err, refl, sym, ap, subst, ◌∙◌, append-nil, append_assoc, inl, inr}
 use Rattle.std.proofs.lemmas.Grind.{flat_map-append}
 use Rattle.std.proofs.lemmas.List.{take-append-drop}
-use Rattle.kt_curve.specs.Losses.{Added}
-use Rattle.kt_curve.specs.Standing.{KeptCells, StandsFor}
+use Rattle.kt_period_cells.specs.Losses.{Added}
+use Rattle.kt_period_cells.specs.Standing.{KeptCells, StandsFor}
 use Rattle.kt_ends.specs.declared.status.Refusal.{Refusal}
 use Rattle.kt_ends.specs.declared.status.Refusal.TheVariants as refusal
 use Rattle.kt_event.specs.declared.block.EventBlock.{EventBlock}

@@ -2,8 +2,8 @@
 //! The rules: docs/CALCULATION.md, "Periods"; docs/REFUSALS.md, "Order".
 ghost use Rattle.std.specs.Prelude.{◌≡◌, ◌≤◌, [], List, All, IfErr, length, true};
 ghost use Rattle.std.specs.List.{AllByRecursion};
-ghost use Rattle.kt_curve.specs.Losses.{Added};
-ghost use Rattle.kt_curve.specs.Standing.{StandsFor};
+ghost use Rattle.kt_period_cells.specs.Losses.{Added};
+ghost use Rattle.kt_period_cells.specs.Standing.{StandsFor};
 ghost use Rattle.kt_event.specs.Losses.{AreSummaries};
 ghost use Rattle.kt_stream.specs.Summary.{IsSummary};
 ghost use Rattle.kt_tables.specs.Portfolio.{KeepsPeriods};
@@ -15,7 +15,7 @@ ghost use Rattle.kt_chain.specs.Rounds.{AddsAll, AddsBlocks, IsGoodPart, fold_re
 ghost use Rattle.kt_periods.specs.Adding.{cell_refusal as refusal_of_cells};
 
 use crate::part::{PartBlock, RefusedRow};
-use kt_curve::{CellStop, Cells};
+use kt_period_cells::{CellStop, Cells};
 use kt_ends::Refusal;
 use kt_event::{EventBlock, Summaries};
 use kt_part::Fold;

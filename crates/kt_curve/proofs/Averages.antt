@@ -1,32 +1,25 @@
 -- The table of average annual losses, from the entries of its set.
-use Rattle.std.proofs.Common.{◌≡◌, ℕ, ◌*◌, ◌≤◌, List, [], ◌∷◌, ◌++◌, map, arith, refl, ap, ◌∙◌, cond}
-use Rattle.std.specs.Prelude.{Bool, true, false, ◌&&◌, nat_lt, All}
+use Rattle.std.proofs.Common.{◌≡◌, ℕ, ◌*◌, ◌≤◌, List, [], ◌∷◌, ◌++◌, map, refl, ap, ◌∙◌, cond}
+use Rattle.std.specs.Prelude.{Bool, true, false, All}
 use Rattle.std.specs.List.{flat_map}
 use Rattle.std.specs.Map.{keys_of}
-use Rattle.std.proofs.lemmas.Bool.Decides.{nat_tests}
 use Rattle.std.proofs.lemmas.List.Elements.{All-nil, All-cons, All-append}
 use Rattle.std.proofs.lemmas.List.Concat.{flat_map-cons}
 use Rattle.kt_rec.specs.declared.perspective.Perspective.{Perspective}
 use Rattle.kt_rec.specs.declared.perspective.CellKey.{CellKey}
 use Rattle.kt_rec.specs.declared.periods.Occurrence.{Occurrence}
 use Rattle.kt_stream.specs.declared.entry.Pair.{Pair}
-use Rattle.kt_curve.specs.declared.cell.Cell.{Cell}
-use Rattle.kt_curve.specs.Losses.{KeyLoss, Added, total, all_losses, losses_of, pair_losses, is_added, has_cells, loss_at}
-use Rattle.kt_curve.specs.Grid.{summary_ids, summary_entries, HasSet, keys_for, mean_sidx, sample_sidx, moments_of, by_summary}
-use Rattle.kt_curve.specs.Standing.{Standing, cell_at, total_in}
-use Rattle.kt_curve.specs.Amounts.{amount_at}
+use Rattle.kt_period_cells.specs.declared.cell.Cell.{Cell}
+use Rattle.kt_period_cells.specs.Losses.{KeyLoss, Added, total, all_losses, losses_of, pair_losses, is_added, loss_at}
+use Rattle.kt_curve.specs.Grid.{summary_ids, HasSet, keys_for, mean_sidx, sample_sidx, moments_of, by_summary}
+use Rattle.kt_period_cells.specs.Sets.{summary_entries}
+use Rattle.kt_period_cells.specs.Standing.{Standing, cell_at, total_in}
+use Rattle.kt_period_cells.specs.Amounts.{amount_at}
 use Rattle.kt_curve.specs.Average.{aal_row, aal_rows, average_annual_loss_rows}
+use Rattle.kt_period_cells.specs.TotalLaws.{added_some}
 use Rattle.kt_curve.proofs.Ids.{ids_of_standing, totals_of_standing, flat_map_each}
 
 -- ---- losses are above 0
-
--- a pair that is added up has a loss
-pub added_some : (pair : Pair) → is_added pair ≡ true → 1 ≤ pair.loss
-added_some pair added = both (has_cells pair.sidx) (nat_lt 0 pair.loss) pair.loss added (λ e. grind (arith, nat_tests))
-  where
-    both : (a b : Bool) (loss : ℕ) → a && b ≡ true → (b ≡ true → 1 ≤ loss) → 1 ≤ loss
-    both true b loss e f = f e
-    both false b loss e f = cc
 
 -- what holds of all that each gives holds of all
 all_flat : {X : Type 0} (P : KeyLoss → Type 0) (f : X → List KeyLoss) → ((x : X) → All P (f x)) → (xs : List X) → All P (flat_map f xs)

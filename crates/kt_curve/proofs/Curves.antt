@@ -1,20 +1,20 @@
 -- The losses of a summary's entries have the ranks of those of all its keys.
-use Rattle.std.proofs.Common.{◌≡◌, ℕ, zero, suc, ◌+◌, ◌-◌, ◌≤◌, List, [], ◌∷◌, ◌++◌, map, arith, sym, ap, ◌∙◌, append_assoc}
-use Rattle.std.specs.Prelude.{Bool, true, false, nat_le, All, ℤ, pos, Some, None, Result, Ok, Err, OnOk}
+use Rattle.std.proofs.Common.{◌≡◌, ℕ, zero, suc, ◌+◌, ◌-◌, ◌≤◌, List, [], ◌∷◌, ◌++◌, map, arith, sym, ap, ◌∙◌, append_assoc, append-nil}
+use Rattle.std.specs.Prelude.{Bool, true, false, nat_le, All, ℤ, pos, Some, None}
 use Rattle.std.specs.List.{filter, flat_map, range_with_len}
 use Rattle.std.proofs.lemmas.Grind.{flat_map-append}
 use Rattle.std.proofs.lemmas.List.Concat.{flat_map-cons}
-use Rattle.kt_curve.proofs.Steps.{append_nil}
 use Rattle.std.specs.Ordering.{int_eq}
 use Rattle.std.proofs.lemmas.Bool.Decides.{nat_tests}
 use Rattle.std.proofs.lemmas.List.Elements.{All-map, All-filter, All-weaker}
 use Rattle.kt_rec.specs.declared.perspective.Perspective.{Perspective}
 use Rattle.kt_rec.specs.declared.perspective.CellKey.{CellKey}
-use Rattle.kt_curve.specs.declared.cell.Cell.{Cell}
-use Rattle.kt_curve.specs.Losses.{one_if}
-use Rattle.kt_curve.specs.Grid.{keys_for, sidx_of_kind, of_kind, IsGroup}
-use Rattle.kt_curve.specs.Standing.{cell_at, most_total, FitsCells, sidx_in_range}
-use Rattle.kt_curve.specs.Amounts.{amount_in, amounts_of, of_sample}
+use Rattle.kt_period_cells.specs.declared.cell.Cell.{Cell}
+use Rattle.kt_period_cells.specs.Losses.{one_if}
+use Rattle.kt_curve.specs.Grid.{keys_for, sidx_of_kind}
+use Rattle.kt_period_cells.specs.Sets.{of_kind, IsGroup}
+use Rattle.kt_period_cells.specs.Standing.{cell_at, most_total, FitsCells, sidx_in_range}
+use Rattle.kt_period_cells.specs.Amounts.{amount_in, amounts_of, of_sample}
 use Rattle.kt_curve.specs.Exceedance.{curve_rows}
 use Rattle.kt_curve.specs.Ranks.{SameRanks, reaching}
 use Rattle.kt_curve.proofs.Grids.{group_sum_by, kind_times, single_times, times}
@@ -58,11 +58,6 @@ amounts_most p s n samples u group maxima test is =
     either true e fits = fits.greatest
     either false e fits = fits.most
 
--- what follows where a call succeeds
-pub on_more : {T E : Type 0} {P Q : Type 0} (r : Result T E) → (P → Q) → OnOk r P → OnOk r Q
-on_more (Ok x) f holds = f holds
-on_more (Err e) f holds = tt
-
 -- values that are equal have the same ranks as what they are equal to
 pub ranks_of_equal : (xs ys whole : List ℕ) → xs ≡ ys → SameRanks ys whole → SameRanks xs whole
 ranks_of_equal xs ys whole is same = λ least some. ap (reaching least) is ∙ same least some
@@ -90,7 +85,7 @@ samples_more f sample base out new some is more =
     let last : 1 + (sample - 1) ≡ sample = omega arith in
     more ∙ ap (λ t. t ++ f sample) is ∙ append_assoc base (flat_map f (range_with_len 1 (sample - 1))) (f sample)
     ∙ ap (λ t. base ++ t) (
-    ap (λ t. flat_map f (range_with_len 1 (sample - 1)) ++ t) (sym (flat_map-cons f sample [] ∙ append_nil (f sample)))
+    ap (λ t. flat_map f (range_with_len 1 (sample - 1)) ++ t) (sym (flat_map-cons f sample [] ∙ append-nil (f sample)))
     ∙ sym (flat_map-append f (range_with_len 1 (sample - 1)) (sample ∷ []))
     ∙ ap (λ m. flat_map f (range_with_len 1 (sample - 1) ++ m ∷ [])) (sym last)
     ∙ ap (flat_map f) (sym (range_more 1 (sample - 1))) ∙ ap (λ k. flat_map f (range_with_len 1 k)) (sym longer))

@@ -6,15 +6,16 @@ use Rattle.std.specs.Map.{keys_of}
 use Rattle.kt_money.specs.Rounding.{half_up}
 use Rattle.kt_rec.specs.declared.perspective.Perspective.{Perspective}
 use Rattle.kt_rec.specs.declared.perspective.CellKey.{CellKey}
-use Rattle.kt_curve.specs.declared.cell.Cell.{Cell}
+use Rattle.kt_period_cells.specs.declared.cell.Cell.{Cell}
 use Rattle.kt_rec.specs.declared.curve.Curve.{Curve}
 use Rattle.kt_rec.specs.declared.curve.Curve.TheVariants.{FullAep, FullOep, SampleAep, SampleOep, WheatAep, WheatOep, WheatmeanAep, WheatmeanOep}
-use Rattle.kt_curve.specs.Losses.{KeyLoss, Added, all_losses, total, maximum, key_of}
-use Rattle.kt_curve.specs.Grid.{summary_ids, summary_entries, HasSet, keys_for, mean_sidx, sample_sidx, by_summary}
-use Rattle.kt_curve.specs.Standing.{Standing, cell_at, total_in, maximum_in}
-use Rattle.kt_curve.specs.Amounts.{amount_in}
+use Rattle.kt_period_cells.specs.Losses.{KeyLoss, Added, all_losses, total, maximum, key_of}
+use Rattle.kt_curve.specs.Grid.{summary_ids, HasSet, keys_for, mean_sidx, sample_sidx, by_summary}
+use Rattle.kt_period_cells.specs.Sets.{summary_entries}
+use Rattle.kt_period_cells.specs.Standing.{Standing, cell_at, total_in, maximum_in}
+use Rattle.kt_period_cells.specs.Amounts.{amount_in}
 use Rattle.kt_curve.specs.Exceedance.{curve_rows, full_rows, wheat_rows, period_means, rank_means, ranked_loss, sidx_values, lec_rows, amount_of, takes_maxima, exceedance_rows}
-use Rattle.kt_curve.proofs.Steps.{total_of_cell, maximum_of_cell, maximum-le-total}
+use Rattle.kt_period_cells.specs.TotalLaws.{total_of_cell, maximum_of_cell, maximum-le-total}
 use Rattle.kt_curve.proofs.Grids.{sum_by_same}
 use Rattle.kt_curve.proofs.Averages.{losses_positive}
 use Rattle.kt_curve.proofs.Ids.{ids_of_standing, cell_in_summary, keys_for_same, flat_map_each}

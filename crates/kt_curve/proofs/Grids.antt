@@ -14,11 +14,12 @@ use Rattle.std.proofs.lemmas.Map.{NonePasses, lookup-none}
 use Rattle.std.proofs.lemmas.Map.Keys.{IsDistinct-head, IsDistinct-tail}
 use Rattle.kt_rec.specs.declared.perspective.Perspective.{Perspective}
 use Rattle.kt_rec.specs.declared.perspective.CellKey.{CellKey}
-use Rattle.kt_curve.specs.declared.cell.Cell.{Cell}
-use Rattle.kt_curve.specs.Losses.{same_key, one_if, key_of}
-use Rattle.kt_curve.specs.Grid.{keys_for, sidx_of_kind, is_mean, same_bool, of_kind, IsGroup}
-use Rattle.kt_curve.specs.Standing.{cell_at, sidx_in_range, FitsCells}
-use Rattle.kt_curve.proofs.Keys.{same_exact, same_itself}
+use Rattle.kt_period_cells.specs.declared.cell.Cell.{Cell}
+use Rattle.kt_period_cells.specs.Losses.{same_key, one_if, key_of}
+use Rattle.kt_curve.specs.Grid.{keys_for, sidx_of_kind}
+use Rattle.kt_period_cells.specs.Sets.{is_mean, same_bool, of_kind, IsGroup}
+use Rattle.kt_period_cells.specs.Standing.{cell_at, sidx_in_range, FitsCells}
+use Rattle.kt_period_cells.specs.SameKeys.{same_exact, same_itself, bool_same, pos_same}
 
 -- how often a test holds
 abbrev pub times : {K : Type 0} → (K → Bool) → List K → ℕ
@@ -108,19 +109,6 @@ range_once t a (suc n) from upto =
     (λ (later : a < t). let apart : nat_eq a t ≡ false = grind (arith, nat_tests) in omega (arith, ap one_if apart, range_once t (a + 1) n (omega arith) (omega arith)))
     (λ (here : t ≤ a). let same : nat_eq a t ≡ true = grind (arith, nat_tests) in omega (arith, ap one_if same, range_below t (a + 1) n (omega arith)))
     (cases_lt a t)
-
--- tests that hold together are the same
-pub bool_same : (a b : Bool) → (a ≡ true → b ≡ true) → (b ≡ true → a ≡ true) → a ≡ b
-bool_same true b f g = sym (f refl)
-bool_same false true f g = g refl
-bool_same false false f g = refl
-
--- a test of numbers as signed ones
-pub pos_same : (i j : ℕ) → int_eq (pos i) (pos j) ≡ nat_eq i j
-pos_same i j =
-    bool_same (int_eq (pos i) (pos j)) (nat_eq i j)
-    (λ same. let is : pos i ≡ pos j = (Decides-int_eq (pos i) (pos j)).0 same in (Decides-eqb i j).1 (let e : i ≡ j = cc in e))
-    (λ same. (Decides-int_eq (pos i) (pos j)).1 (ap pos ((Decides-eqb i j).0 same)))
 
 -- keys of one summary are the same where their sidx and their periods are
 pub same_by_parts : (p : Perspective) (s u : ℕ) (x y : ℤ) (i j : ℕ) → same_key (key_of p s u x i) (key_of p s u y j) ≡ int_eq x y && nat_eq i j

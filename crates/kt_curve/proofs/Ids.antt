@@ -12,15 +12,19 @@ use Rattle.std.proofs.lemmas.Map.Entries.{lookup-filter-keys}
 use Rattle.kt_rec.specs.Rising.{IsRising, put, put-member, put-rising, rising-unique}
 use Rattle.kt_rec.specs.declared.perspective.Perspective.{Perspective}
 use Rattle.kt_rec.specs.declared.perspective.CellKey.{CellKey}
-use Rattle.kt_curve.specs.declared.cell.Cell.{Cell}
-use Rattle.kt_curve.specs.Losses.{KeyLoss, same_key, key_of, total, maximum}
-use Rattle.kt_curve.specs.Grid.{in_set, summary_ids, summary_entries, keys_for, HasSet}
-use Rattle.kt_curve.specs.Standing.{Standing, cell_at, cell_of, total_in}
-use Rattle.kt_curve.specs.SummaryRows.{of_summary}
-use Rattle.kt_curve.proofs.Keys.{same_exact, same_itself}
-use Rattle.kt_curve.proofs.Steps.{cell_some, total_of_cell}
-use Rattle.kt_curve.proofs.Grids.{bool_same}
-use Rattle.kt_curve.proofs.Parts.{is_in_set}
+use Rattle.kt_period_cells.specs.declared.cell.Cell.{Cell}
+use Rattle.kt_period_cells.specs.Losses.{KeyLoss, same_key, same_perspective, key_of, total, maximum}
+use Rattle.kt_period_cells.specs.Sets.{in_set, summary_entries}
+use Rattle.kt_curve.specs.Grid.{summary_ids, keys_for, HasSet}
+use Rattle.kt_period_cells.specs.Standing.{Standing, cell_at, cell_of, total_in}
+use Rattle.kt_period_cells.specs.SummaryRows.{of_summary}
+use Rattle.kt_period_cells.specs.SameKeys.{same_exact, same_itself, same_perspective_itself, bool_same}
+use Rattle.kt_period_cells.specs.TotalLaws.{cell_some, total_of_cell}
+
+-- a key of the set is in it
+pub is_in_set : (p : Perspective) (s : ℕ) (key : CellKey) → key.perspective ≡ p → key.set ≡ s → in_set p s key ≡ true
+is_in_set p s key perspective set =
+    ap (λ q. same_perspective q p && nat_eq key.set s) perspective ∙ ap (λ b. b && nat_eq key.set s) (same_perspective_itself p) ∙ (Decides-eqb key.set s).1 set
 
 -- ---- rising ids
 

@@ -12,11 +12,12 @@ use Rattle.std.proofs.lemmas.List.Sums.{sum_by-cons, sum_by-append}
 use Rattle.std.proofs.lemmas.List.Elements.{All-head, All-tail, All-nil, All-cons, filter-append}
 use Rattle.kt_rec.specs.declared.perspective.Perspective.{Perspective}
 use Rattle.kt_rec.specs.declared.perspective.CellKey.{CellKey}
-use Rattle.kt_curve.specs.declared.cell.Cell.{Cell}
-use Rattle.kt_curve.specs.Losses.{one_if, same_key, key_of}
-use Rattle.kt_curve.specs.Grid.{IsGroup, sample_sidx, is_mean, same_bool, of_kind}
-use Rattle.kt_curve.specs.Standing.{cell_at, FitsCells}
-use Rattle.kt_curve.specs.Amounts.{of_period, of_sample, amount_in, amounts_of}
+use Rattle.kt_period_cells.specs.declared.cell.Cell.{Cell}
+use Rattle.kt_period_cells.specs.Losses.{one_if, same_key, key_of}
+use Rattle.kt_period_cells.specs.Sets.{IsGroup, is_mean, same_bool, of_kind}
+use Rattle.kt_curve.specs.Grid.{sample_sidx}
+use Rattle.kt_period_cells.specs.Standing.{cell_at, FitsCells}
+use Rattle.kt_period_cells.specs.Amounts.{of_period, of_sample, amount_in, amounts_of}
 use Rattle.kt_curve.proofs.Grids.{grid_sum, sum_filter, times, times_map, times_same, same_by_parts, kind_times}
 use Rattle.kt_curve.proofs.Moments.{sum_by_map}
 

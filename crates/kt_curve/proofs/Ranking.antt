@@ -9,7 +9,7 @@ use Rattle.std.proofs.lemmas.List.Elements.{All-head, All-tail, All-nil, All-con
 use Rattle.std.proofs.lemmas.Grind.{reverse_onto}
 use Rattle.std.proofs.lemmas.Nat.{mul-le}
 use Rattle.std.proofs.Math.Nat.{mul-div-le}
-use Rattle.kt_curve.specs.Losses.{one_if}
+use Rattle.kt_period_cells.specs.Losses.{one_if}
 use Rattle.kt_curve.specs.Ranks.{reaching, SameRanks, Falls}
 use Rattle.kt_curve.specs.Exceedance.{with_value, falling, ranked_loss, loss_between, exceedance_loss}
 

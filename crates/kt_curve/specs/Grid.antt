@@ -1,31 +1,21 @@
 -- The values of a summary in all periods, zeros included, and their mean and deviation.
 -- The rules: docs/CALCULATION.md, "Average annual loss".
-use Rattle.std.specs.Prelude.{Bool, true, false, ◌&&◌, nat_eq, if◌then◌else◌, ◌≤◌, ◌≡◌, All, ℕ, ◌*◌, ℤ, pos, negsuc, List, [], ◌∷◌, map, sum, sum_by}
-use Rattle.std.specs.List.{flat_map, range_with_len, filter, IsDistinct}
+use Rattle.std.specs.Prelude.{Bool, true, false, if◌then◌else◌, ◌≡◌, ℕ, ◌*◌, ℤ, pos, negsuc, List, [], ◌∷◌, map, sum, sum_by}
+use Rattle.std.specs.List.{flat_map, range_with_len}
+use Rattle.std.specs.Map.{keys_of}
 use Rattle.kt_money.specs.Rounding.{mean_of, deviation_of}
 use Rattle.kt_money.specs.declared.moments.MeanSd.{MeanSd}
 use Rattle.kt_rec.specs.Rising.{put}
 use Rattle.kt_rec.specs.declared.perspective.Perspective.{Perspective}
 use Rattle.kt_rec.specs.declared.perspective.CellKey.{CellKey}
-use Rattle.kt_curve.specs.declared.cell.Cell.{Cell}
-use Rattle.std.specs.Map.{keys_of}
-use Rattle.kt_curve.specs.Losses.{key_of, same_key, same_perspective}
-use Rattle.kt_curve.specs.Standing.{FitsCells, cell_at}
+use Rattle.kt_period_cells.specs.declared.cell.Cell.{Cell}
+use Rattle.kt_period_cells.specs.Losses.{key_of}
+use Rattle.kt_period_cells.specs.Sets.{in_set, summary_entries}
+use Rattle.kt_period_cells.specs.Standing.{cell_at}
 
 -- the sidx of the mean alone
 abbrev pub mean_sidx : List ℤ
 mean_sidx = negsuc 0 ∷ []
-
--- whether a sidx with cells is that of the mean
-abbrev pub is_mean : ℤ → Bool
-is_mean (pos n) = false
-is_mean (negsuc n) = true
-
--- whether two answers are the same
-abbrev pub same_bool : Bool → Bool → Bool
-same_bool true true = true
-same_bool false false = true
-same_bool one other = false
 
 -- the sidx of the samples: 1 to `samples`
 abbrev pub sample_sidx : ℕ → List ℤ
@@ -39,36 +29,10 @@ keys_for perspective set summary sidxs periods = flat_map (λ sidx. map (key_of 
 abbrev pub moments_of : ℕ → List ℕ → MeanSd
 moments_of count amounts = record { mean = mean_of count (sum amounts); sd = deviation_of count (sum amounts) (sum_by (λ amount. amount * amount) amounts) }
 
--- whether a key is of a perspective and set
-abbrev pub in_set : Perspective → ℕ → CellKey → Bool
-in_set perspective set key = same_perspective key.perspective perspective && nat_eq key.set set
-
--- the entries of a perspective and set
-abbrev pub set_entries : Perspective → ℕ → List (CellKey × Cell) → List (CellKey × Cell)
-set_entries perspective set entries = filter (λ entry. in_set perspective set entry.0) entries
-
--- the entries of a summary
-abbrev pub summary_entries : ℕ → List (CellKey × Cell) → List (CellKey × Cell)
-summary_entries summary entries = filter (λ entry. nat_eq entry.0.summary summary) entries
-
 -- the summary ids of a perspective and set among these keys, each once and rising
 abbrev pub summary_ids : Perspective → ℕ → List CellKey → List ℕ
 summary_ids perspective set [] = []
 summary_ids perspective set (key ∷ keys) = if in_set perspective set key then put key.summary (summary_ids perspective set keys) else summary_ids perspective set keys
-
--- the entries of one summary, within the bounds of their cells
-pub record IsGroup (perspective : Perspective) (set periods samples summary : ℕ) (group : List (CellKey × Cell)) : Type 0 where
-  pub some : 1 ≤ periods
-  pub few : periods ≤ 100000
-  pub some_samples : 1 ≤ samples
-  pub few_samples : samples ≤ 1000
-  pub fitting : All (λ entry. FitsCells periods samples entry.0 entry.1) group
-  pub distinct : IsDistinct same_key (keys_of group)
-  pub own : All (λ entry. entry.0 ≡ key_of perspective set summary entry.0.sidx entry.0.period) group
-
--- the means, or the samples
-abbrev pub of_kind : Bool → CellKey × Cell → Bool
-of_kind mean entry = same_bool (is_mean entry.0.sidx) mean
 
 -- the keys of the means, or of the samples
 abbrev pub sidx_of_kind : Bool → ℕ → List ℤ

@@ -1,7 +1,7 @@
 -- Lists of losses with the same ranked losses.
 -- The rules: docs/CALCULATION.md, "Exceedance curves".
 use Rattle.std.specs.Prelude.{ℕ, ◌≤◌, ◌≡◌, List, [], ◌∷◌, All, sum_by, nat_le}
-use Rattle.kt_curve.specs.Losses.{one_if}
+use Rattle.kt_period_cells.specs.Losses.{one_if}
 
 -- how many values are at least this one
 abbrev pub reaching : ℕ → List ℕ → ℕ

@@ -3,17 +3,16 @@
 ghost use Rattle.std.specs.Prelude.{◌≡◌, ◌+◌, ◌*◌, ◌≤◌, ◌^◌, false, List, ◌++◌, map, sum, sum_by, length, All, IfOk, OnOk, OnErr, if◌then◌else◌};
 ghost use Rattle.std.specs.List.{flat_map};
 ghost use Rattle.kt_money.specs.Rounding.{mean_of, deviation_of};
-ghost use Rattle.kt_curve.specs.Grid.{sidx_of_kind, keys_for, moments_of, same_bool};
-ghost use Rattle.kt_curve.specs.Losses.{Added, all_losses};
-ghost use Rattle.kt_curve.specs.Standing.{StandsFor, most_total};
-ghost use Rattle.kt_curve.specs.Amounts.{amount_at};
-ghost use Rattle.kt_curve.specs.SummaryRows.{group_entries, part_entries, IsPart, IsSummary};
+ghost use Rattle.kt_curve.specs.Grid.{sidx_of_kind, keys_for, moments_of};
+ghost use Rattle.kt_period_cells.specs.Sets.{same_bool};
+ghost use Rattle.kt_period_cells.specs.Losses.{Added, all_losses};
+ghost use Rattle.kt_period_cells.specs.Standing.{StandsFor, most_total};
+ghost use Rattle.kt_period_cells.specs.Amounts.{amount_at};
+ghost use Rattle.kt_period_cells.specs.SummaryRows.{group_entries, part_entries, IsPart, IsSummary};
 ghost use Rattle.kt_curve.specs.Average.{aal_heading_text, aal_row, aal_rows, average_annual_loss_rows};
 
-use crate::amounts::kind_amounts;
-use crate::cells::Cells;
-use crate::group::{Group, Part, group_of, summaries};
 use kt_money::{Bytes, MeanSd, OutOfMemory, Row, mean_sd};
+use kt_period_cells::{Cells, SetCells, SummaryCells};
 use kt_rec::Perspective;
 use std::alloc::Global;
 
@@ -22,13 +21,6 @@ pub fn aal_heading() -> &'static [u8]
     ensures value { result.now ≡ aal_heading_text }
 {
     b"summary_id,type,mean,standard_deviation\n"
-}
-
-/// Whether two answers are the same.
-pub(crate) fn is_same(one: bool, other: bool) -> bool
-    ensures value { result ≡ same_bool one other }
-{
-    if one { other } else { !other }
 }
 
 /// The mean and the deviation of `count` amounts, those that are not listed being 0.
@@ -65,11 +57,11 @@ pub(crate) fn count_of(periods: u32, samples: u32, mean: bool) -> u64
 
 /// The mean and the deviation of a summary's amounts over all periods: those of the mean, or those of all samples. An error
 /// is want of memory.
-fn group_moments(alloc: Global, group: &Group<'_>, mean: bool) -> Result<MeanSd, OutOfMemory>
+fn group_moments(alloc: Global, group: &SummaryCells<'_>, mean: bool) -> Result<MeanSd, OutOfMemory>
     requires { IsSummary group.now }
     ensures { IfOk result (λ moments. moments ≡ moments_of (if mean then group.now.periods else group.now.periods * group.now.samples) (map (amount_at group.now.maxima (group_entries group.now)) (keys_for group.now.perspective group.now.set group.now.summary (sidx_of_kind mean group.now.samples) group.now.periods))) }
 {
-    let amounts = kind_amounts(alloc, group, mean)?;
+    let amounts = group.kind_amounts(alloc, mean)?;
     let count = count_of(group.periods, group.samples, mean);
     Ok(moments(amounts.as_slice(), count))
 }
@@ -91,7 +83,11 @@ fn append_row(out: &mut Bytes, summary: u32, kind: u32, moments: MeanSd) -> Resu
 }
 
 /// Appends the two rows of a summary. An error is want of memory.
-fn append_summary(out: &mut Bytes, alloc: Global, group: &Group<'_>) -> Result<(), OutOfMemory>
+fn append_summary(
+    out: &mut Bytes,
+    alloc: Global,
+    group: &SummaryCells<'_>,
+) -> Result<(), OutOfMemory>
     requires group { IsSummary group.now }
     ensures ok { OnOk result (out.new ≡ out.old ++ aal_rows group.now.perspective group.now.set group.now.periods group.now.samples (amount_at group.now.maxima (group_entries group.now)) group.now.summary) }
 {
@@ -105,14 +101,14 @@ fn append_summary(out: &mut Bytes, alloc: Global, group: &Group<'_>) -> Result<(
 fn append_rows(
     out: &mut Bytes,
     alloc: Global,
-    part: &Part<'_>,
+    part: &SetCells<'_>,
     summaries: &[u32],
 ) -> Result<(), OutOfMemory>
     requires part { IsPart part.now }
     ensures ok { OnOk result (out.new ≡ out.old ++ flat_map (λ summary. aal_rows part.now.perspective part.now.set part.now.periods part.now.samples (amount_at false (part_entries part.now summary)) summary) summaries.now) }
 {
     for summary in summaries {
-        let group = group_of(part, *summary, false);
+        let group = part.summary(*summary, false);
         append_summary(out, alloc, &group)?;
     }
     Ok(())
@@ -139,11 +135,8 @@ pub fn aal_text(
 fn set_text(cells: &Cells, perspective: Perspective, set: u32) -> Result<Bytes, OutOfMemory>
     ensures { IfOk result (λ text. (history : List Added) → StandsFor history cells.now → text ≡ average_annual_loss_rows perspective set cells.now.periods cells.now.samples (all_losses history)) }
 {
-    let rows = cells.rows();
-    let places = rows.set_places(perspective, set)?;
-    let ids = summaries(cells.alloc(), &places)?;
-    let part = rows.part(perspective, set, &places);
+    let part = cells.of_set(perspective, set)?;
     let mut text = Bytes::new(cells.alloc());
-    append_rows(&mut text, cells.alloc(), &part, ids.as_slice())?;
+    append_rows(&mut text, cells.alloc(), &part, part.summaries())?;
     Ok(text)
 }

@@ -2,7 +2,7 @@
 //! The rules: docs/CALCULATION.md, "Exceedance curves"; docs/OUTPUTS.md, "Exceedance curve tables".
 ghost use Rattle.std.specs.Prelude.{◌≡◌, ◌+◌, ◌-◌, ◌*◌, ◌/◌, ◌≤◌, ◌<◌, ◌^◌, ℕ, List, ◌++◌, length, All, OnOk};
 ghost use Rattle.std.specs.List.{slice_index};
-ghost use Rattle.kt_curve.specs.Standing.{most_total};
+ghost use Rattle.kt_period_cells.specs.Standing.{most_total};
 ghost use Rattle.kt_curve.specs.Exceedance.{loss_between, lec_row, curve_rows, exceedance_loss};
 ghost use Rattle.kt_curve.specs.Ranks.{SameRanks, Falls, reaching};
 

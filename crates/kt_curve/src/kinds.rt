@@ -2,22 +2,21 @@
 //! The rules: docs/CALCULATION.md, "Kinds of exceedance curves"; docs/OUTPUTS.md, "Exceedance curve tables".
 ghost use Rattle.std.specs.Prelude.{◌≡◌, ◌+◌, ◌*◌, ◌≤◌, ◌++◌, map, pos, if◌then◌else◌, All, OnOk, true};
 ghost use Rattle.kt_curve.specs.Grid.{keys_for, sidx_of_kind};
-ghost use Rattle.kt_curve.specs.Amounts.{amount_at};
-ghost use Rattle.kt_curve.specs.SummaryRows.{group_entries, IsSummary};
+ghost use Rattle.kt_period_cells.specs.Amounts.{amount_at};
+ghost use Rattle.kt_period_cells.specs.SummaryRows.{group_entries, IsSummary};
 ghost use Rattle.kt_curve.specs.Exceedance.{full_rows, wheat_rows, curve_rows, sidx_values};
 
-use crate::amounts::{kind_amounts, sample_amounts};
 use crate::average::count_of;
 use crate::exceedance::append_values;
-use crate::group::Group;
 use kt_money::{Bytes, OutOfMemory};
+use kt_period_cells::SummaryCells;
 use std::alloc::Global;
 
 /// Appends the rows of one type of a full curve. An error is want of memory.
 fn append_kind(
     out: &mut Bytes,
     alloc: Global,
-    group: &Group<'_>,
+    group: &SummaryCells<'_>,
     column: u32,
     mean: bool,
     returns: &[u32],
@@ -26,7 +25,7 @@ fn append_kind(
     requires returns { All (λ period. 1 ≤ period) returns.now }
     ensures ok { OnOk result (out.new ≡ out.old ++ curve_rows group.now.summary column (if mean then group.now.periods else group.now.periods * group.now.samples) (map (amount_at group.now.maxima (group_entries group.now)) (keys_for group.now.perspective group.now.set group.now.summary (sidx_of_kind mean group.now.samples) group.now.periods)) returns.now) }
 {
-    let mut values = kind_amounts(alloc, group, mean)?;
+    let mut values = group.kind_amounts(alloc, mean)?;
     let count = count_of(group.periods, group.samples, mean);
     append_values(
         out,
@@ -42,7 +41,7 @@ fn append_kind(
 pub(crate) fn append_full(
     out: &mut Bytes,
     alloc: Global,
-    group: &Group<'_>,
+    group: &SummaryCells<'_>,
     returns: &[u32],
 ) -> Result<(), OutOfMemory>
     requires group { IsSummary group.now }
@@ -57,7 +56,7 @@ pub(crate) fn append_full(
 fn append_sample(
     out: &mut Bytes,
     alloc: Global,
-    group: &Group<'_>,
+    group: &SummaryCells<'_>,
     sample: u32,
     returns: &[u32],
 ) -> Result<(), OutOfMemory>
@@ -66,7 +65,7 @@ fn append_sample(
     requires returns { All (λ period. 1 ≤ period) returns.now }
     ensures ok { OnOk result (out.new ≡ out.old ++ curve_rows group.now.summary sample group.now.periods (sidx_values group.now.perspective group.now.set group.now.periods (amount_at group.now.maxima (group_entries group.now)) group.now.summary (pos sample)) returns.now) }
 {
-    let mut values = sample_amounts(alloc, group, sample)?;
+    let mut values = group.sample_amounts(alloc, sample)?;
     append_values(
         out,
         group.summary,
@@ -81,7 +80,7 @@ fn append_sample(
 pub(crate) fn append_wheat(
     out: &mut Bytes,
     alloc: Global,
-    group: &Group<'_>,
+    group: &SummaryCells<'_>,
     returns: &[u32],
 ) -> Result<(), OutOfMemory>
     requires group { IsSummary group.now }

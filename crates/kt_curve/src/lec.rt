@@ -2,17 +2,16 @@
 //! The rules: docs/CALCULATION.md, "Exceedance curves"; docs/OUTPUTS.md, "Exceedance curve tables".
 ghost use Rattle.std.specs.Prelude.{◌≡◌, ◌≤◌, List, ◌++◌, All, IfOk, OnOk, OnErr};
 ghost use Rattle.std.specs.List.{flat_map};
-ghost use Rattle.kt_curve.specs.Losses.{Added, all_losses};
-ghost use Rattle.kt_curve.specs.Standing.{StandsFor};
-ghost use Rattle.kt_curve.specs.Amounts.{amount_at};
-ghost use Rattle.kt_curve.specs.SummaryRows.{group_entries, part_entries, IsPart, IsSummary};
+ghost use Rattle.kt_period_cells.specs.Losses.{Added, all_losses};
+ghost use Rattle.kt_period_cells.specs.Standing.{StandsFor};
+ghost use Rattle.kt_period_cells.specs.Amounts.{amount_at};
+ghost use Rattle.kt_period_cells.specs.SummaryRows.{group_entries, part_entries, IsPart, IsSummary};
 ghost use Rattle.kt_curve.specs.Exceedance.{lec_heading_text, by_sidx, takes_maxima, lec_rows, exceedance_rows};
 
-use crate::cells::Cells;
-use crate::group::{Group, Part, group_of, summaries};
 use crate::kinds::{append_full, append_wheat};
 use crate::mean_curves::{append_period_means, append_rank_means};
 use kt_money::{Bytes, OutOfMemory};
+use kt_period_cells::{Cells, SetCells, SummaryCells};
 use kt_rec::{Curve, Perspective};
 use std::alloc::Global;
 
@@ -48,7 +47,7 @@ fn takes_maxima(curve: Curve) -> bool
 fn append_group(
     out: &mut Bytes,
     alloc: Global,
-    group: &Group<'_>,
+    group: &SummaryCells<'_>,
     curve: Curve,
     returns: &[u32],
 ) -> Result<(), OutOfMemory>
@@ -68,7 +67,7 @@ fn append_group(
 fn append_groups(
     out: &mut Bytes,
     alloc: Global,
-    part: &Part<'_>,
+    part: &SetCells<'_>,
     summaries: &[u32],
     curve: Curve,
     returns: &[u32],
@@ -79,7 +78,7 @@ fn append_groups(
 {
     let maxima = takes_maxima(curve);
     for summary in summaries {
-        let group = group_of(part, *summary, maxima);
+        let group = part.summary(*summary, maxima);
         append_group(out, alloc, &group, curve, returns)?;
     }
     Ok(())
@@ -96,16 +95,13 @@ fn set_curves(
     requires { All (λ period. 1 ≤ period) returns.now }
     ensures { IfOk result (λ text. (history : List Added) → StandsFor history cells.now → text ≡ exceedance_rows curve perspective set cells.now.periods cells.now.samples (all_losses history) returns.now) }
 {
-    let rows = cells.rows();
-    let places = rows.set_places(perspective, set)?;
-    let ids = summaries(cells.alloc(), &places)?;
-    let part = rows.part(perspective, set, &places);
+    let part = cells.of_set(perspective, set)?;
     let mut text = Bytes::new(cells.alloc());
     append_groups(
         &mut text,
         cells.alloc(),
         &part,
-        ids.as_slice(),
+        part.summaries(),
         curve,
         returns,
     )?;

@@ -1,25 +1,50 @@
 //! The curves of the samples' means: period by period, or rank by rank.
 //! The rules: docs/CALCULATION.md, "Kinds of exceedance curves"; docs/OUTPUTS.md, "Exceedance curve tables".
-ghost use Rattle.std.specs.Prelude.{◌≡◌, ◌+◌, ◌*◌, ◌≤◌, ◌^◌, ℕ, List, ◌++◌, map, length, slice_index, sum_by, All, OnOk};
+ghost use Rattle.std.specs.Prelude.{◌≡◌, ◌+◌, ◌*◌, ◌≤◌, ◌^◌, ℕ, List, ◌++◌, map, length, slice_index, sum_by, All, IfOk, OnOk};
 ghost use Rattle.kt_money.specs.Rounding.{half_up};
 ghost use Rattle.kt_curve.specs.Grid.{sample_sidx};
-ghost use Rattle.kt_curve.specs.Standing.{most_total};
-ghost use Rattle.kt_curve.specs.Amounts.{amount_at};
-ghost use Rattle.kt_curve.specs.SummaryRows.{group_entries, IsSummary};
+ghost use Rattle.kt_period_cells.specs.Standing.{most_total};
+ghost use Rattle.kt_period_cells.specs.Amounts.{amount_at};
+ghost use Rattle.kt_period_cells.specs.SummaryRows.{group_entries, IsSummary};
 ghost use Rattle.kt_curve.specs.Ranks.{SameRanks};
 ghost use Rattle.kt_curve.specs.Exceedance.{curve_rows, sidx_values, ranked_loss, period_means, rank_means};
 
-use crate::amounts::{add_periods, means, sample_amounts};
 use crate::exceedance::{append_values, rank};
-use crate::group::Group;
-use kt_money::{Bytes, OutOfMemory};
+use kt_money::{Bytes, OutOfMemory, div_half_up};
+use kt_period_cells::SummaryCells;
 use std::alloc::Global;
+
+/// The means of sums over the samples, to the nearest cent, halves up. An error is want of memory.
+fn means(alloc: Global, sums: &[u128], samples: u32) -> Result<Vec<u64>, OutOfMemory>
+    requires some { 1 ≤ samples }
+    requires few { samples ≤ 1000 }
+    requires most { All (λ total. total ≤ samples * most_total) sums.now }
+    ensures value { IfOk result (λ found. found.items ≡ map (λ total. half_up total samples) sums.now) }
+    ensures most { IfOk result (λ found. All (λ value. value ≤ most_total) found.items) }
+{
+    let mut found = Vec::new(alloc);
+    for total in sums {
+        found.push(mean(*total, samples))?;
+    }
+    Ok(found)
+}
+
+/// The mean of a sum over the samples.
+fn mean(total: u128, samples: u32) -> u64
+    requires some { 1 ≤ samples }
+    requires few { samples ≤ 1000 }
+    requires most { total ≤ samples * most_total }
+    ensures value { result ≡ half_up total samples }
+    ensures most { result ≤ most_total }
+{
+    div_half_up(total, u128::from(samples)) as u64
+}
 
 /// Appends the rows of the curve of the means of sums over the samples. An error is want of memory.
 fn append_means(
     out: &mut Bytes,
     alloc: Global,
-    group: &Group<'_>,
+    group: &SummaryCells<'_>,
     sums: &[u128],
     returns: &[u32],
 ) -> Result<(), OutOfMemory>
@@ -45,7 +70,7 @@ fn append_means(
 pub(crate) fn append_period_means(
     out: &mut Bytes,
     alloc: Global,
-    group: &Group<'_>,
+    group: &SummaryCells<'_>,
     returns: &[u32],
 ) -> Result<(), OutOfMemory>
     requires group { IsSummary group.now }
@@ -54,7 +79,7 @@ pub(crate) fn append_period_means(
 {
     let mut zeros = vec![in alloc; 0u128; group.periods as usize]?;
     let sums = zeros.as_mut_slice();
-    add_periods(sums, alloc, group)?;
+    group.add_periods(sums, alloc)?;
     append_means(out, alloc, group, sums, returns)
 }
 
@@ -84,7 +109,11 @@ fn add_ranked(sums: &mut [u128], values: &mut [u64])
 }
 
 /// Adds the losses of each rank over all samples to sums that are 0. An error is want of memory.
-fn add_samples(alloc: Global, group: &Group<'_>, sums: &mut [u128]) -> Result<(), OutOfMemory>
+fn add_samples(
+    alloc: Global,
+    group: &SummaryCells<'_>,
+    sums: &mut [u128],
+) -> Result<(), OutOfMemory>
     requires group { IsSummary group.now }
     requires len { length sums.old ≡ group.now.periods }
     requires none { (place : ℕ) → slice_index sums.old place ≡ 0 }
@@ -93,7 +122,7 @@ fn add_samples(alloc: Global, group: &Group<'_>, sums: &mut [u128]) -> Result<()
     ensures sums { OnOk result ((place : ℕ) → slice_index sums.new place ≡ sum_by (λ sidx. ranked_loss (sidx_values group.now.perspective group.now.set group.now.periods (amount_at group.now.maxima (group_entries group.now)) group.now.summary sidx) place) (sample_sidx group.now.samples)) }
 {
     for sample in 1..group.samples + 1 {
-        let mut values = sample_amounts(alloc, group, sample)?;
+        let mut values = group.sample_amounts(alloc, sample)?;
         add_ranked(sums, values.as_mut_slice());
     }
     Ok(())
@@ -103,7 +132,7 @@ fn add_samples(alloc: Global, group: &Group<'_>, sums: &mut [u128]) -> Result<()
 pub(crate) fn append_rank_means(
     out: &mut Bytes,
     alloc: Global,
-    group: &Group<'_>,
+    group: &SummaryCells<'_>,
     returns: &[u32],
 ) -> Result<(), OutOfMemory>
     requires group { IsSummary group.now }

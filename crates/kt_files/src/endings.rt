@@ -1,15 +1,15 @@
 //! What comes behind the last event in output files.
 //! The rules: docs/OUTPUTS.md, "Files of a run".
 ghost use Rattle.std.specs.Prelude.{◌≡◌, ◌++◌, List, OnOk};
-ghost use Rattle.kt_curve.specs.Losses.{Added, all_losses};
-ghost use Rattle.kt_curve.specs.Standing.{StandsFor};
+ghost use Rattle.kt_period_cells.specs.Losses.{Added, all_losses};
+ghost use Rattle.kt_period_cells.specs.Standing.{StandsFor};
 ghost use Rattle.kt_files.specs.Endings.{AreEndings};
 ghost use Rattle.kt_files.specs.Parts.{end_text, table_end};
 ghost use Rattle.kt_periods.specs.PeriodTables.{table_text};
 ghost use Rattle.kt_tables.specs.Lookups.{return_periods_of};
 
 use crate::file::{OutputFile, SetTable};
-use kt_curve::Cells;
+use kt_period_cells::Cells;
 use kt_event::SummarySet;
 use kt_money::{Bytes, OutOfMemory};
 use kt_outputs::Texts;
@@ -86,7 +86,7 @@ pub struct Endings<'a> {
 
 impl<'a> Texts<OutputFile> for Endings<'a> {
     ghost use Rattle.std.specs.Prelude.{List, [], ◌∷◌};
-    ghost use Rattle.kt_curve.specs.Losses.{Added};
+    ghost use Rattle.kt_period_cells.specs.Losses.{Added};
     ghost use Rattle.kt_files.specs.Endings.{AreEndings};
     ghost use Rattle.kt_files.specs.Parts.{end_text};
 

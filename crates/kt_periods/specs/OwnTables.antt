@@ -6,13 +6,13 @@ use Rattle.std.proofs.Common.{sym, ap, ◌∙◌, append-nil}
 use Rattle.std.proofs.lemmas.Grind.{flat_map-append}
 use Rattle.kt_curve.specs.Average.{aal_heading_text}
 use Rattle.kt_curve.specs.Exceedance.{by_sidx, lec_heading_text}
-use Rattle.kt_curve.specs.Losses.{Added, KeyLoss, all_losses, losses_of}
+use Rattle.kt_period_cells.specs.Losses.{Added, KeyLoss, all_losses, losses_of}
 use Rattle.kt_curve.specs.OwnLosses.{own_records}
 use Rattle.kt_curve.specs.OwnStops.{no_memory_stop, or_none, own_not_stopped, stop_joined}
 use Rattle.kt_curve.specs.OwnTables.{own_averages, own_curves}
-use Rattle.kt_curve.specs.Standing.{first_stop, or_else}
-use Rattle.kt_curve.specs.declared.cell.CellStop.{CellStop}
-use Rattle.kt_curve.specs.declared.cell.CellStop.TheVariants as cell_stop
+use Rattle.kt_period_cells.specs.Standing.{first_stop, or_else}
+use Rattle.kt_period_cells.specs.declared.cell.CellStop.{CellStop}
+use Rattle.kt_period_cells.specs.declared.cell.CellStop.TheVariants as cell_stop
 use Rattle.kt_ends.specs.declared.status.Refusal.{Refusal}
 use Rattle.kt_ends.specs.declared.status.Status.TheVariants.{Done}
 use Rattle.kt_loop.specs.Outcome.{gives}

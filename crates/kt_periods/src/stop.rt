@@ -4,7 +4,7 @@ ghost use Rattle.std.specs.Prelude.{◌≡◌};
 ghost use Rattle.kt_ends.specs.declared.tool_stop.ToolStop.{ToolStop};
 ghost use Rattle.kt_periods.specs.Standing.{cell_tool_stop};
 
-use kt_curve::CellStop;
+use kt_period_cells::CellStop;
 use kt_ends::{Refusal, ToolStop};
 
 /// How a run ends where the cells refuse a record of an event.

@@ -1,11 +1,12 @@
 //! The tables over all periods, and their texts.
 //! The rules: docs/OUTPUTS.md, "Average annual loss table" and "Exceedance curve tables".
 ghost use Rattle.std.specs.Prelude.{◌≡◌, ◌≤◌, ◌++◌, List, All, OnOk};
-ghost use Rattle.kt_curve.specs.Losses.{Added, all_losses};
-ghost use Rattle.kt_curve.specs.Standing.{StandsFor};
+ghost use Rattle.kt_period_cells.specs.Losses.{Added, all_losses};
+ghost use Rattle.kt_period_cells.specs.Standing.{StandsFor};
 ghost use Rattle.kt_periods.specs.PeriodTables.{table_text};
 
-use kt_curve::{Cells, aal_heading, aal_text, lec_heading, lec_text};
+use kt_curve::{aal_heading, aal_text, lec_heading, lec_text};
+use kt_period_cells::Cells;
 use kt_money::{Bytes, OutOfMemory};
 use kt_rec::{Curve, Perspective};
 

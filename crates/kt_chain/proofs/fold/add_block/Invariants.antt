@@ -1,8 +1,8 @@
 -- The summaries so far are added.
 use Rattle.std.proofs.Common.{◌≡◌, List, take}
 use Rattle.std.specs.List.{flat_map}
-use Rattle.kt_curve.specs.Losses.{Added}
-use Rattle.kt_curve.specs.Standing.{StandsFor}
+use Rattle.kt_period_cells.specs.Losses.{Added}
+use Rattle.kt_period_cells.specs.Standing.{StandsFor}
 use Rattle.kt_chain.specs.Events.{summaries_added}
 use Rattle.kt_chain.proofs.FoldLemmas.{HasAdded}
 use Rattle.kt_chain.proofs.fold.add_block.Given as goal

@@ -1,7 +1,7 @@
 -- The blocks so far are added.
 use Rattle.std.proofs.Common.{◌≡◌, List, take}
-use Rattle.kt_curve.specs.Losses.{Added}
-use Rattle.kt_curve.specs.Standing.{StandsFor}
+use Rattle.kt_period_cells.specs.Losses.{Added}
+use Rattle.kt_period_cells.specs.Standing.{StandsFor}
 use Rattle.kt_chain.specs.Events.{blocks_added}
 use Rattle.kt_chain.proofs.FoldLemmas.{HasAdded}
 use Rattle.kt_chain.proofs.fold.add_blocks.Given as goal

@@ -2,9 +2,9 @@
 use Rattle.std.proofs.Common.{◌≤◌, ℕ, ◌∙◌}
 use Rattle.std.proofs.lemmas.List.Sorted.{IsNonDecreasingBy-from_sort, sum_by-IsPermutation}
 use Rattle.std.specs.Prelude.{nat_le}
-use Rattle.kt_curve.specs.Losses.{one_if}
+use Rattle.kt_period_cells.specs.Losses.{one_if}
 use Rattle.std.proofs.lemmas.List.Sorted.{All-permutation}
-use Rattle.kt_curve.specs.Standing.{most_total}
+use Rattle.kt_period_cells.specs.Standing.{most_total}
 use Rattle.kt_curve.proofs.Ranking.{falls_sorted}
 use Rattle.kt_curve.proofs.exceedance.rank.Goals as goal
 

@@ -1,5 +1,6 @@
 -- The rows of both types of a full curve.
-use Rattle.kt_curve.proofs.Curves.{on_more, two_texts}
+use Rattle.kt_period_cells.specs.Outcomes.{on_more}
+use Rattle.kt_curve.proofs.Curves.{two_texts}
 use Rattle.kt_curve.proofs.kinds.append_full.Goals as goal
 
 pub returns : goal.returns

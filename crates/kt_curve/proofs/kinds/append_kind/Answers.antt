@@ -1,10 +1,11 @@
 -- The rows of one type of a full curve.
 use Rattle.std.proofs.Common.{ℕ, List, map, ◌∙◌}
-use Rattle.kt_curve.specs.SummaryRows.{group_entries}
-use Rattle.kt_curve.specs.Grid.{of_kind}
-use Rattle.kt_curve.specs.Amounts.{amount_at, amounts_of}
+use Rattle.kt_period_cells.specs.SummaryRows.{group_entries}
+use Rattle.kt_period_cells.specs.Sets.{of_kind}
+use Rattle.kt_period_cells.specs.Amounts.{amount_at, amounts_of}
 use Rattle.kt_curve.specs.Grid.{keys_for, sidx_of_kind}
-use Rattle.kt_curve.proofs.Curves.{on_more, ranks_of_kind, amounts_most, ranks_of_equal, rows_of_count}
+use Rattle.kt_period_cells.specs.Outcomes.{on_more}
+use Rattle.kt_curve.proofs.Curves.{ranks_of_kind, amounts_most, ranks_of_equal, rows_of_count}
 use Rattle.kt_curve.proofs.kinds.append_kind.Goals as goal
 
 pub append_values-requires-clause-most : goal.append_values-requires-clause-most

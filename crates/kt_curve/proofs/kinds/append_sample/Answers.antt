@@ -1,11 +1,12 @@
 -- The rows of one sample's curve.
 use Rattle.std.proofs.Common.{[], ◌∷◌, ℕ, List, map, ◌∙◌}
-use Rattle.kt_curve.specs.SummaryRows.{group_entries}
-use Rattle.kt_curve.specs.Amounts.{of_sample}
+use Rattle.kt_period_cells.specs.SummaryRows.{group_entries}
+use Rattle.kt_period_cells.specs.Amounts.{of_sample}
 use Rattle.std.specs.Prelude.{pos}
-use Rattle.kt_curve.specs.Amounts.{amount_at, amounts_of}
+use Rattle.kt_period_cells.specs.Amounts.{amount_at, amounts_of}
 use Rattle.kt_curve.specs.Grid.{keys_for}
-use Rattle.kt_curve.proofs.Curves.{on_more, ranks_of_sample, amounts_most, ranks_of_equal, rows_of_count}
+use Rattle.kt_period_cells.specs.Outcomes.{on_more}
+use Rattle.kt_curve.proofs.Curves.{ranks_of_sample, amounts_most, ranks_of_equal, rows_of_count}
 use Rattle.kt_curve.proofs.kinds.append_sample.Goals as goal
 
 pub append_values-requires-clause-most : goal.append_values-requires-clause-most

@@ -1,8 +1,8 @@
 -- The rows of one sample more.
 use Rattle.std.proofs.Common.{ℕ, arith}
 use Rattle.std.specs.Prelude.{pos}
-use Rattle.kt_curve.specs.SummaryRows.{group_entries}
-use Rattle.kt_curve.specs.Amounts.{amount_at}
+use Rattle.kt_period_cells.specs.SummaryRows.{group_entries}
+use Rattle.kt_period_cells.specs.Amounts.{amount_at}
 use Rattle.kt_curve.specs.Exceedance.{curve_rows, sidx_values}
 use Rattle.kt_curve.proofs.Curves.{samples_more, samples_all}
 use Rattle.kt_curve.proofs.kinds.append_wheat.Goals as goal

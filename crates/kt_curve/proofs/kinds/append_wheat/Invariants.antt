@@ -2,8 +2,8 @@
 use Rattle.std.proofs.Common.{◌≡◌, ◌-◌, ◌++◌}
 use Rattle.std.specs.Prelude.{pos}
 use Rattle.std.specs.List.{flat_map, range_with_len}
-use Rattle.kt_curve.specs.SummaryRows.{group_entries}
-use Rattle.kt_curve.specs.Amounts.{amount_at}
+use Rattle.kt_period_cells.specs.SummaryRows.{group_entries}
+use Rattle.kt_period_cells.specs.Amounts.{amount_at}
 use Rattle.kt_curve.specs.Exceedance.{curve_rows, sidx_values}
 use Rattle.kt_curve.proofs.kinds.append_wheat.Given as goal
 

@@ -1,8 +1,8 @@
 -- The rows of each kind of curve.
 use Rattle.std.proofs.Common.{◌++◌, ap, ◌∙◌}
-use Rattle.kt_curve.specs.SummaryRows.{group_entries}
-use Rattle.kt_curve.specs.Amounts.{amount_at}
-use Rattle.kt_curve.proofs.Curves.{on_more}
+use Rattle.kt_period_cells.specs.SummaryRows.{group_entries}
+use Rattle.kt_period_cells.specs.Amounts.{amount_at}
+use Rattle.kt_period_cells.specs.Outcomes.{on_more}
 use Rattle.kt_curve.proofs.Exceedances.{rows_full, rows_sample, rows_wheat, rows_wheatmean}
 use Rattle.kt_curve.proofs.lec.append_group.Goals as goal
 

@@ -1,8 +1,8 @@
 -- The rows of the first summaries are there.
 use Rattle.std.proofs.Common.{◌≡◌, ◌++◌, take}
 use Rattle.std.specs.List.{flat_map}
-use Rattle.kt_curve.specs.Amounts.{amount_at}
-use Rattle.kt_curve.specs.SummaryRows.{part_entries}
+use Rattle.kt_period_cells.specs.Amounts.{amount_at}
+use Rattle.kt_period_cells.specs.SummaryRows.{part_entries}
 use Rattle.kt_curve.specs.Exceedance.{lec_rows, takes_maxima}
 use Rattle.kt_curve.proofs.lec.append_groups.Given as goal
 

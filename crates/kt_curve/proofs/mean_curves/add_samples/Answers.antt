@@ -2,9 +2,9 @@
 use Rattle.std.proofs.Common.{◌≡◌, ◌-◌, ℕ, List, map, length, ap, ◌∙◌, arith}
 use Rattle.std.specs.Prelude.{ℤ, pos, sum_by}
 use Rattle.std.specs.List.{range_with_len}
-use Rattle.kt_curve.specs.SummaryRows.{group_entries}
-use Rattle.kt_curve.specs.Standing.{most_total}
-use Rattle.kt_curve.specs.Amounts.{amount_at, amounts_of, of_sample}
+use Rattle.kt_period_cells.specs.SummaryRows.{group_entries}
+use Rattle.kt_period_cells.specs.Standing.{most_total}
+use Rattle.kt_period_cells.specs.Amounts.{amount_at, amounts_of, of_sample}
 use Rattle.kt_curve.specs.Exceedance.{ranked_loss, sidx_values}
 use Rattle.kt_curve.proofs.Curves.{ranks_of_sample, amounts_most, ranks_of_equal}
 use Rattle.kt_curve.proofs.Means.{sample_few, sample_more, bound_more}

@@ -2,9 +2,9 @@
 use Rattle.std.proofs.Common.{◌≡◌, ◌-◌, ◌*◌, ◌≤◌, ℕ, length, map, slice_index}
 use Rattle.std.specs.Prelude.{pos, sum_by}
 use Rattle.std.specs.List.{range_with_len}
-use Rattle.kt_curve.specs.SummaryRows.{group_entries}
-use Rattle.kt_curve.specs.Standing.{most_total}
-use Rattle.kt_curve.specs.Amounts.{amount_at}
+use Rattle.kt_period_cells.specs.SummaryRows.{group_entries}
+use Rattle.kt_period_cells.specs.Standing.{most_total}
+use Rattle.kt_period_cells.specs.Amounts.{amount_at}
 use Rattle.kt_curve.specs.Exceedance.{ranked_loss, sidx_values}
 use Rattle.kt_curve.proofs.mean_curves.add_samples.Given as goal
 

@@ -1,7 +1,8 @@
 -- The rows of the means.
 use Rattle.std.proofs.Common.{ℕ, List, map, refl, ◌∙◌}
 use Rattle.kt_money.specs.Rounding.{half_up}
-use Rattle.kt_curve.proofs.Curves.{on_more, ranks_of_equal, rows_of_count}
+use Rattle.kt_period_cells.specs.Outcomes.{on_more}
+use Rattle.kt_curve.proofs.Curves.{ranks_of_equal, rows_of_count}
 use Rattle.kt_curve.proofs.mean_curves.append_means.Goals as goal
 
 pub returns : goal.returns

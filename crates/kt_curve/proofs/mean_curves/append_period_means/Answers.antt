@@ -1,11 +1,15 @@
 -- The means of the sums are those of the periods.
-use Rattle.std.proofs.Common.{◌++◌, ap, ◌∙◌, arith}
-use Rattle.std.proofs.lemmas.Grind.{common_steps}
-use Rattle.kt_curve.specs.SummaryRows.{group_entries}
+use Rattle.std.proofs.Common.{ℕ, ◌++◌, ◌+◌, ◌*◌, ◌^◌, ◌<◌, ◌≤◌, ap, ◌∙◌, arith}
+use Rattle.kt_period_cells.specs.Standing.{most_total}
+use Rattle.kt_period_cells.specs.SummaryRows.{group_entries}
 use Rattle.kt_curve.specs.Exceedance.{curve_rows}
-use Rattle.kt_curve.proofs.Curves.{on_more}
-use Rattle.kt_curve.proofs.Means.{sums_most, means_of_periods}
+use Rattle.kt_period_cells.specs.Outcomes.{on_more}
+use Rattle.kt_curve.proofs.Means.{period_most, sums_most, means_of_periods}
 use Rattle.kt_curve.proofs.mean_curves.append_period_means.Goals as goal
+
+-- a sum within its bound
+small : (a samples : ℕ) → samples ≤ 1000 → a ≤ samples * most_total → a < 2 ^ 128
+small a samples few low = omega (arith, few, low)
 
 pub append_means-requires-clause-most : goal.append_means-requires-clause-most
 append_means-requires-clause-most c =
@@ -19,5 +23,7 @@ returns c = record {
       on_more c.append_means.result (λ rows. rows ∙ ap (λ values. c.args.out.now ++ curve_rows c.args.group.now.summary 2 c.args.group.now.periods values c.args.returns.now) values) c.append_means.ensures.ok;
 }
 
-pub add_periods-requires : goal.add_periods-requires
-add_periods-requires c = grind (arith, common_steps, c.requires.group)
+pub add_periods-requires-clause-room : goal.add_periods-requires-clause-room
+add_periods-requires-clause-room c = λ period.
+    let group = c.args.group.now in
+    small _ group.samples c.requires.group.cells.few_samples (period_most group.perspective group.set group.periods group.samples group.summary (group_entries group) group.maxima (period + 1) c.requires.group.cells)

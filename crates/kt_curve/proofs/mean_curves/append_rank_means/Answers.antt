@@ -1,11 +1,11 @@
 -- The means of the sums are those of the ranks.
 use Rattle.std.proofs.Common.{◌++◌, ap, ◌∙◌, arith, ◌*◌}
 use Rattle.std.proofs.lemmas.Grind.{common_steps}
-use Rattle.kt_curve.specs.SummaryRows.{group_entries}
-use Rattle.kt_curve.specs.Amounts.{amount_at}
-use Rattle.kt_curve.specs.Standing.{most_total}
+use Rattle.kt_period_cells.specs.SummaryRows.{group_entries}
+use Rattle.kt_period_cells.specs.Amounts.{amount_at}
+use Rattle.kt_period_cells.specs.Standing.{most_total}
 use Rattle.kt_curve.specs.Exceedance.{curve_rows}
-use Rattle.kt_curve.proofs.Curves.{on_more}
+use Rattle.kt_period_cells.specs.Outcomes.{on_more}
 use Rattle.kt_curve.proofs.Means.{all_places, means_of_ranks}
 use Rattle.kt_curve.proofs.mean_curves.append_rank_means.Goals as goal
 

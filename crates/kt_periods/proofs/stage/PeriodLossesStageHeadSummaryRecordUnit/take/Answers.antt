@@ -1,6 +1,6 @@
 use Rattle.std.proofs.Common.{ℕ, ◌≤◌, List, Some, Ok, Err, subst, sym}
 use Rattle.std.specs.Prelude.{All}
-use Rattle.kt_curve.specs.Journal.{Adds}
+use Rattle.kt_period_cells.specs.Journal.{Adds}
 use Rattle.kt_rec.specs.declared.periods.Occurrence.{Occurrence}
 use Rattle.kt_rec.specs.declared.perspective.Perspective.TheVariants.{Gul}
 use Rattle.kt_periods.specs.Fitting.{fits_periods}

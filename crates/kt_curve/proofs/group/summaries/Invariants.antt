@@ -1,6 +1,0 @@
--- The summaries of the first places.
-use Rattle.kt_curve.proofs.IdLists.{AreIds}
-use Rattle.kt_curve.proofs.group.summaries.Given as goal
-
-abbrev pub invariant-loop-place : goal.invariant-loop-place
-invariant-loop-place l = AreIds l.place-items l.place-index l.ids.items

@@ -1,7 +1,0 @@
--- The rows at the first spots have room.
-use Rattle.std.proofs.Common.{take}
-use Rattle.kt_curve.specs.Room.{AreRoomy}
-use Rattle.kt_curve.proofs.rows.Rows.have_room.Given as goal
-
-abbrev pub invariant-loop-spot : goal.invariant-loop-spot
-invariant-loop-spot l = AreRoomy l.more (take l.spot-index l.spots) l.self.rows

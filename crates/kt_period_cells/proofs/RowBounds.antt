@@ -1,0 +1,116 @@
+-- The bounds of rows and of a table, after one row changed or was put behind the others.
+use Rattle.std.proofs.Common.{◌≡◌, ℕ, ◌+◌, ◌<◌, ◌≤◌, List, [], ◌∷◌, ◌++◌, length, map, get_or, set, arith, refl, sym, ap, ◌∙◌, subst, cond, Some, None, Option}
+use Rattle.std.specs.Prelude.{ℤ, Bool, true, false, All, nat_eq, IfSome}
+use Rattle.std.specs.Option.{option_or}
+use Rattle.std.proofs.lemmas.List.Elements.{All-set, All-append, All-cons, All-nil, All-head, All-tail, All-get_or}
+use Rattle.std.specs.Map.{lookup}
+use Rattle.kt_period_cells.specs.declared.cell.Cell.{Cell}
+use Rattle.kt_period_cells.specs.declared.row_key.RowKey.{RowKey}
+use Rattle.kt_period_cells.specs.declared.row_key.IndexKey.{IndexKey}
+use Rattle.kt_period_cells.specs.declared.row.Row.{Row}
+use Rattle.kt_period_cells.specs.Standing.{sidx_in_range, total_in, maximum_in, most_total, raised}
+use Rattle.kt_period_cells.specs.Amounts.{sample_of}
+use Rattle.kt_period_cells.specs.RowCells.{cells_of, IsWide, SampleCells, cell_in, RowFits, CellFits, Changes}
+use Rattle.kt_period_cells.specs.Rows.{index_key, same_index, same_row, row_keys, place_of, key_in, entries_of, IsTable}
+use Rattle.kt_period_cells.proofs.RowKeys.{row_exact, row_itself, same_row_back, sample_within}
+use Rattle.kt_period_cells.proofs.Places.{keys_set, place_push, apart_push, keys_push, length_keys}
+use Rattle.kt_period_cells.proofs.Tables.{length_set, entries_push, entries_same}
+
+-- a row within its bounds, after one of its cells changed
+pub fits_changed : (periods samples s : ℕ) (old new : Row) (cell : Option Cell) → RowFits periods samples old → Changes old new s cell → IfSome cell (λ one. CellFits samples (s, one)) → RowFits periods samples new
+fits_changed periods samples s old new cell fits changes one =
+    record { first = rw changes.key fits.first; last = rw changes.key fits.last; wide = changes.wide samples fits.wide; rising = changes.rising; cells = changes.fits samples fits.cells one }
+
+-- and a row with the key and the cells of another
+pub fits_same : (periods samples : ℕ) (old new : Row) → RowFits periods samples old → new.key ≡ old.key → new.places.items ≡ old.places.items → (cells_of new) ≡ (cells_of old) → RowFits periods samples new
+fits_same periods samples old new fits key places items =
+    record { first = rw key fits.first; last = rw key fits.last; wide = rw places fits.wide; rising = rw items fits.rising; cells = rw items fits.cells }
+
+-- a row of a table is within its bounds
+pub table_row : (periods samples held : ℕ) (index : List (IndexKey × ℕ)) (rows : List Row) (i : ℕ) (row : Row) → IsTable periods samples held index rows → i < length rows → row ≡ get_or rows i row → RowFits periods samples row
+table_row periods samples held index rows i row table within is = subst (RowFits periods samples) (sym is) (All-get_or (RowFits periods samples) rows i row within table.fits)
+
+-- what is found in a row within its bounds
+pub found_bounds : (samples s : ℕ) (cells : SampleCells) → All (CellFits samples) cells → (total_in (cell_in cells s) ≤ most_total) × (maximum_in (cell_in cells s) ≤ most_total)
+found_bounds samples s [] all = (omega arith, omega arith)
+found_bounds samples s (one ∷ cells) all =
+    by_test (nat_eq s one.0) (All-head (CellFits samples) one cells all) (found_bounds samples s cells (All-tail (CellFits samples) one cells all))
+  where
+    by_test : (b : Bool) → CellFits samples one → (total_in (cell_in cells s) ≤ most_total) × (maximum_in (cell_in cells s) ≤ most_total) →
+        (total_in (cond b (Some one.1) (cell_in cells s)) ≤ most_total) × (maximum_in (cond b (Some one.1) (cell_in cells s)) ≤ most_total)
+    by_test true here later = (here.most, here.greatest)
+    by_test false here later = later
+
+-- a raised cell is within the bounds
+pub raised_fits : (samples s : ℕ) (x : ℤ) (old : Option Cell) (loss : ℕ) → sidx_in_range samples x ≡ true → s ≡ sample_of x → 1 ≤ loss → total_in old + loss ≤ most_total → maximum_in old ≤ most_total → CellFits samples (s, raised old loss)
+raised_fits samples s x old loss within is some room greatest =
+    record { sample = rw is (sample_within samples x within); some = omega arith; most = room; greatest = omega (arith, greatest, room) }
+
+-- with one row in the place of another
+pub table_set : (periods samples held new_held : ℕ) (index : List (IndexKey × ℕ)) (rows : List Row) (i : ℕ) (old new : Row) → IsTable periods samples held index rows → i < length rows → old ≡ get_or rows i old →
+    new.key ≡ old.key → RowFits periods samples new → new_held + length (cells_of old) ≡ held + length (cells_of new) → IsTable periods samples new_held index (set rows i new)
+table_set periods samples held new_held index rows i old new table within is key fits count =
+    let keys = keys_set rows i old new is key in
+    record {
+      some = table.some;
+      few = table.few;
+      some_samples = table.some_samples;
+      few_samples = table.few_samples;
+      fits = All-set (RowFits periods samples) rows i new fits table.fits;
+      found = λ row. rw keys (table.found row);
+      apart = rw keys table.apart;
+      count = omega (arith, count, table.count, length_set rows i old new within is);
+    }
+
+-- with one row more
+pub table_push : (periods samples held : ℕ) (index new_index : List (IndexKey × ℕ)) (rows : List Row) (key : RowKey) (new : Row) → IsTable periods samples held index rows → place_of key (row_keys rows) ≡ None →
+    1 ≤ key.period → key.period ≤ periods → new.key ≡ key → (cells_of new) ≡ [] → IsWide samples new.places.items →
+    ((q : IndexKey) → lookup (same_index q) new_index ≡ cond (same_index (index_key key) q) (Some (length rows)) (lookup (same_index q) index)) →
+    IsTable periods samples held new_index (rows ++ new ∷ [])
+table_push periods samples held index new_index rows key new table missing first last key_is empty wide found =
+    let keys = keys_push rows new key key_is in
+    record {
+      some = table.some;
+      few = table.few;
+      some_samples = table.some_samples;
+      few_samples = table.few_samples;
+      fits = All-append (RowFits periods samples) rows (new ∷ []) table.fits (All-cons (RowFits periods samples) new [] fits (All-nil _));
+      found = λ row. rw keys (found (index_key row) ∙ ap (cond (same_row key row) (Some (length rows))) (table.found row) ∙ by_test row (same_row key row) refl ∙ sym (place_push row (row_keys rows) key));
+      apart = rw keys (apart_push (row_keys rows) key table.apart missing);
+      count = table.count ∙ ap length (sym (entries_push rows new empty));
+    }
+  where
+    fits : RowFits periods samples new
+    fits = record {
+      first = rw key_is first;
+      last = rw key_is last;
+      wide = wide;
+      rising = rw empty (λ i j less within. absurd (omega (arith, within)));
+      cells = rw empty (All-nil (CellFits samples));
+    }
+
+    by_test : (row : RowKey) (b : Bool) → same_row key row ≡ b → cond b (Some (length rows)) (place_of row (row_keys rows)) ≡ option_or (place_of row (row_keys rows)) (cond (same_row row key) (Some (length (row_keys rows))) None)
+    by_test row true same =
+        let key_is_row : key ≡ row = row_exact key row same in
+        let none_there : place_of row (row_keys rows) ≡ None = subst (λ (k : RowKey). place_of k (row_keys rows) ≡ None) key_is_row missing in
+        let back : same_row row key ≡ true = subst (λ (k : RowKey). same_row row k ≡ true) (sym key_is_row) (row_itself row) in
+        rw (none_there, back, length_keys rows) refl
+    by_test row false other = rw (same_row_back key row other) (sym (or_none_place (place_of row (row_keys rows))))
+      where
+        or_none_place : (o : Option ℕ) → option_or o None ≡ o
+        or_none_place (Some x) = refl
+        or_none_place None = refl
+
+-- with the cells of one row in other places
+pub table_widened : (periods samples held : ℕ) (index : List (IndexKey × ℕ)) (rows : List Row) (i : ℕ) (old new : Row) → IsTable periods samples held index rows → i < length rows → old ≡ get_or rows i old →
+    new.key ≡ old.key → cells_of new ≡ cells_of old → IsWide samples new.places.items → IsTable periods samples held index (set rows i new)
+table_widened periods samples held index rows i old new table within is key cells wide =
+    let fits = table_row periods samples held index rows i old table within is in
+    table_set periods samples held held index rows i old new table within is key
+    (record { first = rw key fits.first; last = rw key fits.last; wide = wide; rising = rw cells fits.rising; cells = rw cells fits.cells })
+    (let same : length (cells_of new) ≡ length (cells_of old) = ap length cells in omega (arith, same))
+
+-- and their entries
+pub entries_widened : (rows : List Row) (i : ℕ) (old new : Row) → old ≡ get_or rows i old → new.key ≡ old.key → cells_of new ≡ cells_of old → entries_of (set rows i new) ≡ entries_of rows
+entries_widened rows i old new is key cells =
+    entries_same rows i old new is (ap (λ (k : RowKey). map (λ one. (key_in k one.0, one.1)) (cells_of new)) key ∙ ap (λ (found : SampleCells). map (λ one. (key_in old.key one.0, one.1)) found) cells)

@@ -1,0 +1,125 @@
+//! The totals or the maxima of a summary's cells.
+//! The rules: docs/CALCULATION.md, "Kinds of exceedance curves".
+ghost use Rattle.std.specs.Prelude.{◌≡◌, ◌≤◌, ◌+◌, ◌*◌, ◌<◌, ◌^◌, ◌++◌, ℕ, map, sum, length, slice_index, All, IfOk, OnOk};
+ghost use Rattle.kt_period_cells.specs.Sets.{of_kind};
+ghost use Rattle.kt_period_cells.specs.Amounts.{amounts_of, of_period, of_sample};
+ghost use Rattle.kt_period_cells.specs.SummaryRows.{AreRising, ArePeriods, IsSummary, entries_in, row_at, group_entries};
+
+use crate::group::{SummaryCells, SummaryRow};
+use crate::row::{Row, amount};
+use kt_money::OutOfMemory;
+use std::alloc::Global;
+
+/// Appends the amounts of the row at a place: those of the mean, or those of all samples. An error is want of memory.
+fn push_kind(
+    found: &mut Vec<u64>,
+    rows: &[Row],
+    place: &SummaryRow,
+    mean: bool,
+    maxima: bool,
+) -> Result<(), OutOfMemory>
+    ensures ok { OnOk result (found.new.items ≡ found.old.items ++ amounts_of maxima (of_kind mean) (entries_in (row_at rows.now place.now.row))) }
+{
+    if place.row >= rows.len() {
+        return Ok(());
+    }
+    rows[place.row].push_kind(found, mean, maxima)
+}
+
+/// Appends the amount of a sample, from 1 up, of the row at a place. An error is want of memory.
+fn push_sample(
+    found: &mut Vec<u64>,
+    rows: &[Row],
+    place: &SummaryRow,
+    sample: u32,
+    maxima: bool,
+) -> Result<(), OutOfMemory>
+    requires rising { AreRising rows.now }
+    requires sample { 1 ≤ sample }
+    ensures ok { OnOk result (found.new.items ≡ found.old.items ++ amounts_of maxima (of_sample sample) (entries_in (row_at rows.now place.now.row))) }
+{
+    if place.row >= rows.len() {
+        return Ok(());
+    }
+    match rows[place.row].cell(sample) {
+        Some(cell) => found.push(amount(&cell, maxima))?,
+        None => {}
+    }
+    Ok(())
+}
+
+/// The sum of amounts.
+fn sum_of(amounts: &[u64]) -> u128
+    ensures value { result ≡ sum amounts.now }
+{
+    let mut total = 0u128;
+    for amount in amounts {
+        total += u128::from(*amount);
+    }
+    total
+}
+
+/// Adds the samples of the row at a place to the sum of its period. An error is want of memory.
+fn add_period(
+    sums: &mut [u128],
+    alloc: Global,
+    rows: &[Row],
+    place: &SummaryRow,
+    maxima: bool,
+) -> Result<(), OutOfMemory>
+    requires periods { ArePeriods (length sums.old) rows.now }
+    requires room { (period : ℕ) → slice_index sums.old period + sum (amounts_of maxima (of_period (period + 1)) (entries_in (row_at rows.now place.now.row))) < 2 ^ 128 }
+    ensures len { length sums.new ≡ length sums.old }
+    ensures sums { OnOk result ((period : ℕ) → slice_index sums.new period ≡ slice_index sums.old period + sum (amounts_of maxima (of_period (period + 1)) (entries_in (row_at rows.now place.now.row)))) }
+{
+    if place.row >= rows.len() {
+        return Ok(());
+    }
+    let row = &rows[place.row];
+    let mut amounts = Vec::new(alloc);
+    row.push_kind(&mut amounts, false, maxima)?;
+    sums[row.key.period as usize - 1] += sum_of(amounts.as_slice());
+    Ok(())
+}
+
+impl SummaryCells<'_> {
+    /// The amounts of the means, or those of all samples. An error is want of memory.
+    pub fn kind_amounts(&self, alloc: Global, mean: bool) -> Result<Vec<u64>, OutOfMemory>
+        ensures { IfOk result (λ found. found.items ≡ amounts_of self.now.maxima (of_kind mean) (group_entries self.now)) }
+    {
+        let mut found = Vec::new(alloc);
+        for place in self.places {
+            push_kind(&mut found, self.rows, place, mean, self.maxima)?;
+        }
+        Ok(found)
+    }
+
+    /// The amounts of one sample. An error is want of memory.
+    pub fn sample_amounts(&self, alloc: Global, sample: u32) -> Result<Vec<u64>, OutOfMemory>
+        requires group { IsSummary self.now }
+        requires sample { 1 ≤ sample }
+        ensures { IfOk result (λ found. found.items ≡ amounts_of self.now.maxima (of_sample sample) (group_entries self.now)) }
+    {
+        let mut found = Vec::new(alloc);
+        for place in self.places {
+            push_sample(&mut found, self.rows, place, sample, self.maxima)?;
+        }
+        Ok(found)
+    }
+
+    /// Adds the samples of each period to sums that are 0, one for each period. Each sum of a period is below 2^128. An error is
+    /// want of memory.
+    pub fn add_periods(&self, sums: &mut [u128], alloc: Global) -> Result<(), OutOfMemory>
+        requires group { IsSummary self.now }
+        requires len { length sums.old ≡ self.now.periods }
+        requires room { (period : ℕ) → sum (amounts_of self.now.maxima (of_period (period + 1)) (group_entries self.now)) < 2 ^ 128 }
+        requires none { (place : ℕ) → slice_index sums.old place ≡ 0 }
+        ensures len { length sums.new ≡ self.now.periods }
+        ensures sums { OnOk result ((place : ℕ) → slice_index sums.new place ≡ sum (amounts_of self.now.maxima (of_period (place + 1)) (group_entries self.now))) }
+    {
+        for place in self.places {
+            add_period(sums, alloc, self.rows, place, self.maxima)?;
+        }
+        Ok(())
+    }
+}

@@ -1,0 +1,74 @@
+//! The total and the maximum of one key, and why cells refuse a record.
+//! The rules: docs/CALCULATION.md, "Periods".
+ghost use Rattle.std.specs.Prelude.{◌≡◌};
+ghost use Rattle.std.specs.List.{list_any};
+ghost use Rattle.kt_period_cells.specs.Losses.{has_cells, is_added};
+
+use kt_rec::CellKey;
+use kt_stream::Pair;
+
+/// The losses of one key, in cents.
+#[derive(Clone, Copy)]
+pub(crate) struct Cell {
+    /// The sum of the losses.
+    pub(crate) total: u64,
+    /// The greatest of them.
+    pub(crate) maximum: u64,
+}
+
+/// A loss that was added to the cell of its key, so that it can be taken back.
+#[derive(Clone, Copy)]
+pub(crate) struct Change {
+    /// The key.
+    pub(crate) key: CellKey,
+    /// The loss, in cents, above 0.
+    pub(crate) loss: u64,
+    /// The maximum of the key before, in cents.
+    pub(crate) greatest: u64,
+}
+
+/// Why cells refuse a record.
+#[derive(Clone, Copy)]
+pub enum CellStop {
+    /// The next loss needs one more cell than the 20,000,000 that are held.
+    Cells {
+        /// How many cells are held.
+        held: u64,
+    },
+    /// The next loss makes the total of a key greater than 10^15 cents.
+    Period {
+        /// The key.
+        key: CellKey,
+        /// Its total before, in cents.
+        held: u64,
+        /// The loss, in cents.
+        more: u64,
+    },
+    /// Want of memory.
+    OutOfMemory,
+}
+
+/// Whether the loss of a pair is added up: that of sidx -1 or from 1 up, where it is above 0.
+pub(crate) fn is_added(pair: &Pair) -> bool
+    ensures { result ≡ is_added pair.now }
+{
+    has_cells(pair) && 0 < pair.loss
+}
+
+/// Whether the loss of one of the pairs is added up.
+pub(crate) fn adds_any(pairs: &[Pair]) -> bool
+    ensures { result ≡ list_any is_added pairs.now }
+{
+    pairs.iter().any(is_added)
+}
+
+/// Whether the sidx of a pair has cells.
+fn has_cells(pair: &Pair) -> bool
+    ensures { result ≡ has_cells pair.now.sidx }
+{
+    match pair.sidx {
+        -1 => true,
+        1.. => true,
+        _ => false,
+    }
+}

@@ -1,0 +1,17 @@
+//! Period totals and maxima of summary records.
+#![tactic(auto)]
+
+mod amounts;
+mod cell;
+mod cells;
+mod group;
+mod raising;
+mod row;
+mod row_key;
+mod rows;
+mod samples;
+mod shared;
+
+pub use cell::CellStop;
+pub use cells::Cells;
+pub use group::{SetCells, SummaryCells};

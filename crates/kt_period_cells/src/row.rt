@@ -1,0 +1,214 @@
+//! A row of cells: what one summary has in one period.
+//! The rules: docs/CALCULATION.md, "Periods".
+ghost use Rattle.std.specs.Prelude.{◌≡◌, ◌+◌, ◌≤◌, [], IfOk, OnOk, OnErr, Some, None, true, is_some, length};
+ghost use Rattle.kt_period_cells.specs.RowCells.{IsRising, HasPlace, IsWide, Changes, Lowers, cell_in, cells_of, placed};
+
+use crate::cell::Cell;
+use crate::row_key::RowKey;
+use kt_money::OutOfMemory;
+use std::alloc::Global;
+
+mod amounts;
+mod listed;
+mod room;
+mod widening;
+
+pub(crate) use amounts::amount;
+use listed::{listed_cell, place};
+
+/// What a summary has in a period: its cells by rising sample, that of the mean being 0. It may have none.
+#[derive(Drop)]
+pub(crate) struct Row {
+    /// Which row.
+    pub(crate) key: RowKey,
+    /// Where the next listed cell is looked for first.
+    next: usize,
+    /// The cells, each with its sample, where there are no places.
+    listed: Vec<(u32, Cell)>,
+    /// The cells of all samples, where there are any: a total of 0 is no cell.
+    places: Vec<Cell>,
+}
+
+/// No cell.
+const NO_CELL: Cell = Cell {
+    total: 0,
+    maximum: 0,
+};
+
+/// The cell of a sample among the cells of all samples.
+fn placed_cell(places: &[Cell], sample: u32) -> Option<Cell>
+    ensures value { result ≡ cell_in (placed 0 places.now) sample }
+{
+    let at = sample as usize;
+    if at >= places.len() {
+        return None;
+    }
+    let cell = places[at];
+    if cell.total == 0 { None } else { Some(cell) }
+}
+
+/// Places for the mean and so many samples, without cells. An error is want of memory.
+fn no_cells(alloc: Global, samples: u32) -> Result<Vec<Cell>, OutOfMemory>
+    requires { samples ≤ 1000 }
+    ensures len { IfOk result (λ places. length places.items ≡ samples + 1) }
+    ensures none { IfOk result (λ places. placed 0 places.items ≡ []) }
+{
+    vec![in alloc; NO_CELL; samples as usize + 1]
+}
+
+impl Row {
+    /// A row with no cells, which has a place for each sample or lists its cells. An error is want of memory.
+    pub(crate) fn new(
+        alloc: Global,
+        key: RowKey,
+        samples: u32,
+        wide: bool,
+    ) -> Result<Self, OutOfMemory>
+        requires { samples ≤ 1000 }
+        ensures key { IfOk result (λ row. row.key ≡ key) }
+        ensures cells { IfOk result (λ row. cells_of row ≡ []) }
+        ensures wide { IfOk result (λ row. IsWide samples row.places.items) }
+    {
+        let places = if wide {
+            no_cells(alloc, samples)?
+        } else {
+            Vec::new(alloc)
+        };
+        Ok(Row {
+            key,
+            next: 0,
+            listed: Vec::new(alloc),
+            places,
+        })
+    }
+
+    /// The cell of a sample.
+    pub(crate) fn cell(&self, sample: u32) -> Option<Cell>
+        requires { IsRising (cells_of self.now) }
+        ensures value { result ≡ cell_in (cells_of self.now) sample }
+    {
+        if self.places.is_empty() {
+            return listed_cell(self.listed.as_slice(), self.next, sample);
+        }
+        placed_cell(self.places.as_slice(), sample)
+    }
+
+    /// Sets the cell of a sample. Only a new listed cell may want memory, and the cells are then as they were.
+    pub(crate) fn set(&mut self, sample: u32, cell: Cell) -> Result<(), OutOfMemory>
+        requires rising { IsRising (cells_of self.old) }
+        requires place { HasPlace sample self.old.places.items }
+        requires some { 1 ≤ cell.total }
+        ensures ok { OnOk result (Changes self.old self.new sample (Some cell)) }
+        ensures err { OnErr result ((self.new.key ≡ self.old.key) × (self.new.places.items ≡ self.old.places.items) × (cells_of self.new ≡ cells_of self.old) × (cell_in (cells_of self.old) sample ≡ None)) }
+    {
+        if self.places.is_empty() {
+            return self.list(sample, cell);
+        }
+        self.places[sample as usize] = cell;
+        Ok(())
+    }
+
+    /// Sets the listed cell of a sample.
+    fn list(&mut self, sample: u32, cell: Cell) -> Result<(), OutOfMemory>
+        requires listed { self.old.places.items ≡ [] }
+        requires rising { IsRising self.old.listed.items }
+        ensures ok { OnOk result (Changes self.old self.new sample (Some cell)) }
+        ensures err { OnErr result ((self.new.key ≡ self.old.key) × (self.new.places.items ≡ self.old.places.items) × (cells_of self.new ≡ cells_of self.old) × (cell_in (cells_of self.old) sample ≡ None)) }
+    {
+        match place(self.listed.as_slice(), self.next, sample) {
+            Ok(at) => {
+                self.listed[at] = (sample, cell);
+                self.next = at + 1;
+                Ok(())
+            }
+            Err(at) => {
+                self.listed.insert(at, (sample, cell))?;
+                self.next = at + 1;
+                Ok(())
+            }
+        }
+    }
+
+    /// Takes out the cell of a sample.
+    fn take_out(&mut self, sample: u32)
+        requires { IsRising (cells_of self.old) }
+        ensures value { Changes self.old self.new sample None }
+    {
+        if self.places.is_empty() {
+            self.unlist(sample);
+            return;
+        }
+        let at = sample as usize;
+        if at < self.places.len() {
+            self.places[at] = NO_CELL;
+        }
+    }
+
+    /// Takes out the listed cell of a sample.
+    fn unlist(&mut self, sample: u32)
+        requires listed { self.old.places.items ≡ [] }
+        requires rising { IsRising self.old.listed.items }
+        ensures value { Changes self.old self.new sample None }
+    {
+        match place(self.listed.as_slice(), self.next, sample) {
+            Ok(at) => {
+                self.listed.remove(at);
+            }
+            Err(_) => {}
+        }
+    }
+
+    /// Puts another cell in the place of that of a sample.
+    fn put_back(&mut self, sample: u32, cell: Cell)
+        requires rising { IsRising (cells_of self.old) }
+        requires there { is_some (cell_in (cells_of self.old) sample) ≡ true }
+        requires some { 1 ≤ cell.total }
+        ensures value { Changes self.old self.new sample (Some cell) }
+    {
+        if self.places.is_empty() {
+            self.list_back(sample, cell);
+            return;
+        }
+        let at = sample as usize;
+        if at < self.places.len() {
+            self.places[at] = cell;
+        }
+    }
+
+    /// Puts another cell in the place of the listed one of a sample.
+    fn list_back(&mut self, sample: u32, cell: Cell)
+        requires listed { self.old.places.items ≡ [] }
+        requires rising { IsRising self.old.listed.items }
+        requires there { is_some (cell_in self.old.listed.items sample) ≡ true }
+        ensures value { Changes self.old self.new sample (Some cell) }
+    {
+        match place(self.listed.as_slice(), self.next, sample) {
+            Ok(at) => {
+                self.listed[at] = (sample, cell);
+            }
+            Err(_) => {}
+        }
+    }
+
+    /// Takes a loss from the cell of a sample, which has the greatest loss before then, or is taken out where nothing is left.
+    /// Returns the number of cells that were taken out.
+    pub(crate) fn lower(&mut self, sample: u32, loss: u64, greatest: u64) -> usize
+        requires { IsRising (cells_of self.old) }
+        ensures value { Lowers self.old self.new sample loss greatest result }
+    {
+        let cell = match self.cell(sample) {
+            Some(cell) => cell,
+            None => return 0,
+        };
+        if cell.total <= loss {
+            self.take_out(sample);
+            return 1;
+        }
+        let left = Cell {
+            total: cell.total - loss,
+            maximum: greatest,
+        };
+        self.put_back(sample, left);
+        0
+    }
+}

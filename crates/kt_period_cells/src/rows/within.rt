@@ -1,0 +1,133 @@
+//! Adding a record of which no loss passes a limit: nothing is noted, since nothing has to be taken back.
+//! The rules: docs/CALCULATION.md, "Periods"; docs/LIMITS.md, "Cells".
+ghost use Rattle.std.specs.Prelude.{◌≡◌, ◌+◌, ◌*◌, ◌≤◌, ◌^◌, ℕ, pos, ◌≤ℤ◌, List, ◌∷◌, [], ◌++◌, All, IfSome, true, length};
+ghost use Rattle.std.specs.List.{flat_map};
+ghost use Rattle.kt_rec.specs.declared.perspective.CellKey.{CellKey};
+ghost use Rattle.kt_rec.specs.declared.perspective.Perspective.{Perspective};
+ghost use Rattle.kt_period_cells.specs.declared.rows.Spot.{Spot};
+ghost use Rattle.kt_period_cells.specs.Losses.{KeyLoss, is_added};
+ghost use Rattle.kt_period_cells.specs.Standing.{Standing, cell_at, most_cells, most_total, total_in};
+ghost use Rattle.kt_period_cells.specs.Rows.{entries_of, row_keys, IsSpot, spot_losses};
+ghost use Rattle.kt_period_cells.specs.Room.{IsRoomyAt, AreRoomy, added_sum};
+ghost use Rattle.kt_period_cells.specs.SummaryRows.{row_at};
+ghost use Rattle.kt_period_cells.specs.Journal.{Clear};
+
+use super::{Rows, Spot};
+use crate::cell::is_added;
+use crate::raising::{MOST_CELLS, MOST_TOTAL};
+use kt_stream::Pair;
+
+/// The sum of the losses that are added up.
+fn added_sum(pairs: &[Pair]) -> u128
+    requires { All (λ pair. pair.loss ≤ 10 ^ 16) pairs.now }
+    ensures value { result ≡ added_sum pairs.now }
+{
+    let mut total = 0u128;
+    for pair in pairs {
+        total += added_loss(pair);
+    }
+    total
+}
+
+/// The loss of a pair, where it is added up.
+fn added_loss(pair: &Pair) -> u128
+    ensures value { result ≡ added_sum (pair.now ∷ []) }
+{
+    if is_added(pair) {
+        u128::from(pair.loss)
+    } else {
+        0
+    }
+}
+
+/// So many times a sum, where that is at most the greatest total.
+fn times_sum(count: usize, sum: u128) -> Option<u64>
+    ensures { IfSome result (λ more. (more ≡ count * sum) × (more ≤ most_total)) }
+{
+    let most = u128::from(MOST_TOTAL);
+    if sum > most {
+        return None;
+    }
+    let more = count as u128 * sum;
+    if more > most { None } else { Some(more as u64) }
+}
+
+impl Rows {
+    /// Whether there is room for so many cells more in each of so many rows.
+    fn has_cells_room(&self, count: usize, pairs: usize) -> bool
+        ensures value { result ≡ true → length (entries_of self.now.rows) + count * pairs ≤ most_cells }
+    {
+        self.held as u128 + count as u128 * pairs as u128 <= MOST_CELLS as u128
+    }
+
+    /// Whether a row has a place for each sample, and room for so much more in each of its cells.
+    fn has_row_room(&self, row: usize, more: u64) -> bool
+        requires { more ≤ most_total }
+        ensures value { result ≡ true → IsRoomyAt more (row_at self.now.rows row) }
+    {
+        row < self.rows.len() && self.rows[row].has_room(more)
+    }
+
+    /// Whether the rows at spots have a place for each sample, and room for so much more in each of their cells.
+    fn have_room(&self, spots: &[Spot], more: u64) -> bool
+        requires { more ≤ most_total }
+        ensures value { result ≡ true → AreRoomy more spots.now self.now.rows }
+    {
+        for spot in spots {
+            if !self.has_row_room(spot.row, more) {
+                return false;
+            }
+        }
+        true
+    }
+
+    /// Whether no loss of the pairs can pass a limit in the rows at spots, and these have a place for each sample.
+    pub(crate) fn has_room(&self, pairs: &[Pair], spots: &[Spot]) -> bool
+        requires { All (λ pair. pair.loss ≤ 10 ^ 16) pairs.now }
+        ensures cells { result ≡ true → length (entries_of self.now.rows) + length spots.now * length pairs.now ≤ most_cells }
+        ensures totals { result ≡ true → AreRoomy (length spots.now * added_sum pairs.now) spots.now self.now.rows }
+    {
+        match times_sum(spots.len(), added_sum(pairs)) {
+            Some(more) => {
+                self.has_cells_room(spots.len(), pairs.len()) && self.have_room(spots, more)
+            }
+            None => false,
+        }
+    }
+
+    /// Adds the losses of the pairs to the row at a spot, which has room for them.
+    fn add_spot(&mut self, pairs: &[Pair], spot: &Spot)
+        requires sidx { All (λ pair. pair.sidx ≤ℤ pos self.old.samples) pairs.now }
+        requires few { length (entries_of self.old.rows) + length pairs.now ≤ most_cells }
+        requires room { IsRoomyAt (added_sum pairs.now) (row_at self.old.rows spot.now.row) }
+        ensures size { (self.new.periods ≡ self.old.periods) × (self.new.samples ≡ self.old.samples) }
+        ensures rows { row_keys self.new.rows ≡ row_keys self.old.rows }
+        ensures count { length (entries_of self.new.rows) ≤ length (entries_of self.old.rows) + length pairs.now }
+        ensures room { (more : ℕ) (spots : List Spot) → AreRoomy (added_sum pairs.now + more) spots self.old.rows → AreRoomy more spots self.new.rows }
+        ensures step { (perspective : Perspective) (set summary : ℕ) (before : List KeyLoss) → IsSpot perspective set summary (row_keys self.old.rows) spot.now → Standing before (entries_of self.old.rows) → Standing (before ++ flat_map (spot_losses perspective set summary (spot.now ∷ [])) pairs.now) (entries_of self.new.rows) }
+    {
+        let opened = self.rows[spot.row].raise_all(pairs, self.samples);
+        self.held += opened;
+    }
+
+    /// The total of each cell is within its limit.
+    fn keeps_totals(&self)
+        ensures { (key : CellKey) → total_in (cell_at (entries_of self.now.rows) key) ≤ most_total }
+    {
+        let _held = self.held;
+    }
+
+    /// Adds the losses of the pairs to the rows at spots, which have room for them.
+    pub(crate) fn add_within(&mut self, pairs: &[Pair], spots: &[Spot])
+        requires sidx { All (λ pair. pair.sidx ≤ℤ pos self.old.samples) pairs.now }
+        requires few { length (entries_of self.old.rows) + length spots.now * length pairs.now ≤ most_cells }
+        requires room { AreRoomy (length spots.now * added_sum pairs.now) spots.now self.old.rows }
+        ensures size { (self.new.periods ≡ self.old.periods) × (self.new.samples ≡ self.old.samples) }
+        ensures step { (perspective : Perspective) (set summary : ℕ) (before : List KeyLoss) → All (IsSpot perspective set summary (row_keys self.old.rows)) spots.now → Standing before (entries_of self.old.rows) → Clear before (flat_map (spot_losses perspective set summary spots.now) pairs.now) (entries_of self.new.rows) }
+    {
+        for spot in spots {
+            self.add_spot(pairs, spot);
+        }
+        self.keeps_totals();
+    }
+}
