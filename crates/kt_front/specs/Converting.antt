@@ -1,6 +1,6 @@
 -- What a conversion of a table from the source gives.
 -- The rules: docs/COMMANDS.md, "tobin and tocsv".
-use Rattle.std.specs.Prelude.{◌≡◌, ◌⊎◌, ◌≤◌, ◌<◌, ◌^◌, ℕ, List, [], length, codes, nat_le, Some, Result, Ok, Err, IfSome, if◌then◌else◌}
+use Rattle.std.specs.Prelude.{◌≡◌, Bool, true, false, ◌⊎◌, ◌≤◌, ◌<◌, ◌^◌, ℕ, List, [], length, codes, nat_le, Some, Result, Ok, Err, IfSome, if◌then◌else◌}
 use Rattle.kt_out.specs.Counts.{Rose}
 use Rattle.kt_out.specs.Reading.{SourceState}
 use Rattle.kt_blocks.specs.declared.stop.TextStop.{TextStop}
@@ -14,10 +14,15 @@ use Rattle.kt_ends.specs.Ending.{IsMissing}
 use Rattle.kt_ends.specs.Endings.{nothing, writes_text}
 use Rattle.kt_ends.specs.Outcome.{Outcome}
 use Rattle.kt_ends.specs.Stops.{fault_stop, stop_status}
+use Rattle.kt_ends.specs.World.{Uses}
 use Rattle.kt_ends.specs.declared.status.Status.TheVariants as status
 use Rattle.kt_ends.specs.declared.tool_stop.ToolStop.{ToolStop}
 use Rattle.kt_ends.specs.declared.tool_stop.ToolStop.TheVariants.{Refused, ReadFault, WriteFault, NoMemory}
 use Rattle.kt_front.specs.Loading.{table_stop}
+
+-- a conversion uses the source, which it reads to its end before it judges it, and the sink, and the input files where it asks them
+abbrev pub conversion_uses : Bool → Uses
+conversion_uses asks = record { inputs = asks; outputs = false; source = true; whole = true; sink = true }
 
 -- a source has at most so many bytes
 abbrev pub source_limit : ℕ

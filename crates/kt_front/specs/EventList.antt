@@ -12,7 +12,7 @@ use Rattle.kt_tables.specs.Lookups.{event_ids}
 
 -- a table and what is written, and no stream
 abbrev pub eve_uses : Uses
-eve_uses = record { inputs = true; outputs = false; source = false; sink = true }
+eve_uses = record { inputs = true; outputs = false; source = false; whole = false; sink = true }
 
 -- the ids of events as a stream: four bytes each, the lowest first
 abbrev pub event_bytes : List ℕ → List ℕ

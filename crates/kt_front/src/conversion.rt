@@ -5,8 +5,7 @@ ghost use Rattle.kt_blocks.specs.Progress.{WritesText};
 ghost use Rattle.kt_cells.specs.Stops.{Tells};
 ghost use Rattle.kt_cells.specs.declared.stop.TableStop.{TableStop};
 ghost use Rattle.kt_ends.specs.Ending.{StreamToolEnds};
-ghost use Rattle.kt_front.specs.Converting.{EndsText, IsTableStop, convert_outcome, other_form};
-ghost use Rattle.kt_loop.specs.Running.{stream_uses};
+ghost use Rattle.kt_front.specs.Converting.{EndsText, IsTableStop, conversion_uses, convert_outcome, other_form};
 ghost use Rattle.kt_words.specs.Command.{IsConversion};
 
 use crate::stops::table_stop;
@@ -81,7 +80,7 @@ pub fn convert<S: Source, K: Sink>(
     sink: &mut K,
 ) -> Result<(), ToolStop>
     requires { IsConversion conversion }
-    ensures { StreamToolEnds (stream_uses false) (λ _ bytes. convert_outcome conversion bytes) (S.state source.old) (S.state source.new) (K.state sink.old) (K.state sink.new) result }
+    ensures { StreamToolEnds (conversion_uses false) (λ _ bytes. convert_outcome conversion bytes) (S.state source.old) (S.state source.new) (K.state sink.old) (K.state sink.new) result }
 {
     let bytes = match read_whole(alloc, source) {
         Ok(bytes) => bytes,

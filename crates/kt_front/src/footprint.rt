@@ -4,9 +4,8 @@ ghost use Rattle.std.specs.Prelude.{◌≡◌, Some, None, OnOk, IfErr, length, 
 ghost use Rattle.kt_checks.specs.TableChecks.{is_misplaced};
 ghost use Rattle.kt_ends.specs.Ending.{StreamToolEnds};
 ghost use Rattle.kt_keys.specs.FirstRow.{first_where};
-ghost use Rattle.kt_front.specs.Converting.{StopsText};
+ghost use Rattle.kt_front.specs.Converting.{StopsText, conversion_uses};
 ghost use Rattle.kt_front.specs.FootprintText.{IsPlaceStop, footprint_text, text_of};
-ghost use Rattle.kt_loop.specs.Running.{stream_uses};
 
 use crate::conversion::text_end;
 use crate::whole_source::read_whole;
@@ -59,7 +58,7 @@ fn write_text<S: Source, K: Sink>(
     source: &mut S,
     sink: &mut K,
 ) -> Result<(), ToolStop>
-    ensures { StreamToolEnds (stream_uses true) (λ _ bytes. footprint_text index.now bytes) (S.state source.old) (S.state source.new) (K.state sink.old) (K.state sink.new) result }
+    ensures { StreamToolEnds (conversion_uses true) (λ _ bytes. footprint_text index.now bytes) (S.state source.old) (S.state source.new) (K.state sink.old) (K.state sink.new) result }
 {
     let bytes = match read_whole(alloc, source) {
         Ok(bytes) => bytes,
@@ -78,7 +77,7 @@ pub fn footprint_to_text<S: Source, K: Sink>(
     source: &mut S,
     sink: &mut K,
 ) -> Result<(), ToolStop>
-    ensures { StreamToolEnds (stream_uses true) (λ _ bytes. footprint_text portfolio.now.rows.footprint_idx bytes) (S.state source.old) (S.state source.new) (K.state sink.old) (K.state sink.new) result }
+    ensures { StreamToolEnds (conversion_uses true) (λ _ bytes. footprint_text portfolio.now.rows.footprint_idx bytes) (S.state source.old) (S.state source.new) (K.state sink.old) (K.state sink.new) result }
 {
     let index = portfolio.tables().footprint_idx.as_slice();
     write_text(alloc, index, source, sink)
