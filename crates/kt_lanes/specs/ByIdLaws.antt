@@ -1,20 +1,23 @@
 -- Laws of lanes by rising id.
 -- The rule: docs/FINANCIAL_MODULE.md, "Allocation".
-use Rattle.std.specs.Prelude.{◌≡◌, ◌≢◌, ◌⊎◌, ℕ, ◌+◌, ◌<◌, ◌≤◌, ◌^◌, List, [], Vec, length, map, take, replicate, slice_index, slice_index_or}
-use Rattle.std.specs.List.{sum_by}
+use Rattle.std.specs.Prelude.{◌≡◌, ◌≢◌, ◌⊎◌, ℕ, ◌+◌, ◌<◌, ◌≤◌, ◌^◌, false, cond, nat_eq, List, [], ◌∷◌, Vec, length, map, take, replicate, slice_index, slice_index_or}
+use Rattle.std.specs.Cmp.{nat_eq_equiv}
+use Rattle.std.specs.List.{AllByRecursion, sum_by}
 use Rattle.std.specs.declared.alloc.Global.{Global}
-use Rattle.std.proofs.Common.{inl, inr, slice_set, sym, ap, subst, ◌∙◌, arith}
+use Rattle.std.proofs.Common.{inl, inr, slice_set, refl, sym, ap, subst, ◌∙◌, arith}
 use Rattle.std.proofs.lemmas.Bool.{cases_eq}
+use Rattle.std.proofs.lemmas.Bool.Decides.{nat_tests}
 use Rattle.std.proofs.lemmas.List.{get_or-set_same, get_or-set_other, length-map, length-set, map-set}
+use Rattle.std.proofs.lemmas.List.Sums.{sum_by-cons}
 use Rattle.kt_rec.specs.Rising.{IsRising}
-use Rattle.kt_tree.specs.Sharing.{part_of}
+use Rattle.kt_tree.specs.Sharing.{Part, part_of}
 use Rattle.kt_alloc.specs.ById.{with_more}
 use Rattle.kt_alloc.specs.IdLaws.{no-parts, next-part, part-fits, with-found}
 use Rattle.kt_alloc.specs.Placed.{unit_parts}
 use Rattle.kt_alloc.specs.declared.part.PlacedPart.{PlacedPart}
 use Rattle.kt_lanes.specs.Lanes.{column, AreWide, AreLanes, IsLane}
 use Rattle.kt_lanes.specs.LaneLaws.{column-at}
-use Rattle.kt_lanes.specs.Down.{ArePlaced, placed_at}
+use Rattle.kt_lanes.specs.Down.{ArePlaced, placed, placed_at}
 use Rattle.kt_lanes.specs.DownLaws.{placed-here, placed-inside}
 use Rattle.kt_lanes.specs.declared.down.PlacedLanes.{PlacedLanes}
 
@@ -84,3 +87,53 @@ module _ (width : ℕ) (units ids : List ℕ) (parts : PlacedLanes) (are : ArePl
 -- no lanes were added
 pub lanes-start : (width : ℕ) (ids : List ℕ) (found : List (Vec ℕ Global)) → AreLanes width (length ids) (λ k. replicate (length ids) 0) found → AreLanes width (length ids) (λ k. map (part_of []) ids) found
 lanes-start width ids found are = record { count_is = are.count_is; wide = are.wide; each = λ k less. are.each k less ∙ no-parts ids }
+
+-- ---- units that are the ids, in their order
+
+module _ (units : List ℕ) where
+  -- an id that is below all units has nothing
+  own-none : (id : ℕ) (places amounts : List ℕ) → AllByRecursion (λ other. id < other) (map (slice_index units) places) → part_of (unit_parts units (placed places amounts)) id ≡ 0
+  own-none id [] amounts above = refl
+  own-none id (place ∷ places) [] above = refl
+  own-none id (place ∷ places) (amount ∷ amounts) above =
+      let differ : nat_eq (slice_index units place) id ≡ false = apart (slice_index units place) id above.0 in
+      omega (arith, sum_by-cons (λ (part : Part). cond (nat_eq part.unit id) part.amount 0) (record { unit = slice_index units place; amount = amount }) (unit_parts units (placed places amounts)), ap (λ b. cond b amount 0) differ, own-none id places amounts above.1)
+    where
+      apart : (one other : ℕ) → other < one → nat_eq one other ≡ false
+      apart one other less = grind (arith, nat_tests)
+
+  -- an amount of another takes no part
+  own-other : (unit amount : ℕ) (parts : List Part) (ids : List ℕ) → AllByRecursion (λ other. unit < other) ids → map (part_of (record { unit = unit; amount = amount } ∷ parts)) ids ≡ map (part_of parts) ids
+  own-other unit amount parts [] above = refl
+  own-other unit amount parts (id ∷ ids) above =
+      let differ : nat_eq unit id ≡ false = apart unit id above.0 in
+      let same : part_of (record { unit = unit; amount = amount } ∷ parts) id ≡ part_of parts id =
+      omega (arith, sum_by-cons (λ (part : Part). cond (nat_eq part.unit id) part.amount 0) (record { unit = unit; amount = amount }) parts, ap (λ b. cond b amount 0) differ) in
+      ap (λ n. n ∷ map (part_of (record { unit = unit; amount = amount } ∷ parts)) ids) same ∙ ap (λ ns. part_of parts id ∷ ns) (own-other unit amount parts ids above.1)
+    where
+      apart : (one other : ℕ) → one < other → nat_eq one other ≡ false
+      apart one other less = grind (arith, nat_tests)
+
+  -- each has its own amount
+  own-parts : (places amounts : List ℕ) → length amounts ≡ length places → IsRising (map (slice_index units) places) → amounts ≡ map (part_of (unit_parts units (placed places amounts))) (map (slice_index units) places)
+  unfolding IsRising
+  own-parts [] [] same rises = refl
+  own-parts [] (amount ∷ amounts) same rises = absurd (omega arith)
+  own-parts (place ∷ places) [] same rises = absurd (omega arith)
+  own-parts (place ∷ places) (amount ∷ amounts) same rises =
+      let unit = slice_index units place in
+      let parts = unit_parts units (placed places amounts) in
+      let own : amount ≡ part_of (record { unit = unit; amount = amount } ∷ parts) unit =
+      omega (arith, sum_by-cons (λ (part : Part). cond (nat_eq part.unit unit) part.amount 0) (record { unit = unit; amount = amount }) parts, ap (λ b. cond b amount 0) (nat_eq_equiv.refl unit), own-none unit places amounts rises.0) in
+      ap (λ n. n ∷ amounts) own
+      ∙ ap (λ ns. part_of (record { unit = unit; amount = amount } ∷ parts) unit ∷ ns) (own-parts places amounts (omega (arith, same)) rises.1 ∙ sym (own-other unit amount parts (map (slice_index units) places) rises.0))
+
+  -- so the lanes of the units are those of the ids
+  pub lanes-own : (width : ℕ) (ids : List ℕ) → IsRising ids → (parts : PlacedLanes) → ArePlaced width parts → map (slice_index units) parts.places.items ≡ ids → AreLanes width (length ids) (λ k. map (part_of (unit_parts units (placed_at k parts))) ids) parts.lanes.items
+  lanes-own width ids rises parts are same = record {
+    count_is = sym are.count_is ∙ (sym (length-map parts.places.items (slice_index units)) ∙ ap length same);
+    wide = are.wide;
+    each = λ k less.
+        own-parts parts.places.items (column k parts.lanes.items) (length-map parts.lanes.items (λ (lane : Vec ℕ Global). slice_index lane.items k) ∙ sym are.count_is) (subst IsRising (sym same) rises)
+        ∙ ap (map (part_of (unit_parts units (placed_at k parts)))) same;
+  }

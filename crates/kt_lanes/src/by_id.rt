@@ -1,6 +1,6 @@
 //! Lanes of units, by rising id.
 //! The rule: docs/FINANCIAL_MODULE.md, "Allocation".
-ghost use Rattle.std.specs.Prelude.{◌≡◌, ℕ, ◌+◌, ◌≤◌, ◌<◌, ◌^◌, length, map, slice_index, All, IfOk};
+ghost use Rattle.std.specs.Prelude.{◌≡◌, true, ℕ, ◌+◌, ◌≤◌, ◌<◌, ◌^◌, length, map, slice_index, All, IfOk};
 ghost use Rattle.std.specs.List.{sum_by};
 ghost use Rattle.kt_rec.specs.Rising.{IsRising};
 ghost use Rattle.kt_tree.specs.Sharing.{part_of};
@@ -47,8 +47,8 @@ fn add_by_id(ids: &[u32], found: &mut Vec<Vec<u64>>, near: usize, id: u32, lane:
     }
 }
 
-/// What each of rising ids has of amounts of units of level 0. An error is want of memory.
-pub(crate) fn lanes_by_id(
+/// What each of rising ids has of amounts of units of level 0, added unit by unit. An error is want of memory.
+fn added_by_id(
     alloc: Global,
     programme: &Programme,
     ids: &[u32],
@@ -71,5 +71,42 @@ pub(crate) fn lanes_by_id(
             &parts.lanes[near],
         );
     }
+    Ok(found)
+}
+
+/// Whether the units in places of level 0 are these ids, in their order.
+fn are_in_order(programme: &Programme, ids: &[u32], places: &[usize]) -> bool
+    requires places { All (λ place. place < length programme.now.leaves) places.now }
+    ensures value { result ≡ true → map (slice_index (units_at programme.now 0)) places.now ≡ ids.now }
+{
+    if places.len() != ids.len() {
+        return false;
+    }
+    for at in 0..places.len() {
+        if id_at(programme, places[at]) != ids[at] {
+            return false;
+        }
+    }
+    true
+}
+
+/// What each of rising ids has of amounts of units of level 0. An error is want of memory.
+pub(crate) fn lanes_by_id(
+    alloc: Global,
+    programme: &Programme,
+    ids: &[u32],
+    width: usize,
+    parts: PlacedLanes,
+) -> Result<Vec<Vec<u64>>, AllocError>
+    requires rising { IsRising ids.now }
+    requires parts { ArePlaced width parts }
+    requires places { All (λ place. place < length programme.now.leaves) parts.places.items }
+    requires few { (k : ℕ) → k < width → sum_by (λ part. part.amount) (placed_at k parts) ≤ 10 ^ 17 }
+    ensures value { IfOk result (λ found. AreLanes width (length ids.now) (λ k. map (part_of (unit_parts (units_at programme.now 0) (placed_at k parts))) ids.now) found.items) }
+{
+    if are_in_order(programme, ids, &parts.places) {
+        return Ok(parts.lanes);
+    }
+    let found = added_by_id(alloc, programme, ids, width, &parts)?;
     Ok(found)
 }

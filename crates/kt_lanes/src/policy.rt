@@ -124,7 +124,7 @@ fn shared_down(
         programme,
         programme.beneath(node),
         climbed.width,
-        &parts,
+        parts,
     )?;
     Ok(shares)
 }

@@ -3,8 +3,6 @@
 ghost use Rattle.std.specs.Prelude.{◌≡◌, ◌≤◌, ◌<◌, ◌/◌, ◌^◌, IsTrue};
 ghost use Rattle.kt_money.specs.Sharing.{share_to};
 
-use std::num::nearest_u64_to_f64;
-
 /// Whether a guess is `a / b`.
 #[inline]
 fn is_quotient(a: u128, b: u64, guess: u64) -> bool
@@ -29,6 +27,12 @@ fn quotient(a: u128, b: u64, guess: u64) -> u64
     (a / u128::from(b)) as u64
 }
 
+/// A number below 2^53 as it is; of any other, some number.
+#[inline]
+fn float_of(n: u64) -> f64 {
+    (n & 0x001f_ffff_ffff_ffff) as f64
+}
+
 /// A number from 0 to 2^51, to the nearest whole number; of any other, some number. Where 2^52 is added to it, the whole number
 /// stands in its lowest 52 bits.
 #[inline]
@@ -41,11 +45,12 @@ fn nearest_whole(x: f64) -> u64 {
     }
 }
 
-/// What the part of a total is likely to be, from numbers that are rounded. A part that is whole comes out whole.
+/// What the part of a total is likely to be, from numbers that are rounded: one less than the whole number that is nearest to
+/// somewhat more than a half above. A part that is whole comes out whole.
 #[inline]
 fn guess(total: u64, weights: u64, upto: u64) -> u64 {
-    let product = nearest_u64_to_f64(total) * nearest_u64_to_f64(upto);
-    nearest_whole(product / nearest_u64_to_f64(weights) - 0.499)
+    let product = float_of(total) * float_of(upto);
+    nearest_whole(product / float_of(weights) + 0.501).wrapping_sub(1)
 }
 
 /// The part of a total in cents that falls to the first weights, rounded down. It is not above the weights in all.

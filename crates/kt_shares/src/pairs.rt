@@ -1,6 +1,6 @@
 //! The pairs of the rows of a run, and records of them.
 //! The rule: docs/FINANCIAL_MODULE.md, "Insured losses".
-ghost use Rattle.std.specs.Prelude.{◌≡◌, ◌≤◌, ◌++◌, [], length, slice_index, IfOk, OnErr, OnOk};
+ghost use Rattle.std.specs.Prelude.{◌≡◌, ◌+◌, ◌≤◌, ◌<◌, ◌++◌, [], length, slice_index, take, IfOk, OnErr, OnOk};
 ghost use Rattle.std.specs.List.{cons_option};
 ghost use Rattle.kt_runs.specs.Sidx.{pair_of, sidx_at};
 ghost use Rattle.kt_shares.specs.Shares.{record_with};
@@ -27,25 +27,31 @@ fn pair_at(row: u32, loss: u64) -> Pair
     }
 }
 
-/// Appends the pair of a row with a loss, where the loss is above 0.
-#[inline]
-fn push_loss(pairs: &mut Vec<Pair>, row: u32, loss: u64) -> Result<(), AllocError>
-    requires row { row ≤ 1000 }
-    ensures ok { OnOk result (pairs.new.items ≡ pairs.old.items ++ cons_option (pair_of (sidx_at (row_place row)) loss) []) }
+/// How many losses of a lane are above 0.
+fn count_of(lane: &[u64]) -> usize
+    requires { length lane.now ≤ 1001 }
+    ensures value { result ≡ length (pairs_by_row (slice_index lane.now) (length lane.now)) }
 {
-    if loss > 0 {
-        pairs.push(pair_at(row, loss))?;
-    }
-    Ok(())
-}
-
-/// How many amounts of a lane are above 0.
-fn count_of(lane: &[u64]) -> usize {
-    let mut count: usize = 0;
-    for loss in lane {
-        count = count.saturating_add(usize::from(*loss > 0));
+    let mut count = 0;
+    for row in 0..lane.len() {
+        if lane[row] > 0 {
+            count += 1;
+        }
     }
     count
+}
+
+/// Puts the pair of a row in a place among others, and gives the place of the next: where the loss is 0, the same again.
+#[inline]
+fn put_pair(pairs: &mut Vec<Pair>, place: usize, row: u32, loss: u64) -> usize
+    requires row { row ≤ 1000 }
+    requires place { place < length pairs.old.items }
+    ensures next { result ≡ place + length (cons_option (pair_of (sidx_at (row_place row)) loss) []) }
+    ensures value { take result pairs.new.items ≡ take place pairs.old.items ++ cons_option (pair_of (sidx_at (row_place row)) loss) [] }
+    ensures same { length pairs.new.items ≡ length pairs.old.items }
+{
+    pairs[place] = pair_at(row, loss);
+    if loss > 0 { place + 1 } else { place }
 }
 
 /// The pairs of a lane of losses in cents, where they are above 0. The first is that of the mean, and behind it stand those of the
@@ -54,9 +60,12 @@ pub fn lane_pairs(alloc: Global, lane: &[u64]) -> Result<Pairs, AllocError>
     requires { length lane.now ≤ 1001 }
     ensures value { IfOk result (λ pairs. pairs ≡ pairs_by_row (slice_index lane.now) (length lane.now)) }
 {
-    let mut pairs = Vec::with_capacity(alloc, count_of(lane))?;
+    let mut pairs = vec![in alloc; Pair { sidx: 0, loss: 0 }; count_of(lane)]?;
+    let mut place = 0;
     for row in 0..lane.len() {
-        push_loss(&mut pairs, row as u32, lane[row])?;
+        if place < pairs.len() {
+            place = put_pair(&mut pairs, place, row as u32, lane[row]);
+        }
     }
     Ok(Pairs::from_vec(pairs))
 }

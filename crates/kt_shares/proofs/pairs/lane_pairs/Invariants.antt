@@ -1,6 +1,5 @@
-use Rattle.std.proofs.Common.{◌≡◌, slice_index}
-use Rattle.kt_shares.specs.Table.{pairs_by_row}
+use Rattle.kt_shares.proofs.PairLemmas.{ArePut}
 use Rattle.kt_shares.proofs.pairs.lane_pairs.Given as goal
 
 abbrev pub invariant-loop-row : goal.invariant-loop-row
-invariant-loop-row l = l.pairs.items ≡ pairs_by_row (slice_index l.lane) l.row
+invariant-loop-row l = ArePut l.lane l.row l.place l.pairs.items
