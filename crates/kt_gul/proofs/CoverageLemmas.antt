@@ -93,21 +93,22 @@ module _ (rows : Rows) (event : ℕ) (cdfs : List Cdf) (group : List StruckItem)
   }
 
   -- where no total passes the insured value, the pairs of an item are those of its losses
-  pub plain_pairs_are : (cut : Bool) (coverage samples i : ℕ) (d : StruckItem) (row : List ℕ) → IsGroup rows event cdfs coverage group → i < length group → (cut ≡ true → (place : ℕ) → place < samples + 2 → group_total rows event cdfs group place ≤ tiv_of rows.coverages coverage) → IsRow (raw_loss rows event cdfs (get_or group i d).item) (samples + 2) row → pairs_of (λ place. slice_index row place) samples ≡ pairs_of (ground_up_loss rows cut event cdfs (get_or group i d).item) samples
+  pub plain_pairs_are : (cut : Bool) (coverage samples i : ℕ) (d : StruckItem) (row : List ℕ) → IsGroup rows event cdfs coverage group → i < length group → (cut ≡ true → (place : ℕ) → 1 ≤ place → place < samples + 2 → group_total rows event cdfs group place ≤ tiv_of rows.coverages coverage) → IsRow (raw_loss rows event cdfs (get_or group i d).item) (samples + 2) row → pairs_of (λ place. slice_index row place) samples ≡ pairs_of (ground_up_loss rows cut event cdfs (get_or group i d).item) samples
   plain_pairs_are cut coverage samples i d row is below plain row_are =
       pairs_agree _ (ground_up_loss rows cut event cdfs (get_or group i d).item) samples (λ place inside.
       let item = (get_or group i d).item in
       let loss : Item → ℕ = λ other. raw_loss rows event cdfs other place in
       row_are.each place inside ∙ sym (kept cut (item_tiv rows item) (coverage_total loss rows.items item.coverage_id) (total_before loss rows.items item) (loss item) place
-      (λ strikes. subst (λ (c : ℕ). coverage_total loss rows.items c ≤ tiv_of rows.coverages c) (sym (is.together i d below)) (omega (arith, is.total_is place, plain strikes place inside)))))
+      (λ strikes later. subst (λ (c : ℕ). coverage_total loss rows.items c ≤ tiv_of rows.coverages c) (sym (is.together i d below)) (omega (arith, is.total_is place, plain strikes place later inside)))))
     where
-      kept : (cut : Bool) (tiv total before loss place : ℕ) → (cut ≡ true → total ≤ tiv) → final_loss cut tiv total before loss place ≡ loss
+      kept : (cut : Bool) (tiv total before loss place : ℕ) → (cut ≡ true → 1 ≤ place → total ≤ tiv) → final_loss cut tiv total before loss place ≡ loss
       kept false tiv total before loss place fits = refl
-      kept true tiv total before loss place fits = by (not (nat_eq place 0))
+      kept true tiv total before loss zero fits = refl
+      kept true tiv total before loss (suc place) fits = by (not (nat_eq (suc place) 0))
         where
           by : (b : Bool) → cond b (cut_loss tiv total before loss) loss ≡ loss
           by false = refl
-          by true = ap (λ t. cond t (share_of tiv total before loss) loss) (le-ltb tiv total (fits refl))
+          by true = ap (λ t. cond t (share_of tiv total before loss) loss) (le-ltb tiv total (fits refl (omega arith)))
 
   -- the pairs of an item by the totals of its coverage are those of its ground-up losses
   pub cut_pairs_are : (cut : Bool) (coverage samples i : ℕ) (d : StruckItem) (tiv : ℕ) (totals before row made : List ℕ) → IsGroup rows event cdfs coverage group → i < length group → tiv ≡ tiv_of rows.coverages coverage → IsRow (group_total rows event cdfs group) (samples + 2) totals → IsRow (group_total rows event cdfs (take i group)) (samples + 2) before → IsRow (raw_loss rows event cdfs (get_or group i d).item) (samples + 2) row → IsRow (λ place. final_loss cut tiv (slice_index totals place) (slice_index before place) (slice_index row place) place) (samples + 2) made → pairs_of (λ place. slice_index made place) samples ≡ pairs_of (ground_up_loss rows cut event cdfs (get_or group i d).item) samples

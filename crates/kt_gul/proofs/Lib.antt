@@ -5,6 +5,7 @@ pub mod RandomLemmas
 pub mod ItemLemmas
 pub mod PairLemmas
 pub mod CoverageLemmas
+pub mod SingleLemmas
 pub mod StruckLemmas
 pub mod GroupLemmas
 pub mod FinalLemmas

@@ -1,6 +1,6 @@
 -- The steps of a distribution: the random numbers that fall into one bin, and the losses at them by one line of damages.
 -- The rule: docs/CALCULATION.md, "Sampled loss".
-use Rattle.std.specs.Prelude.{◌≡◌, ℕ, ◌+◌, ◌*◌, ◌/◌, ◌^◌, ◌<◌, ◌≤◌, List, length, max, All, slice_index_or}
+use Rattle.std.specs.Prelude.{◌≡◌, ℕ, ◌+◌, ◌-◌, ◌*◌, ◌/◌, ◌^◌, ◌<◌, ◌≤◌, List, length, take, drop, max, All, slice_index_or}
 use Rattle.kt_rec.specs.declared.hazard.DamageBin.{DamageBin}
 use Rattle.kt_stream.specs.declared.entry.Bin.{Bin}
 use Rattle.kt_stream.specs.declared.entry.Cdf.{Cdf}
@@ -29,7 +29,13 @@ pub record IsBinStep (low high before upto : ℕ) (step : Step) : Type 0 where
 abbrev pub AreSteps : List DamageBin → List Bin → List Step → Type 0
 AreSteps dictionary bins steps = All (IsStep (λ tiv number. sampled_loss tiv dictionary bins number)) steps
 
+-- the steps of a distribution are those at its places among all
+pub record IsTable (dictionary : List DamageBin) (bins : List Bin) (steps : List Step) (table : StepTable) : Type 0 where
+  pub order : table.start ≤ table.end
+  pub within : table.end ≤ length steps
+  pub steps_are : AreSteps dictionary bins (take (table.end - table.start) (drop table.start steps))
+
 -- the steps of the first so many distributions
-pub record AreTables (dictionary : List DamageBin) (cdfs : List Cdf) (upto : ℕ) (tables : List StepTable) : Type 0 where
+pub record AreTables (dictionary : List DamageBin) (cdfs : List Cdf) (upto : ℕ) (tables : List StepTable) (steps : List Step) : Type 0 where
   pub count : length tables ≡ upto
-  pub each : (k : ℕ) (t : StepTable) (d : Cdf) → k < upto → AreSteps dictionary (slice_index_or cdfs k d).bins (slice_index_or tables k t).steps.items
+  pub each : (k : ℕ) (t : StepTable) (d : Cdf) → k < upto → IsTable dictionary (slice_index_or cdfs k d).bins steps (slice_index_or tables k t)

@@ -5,7 +5,7 @@ ghost use Rattle.std.specs.List.{filter_map, flat_map, range_with_len};
 ghost use Rattle.kt_rec.specs.declared.table.Table.TheVariants as table;
 ghost use Rattle.kt_keys.specs.Refusals.{is_loaded};
 ghost use Rattle.kt_checks.specs.TableChecks.{tiv_of};
-ghost use Rattle.kt_gul.specs.GroundUp.{raw_loss, item_record};
+ghost use Rattle.kt_gul.specs.GroundUp.{item_tiv, raw_loss, item_record};
 ghost use Rattle.kt_gul.specs.Steps.{AreTables};
 ghost use Rattle.kt_gul.specs.Coverage.{IsRow, IsScratch, IsStruck, IsGroup, group_total};
 
@@ -16,7 +16,7 @@ use crate::held::HeldCdf;
 use crate::item::item_losses;
 use crate::struck::StruckItem;
 use crate::sums::{Scratch, add_to, clear, passes};
-use crate::tables::StepTable;
+use crate::tables::{StepTables, steps_between};
 use kt_tables::Portfolio;
 use std::alloc::AllocError;
 
@@ -24,20 +24,33 @@ use std::alloc::AllocError;
 fn struck_losses(
     portfolio: &Portfolio,
     draw: Draw,
+    tiv: u64,
     cdfs: &[HeldCdf<'_>],
-    tables: &[StepTable],
+    tables: &StepTables,
     struck: &StruckItem,
     losses: Vec<u64>,
 ) -> Result<Vec<u64>, AllocError>
     requires loaded { is_loaded portfolio.now.need 0 table.Random ≡ true }
     requires samples { draw.samples ≤ 1000 }
+    requires value { tiv ≡ item_tiv portfolio.now.rows struck.now.item }
     requires struck { IsStruck portfolio.now.rows cdfs.now struck.now }
-    requires tables { AreTables portfolio.now.rows.damage_bin_dict cdfs.now (length cdfs.now) tables.now }
+    requires tables { AreTables portfolio.now.rows.damage_bin_dict cdfs.now (length cdfs.now) tables.now.tables.items tables.now.steps.items }
     ensures value { IfOk result (λ longer. longer.items ≡ losses.items ++ map (raw_loss portfolio.now.rows draw.event cdfs.now struck.now.item) (range_with_len 0 (draw.samples + 2))) }
     ensures most { IfOk result (λ _. (place : ℕ) → place < draw.samples + 2 → raw_loss portfolio.now.rows draw.event cdfs.now struck.now.item place ≤ 100200100000000) }
 {
     let bins = cdfs[struck.cdf].bins();
-    item_losses(portfolio, draw, bins, &tables[struck.cdf], struck, losses)
+    let table = &tables.tables[struck.cdf];
+    let steps = steps_between(&tables.steps, table.start, table.end);
+    item_losses(
+        portfolio,
+        draw,
+        tiv,
+        bins,
+        &table.places,
+        steps,
+        struck,
+        losses,
+    )
 }
 
 /// The losses behind the first ones.
@@ -53,16 +66,18 @@ fn behind(losses: &[u64], done: usize) -> &[u64]
 fn group_losses(
     portfolio: &Portfolio,
     draw: Draw,
+    tiv: u64,
     cdfs: &[HeldCdf<'_>],
-    tables: &[StepTable],
+    tables: &StepTables,
     group: &[StruckItem],
     totals: &mut [u64],
     losses: Vec<u64>,
 ) -> Result<Vec<u64>, AllocError>
     requires loaded { is_loaded portfolio.now.need 0 table.Random ≡ true }
     requires samples { draw.samples ≤ 1000 }
+    requires value { All (λ struck. tiv ≡ item_tiv portfolio.now.rows struck.item) group.now }
     requires struck { All (IsStruck portfolio.now.rows cdfs.now) group.now }
-    requires tables { AreTables portfolio.now.rows.damage_bin_dict cdfs.now (length cdfs.now) tables.now }
+    requires tables { AreTables portfolio.now.rows.damage_bin_dict cdfs.now (length cdfs.now) tables.now.tables.items tables.now.steps.items }
     requires few { length group.now ≤ 100000 }
     requires zeros { IsRow (λ place. 0) (draw.samples + 2) totals.old }
     requires empty { losses.items ≡ [] }
@@ -73,7 +88,7 @@ fn group_losses(
     let mut losses = losses;
     for struck in group {
         let done = losses.len();
-        losses = struck_losses(portfolio, draw, cdfs, tables, struck, losses)?;
+        losses = struck_losses(portfolio, draw, tiv, cdfs, tables, struck, losses)?;
         add_to(totals, behind(&losses, done));
     }
     Ok(losses)
@@ -93,7 +108,7 @@ fn push_plain<E: Exit>(
     requires samples { draw.samples ≤ 1000 }
     requires group { IsGroup portfolio.now.rows draw.event cdfs.now coverage group.now }
     requires losses { losses.now ≡ flat_map (λ struck. map (raw_loss portfolio.now.rows draw.event cdfs.now struck.item) (range_with_len 0 (draw.samples + 2))) group.now }
-    requires plain { draw.cut ≡ true → (place : ℕ) → place < draw.samples + 2 → group_total portfolio.now.rows draw.event cdfs.now group.now place ≤ tiv_of portfolio.now.rows.coverages coverage }
+    requires plain { draw.cut ≡ true → (place : ℕ) → 1 ≤ place → place < draw.samples + 2 → group_total portfolio.now.rows draw.event cdfs.now group.now place ≤ tiv_of portfolio.now.rows.coverages coverage }
     ensures ok { OnOk result (E.pieces exit.new ≡ E.pieces exit.old ++ flat_map E.spelled (filter_map (item_record portfolio.now.rows draw.samples draw.cut draw.event cdfs.now) (map (λ struck. struck.item) group.now))) }
 {
     let width = draw.samples as usize + 2;
@@ -111,6 +126,7 @@ fn push_plain<E: Exit>(
 fn push_cut<E: Exit>(
     portfolio: &Portfolio,
     draw: Draw,
+    tiv: u64,
     coverage: u32,
     cdfs: &[HeldCdf<'_>],
     group: &[StruckItem],
@@ -120,7 +136,8 @@ fn push_cut<E: Exit>(
     cut: &mut [u64],
     exit: &mut E,
 ) -> Result<(), AllocError>
-    requires value { tiv_of portfolio.now.rows.coverages coverage ≤ 10 ^ 14 }
+    requires value { tiv ≡ tiv_of portfolio.now.rows.coverages coverage }
+    requires few { tiv ≤ 10 ^ 14 }
     requires samples { draw.samples ≤ 1000 }
     requires group { IsGroup portfolio.now.rows draw.event cdfs.now coverage group.now }
     requires losses { losses.now ≡ flat_map (λ struck. map (raw_loss portfolio.now.rows draw.event cdfs.now struck.item) (range_with_len 0 (draw.samples + 2))) group.now }
@@ -130,7 +147,6 @@ fn push_cut<E: Exit>(
     requires most { (place : ℕ) → place < draw.samples + 2 → group_total portfolio.now.rows draw.event cdfs.now group.now place < 2 ^ 64 }
     ensures ok { OnOk result (E.pieces exit.new ≡ E.pieces exit.old ++ flat_map E.spelled (filter_map (item_record portfolio.now.rows draw.samples draw.cut draw.event cdfs.now) (map (λ struck. struck.item) group.now))) }
 {
-    let tiv = portfolio.tiv(coverage);
     let width = draw.samples as usize + 2;
     clear(before);
     let mut rest = losses;
@@ -144,6 +160,33 @@ fn push_cut<E: Exit>(
     Ok(())
 }
 
+/// Appends the record of the only struck item of a coverage. A mean and a sample are at most its insured value, so nothing is
+/// cut. The list is empty, and is handed back with its losses.
+fn push_single<E: Exit>(
+    portfolio: &Portfolio,
+    draw: Draw,
+    tiv: u64,
+    coverage: u32,
+    cdfs: &[HeldCdf<'_>],
+    tables: &StepTables,
+    group: &[StruckItem],
+    losses: Vec<u64>,
+    exit: &mut E,
+) -> Result<Vec<u64>, AllocError>
+    requires loaded { is_loaded portfolio.now.need 0 table.Random ≡ true }
+    requires value { tiv ≡ tiv_of portfolio.now.rows.coverages coverage }
+    requires samples { draw.samples ≤ 1000 }
+    requires group { IsGroup portfolio.now.rows draw.event cdfs.now coverage group.now }
+    requires tables { AreTables portfolio.now.rows.damage_bin_dict cdfs.now (length cdfs.now) tables.now.tables.items tables.now.steps.items }
+    requires single { length group.now ≡ 1 }
+    requires empty { losses.items ≡ [] }
+    ensures ok { OnOk result (E.pieces exit.new ≡ E.pieces exit.old ++ flat_map E.spelled (filter_map (item_record portfolio.now.rows draw.samples draw.cut draw.event cdfs.now) (map (λ struck. struck.item) group.now))) }
+{
+    let losses = struck_losses(portfolio, draw, tiv, cdfs, tables, &group[0], losses)?;
+    push_plain(portfolio, draw, coverage, cdfs, group, &losses, exit)?;
+    Ok(losses)
+}
+
 /// Appends the records of the struck items of a coverage, which are all those of it, by rising id. What is kept for their losses
 /// is handed back.
 pub(crate) fn push_coverage<E: Exit>(
@@ -151,7 +194,7 @@ pub(crate) fn push_coverage<E: Exit>(
     draw: Draw,
     coverage: u32,
     cdfs: &[HeldCdf<'_>],
-    tables: &[StepTable],
+    tables: &StepTables,
     group: &[StruckItem],
     scratch: Scratch,
     exit: &mut E,
@@ -160,11 +203,12 @@ pub(crate) fn push_coverage<E: Exit>(
     requires value { tiv_of portfolio.now.rows.coverages coverage ≤ 10 ^ 14 }
     requires samples { draw.samples ≤ 1000 }
     requires group { IsGroup portfolio.now.rows draw.event cdfs.now coverage group.now }
-    requires tables { AreTables portfolio.now.rows.damage_bin_dict cdfs.now (length cdfs.now) tables.now }
+    requires tables { AreTables portfolio.now.rows.damage_bin_dict cdfs.now (length cdfs.now) tables.now.tables.items tables.now.steps.items }
     requires scratch { IsScratch (draw.samples + 2) scratch }
     ensures scratch { IfOk result (IsScratch (draw.samples + 2)) }
     ensures ok { OnOk result (E.pieces exit.new ≡ E.pieces exit.old ++ flat_map E.spelled (filter_map (item_record portfolio.now.rows draw.samples draw.cut draw.event cdfs.now) (map (λ struck. struck.item) group.now))) }
 {
+    let tiv = portfolio.tiv(coverage);
     let Scratch {
         mut losses,
         mut totals,
@@ -172,12 +216,33 @@ pub(crate) fn push_coverage<E: Exit>(
         mut cut,
     } = scratch;
     losses.clear();
+    if group.len() == 1 {
+        let losses = push_single(
+            portfolio, draw, tiv, coverage, cdfs, tables, group, losses, exit,
+        )?;
+        return Ok(Scratch {
+            losses,
+            totals,
+            before,
+            cut,
+        });
+    }
     clear(&mut totals);
-    let losses = group_losses(portfolio, draw, cdfs, tables, group, &mut totals, losses)?;
-    if passes(draw.cut, &totals, portfolio.tiv(coverage)) {
+    let losses = group_losses(
+        portfolio,
+        draw,
+        tiv,
+        cdfs,
+        tables,
+        group,
+        &mut totals,
+        losses,
+    )?;
+    if passes(draw.cut, &totals, tiv) {
         push_cut(
             portfolio,
             draw,
+            tiv,
             coverage,
             cdfs,
             group,

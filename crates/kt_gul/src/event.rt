@@ -20,7 +20,7 @@ use crate::exit::{Exit, Written};
 use crate::held::{CdfEntry, HeldCdf, held_cdfs};
 use crate::struck::{StruckItem, is_by_id, struck_items};
 use crate::sums::Scratch;
-use crate::tables::{StepTable, tables_of};
+use crate::tables::{StepTables, tables_of};
 use kt_index::ByKey;
 use kt_money::Bytes;
 use kt_stream::{Cdf, LossRecord, Records, put_loss};
@@ -56,14 +56,14 @@ fn put_groups<E: Exit>(
     portfolio: &Portfolio,
     draw: Draw,
     cdfs: &[HeldCdf<'_>],
-    tables: &[StepTable],
+    tables: &StepTables,
     struck: &[StruckItem],
     exit: &mut E,
 ) -> Result<(), AllocError>
     requires loaded { is_loaded portfolio.now.need 0 table.Random ≡ true }
     requires samples { draw.samples ≤ 1000 }
     requires order { AreInOrder portfolio.now.rows cdfs.now struck.now }
-    requires tables { AreTables portfolio.now.rows.damage_bin_dict cdfs.now (length cdfs.now) tables.now }
+    requires tables { AreTables portfolio.now.rows.damage_bin_dict cdfs.now (length cdfs.now) tables.now.tables.items tables.now.steps.items }
     ensures ok { OnOk result (E.pieces exit.new ≡ E.pieces exit.old ++ flat_map E.spelled (filter_map (item_record portfolio.now.rows draw.samples draw.cut draw.event cdfs.now) (map item_of struck.now))) }
 {
     portfolio.is_valid();
@@ -95,13 +95,13 @@ fn records_by_id(
     portfolio: &Portfolio,
     draw: Draw,
     cdfs: &[HeldCdf<'_>],
-    tables: &[StepTable],
+    tables: &StepTables,
     struck: &[StruckItem],
 ) -> Result<Vec<LossRecord>, AllocError>
     requires loaded { is_loaded portfolio.now.need 0 table.Random ≡ true }
     requires samples { draw.samples ≤ 1000 }
     requires order { AreInOrder portfolio.now.rows cdfs.now struck.now }
-    requires tables { AreTables portfolio.now.rows.damage_bin_dict cdfs.now (length cdfs.now) tables.now }
+    requires tables { AreTables portfolio.now.rows.damage_bin_dict cdfs.now (length cdfs.now) tables.now.tables.items tables.now.steps.items }
     ensures value { IfOk result (λ records. records.items ≡ ground_up_records portfolio.now.rows draw.samples draw.cut draw.event cdfs.now) }
 {
     portfolio.is_valid();
@@ -126,14 +126,14 @@ fn put_written(
     portfolio: &Portfolio,
     draw: Draw,
     cdfs: &[HeldCdf<'_>],
-    tables: &[StepTable],
+    tables: &StepTables,
     struck: &[StruckItem],
     out: &mut Bytes,
 ) -> Result<(), AllocError>
     requires loaded { is_loaded portfolio.now.need 0 table.Random ≡ true }
     requires samples { draw.samples ≤ 1000 }
     requires order { AreInOrder portfolio.now.rows cdfs.now struck.now }
-    requires tables { AreTables portfolio.now.rows.damage_bin_dict cdfs.now (length cdfs.now) tables.now }
+    requires tables { AreTables portfolio.now.rows.damage_bin_dict cdfs.now (length cdfs.now) tables.now.tables.items tables.now.steps.items }
     requires rising { IsNonDecreasingBy id_of struck.now }
     ensures ok { OnOk result (out.new ≡ out.old ++ flat_map loss_bytes (ground_up_records portfolio.now.rows draw.samples draw.cut draw.event cdfs.now)) }
 {

@@ -11,8 +11,9 @@ ghost use Rattle.kt_gul.specs.Steps.{AreSteps};
 
 use crate::draw::Draw;
 use crate::random::{first_place, next_place, random_at};
+use crate::steps::Step;
 use crate::struck::StruckItem;
-use crate::tables::{StepTable, loss_at};
+use crate::tables::{GROUPS, loss_at};
 use kt_rec::Random;
 use kt_stream::Bin;
 use kt_tables::Portfolio;
@@ -28,29 +29,29 @@ fn numbers_of(portfolio: &Portfolio) -> &[Random]
     portfolio.tables().random.as_slice()
 }
 
-/// Appends the losses of a struck item by its distribution, in the order of their sidx.
+/// Appends the losses of a struck item by its insured value and its distribution, in the order of their sidx.
 #[inline(never)]
 pub(crate) fn item_losses(
     portfolio: &Portfolio,
     draw: Draw,
+    tiv: u64,
     bins: &[Bin],
-    sampler: &StepTable,
+    places: &[u8; GROUPS],
+    steps: &[Step],
     struck: &StruckItem,
     losses: Vec<u64>,
 ) -> Result<Vec<u64>, AllocError>
     requires loaded { is_loaded portfolio.now.need 0 table.Random ≡ true }
     requires samples { draw.samples ≤ 1000 }
+    requires value { tiv ≡ item_tiv portfolio.now.rows struck.now.item }
     requires ranges { CanSample (item_tiv portfolio.now.rows struck.now.item) portfolio.now.rows.damage_bin_dict bins.now }
-    requires steps { AreSteps portfolio.now.rows.damage_bin_dict bins.now sampler.now.steps.items }
+    requires steps { AreSteps portfolio.now.rows.damage_bin_dict bins.now steps.now }
     requires moments { AreMoments bins.now struck.now.moments }
     ensures value { IfOk result (λ longer. longer.items ≡ losses.items ++ map (loss_by portfolio.now.rows draw.event bins.now struck.now.item) (range_with_len 0 (draw.samples + 2))) }
     ensures most { IfOk result (λ _. (place : ℕ) → place < draw.samples + 2 → loss_by portfolio.now.rows draw.event bins.now struck.now.item place ≤ 100200100000000) }
 {
-    let tiv = portfolio.tiv(struck.item.coverage_id);
     let dictionary = portfolio.damage_bins();
     let numbers = numbers_of(portfolio);
-    let places = &sampler.places;
-    let steps = sampler.steps.as_slice();
     let mut losses = losses;
     losses.reserve(draw.samples as usize + 2)?;
     losses.push_reserved(struck.moments.loss_deviation(tiv));

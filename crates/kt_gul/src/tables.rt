@@ -1,6 +1,6 @@
 //! The steps of the distributions of an event, and the loss of a sample by them.
 //! The rule: docs/CALCULATION.md, "Sampled loss".
-ghost use Rattle.std.specs.Prelude.{◌≡◌, ◌+◌, ◌*◌, ◌<◌, ◌≤◌, length, All, IfOk, OnOk};
+ghost use Rattle.std.specs.Prelude.{◌≡◌, ◌+◌, ◌-◌, ◌*◌, ◌<◌, ◌≤◌, length, take, drop, All, IfOk, OnOk};
 ghost use Rattle.kt_rec.specs.Ranges.{IsDamageBin};
 ghost use Rattle.kt_stream.specs.Bins.{IsCdf};
 ghost use Rattle.kt_gul.specs.SampledLoss.{sampled_loss};
@@ -20,12 +20,23 @@ pub(crate) const GROUPS: usize = 128;
 /// The group of a random number in parts per million is this many bits to the left.
 const GROUP_BITS: u32 = 13;
 
-/// The steps of a distribution.
+/// The steps of a distribution, among those of all distributions of an event.
 #[derive(Drop)]
 pub struct StepTable {
     /// For each group the step from which on to look for its numbers. No contract speaks of it: what is found is tested.
     pub(crate) places: [u8; GROUPS],
-    /// The steps, by rising numbers.
+    /// The place of the first step.
+    pub(crate) start: usize,
+    /// The place behind the last.
+    pub(crate) end: usize,
+}
+
+/// The steps of the distributions of an event.
+#[derive(Drop)]
+pub struct StepTables {
+    /// Where those of each distribution stand, in the order of the distributions.
+    pub(crate) tables: Vec<StepTable>,
+    /// All steps, by rising numbers in each distribution.
     pub(crate) steps: Vec<Step>,
 }
 
@@ -79,22 +90,22 @@ fn push_end(dictionary: &[DamageBin], bins: &[Bin], steps: &mut Vec<Step>) -> Re
     Ok(())
 }
 
-impl StepTable {
-    /// The steps of a distribution. An error is want of memory.
-    fn new(alloc: Global, dictionary: &[DamageBin], bins: &[Bin]) -> Result<Self, AllocError>
-        requires { CanSample 0 dictionary.now bins.now }
-        ensures steps { IfOk result (λ table. AreSteps dictionary.now bins.now table.steps.items) }
-    {
-        let mut steps = Vec::with_capacity(alloc, bins.len() + 1)?;
-        for place in 0..bins.len() {
-            push_step(dictionary, bins, place, &mut steps)?;
-        }
-        push_end(dictionary, bins, &mut steps)?;
-        Ok(StepTable {
-            places: places_of(&steps),
-            steps,
-        })
+/// The steps of a distribution, in a list whose memory is used again. An error is want of memory.
+fn steps_of(
+    dictionary: &[DamageBin],
+    bins: &[Bin],
+    list: Vec<Step>,
+) -> Result<Vec<Step>, AllocError>
+    requires { CanSample 0 dictionary.now bins.now }
+    ensures steps { IfOk result (λ steps. AreSteps dictionary.now bins.now steps.items) }
+{
+    let mut steps = list;
+    steps.clear();
+    for place in 0..bins.len() {
+        push_step(dictionary, bins, place, &mut steps)?;
     }
+    push_end(dictionary, bins, &mut steps)?;
+    Ok(steps)
 }
 
 /// The steps of distributions, in their order. An error is want of memory.
@@ -102,16 +113,35 @@ pub(crate) fn tables_of(
     alloc: Global,
     dictionary: &[DamageBin],
     cdfs: &[HeldCdf<'_>],
-) -> Result<Vec<StepTable>, AllocError>
+) -> Result<StepTables, AllocError>
     requires ends { All IsDamageBin dictionary.now }
     requires cdfs { All (IsCdf (length dictionary.now)) cdfs.now }
-    ensures value { IfOk result (λ tables. AreTables dictionary.now cdfs.now (length cdfs.now) tables.items) }
+    ensures value { IfOk result (λ all. AreTables dictionary.now cdfs.now (length cdfs.now) all.tables.items all.steps.items) }
 {
     let mut tables = Vec::with_capacity(alloc, cdfs.len())?;
+    let mut steps = Vec::new(alloc);
+    let mut own = Vec::new(alloc);
     for cdf in cdfs {
-        tables.push(StepTable::new(alloc, dictionary, cdf.bins())?)?;
+        own = steps_of(dictionary, cdf.bins(), own)?;
+        let start = steps.len();
+        steps.extend_from_slice(&own)?;
+        tables.push(StepTable {
+            places: places_of(&own),
+            start,
+            end: steps.len(),
+        })?;
     }
-    Ok(tables)
+    Ok(StepTables { tables, steps })
+}
+
+/// The steps from a place up to but not including another.
+#[inline]
+pub(crate) fn steps_between(steps: &[Step], start: usize, end: usize) -> &[Step]
+    requires order { start ≤ end }
+    requires within { end ≤ length steps.now }
+    ensures value { result.now ≡ take (end - start) (drop start steps.now) }
+{
+    &steps[start..end]
 }
 
 /// The loss of an insured value by a distribution and its steps, at a random number in parts per million.

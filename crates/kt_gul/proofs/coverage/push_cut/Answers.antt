@@ -61,8 +61,8 @@ loop-struck-preserved g c =
     let row = row_front rows c.args.draw.event c.args.cdfs.now group (c.args.draw.samples + 2) i none _ here.rest_are below in
     let row_are = subst (λ (row : List ℕ). IsRow (raw_loss rows c.args.draw.event c.args.cdfs.now (slice_index_or group i none).item) (c.args.draw.samples + 2) row) (sym c.split_at.ensures.front) row in
     let sums = subst (λ (row : List ℕ). IsRow (λ place. slice_index c.loop-struck.before place + slice_index row place) (length c.loop-struck.before) c.add_to.new.sums) c.split_at.ensures.front c.add_to.ensures.value in
-    let made = subst (λ (width : ℕ). IsRow (λ place. final_loss c.args.draw.cut c.tiv-tiv.result (slice_index c.args.totals.now place) (slice_index c.loop-struck.before place) (slice_index c.split_at.result.0.now place) place) width c.cut_row.new.row) c.loop-struck.invariant.width c.cut_row.ensures.value in
-    let pairs = cut_pairs_are rows c.args.draw.event c.args.cdfs.now group c.args.draw.cut c.args.coverage c.args.draw.samples i none c.tiv-tiv.result c.args.totals.now c.loop-struck.before c.split_at.result.0.now c.cut_row.new.row c.requires.group below c.tiv-tiv.ensures.value c.requires.totals here.before_are row_are made in
+    let made = subst (λ (width : ℕ). IsRow (λ place. final_loss c.args.draw.cut c.args.tiv (slice_index c.args.totals.now place) (slice_index c.loop-struck.before place) (slice_index c.split_at.result.0.now place) place) width c.cut_row.new.row) c.loop-struck.invariant.width c.cut_row.ensures.value in
+    let pairs = cut_pairs_are rows c.args.draw.event c.args.cdfs.now group c.args.draw.cut c.args.coverage c.args.draw.samples i none c.args.tiv c.args.totals.now c.loop-struck.before c.split_at.result.0.now c.cut_row.new.row c.requires.group below c.requires.value c.requires.totals here.before_are row_are made in
     record {
       pushed = pushed_more rows c.args.draw.event c.args.cdfs.now group (c.args.draw.samples + 2) i none _ _ _ _ here below c.split_at.ensures.back sums;
       width = made.width_is;

@@ -1,15 +1,35 @@
--- The steps of an item's distribution are those at its place.
-use Rattle.std.proofs.Common.{List, slice_index_or, ap, sym, subst, ◌∙◌}
+-- The steps of an item's distribution are those at its places.
+use Rattle.std.proofs.Common.{◌≡◌, List, length, sym, subst, slice_index_or}
 use Rattle.kt_stream.specs.declared.entry.Bin.{Bin}
 use Rattle.kt_stream.specs.declared.entry.Cdf.{Cdf}
+use Rattle.kt_gul.specs.declared.steps.Step.{Step}
 use Rattle.kt_gul.specs.declared.tables.StepTable.{StepTable}
-use Rattle.kt_gul.specs.Steps.{AreSteps}
+use Rattle.kt_gul.specs.Coverage.{IsStruck}
+use Rattle.kt_gul.specs.Steps.{AreSteps, AreTables, IsTable}
+use Rattle.kt_rec.specs.Rows.{Rows}
+use Rattle.kt_gul.specs.declared.struck.StruckItem.{StruckItem}
 use Rattle.kt_gul.proofs.coverage.struck_losses.Goals as goal
+
+-- the table at the place of an item's distribution is that of the distribution
+table_is : (rows : Rows) (cdfs : List Cdf) (tables : List StepTable) (steps read : List Step) (struck : StruckItem) (table : StepTable) (cdf : Cdf) → AreTables rows.damage_bin_dict cdfs (length cdfs) tables steps → IsStruck rows cdfs struck → table ≡ slice_index_or tables struck.cdf table → cdf ≡ slice_index_or cdfs struck.cdf cdf → read ≡ steps → IsTable rows.damage_bin_dict cdf.bins read table
+table_is rows cdfs tables steps read struck table cdf are is table_read cdf_read steps_read =
+    subst (λ (steps : List Step). IsTable rows.damage_bin_dict cdf.bins steps table) (sym steps_read)
+    (subst (IsTable rows.damage_bin_dict cdf.bins steps) (sym table_read)
+    (subst (λ (one : Cdf). IsTable rows.damage_bin_dict one.bins steps (slice_index_or tables struck.cdf table)) (sym cdf_read) (are.each struck.cdf table cdf is.known)))
+
+pub steps_between-steps-requires-clause-order : goal.steps_between-steps-requires-clause-order
+steps_between-steps-requires-clause-order c =
+    let table = table_is c.args.portfolio.now.rows c.args.cdfs.now c.args.tables.now.tables.items c.args.tables.now.steps.items c.deref.result.now c.args.struck.now c.index-table.result.now c.index-cdfs-struck.result c.requires.tables c.requires.struck c.index-table.ensures c.index-cdfs-struck.is c.deref.ensures.value in
+    table.order
+
+pub steps_between-steps-requires-clause-within : goal.steps_between-steps-requires-clause-within
+steps_between-steps-requires-clause-within c =
+    let table = table_is c.args.portfolio.now.rows c.args.cdfs.now c.args.tables.now.tables.items c.args.tables.now.steps.items c.deref.result.now c.args.struck.now c.index-table.result.now c.index-cdfs-struck.result c.requires.tables c.requires.struck c.index-table.ensures c.index-cdfs-struck.is c.deref.ensures.value in
+    table.within
 
 pub item_losses-requires-clause-steps : goal.item_losses-requires-clause-steps
 item_losses-requires-clause-steps c =
     let dictionary = c.args.portfolio.now.rows.damage_bin_dict in
-    let place = c.args.struck.now.cdf in
-    let each = c.requires.tables.each place c.index-tables-struck.result c.index-cdfs-struck.result c.requires.struck.known in
-    subst (λ (bins : List Bin). AreSteps dictionary bins c.index-tables-struck.result.steps.items) (sym (c.bins-bins.ensures.value ∙ ap (λ (cdf : Cdf). cdf.bins) c.index-cdfs-struck.is))
-    (subst (λ (table : StepTable). AreSteps dictionary (slice_index_or c.args.cdfs.now place c.index-cdfs-struck.result).bins table.steps.items) (sym c.index-tables-struck.is) each)
+    let table = table_is c.args.portfolio.now.rows c.args.cdfs.now c.args.tables.now.tables.items c.args.tables.now.steps.items c.deref.result.now c.args.struck.now c.index-table.result.now c.index-cdfs-struck.result c.requires.tables c.requires.struck c.index-table.ensures c.index-cdfs-struck.is c.deref.ensures.value in
+    subst (λ (bins : List Bin). AreSteps dictionary bins c.steps_between-steps.result.now) (sym c.bins-bins.ensures.value)
+    (subst (AreSteps dictionary c.index-cdfs-struck.result.bins) (sym c.steps_between-steps.ensures.value) table.steps_are)

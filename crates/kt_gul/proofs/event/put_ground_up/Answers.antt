@@ -4,5 +4,5 @@ use Rattle.kt_gul.proofs.event.put_ground_up.Goals as goal
 
 pub returns : goal.returns
 returns g c = record {
-  ok = rw (c.deref-5.ensures.value ∙ (c.in_ok-records.ensures.value ∙ ap (ground_up_records c.args.portfolio.now.rows c.args.samples c.args.cut c.args.event) (c.deref-3.ensures.value ∙ c.in_ok-cdfs.ensures.value))) at c.put_records.ensures.ok;
+  ok = rw (c.deref-4.ensures.value ∙ (c.in_ok-records.ensures.value ∙ ap (ground_up_records c.args.portfolio.now.rows c.args.samples c.args.cut c.args.event) (c.deref-3.ensures.value ∙ c.in_ok-cdfs.ensures.value))) at c.put_records.ensures.ok;
 }
