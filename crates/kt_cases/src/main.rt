@@ -14,7 +14,7 @@ use std::fs::Files;
 use std::io::Print;
 use std::process::ExitCode;
 use std::thread::Threads;
-use tools::Tools;
+use tools::take;
 
 /// The files of the cases.
 const DATA: [&str; 5] = ["words", "loads", "runs", "faults", "chains"];
@@ -34,7 +34,9 @@ fn compare_all<R: Threads + Sync + AllocGlobal + Files + Print>(
     let text = fs::read_to_string(rt, name)?;
     let mut script = Script::new(rt.alloc());
     for line in text.lines() {
-        script.take(rt, &Tools, line)?;
+        if take(rt, &mut script, line).is_err() {
+            script.refuse(line)?;
+        }
     }
     print_end(rt, name, &script)
 }

@@ -2,7 +2,6 @@
 #![tactic(auto)]
 
 mod adapted;
-mod answers;
 mod files;
 mod not_taken;
 mod said_size;
@@ -13,10 +12,10 @@ mod texts;
 mod words;
 
 pub use adapted::{Calls, Reader, Writer};
-pub use answers::Answers;
 pub use files::Files;
 pub use not_taken::NotTaken;
 pub use said_size::SaidSize;
-pub use script::Script;
+pub use script::{Asked, Script};
 pub use seen::{Seen, ended};
 pub use settings::Settings;
+pub use words::{words_of, words_seen};

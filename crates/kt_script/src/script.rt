@@ -1,16 +1,21 @@
 //! A script of cases, taken line by line.
 //! The language of the cases: README.md.
 
-use crate::answers::Answers;
 use crate::files::Files;
 use crate::not_taken::NotTaken;
 use crate::seen::{Seen, is_look};
 use crate::settings::Settings;
 use crate::texts::{numbered, range};
-use crate::words::{words_of, words_seen};
-use kt_words::Words;
-use std::alloc::{AllocGlobal, Global};
-use std::thread::Threads;
+use std::alloc::Global;
+
+/// A question that is handed out, and the answer that is wanted.
+#[derive(Clone, Copy)]
+pub struct Asked<'a> {
+    /// The question.
+    pub question: &'a str,
+    /// The wanted answer.
+    pub wanted: &'a str,
+}
 
 /// The state between two lines.
 #[derive(Drop)]
@@ -63,40 +68,54 @@ impl Script {
         self.differences.as_str()
     }
 
-    /// Takes a line, or tells that it is not taken. An error is want of memory.
-    pub fn take<R: Threads + Sync + AllocGlobal, A: Answers>(
-        &mut self,
-        rt: &R,
-        answers: &A,
-        line: &str,
-    ) -> Result<(), NotTaken> {
-        match self.take_line(rt, answers, line) {
-            Ok(()) => Ok(()),
-            Err(NotTaken) => {
-                self.differences.push_str("not taken: ")?;
-                self.differences.push_str(line)?;
-                self.differences.push_str("\n")?;
-                Ok(())
-            }
-        }
+    /// The files of the case.
+    pub fn files(&self) -> &Files {
+        &self.files
     }
 
-    /// Takes a line.
-    fn take_line<R: Threads + Sync + AllocGlobal, A: Answers>(
-        &mut self,
-        rt: &R,
-        answers: &A,
-        line: &str,
-    ) -> Result<(), NotTaken> {
+    /// The numbers of the case.
+    pub fn settings(&self) -> &Settings {
+        &self.settings
+    }
+
+    /// The first of the numbers for which a question is asked.
+    pub fn first(&self) -> u32 {
+        self.first
+    }
+
+    /// The last of them.
+    pub fn last(&self) -> u32 {
+        self.last
+    }
+
+    /// Tells that a line is not taken. An error is want of memory.
+    pub fn refuse(&mut self, line: &str) -> Result<(), NotTaken> {
+        self.differences.push_str("not taken: ")?;
+        self.differences.push_str(line)?;
+        self.differences.push_str("\n")?;
+        Ok(())
+    }
+
+    /// Takes a line. A question about what the last one left is answered; any other is handed out, to be answered behind
+    /// `begin_answers` for each number, and compared by `compare_all`.
+    pub fn take<'a>(&mut self, line: &'a str) -> Result<Option<Asked<'a>>, NotTaken> {
         if line.is_empty() || line.starts_with('#') {
-            return Ok(());
+            return Ok(None);
         }
         if let Some(row) = line.strip_prefix("  ") {
-            return self.files.add_row(row);
+            self.files.add_row(row)?;
+            return Ok(None);
         }
         match line.split_once(" => ") {
-            Some((question, wanted)) => self.ask(rt, answers, question, wanted),
-            None => self.change(line),
+            Some((question, wanted)) if is_look(question) => {
+                self.compare_all(question, wanted)?;
+                Ok(None)
+            }
+            Some((question, wanted)) => Ok(Some(Asked { question, wanted })),
+            None => {
+                self.change(line)?;
+                Ok(None)
+            }
         }
     }
 
@@ -160,49 +179,24 @@ impl Script {
         }
     }
 
-    /// What a question leaves.
-    fn see<R: Threads + Sync + AllocGlobal, A: Answers>(
-        &self,
-        rt: &R,
-        answers: &A,
-        kind: &str,
-        words: &Words,
-    ) -> Result<Seen, NotTaken> {
-        match kind {
-            "words" => words_seen(self.alloc, words),
-            _ => answers.see(rt, kind, words, &self.files, &self.settings),
-        }
+    /// Nothing is left of the last question.
+    pub fn begin_answers(&mut self) {
+        self.seen = Vec::new(self.alloc);
     }
 
-    /// Sees what a question leaves for each number.
-    fn see_all<R: Threads + Sync + AllocGlobal, A: Answers>(
-        &mut self,
-        rt: &R,
-        answers: &A,
-        question: &str,
-    ) -> Result<(), NotTaken> {
-        let (kind, words) = question.split_once(' ').unwrap_or((question, ""));
-        let words = words_of(self.alloc, words)?;
-        self.seen = Vec::new(self.alloc);
-        for number in self.first..=self.last {
-            let _is_swept = self.settings.set(self.swept.as_str(), number);
-            let seen = self.see(rt, answers, kind, &words)?;
-            self.seen.push(seen)?;
-        }
+    /// The next answer is for this number.
+    pub fn turn_to(&mut self, number: u32) {
+        let _is_swept = self.settings.set(self.swept.as_str(), number);
+    }
+
+    /// Keeps what a question left for the next number.
+    pub fn keep(&mut self, seen: Seen) -> Result<(), NotTaken> {
+        self.seen.push(seen)?;
         Ok(())
     }
 
     /// Compares the answer of a question with the wanted one, for each number.
-    fn ask<R: Threads + Sync + AllocGlobal, A: Answers>(
-        &mut self,
-        rt: &R,
-        answers: &A,
-        question: &str,
-        wanted: &str,
-    ) -> Result<(), NotTaken> {
-        if !is_look(question) {
-            self.see_all(rt, answers, question)?;
-        }
+    pub fn compare_all(&mut self, question: &str, wanted: &str) -> Result<(), NotTaken> {
         if self.seen.is_empty() {
             return Err(NotTaken);
         }

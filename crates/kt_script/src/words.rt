@@ -8,7 +8,7 @@ use kt_words::{Words, read_command};
 use std::alloc::Global;
 
 /// The words of a call.
-pub(crate) fn words_of(alloc: Global, written: &str) -> Result<Words, NotTaken> {
+pub fn words_of(alloc: Global, written: &str) -> Result<Words, NotTaken> {
     let mut words = Words::new(alloc);
     for word in written.split_whitespace() {
         let mut bytes = Vec::new(alloc);
@@ -19,7 +19,7 @@ pub(crate) fn words_of(alloc: Global, written: &str) -> Result<Words, NotTaken> 
 }
 
 /// The command that the words are, or the refusal of the first faulty one.
-pub(crate) fn words_seen(alloc: Global, words: &Words) -> Result<Seen, NotTaken> {
+pub fn words_seen(alloc: Global, words: &Words) -> Result<Seen, NotTaken> {
     match read_command(words) {
         Ok(command) => Ok(Seen::of_text(alloc, format!(in alloc; "{command:?}")?)),
         Err(stop) => ended(alloc, Status::Words(stop)),
