@@ -15,10 +15,10 @@ ghost use Rattle.kt_chain.specs.Rounds.{AddsAll, AddsBlocks, IsGoodPart, fold_re
 ghost use Rattle.kt_periods.specs.Adding.{cell_refusal as refusal_of_cells};
 
 use crate::part::{PartBlock, RefusedRow};
-use kt_period_cells::{CellStop, Cells};
 use kt_ends::Refusal;
 use kt_event::{EventBlock, Summaries};
 use kt_part::Fold;
+use kt_period_cells::{CellStop, Cells};
 use kt_tables::Portfolio;
 use std::alloc::Global;
 use std::marker::Model;

@@ -9,10 +9,10 @@ ghost use Rattle.kt_periods.specs.PeriodTables.{table_text};
 ghost use Rattle.kt_tables.specs.Lookups.{return_periods_of};
 
 use crate::file::{OutputFile, SetTable};
-use kt_period_cells::Cells;
 use kt_event::SummarySet;
 use kt_money::{Bytes, OutOfMemory};
 use kt_outputs::Texts;
+use kt_period_cells::Cells;
 use kt_periods::{PeriodTable, append_table};
 use kt_tables::Portfolio;
 

@@ -2,10 +2,10 @@
 //! The rules: docs/CALCULATION.md, "Periods"; docs/REFUSALS.md, "Order".
 use crate::stop::cell_stop;
 use crate::table::{PeriodTable, append_table};
-use kt_period_cells::Cells;
 use kt_ends::ToolStop;
 use kt_loop::Stage;
 use kt_money::Bytes;
+use kt_period_cells::Cells;
 use kt_rec::Perspective;
 use kt_stream::{Head, SummaryRecord};
 use kt_tables::Portfolio;

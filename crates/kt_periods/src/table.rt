@@ -6,8 +6,8 @@ ghost use Rattle.kt_period_cells.specs.Standing.{StandsFor};
 ghost use Rattle.kt_periods.specs.PeriodTables.{table_text};
 
 use kt_curve::{aal_heading, aal_text, lec_heading, lec_text};
-use kt_period_cells::Cells;
 use kt_money::{Bytes, OutOfMemory};
+use kt_period_cells::Cells;
 use kt_rec::{Curve, Perspective};
 
 /// A table of a summary stream over all periods.
