@@ -54,6 +54,35 @@ fn mem_source(alloc: Global, files: &Files, settings: &Settings) -> Result<MemSo
     Ok(MemSource::new(bytes, fails, settings.most.max(1) as u64))
 }
 
+/// A run over these files and this source: what its sinks took is what is seen.
+fn run_over<R: Threads + Sync + AllocGlobal>(
+    rt: &R,
+    words: &Words,
+    settings: &Settings,
+    inputs: &mut MemInputs,
+    outputs: &mut MemOutputs,
+    source: &mut MemSource,
+) -> Result<Seen, NotTaken> {
+    let alloc = rt.alloc();
+    let mut sink = mem_sink(alloc, settings.sink, settings.most)?;
+    let mut err = mem_sink(alloc, settings.err, settings.most)?;
+    let code = status_code(rt, words, inputs, outputs, source, &mut sink, &mut err);
+    Seen::new(alloc, code, sink.taken(), err.taken())
+}
+
+/// A run over these output files.
+fn run_into<R: Threads + Sync + AllocGlobal>(
+    rt: &R,
+    words: &Words,
+    files: &Files,
+    settings: &Settings,
+    outputs: &mut MemOutputs,
+) -> Result<Seen, NotTaken> {
+    let mut source = mem_source(rt.alloc(), files, settings)?;
+    let mut inputs = files.inputs(settings)?;
+    run_over(rt, words, settings, &mut inputs, outputs, &mut source)
+}
+
 /// A run over objects in memory that fail as they are told to.
 pub(crate) fn run_in_memory<R: Threads + Sync + AllocGlobal>(
     rt: &R,
@@ -61,22 +90,8 @@ pub(crate) fn run_in_memory<R: Threads + Sync + AllocGlobal>(
     files: &Files,
     settings: &Settings,
 ) -> Result<Seen, NotTaken> {
-    let alloc = rt.alloc();
-    let mut sink = mem_sink(alloc, settings.sink, settings.most)?;
-    let mut err = mem_sink(alloc, settings.err, settings.most)?;
-    let mut source = mem_source(alloc, files, settings)?;
-    let mut inputs = files.inputs(settings)?;
-    let mut outputs = mem_outputs(alloc, settings)?;
-    let code = status_code(
-        rt,
-        words,
-        &mut inputs,
-        &mut outputs,
-        &mut source,
-        &mut sink,
-        &mut err,
-    );
-    let seen = Seen::new(alloc, code, sink.taken(), err.taken())?;
+    let mut outputs = mem_outputs(rt.alloc(), settings)?;
+    let seen = run_into(rt, words, files, settings, &mut outputs)?;
     Ok(seen.with_files(outputs))
 }
 

@@ -12,8 +12,8 @@ mod words;
 use failure::Failure;
 use gate::{GroupGate, Passes};
 use kt_out::{SureInputs, SureOutputs, SureSink, SureSource};
-use kt_tools::{Status, run};
-use std::alloc::AllocGlobal;
+use kt_tools::{Status, Words, run};
+use std::alloc::{AllocGlobal, Global};
 use std::io::Print;
 use std::process::ExitCode;
 use std::thread::Threads;
@@ -68,39 +68,65 @@ const TRIALS: [Trial; 6] = [
     Trial("-b 4 -w 2", 2, LONG, Wanted::AllOf(4)),
 ];
 
-/// Whether a run over these tables ends well and its gate has seen what it must.
-fn is_as_wanted<R: Threads + Sync + AllocGlobal>(
+/// Whether a run over these tables is done. Its clauses end here, so that callers are checked without them.
+fn is_done<R: Threads + Sync + AllocGlobal>(
     rt: &R,
+    gate: &GroupGate,
+    words: &Words,
     inputs: &mut SureInputs,
-    trial: &Trial,
-) -> Result<bool, Failure> {
+) -> bool {
     let alloc = rt.alloc();
-    let gate = GroupGate::new(trial.1, trial.2);
-    let mut words = words_of(alloc, "chain -S 2 -l gul")?;
-    for word in trial.0.split_whitespace() {
-        words.push(word.as_bytes())?;
-    }
     let status = run(
         rt,
         alloc,
-        &gate,
-        &words,
+        gate,
+        words,
         inputs,
         &mut SureOutputs::new(alloc),
         &mut SureSource::new(Vec::new(alloc)),
         &mut SureSink::new(alloc),
         &mut SureSink::new(alloc),
     );
-    Ok(matches!(status, Status::Done) && trial.3.is(gate.passes()))
+    matches!(status, Status::Done)
+}
+
+/// The words of a trial.
+fn words_of_trial(alloc: Global, trial: &Trial) -> Result<Words, Failure> {
+    let mut words = words_of(alloc, "chain -S 2 -l gul")?;
+    for word in trial.0.split_whitespace() {
+        words.push(word.as_bytes())?;
+    }
+    Ok(words)
+}
+
+/// Whether a run over these tables ends well and its gate has seen what it must.
+fn is_as_wanted<R: Threads + Sync + AllocGlobal>(
+    rt: &R,
+    inputs: &mut SureInputs,
+    trial: &Trial,
+) -> Result<bool, Failure> {
+    let words = words_of_trial(rt.alloc(), trial)?;
+    let gate = GroupGate::new(trial.1, trial.2);
+    Ok(is_done(rt, &gate, &words, inputs) && trial.3.is(gate.passes()))
+}
+
+/// Tries a run over these tables, and prints it where it is not as it must be.
+fn try_one<R: Threads + Sync + AllocGlobal + Print>(
+    rt: &R,
+    inputs: &mut SureInputs,
+    trial: &Trial,
+) -> Result<(), Failure> {
+    if !is_as_wanted(rt, inputs, trial)? {
+        println!(rt; "groups of {}, {}: not as it must be", trial.1, trial.0)?;
+    }
+    Ok(())
 }
 
 /// Tries all runs over events in this order, and prints each that is not as it must be.
 fn try_all<R: Threads + Sync + AllocGlobal + Print>(rt: &R, events: &str) -> Result<(), Failure> {
     let mut inputs = inputs_of(rt, events)?;
     for trial in &TRIALS {
-        if !is_as_wanted(rt, &mut inputs, trial)? {
-            println!(rt; "groups of {}, {}: not as it must be", trial.1, trial.0)?;
-        }
+        try_one(rt, &mut inputs, trial)?;
     }
     println!(rt; "{} runs tried", TRIALS.len())?;
     Ok(())

@@ -5,7 +5,7 @@ use crate::failure::Failure;
 use crate::tables::kept_inputs_of;
 use crate::words::words_of;
 use kt_out::{MemInputs, Open, SureOutputs, SureSink, SureSource};
-use kt_tools::run;
+use kt_tools::{Words, run};
 use std::alloc::{AllocGlobal, Global};
 use std::io::Print;
 use std::str;
@@ -32,31 +32,55 @@ fn print_reads<R: Print>(rt: &R, inputs: &MemInputs) -> Result<(), Failure> {
     Ok(())
 }
 
-/// Prints how a run ends over events whose first has these rows in the footprint, and what it asked for.
-fn print_run<R: Threads + Sync + AllocGlobal + Print>(rt: &R, first: &str) -> Result<(), Failure> {
+/// The files of a run over events whose first has these rows in the footprint.
+fn inputs_with<R: Threads + Sync + AllocGlobal>(rt: &R, first: &str) -> Result<MemInputs, Failure> {
     let alloc = rt.alloc();
     let mut events = String::new(alloc);
     push_lines(alloc, &mut events, 1, "")?;
-    let mut strikes = String::new(alloc);
-    strikes.push_str(first)?;
+    let mut strikes = String::from_str(alloc, first)?;
     push_lines(alloc, &mut strikes, 2, ",1,1,1")?;
-    let mut inputs = kept_inputs_of(rt, &events, &strikes)?;
-    let words = words_of(alloc, "chain -S 2 -l gul -b 1 -w 2")?;
-    let mut err = SureSink::new(alloc);
+    kept_inputs_of(rt, &events, &strikes)
+}
+
+/// The exit status of a run over these files. Its clauses end here, so that callers are checked without them.
+fn status_code<R: Threads + Sync + AllocGlobal>(
+    rt: &R,
+    words: &Words,
+    inputs: &mut MemInputs,
+    err: &mut SureSink,
+) -> u8 {
+    let alloc = rt.alloc();
     let status = run(
         rt,
         alloc,
         &Open,
-        &words,
-        &mut inputs,
+        words,
+        inputs,
         &mut SureOutputs::new(alloc),
         &mut SureSource::new(Vec::new(alloc)),
         &mut SureSink::new(alloc),
-        &mut err,
+        err,
     );
-    println!(rt; "status {}", status.code())?;
+    status.code()
+}
+
+/// Prints how a run over these files ends, and what it asked for.
+fn print_end<R: Threads + Sync + AllocGlobal + Print>(
+    rt: &R,
+    inputs: &mut MemInputs,
+) -> Result<(), Failure> {
+    let words = words_of(rt.alloc(), "chain -S 2 -l gul -b 1 -w 2")?;
+    let mut err = SureSink::new(rt.alloc());
+    let code = status_code(rt, &words, inputs, &mut err);
+    println!(rt; "status {code}")?;
     print!(rt; "{}", str::from_utf8(err.taken()).unwrap_or("?"))?;
-    print_reads(rt, &inputs)
+    print_reads(rt, inputs)
+}
+
+/// Prints how a run ends over events whose first has these rows in the footprint, and what it asked for.
+fn print_run<R: Threads + Sync + AllocGlobal + Print>(rt: &R, first: &str) -> Result<(), Failure> {
+    let mut inputs = inputs_with(rt, first)?;
+    print_end(rt, &mut inputs)
 }
 
 /// Prints a run whose events all pass, and one whose first event is refused: its second row lifts the sum of the probabilities above 1.

@@ -4,7 +4,7 @@
 use crate::failure::Failure;
 use crate::words::words_of;
 use kt_out::{MemInputs, Open, SureInputs, SureOutputs, SureSink, SureSource};
-use kt_tools::{Status, run};
+use kt_tools::{Status, Words, run};
 use std::alloc::{AllocGlobal, Global};
 use std::thread::Threads;
 
@@ -64,6 +64,43 @@ fn text_of(alloc: Global, rows: &str) -> Result<Vec<u8>, Failure> {
     Ok(text)
 }
 
+/// Whether a run over a text is done; what it writes goes into the sink. Its clauses end here, so that callers are checked without them.
+fn is_done<R: Threads + Sync + AllocGlobal>(
+    rt: &R,
+    words: &Words,
+    text: Vec<u8>,
+    sink: &mut SureSink,
+) -> bool {
+    let alloc = rt.alloc();
+    let status = run(
+        rt,
+        alloc,
+        &Open,
+        words,
+        &mut SureInputs::new(alloc),
+        &mut SureOutputs::new(alloc),
+        &mut SureSource::new(text),
+        sink,
+        &mut SureSink::new(alloc),
+    );
+    matches!(status, Status::Done)
+}
+
+/// What these words make of the text of these rows.
+fn made_of<R: Threads + Sync + AllocGlobal>(
+    rt: &R,
+    words: &str,
+    rows: &str,
+) -> Result<Vec<u8>, Failure> {
+    let words = words_of(rt.alloc(), words)?;
+    let text = text_of(rt.alloc(), rows)?;
+    let mut sink = SureSink::new(rt.alloc());
+    if !is_done(rt, &words, text, &mut sink) {
+        return Err(Failure);
+    }
+    Ok(sink.taken().to_vec(rt.alloc())?)
+}
+
 /// Adds the file of a table, as the program makes it of the text of these rows.
 fn add_file<R: Threads + Sync + AllocGlobal>(
     rt: &R,
@@ -72,24 +109,7 @@ fn add_file<R: Threads + Sync + AllocGlobal>(
     words: &str,
     rows: &str,
 ) -> Result<(), Failure> {
-    let alloc = rt.alloc();
-    let words = words_of(alloc, words)?;
-    let mut sink = SureSink::new(alloc);
-    let status = run(
-        rt,
-        alloc,
-        &Open,
-        &words,
-        &mut SureInputs::new(alloc),
-        &mut SureOutputs::new(alloc),
-        &mut SureSource::new(text_of(alloc, rows)?),
-        &mut sink,
-        &mut SureSink::new(alloc),
-    );
-    if !matches!(status, Status::Done) {
-        return Err(Failure);
-    }
-    let bytes = sink.taken().to_vec(alloc)?;
+    let bytes = made_of(rt, words, rows)?;
     files.push(NamedFile { name, bytes })?;
     Ok(())
 }
