@@ -2,4 +2,4 @@ pub mod ListLemmas
 pub mod FileLemmas
 pub mod MidwayLemmas
 pub mod StepLemmas
-mod StripLemmas
+mod HandLemmas

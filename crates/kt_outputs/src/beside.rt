@@ -1,9 +1,9 @@
 //! Appending to each file of a list the text that it gains, where several texts are made side by side.
 //! The rules: docs/REFUSALS.md, "Statuses".
-ghost use Rattle.std.specs.Prelude.{◌≡◌, ◌≤◌, ◌<◌, ◌++◌, ◌+◌, ◌*◌, ℕ, List, length, map, min, IfOk};
+ghost use Rattle.std.specs.Prelude.{◌≡◌, ◌≤◌, ◌<◌, ◌++◌, ◌+◌, ◌*◌, ℕ, List, length, map, min, slice_index_or, IfOk};
 ghost use Rattle.kt_out.specs.Appending.{AppendsAll};
 ghost use Rattle.kt_out.specs.OutputFiles.{CountsOutput, OutputsState};
-ghost use Rattle.kt_outputs.specs.Beside.{AreMade, AreStrips, AreWhole, GroupMakes, IsWhole, MadeUpTo};
+ghost use Rattle.kt_outputs.specs.Beside.{AreHands, AreWhole, GroupMakes, IsHand, IsWhole, MadeUpTo};
 ghost use Rattle.kt_outputs.specs.Files.{Makes, files_with};
 ghost use Rattle.kt_outputs.specs.Names.{AreDistinct};
 ghost use Rattle.kt_outputs.specs.Texts.{text_of};
@@ -15,11 +15,14 @@ use kt_out::{Fault, Outputs, append_all};
 use std::alloc::{AllocError, Global};
 use std::thread::{self, Threads};
 
-/// How many files a strip has.
-const STRIP: usize = 8;
+/// How many files a hand has at the most.
+const HAND: usize = 8;
 
-/// The texts of a strip of files, where there was memory for them.
-type Strip = Result<Vec<Bytes>, OutOfMemory>;
+/// How many hands are busy at the most.
+const MOST_HANDS: usize = 256;
+
+/// The texts that a hand has made, where there was memory for them.
+type Hand = Result<Vec<Bytes>, OutOfMemory>;
 
 /// The text that a file gains, whole.
 fn whole_text<F, T: Texts<F>>(alloc: Global, file: &F, texts: &T) -> Result<Bytes, OutOfMemory>
@@ -35,44 +38,55 @@ fn whole_text<F, T: Texts<F>>(alloc: Global, file: &F, texts: &T) -> Result<Byte
     Ok(text)
 }
 
-/// The texts that a strip of files from a place on gains, one after the other.
-fn strip_texts<F, T: Texts<F>>(
+/// The texts of the files that a hand has of so many from a place on: every one behind the first of its own that is a multiple of the
+/// number of hands further.
+fn hand_texts<F, T: Texts<F>>(
     alloc: Global,
     files: &[F],
-    place: usize,
+    first: usize,
+    count: usize,
+    hands: usize,
+    hand: usize,
     texts: &T,
 ) -> Result<Vec<Bytes>, OutOfMemory>
-    requires within { place ≤ length files.now }
-    ensures whole { IfOk result (λ made. IsWhole (length files.now) place made.items) }
-    ensures value { (start : T.Start) → T.are_of start texts.now → IfOk result (λ made. AreMade (text_of T.pieces_of start texts.now) files.now place made.items) }
+    requires within { first + count ≤ length files.now }
+    requires few { count ≤ 2048 }
+    requires hands { (1 ≤ hands) × (hands ≤ 256) }
+    requires hand { hand < hands }
+    ensures whole { IfOk result (λ made. IsWhole count hands hand made.items) }
+    ensures value { (start : T.Start) → T.are_of start texts.now → IfOk result (λ made. IsHand (text_of T.pieces_of start texts.now) files.now first hands hand made.items) }
 {
-    let count = STRIP.min(files.len() - place);
-    let mut made = Vec::with_capacity(alloc, count)?;
-    for at in 0..count {
-        made.push(whole_text(alloc, &files[place + at], texts)?)?;
+    let mut made = Vec::new(alloc);
+    let mut at = hand;
+    while at < count {
+        made.push(whole_text(alloc, &files[first + at], texts)?)?;
+        at += hands;
     }
     Ok(made)
 }
 
-/// The texts of so many strips of files from a place on, each made in a thread of its own where one can be made.
-fn strips_beside<R: Threads + Sync, F: Sync, T: Texts<F> + Sync>(
+/// The texts of so many files from a place on, by hands that are busy side by side, each in a thread of its own where one can be made.
+fn hands_beside<R: Threads + Sync, F: Sync, T: Texts<F> + Sync>(
     rt: &R,
     alloc: Global,
     files: &[F],
     first: usize,
     count: usize,
+    hands: usize,
     texts: &T,
-) -> Result<Vec<Strip>, AllocError>
-    requires within { first + 8 * count < length files.now + 8 }
-    ensures count { IfOk result (λ made. length made.items ≡ count) }
-    ensures whole { IfOk result (λ made. AreWhole (length files.now) first made.items) }
-    ensures value { IfOk result (λ made. (start : T.Start) → T.are_of start texts.now → AreStrips (text_of T.pieces_of start texts.now) files.now first made.items) }
+) -> Result<Vec<Hand>, AllocError>
+    requires within { first + count ≤ length files.now }
+    requires few { count ≤ 2048 }
+    requires hands { (1 ≤ hands) × (hands ≤ 256) }
+    ensures count { IfOk result (λ made. length made.items ≡ hands) }
+    ensures whole { IfOk result (λ made. AreWhole count hands made.items) }
+    ensures value { IfOk result (λ made. (start : T.Start) → T.are_of start texts.now → AreHands (text_of T.pieces_of start texts.now) files.now first hands made.items) }
 {
     thread::map_indices(
         rt,
         alloc,
-        count,
-        &|k| { strip_texts(alloc, files, first + STRIP * k, texts) },
+        hands,
+        &|k| { hand_texts(alloc, files, first, count, hands, k, texts) },
     )
 }
 
@@ -93,22 +107,46 @@ fn append_made<O: Outputs, F: Named>(
     }
 }
 
-/// Appends to the files from a place on the texts that were made for them.
+/// Appends to a file the text that a hand has made for it.
+fn append_text_of<O: Outputs, F: Named>(
+    alloc: Global,
+    outputs: &mut O,
+    file: &F,
+    hand: &Hand,
+    at: usize,
+) -> Result<(), Fault>
+    requires within { IfOk hand.now (λ made. at < length made.items) }
+    ensures moved { (text : List ℕ) → IfOk hand.now (λ made. (one : List ℕ) → one ≡ slice_index_or made.items at one → one ≡ text) → AppendsAll (O.state outputs.old).written (O.state outputs.new).written (F.name file.now) text result }
+    ensures counts { CountsOutput (O.state outputs.old).faults (O.state outputs.new).faults result }
+    ensures counted { (O.state outputs.old).faults ≤ (O.state outputs.new).faults }
+{
+    match hand {
+        Ok(made) => append_made(alloc, outputs, file, &made[at]),
+        Err(_) => Err(Fault::OutOfMemory),
+    }
+}
+
+/// Appends to so many files from a place on the texts that hands have made for them, in the order of the files.
 fn append_group<O: Outputs, F: Named>(
     alloc: Global,
     outputs: &mut O,
     files: &[F],
     first: usize,
-    made: &[Bytes],
+    count: usize,
+    made: &[Hand],
 ) -> Result<(), Fault>
     requires distinct { AreDistinct (map F.name files.now) }
-    requires within { first + length made.now ≤ length files.now }
-    ensures made { (begun : OutputsState) (text more : F → List ℕ) → AreMade more files.now first made.now → MadeUpTo F.name text more files.now first begun (O.state outputs.old) → GroupMakes F.name text more files.now (first + length made.now) begun (O.state outputs.new) result }
+    requires within { first + count ≤ length files.now }
+    requires some { 1 ≤ length made.now }
+    requires whole { AreWhole count (length made.now) made.now }
+    ensures made { (begun : OutputsState) (text more : F → List ℕ) → AreHands more files.now first (length made.now) made.now → MadeUpTo F.name text more files.now first begun (O.state outputs.old) → GroupMakes F.name text more files.now (first + count) begun (O.state outputs.new) result }
     ensures counts { CountsOutput (O.state outputs.old).faults (O.state outputs.new).faults result }
     ensures counted { (O.state outputs.old).faults ≤ (O.state outputs.new).faults }
 {
-    for at in 0..made.len() {
-        match append_made(alloc, outputs, &files[first + at], &made[at]) {
+    let hands = made.len();
+    for at in 0..count {
+        let hand = &made[at % hands];
+        match append_text_of(alloc, outputs, &files[first + at], hand, at / hands) {
             Ok(()) => {}
             Err(fault) => return Err(fault),
         }
@@ -116,73 +154,28 @@ fn append_group<O: Outputs, F: Named>(
     Ok(())
 }
 
-/// Appends to the files from a place on the texts of a strip.
-fn append_strip<O: Outputs, F: Named>(
-    alloc: Global,
-    outputs: &mut O,
-    files: &[F],
-    place: usize,
-    strip: &Strip,
-) -> Result<(), Fault>
-    requires distinct { AreDistinct (map F.name files.now) }
-    requires within { place ≤ length files.now }
-    requires whole { IfOk strip.now (λ made. IsWhole (length files.now) place made.items) }
-    ensures made { (begun : OutputsState) (text more : F → List ℕ) → IfOk strip.now (λ made. AreMade more files.now place made.items) → MadeUpTo F.name text more files.now place begun (O.state outputs.old) → GroupMakes F.name text more files.now (min (length files.now) (place + 8)) begun (O.state outputs.new) result }
-    ensures counts { CountsOutput (O.state outputs.old).faults (O.state outputs.new).faults result }
-    ensures counted { (O.state outputs.old).faults ≤ (O.state outputs.new).faults }
-{
-    match strip {
-        Ok(made) => append_group(alloc, outputs, files, place, made),
-        Err(_) => Err(Fault::OutOfMemory),
-    }
-}
-
-/// Appends to the files from a place on the texts of the strips that were made for them.
-fn append_strips<O: Outputs, F: Named>(
-    alloc: Global,
-    outputs: &mut O,
-    files: &[F],
-    first: usize,
-    strips: &[Strip],
-) -> Result<(), Fault>
-    requires distinct { AreDistinct (map F.name files.now) }
-    requires first { first ≤ length files.now }
-    requires within { first + 8 * length strips.now < length files.now + 8 }
-    requires whole { AreWhole (length files.now) first strips.now }
-    ensures made { (begun : OutputsState) (text more : F → List ℕ) → AreStrips more files.now first strips.now → MadeUpTo F.name text more files.now first begun (O.state outputs.old) → GroupMakes F.name text more files.now (min (length files.now) (first + 8 * length strips.now)) begun (O.state outputs.new) result }
-    ensures counts { CountsOutput (O.state outputs.old).faults (O.state outputs.new).faults result }
-    ensures counted { (O.state outputs.old).faults ≤ (O.state outputs.new).faults }
-{
-    for k in 0..strips.len() {
-        match append_strip(alloc, outputs, files, first + STRIP * k, &strips[k]) {
-            Ok(()) => {}
-            Err(fault) => return Err(fault),
-        }
-    }
-    Ok(())
-}
-
-/// How many strips are made side by side of so many files: as many as there are workers, or as there are.
-fn strips_of(left: usize, workers: usize) -> usize
+/// How many hands are busy with the files that are left.
+fn hands_for(left: usize, workers: usize) -> usize
     requires left { 1 ≤ left }
     requires workers { 1 ≤ workers }
     ensures some { 1 ≤ result }
     ensures most { result ≤ workers }
-    ensures within { 8 * result < left + 8 }
+    ensures few { result ≤ 256 }
 {
-    workers.min((left - 1) / STRIP + 1)
+    workers.min(left).min(MOST_HANDS)
 }
 
-/// How many of the files that are left are in the first strips.
-fn files_in(left: usize, strips: usize) -> usize
-    ensures value { result ≡ min left (8 * strips) }
+/// How many of the files that are left these hands have.
+fn files_of(left: usize, hands: usize) -> usize
+    requires few { hands ≤ 256 }
+    ensures value { result ≡ min left (8 * hands) }
 {
-    left.min(STRIP.saturating_mul(strips))
+    left.min(HAND * hands)
 }
 
-/// Appends to each file of a list the text that it gains, as `append_texts` does, where the texts of as many strips of eight files as
-/// `workers` says are made side by side, whole, each strip in a thread of its own where one can be made; they are appended one after the
-/// other, on the calling thread. `workers` is at least 1, and the names of the files are distinct. After a refusal a front of the files has gained its
+/// Appends to each file of a list the text that it gains, as `append_texts` does, where the texts are made by as many hands as
+/// `workers` says, side by side, whole, each hand in a thread of its own where one can be made: of eight files a hand at a time, the
+/// first file to the first hand, the next to the next. They are appended one after the other, on the calling thread. `workers` is at least 1, and the names of the files are distinct. After a refusal a front of the files has gained its
 /// text, and the next a front of it. The count of faults rises exactly where `Failed` comes; want of memory, also of a name or of a
 /// text, raises none.
 pub fn append_texts_beside<R: Threads + Sync, O: Outputs, F: Named + Sync, T: Texts<F> + Sync>(
@@ -202,15 +195,16 @@ pub fn append_texts_beside<R: Threads + Sync, O: Outputs, F: Named + Sync, T: Te
     let mut first = 0;
     while first < files.len() {
         let left = files.len() - first;
-        let count = strips_of(left, workers);
-        let Ok(strips) = strips_beside(rt, alloc, files, first, count, texts) else {
+        let hands = hands_for(left, workers);
+        let count = files_of(left, hands);
+        let Ok(made) = hands_beside(rt, alloc, files, first, count, hands, texts) else {
             return Err(Fault::OutOfMemory);
         };
-        match append_strips(alloc, outputs, files, first, &strips) {
+        match append_group(alloc, outputs, files, first, count, &made) {
             Ok(()) => {}
             Err(fault) => return Err(fault),
         }
-        first += files_in(left, count);
+        first += count;
     }
     Ok(())
 }
