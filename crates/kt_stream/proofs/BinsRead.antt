@@ -161,16 +161,16 @@ bin_more n bytes at bins now before used left step b go left-is e now-is =
     }
 
 -- too few bytes
-pub bin_short : (n : ℕ) (bytes : List ℕ) (at : ℕ) (bins : List Bin) (before used left step : ℕ) → BinsGo n bytes at bins before used left → left ≡ suc step → bin_in step before (drop used bytes) (at + used) ≡ Short → Short ≡ bins_in n 0 bytes at
+pub bin_short : (n : ℕ) (bytes : List ℕ) (at : ℕ) (bins : List Bin) (before used left step : ℕ) → BinsGo n bytes at bins before used left → left ≡ suc step → bin_in step before (drop used bytes) (at + used) ≡ Short → bins_in n 0 bytes at ≡ Short
 unfolding bins_in
-bin_short n bytes at bins before used left step go left-is e = sym (go.onward ∙ rw (left-is, e) refl)
+bin_short n bytes at bins before used left step go left-is e = go.onward ∙ rw (left-is, e) refl
 
 -- a wrong bin
-pub bin_wrong : (n : ℕ) (bytes : List ℕ) (at : ℕ) (bins : List Bin) (before used left step : ℕ) (m : Misfit) → BinsGo n bytes at bins before used left → left ≡ suc step → bin_in step before (drop used bytes) (at + used) ≡ Wrong m → Wrong m ≡ bins_in n 0 bytes at
+pub bin_wrong : (n : ℕ) (bytes : List ℕ) (at : ℕ) (bins : List Bin) (before used left step : ℕ) (m : Misfit) → BinsGo n bytes at bins before used left → left ≡ suc step → bin_in step before (drop used bytes) (at + used) ≡ Wrong m → bins_in n 0 bytes at ≡ Wrong m
 unfolding bins_in
-bin_wrong n bytes at bins before used left step m go left-is e = sym (go.onward ∙ rw (left-is, e) refl)
+bin_wrong n bytes at bins before used left step m go left-is e = go.onward ∙ rw (left-is, e) refl
 
 -- all bins
-pub no_bin : (n : ℕ) (bytes : List ℕ) (at : ℕ) (bins : List Bin) (before used left : ℕ) → BinsGo n bytes at bins before used left → left ≡ 0 → Got bins ≡ bins_in n 0 bytes at
+pub no_bin : (n : ℕ) (bytes : List ℕ) (at : ℕ) (bins : List Bin) (before used left : ℕ) → BinsGo n bytes at bins before used left → left ≡ 0 → bins_in n 0 bytes at ≡ Got bins
 unfolding bins_in
-no_bin n bytes at bins before used left go none = sym (go.onward ∙ rw (none, append-nil bins) refl)
+no_bin n bytes at bins before used left go none = go.onward ∙ rw (none, append-nil bins) refl

@@ -137,3 +137,8 @@ cdf_lawful = record {
   back = λ shape samples cdf rest at few is. cdf_back shape.bins cdf rest at is;
   written = λ shape samples bytes at cdf few are e. (cdf_got shape.bins bytes at cdf e).written are;
 }
+
+-- a distribution whose fields and bins were read
+pub cdf_whole : (most : ℕ) (bytes : List ℕ) (at : ℕ) (front : CdfFront) (bins : List Bin) → cdf_front_in most bytes at ≡ Got front → bins_in front.bins 0 (drop 16 bytes) (at + 16) ≡ Got bins → cdf_in most bytes at ≡ Got (cdf_of front bins)
+unfolding cdf_in
+cdf_whole most bytes at front bins e b = rw (e, b) refl

@@ -100,7 +100,8 @@ pub record FieldRead (W : Type 0) (f : Field W) (before bytes : List ℕ) (at x 
   pub value : x ≡ number_of f.width bytes
   pub good : f.judge before at x ≡ None
 
-field_got : {W : Type 0} (f : Field W) (before bytes : List ℕ) (at x : ℕ) → field f before bytes at ≡ Got x → FieldRead W f before bytes at x
+-- what is known of a field that was read
+pub field_got : {W : Type 0} (f : Field W) (before bytes : List ℕ) (at x : ℕ) → field f before bytes at ≡ Got x → FieldRead W f before bytes at x
 field_got f before bytes at x e =
     let first = bind_got (number f.width bytes) (λ y. accepted y (f.judge before at y)) x e in
     let same = accepted_is first.0 x (f.judge before at first.0) first.2 in

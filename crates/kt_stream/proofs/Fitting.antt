@@ -1,9 +1,7 @@
 -- The header and the records that are read are in their ranges, and within the limit.
-use Rattle.std.proofs.Common.{◌≡◌, ℕ, zero, suc, ◌+◌, ◌≤◌, List, [], ◌∷◌, ◌++◌, length, drop, take, Option, Some, None, refl, sym, ap, subst, ◌∙◌, arith, inl, inr}
+use Rattle.std.proofs.Common.{◌≡◌, ℕ, zero, suc, ◌+◌, ◌≤◌, List, [], length, drop, take, Some, None, refl, subst, arith, inl, inr}
 use Rattle.std.proofs.lemmas.Bool.{cases_lt}
 use Rattle.std.proofs.lemmas.List.{length-drop, length-take-le}
-use Rattle.std.specs.Prelude.{IfSome, IfNone}
-use Rattle.std.specs.Option.{option_to_list}
 use Rattle.std.specs.List.{AllByRecursion}
 use Rattle.kt_stream.specs.declared.entry.Placed.{Placed}
 use Rattle.kt_stream.specs.declared.kind.Head.{Head}
@@ -14,10 +12,9 @@ use Rattle.kt_stream.specs.declared.read.Read.{Read}
 use Rattle.kt_stream.specs.declared.read.Read.TheVariants.{Got, Short, Wrong}
 use Rattle.kt_stream.specs.Header.{IsHead, header_in, header_size}
 use Rattle.kt_stream.specs.Stream.{Form, Walk, Stream, step, walk, headed, reads_on, stream_of, stream_limit, IsLawful}
-use Rattle.kt_stream.specs.Reader.{Reading, IsPlaced, Stands}
+use Rattle.kt_stream.specs.Reader.{IsPlaced}
 use Rattle.kt_stream.proofs.Cases.{none_is_some, some_is, some_is_none}
 use Rattle.kt_stream.proofs.Heading.{HeaderRead, header_got, few_samples}
-use Rattle.kt_stream.proofs.Representing.{taken_stands}
 use Rattle.kt_stream.proofs.Room.{room_within, room_beyond}
 
 step_fits : {E : Type 0} (P : Placed E → Type 0) (r : Read E Misfit) (bytes : List ℕ) (at : ℕ) (next : E → Walk E) → ((e : E) → r ≡ Got e → P (record { at = at; entry = e }) × AllByRecursion P (next e).entries)
@@ -82,58 +79,3 @@ stream_headless form shape bytes none = elim (cases_lt stream_limit (length byte
       let same = room_within stream_limit (reads_on form shape None 0) bytes within in
       rw same (reads_headless form shape bytes (rw same at none))
 ]
-
--- ---- what a reader holds
-
-none_behind : {A : Type 0} (xs ys : List A) → xs ++ ys ≡ [] → ys ≡ []
-none_behind [] ys is = is
-none_behind (x ∷ xs) ys is = absurd cc
-
-one_of_all : {A : Type 0} (P : A → Type 0) (xs : List A) (y : A) (ys : List A) → AllByRecursion P (xs ++ y ∷ ys) → P y
-one_of_all P [] y ys all = all.0
-one_of_all P (x ∷ xs) y ys all = one_of_all P xs y ys all.1
-
--- the header of a reader is in its ranges
-pub stands_head : {E : Type 0} {Good : Shape → ℕ → E → Type 0} (form : Form E) (r : Reading E) (h : Head) → IsLawful E form Good → Stands E form r → r.head ≡ Some h → IsHead r.shape.kind h
-stands_head form r h lawful stands is = (stream_fits form r.shape stands.bytes lawful h (sym stands.represents.head ∙ is)).0
-
--- a reader without a header holds nothing
-pub stands_headless : {E : Type 0} (form : Form E) (r : Reading E) → Stands E form r → r.head ≡ None → r.held ≡ []
-stands_headless form r stands none = none_behind stands.taken r.held (stands.represents.records ∙ stream_headless form r.shape stands.bytes (sym stands.represents.head ∙ none))
-
--- a record that a reader holds is in its ranges
-pub stands_placed : {E : Type 0} {Good : Shape → ℕ → E → Type 0} (form : Form E) (r : Reading E) (h : Head) (placed : Placed E) (rest : List (Placed E)) → IsLawful E form Good → Stands E form r → r.held ≡ placed ∷ rest → r.head ≡ Some h
-    → IsPlaced E form Good r.shape h placed
-stands_placed {E} {Good} form r h placed rest lawful stands held is =
-    let all = (stream_fits form r.shape stands.bytes lawful h (sym stands.represents.head ∙ is)).1 in
-    let here : (stream_of form r.shape stands.bytes).entries ≡ stands.taken ++ placed ∷ rest = sym stands.represents.records ∙ ap (λ (es : List (Placed E)). stands.taken ++ es) held in
-    one_of_all (IsPlaced E form Good r.shape h) stands.taken placed rest (rw here at all)
-
--- the header, if there is one, is in its ranges
-pub if_head : {E : Type 0} {Good : Shape → ℕ → E → Type 0} (form : Form E) (r : Reading E) (o : Option Head) → IsLawful E form Good → Stands E form r → r.head ≡ o → IfSome o (λ h. IsHead r.shape.kind h)
-if_head form r None lawful stands is = tt
-if_head form r (Some h) lawful stands is = stands_head form r h lawful stands is
-
--- a header, if there is one, has at most 1,000 samples
-pub if_few : {E : Type 0} {Good : Shape → ℕ → E → Type 0} (form : Form E) (r : Reading E) (o : Option Head) → IsLawful E form Good → Stands E form r → r.head ≡ o → IfSome o (λ h. h.samples ≤ 1000)
-if_few form r None lawful stands is = tt
-if_few form r (Some h) lawful stands is = few_samples r.shape.kind h (stands_head form r h lawful stands is)
-
--- without a header nothing is held
-pub if_headless : {E : Type 0} (form : Form E) (r : Reading E) (o : Option Head) → Stands E form r → r.head ≡ o → IfNone o (r.held ≡ [])
-if_headless form r None stands is = stands_headless form r stands is
-if_headless form r (Some h) stands is = tt
-
--- ---- a record is taken
-
--- the reader stands for the same bytes, whether a record was taken or there was none
-pub popped_stands : {E : Type 0} (form : Form E) (r : Reading E) (o : Option (Placed E)) (rest : List (Placed E)) → r.held ≡ option_to_list o ++ rest → Stands E form r
-    → Stands E form (record { shape = r.shape; head = r.head; held = rest; stop = r.stop; start = r.start; pending = r.pending })
-popped_stands form r None rest is stands = rw (← is) stands
-popped_stands form r (Some placed) rest is stands = taken_stands form r placed rest is stands
-
--- a record that was taken is in its ranges
-pub popped_fits : {E : Type 0} {Good : Shape → ℕ → E → Type 0} (form : Form E) (r : Reading E) (o : Option (Placed E)) (rest : List (Placed E)) → IsLawful E form Good → Stands E form r → r.held ≡ option_to_list o ++ rest
-    → IfSome o (λ placed. (head : Head) → r.head ≡ Some head → IsPlaced E form Good r.shape head placed)
-popped_fits form r None rest lawful stands is = tt
-popped_fits form r (Some placed) rest lawful stands is = λ head has. stands_placed form r head placed rest lawful stands is has

@@ -10,9 +10,9 @@ pub mod LossRecords
 pub mod Heading
 pub mod Walking
 pub mod PairsLoop
-pub mod Gathering
 pub mod Room
 pub mod Representing
+pub mod Advancing
 pub mod Fitting
 pub mod Growing
 pub mod Spelling

@@ -1,16 +1,19 @@
 -- How records of losses are read and written.
-use Rattle.std.proofs.Common.{◌≡◌, ℕ, ◌+◌, ◌≤◌, List, [], ◌∷◌, ◌++◌, length, refl, arith, inl}
+use Rattle.std.proofs.Common.{◌≡◌, ℕ, ◌+◌, ◌≤◌, List, [], ◌∷◌, ◌++◌, length, drop, refl, ap, arith, inl}
 use Rattle.std.proofs.lemmas.List.{length-append}
 use Rattle.byteorder.specs.Endian.{little_bytes}
 use Rattle.kt_stream.specs.declared.entry.LossRecord.{LossRecord}
 use Rattle.kt_stream.specs.declared.entry.Pair.{Pair}
 use Rattle.kt_stream.specs.declared.kind.Shape.{Shape}
+use Rattle.kt_stream.specs.declared.loss.LossFront.{LossFront}
+use Rattle.kt_stream.specs.declared.read.Misfit.{Misfit}
 use Rattle.kt_stream.specs.declared.read.Read.TheVariants.{Got}
 use Rattle.kt_stream.specs.declared.stop.RecordCause.TheVariants.{Id}
-use Rattle.kt_stream.specs.Read.{AreJudged}
-use Rattle.kt_stream.specs.Pairs.{misfit, ArePairs, pairs_bytes}
-use Rattle.kt_stream.specs.Losses.{loss_fields, loss_record, loss_in, loss_bytes, loss_form, IsLoss}
+use Rattle.kt_stream.specs.Read.{fields_in, AreJudged}
+use Rattle.kt_stream.specs.Pairs.{misfit, pairs_in, ArePairs, pairs_bytes}
+use Rattle.kt_stream.specs.Losses.{loss_fields, loss_record, loss_front, loss_front_in, loss_in, loss_bytes, loss_form, IsLoss}
 use Rattle.kt_stream.specs.Stream.{IsLawful}
+use Rattle.kt_stream.proofs.Cases.{got_is, bind_got}
 use Rattle.kt_stream.proofs.Fields.{between_bounds, between_none}
 use Rattle.kt_stream.proofs.PairsRead.{pairs_size, pairs_length}
 use Rattle.kt_stream.proofs.PairKinds.{PairKind, kind_back, kind_lawful}
@@ -70,3 +73,11 @@ loss_back samples entry rest at few is = kind_back loss_fields loss_record loss_
 pub loss_lawful : IsLawful LossRecord loss_form (λ (shape : Shape) samples entry. IsLoss samples entry)
 unfolding loss_in
 loss_lawful = kind_lawful loss_fields loss_record loss_bytes loss_kind
+
+-- a record whose fields and pairs were read
+pub loss_whole : (samples : ℕ) (bytes : List ℕ) (at : ℕ) (front : LossFront) (pairs : List Pair) → loss_front_in bytes at ≡ Got front → pairs_in (samples + 4) samples 0 (drop 8 bytes) (at + 8) ≡ Got pairs
+    → loss_in samples bytes at ≡ Got (record { event = front.event; id = front.id; pairs = pairs })
+unfolding loss_in
+loss_whole samples bytes at front pairs e p =
+    let first = bind_got (fields_in loss_fields [] bytes at) (λ values. Got (loss_front values)) front e in
+    rw (first.1, p) (ap (λ (f : LossFront). Got (record { event = f.event; id = f.id; pairs = pairs })) (got_is {W = Misfit} (loss_front first.0) front first.2))

@@ -1,172 +1,170 @@
 -- A reader stands for the bytes that it was given, piece by piece.
-use Rattle.std.proofs.Common.{◌≡◌, ℕ, ◌+◌, ◌-◌, ◌≤◌, ◌<◌, List, [], ◌∷◌, ◌++◌, length, take, drop, Option, Some, None, Result, Ok, Err, refl, sym, ap, ◌∙◌, append_assoc, arith}
-use Rattle.std.specs.Prelude.{MatchResult, IfOk}
-use Rattle.kt_stream.specs.declared.reader.Next.{Next}
-use Rattle.std.proofs.lemmas.List.{length-append, length-take-le, length-drop, append-nil, take-append-drop}
-use Rattle.std.proofs.Math.Seq.{take-append_seam}
+use Rattle.std.proofs.Common.{◌≡◌, ℕ, ◌+◌, ◌-◌, ◌≤◌, List, [], ◌++◌, length, take, drop, Option, Some, None, refl, sym, ap, ◌∙◌, append_assoc, arith, inl, inr}
+use Rattle.std.specs.Prelude.{IfSome}
+use Rattle.std.proofs.lemmas.Bool.{cases_lt}
+use Rattle.std.proofs.lemmas.List.{length-append, length-drop, append-nil, drop-append-le, take_all}
 use Rattle.kt_stream.specs.declared.entry.Placed.{Placed}
 use Rattle.kt_stream.specs.declared.kind.Head.{Head}
 use Rattle.kt_stream.specs.declared.kind.Shape.{Shape}
-use Rattle.kt_stream.specs.declared.stop.StreamStop.{StreamStop}
-use Rattle.kt_stream.specs.declared.stop.StreamStop.TheVariants.{NotProfile, WrongStream, BadSamples, BadSet, BadRecord, TooLong, Cut, OutOfMemory}
-use Rattle.kt_stream.specs.Stop.{IsRefusal}
 use Rattle.kt_stream.specs.declared.kind.StreamKind.{StreamKind}
 use Rattle.kt_stream.specs.declared.kind.StreamKind.TheVariants.{Cdf, Gul, Loss, Summary, Events}
-use Rattle.kt_stream.specs.declared.read.Read.TheVariants.{Short}
-use Rattle.kt_stream.specs.Header.{first_head}
-use Rattle.kt_stream.specs.Stream.{Form, End, Whole, Refused, Stream, Walk, walk, records_in, after, reads_on, overlong, too_long, within_room, stream_of, stream_limit, refusal}
-use Rattle.kt_stream.specs.Reader.{Reading, refused, goes_on, stream_by, stream_from, rest_end, end_by, stop_or_too_long, IsAt, Represents, Stands, IsFurther, Absorbs, Extends, Feeds}
-use Rattle.kt_stream.specs.Gather.{MovesBy, kept}
-use Rattle.kt_stream.proofs.Room.{room_within, room_beyond, room_moves, room_refuses}
+use Rattle.kt_stream.specs.declared.read.HeaderFault.{HeaderFault}
+use Rattle.kt_stream.specs.declared.read.HeaderFault.TheVariants as header
+use Rattle.kt_stream.specs.declared.read.Read.TheVariants.{Got, Short, Wrong}
+use Rattle.kt_stream.specs.declared.stop.StreamStop.{StreamStop}
+use Rattle.kt_stream.specs.Header.{IsHead, first_head, header_in, header_size}
+use Rattle.kt_stream.specs.Stop.{IsRefusal, header_stop}
+use Rattle.kt_stream.specs.Stream.{Form, Stream, Walk, Whole, walk, records_in, after, reads_on, overlong, within_room, stream_of, stream_limit}
+use Rattle.kt_stream.specs.Reader.{Reading, refused, goes_on, stream_from, held, rest_end, IsAt, Represents, IsDry, WaitsBy, IsReader, Extends}
+use Rattle.kt_stream.proofs.Cases.{kept_got, kept_wrong}
+use Rattle.kt_stream.proofs.Heading.{header_kept, header_got}
+use Rattle.kt_stream.proofs.Room.{room_within, room_beyond, room_length, room_steps, room_stops}
+
+-- a reader that goes on
+abbrev pub running : {E : Type 0} → Shape → Option Head → Placed E → ℕ → List ℕ → Reading E
+running shape head row start pending = record { shape = shape; head = head; row = row; stop = None; start = start; pending = pending }
+
+-- a reader that was stopped
+abbrev pub stopped : {E : Type 0} → Shape → Option Head → Placed E → StreamStop → ℕ → List ℕ → Reading E
+stopped shape head row stop start pending = record { shape = shape; head = head; row = row; stop = Some stop; start = start; pending = pending }
+
+-- records in front of others in front of a stream
+pub after_after : {E : Type 0} (front back : List (Placed E)) (s : Stream E) → after front (after back s) ≡ after (front ++ back) s
+after_after {E} front back s = ap (λ (es : List (Placed E)). record { head = s.head; entries = es; end = s.end }) (sym (append_assoc front back s.entries))
+
+-- ---- what a reader holds
+
+-- what is read from where a reader stands has its header, and the records that it holds
+pub record Faces (E : Type 0) (form : Form E) (r : Reading E) : Type 0 where
+  pub head : (stream_from form r []).head ≡ r.head
+  pub records : (stream_from form r []).entries ≡ held form r
+
+headed_goes : {E : Type 0} (form : Form E) (shape : Shape) (h : Head) (start room : ℕ) (bytes : List ℕ) → (within_room room (reads_on form shape (Some h) start) bytes).head ≡ Some h
+unfolding within_room reads_on
+headed_goes form shape h start room bytes = elim (cases_lt room (length bytes)) [
+  | inl beyond ↦ rw (room_beyond room (reads_on form shape (Some h) start) bytes beyond) refl
+  | inr fits ↦ rw (room_within room (reads_on form shape (Some h) start) bytes fits) refl
+]
+
+-- a stream without a header and records
+record IsBare {E : Type 0} (s : Stream E) : Type 0 where
+  pub head : s.head ≡ None
+  pub records : s.entries ≡ []
+
+waits_bare : {E : Type 0} (form : Form E) (shape : Shape) (start : ℕ) (bytes : List ℕ) → header_in shape.kind bytes ≡ Short → IsBare (reads_on form shape None start bytes)
+unfolding reads_on
+waits_bare form shape start bytes is = rw is (record { head = refl; records = refl })
+
+overlong_bare : {E : Type 0} (s : Stream E) → IsBare s → IsBare (overlong s)
+overlong_bare s bare = record { head = bare.head; records = bare.records }
+
+goes_bare : {E : Type 0} (form : Form E) (shape : Shape) (start room : ℕ) (bytes : List ℕ) → header_in shape.kind (take room bytes) ≡ Short → IsBare (within_room room (reads_on form shape None start) bytes)
+goes_bare form shape start room bytes is = elim (cases_lt room (length bytes)) [
+  | inl beyond ↦ rw (room_beyond room (reads_on form shape None start) bytes beyond) (overlong_bare (reads_on form shape None start (take room bytes)) (waits_bare form shape start (take room bytes) is))
+  | inr fits ↦ rw (room_within room (reads_on form shape None start) bytes fits) (waits_bare form shape start bytes (rw (take_all room bytes fits) at is))
+]
+
+pub faces : {E : Type 0} (form : Form E) (shape : Shape) (head : Option Head) (row : Placed E) (stop : Option StreamStop) (start : ℕ) (pending : List ℕ) → WaitsBy stop head shape start pending
+    → Faces E form (record { shape = shape; head = head; row = row; stop = stop; start = start; pending = pending })
+faces form shape head row (Some stop) start pending waits = record { head = refl; records = refl }
+faces form shape (Some h) row None start pending waits = record { head = headed_goes form shape h start (stream_limit - start) (pending ++ []); records = refl }
+faces form shape None row None start pending waits =
+    let bare = goes_bare form shape start (stream_limit - start) (pending ++ []) (rw (append-nil pending) waits) in
+    record { head = bare.head; records = bare.records }
 
 -- ---- a piece
 
--- a reader that goes on, with nothing pending
-abbrev pub running : {E : Type 0} → Shape → Option Head → List (Placed E) → ℕ → List ℕ → Reading E
-running shape head held start pending = record { shape = shape; head = head; held = held; stop = None; start = start; pending = pending }
-
--- records in front of others in front of a stream
-after_after : {E : Type 0} (front back : List (Placed E)) (s : Stream E) → after front (after back s) ≡ after (front ++ back) s
-after_after {E} front back s = ap (λ (es : List (Placed E)). record { head = s.head; entries = es; end = s.end }) (sym (append_assoc front back s.entries))
-
--- all bytes from where a reader stands were read
-pub moves_absorbs : {E : Type 0} (form : Form E) (shape : Shape) (head : Option Head) (held : List (Placed E)) (start : ℕ) (bytes : List ℕ) (now : Option Head) (records : List (Placed E)) (stop : Option StreamStop) (used : ℕ) → start + length bytes ≤ stream_limit
-    → used ≤ length bytes → MovesBy E stop form shape (λ more. reads_on form shape head start (bytes ++ more)) start bytes now records used
-    → Absorbs E form (running shape head held start []) bytes (record { shape = shape; head = now; held = held ++ records; stop = stop; start = start + used; pending = drop used bytes })
-moves_absorbs form shape head held start bytes now records None used within some moves =
-    let long : length (drop used bytes) ≡ length bytes - used = length-drop used bytes in
-    let room : stream_limit - start + length (drop used bytes) ≡ stream_limit - (start + used) + length bytes = omega arith in
+-- the reader stands for the bytes with the piece behind them
+pub extends_by : {E : Type 0} (form : Form E) (old : Reading E) (piece : List ℕ) (new : Reading E) → new.shape ≡ old.shape → ((more : List ℕ) → stream_from form old (piece ++ more) ≡ stream_from form new more) → Faces E form new
+    → ((n : ℕ) → IsAt old.stop (old.start + length old.pending) n → IsAt new.stop (new.start + length new.pending) (n + length piece)) → Extends E form old piece new
+extends_by {E} form old piece new shape onward faced place = λ bytes taken rep.
+    let goes : (more : List ℕ) → stream_of form new.shape ((bytes ++ piece) ++ more) ≡ after taken (stream_from form new more) = λ more.
+    ap (λ (s : Shape). stream_of form s ((bytes ++ piece) ++ more)) shape ∙ ap (stream_of form old.shape) (append_assoc bytes piece more) ∙ rep.onward (piece ++ more) ∙ ap (after taken) (onward more) in
+    let now : stream_of form new.shape (bytes ++ piece) ≡ after taken (stream_from form new []) = ap (stream_of form new.shape) (sym (append-nil (bytes ++ piece))) ∙ goes [] in
     record {
-      shape = refl;
-      onward = λ more.
-          ap (after held) (room_moves (stream_limit - start) (stream_limit - (start + used)) (reads_on form shape head start) (reads_on form shape now (start + used)) bytes (drop used bytes) records more (omega arith) room moves.onward)
-          ∙ after_after held records _;
-      rests = rw (
-        append-nil (drop used bytes),
-        room_within (stream_limit - (start + used)) (reads_on form shape now (start + used)) (drop used bytes) (omega arith),
-        moves.rests,
-        append-nil (held ++ records),
-      ) refl;
-      place = (omega arith, omega arith);
+      head = sym (ap (λ (s : Stream E). s.head) now ∙ faced.head);
+      records = ap (λ (es : List (Placed E)). taken ++ es) (sym faced.records) ∙ sym (ap (λ (s : Stream E). s.entries) now);
+      onward = goes;
+      place = rw (length-append bytes piece) (place (length bytes) rep.place);
     }
-moves_absorbs form shape head held start bytes now records (Some stop) used within some moves = record {
-  shape = refl;
-  onward = λ more. ap (after held) (room_refuses (stream_limit - start) (reads_on form shape head start) bytes more now records stop (omega arith) moves.onward);
-  rests = refl;
-  place = moves.kind;
-}
 
-further_as : (stop : Option StreamStop) (place before other : ℕ) → before ≡ other → IsFurther stop place before → IsFurther stop place other
-further_as stop place before other is further = rw (← is) further
+-- a reader that was stopped stands for all longer bytes
+pub stopped_extends : {E : Type 0} (form : Form E) (shape : Shape) (head : Option Head) (row : Placed E) (stop : StreamStop) (start : ℕ) (pending piece : List ℕ) → Extends E form (stopped shape head row stop start pending) piece (stopped shape head row stop start pending)
+stopped_extends form shape head row stop start pending piece =
+    extends_by form (stopped shape head row stop start pending) piece (stopped shape head row stop start pending) refl (λ more. refl) (faces form shape head row (Some stop) start pending tt) (λ n at-place. tt)
 
--- a reader with nothing pending
-abbrev pub emptied : {E : Type 0} → Reading E → Reading E
-emptied r = record { shape = r.shape; head = r.head; held = r.held; stop = r.stop; start = r.start; pending = [] }
+longer : (start : ℕ) (pending piece now : List ℕ) → now ≡ pending ++ piece → (n : ℕ) → start + length pending ≡ n → start + length now ≡ n + length piece
+longer start pending piece now is n at-place = omega (arith, ap length is, length-append pending piece, at-place)
 
-joined : {E : Type 0} (stop : Option StreamStop) (form : Form E) (old : Reading E) (piece bytes more : List ℕ) → bytes ≡ old.pending ++ piece → stream_by stop form old (piece ++ more) ≡ stream_by stop form (emptied old) (bytes ++ more)
-joined None form old piece bytes more is =
-    ap (λ (xs : List ℕ). after old.held (goes_on form old.shape old.head old.start xs)) (sym (append_assoc old.pending piece more) ∙ ap (λ (xs : List ℕ). xs ++ more) (sym is))
-joined (Some stop) form old piece bytes more is = refl
+joined : (pending piece now more : List ℕ) → now ≡ pending ++ piece → pending ++ (piece ++ more) ≡ now ++ more
+joined pending piece now more is = sym (append_assoc pending piece more) ∙ ap (λ (xs : List ℕ). xs ++ more) (sym is)
 
--- what was pending with a piece behind it
-pub joined_absorbs : {E : Type 0} (form : Form E) (old : Reading E) (piece bytes : List ℕ) (new : Reading E) → bytes ≡ old.pending ++ piece → Absorbs E form (emptied old) bytes new → Absorbs E form old piece new
-joined_absorbs form old piece bytes new is absorbs = record {
-  shape = absorbs.shape;
-  onward = λ more. joined old.stop form old piece bytes more is ∙ absorbs.onward more;
-  rests = absorbs.rests;
-  place = further_as new.stop (new.start + length new.pending) (old.start + 0 + length bytes) (old.start + length old.pending + length piece) (omega (arith, length-append old.pending piece, ap length is)) absorbs.place;
-}
+-- the piece stands behind what is pending
+pub joined_extends : {E : Type 0} (form : Form E) (shape : Shape) (head : Option Head) (row : Placed E) (start : ℕ) (pending piece now : List ℕ) → now ≡ pending ++ piece → WaitsBy None head shape start now
+    → Extends E form (running shape head row start pending) piece (running shape head row start now)
+joined_extends form shape head row start pending piece now is waits =
+    extends_by form (running shape head row start pending) piece (running shape head row start now) refl
+    (λ more. ap (goes_on form shape head start) (joined pending piece now more is)) (faces form shape head row None start now waits) (longer start pending piece now is)
 
--- the same of a call that may want memory
-pub if_joined : {E F : Type 0} (form : Form E) (old : Reading E) (piece bytes : List ℕ) (result : Result (Next E) F) → bytes ≡ old.pending ++ piece → IfOk result (λ next. Absorbs E form (emptied old) bytes (kept old next)) → IfOk result (λ next. Absorbs E form old piece (kept old next))
-if_joined form old piece bytes (Ok next) is absorbs = joined_absorbs form old piece bytes (kept old next) is absorbs
-if_joined form old piece bytes (Err want) is absorbs = tt
+header_on : {E : Type 0} (form : Form E) (shape : Shape) (h : Head) (start : ℕ) (bytes more : List ℕ) → header_in shape.kind bytes ≡ Got h
+    → reads_on form shape None start (bytes ++ more) ≡ after [] (reads_on form shape (Some h) (start + header_size shape.kind) (drop (header_size shape.kind) bytes ++ more))
+unfolding reads_on
+header_on form shape h start bytes more is =
+    rw (kept_got (header_in shape.kind bytes) _ h is (header_kept shape.kind bytes more), drop-append-le (header_size shape.kind) bytes more (header_got shape.kind bytes h is).long) refl
 
-rests_too_long : (head : Option Head) (pending : List ℕ) → too_long (rest_end head pending) ≡ Refused TooLong
-rests_too_long None pending = refl
-rests_too_long (Some h) [] = refl
-rests_too_long (Some h) (b ∷ pending) = refl
+-- a header that was read
+pub record Opens (kind : StreamKind) (h : Head) (start : ℕ) (bytes : List ℕ) : Type 0 where
+  pub good : IsHead kind h
+  pub long : header_size kind ≤ length bytes
+  pub within : start + header_size kind ≤ stream_limit
 
--- the reader is at the limit, and more comes
-past_limit : {E : Type 0} (form : Form E) (shape : Shape) (head : Option Head) (held : List (Placed E)) (start : ℕ) (pending more : List ℕ) → start + length pending ≡ stream_limit → 1 ≤ length more
-    → stream_from form (running shape head held start pending) [] ≡ record { head = head; entries = held; end = rest_end head pending }
-    → stream_from form (running shape head held start pending) more ≡ refused head held TooLong
-past_limit form shape head held start pending more full some rests =
+pub header_opens : (kind : StreamKind) (h : Head) (start : ℕ) (bytes : List ℕ) → start ≤ stream_limit → header_in kind (take (stream_limit - start) bytes) ≡ Got h → Opens kind h start bytes
+header_opens kind h start bytes some is =
+    let read = header_got kind (take (stream_limit - start) bytes) h is in
+    let room = room_length (stream_limit - start) bytes in
+    record { good = read.good; long = omega (arith, read.long, room.1); within = omega (arith, read.long, room.0) }
+
+-- the header is whole now
+pub header_extends : {E : Type 0} (form : Form E) (shape : Shape) (h : Head) (row : Placed E) (start : ℕ) (pending piece now : List ℕ) → now ≡ pending ++ piece → start ≤ stream_limit → header_in shape.kind (take (stream_limit - start) now) ≡ Got h
+    → Extends E form (running shape None row start pending) piece (running shape (Some h) row (start + header_size shape.kind) (drop (header_size shape.kind) now))
+header_extends {E} form shape h row start pending piece now now-is some is =
+    let size = header_size shape.kind in
     let room = stream_limit - start in
-    let read = reads_on form shape head start in
-    let beyond : room < length (pending ++ more) = omega (arith, length-append pending more) in
-    let exact : room ≡ length pending = omega arith in
-    let front : take room (pending ++ more) ≡ pending = ap (λ (n : ℕ). take n (pending ++ more)) exact ∙ take-append_seam pending more in
-    let here : after held (read pending) ≡ record { head = head; entries = held; end = rest_end head pending } =
-    ap (after held) (sym (room_within room read pending (omega arith))) ∙ ap (λ (xs : List ℕ). after held (within_room room read xs)) (sym (append-nil pending)) ∙ rests in
-    ap (after held) (room_beyond room read (pending ++ more) beyond ∙ ap (λ (xs : List ℕ). overlong (read xs)) front) ∙ ap overlong here
-    ∙ ap (λ (e : End). record { head = head; entries = held; end = e }) (rests_too_long head pending)
+    let opens = header_opens shape.kind h start now some is in
+    let left : room - size ≡ stream_limit - (start + size) = omega arith in
+    extends_by form (running shape None row start pending) piece (running shape (Some h) row (start + size) (drop size now)) refl
+    (λ more.
+    ap (goes_on form shape None start) (joined pending piece now more now-is)
+    ∙ room_steps room size (reads_on form shape None start) (reads_on form shape (Some h) (start + size)) now [] more (header_got shape.kind (take room now) h is).long (λ more. header_on form shape h start (take room now) more is)
+    ∙ ap (λ (n : ℕ). within_room n (reads_on form shape (Some h) (start + size)) (drop size now ++ more)) left)
+    (faces form shape (Some h) row None (start + size) (drop size now) tt)
+    (λ n at-place. omega (arith, length-drop size now, opens.long, longer start pending piece now now-is n at-place))
 
--- what is known of a reader that is at a place
-at_place : (stop : Option StreamStop) (place before : ℕ) → stop ≡ None → IsFurther stop place before → (place ≡ before) × (place ≤ stream_limit)
-at_place stop place before is further = rw is at further
+-- a refusal of a header speaks of the stream
+pub header_refuses : (fault : HeaderFault) → IsRefusal (header_stop fault)
+header_refuses header.NotProfile = tt
+header_refuses (header.WrongStream found) = tt
+header_refuses (header.BadSamples found) = tt
+header_refuses (header.BadSet found) = tt
 
-refuses_at : (stop : Option StreamStop) (by : StreamStop) (place before : ℕ) → stop ≡ Some by → IsFurther stop place before → IsRefusal by
-refuses_at stop by place before is further = rw is at further
+header_ends : {E : Type 0} (form : Form E) (shape : Shape) (fault : HeaderFault) (start : ℕ) (bytes more : List ℕ) → header_in shape.kind bytes ≡ Wrong fault → reads_on form shape None start (bytes ++ more) ≡ refused None [] (header_stop fault)
+unfolding reads_on
+header_ends form shape fault start bytes more is = rw (kept_wrong (header_in shape.kind bytes) _ fault is (header_kept shape.kind bytes more)) refl
 
-stopped_kept : {E : Type 0} (form : Form E) (r : Reading E) (stop : StreamStop) (more other : List ℕ) → r.stop ≡ Some stop → stream_from form r more ≡ stream_from form r other
-stopped_kept form r stop more other is = rw is refl
+-- the header is wrong
+pub wrong_extends : {E : Type 0} (form : Form E) (shape : Shape) (fault : HeaderFault) (row : Placed E) (start : ℕ) (pending piece now : List ℕ) → now ≡ pending ++ piece → header_in shape.kind (take (stream_limit - start) now) ≡ Wrong fault
+    → Extends E form (running shape None row start pending) piece (stopped shape None row (header_stop fault) start now)
+wrong_extends form shape fault row start pending piece now now-is is =
+    let room = stream_limit - start in
+    extends_by form (running shape None row start pending) piece (stopped shape None row (header_stop fault) start now) refl
+    (λ more.
+    ap (goes_on form shape None start) (joined pending piece now more now-is)
+    ∙ room_stops room (reads_on form shape None start) now more None [] (header_stop fault) (λ more. header_ends form shape fault start (take room now) more is))
+    (faces form shape None row (Some (header_stop fault)) start now tt) (λ n at-place. tt)
 
--- a piece that passes the limit, of which the part within it was read
-pub past_absorbs : {E : Type 0} (stop : Option StreamStop) (form : Form E) (old mid : Reading E) (piece : List ℕ) (room : ℕ) → old.start + length old.pending + room ≡ stream_limit → room < length piece → mid.stop ≡ stop
-    → Absorbs E form old (take room piece) mid → Absorbs E form old piece (record { shape = mid.shape; head = mid.head; held = mid.held; stop = Some (stop_or_too_long stop); start = mid.start; pending = mid.pending })
-past_absorbs stop form old mid piece room full past is absorbs = record {
-  shape = absorbs.shape;
-  onward = λ more. ap (stream_from form old) (cut more) ∙ absorbs.onward (drop room piece ++ more) ∙ beyond stop (drop room piece ++ more) is (omega (arith, length-append (drop room piece) more, length-drop room piece));
-  rests = refl;
-  place = refuses stop is;
-}
-  where
-    cut : (more : List ℕ) → piece ++ more ≡ take room piece ++ (drop room piece ++ more)
-    cut more = ap (λ (xs : List ℕ). xs ++ more) (sym (take-append-drop room piece)) ∙ append_assoc (take room piece) (drop room piece) more
+-- ---- before the first byte
 
-    taken : length (take room piece) ≡ room
-    taken = length-take-le room piece (omega arith)
-
-    beyond : (by : Option StreamStop) (more : List ℕ) → mid.stop ≡ by → 1 ≤ length more → stream_from form mid more ≡ refused mid.head mid.held (stop_or_too_long by)
-    beyond None more none some =
-        let place = at_place mid.stop (mid.start + length mid.pending) (old.start + length old.pending + length (take room piece)) none absorbs.place in
-        rw none (past_limit form mid.shape mid.head mid.held mid.start mid.pending more (omega (arith, place.0, taken, full)) some (rw none at absorbs.rests))
-    beyond (Some by) more stopped some = rw stopped refl
-
-    refuses : (by : Option StreamStop) → mid.stop ≡ by → IsRefusal (stop_or_too_long by)
-    refuses None none = tt
-    refuses (Some by) stopped = refuses_at mid.stop by (mid.start + length mid.pending) (old.start + length old.pending + length (take room piece)) stopped absorbs.place
-
--- ---- it stands for the longer bytes
-
-refusal_by : (stop : Option StreamStop) (head : Option Head) (pending : List ℕ) → stop ≡ refusal (end_by stop head pending)
-refusal_by None None pending = refl
-refusal_by None (Some h) [] = refl
-refusal_by None (Some h) (b ∷ pending) = refl
-refusal_by (Some stop) head pending = refl
-
--- a reader that goes on as the bytes do, and holds no whole record in what is pending, stands for them
-represents_by : {E : Type 0} (form : Form E) (bytes : List ℕ) (taken : List (Placed E)) (r : Reading E) → ((more : List ℕ) → stream_of form r.shape (bytes ++ more) ≡ after taken (stream_from form r more))
-    → stream_from form r [] ≡ record { head = r.head; entries = r.held; end = end_by r.stop r.head r.pending } → IsAt r.stop (r.start + length r.pending) (length bytes) → Represents E form bytes taken r
-represents_by {E} form bytes taken r onward rests place =
-    let now : stream_of form r.shape bytes ≡ record { head = r.head; entries = taken ++ r.held; end = end_by r.stop r.head r.pending } =
-    ap (stream_of form r.shape) (sym (append-nil bytes)) ∙ onward [] ∙ ap (after taken) rests in
-    record {
-      head = sym (ap (λ (s : Stream E). s.head) now);
-      records = sym (ap (λ (s : Stream E). s.entries) now);
-      ends = ap (λ (s : Stream E). s.end) now;
-      stop = refusal_by r.stop r.head r.pending ∙ sym (ap (λ (s : Stream E). refusal s.end) now);
-      onward = onward;
-      place = place;
-    }
-
--- a reader that was given nothing has what its kind has before the first byte
-abbrev first_reading : {E : Type 0} → StreamKind → ℕ → Reading E
-first_reading kind bins = running (record { kind = kind; bins = bins }) (first_head kind) [] 0 []
-
--- it goes on as the stream does
-first_onward : {E : Type 0} (form : Form E) (kind : StreamKind) (bins : ℕ) (more : List ℕ) → stream_of form (record { kind = kind; bins = bins }) more ≡ after [] (stream_from form (first_reading kind bins) more)
+first_onward : {E : Type 0} (form : Form E) (kind : StreamKind) (bins : ℕ) (more : List ℕ) → stream_of form (record { kind = kind; bins = bins }) more ≡ goes_on form (record { kind = kind; bins = bins }) (first_head kind) 0 more
 unfolding within_room reads_on
 first_onward form Cdf bins more = refl
 first_onward form Gul bins more = refl
@@ -174,13 +172,22 @@ first_onward form Loss bins more = refl
 first_onward form Summary bins more = refl
 first_onward form Events bins more = refl
 
+-- what is pending is too short for a header, where there is one to be read
+first_waits : (kind : StreamKind) (bins : ℕ) → WaitsBy None (first_head kind) (record { kind = kind; bins = bins }) 0 []
+first_waits Cdf bins = refl
+first_waits Gul bins = refl
+first_waits Loss bins = refl
+first_waits Summary bins = refl
+first_waits Events bins = tt
+
 -- no record stands in no bytes
 no_record : {E : Type 0} (form : Form E) (shape : Shape) → form.unit shape 0 [] 0 ≡ Short → records_in form shape 0 [] 0 ≡ record { entries = []; end = Whole }
 unfolding walk
 no_record form shape short = rw short refl
 
-first_rests : {E : Type 0} (form : Form E) (kind : StreamKind) (bins : ℕ) → ((shape : Shape) (samples at : ℕ) → form.unit shape samples [] at ≡ Short) → stream_from form (first_reading kind bins) [] ≡ record { head = first_head kind; entries = []; end = end_by None (first_head kind) [] }
-unfolding within_room reads_on
+first_rests : {E : Type 0} (form : Form E) (kind : StreamKind) (bins : ℕ) → ((shape : Shape) (samples at : ℕ) → form.unit shape samples [] at ≡ Short)
+    → reads_on form (record { kind = kind; bins = bins }) (first_head kind) 0 [] ≡ record { head = first_head kind; entries = []; end = rest_end (first_head kind) [] }
+unfolding reads_on
 first_rests form Cdf bins nothing = refl
 first_rests form Gul bins nothing = refl
 first_rests form Loss bins nothing = refl
@@ -188,108 +195,31 @@ first_rests form Summary bins nothing = refl
 first_rests {E} form Events bins nothing = ap (λ (w : Walk E). record { head = first_head Events; entries = w.entries; end = w.end }) (no_record form (record { kind = Events; bins = bins }) (nothing (record { kind = Events; bins = bins }) 0 0))
 
 -- a reader that was given nothing
-pub fresh : {E : Type 0} (form : Form E) (shape : Shape) (held : List (Placed E)) (pending : List ℕ) → ((shape : Shape) (samples at : ℕ) → form.unit shape samples [] at ≡ Short) → held ≡ [] → pending ≡ [] → Represents E form [] [] (running shape (first_head shape.kind) held 0 pending)
-fresh form shape held pending nothing none empty =
-    rw (none, empty) (represents_by form [] [] (first_reading shape.kind shape.bins) (first_onward form shape.kind shape.bins) (first_rests form shape.kind shape.bins nothing) (refl, omega arith))
+first_stands : {E : Type 0} (form : Form E) (shape : Shape) (row : Placed E) → Represents E form [] [] (running shape (first_head shape.kind) row 0 [])
+first_stands {E} form shape row =
+    let faced = faces form shape (first_head shape.kind) row None 0 [] (first_waits shape.kind shape.bins) in
+    let now : stream_of form shape [] ≡ goes_on form shape (first_head shape.kind) 0 [] = first_onward form shape.kind shape.bins [] in
+    record {
+      head = sym (ap (λ (s : Stream E). s.head) now ∙ faced.head);
+      records = sym (ap (λ (s : Stream E). s.entries) now ∙ faced.records);
+      onward = λ more. first_onward form shape.kind shape.bins more;
+      place = refl;
+    }
 
-place_at : (stop : Option StreamStop) (place bytes before : ℕ) → before ≡ bytes → IsFurther stop place before → IsAt stop place bytes
-place_at None place bytes before is further = (omega (arith, further.0, is), omega (arith, further.0, further.1, is))
-place_at (Some stop) place bytes before is further = further
+pub fresh : {E : Type 0} (form : Form E) (shape : Shape) (row : Placed E) (pending : List ℕ) → pending ≡ [] → Represents E form [] [] (running shape (first_head shape.kind) row 0 pending)
+fresh form shape row pending empty = rw empty (first_stands form shape row)
 
-before_at : (stop : Option StreamStop) (place bytes : ℕ) → stop ≡ None → IsAt stop place bytes → (place ≡ bytes) × (bytes ≤ stream_limit)
-before_at stop place bytes is at-place = rw is at at-place
+-- it holds no record
+pub fresh_dry : {E : Type 0} (form : Form E) (shape : Shape) (row : Placed E) (pending : List ℕ) → pending ≡ [] → ((shape : Shape) (samples at : ℕ) → form.unit shape samples [] at ≡ Short) → IsDry E form (running shape (first_head shape.kind) row 0 pending)
+fresh_dry form shape row pending empty nothing = rw empty (record { within = omega arith; rests = first_rests form shape.kind shape.bins nothing })
 
--- what is known of a reader that was stopped
-pub stopped_at : (stop : Option StreamStop) (by : StreamStop) (place bytes : ℕ) → stop ≡ Some by → IsAt stop place bytes → IsRefusal by
-stopped_at stop by place bytes is at-place = rw is at at-place
+first_good : (kind : StreamKind) → IfSome (first_head kind) (λ head. IsHead kind head)
+first_good Cdf = tt
+first_good Gul = tt
+first_good Loss = tt
+first_good Summary = tt
+first_good Events = (refl, refl)
 
--- the reader stands for the bytes with the piece behind them
-pub absorbs_extends : {E : Type 0} (form : Form E) (old : Reading E) (piece : List ℕ) (new : Reading E) → old.stop ≡ None → Absorbs E form old piece new → Extends E form old piece new
-absorbs_extends form old piece new none absorbs = λ bytes taken rep.
-    represents_by form (bytes ++ piece) taken new
-    (λ more. ap (λ (shape : Shape). stream_of form shape ((bytes ++ piece) ++ more)) absorbs.shape ∙ ap (stream_of form old.shape) (append_assoc bytes piece more) ∙ rep.onward (piece ++ more) ∙ ap (after taken) (absorbs.onward more))
-    absorbs.rests
-    (place_at new.stop (new.start + length new.pending) (length (bytes ++ piece)) (old.start + length old.pending + length piece)
-    (omega (arith, length-append bytes piece, (before_at old.stop (old.start + length old.pending) (length bytes) none rep.place).0)) absorbs.place)
-
-stopped_rests : {E : Type 0} (form : Form E) (r : Reading E) (stop : StreamStop) → r.stop ≡ Some stop → stream_from form r [] ≡ record { head = r.head; entries = r.held; end = end_by r.stop r.head r.pending }
-stopped_rests form r stop is = rw is refl
-
-refused_at : (stop : Option StreamStop) (by : StreamStop) (place bytes other : ℕ) → stop ≡ Some by → IsAt stop place bytes → IsAt stop place other
-refused_at stop by place bytes other is at-place = let kind : IsRefusal by = rw is at at-place in rw is kind
-
--- a reader that was stopped stands for all longer bytes
-pub stopped_extends : {E : Type 0} (form : Form E) (r : Reading E) (piece : List ℕ) (stop : StreamStop) → r.stop ≡ Some stop → Extends E form r piece r
-stopped_extends form r piece stop is = λ bytes taken rep.
-    represents_by form (bytes ++ piece) taken r
-    (λ more. ap (stream_of form r.shape) (append_assoc bytes piece more) ∙ rep.onward (piece ++ more) ∙ ap (after taken) (stopped_kept form r stop (piece ++ more) more is))
-    (stopped_rests form r stop is) (refused_at r.stop stop (r.start + length r.pending) (length bytes) (length (bytes ++ piece)) is rep.place)
-
--- the reader stands for some bytes again
-pub stands_again : {E : Type 0} (form : Form E) (old : Reading E) (piece : List ℕ) (new : Reading E) → old.stop ≡ None → Stands E form old → Absorbs E form old piece new → Stands E form new
-stands_again form old piece new none stands absorbs = record {
-  bytes = stands.bytes ++ piece;
-  taken = stands.taken;
-  represents = absorbs_extends form old piece new none absorbs stands.bytes stands.taken stands.represents;
-}
-
--- ---- the answers of feed and finish
-
--- the answer is the refusal, where one came
-feeds_by : {E : Type 0} (form : Form E) (old : Reading E) (piece : List ℕ) (stop : StreamStop) (new : Reading E) → IsRefusal stop → new.stop ≡ Some stop → new.shape ≡ old.shape → Extends E form old piece new → Feeds E form old piece (Err stop) new
-feeds_by form old piece NotProfile new kind is shape extends = (is, shape, extends)
-feeds_by form old piece (WrongStream found) new kind is shape extends = (is, shape, extends)
-feeds_by form old piece (BadSamples found) new kind is shape extends = (is, shape, extends)
-feeds_by form old piece (BadSet found) new kind is shape extends = (is, shape, extends)
-feeds_by form old piece (BadRecord byte cause) new kind is shape extends = (is, shape, extends)
-feeds_by form old piece (Cut byte) new kind is shape extends = (is, shape, extends)
-feeds_by form old piece TooLong new kind is shape extends = (is, shape, extends)
-feeds_by form old piece OutOfMemory new kind is shape extends = absurd kind
-
--- the answer of a reader that was stopped before
-pub feeds_stopped : {E : Type 0} (form : Form E) (r : Reading E) (piece : List ℕ) (stop : StreamStop) → Stands E form r → r.stop ≡ Some stop → Feeds E form r piece (Err stop) r
-feeds_stopped form r piece stop stands is =
-    feeds_by form r piece stop r (stopped_at r.stop stop (r.start + length r.pending) (length stands.bytes) is stands.represents.place) is refl (stopped_extends form r piece stop is)
-
--- the answer is the verdict
-pub feeds_verdict : {E : Type 0} (form : Form E) (old : Reading E) (piece : List ℕ) (answer : Result (Unit {0}) StreamStop) (new : Reading E) → MatchResult answer (λ _. new.stop ≡ None) (λ stop. (new.stop ≡ Some stop) × IsRefusal stop) → old.stop ≡ None
-    → Absorbs E form old piece new → Feeds E form old piece answer new
-feeds_verdict form old piece (Ok done) new is none absorbs = (is, absorbs.shape, absorbs_extends form old piece new none absorbs)
-feeds_verdict form old piece (Err stop) new is none absorbs = feeds_by form old piece stop new is.1 is.0 absorbs.shape (absorbs_extends form old piece new none absorbs)
-
--- ---- a record is taken
-
--- the reader without the first record that it held
-abbrev without : {E : Type 0} → Reading E → List (Placed E) → Reading E
-without r rest = record { shape = r.shape; head = r.head; held = rest; stop = r.stop; start = r.start; pending = r.pending }
-
-one_over : {E : Type 0} (front rest later : List (Placed E)) (placed : Placed E) → front ++ ((placed ∷ rest) ++ later) ≡ (front ++ placed ∷ []) ++ (rest ++ later)
-one_over front rest later placed = sym (append_assoc front (placed ∷ []) (rest ++ later))
-
-one_behind : {E : Type 0} (stop : Option StreamStop) (form : Form E) (r : Reading E) (placed : Placed E) (rest front : List (Placed E)) (more : List ℕ) → r.held ≡ placed ∷ rest
-    → after front (stream_by stop form r more) ≡ after (front ++ placed ∷ []) (stream_by stop form (without r rest) more)
-one_behind {E} None form r placed rest front more is =
-    let s = goes_on form r.shape r.head r.start (r.pending ++ more) in
-    ap (λ (es : List (Placed E)). record { head = s.head; entries = es; end = s.end }) (ap (λ (held : List (Placed E)). front ++ (held ++ s.entries)) is ∙ one_over front rest s.entries placed)
-one_behind {E} (Some stop) form r placed rest front more is =
-    ap (λ (es : List (Placed E)). record { head = r.head; entries = es; end = Refused stop }) (ap (λ (held : List (Placed E)). front ++ held) is ∙ sym (append_assoc front (placed ∷ []) rest))
-
--- the reader stands for the same bytes, with the record among those that were taken
-pub takes_one : {E : Type 0} (form : Form E) (r : Reading E) (placed : Placed E) (rest : List (Placed E)) (bytes : List ℕ) (taken : List (Placed E)) → r.held ≡ placed ∷ rest → Represents E form bytes taken r
-    → Represents E form bytes (taken ++ placed ∷ []) (without r rest)
-takes_one {E} form r placed rest bytes taken is rep = record {
-  head = rep.head;
-  records = append_assoc taken (placed ∷ []) rest ∙ ap (λ (held : List (Placed E)). taken ++ held) (sym is) ∙ rep.records;
-  ends = rep.ends;
-  stop = rep.stop;
-  onward = λ more. rep.onward more ∙ one_behind r.stop form r placed rest taken more is;
-  place = rep.place;
-}
-
--- so it stands for some bytes again
-pub taken_stands : {E : Type 0} (form : Form E) (r : Reading E) (placed : Placed E) (rest : List (Placed E)) → r.held ≡ placed ∷ rest → Stands E form r → Stands E form (without r rest)
-taken_stands form r placed rest is stands = record {
-  bytes = stands.bytes;
-  taken = stands.taken ++ placed ∷ [];
-  represents = takes_one form r placed rest stands.bytes stands.taken is stands.represents;
-}
+-- and it is a reader
+pub fresh_reader : {E : Type 0} (shape : Shape) (row : Placed E) (pending : List ℕ) → pending ≡ [] → IsReader E (running shape (first_head shape.kind) row 0 pending)
+fresh_reader shape row pending empty = rw empty (record { head = first_good shape.kind; stop = tt; start = omega arith; waits = first_waits shape.kind shape.bins })

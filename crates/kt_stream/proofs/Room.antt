@@ -1,7 +1,7 @@
 -- What is read of bytes of which there may be so many, and of more.
-use Rattle.std.proofs.Common.{◌≡◌, ℕ, ◌+◌, ◌-◌, ◌≤◌, ◌<◌, List, ◌++◌, length, take, Option, refl, ap, ◌∙◌, arith, inl, inr}
+use Rattle.std.proofs.Common.{◌≡◌, ℕ, ◌+◌, ◌-◌, ◌≤◌, ◌<◌, List, [], ◌++◌, length, take, drop, Option, refl, sym, ap, ◌∙◌, arith, inl, inr}
 use Rattle.std.proofs.lemmas.Bool.{le-leb, lt-leb, cases_lt}
-use Rattle.std.proofs.lemmas.List.{length-append}
+use Rattle.std.proofs.lemmas.List.{length-append, length-take-le, length-drop, append-nil, take-append-le, take_all, drop-take}
 use Rattle.std.proofs.Math.Seq.{take-append-add}
 use Rattle.kt_stream.specs.declared.entry.Placed.{Placed}
 use Rattle.kt_stream.specs.declared.kind.Head.{Head}
@@ -45,4 +45,44 @@ pub room_refuses : {E : Type 0} (room : ℕ) (read : List ℕ → Stream E) (byt
 room_refuses room read bytes more head records stop within refuses = elim (cases_lt room (length (bytes ++ more))) [
   | inl beyond ↦ room_beyond room read (bytes ++ more) beyond ∙ ap (λ (xs : List ℕ). overlong (read xs)) (take_over room bytes more within) ∙ ap overlong (refuses (take (room - length bytes) more))
   | inr fits ↦ room_within room read (bytes ++ more) fits ∙ refuses more
+]
+
+-- the bytes for which there is room are no more than these, and no more than the room
+pub room_length : (room : ℕ) (bytes : List ℕ) → (length (take room bytes) ≤ room) × (length (take room bytes) ≤ length bytes)
+room_length room bytes = elim (cases_lt room (length bytes)) [
+  | inl beyond ↦ let long : length (take room bytes) ≡ room = length-take-le room bytes (omega arith) in (omega arith, omega arith)
+  | inr fits ↦ let whole : length (take room bytes) ≡ length bytes = ap length (take_all room bytes fits) in (omega arith, omega arith)
+]
+
+-- what was read of the bytes for which there is room is in front of the rest
+pub room_steps : {E : Type 0} (room size : ℕ) (read next : List ℕ → Stream E) (bytes : List ℕ) (records : List (Placed E)) (more : List ℕ) → size ≤ length (take room bytes)
+    → ((more : List ℕ) → read (take room bytes ++ more) ≡ after records (next (drop size (take room bytes) ++ more))) → within_room room read (bytes ++ more) ≡ after records (within_room (room - size) next (drop size bytes ++ more))
+room_steps room size read next bytes records more some moves = elim (cases_lt room (length bytes)) [
+  | inl beyond ↦
+      let long : length (take room bytes) ≡ room = length-take-le room bytes (omega arith) in
+      let whole : size + (room - size) ≡ room = omega arith in
+      let rest : length (drop size bytes) ≡ length bytes - size = length-drop size bytes in
+      let cut : drop size (take room bytes) ≡ take (room - size) (drop size bytes) = ap (λ (n : ℕ). drop size (take n bytes)) (sym whole) ∙ drop-take size (room - size) bytes in
+      room_beyond room read (bytes ++ more) (omega (arith, length-append bytes more))
+      ∙ ap (λ (xs : List ℕ). overlong (read xs)) (take-append-le room bytes more (omega arith) ∙ sym (append-nil (take room bytes)))
+      ∙ ap overlong (moves [])
+      ∙ ap (λ (xs : List ℕ). after records (overlong (next xs))) (append-nil (drop size (take room bytes)) ∙ cut ∙ sym (take-append-le (room - size) (drop size bytes) more (omega arith)))
+      ∙ ap (after records) (sym (room_beyond (room - size) next (drop size bytes ++ more) (omega (arith, length-append (drop size bytes) more))))
+  | inr fits ↦
+      let whole : take room bytes ≡ bytes = take_all room bytes fits in
+      let size-fits : size ≤ length bytes = omega (arith, ap length whole) in
+      room_moves room (room - size) read next bytes (drop size bytes) records more fits (omega (arith, length-drop size bytes)) (λ more. rw whole at (moves more))
+]
+
+-- what is refused within the room is refused so, however much follows
+pub room_stops : {E : Type 0} (room : ℕ) (read : List ℕ → Stream E) (bytes more : List ℕ) (head : Option Head) (records : List (Placed E)) (stop : StreamStop)
+    → ((more : List ℕ) → read (take room bytes ++ more) ≡ refused head records stop) → within_room room read (bytes ++ more) ≡ refused head records stop
+room_stops room read bytes more head records stop refuses = elim (cases_lt room (length bytes)) [
+  | inl beyond ↦
+      room_beyond room read (bytes ++ more) (omega (arith, length-append bytes more))
+      ∙ ap (λ (xs : List ℕ). overlong (read xs)) (take-append-le room bytes more (omega arith) ∙ sym (append-nil (take room bytes)))
+      ∙ ap overlong (refuses [])
+  | inr fits ↦
+      let whole : take room bytes ≡ bytes = take_all room bytes fits in
+      room_refuses room read bytes more head records stop fits (λ more. rw whole at (refuses more))
 ]

@@ -1,16 +1,19 @@
 -- How summary records are read and written.
-use Rattle.std.proofs.Common.{◌≡◌, ℕ, ◌+◌, ◌≤◌, List, [], ◌∷◌, ◌++◌, length, refl, arith, inl, inr}
+use Rattle.std.proofs.Common.{◌≡◌, ℕ, ◌+◌, ◌≤◌, List, [], ◌∷◌, ◌++◌, length, drop, refl, ap, arith, inl, inr}
 use Rattle.std.proofs.lemmas.List.{length-append}
 use Rattle.byteorder.specs.Endian.{little_bytes}
 use Rattle.kt_stream.specs.declared.entry.Pair.{Pair}
 use Rattle.kt_stream.specs.declared.entry.SummaryRecord.{SummaryRecord}
 use Rattle.kt_stream.specs.declared.kind.Shape.{Shape}
+use Rattle.kt_stream.specs.declared.read.Misfit.{Misfit}
 use Rattle.kt_stream.specs.declared.read.Read.TheVariants.{Got}
 use Rattle.kt_stream.specs.declared.stop.RecordCause.TheVariants.{Id, Exposure}
-use Rattle.kt_stream.specs.Read.{AreJudged}
-use Rattle.kt_stream.specs.Pairs.{misfit, ArePairs, pairs_bytes}
-use Rattle.kt_stream.specs.Summary.{summary_fields, summary_record, summary_in, summary_bytes, summary_form, IsSummary}
+use Rattle.kt_stream.specs.declared.summary.SummaryFront.{SummaryFront}
+use Rattle.kt_stream.specs.Read.{fields_in, AreJudged}
+use Rattle.kt_stream.specs.Pairs.{misfit, pairs_in, ArePairs, pairs_bytes}
+use Rattle.kt_stream.specs.Summary.{summary_fields, summary_record, front_of, front_in, summary_in, summary_bytes, summary_form, IsSummary}
 use Rattle.kt_stream.specs.Stream.{IsLawful}
+use Rattle.kt_stream.proofs.Cases.{got_is, bind_got}
 use Rattle.kt_stream.proofs.Fields.{between_bounds, between_none}
 use Rattle.kt_stream.proofs.PairsRead.{pairs_size, pairs_length}
 use Rattle.kt_stream.proofs.PairKinds.{PairKind, kind_back, kind_lawful}
@@ -85,3 +88,11 @@ summary_back samples entry rest at few is = kind_back summary_fields summary_rec
 pub summary_lawful : IsLawful SummaryRecord summary_form (λ (shape : Shape) samples entry. IsSummary samples entry)
 unfolding summary_in
 summary_lawful = kind_lawful summary_fields summary_record summary_bytes summary_kind
+
+-- a record whose fields and pairs were read
+pub summary_whole : (samples : ℕ) (bytes : List ℕ) (at : ℕ) (front : SummaryFront) (pairs : List Pair) → front_in bytes at ≡ Got front → pairs_in (samples + 4) samples 0 (drop 16 bytes) (at + 16) ≡ Got pairs
+    → summary_in samples bytes at ≡ Got (record { event = front.event; summary = front.summary; exposure = front.exposure; pairs = pairs })
+unfolding summary_in
+summary_whole samples bytes at front pairs e p =
+    let first = bind_got (fields_in summary_fields [] bytes at) (λ values. Got (front_of values)) front e in
+    rw (first.1, p) (ap (λ (f : SummaryFront). Got (record { event = f.event; summary = f.summary; exposure = f.exposure; pairs = pairs })) (got_is {W = Misfit} (front_of first.0) front first.2))

@@ -8,7 +8,6 @@ pub mod Losses
 pub mod Growth
 pub mod Grammar
 pub mod Reader
-pub mod Gather
 pub mod Write
 pub mod Bins
 pub mod EventIds

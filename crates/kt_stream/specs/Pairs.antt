@@ -1,6 +1,6 @@
 -- The pairs of a record, and records of some fields with pairs behind them.
 -- The rules: docs/STREAMS.md, "Records".
-use Rattle.std.specs.Prelude.{◌≡◌, ◌≢◌, false, ℕ, zero, suc, ◌+◌, ◌^◌, ◌%◌, ◌≤◌, ℤ, pos, negsuc, ◌≤ℤ◌, ◌<ℤ◌, List, [], ◌∷◌, ◌++◌, length, drop, Option, Some, None, nat_lt, ◌==◌, if◌then◌else◌, slice_index}
+use Rattle.std.specs.Prelude.{◌≡◌, ◌≢◌, false, ℕ, zero, suc, ◌+◌, ◌-◌, ◌*◌, ◌^◌, ◌%◌, ◌≤◌, ℤ, pos, negsuc, ◌≤ℤ◌, ◌<ℤ◌, List, [], ◌∷◌, ◌++◌, length, drop, Option, Some, None, nat_lt, ◌==◌, if◌then◌else◌, slice_index}
 use Rattle.std.specs.Int.{w32, cast_signed, cast_unsigned}
 use Rattle.std.specs.List.{AllByRecursion}
 use Rattle.byteorder.specs.Endian.{little_bytes}
@@ -55,6 +55,15 @@ pub record SoundPair (samples least word loss at : ℕ) : Type 0 where
   pub sidx_fits : sidx_judge samples least at word ≡ None
   pub loss_fits : loss_judge word (at + 4) loss ≡ None
 
+-- a pair that is not the end pair, with which nothing is wrong, stands at the front of the bytes
+pub record IsNext (samples least : ℕ) (bytes : List ℕ) (pair : RawPair) : Type 0 where
+  pub other : pair.word ≢ 0
+  pub read : (at : ℕ) → pair_in samples least bytes at ≡ Got pair
+
+-- no such pair does
+abbrev pub HasNoNext : ℕ → ℕ → List ℕ → Type 0
+HasNoNext samples least bytes = (at : ℕ) (pair : RawPair) → pair_in samples least bytes at ≡ Got pair → pair.word ≡ 0
+
 -- a pair by its sidx as a signed number
 abbrev pub signed : RawPair → Pair
 signed p = record { sidx = cast_signed w32 p.word; loss = p.loss }
@@ -68,6 +77,14 @@ unfoldable pub pairs_in : ℕ → ℕ → ℕ → List ℕ → ℕ → Read (Lis
 pairs_in zero samples least bytes at = Short
 pairs_in (suc n) samples least bytes at = pair_in samples least bytes at >>= λ p.
     if p.word == 0 then Got [] else in_front (signed p ∷ []) (pairs_in n samples (order_of p.word + 1) (drop 12 bytes) (at + 12))
+
+-- so many bytes at the front are sound pairs, and these are the first that are read; `least` is the place of the least sidx that may come behind them
+pub record AreFirst (samples : ℕ) (bytes : List ℕ) (pairs : List Pair) (least used : ℕ) : Type 0 where
+  pub within : used ≤ length bytes
+  pub size : used ≡ 12 * length pairs
+  pub low : least ≤ samples + 3
+  pub few : length pairs ≤ least
+  pub onward : (at : ℕ) → pairs_in (samples + 4) samples 0 bytes at ≡ in_front pairs (pairs_in (samples + 4 - length pairs) samples least (drop used bytes) (at + used))
 
 -- a record of some fields and the pairs behind them
 abbrev pub pair_record : {E : Type 0} → List (Field Misfit) → (List ℕ → List Pair → E) → ℕ → List ℕ → ℕ → Read E Misfit

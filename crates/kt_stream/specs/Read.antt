@@ -66,3 +66,9 @@ abbrev pub AreSmall : {W : Type 0} → List (Field W) → List ℕ → Type 0
 AreSmall [] values = Unit {0}
 AreSmall (f ∷ fields) [] = Unit {0}
 AreSmall (f ∷ fields) (x ∷ values) = (x < 256 ^ f.width) × AreSmall fields values
+
+-- what reading into a value comes to, where a value has so many bytes: it holds what was read and the answer is how many bytes that has, or it was short or wrong
+abbrev pub ReadsAs : {A W : Type 0} → (A → ℕ) → Read A W → A → Read ℕ W → Type 0
+ReadsAs size unit new (Got n) = (unit ≡ Got new) × (n ≡ size new)
+ReadsAs size unit new Short = unit ≡ Short
+ReadsAs size unit new (Wrong m) = unit ≡ Wrong m

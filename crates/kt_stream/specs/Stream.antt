@@ -11,6 +11,7 @@ use Rattle.kt_stream.specs.declared.read.Read.TheVariants.{Got, Short, Wrong}
 use Rattle.kt_stream.specs.declared.stop.StreamStop.{StreamStop}
 use Rattle.kt_stream.specs.declared.stop.StreamStop.TheVariants.{TooLong, Cut}
 use Rattle.kt_stream.specs.Header.{header_in, header_size}
+use Rattle.kt_stream.specs.Read.{ReadsAs}
 use Rattle.kt_stream.specs.Stop.{header_stop, record_stop}
 
 -- How the records of a kind are read and written.
@@ -19,6 +20,10 @@ pub record Form (E : Type 0) : Type 0 where
   pub unit : Shape → ℕ → List ℕ → ℕ → Read E Misfit
   -- the bytes of a record
   pub bytes : E → List ℕ
+
+-- what reading a record into a value comes to: it holds the record and the answer is how many bytes that has, or the record is short or wrong
+abbrev pub ReadsInto : {E : Type 0} → Form E → Read E Misfit → E → Read ℕ Misfit → Type 0
+ReadsInto form unit new read = ReadsAs (λ e. length (form.bytes e)) unit new read
 
 -- how reading ends: behind a whole record, inside a header or record, or refused
 pub data End : Type 0 where

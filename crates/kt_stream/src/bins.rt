@@ -1,13 +1,14 @@
 //! The bins of a damage distribution, in one pass that judges and decodes them.
 //! The rules: docs/STREAMS.md, "Distributions".
-ghost use Rattle.std.specs.Prelude.{◌≡◌, ◌+◌, ◌<◌, ◌≤◌, ◌^◌, length, IfOk};
+ghost use Rattle.std.specs.Prelude.{◌≡◌, ◌+◌, ◌*◌, ◌<◌, ◌≤◌, ◌^◌, length, IfOk};
 ghost use Rattle.kt_stream.specs.Bins.{lowest, bin_in, bins_in};
+ghost use Rattle.kt_stream.specs.Read.{ReadsAs};
 
 use crate::entry::{Bin, Bins};
 use crate::number::{outside, u32_of, u64_of};
 use crate::read::{Misfit, Read};
 use crate::stop::RecordCause;
-use std::alloc::{AllocError, Global};
+use std::alloc::AllocError;
 
 /// The length of a bin in bytes.
 pub const BIN: usize = 12;
@@ -53,17 +54,20 @@ fn bin_at(left: u32, before: u64, bytes: &[u8], at: u64) -> Read<Bin, Misfit>
     Read::Got(Bin { prob_to, mean })
 }
 
-/// So many bins at the front of the bytes, which stand at a byte of the stream.
-pub fn bins_of(
-    alloc: Global,
+/// Reads so many bins at the front of the bytes, which stand at a byte of the stream, into a list: how many bytes they
+/// have. Where they are short or wrong, nothing is said of the list.
+pub fn read_bins(
+    list: &mut Bins,
     count: u32,
     bytes: &[u8],
     at: u64,
-) -> Result<Read<Bins, Misfit>, AllocError>
+) -> Result<Read<usize, Misfit>, AllocError>
     requires { at + length bytes.now < 2 ^ 63 }
-    ensures { IfOk result (λ read. read ≡ bins_in count 0 bytes.now at) }
+    ensures { IfOk result (λ read. ReadsAs (λ bins. 12 * length bins) (bins_in count 0 bytes.now at) list.new read) }
 {
-    let mut bins = Vec::with_capacity(alloc, count as usize)?;
+    let mut bins = list.take_vec();
+    bins.clear();
+    bins.reserve(count as usize)?;
     let mut before = 0;
     let mut used = 0;
     for i in 0..count {
@@ -71,11 +75,12 @@ pub fn bins_of(
             Read::Short => return Ok(Read::Short),
             Read::Wrong(misfit) => return Ok(Read::Wrong(misfit)),
             Read::Got(bin) => {
-                bins.push(bin)?;
+                bins.push_reserved(bin);
                 before = bin.prob_to;
                 used += BIN;
             }
         }
     }
-    Ok(Read::Got(Bins::from_vec(bins)))
+    *list = Bins::from_vec(bins);
+    Ok(Read::Got(used))
 }

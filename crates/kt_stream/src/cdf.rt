@@ -2,10 +2,10 @@
 //! The rules: docs/STREAMS.md, "Distributions".
 ghost use Rattle.std.specs.Prelude.{◌≡◌, ◌+◌, ◌<◌, ◌≤◌, ◌^◌, [], length, min, IfOk};
 ghost use Rattle.kt_stream.specs.Bins.{cdf_front_in, cdf_form, cdf_shape, IsCdf};
-ghost use Rattle.kt_stream.specs.Reader.{Represents};
+ghost use Rattle.kt_stream.specs.Reader.{Represents, IsRested};
 ghost use Rattle.kt_stream.specs.Stream.{IsLawful};
 
-use crate::bins::{BIN, bins_of};
+use crate::bins::read_bins;
 use crate::entry::Cdf;
 use crate::kind::{Shape, StreamKind};
 use crate::number::{outside, u32_of};
@@ -93,34 +93,31 @@ impl Entry for Cdf {
     ghost IsGood = { λ shape samples cdf. IsCdf shape.bins cdf };
 
     #[tactic(auto, unfolding(crate::specs::Bins::cdf_in))]
-    fn read_from(
-        alloc: Global,
+    fn read_into(
+        &mut self,
         shape: Shape,
         _samples: u32,
         bytes: &[u8],
         at: u64,
-        _size: usize,
-    ) -> Result<Read<Self, Misfit>, AllocError> {
-        match front_at(shape.bins, bytes, at) {
+    ) -> Result<Read<usize, Misfit>, AllocError> {
+        let front = match front_at(shape.bins, bytes, at) {
+            Read::Short => return Ok(Read::Short),
+            Read::Wrong(misfit) => return Ok(Read::Wrong(misfit)),
+            Read::Got(front) => front,
+        };
+        self.event = front.event;
+        self.areaperil = front.areaperil;
+        self.vulnerability = front.vulnerability;
+        match read_bins(
+            &mut self.bins,
+            front.bins,
+            &bytes[FRONT..],
+            at + FRONT as u64,
+        )? {
             Read::Short => Ok(Read::Short),
             Read::Wrong(misfit) => Ok(Read::Wrong(misfit)),
-            Read::Got(front) => {
-                match bins_of(alloc, front.bins, &bytes[FRONT..], at + FRONT as u64)? {
-                    Read::Short => Ok(Read::Short),
-                    Read::Wrong(misfit) => Ok(Read::Wrong(misfit)),
-                    Read::Got(bins) => Ok(Read::Got(Cdf {
-                        event: front.event,
-                        areaperil: front.areaperil,
-                        vulnerability: front.vulnerability,
-                        bins,
-                    })),
-                }
-            }
+            Read::Got(size) => Ok(Read::Got(FRONT + size)),
         }
-    }
-
-    fn size(&self) -> usize {
-        FRONT + BIN * self.bins.as_slice().len()
     }
 
     fn laws() {}
@@ -135,6 +132,7 @@ impl RecordReader<Cdf> {
     pub fn new(alloc: Global, bins: u32) -> Self
         ensures value { Represents Cdf cdf_form [] [] result }
         ensures shape { result.shape ≡ cdf_shape bins }
+        ensures rests { IsRested Cdf cdf_form result }
     {
         RecordReader::of_shape(
             alloc,

@@ -4,6 +4,18 @@ ghost use Rattle.std.specs.Prelude.{◌≡◌, ◌≤◌, List, [], ◌∷◌, �
 
 use std::alloc::{AllocError, Global};
 use std::marker::Model;
+use std::mem::replace;
+
+/// A value whose memory is used again.
+pub trait Reusable: Sized + Drop {
+    /// A value to be written over. Asks for no memory.
+    fn blank(alloc: Global) -> Self;
+
+    /// Becomes the same as another value, in the memory that it has as far as that goes. An error is want of
+    /// memory; nothing is said of the value then.
+    fn copy_from(&mut self, other: &Self) -> Result<(), AllocError>
+        ensures ok { OnOk result (self.new ≡ other.now) };
+}
 
 /// The loss of one sidx.
 #[derive(Clone, Copy)]
@@ -69,6 +81,28 @@ impl<T: Drop> Records<T> {
     {
         Records { items }
     }
+
+    /// The vector that holds the list, which is empty from then on. Takes no memory.
+    pub(crate) fn take_vec(&mut self) -> Vec<T>
+        ensures value { result.items ≡ self.old }
+        ensures empty { self.new ≡ [] }
+    {
+        let alloc = *self.items.allocator();
+        replace(&mut self.items, Vec::new(alloc))
+    }
+}
+
+impl<T: Copy + Drop> Records<T> {
+    /// Becomes the same as another list, in the memory that it has as far as that goes. An error is want of memory,
+    /// and the list is empty then.
+    pub fn copy_from(&mut self, other: &Records<T>) -> Result<(), AllocError>
+        ensures ok { OnOk result (self.new ≡ other.now) }
+
+        ensures memory { OnErr result (self.new ≡ []) }
+    {
+        self.items.clear();
+        self.items.extend_from_slice(other.items.as_slice())
+    }
 }
 
 /// The pairs of a record, in order.
@@ -99,6 +133,25 @@ pub struct Cdf {
     pub bins: Bins,
 }
 
+impl Reusable for Cdf {
+    fn blank(alloc: Global) -> Self {
+        Cdf {
+            event: 0,
+            areaperil: 0,
+            vulnerability: 0,
+            bins: Records::new(alloc),
+        }
+    }
+
+    fn copy_from(&mut self, other: &Self) -> Result<(), AllocError> {
+        self.bins.copy_from(&other.bins)?;
+        self.event = other.event;
+        self.areaperil = other.areaperil;
+        self.vulnerability = other.vulnerability;
+        Ok(())
+    }
+}
+
 /// The losses of one item, or of one output of a programme, in one event.
 #[derive(Drop)]
 pub struct LossRecord {
@@ -108,6 +161,23 @@ pub struct LossRecord {
     pub id: u32,
     /// The losses, by rising sidx; zero losses are left out.
     pub pairs: Pairs,
+}
+
+impl Reusable for LossRecord {
+    fn blank(alloc: Global) -> Self {
+        LossRecord {
+            event: 0,
+            id: 0,
+            pairs: Records::new(alloc),
+        }
+    }
+
+    fn copy_from(&mut self, other: &Self) -> Result<(), AllocError> {
+        self.pairs.copy_from(&other.pairs)?;
+        self.event = other.event;
+        self.id = other.id;
+        Ok(())
+    }
 }
 
 /// The losses of one summary id in one event.
@@ -123,6 +193,25 @@ pub struct SummaryRecord {
     pub pairs: Pairs,
 }
 
+impl Reusable for SummaryRecord {
+    fn blank(alloc: Global) -> Self {
+        SummaryRecord {
+            event: 0,
+            summary: 0,
+            exposure: 0,
+            pairs: Records::new(alloc),
+        }
+    }
+
+    fn copy_from(&mut self, other: &Self) -> Result<(), AllocError> {
+        self.pairs.copy_from(&other.pairs)?;
+        self.event = other.event;
+        self.summary = other.summary;
+        self.exposure = other.exposure;
+        Ok(())
+    }
+}
+
 /// A record, and the byte of the stream at which it begins.
 #[derive(Drop)]
 pub struct Placed<R> {
@@ -130,4 +219,19 @@ pub struct Placed<R> {
     pub at: u64,
     /// The record.
     pub entry: R,
+}
+
+impl<R: Reusable> Reusable for Placed<R> {
+    fn blank(alloc: Global) -> Self {
+        Placed {
+            at: 0,
+            entry: R::blank(alloc),
+        }
+    }
+
+    fn copy_from(&mut self, other: &Self) -> Result<(), AllocError> {
+        self.entry.copy_from(&other.entry)?;
+        self.at = other.at;
+        Ok(())
+    }
 }

@@ -3,9 +3,10 @@
 ghost use Rattle.std.specs.Prelude.{◌≡◌, ◌+◌, ◌<◌, ◌≤◌, ◌^◌, [], length, IfOk};
 ghost use Rattle.kt_stream.specs.EventIds.{event_form, event_shape};
 ghost use Rattle.kt_stream.specs.Pairs.{IsId};
-ghost use Rattle.kt_stream.specs.Reader.{Represents};
+ghost use Rattle.kt_stream.specs.Reader.{Represents, IsRested};
 ghost use Rattle.kt_stream.specs.Stream.{IsLawful};
 
+use crate::entry::Reusable;
 use crate::kind::{Shape, StreamKind};
 use crate::number::u32_of;
 use crate::pairs::id_fault;
@@ -24,31 +25,37 @@ pub struct EventId {
     pub event: u32,
 }
 
+impl Reusable for EventId {
+    fn blank(_alloc: Global) -> Self {
+        EventId { event: 0 }
+    }
+
+    fn copy_from(&mut self, other: &Self) -> Result<(), AllocError> {
+        *self = *other;
+        Ok(())
+    }
+}
+
 impl Entry for EventId {
     ghost form = { event_form };
 
     ghost IsGood = { λ shape samples entry. IsId entry.event };
 
-    fn read_from(
-        _alloc: Global,
+    fn read_into(
+        &mut self,
         _shape: Shape,
         _samples: u32,
         bytes: &[u8],
         at: u64,
-        _size: usize,
-    ) -> Result<Read<Self, Misfit>, AllocError> {
+    ) -> Result<Read<usize, Misfit>, AllocError> {
         if bytes.len() < ID {
             return Ok(Read::Short);
         }
-        let event = u32_of(bytes);
-        match id_fault(at, event) {
+        self.event = u32_of(bytes);
+        match id_fault(at, self.event) {
             Some(misfit) => Ok(Read::Wrong(misfit)),
-            None => Ok(Read::Got(EventId { event })),
+            None => Ok(Read::Got(ID)),
         }
-    }
-
-    fn size(&self) -> usize {
-        ID
     }
 
     fn laws() {}
@@ -62,6 +69,7 @@ impl RecordReader<EventId> {
     pub fn new(alloc: Global) -> Self
         ensures value { Represents EventId event_form [] [] result }
         ensures shape { result.shape ≡ event_shape }
+        ensures rests { IsRested EventId event_form result }
     {
         RecordReader::of_shape(
             alloc,

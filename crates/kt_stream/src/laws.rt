@@ -7,8 +7,7 @@ ghost use Rattle.kt_stream.specs.declared.kind.Shape.{Shape};
 ghost use Rattle.kt_stream.specs.Header.{IsHead};
 ghost use Rattle.kt_stream.specs.Grammar.{Spells, IsSpelled, spelled, entries_of};
 ghost use Rattle.kt_stream.specs.Growth.{GrowsTo};
-ghost use Rattle.kt_stream.specs.Reader.{Reading, Extends, IsPlaced};
-ghost use Rattle.kt_stream.specs.declared.stop.StreamStop.{StreamStop};
+ghost use Rattle.kt_stream.specs.Reader.{IsPlaced};
 ghost use Rattle.kt_stream.specs.Stream.{stream_of, fault_of, AreBytes};
 
 use crate::unit::Entry;
@@ -59,9 +58,4 @@ pub fn records_follow_records<E: Entry>()
 /// Without a header there are no records.
 pub fn no_header_means_no_records<E: Entry>()
     ensures { (shape : Shape) (bytes : List ℕ) → (stream_of E.form shape bytes).head ≡ None → (stream_of E.form shape bytes).entries ≡ [] }
-{}
-
-/// A reader that was stopped stands for all longer bytes too.
-pub fn a_refusal_stands_for_longer_bytes<E: Entry>()
-    ensures { (reading : Reading E) (more : List ℕ) (stop : StreamStop) → reading.stop ≡ Some stop → Extends E E.form reading more reading }
 {}

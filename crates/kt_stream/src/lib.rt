@@ -5,7 +5,6 @@ mod bins;
 mod cdf;
 mod entry;
 mod event_id;
-mod gather;
 mod header;
 mod kind;
 pub mod laws;
@@ -21,11 +20,13 @@ mod unit;
 mod write;
 
 pub use cdf::CdfReader;
-pub use entry::{Bin, Bins, Cdf, LossRecord, Pair, Pairs, Placed, Records, SummaryRecord};
+pub use entry::{
+    Bin, Bins, Cdf, LossRecord, Pair, Pairs, Placed, Records, Reusable, SummaryRecord,
+};
 pub use event_id::{EventId, EventReader};
 pub use kind::{Head, Shape, StreamKind};
 pub use loss::LossReader;
-pub use reader::RecordReader;
+pub use reader::{Next, RecordReader};
 pub use stop::{RecordCause, StreamStop};
 pub use summary::SummaryReader;
 pub use unit::Entry;

@@ -2,13 +2,13 @@
 //! The rules: docs/STREAMS.md, "Records".
 ghost use Rattle.std.specs.Prelude.{◌≡◌, ◌+◌, ◌<◌, ◌≤◌, ◌^◌, [], length, IfOk};
 ghost use Rattle.kt_stream.specs.Losses.{loss_front_in, loss_form, loss_shape, IsLoss, IsLossKind};
-ghost use Rattle.kt_stream.specs.Reader.{Represents};
+ghost use Rattle.kt_stream.specs.Reader.{Represents, IsRested};
 ghost use Rattle.kt_stream.specs.Stream.{IsLawful};
 
 use crate::entry::LossRecord;
 use crate::kind::{Shape, StreamKind};
 use crate::number::u32_of;
-use crate::pairs::{PAIR, id_fault, pairs_of};
+use crate::pairs::{id_fault, read_pairs};
 use crate::read::{Misfit, Read};
 use crate::reader::RecordReader;
 use crate::unit::Entry;
@@ -54,39 +54,25 @@ impl Entry for LossRecord {
     ghost IsGood = { λ shape samples entry. IsLoss samples entry };
 
     #[tactic(auto, unfolding(crate::specs::Losses::loss_in))]
-    fn read_from(
-        alloc: Global,
+    fn read_into(
+        &mut self,
         _shape: Shape,
         samples: u32,
         bytes: &[u8],
         at: u64,
-        size: usize,
-    ) -> Result<Read<Self, Misfit>, AllocError> {
-        match front_at(bytes, at) {
+    ) -> Result<Read<usize, Misfit>, AllocError> {
+        let front = match front_at(bytes, at) {
+            Read::Short => return Ok(Read::Short),
+            Read::Wrong(misfit) => return Ok(Read::Wrong(misfit)),
+            Read::Got(front) => front,
+        };
+        self.event = front.event;
+        self.id = front.id;
+        match read_pairs(&mut self.pairs, samples, &bytes[FRONT..], at + FRONT as u64)? {
             Read::Short => Ok(Read::Short),
             Read::Wrong(misfit) => Ok(Read::Wrong(misfit)),
-            Read::Got(front) => {
-                match pairs_of(
-                    alloc,
-                    samples,
-                    &bytes[FRONT..],
-                    at + FRONT as u64,
-                    size / PAIR,
-                )? {
-                    Read::Short => Ok(Read::Short),
-                    Read::Wrong(misfit) => Ok(Read::Wrong(misfit)),
-                    Read::Got(pairs) => Ok(Read::Got(LossRecord {
-                        event: front.event,
-                        id: front.id,
-                        pairs,
-                    })),
-                }
-            }
+            Read::Got(size) => Ok(Read::Got(FRONT + size)),
         }
-    }
-
-    fn size(&self) -> usize {
-        FRONT + PAIR + PAIR * self.pairs.as_slice().len()
     }
 
     fn laws() {}
@@ -101,6 +87,7 @@ impl RecordReader<LossRecord> {
         requires { IsLossKind kind }
         ensures value { Represents LossRecord loss_form [] [] result }
         ensures shape { result.shape ≡ loss_shape kind }
+        ensures rests { IsRested LossRecord loss_form result }
     {
         RecordReader::of_shape(alloc, Shape { kind, bins: 0 })
     }

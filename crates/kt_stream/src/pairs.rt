@@ -1,15 +1,15 @@
 //! The pairs of a record, in one pass that judges and decodes them.
 //! The rules: docs/STREAMS.md, "Records".
-ghost use Rattle.std.specs.Prelude.{◌≡◌, ◌+◌, ◌<◌, ◌≤◌, ◌^◌, ℕ, length, IsTrue, IfOk};
-ghost use Rattle.kt_stream.specs.Pairs.{misfit, order_of, sidx_judge, loss_judge, SoundPair, pair_in, signed, pairs_in};
+ghost use Rattle.std.specs.Prelude.{◌≡◌, ◌+◌, ◌*◌, ◌<◌, ◌≤◌, ◌^◌, false, [], ℕ, length, drop, vec_capacity, IsTrue, IfOk, IfSome, IfNone};
+ghost use Rattle.kt_stream.specs.Pairs.{misfit, order_of, sidx_judge, loss_judge, SoundPair, IsNext, HasNoNext, pair_in, signed, pairs_in, AreFirst};
 ghost use Rattle.kt_stream.specs.declared.stop.RecordCause.TheVariants.{Id};
-ghost use Rattle.kt_stream.specs.Read.{between};
+ghost use Rattle.kt_stream.specs.Read.{between, ReadsAs};
 
 use crate::entry::{Pair, Pairs};
 use crate::number::{outside, u32_of, u64_of};
 use crate::read::{Misfit, Read};
 use crate::stop::RecordCause;
-use std::alloc::{AllocError, Global};
+use std::alloc::AllocError;
 
 /// A pair as it stands in the bytes: its sidx as an unsigned number of 32 bits.
 #[derive(Clone, Copy)]
@@ -105,7 +105,8 @@ fn loss_fault(word: u32, at: u64, loss: u64) -> Option<Misfit>
 #[inline]
 fn is_sound(samples: u32, least: u32, word: u32, loss: u64) -> bool
     requires { samples ≤ 1000 }
-    ensures { IsTrue result → (at : ℕ) → SoundPair samples least word loss at }
+    ensures sound { IsTrue result → (at : ℕ) → SoundPair samples least word loss at }
+    ensures unsound { result ≡ false → (at : ℕ) → SoundPair samples least word loss at → ⊥ }
 {
     let place = order(word);
     word != 0 && least <= place && place <= samples + 2 && 1 <= loss && loss <= LOSS_LIMIT
@@ -135,25 +136,6 @@ fn judged_pair(samples: u32, least: u32, bytes: &[u8], at: u64) -> Read<RawPair,
     Read::Got(RawPair { word, loss })
 }
 
-/// The pair at the front of the bytes, which stand at a byte of the stream. Most pairs are sound and
-/// not the end pair, so that is asked first.
-#[tactic(auto, unfolding(crate::specs::Pairs::pair_in))]
-#[inline]
-fn pair_of(samples: u32, least: u32, bytes: &[u8], at: u64) -> Read<RawPair, Misfit>
-    requires samples { samples ≤ 1000 }
-    requires at { at < 2 ^ 63 }
-    ensures { result ≡ pair_in samples least bytes.now at }
-{
-    if bytes.len() >= PAIR {
-        let word = u32_of(bytes);
-        let loss = u64_of(&bytes[4..]);
-        if is_sound(samples, least, word, loss) {
-            return Read::Got(RawPair { word, loss });
-        }
-    }
-    judged_pair(samples, least, bytes, at)
-}
-
 /// A pair by its sidx as a signed number.
 #[inline]
 fn signed_pair(pair: RawPair) -> Pair
@@ -165,35 +147,76 @@ fn signed_pair(pair: RawPair) -> Pair
     }
 }
 
-/// The pairs up to the end pair at the front of the bytes, which stand at a byte of the stream. Memory
-/// is asked for `room` of them first.
-pub fn pairs_of(
-    alloc: Global,
+/// The pair at the front of the bytes, where it is sound and not the end pair.
+#[inline]
+fn next_pair(samples: u32, least: u32, bytes: &[u8]) -> Option<RawPair>
+    requires { samples ≤ 1000 }
+    ensures next { IfSome result (IsNext samples least bytes.now) }
+    ensures none { IfNone result (HasNoNext samples least bytes.now) }
+{
+    if bytes.len() < PAIR {
+        return None;
+    }
+    let word = u32_of(bytes);
+    let loss = u64_of(&bytes[4..]);
+    if is_sound(samples, least, word, loss) {
+        Some(RawPair { word, loss })
+    } else {
+        None
+    }
+}
+
+/// The sound pairs at the front of some bytes.
+#[derive(Drop)]
+struct FirstPairs {
+    /// The pairs.
+    pairs: Vec<Pair>,
+    /// The place of the least sidx that may come behind them.
+    least: u32,
+    /// How many bytes they have.
+    used: usize,
+}
+
+/// The sound pairs at the front of the bytes, up to the first pair that is none, or the end pair. They are put into
+/// a vector that is empty and has room for them.
+fn first_pairs(samples: u32, bytes: &[u8], empty: Vec<Pair>) -> FirstPairs
+    requires samples { samples ≤ 1000 }
+    requires empty { empty.items ≡ [] }
+    requires room { samples + 3 ≤ vec_capacity empty }
+    ensures first { AreFirst samples bytes.now result.pairs.items result.least result.used }
+    ensures last { HasNoNext samples result.least (drop result.used bytes.now) }
+{
+    let mut pairs = empty;
+    let mut least = 0;
+    let mut used = 0;
+    while let Some(pair) = next_pair(samples, least, &bytes[used..]) {
+        pairs.push_reserved(signed_pair(pair));
+        least = order(pair.word) + 1;
+        used += PAIR;
+    }
+    FirstPairs { pairs, least, used }
+}
+
+/// Reads the pairs up to the end pair at the front of the bytes, which stand at a byte of the stream, into a list: how
+/// many bytes they have with the end pair. Where they are short or wrong, nothing is said of the list.
+pub fn read_pairs(
+    list: &mut Pairs,
     samples: u32,
     bytes: &[u8],
     at: u64,
-    room: usize,
-) -> Result<Read<Pairs, Misfit>, AllocError>
+) -> Result<Read<usize, Misfit>, AllocError>
     requires samples { samples ≤ 1000 }
     requires at { at + length bytes.now < 2 ^ 63 }
-    ensures { IfOk result (λ read. read ≡ pairs_in (samples + 4) samples 0 bytes.now at) }
+    ensures { IfOk result (λ read. ReadsAs (λ pairs. 12 * length pairs + 12) (pairs_in (samples + 4) samples 0 bytes.now at) list.new read) }
 {
-    let mut pairs = Vec::with_capacity(alloc, room)?;
-    let mut used = 0;
-    let mut least = 0;
-    for _step in 0..samples + 4 {
-        match pair_of(samples, least, &bytes[used..], at + used as u64) {
-            Read::Short => return Ok(Read::Short),
-            Read::Wrong(misfit) => return Ok(Read::Wrong(misfit)),
-            Read::Got(pair) => {
-                if pair.word == 0 {
-                    return Ok(Read::Got(Pairs::from_vec(pairs)));
-                }
-                pairs.push(signed_pair(pair))?;
-                least = order(pair.word) + 1;
-                used += PAIR;
-            }
-        }
+    let mut empty = list.take_vec();
+    empty.clear();
+    empty.reserve(samples as usize + 3)?;
+    let FirstPairs { pairs, least, used } = first_pairs(samples, bytes, empty);
+    *list = Pairs::from_vec(pairs);
+    match judged_pair(samples, least, &bytes[used..], at + used as u64) {
+        Read::Short => Ok(Read::Short),
+        Read::Wrong(misfit) => Ok(Read::Wrong(misfit)),
+        Read::Got(_end) => Ok(Read::Got(used + PAIR)),
     }
-    Ok(Read::Short)
 }

@@ -3,12 +3,12 @@
 ghost use Rattle.std.specs.Prelude.{◌≡◌, ◌+◌, ◌<◌, ◌≤◌, ◌^◌, [], length, IfOk};
 ghost use Rattle.kt_stream.specs.Summary.{front_in, summary_form, IsSummary, summary_shape};
 ghost use Rattle.kt_stream.specs.Stream.{IsLawful};
-ghost use Rattle.kt_stream.specs.Reader.{Represents};
+ghost use Rattle.kt_stream.specs.Reader.{Represents, IsRested};
 
 use crate::entry::SummaryRecord;
 use crate::kind::{Shape, StreamKind};
 use crate::number::{outside, u32_of, u64_of};
-use crate::pairs::{PAIR, id_fault, pairs_of};
+use crate::pairs::{id_fault, read_pairs};
 use crate::read::{Misfit, Read};
 use crate::reader::RecordReader;
 use crate::stop::RecordCause;
@@ -72,40 +72,26 @@ impl Entry for SummaryRecord {
     ghost IsGood = { λ shape samples entry. IsSummary samples entry };
 
     #[tactic(auto, unfolding(crate::specs::Summary::summary_in))]
-    fn read_from(
-        alloc: Global,
+    fn read_into(
+        &mut self,
         _shape: Shape,
         samples: u32,
         bytes: &[u8],
         at: u64,
-        size: usize,
-    ) -> Result<Read<Self, Misfit>, AllocError> {
-        match front_at(bytes, at) {
+    ) -> Result<Read<usize, Misfit>, AllocError> {
+        let front = match front_at(bytes, at) {
+            Read::Short => return Ok(Read::Short),
+            Read::Wrong(misfit) => return Ok(Read::Wrong(misfit)),
+            Read::Got(front) => front,
+        };
+        self.event = front.event;
+        self.summary = front.summary;
+        self.exposure = front.exposure;
+        match read_pairs(&mut self.pairs, samples, &bytes[FRONT..], at + FRONT as u64)? {
             Read::Short => Ok(Read::Short),
             Read::Wrong(misfit) => Ok(Read::Wrong(misfit)),
-            Read::Got(front) => {
-                match pairs_of(
-                    alloc,
-                    samples,
-                    &bytes[FRONT..],
-                    at + FRONT as u64,
-                    size / PAIR,
-                )? {
-                    Read::Short => Ok(Read::Short),
-                    Read::Wrong(misfit) => Ok(Read::Wrong(misfit)),
-                    Read::Got(pairs) => Ok(Read::Got(SummaryRecord {
-                        event: front.event,
-                        summary: front.summary,
-                        exposure: front.exposure,
-                        pairs,
-                    })),
-                }
-            }
+            Read::Got(size) => Ok(Read::Got(FRONT + size)),
         }
-    }
-
-    fn size(&self) -> usize {
-        FRONT + PAIR + PAIR * self.pairs.as_slice().len()
     }
 
     fn laws() {}
@@ -119,6 +105,7 @@ impl RecordReader<SummaryRecord> {
     pub fn new(alloc: Global) -> Self
         ensures value { Represents SummaryRecord summary_form [] [] result }
         ensures shape { result.shape ≡ summary_shape }
+        ensures rests { IsRested SummaryRecord summary_form result }
     {
         RecordReader::of_shape(
             alloc,

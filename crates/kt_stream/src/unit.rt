@@ -2,38 +2,33 @@
 //! The rules: docs/STREAMS.md, "Readers".
 ghost use Rattle.std.specs.Prelude.{◌≡◌, ◌+◌, ◌<◌, ◌≤◌, ◌^◌, ℕ, length, IfOk};
 ghost use Rattle.kt_stream.specs.declared.kind.Shape.{Shape};
-ghost use Rattle.kt_stream.specs.Stream.{Form, IsLawful};
+ghost use Rattle.kt_stream.specs.Stream.{Form, IsLawful, ReadsInto};
 
+use crate::entry::Reusable;
 use crate::kind::Shape;
 use crate::read::{Misfit, Read};
-use std::alloc::{AllocError, Global};
+use std::alloc::AllocError;
 
 /// A kind of record. It is read in one pass that judges and decodes.
-pub trait Entry: Sized + Drop {
+pub trait Entry: Reusable {
     /// How a record is read and written.
     ghost form: { Form Self };
 
     /// Which records there are in a stream with so many samples.
     ghost IsGood: { Shape → ℕ → Self → Type 0 };
 
-    /// The record at the front of the bytes, which stand at a byte of the stream. The last record had
-    /// `size` bytes, a hint for the memory to ask for.
-    fn read_from(
-        alloc: Global,
+    /// Reads the record at the front of the bytes, which stand at a byte of the stream, into this value: how many
+    /// bytes it has. Where it is short or wrong, nothing is said of the value.
+    fn read_into(
+        &mut self,
         shape: Shape,
         samples: u32,
         bytes: &[u8],
         at: u64,
-        size: usize,
-    ) -> Result<Read<Self, Misfit>, AllocError>
+    ) -> Result<Read<usize, Misfit>, AllocError>
         requires samples { samples ≤ 1000 }
         requires at { at + length bytes.now < 2 ^ 63 }
-        ensures value { IfOk result (λ read. read ≡ form.unit shape samples bytes.now at) };
-
-    /// The number of its bytes.
-    fn size(&self) -> usize
-        requires { length (form.bytes self.now) < 2 ^ 62 }
-        ensures value { result ≡ length (form.bytes self.now) };
+        ensures value { IfOk result (λ read. ReadsInto form (form.unit shape samples bytes.now at) self.new read) };
 
     /// The theorems about how records of this kind are read and written.
     fn laws()

@@ -1,9 +1,8 @@
-use Rattle.std.proofs.Common.{[]}
-use Rattle.kt_stream.proofs.Representing.{fresh}
+use Rattle.kt_stream.proofs.Representing.{fresh, fresh_dry}
 use Rattle.kt_stream.proofs.reader.RecordReader.of_shape.Goals as goal
 
-pub invariant_of-result : goal.invariant_of-result
-invariant_of-result g c = record { bytes = []; taken = []; represents = rw c.header_before.ensures (fresh g.E.Entry.form c.args.shape c.new.result.items c.new-2.result.items c.laws.ensures.value.nothing c.new.ensures.items c.new-2.ensures.items) }
-
 pub returns-clause-value : goal.returns-clause-value
-returns-clause-value g c = rw c.header_before.ensures (fresh g.E.Entry.form c.args.shape c.new.result.items c.new-2.result.items c.laws.ensures.value.nothing c.new.ensures.items c.new-2.ensures.items)
+returns-clause-value g c = rw c.header_before.ensures (fresh g.E.Entry.form c.args.shape _ c.new.result.items c.new.ensures.items)
+
+pub returns-clause-rests : goal.returns-clause-rests
+returns-clause-rests g c = rw c.header_before.ensures (fresh_dry g.E.Entry.form c.args.shape _ c.new.result.items c.new.ensures.items c.laws.ensures.value.nothing)

@@ -1,0 +1,20 @@
+use Rattle.std.proofs.Common.{◌+◌, drop, sym, length-drop, arith}
+use Rattle.std.proofs.lemmas.List.{take_rest}
+use Rattle.kt_stream.specs.declared.entry.SummaryRecord.{SummaryRecord}
+use Rattle.kt_stream.proofs.PairsRead.{pairs_got}
+use Rattle.kt_stream.proofs.Summaries.{summary_whole, summary_length}
+use Rattle.kt_stream.proofs.summary.SummaryRecordEntry.read_into.Goals as goal
+
+pub overflow_add-result : goal.overflow_add-result
+overflow_add-result c =
+    let bytes = c.args.bytes.now in
+    let read = rw (take_rest, c.in-Got-2.is) at c.in_ok-read_pairs.ensures in
+    let known = pairs_got (c.args.samples + 4) c.args.samples 0 (drop 16 bytes) (c.args.at + 16) c.read_pairs.new.list read.0 in
+    omega (arith, read.1, known.long, length-drop 16 bytes, c.requires.at)
+
+pub returns-in-Got-2 : goal.returns-in-Got-2
+returns-in-Got-2 c =
+    let read = rw (take_rest, c.in-Got-2.is) at c.in_ok-read_pairs.ensures in
+    let whole = summary_whole c.args.samples c.args.bytes.now c.args.at c.in-Got.front c.read_pairs.new.list (sym c.in-Got.ensures) read.0 in
+    let entry : SummaryRecord = record { event = c.in-Got.front.event; summary = c.in-Got.front.summary; exposure = c.in-Got.front.exposure; pairs = c.read_pairs.new.list } in
+    record { value = (whole, omega (arith, read.1, summary_length entry)) }
