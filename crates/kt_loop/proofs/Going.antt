@@ -12,7 +12,7 @@ use Rattle.kt_ends.specs.declared.status.Refusal.TheVariants.{Stream}
 use Rattle.kt_ends.specs.declared.status.Status.TheVariants.{ReadFault, Refused}
 use Rattle.kt_ends.specs.declared.tool_stop.ToolStop.{ToolStop}
 use Rattle.kt_ends.specs.declared.tool_stop.ToolStop.TheVariants as stop
-use Rattle.kt_loop.specs.Calculation.{Calculation, Course, ending, started, course_of}
+use Rattle.kt_loop.specs.Calculation.{Calculation, Course, started, course_of}
 use Rattle.kt_loop.specs.Contents.{Contents, Grows, IsOpenEnd, refused}
 use Rattle.kt_loop.specs.Given.{Given, GivenFront}
 use Rattle.kt_loop.specs.Outcome.{ended_by, outcome}

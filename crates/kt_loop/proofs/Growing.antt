@@ -1,6 +1,6 @@
 -- Courses over a stream of which more was read.
 use Rattle.std.proofs.Common.{◌≡◌, ℕ, Bool, true, false, List, [], ◌∷◌, ◌++◌, Option, Some, None, Result, Ok, Err, refl, sym, ap, ◌∙◌, subst}
-use Rattle.std.specs.Prelude.{is_some}
+use Rattle.std.specs.Prelude.{is_some, IfOk}
 use Rattle.std.specs.List.{AllByRecursion}
 use Rattle.kt_stream.specs.declared.entry.Placed.{Placed}
 use Rattle.kt_ends.specs.declared.status.Refusal.{Refusal}
@@ -8,7 +8,7 @@ use Rattle.kt_loop.specs.Calculation.{Calculation, Course, started, opened, took
 use Rattle.kt_loop.specs.Carrying.{carried, header_if}
 use Rattle.kt_loop.specs.Contents.{Contents, Grows}
 use Rattle.kt_stream.specs.declared.stop.StreamStop.{StreamStop}
-use Rattle.kt_loop.specs.Reading.{AreGood, IsRead, FeedsBy}
+use Rattle.kt_loop.specs.Reading.{AreGood, IsRead, RestsBy}
 use Rattle.kt_loop.specs.Courses.{took_joined, took_longer}
 use Rattle.kt_loop.proofs.Taking.{stays_refused}
 
@@ -108,15 +108,23 @@ module _ {H E S : Type 0} (calculation : Calculation H E S Refusal) (start : S) 
   refusal_stays before now why grows refused =
       course_refused calculation start before.head now.head before.entries now.entries grows.entries.0 why (record { head_stays = grows.head; headless = grows.headless; records = grows.entries.1 }) refused
 
--- the reader stands for what it was fed, whether the stream is refused or not
-pub fed_stands : {T H E : Type 0} (contents : List ℕ → Contents H E) (represents : List ℕ → List (Placed E) → T → Type 0) (stop : Option StreamStop) (fed : List ℕ) (taken : List (Placed E)) (new : T) → FeedsBy contents represents stop fed taken new → represents fed taken new
-fed_stands contents represents None fed taken new feeds = feeds.stands
-fed_stands contents represents (Some stop) fed taken new feeds = feeds.stands
+-- the reader stands for what it was given, whether the stream is refused or not
+pub rest_stands : {T H E : Type 0} (contents : List ℕ → Contents H E) (represents : List ℕ → List (Placed E) → T → Type 0) (stop : Option StreamStop) (fed : List ℕ) (taken : List (Placed E)) (new : T) → RestsBy contents represents stop fed taken new → represents fed taken new
+rest_stands contents represents None fed taken new feeds = feeds.stands
+rest_stands contents represents (Some stop) fed taken new feeds = feeds.stands
 
--- what a reader stands for after a piece, once all records of it were taken
-pub fed_all : {T H E : Type 0} (contents : List ℕ → Contents H E) (represents : List ℕ → List (Placed E) → T → Type 0) (stop : Option StreamStop) (fed : List ℕ) (taken taken_now : List (Placed E)) (new now : T) → FeedsBy contents represents stop fed taken new → represents fed taken_now now → FeedsBy contents represents stop fed taken_now now
-fed_all contents represents None fed taken taken_now new now feeds stands = record { stands = stands; within = feeds.within; unrefused = feeds.unrefused }
-fed_all contents represents (Some stop) fed taken taken_now new now feeds stands = record { stands = stands; refused = feeds.refused }
+-- what follows from a value follows where there is one
+pub map_ok : {A B : Type 0} (result : Result A B) (P Q : A → Type 0) → ((value : A) → P value → Q value) → IfOk result P → IfOk result Q
+map_ok (Ok value) P Q each holds = each value holds
+map_ok (Err why) P Q each holds = tt
+
+-- without a header no record is still to be read
+pub none_held : {H E : Type 0} (contents grown : Contents H E) (taken held : List (Placed E)) (header : Option H) → Grows contents grown → IsRead contents taken header held → header ≡ None → held ≡ []
+none_held {H} {E} contents grown taken held header grows read none = nothing contents.entries taken held (grows.headless (sym read.head ∙ none)) read.records
+  where
+    nothing : (entries taken held : List (Placed E)) → entries ≡ [] → entries ≡ taken ++ held → held ≡ []
+    nothing entries [] held none records = sym records ∙ none
+    nothing entries (placed ∷ taken) held none records = cc
 
 -- a header that was read before is read still
 pub header_stays : {H E : Type 0} (before now : Contents H E) (header header_now : Option H) (taken taken_now held held_now : List (Placed E)) → IsRead before taken header held → IsRead now taken_now header_now held_now → Grows before now → (known : H) → header ≡ Some known → header_now ≡ Some known

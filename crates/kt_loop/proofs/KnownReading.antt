@@ -1,23 +1,24 @@
 -- The reader that hands over what is known, as a reader of the loop.
 use Rattle.std.proofs.Common.{◌≡◌, List, [], ◌∷◌, ◌++◌, Option, Some, None, Result, Ok, Err, refl, sym, ap, ◌∙◌, subst}
-use Rattle.std.specs.Prelude.{ℕ, IfSome, option_map}
+use Rattle.std.specs.Prelude.{ℕ, IfOk, OnOk, option_map}
 use Rattle.std.specs.List.{AllByRecursion}
 use Rattle.kt_stream.specs.declared.entry.Placed.{Placed}
 use Rattle.kt_stream.specs.declared.kind.Head.{Head}
 use Rattle.kt_stream.specs.declared.kind.Shape.{Shape}
+use Rattle.kt_stream.specs.declared.reader.Next.{Next}
+use Rattle.kt_stream.specs.declared.reader.Next.TheVariants as next
 use Rattle.kt_stream.specs.declared.stop.StreamStop.{StreamStop}
-use Rattle.kt_stream.specs.declared.stop.StreamStop.TheVariants.{OutOfMemory}
 use Rattle.kt_stream.specs.Header.{IsHead}
-use Rattle.kt_stream.specs.Reader.{Reading, IsPlaced}
-use Rattle.kt_stream.specs.Reader.{Feeds as FeedsRecords, Finishes as FinishesRecords}
+use Rattle.kt_stream.specs.Reader.{Reading, Extends, IsPlaced}
+use Rattle.kt_stream.specs.Reader.{Advances as AdvancesRecords, Finishes as FinishesRecords}
 use Rattle.kt_stream.specs.Stream.{Form, stream_of}
 use Rattle.kt_loop.specs.KnownStreams.{StandsKnown, known_beside, known_contents, known_header, with_known, IsKnownHead, IsPlacedKnown}
-use Rattle.kt_loop.specs.Contents.{Contents, Grows, IsOpenEnd, refused}
-use Rattle.kt_loop.specs.Reading.{AreGood, IsRead, Feeds, Finishes}
-use Rattle.kt_loop.specs.RecordStreams.{contents_of, StandsFor}
+use Rattle.kt_loop.specs.Contents.{Contents, Grows, IsOpenEnd, IsRefused}
+use Rattle.kt_loop.specs.Reading.{AreGood, IsRead, Advances, Finishes}
+use Rattle.kt_loop.specs.RecordStreams.{contents_of, StandsFor, reading_held, reading_row, reading_rests}
 use Rattle.kt_loop.specs.declared.known_reader.KnownHead.{KnownHead}
 use Rattle.kt_loop.specs.declared.known_reader.KnownReader.{KnownReader}
-use Rattle.kt_loop.proofs.RecordReading.{Stays, HeadFirst, feeds_so, takes_so, grows_so, read_so}
+use Rattle.kt_loop.proofs.RecordReading.{Stays, HeadFirst, refused_so, unrefused_so, grows_so, read_so}
 use Rattle.kt_loop.proofs.RecordsGood.{good_so}
 
 -- contents with what is known grow as they do without it
@@ -57,42 +58,74 @@ module _ {B E : Type 0} (form : Form E) where
   plain : (it : KnownReader E B) (contents : List ℕ → Contents (KnownHead B) E) (fed : List ℕ) (taken : List (Placed E)) → stood contents fed taken it → StandsFor E form (contents_of form it.reader.shape) fed taken it.reader
   plain it contents fed taken stands = record { is = refl; represents = stands.represents }
 
-  pub feeds_known : (stays : Stays form) (old new : KnownReader E B) (piece : List ℕ) (answer : Result (Unit {0}) StreamStop) → new.known ≡ old.known → FeedsRecords E form old.reader piece answer new.reader → Feeds stood old piece new answer
-  feeds_known stays old new piece (Ok done) same_known feeds = λ contents fed taken stands.
-      let inner = feeds_so form stays old.reader new.reader piece (Ok done) feeds (contents_of form old.reader.shape) fed taken (plain old contents fed taken stands) in
-      record {
-        stands = record { is = carried old new contents same_known feeds.1 stands.is; represents = inner.stands.represents };
-        within = inner.within;
-        unrefused = subst (λ (known : List ℕ → Contents (KnownHead B) E). IsOpenEnd (known (fed ++ piece)).fault) (sym stands.is) inner.unrefused;
-      }
-  feeds_known stays old new piece (Err OutOfMemory) same_known feeds = tt
-  feeds_known stays old new piece (Err stop) same_known feeds = λ contents fed taken stands.
-      let inner = feeds_so form stays old.reader new.reader piece (Err stop) feeds (contents_of form old.reader.shape) fed taken (plain old contents fed taken stands) in
-      record {
-        stands = record { is = carried old new contents same_known feeds.1 stands.is; represents = inner.stands.represents };
-        refused = λ more. ap (λ (known : List ℕ → Contents (KnownHead B) E). known ((fed ++ piece) ++ more)) stands.is ∙ ap (known_beside old.known) (inner.refused more) ∙ ap (λ (known : List ℕ → Contents (KnownHead B) E). refused (known (fed ++ piece)) stop) (sym stands.is);
-      }
+  pub feeds_known : {A C : Type 0} (old new : KnownReader E B) (piece : List ℕ) (result : Result A C) → new.known ≡ old.known → OnOk result (Extends E form old.reader piece new.reader) → OnOk result (new.reader.shape ≡ old.reader.shape)
+      → OnOk result ((contents : List ℕ → Contents (KnownHead B) E) (fed : List ℕ) (taken : List (Placed E)) → stood contents fed taken old → stood contents (fed ++ piece) taken new)
+  feeds_known old new piece (Ok done) same_known extends same = λ contents fed taken stands. record { is = carried old new contents same_known same stands.is; represents = extends fed taken stands.represents }
+  feeds_known old new piece (Err why) same_known extends same = tt
+
+  -- the header, the record that was read last, and so on of a reader
+  abbrev header_of : KnownReader E B → Option (KnownHead B)
+  header_of it = known_header it.known it.reader
+
+  abbrev held_of : KnownReader E B → List (Placed E)
+  held_of it = reading_held form it.reader
+
+  abbrev row_of : KnownReader E B → Placed E
+  row_of it = reading_row it.reader
+
+  abbrev rests_of : KnownReader E B → Type 0
+  rests_of it = reading_rests form it.reader
+
+  same_header : (old new : KnownReader E B) → new.known ≡ old.known → new.reader.head ≡ old.reader.head → header_of new ≡ header_of old
+  same_header old new same_known same = ap (λ b. known_header b new.reader) same_known ∙ ap (option_map (with_known old.known)) same
+
+  refused_known : (known : B) (shape : Shape) (fed : List ℕ) (stop : StreamStop) → IsRefused (contents_of form shape) fed stop → IsRefused (known_contents form known shape) fed stop
+  refused_known known shape fed stop refuses more = ap (known_beside known) (refuses more)
+
+  by_next : (Good : Shape → ℕ → E → Type 0) (old new : KnownReader E B) (next : Next) → new.known ≡ old.known → AdvancesRecords E form Good old.reader next new.reader → Advances stood header_of held_of row_of rests_of old new next
+  by_next Good old new next.Record same_known by = record {
+    first = by.first;
+    stands = λ contents fed taken stands. record { is = carried old new contents same_known by.shape stands.is; represents = by.stands fed taken stands.represents };
+    header = same_header old new same_known by.head;
+  }
+  by_next Good old new next.Rest same_known by = record {
+    none = by.none;
+    ends = λ contents fed taken stands. record {
+      stands = record { is = carried old new contents same_known by.shape stands.is; represents = by.stands fed taken stands.represents };
+      within = (by.ends fed taken stands.represents).within;
+      unrefused = subst (λ (known : List ℕ → Contents (KnownHead B) E). IsOpenEnd (known fed).fault) (sym (carried old new contents same_known by.shape stands.is)) (unrefused_so form new.reader.shape fed new.reader.head new.reader.pending (by.ends fed taken stands.represents).end);
+    };
+    rests = by.rests;
+    header = same_header old new same_known by.head;
+  }
+  by_next Good old new (next.Stop stop) same_known by = record {
+    none = by.none;
+    ends = λ contents fed taken stands. record {
+      stands = record { is = carried old new contents same_known by.shape stands.is; represents = by.stands fed taken stands.represents };
+      refused = subst (λ (known : List ℕ → Contents (KnownHead B) E). IsRefused known fed stop) (sym (carried old new contents same_known by.shape stands.is))
+          (refused_known new.known new.reader.shape fed stop (refused_so form new.reader.shape fed new.reader.head taken stop (by.refuses fed taken stands.represents)));
+    };
+    rests = by.rests;
+    header = same_header old new same_known by.head;
+  }
+
+  pub advances_known : {C : Type 0} (Good : Shape → ℕ → E → Type 0) (old new : KnownReader E B) (result : Result Next C) → new.known ≡ old.known → IfOk result (λ next. AdvancesRecords E form Good old.reader next new.reader) → IfOk result (λ next. Advances stood header_of held_of row_of rests_of old new next)
+  advances_known Good old new (Ok next) same_known by = by_next Good old new next same_known by
+  advances_known Good old new (Err why) same_known by = tt
 
   pub finishes_known : (it : KnownReader E B) (answer : Result (Unit {0}) StreamStop) → FinishesRecords E form it.reader answer → Finishes stood it answer
   finishes_known it (Ok done) ends = λ contents fed taken stands. ap (λ (known : List ℕ → Contents (KnownHead B) E). (known fed).fault) stands.is ∙ ends fed taken stands.represents
   finishes_known it (Err stop) ends = λ contents fed taken stands. ap (λ (known : List ℕ → Contents (KnownHead B) E). (known fed).fault) stands.is ∙ ends.1 fed taken stands.represents
-
-  pub takes_known : (old new : KnownReader E B) (result : Option (Placed E)) → IfSome result (λ first. old.reader.held ≡ first ∷ new.reader.held) → new.known ≡ old.known → new.reader ≡ record old.reader { held = new.reader.held }
-      → IfSome result (λ first. (contents : List ℕ → Contents (KnownHead B) E) (fed : List ℕ) (taken : List (Placed E)) → stood contents fed taken old → stood contents fed (taken ++ first ∷ []) new)
-  takes_known old new None found same_known same = tt
-  takes_known old new (Some first) found same_known same = λ contents fed taken stands.
-      let inner = takes_so form old.reader new.reader first found same (contents_of form old.reader.shape) fed taken (plain old contents fed taken stands) in
-      record { is = carried old new contents same_known (ap (λ (r : Reading E). r.shape) same) stands.is; represents = inner.represents }
 
   pub grows_known : (stays : Stays form) (first : HeadFirst form) (contents : List ℕ → Contents (KnownHead B) E) (fed : List ℕ) (taken : List (Placed E)) (it : KnownReader E B) → stood contents fed taken it → (bytes more : List ℕ) → Grows (contents bytes) (contents (bytes ++ more))
   grows_known stays first contents fed taken it stands bytes more =
       let inner = grows_so form stays first (contents_of form it.reader.shape) fed taken it.reader (plain it contents fed taken stands) bytes more in
       subst (λ (known : List ℕ → Contents (KnownHead B) E). Grows (known bytes) (known (bytes ++ more))) (sym stands.is) (known_grows it.known _ _ inner)
 
-  pub read_known : (contents : List ℕ → Contents (KnownHead B) E) (fed : List ℕ) (taken : List (Placed E)) (it : KnownReader E B) → stood contents fed taken it → IsRead (contents fed) taken (known_header it.known it.reader) it.reader.held
+  pub read_known : (contents : List ℕ → Contents (KnownHead B) E) (fed : List ℕ) (taken : List (Placed E)) (it : KnownReader E B) → stood contents fed taken it → IsRead (contents fed) taken (known_header it.known it.reader) (reading_held form it.reader)
   read_known contents fed taken it stands =
       let inner = read_so form (contents_of form it.reader.shape) fed taken it.reader (plain it contents fed taken stands) in
-      subst (λ (known : List ℕ → Contents (KnownHead B) E). IsRead (known fed) taken (known_header it.known it.reader) it.reader.held) (sym stands.is) (record { head = ap (option_map (with_known it.known)) inner.head; records = inner.records })
+      subst (λ (known : List ℕ → Contents (KnownHead B) E). IsRead (known fed) taken (known_header it.known it.reader) (reading_held form it.reader)) (sym stands.is) (record { head = ap (option_map (with_known it.known)) inner.head; records = inner.records })
 
   pub good_known : (Good : Shape → ℕ → E → Type 0)
       → ((shape : Shape) (bytes : List ℕ) (head : Head) → (stream_of form shape bytes).head ≡ Some head → IsHead shape.kind head × AllByRecursion (IsPlaced E form Good shape head) (stream_of form shape bytes).entries)

@@ -1,12 +1,11 @@
 -- Streams that hold the records of events one after the other, as bytes.
 -- The rules: docs/STREAMS.md, "Records" and "Runs".
-use Rattle.std.proofs.Common.{◌≡◌, ℕ, ◌+◌, ◌≤◌, List, [], ◌∷◌, ◌++◌, length, Some, None, refl, sym, ap, ◌∙◌, append_assoc, length-append, flat_map, arith}
+use Rattle.std.proofs.Common.{◌≡◌, ℕ, ◌≤◌, List, [], ◌∷◌, ◌++◌, length, Some, None, refl, sym, ap, ◌∙◌, append_assoc, length-append, flat_map, arith}
 use Rattle.std.specs.List.{AllByRecursion}
 use Rattle.std.proofs.lemmas.Grind.{flat_map-append}
 use Rattle.kt_stream.specs.Grammar.{Spells, placed_from, records_bytes, spelled}
 use Rattle.kt_stream.specs.Header.{IsHead, header_bytes, header_size}
 use Rattle.kt_stream.specs.Stream.{Form, Stream, fault_at, stream_limit, stream_of}
-use Rattle.kt_stream.specs.declared.entry.Placed.{Placed}
 use Rattle.kt_stream.specs.declared.kind.Head.{Head}
 use Rattle.kt_stream.specs.declared.kind.Shape.{Shape}
 use Rattle.kt_loop.specs.Contents.{Contents}

@@ -25,7 +25,7 @@ known_beside known contents = record { head = option_map (with_known known) cont
 abbrev pub known_contents : {B E : Type 0} → Form E → B → Shape → List ℕ → Contents (KnownHead B) E
 known_contents form known shape bytes = known_beside known (contents_of form shape bytes)
 
--- The reader reads streams that hold this, was given these bytes, and these records were taken from it.
+-- The reader reads streams that hold this, was given these bytes, and these records were read by it.
 pub record StandsKnown (E B : Type 0) (form : Form E) (known : B) (contents : List ℕ → Contents (KnownHead B) E) (fed : List ℕ) (taken : List (Placed E)) (reading : Reading E) : Type 0 where
   pub is : contents ≡ known_contents form known reading.shape
   pub represents : Represents E form fed taken reading

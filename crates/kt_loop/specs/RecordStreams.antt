@@ -4,7 +4,7 @@ use Rattle.std.specs.Prelude.{◌≡◌, ℕ, List, Option}
 use Rattle.kt_stream.specs.declared.entry.Placed.{Placed}
 use Rattle.kt_stream.specs.declared.kind.Head.{Head}
 use Rattle.kt_stream.specs.declared.kind.Shape.{Shape}
-use Rattle.kt_stream.specs.Reader.{Reading, Represents}
+use Rattle.kt_stream.specs.Reader.{Reading, Represents, IsRested, held}
 use Rattle.kt_stream.specs.Stream.{Form, stream_of, fault_of}
 use Rattle.kt_loop.specs.Contents.{Contents}
 
@@ -12,7 +12,7 @@ use Rattle.kt_loop.specs.Contents.{Contents}
 abbrev pub contents_of : {E : Type 0} → Form E → Shape → List ℕ → Contents Head E
 contents_of form shape bytes = record { head = (stream_of form shape bytes).head; entries = (stream_of form shape bytes).entries; fault = fault_of form shape bytes }
 
--- The reader reads streams that hold this, was given these bytes, and these records were taken from it.
+-- The reader reads streams that hold this, was given these bytes, and these records were read by it.
 pub record StandsFor (E : Type 0) (form : Form E) (contents : List ℕ → Contents Head E) (fed : List ℕ) (taken : List (Placed E)) (reading : Reading E) : Type 0 where
   pub is : contents ≡ contents_of form reading.shape
   pub represents : Represents E form fed taken reading
@@ -20,5 +20,11 @@ pub record StandsFor (E : Type 0) (form : Form E) (contents : List ℕ → Conte
 abbrev pub reading_header : {E : Type 0} → Reading E → Option Head
 reading_header reading = reading.head
 
-abbrev pub reading_held : {E : Type 0} → Reading E → List (Placed E)
-reading_held reading = reading.held
+abbrev pub reading_held : {E : Type 0} → Form E → Reading E → List (Placed E)
+reading_held form reading = held form reading
+
+abbrev pub reading_row : {E : Type 0} → Reading E → Placed E
+reading_row reading = reading.row
+
+abbrev pub reading_rests : {E : Type 0} → Form E → Reading E → Type 0
+reading_rests form reading = IsRested _ form reading

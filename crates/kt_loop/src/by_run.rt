@@ -22,11 +22,12 @@ ghost use Rattle.kt_loop.specs.Steps.{StepsBy};
 use crate::reader::StreamReader;
 use crate::run::run_stage;
 use crate::run_key::{RunRecord, goes_on_run};
+use crate::run_list::RunList;
 use crate::stage::Stage;
 use kt_ends::ToolStop;
 use kt_money::Bytes;
 use kt_out::{Sink, Source};
-use kt_stream::Placed;
+use kt_stream::{Placed, Reusable};
 use std::alloc::Global;
 
 /// A stage that gives, for a record behind those of its run, a refusal, and for the records of a closed run, the
@@ -102,7 +103,7 @@ pub trait RunStage<H, E: RunRecord, W> {
 #[derive(Drop)]
 struct ByRun<E, C> {
     stage: C,
-    run: Vec<Placed<E>>,
+    run: RunList<E>,
 }
 
 /// Whether a record goes on a run.
@@ -117,25 +118,25 @@ fn joins_run<E: RunRecord>(run: &[Placed<E>], placed: &Placed<E>) -> bool
 }
 
 /// Judges a record, and keeps it behind those of its run.
-fn judge_next<H: Copy, E: RunRecord + Drop, W, C: RunStage<H, E, W>>(
+fn judge_next<H: Copy, E: RunRecord + Reusable, W, C: RunStage<H, E, W>>(
     it: &mut ByRun<E, C>,
     beside: &mut W,
     head: H,
-    placed: Placed<E>,
+    placed: &Placed<E>,
 ) -> Result<(), ToolStop>
     requires accepted { C.accepts head }
-    requires good { AllByRecursion (C.is_good head) it.old.run.items }
-    requires next { C.is_good head placed }
-    requires rising { IsRun E.key (it.old.run.items ++ placed ∷ []) }
-    requires ready { C.is_ready (Some head) it.old.run.items it.old.stage beside.old }
+    requires good { AllByRecursion (C.is_good head) it.old.run }
+    requires next { C.is_good head placed.now }
+    requires rising { IsRun E.key (it.old.run ++ placed.now ∷ []) }
+    requires ready { C.is_ready (Some head) it.old.run it.old.stage beside.old }
 
-    ensures step { (kept : C.Kept) → C.is_at kept it.old.stage beside.old → StepsBy (unwritten (judged kept it.old.run.items placed (C.runs.refuses head kept it.old.run.items placed))) (λ next. C.is_at next.kept it.new.stage beside.new × (it.new.run.items ≡ next.run)) [] [] result }
-    ensures good { OnOk result (AllByRecursion (C.is_good head) it.new.run.items) }
-    ensures rising { OnOk result (IsRun E.key it.new.run.items) }
-    ensures ready { OnOk result (C.is_ready (Some head) it.new.run.items it.new.stage beside.new) }
+    ensures step { (kept : C.Kept) → C.is_at kept it.old.stage beside.old → StepsBy (unwritten (judged kept it.old.run placed.now (C.runs.refuses head kept it.old.run placed.now))) (λ next. C.is_at next.kept it.new.stage beside.new × (it.new.run ≡ next.run)) [] [] result }
+    ensures good { OnOk result (AllByRecursion (C.is_good head) it.new.run) }
+    ensures rising { OnOk result (IsRun E.key it.new.run) }
+    ensures ready { OnOk result (C.is_ready (Some head) it.new.run it.new.stage beside.new) }
     ensures counted { (others : InputsState) → Consults (C.inputs others beside.old) (C.inputs others beside.new) result }
 {
-    if let Err(why) = it.stage.judge(beside, head, it.run.as_slice(), &placed) {
+    if let Err(why) = it.stage.judge(beside, head, it.run.as_slice(), placed) {
         return Err(why);
     }
     if it.run.push(placed).is_err() {
@@ -145,33 +146,33 @@ fn judge_next<H: Copy, E: RunRecord + Drop, W, C: RunStage<H, E, W>>(
 }
 
 /// Closes the open run, if there is one.
-fn close_open<H: Copy, E: RunRecord + Drop, W, C: RunStage<H, E, W>>(
+fn close_open<H: Copy, E: RunRecord + Reusable, W, C: RunStage<H, E, W>>(
     it: &mut ByRun<E, C>,
     beside: &mut W,
     head: H,
     out: &mut Bytes,
 ) -> Result<(), ToolStop>
     requires accepted { C.accepts head }
-    requires good { AllByRecursion (C.is_good head) it.old.run.items }
-    requires rising { IsRun E.key it.old.run.items }
-    requires ready { C.is_ready (Some head) it.old.run.items it.old.stage beside.old }
+    requires good { AllByRecursion (C.is_good head) it.old.run }
+    requires rising { IsRun E.key it.old.run }
+    requires ready { C.is_ready (Some head) it.old.run it.old.stage beside.old }
 
-    ensures closed { (kept : C.Kept) → C.is_at kept it.old.stage beside.old → ClosesBy (closing C.runs head kept it.old.run.items) (C.is_at kept it.new.stage beside.new) out.old out.new result }
-    ensures emptied { OnOk result (it.new.run.items ≡ []) }
+    ensures closed { (kept : C.Kept) → C.is_at kept it.old.stage beside.old → ClosesBy (closing C.runs head kept it.old.run) (C.is_at kept it.new.stage beside.new) out.old out.new result }
+    ensures emptied { OnOk result (it.new.run ≡ []) }
     ensures ready { OnOk result (C.is_ready (Some head) [] it.new.stage beside.new) }
     ensures counted { (others : InputsState) → Consults (C.inputs others beside.old) (C.inputs others beside.new) result }
 {
-    if it.run.is_empty() {
+    if it.run.as_slice().is_empty() {
         return Ok(());
     }
     if let Err(why) = it.stage.close(beside, head, it.run.as_slice(), out) {
         return Err(why);
     }
-    it.run.truncate(0);
+    it.run.clear();
     Ok(())
 }
 
-impl<H: Copy, E: RunRecord + Drop, W, C: RunStage<H, E, W>> Stage<H, E, W> for ByRun<E, C> {
+impl<H: Copy, E: RunRecord + Reusable, W, C: RunStage<H, E, W>> Stage<H, E, W> for ByRun<E, C> {
     ghost use Rattle.std.specs.Prelude.{◌≡◌, []};
     ghost use Rattle.std.specs.List.{AllByRecursion};
     ghost use Rattle.kt_loop.specs.ByRun.{OpenRun, by_run};
@@ -182,9 +183,9 @@ impl<H: Copy, E: RunRecord + Drop, W, C: RunStage<H, E, W>> Stage<H, E, W> for B
 
     ghost calculation = { by_run E.key C.runs };
 
-    ghost is_at = { λ state it beside. C.is_at state.kept it.stage beside × (it.run.items ≡ state.run) };
+    ghost is_at = { λ state it beside. C.is_at state.kept it.stage beside × (it.run ≡ state.run) };
 
-    ghost is_ready = { λ header it beside. C.is_ready header it.run.items it.stage beside × (IsReady C.is_good header it.run.items × IsRun E.key it.run.items) };
+    ghost is_ready = { λ header it beside. C.is_ready header it.run it.stage beside × (IsReady C.is_good header it.run × IsRun E.key it.run) };
 
     ghost accepts = { C.accepts };
 
@@ -200,12 +201,10 @@ impl<H: Copy, E: RunRecord + Drop, W, C: RunStage<H, E, W>> Stage<H, E, W> for B
         &mut self,
         beside: &mut W,
         head: H,
-        at: u64,
-        entry: E,
+        placed: &Placed<E>,
         out: &mut Bytes,
     ) -> Result<(), ToolStop> {
-        let placed = Placed { at, entry };
-        if joins_run(self.run.as_slice(), &placed) {
+        if joins_run(self.run.as_slice(), placed) {
             return judge_next(self, beside, head, placed);
         }
         if let Err(why) = close_open(self, beside, head, out) {
@@ -231,7 +230,7 @@ pub fn run_by_run<R: StreamReader, W, C: RunStage<R::Head, R::Entry, W> + Drop, 
     sink: &mut K,
 ) -> Result<(), ToolStop>
 where
-    R::Entry: RunRecord + Drop,
+    R::Entry: RunRecord + Reusable,
     requires fresh { IsFresh R.represents reader.old }
     requires good { ReadsGood R.represents C.accepts C.is_good [] reader.old }
     requires ready { C.is_ready None [] stage beside.old }
@@ -240,7 +239,7 @@ where
 {
     let mut by_run = ByRun {
         stage,
-        run: Vec::new(alloc),
+        run: RunList::new(alloc),
     };
     run_stage(alloc, reader, &mut by_run, beside, source, sink)
 }

@@ -1,6 +1,6 @@
-//! Carrying a calculation on with what a reader holds.
+//! Carrying a calculation on with the records that a reader reads.
 //! The rules: docs/STREAMS.md, "Tools over streams".
-ghost use Rattle.std.specs.Prelude.{◌≡◌, ℕ, true, false, List, [], ◌∷◌, ◌++◌, Option, Some, None, OnOk};
+ghost use Rattle.std.specs.Prelude.{◌≡◌, ℕ, true, false, List, [], ◌∷◌, ◌++◌, Option, Some, None, IfOk, OnOk};
 ghost use Rattle.std.specs.List.{AllByRecursion};
 ghost use Rattle.kt_out.specs.InputFiles.{InputsState};
 ghost use Rattle.kt_stream.specs.declared.entry.Placed.{Placed};
@@ -9,7 +9,7 @@ ghost use Rattle.kt_loop.specs.Calculation.{Course, opened, took, took_all};
 ghost use Rattle.kt_loop.specs.Carrying.{carried, header_if};
 ghost use Rattle.kt_loop.specs.Contents.{Contents};
 ghost use Rattle.kt_loop.specs.Counts.{Counts};
-ghost use Rattle.kt_loop.specs.Reading.{AreGood};
+ghost use Rattle.kt_loop.specs.Reading.{AreGood, RestsBy};
 ghost use Rattle.kt_loop.specs.Steps.{Stands, Comes};
 
 use crate::reader::StreamReader;
@@ -18,7 +18,8 @@ use crate::stage::Stage;
 use kt_ends::ToolStop;
 use kt_money::Bytes;
 use kt_out::Sink;
-use kt_stream::Placed;
+use kt_stream::{Next, Placed, StreamStop};
+use std::alloc::AllocError;
 
 /// Where so many bytes are pending they are written, so that the memory is bounded whatever the stream.
 const SPILL: usize = 65_536;
@@ -46,20 +47,19 @@ fn take_one<H, E, W, T: Stage<H, E, W>, K: Sink>(
     stage: &mut T,
     beside: &mut W,
     head: H,
-    placed: Placed<E>,
+    placed: &Placed<E>,
     sink: &mut K,
     out: &mut Bytes,
 ) -> Result<(), ToolStop>
     requires accepted { T.accepts head }
-    requires good { T.is_good head placed }
+    requires good { T.is_good head placed.now }
     requires ready { T.is_ready (Some head) stage.old beside.old }
 
-    ensures course { (before : Option (List ℕ)) (course : Course T.State Refusal) → Stands (λ state. T.is_at state stage.old beside.old) before (K.state sink.old).taken out.old course → Comes (λ state. T.is_at state stage.new beside.new) before (K.state sink.new).taken out.new (took T.calculation head course placed) result }
+    ensures course { (before : Option (List ℕ)) (course : Course T.State Refusal) → Stands (λ state. T.is_at state stage.old beside.old) before (K.state sink.old).taken out.old course → Comes (λ state. T.is_at state stage.new beside.new) before (K.state sink.new).taken out.new (took T.calculation head course placed.now) result }
     ensures ready { OnOk result (T.is_ready (Some head) stage.new beside.new) }
     ensures counted { (others : InputsState) → Counts (T.inputs others beside.old) (T.inputs others beside.new) (K.state sink.old).faults (K.state sink.new).faults result }
 {
-    let Placed { at, entry } = placed;
-    if let Err(stop) = stage.take(beside, head, at, entry, out) {
+    if let Err(stop) = stage.take(beside, head, placed, out) {
         return Err(stop);
     }
     if out.len() < SPILL {
@@ -68,7 +68,7 @@ fn take_one<H, E, W, T: Stage<H, E, W>, K: Sink>(
     spill(sink, out)
 }
 
-/// Takes all records that the reader holds, one after the other.
+/// Takes all records that are still to be read, one after the other: what refuses the stream behind them, if anything does.
 fn take_held<R: StreamReader, W, T: Stage<R::Head, R::Entry, W>, K: Sink>(
     reader: &mut R,
     stage: &mut T,
@@ -76,27 +76,52 @@ fn take_held<R: StreamReader, W, T: Stage<R::Head, R::Entry, W>, K: Sink>(
     head: R::Head,
     sink: &mut K,
     out: &mut Bytes,
-) -> Result<(), ToolStop>
+) -> Result<Option<StreamStop>, ToolStop>
     requires accepted { T.accepts head }
     requires good { AllByRecursion (T.is_good head) (R.held reader.old) }
     requires ready { T.is_ready (Some head) stage.old beside.old }
 
     ensures course { (before : Option (List ℕ)) (course : Course T.State Refusal) → Stands (λ state. T.is_at state stage.old beside.old) before (K.state sink.old).taken out.old course → Comes (λ state. T.is_at state stage.new beside.new) before (K.state sink.new).taken out.new (took_all T.calculation head course (R.held reader.old)) result }
-    ensures taken { OnOk result ((contents : List ℕ → Contents R.Head R.Entry) (fed : List ℕ) (taken : List (Placed R.Entry)) → R.represents contents fed taken reader.old → R.represents contents fed (taken ++ R.held reader.old) reader.new) }
-    ensures header { R.header reader.new ≡ R.header reader.old }
+    ensures taken { IfOk result (λ stop. (contents : List ℕ → Contents R.Head R.Entry) (fed : List ℕ) (taken : List (Placed R.Entry)) → R.represents contents fed taken reader.old → RestsBy contents (R.represents contents) stop fed (taken ++ R.held reader.old) reader.new) }
+    ensures rests { OnOk result (R.rests reader.new) }
+    ensures header { OnOk result (R.header reader.new ≡ R.header reader.old) }
     ensures ready { OnOk result (T.is_ready (Some head) stage.new beside.new) }
     ensures counted { (others : InputsState) → Counts (T.inputs others beside.old) (T.inputs others beside.new) (K.state sink.old).faults (K.state sink.new).faults result }
 {
-    'records: while let Some(placed) = reader.take() {
-        if let Err(stop) = take_one(stage, beside, head, placed, sink, out) {
-            return Err(stop);
+    'records: loop {
+        let next = match reader.advance() {
+            Ok(next) => next,
+            Err(_) => return Err(ToolStop::NoMemory),
+        };
+        match next {
+            Next::Record => {
+                if let Err(stop) = take_one(stage, beside, head, reader.record(), sink, out) {
+                    return Err(stop);
+                }
+            }
+            Next::Rest => return Ok(None),
+            Next::Stop(stop) => return Ok(Some(stop)),
         }
     }
-    Ok(())
 }
 
-/// Carries on with all that the reader holds: opens the stage where the header is there and was not before, and takes
-/// the records.
+/// What refuses the stream, if anything does, where no record is still to be read.
+fn stop_at_rest<R: StreamReader>(reader: &mut R) -> Result<Option<StreamStop>, AllocError>
+    requires none { R.held reader.old ≡ [] }
+
+    ensures taken { IfOk result (λ stop. (contents : List ℕ → Contents R.Head R.Entry) (fed : List ℕ) (taken : List (Placed R.Entry)) → R.represents contents fed taken reader.old → RestsBy contents (R.represents contents) stop fed taken reader.new) }
+    ensures rests { OnOk result (R.rests reader.new) }
+    ensures header { OnOk result (R.header reader.new ≡ R.header reader.old) }
+{
+    match reader.advance()? {
+        Next::Record => unreachable!(),
+        Next::Rest => Ok(None),
+        Next::Stop(stop) => Ok(Some(stop)),
+    }
+}
+
+/// Carries on with all that the reader reads: opens the stage where the header is there and was not before, and takes
+/// the records. Answers what refuses the stream behind them, if anything does.
 pub(crate) fn carry_on<R: StreamReader, W, T: Stage<R::Head, R::Entry, W>, K: Sink>(
     was_open: bool,
     reader: &mut R,
@@ -104,20 +129,22 @@ pub(crate) fn carry_on<R: StreamReader, W, T: Stage<R::Head, R::Entry, W>, K: Si
     beside: &mut W,
     sink: &mut K,
     out: &mut Bytes,
-) -> Result<(), ToolStop>
+) -> Result<Option<StreamStop>, ToolStop>
     requires good { AreGood T.accepts T.is_good (R.header reader.old) (R.held reader.old) }
+    requires headless { R.header reader.old ≡ None → R.held reader.old ≡ [] }
     requires ready { T.is_ready (header_if was_open (R.header reader.old)) stage.old beside.old }
 
     ensures course { (before : Option (List ℕ)) (course : Course T.State Refusal) → Stands (λ state. T.is_at state stage.old beside.old) before (K.state sink.old).taken out.old course → Comes (λ state. T.is_at state stage.new beside.new) before (K.state sink.new).taken out.new (carried T.calculation was_open (R.header reader.old) course (R.held reader.old)) result }
-    ensures taken { OnOk result ((contents : List ℕ → Contents R.Head R.Entry) (fed : List ℕ) (taken : List (Placed R.Entry)) → R.represents contents fed taken reader.old → R.represents contents fed (contents fed).entries reader.new) }
-    ensures header { R.header reader.new ≡ R.header reader.old }
+    ensures taken { IfOk result (λ stop. (contents : List ℕ → Contents R.Head R.Entry) (fed : List ℕ) (taken : List (Placed R.Entry)) → R.represents contents fed taken reader.old → RestsBy contents (R.represents contents) stop fed (taken ++ R.held reader.old) reader.new) }
+    ensures rests { OnOk result (R.rests reader.new) }
     ensures ready { OnOk result (T.is_ready (R.header reader.new) stage.new beside.new) }
     ensures counted { (others : InputsState) → Counts (T.inputs others beside.old) (T.inputs others beside.new) (K.state sink.old).faults (K.state sink.new).faults result }
 {
-    R::what_is_read_stays();
-    R::what_is_held_was_read();
     let Some(head) = reader.head() else {
-        return Ok(());
+        return match stop_at_rest(reader) {
+            Ok(stop) => Ok(stop),
+            Err(_) => Err(ToolStop::NoMemory),
+        };
     };
     if was_open {
         return take_held(reader, stage, beside, head, sink, out);

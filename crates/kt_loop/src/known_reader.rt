@@ -1,7 +1,8 @@
 //! A reader of records that hands something over with the header on which a stage stands.
 //! The rules: docs/STREAMS.md, "Readers".
 use crate::reader::StreamReader;
-use kt_stream::{Entry, Head, Placed, RecordReader, StreamStop, laws};
+use kt_stream::{Entry, Head, Next, Placed, RecordReader, StreamStop, laws};
+use std::alloc::AllocError;
 
 /// The header of a stream, with what else is known of its records.
 #[derive(Clone, Copy)]
@@ -24,7 +25,7 @@ pub struct KnownReader<E: Entry, B> {
 
 impl<E: Entry, B: Copy> StreamReader for KnownReader<E, B> {
     ghost use Rattle.kt_loop.specs.KnownStreams.{StandsKnown, known_header};
-    ghost use Rattle.kt_loop.specs.RecordStreams.{reading_held};
+    ghost use Rattle.kt_loop.specs.RecordStreams.{reading_held, reading_row, reading_rests};
 
     type Head = KnownHead<B>;
 
@@ -34,7 +35,11 @@ impl<E: Entry, B: Copy> StreamReader for KnownReader<E, B> {
 
     ghost header = { λ it. known_header it.known it.reader };
 
-    ghost held = { λ it. reading_held it.reader };
+    ghost held = { λ it. reading_held E.form it.reader };
+
+    ghost row = { λ it. reading_row it.reader };
+
+    ghost rests = { λ it. reading_rests E.form it.reader };
 
     fn head(&self) -> Option<KnownHead<B>> {
         match self.reader.head() {
@@ -46,17 +51,20 @@ impl<E: Entry, B: Copy> StreamReader for KnownReader<E, B> {
         }
     }
 
-    fn feed(&mut self, piece: &[u8]) -> Result<(), StreamStop> {
-        laws::what_is_read_stays::<E>();
+    fn feed(&mut self, piece: &[u8]) -> Result<(), AllocError> {
         self.reader.feed(piece)
     }
 
-    fn finish(&mut self) -> Result<(), StreamStop> {
-        self.reader.finish()
+    fn advance(&mut self) -> Result<Next, AllocError> {
+        self.reader.advance()
     }
 
-    fn take(&mut self) -> Option<Placed<E>> {
-        self.reader.take()
+    fn record(&self) -> &Placed<E> {
+        self.reader.record()
+    }
+
+    fn finish(&self) -> Result<(), StreamStop> {
+        self.reader.finish()
     }
 
     fn what_is_read_stays() {

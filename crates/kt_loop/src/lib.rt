@@ -11,6 +11,7 @@ mod reader;
 mod record_reader;
 mod run;
 mod run_key;
+mod run_list;
 mod spill;
 mod stage;
 mod turn;

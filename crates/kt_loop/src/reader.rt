@@ -1,13 +1,14 @@
 //! A reader of a stream of any kind, as the loop uses it.
 //! The rules: docs/STREAMS.md, "Readers".
-ghost use Rattle.std.specs.Prelude.{◌≡◌, ◌∷◌, [], ◌++◌, ℕ, List, Option, IfSome, IfNone};
+ghost use Rattle.std.specs.Prelude.{◌≡◌, ◌++◌, ℕ, List, Option, IfOk, OnOk};
 ghost use Rattle.kt_stream.specs.declared.entry.Placed.{Placed};
 ghost use Rattle.kt_loop.specs.Contents.{Contents, Grows};
-ghost use Rattle.kt_loop.specs.Reading.{IsRead, Feeds, Finishes};
+ghost use Rattle.kt_loop.specs.Reading.{IsRead, Advances, Finishes};
 
-use kt_stream::{Placed, StreamStop};
+use kt_stream::{Next, Placed, StreamStop};
+use std::alloc::AllocError;
 
-/// A reader of a stream, which is fed pieces of any size and holds the whole records that were not taken yet.
+/// A reader of a stream, which is fed pieces of any size and reads the next record when it is asked.
 pub trait StreamReader {
     /// The header of a stream.
     type Head: Copy;
@@ -16,45 +17,47 @@ pub trait StreamReader {
     type Entry;
 
     /// The reader reads streams that hold this, by their bytes. It was given these bytes, in whatever pieces, and
-    /// these records were taken from it.
+    /// these records were read by it.
     ghost represents: { (List ℕ → Contents Self.Head Self.Entry) → List ℕ → List (Placed Self.Entry) → Self → Type 0 };
 
     /// The header, once it is whole and good.
     ghost header: { Self → Option Self.Head };
 
-    /// The whole records that were not taken yet.
+    /// The whole records that are still to be read.
     ghost held: { Self → List (Placed Self.Entry) };
+
+    /// The record that was read last.
+    ghost row: { Self → Placed Self.Entry };
+
+    /// All whole records were read, and what refuses the bytes is known.
+    ghost rests: { Self → Type 0 };
 
     /// The header, once it is whole and good.
     fn head(&self) -> Option<Self::Head>
         ensures { result ≡ header self.now };
 
-    /// Takes the next piece of the stream. What is wrong is refused, and so is each later piece; the whole records
-    /// before can still be taken.
-    fn feed(&mut self, piece: &[u8]) -> Result<(), StreamStop>
-        ensures { Feeds represents self.old piece.now self.new result };
+    /// Takes the next piece of the stream.
+    fn feed(&mut self, piece: &[u8]) -> Result<(), AllocError>
+        ensures { OnOk result ((contents : List ℕ → Contents Self.Head Self.Entry) (fed : List ℕ) (taken : List (Placed Self.Entry)) → represents contents fed taken self.old → represents contents (fed ++ piece.now) taken self.new) };
+
+    /// Reads the next record, if one is whole.
+    fn advance(&mut self) -> Result<Next, AllocError>
+        ensures { IfOk result (λ next. Advances represents header held row rests self.old self.new next) };
+
+    /// The record that was read last.
+    fn record(&self) -> &Placed<Self::Entry>
+        ensures { result.now ≡ row self.now };
 
     /// Says that the stream ends here: Ok exactly where the bytes are a whole stream.
-    fn finish(&mut self) -> Result<(), StreamStop>
-        ensures exact { Finishes represents self.old result }
-
-        ensures unchanged { self.new ≡ self.old };
-
-    /// The next whole record, if one is held.
-    fn take(&mut self) -> Option<Placed<Self::Entry>>
-        ensures found { IfSome result (λ first. held self.old ≡ first ∷ held self.new) }
-        ensures stands { IfSome result (λ first. (contents : List ℕ → Contents Self.Head Self.Entry) (fed : List ℕ) (taken : List (Placed Self.Entry)) → represents contents fed taken self.old → represents contents fed (taken ++ first ∷ []) self.new) }
-
-        ensures absent { IfNone result (held self.old ≡ []) }
-        ensures unchanged { IfNone result (self.new ≡ self.old) }
-
-        ensures header { header self.new ≡ header self.old };
+    fn finish(&self) -> Result<(), StreamStop>
+        requires { rests self.now }
+        ensures exact { Finishes represents self.now result };
 
     /// What was read stays with more bytes behind: a theorem, as a function with an empty body.
     fn what_is_read_stays()
         ensures { (contents : List ℕ → Contents Self.Head Self.Entry) (fed : List ℕ) (taken : List (Placed Self.Entry)) (reader : Self) → represents contents fed taken reader → (bytes : List ℕ) (more : List ℕ) → Grows (contents bytes) (contents (bytes ++ more)) };
 
-    /// What was taken and what is held is what was read: a theorem, as a function with an empty body.
+    /// What was read and what is still to be read is what the bytes hold: a theorem, as a function with an empty body.
     fn what_is_held_was_read()
         ensures { (contents : List ℕ → Contents Self.Head Self.Entry) (fed : List ℕ) (taken : List (Placed Self.Entry)) (reader : Self) → represents contents fed taken reader → IsRead (contents fed) taken (header reader) (held reader) };
 }

@@ -1,10 +1,11 @@
 //! The reader of records of any kind, as the loop uses it.
 //! The rules: docs/STREAMS.md, "Readers".
 use crate::reader::StreamReader;
-use kt_stream::{Entry, Head, Placed, RecordReader, StreamStop, laws};
+use kt_stream::{Entry, Head, Next, Placed, RecordReader, StreamStop, laws};
+use std::alloc::AllocError;
 
 impl<E: Entry> StreamReader for RecordReader<E> {
-    ghost use Rattle.kt_loop.specs.RecordStreams.{StandsFor, reading_header, reading_held};
+    ghost use Rattle.kt_loop.specs.RecordStreams.{StandsFor, reading_header, reading_held, reading_row, reading_rests};
 
     type Head = Head;
 
@@ -14,23 +15,30 @@ impl<E: Entry> StreamReader for RecordReader<E> {
 
     ghost header = { reading_header };
 
-    ghost held = { reading_held };
+    ghost held = { reading_held E.form };
+
+    ghost row = { reading_row };
+
+    ghost rests = { reading_rests E.form };
 
     fn head(&self) -> Option<Head> {
         RecordReader::head(self)
     }
 
-    fn feed(&mut self, piece: &[u8]) -> Result<(), StreamStop> {
-        laws::what_is_read_stays::<E>();
+    fn feed(&mut self, piece: &[u8]) -> Result<(), AllocError> {
         RecordReader::feed(self, piece)
     }
 
-    fn finish(&mut self) -> Result<(), StreamStop> {
-        RecordReader::finish(self)
+    fn advance(&mut self) -> Result<Next, AllocError> {
+        RecordReader::advance(self)
     }
 
-    fn take(&mut self) -> Option<Placed<E>> {
-        RecordReader::take(self)
+    fn record(&self) -> &Placed<E> {
+        RecordReader::record(self)
+    }
+
+    fn finish(&self) -> Result<(), StreamStop> {
+        RecordReader::finish(self)
     }
 
     fn what_is_read_stays() {

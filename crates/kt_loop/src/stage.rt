@@ -10,6 +10,7 @@ ghost use Rattle.kt_loop.specs.Steps.{StepsBy, EndsWith};
 
 use kt_ends::ToolStop;
 use kt_money::Bytes;
+use kt_stream::Placed;
 
 /// A stage over streams with this header and these records. `W` is what it asks beside the stream: the input files,
 /// or `()` where it asks nothing.
@@ -44,20 +45,19 @@ pub trait Stage<H, E, W> {
         ensures ready { OnOk result (is_ready (Some head) self.new beside.new) }
         ensures counted { (others : InputsState) → Consults (inputs others beside.old) (inputs others beside.new) result };
 
-    /// Appends what is written at a record, which begins at this byte of the stream.
+    /// Appends what is written at a record.
     fn take(
         &mut self,
         beside: &mut W,
         head: H,
-        at: u64,
-        entry: E,
+        placed: &Placed<E>,
         out: &mut Bytes,
     ) -> Result<(), ToolStop>
         requires accepted { accepts head }
-        requires good { is_good head (record { at = at; entry = entry }) }
+        requires good { is_good head placed.now }
         requires ready { is_ready (Some head) self.old beside.old }
 
-        ensures step { (state : State) → is_at state self.old beside.old → StepsBy (calculation.takes head state (record { at = at; entry = entry })) (λ next. is_at next self.new beside.new) out.old out.new result }
+        ensures step { (state : State) → is_at state self.old beside.old → StepsBy (calculation.takes head state placed.now) (λ next. is_at next self.new beside.new) out.old out.new result }
         ensures ready { OnOk result (is_ready (Some head) self.new beside.new) }
         ensures counted { (others : InputsState) → Consults (inputs others beside.old) (inputs others beside.new) result };
 

@@ -1,13 +1,13 @@
 //! The turns of the loop: what each piece of the stream brings.
 //! The rules: docs/STREAMS.md, "Tools over streams".
-ghost use Rattle.std.specs.Prelude.{◌≡◌, ℕ, List, [], ◌++◌, Option, IfOk};
+ghost use Rattle.std.specs.Prelude.{ℕ, List, [], ◌++◌, Option, IfOk, OnOk};
 ghost use Rattle.kt_out.specs.InputFiles.{InputsState};
 ghost use Rattle.kt_ends.specs.declared.status.Refusal.{Refusal};
 ghost use Rattle.kt_loop.specs.Calculation.{course_of, started};
 ghost use Rattle.kt_loop.specs.Contents.{Contents};
 ghost use Rattle.kt_loop.specs.Counts.{Counts};
 ghost use Rattle.kt_loop.specs.Outcome.{outcome};
-ghost use Rattle.kt_loop.specs.Reading.{FeedsPiece, FeedsBy, IsFresh, ReadsGood, Stood};
+ghost use Rattle.kt_loop.specs.Reading.{RestsBy, IsFresh, ReadsGood, Stood};
 ghost use Rattle.kt_loop.specs.Settling.{Settles};
 ghost use Rattle.kt_loop.specs.Steps.{Stands, Comes};
 
@@ -18,21 +18,6 @@ use kt_ends::{Refusal, ToolStop};
 use kt_money::Bytes;
 use kt_out::Sink;
 use kt_stream::StreamStop;
-use std::alloc::AllocError;
-
-/// Feeds a piece: what refuses the stream, if anything does.
-fn feed_piece<R: StreamReader>(
-    reader: &mut R,
-    piece: &[u8],
-) -> Result<Option<StreamStop>, AllocError>
-    ensures { IfOk result (λ stop. FeedsPiece R.represents reader.old piece.now reader.new stop) }
-{
-    match reader.feed(piece) {
-        Ok(()) => Ok(None),
-        Err(StreamStop::OutOfMemory) => Err(AllocError),
-        Err(stop) => Ok(Some(stop)),
-    }
-}
 
 /// Begins: opens the stage where a stream has its header before its first byte.
 pub(crate) fn begin<R: StreamReader, W, T: Stage<R::Head, R::Entry, W>, K: Sink>(
@@ -48,11 +33,16 @@ pub(crate) fn begin<R: StreamReader, W, T: Stage<R::Head, R::Entry, W>, K: Sink>
 
     ensures stands { IfOk result (λ done. (contents : List ℕ → Contents R.Head R.Entry) → R.represents contents [] [] reader.old → R.represents contents [] (contents []).entries reader.new) }
     ensures course { (contents : List ℕ → Contents R.Head R.Entry) (before : Option (List ℕ)) (start : T.State) → R.represents contents [] [] reader.old → Stands {R = Refusal} (λ state. T.is_at state stage.old beside.old) before (K.state sink.old).taken out.old (started start) → Comes (λ state. T.is_at state stage.new beside.new) before (K.state sink.new).taken out.new (course_of T.calculation start (contents []).head (contents []).entries) result }
-    ensures ready { IfOk result (λ done. T.is_ready (R.header reader.new) stage.new beside.new) }
+    ensures rests { OnOk result (R.rests reader.new) }
+    ensures ready { OnOk result (T.is_ready (R.header reader.new) stage.new beside.new) }
     ensures counted { (others : InputsState) → Counts (T.inputs others beside.old) (T.inputs others beside.new) (K.state sink.old).faults (K.state sink.new).faults result }
 {
+    R::what_is_read_stays();
     R::what_is_held_was_read();
-    carry_on(false, reader, stage, beside, sink, out)
+    match carry_on(false, reader, stage, beside, sink, out) {
+        Ok(_) => Ok(()),
+        Err(why) => Err(why),
+    }
 }
 
 /// Feeds a piece of the stream, and carries on with all that is whole by it: what refuses the stream, if anything does.
@@ -67,38 +57,35 @@ pub(crate) fn turn<R: StreamReader, W, T: Stage<R::Head, R::Entry, W>, K: Sink>(
     requires stood { Stood R.represents T.accepts T.is_good reader.old }
     requires ready { T.is_ready (R.header reader.old) stage.old beside.old }
 
-    ensures stands { IfOk result (λ stop. (contents : List ℕ → Contents R.Head R.Entry) (fed : List ℕ) → R.represents contents fed (contents fed).entries reader.old → FeedsBy contents (R.represents contents) stop (fed ++ piece.now) (contents (fed ++ piece.now)).entries reader.new) }
+    ensures stands { IfOk result (λ stop. (contents : List ℕ → Contents R.Head R.Entry) (fed : List ℕ) → R.represents contents fed (contents fed).entries reader.old → RestsBy contents (R.represents contents) stop (fed ++ piece.now) (contents (fed ++ piece.now)).entries reader.new) }
     ensures course { (contents : List ℕ → Contents R.Head R.Entry) (before : Option (List ℕ)) (fed : List ℕ) (start : T.State) → R.represents contents fed (contents fed).entries reader.old → Stands (λ state. T.is_at state stage.old beside.old) before (K.state sink.old).taken out.old (course_of T.calculation start (contents fed).head (contents fed).entries) → Comes (λ state. T.is_at state stage.new beside.new) before (K.state sink.new).taken out.new (course_of T.calculation start (contents (fed ++ piece.now)).head (contents (fed ++ piece.now)).entries) result }
-    ensures ready { IfOk result (λ stop. T.is_ready (R.header reader.new) stage.new beside.new) }
+    ensures rests { OnOk result (R.rests reader.new) }
+    ensures ready { OnOk result (T.is_ready (R.header reader.new) stage.new beside.new) }
     ensures counted { (others : InputsState) → Counts (T.inputs others beside.old) (T.inputs others beside.new) (K.state sink.old).faults (K.state sink.new).faults result }
 {
     R::what_is_read_stays();
     R::what_is_held_was_read();
     let was_open = reader.head().is_some();
-    let stop = match feed_piece(reader, piece) {
-        Ok(stop) => stop,
-        Err(_) => return Err(ToolStop::NoMemory),
-    };
-    if let Err(why) = carry_on(was_open, reader, stage, beside, sink, out) {
-        return Err(why);
+    match reader.feed(piece) {
+        Ok(()) => carry_on(was_open, reader, stage, beside, sink, out),
+        Err(_) => Err(ToolStop::NoMemory),
     }
-    Ok(stop)
 }
 
 /// Ends where no byte is left: refuses a stream that is cut off, or appends what is written at the end.
 pub(crate) fn finish<R: StreamReader, W, T: Stage<R::Head, R::Entry, W>, K: Sink>(
-    reader: &mut R,
+    reader: &R,
     stage: &mut T,
     beside: &mut W,
     sink: &K,
     out: &mut Bytes,
 ) -> Result<(), ToolStop>
-    requires stood { Stood R.represents T.accepts T.is_good reader.old }
-    requires ready { T.is_ready (R.header reader.old) stage.old beside.old }
+    requires stood { Stood R.represents T.accepts T.is_good reader.now }
+    requires rests { R.rests reader.now }
+    requires ready { T.is_ready (R.header reader.now) stage.old beside.old }
 
-    ensures course { (contents : List ℕ → Contents R.Head R.Entry) (before : Option (List ℕ)) (fed : List ℕ) (start : T.State) → R.represents contents fed (contents fed).entries reader.old → Stands (λ state. T.is_at state stage.old beside.old) before (K.state sink.now).taken out.old (course_of T.calculation start (contents fed).head (contents fed).entries) → Settles (outcome T.calculation start (contents fed)) before (K.state sink.now).taken out.new result }
+    ensures course { (contents : List ℕ → Contents R.Head R.Entry) (before : Option (List ℕ)) (fed : List ℕ) (start : T.State) → R.represents contents fed (contents fed).entries reader.now → Stands (λ state. T.is_at state stage.old beside.old) before (K.state sink.now).taken out.old (course_of T.calculation start (contents fed).head (contents fed).entries) → Settles (outcome T.calculation start (contents fed)) before (K.state sink.now).taken out.new result }
     ensures counted { (others : InputsState) → Counts (T.inputs others beside.old) (T.inputs others beside.new) (K.state sink.now).faults (K.state sink.now).faults result }
-    ensures unread { reader.new ≡ reader.old }
 {
     R::what_is_held_was_read();
     if let Err(stop) = reader.finish() {

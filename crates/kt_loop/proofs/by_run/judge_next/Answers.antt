@@ -6,10 +6,10 @@ use Rattle.kt_loop.proofs.by_run.judge_next.Goals as goal
 
 pub returns-clause-step : goal.returns-clause-step
 returns-clause-step g c kept at =
-    let next : c.push.new.self.items ≡ c.args.it.now.run.items ++ c.args.placed ∷ [] = search rules in
+    let next : c.push.new.self ≡ c.args.it.now.run ++ c.args.placed.now ∷ [] = search rules in
     record {
-      next = record { kept = kept; run = c.args.it.now.run.items ++ c.args.placed ∷ [] };
-      reached = ap (judged kept c.args.it.now.run.items c.args.placed) (ap (λ (run : List (Placed g.row.E.Denot)). g.C.RunStage.runs.refuses c.args.head kept run c.args.placed) (sym c.as_slice.ensures.value) ∙ (c.in_default.ensures.judged kept at).0);
+      next = record { kept = kept; run = c.args.it.now.run ++ c.args.placed.now ∷ [] };
+      reached = ap (judged kept c.args.it.now.run c.args.placed.now) (ap (λ (run : List (Placed g.row.E.Denot)). g.C.RunStage.runs.refuses c.args.head kept run c.args.placed.now) (sym c.as_slice.ensures.value) ∙ (c.in_default.ensures.judged kept at).0);
       state = ((c.in_default.ensures.judged kept at).1, next);
       wrote = refl;
     }

@@ -7,5 +7,5 @@ returns g c = record {
       c.run_stage.ensures.ended asks made others outputs contents fresh keeps
       (λ files bytes finds.
       let makes = told files bytes finds in
-      record { start = makes.start; stood = (makes.stood.0, c.new.ensures.items ∙ makes.stood.1); is = makes.is });
+      record { start = makes.start; stood = (makes.stood.0, c.new.ensures ∙ makes.stood.1); is = makes.is });
 }

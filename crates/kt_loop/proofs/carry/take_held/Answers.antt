@@ -1,31 +1,59 @@
-use Rattle.std.proofs.Common.{◌∙◌, Err}
-use Rattle.kt_loop.proofs.Stepping.{counts_behind, no_inputs}
-use Rattle.kt_loop.proofs.Taking.{carried_more, carried_until, carried_all, taken_more, first_good}
+use Rattle.std.proofs.Common.{◌∙◌, subst, Option, Err}
+use Rattle.kt_stream.specs.declared.entry.Placed.{Placed}
+use Rattle.kt_stream.specs.declared.reader.Next.{Next}
+use Rattle.kt_stream.specs.declared.stop.StreamStop.{StreamStop}
+use Rattle.kt_loop.specs.Calculation.{took}
+use Rattle.kt_loop.specs.Steps.{Stands, Comes}
+use Rattle.kt_loop.specs.Reading.{Advances}
+use Rattle.kt_loop.proofs.Settling.{stopped_as}
+use Rattle.kt_loop.proofs.Stepping.{counts_as, counts_behind, no_inputs}
+use Rattle.kt_loop.proofs.Taking.{carried_more, carried_until, carried_all, carried_front, taken_more, first_good}
 use Rattle.kt_loop.proofs.carry.take_held.Goals as goal
 
 pub returns-in-Err-clause-course : goal.returns-in-Err-clause-course
 returns-in-Err-clause-course g c before course standing =
-    let going = c.records.invariant.course before course standing in
-    carried_until g.T.Stage.calculation c.args.head _ (λ state. g.T.Stage.is_at state c.take_one.new.stage c.take_one.new.beside) before _ _ _ c.take_one.new.out _ _ _ c.in-Some.placed going c.in-Some.ensures.found (Unit {0}) c.in-Err.stop
-    (c.in-Err.ensures.course before going.course going.standing)
+    carried_front g.T.Stage.calculation c.args.head (λ state. g.T.Stage.is_at state c.records.stage c.records.beside) before _ c.records.out _ _ (c.records.invariant.course before course standing)
 
-pub returns-in-Err-clause-counted : goal.returns-in-Err-clause-counted
-returns-in-Err-clause-counted g c beside = counts_behind (Unit {0}) _ _ _ _ _ _ (Err c.in-Err.stop) (c.records.invariant.inputs beside) c.records.invariant.faults (c.in-Err.ensures.counted beside)
+-- ---- a record
+
+pub returns-in-Err-take_one-clause-course : goal.returns-in-Err-take_one-clause-course
+returns-in-Err-take_one-clause-course g c before course standing =
+    let reads = subst (λ (next : Next). Advances g.R.StreamReader.represents g.R.StreamReader.header g.R.StreamReader.held g.R.StreamReader.row g.R.StreamReader.rests c.records.reader c.advance.new.self next) c.in-Record.is c.in-Ok.ensures in
+    let going = c.records.invariant.course before course standing in
+    stopped_as (Unit {0}) (Option StreamStop) (λ state. g.T.Stage.is_at state c.take_one.new.stage c.take_one.new.beside) before _ c.take_one.new.out _ c.in-Err-take_one.stop
+    (carried_until g.T.Stage.calculation c.args.head _ (λ state. g.T.Stage.is_at state c.take_one.new.stage c.take_one.new.beside) before _ _ _ c.take_one.new.out _ _ _ _ going reads.first (Unit {0}) c.in-Err-take_one.stop
+    (subst (λ (placed : Placed g.row.R-Entry.Denot). Comes {T = Unit {0}} (λ state. g.T.Stage.is_at state c.take_one.new.stage c.take_one.new.beside) before (g.K.Sink.state c.take_one.new.sink).taken c.take_one.new.out (took g.T.Stage.calculation c.args.head going.course placed) (Err c.in-Err-take_one.stop)) c.record.ensures
+    (c.in-Err-take_one.ensures.course before going.course going.standing)))
+
+pub returns-in-Err-take_one-clause-counted : goal.returns-in-Err-take_one-clause-counted
+returns-in-Err-take_one-clause-counted g c others =
+    counts_as (Unit {0}) (Option StreamStop) _ _ _ _ c.in-Err-take_one.stop (counts_behind (Unit {0}) _ _ _ _ _ _ (Err c.in-Err-take_one.stop) (c.records.invariant.inputs others) c.records.invariant.faults (c.in-Err-take_one.ensures.counted others))
 
 pub records-preserved : goal.records-preserved
-records-preserved g c = record {
-  good = (first_good (g.T.Stage.is_good c.args.head) _ _ c.in-Some.placed c.records.invariant.good c.in-Some.ensures.found).1;
-  ready = c.in_default-take_one.ensures.ready;
-  header = c.in-Some.ensures.header ∙ c.records.invariant.header;
-  taken = taken_more g.R.StreamReader.represents _ _ _ _ _ _ c.in-Some.placed c.records.invariant.taken c.in-Some.ensures.found c.in-Some.ensures.stands;
-  course = λ before course standing.
-      let going = c.records.invariant.course before course standing in
-      carried_more g.T.Stage.calculation c.args.head _ (λ state. g.T.Stage.is_at state c.take_one.new.stage c.take_one.new.beside) before _ _ _ c.take_one.new.out _ _ _ c.in-Some.placed going c.in-Some.ensures.found
-      (c.in_default-take_one.ensures.course before going.course going.standing);
-  inputs = λ beside. (c.in_default-take_one.ensures.counted beside).of_inputs ∙ c.records.invariant.inputs beside;
-  faults = (c.in_default-take_one.ensures.counted no_inputs).of_sink ∙ c.records.invariant.faults;
-}
+records-preserved g c =
+    let reads = subst (λ (next : Next). Advances g.R.StreamReader.represents g.R.StreamReader.header g.R.StreamReader.held g.R.StreamReader.row g.R.StreamReader.rests c.records.reader c.advance.new.self next) c.in-Record.is c.in-Ok.ensures in
+    record {
+      good = (first_good (g.T.Stage.is_good c.args.head) _ _ _ c.records.invariant.good reads.first).1;
+      ready = c.in_default.ensures.ready;
+      header = reads.header ∙ c.records.invariant.header;
+      taken = taken_more g.R.StreamReader.represents _ _ _ _ _ _ _ c.records.invariant.taken reads.first reads.stands;
+      course = λ before course standing.
+          let going = c.records.invariant.course before course standing in
+          carried_more g.T.Stage.calculation c.args.head _ (λ state. g.T.Stage.is_at state c.take_one.new.stage c.take_one.new.beside) before _ _ _ c.take_one.new.out _ _ _ _ going reads.first
+          (subst (λ (placed : Placed g.row.R-Entry.Denot). Stands (λ state. g.T.Stage.is_at state c.take_one.new.stage c.take_one.new.beside) before (g.K.Sink.state c.take_one.new.sink).taken c.take_one.new.out (took g.T.Stage.calculation c.args.head going.course placed)) c.record.ensures
+          (c.in_default.ensures.course before going.course going.standing));
+      inputs = λ others. (c.in_default.ensures.counted others).of_inputs ∙ c.records.invariant.inputs others;
+      faults = (c.in_default.ensures.counted no_inputs).of_sink ∙ c.records.invariant.faults;
+    }
 
-pub returns-clause-course : goal.returns-clause-course
-returns-clause-course g c before course standing =
-    carried_all g.T.Stage.calculation c.args.head (λ state. g.T.Stage.is_at state c.records.stage c.records.beside) before _ c.records.out _ _ (c.records.invariant.course before course standing) c.in_default.ensures.absent
+-- ---- no record is left
+
+pub returns-in-Rest-clause-course : goal.returns-in-Rest-clause-course
+returns-in-Rest-clause-course g c before course standing =
+    let reads = subst (λ (next : Next). Advances g.R.StreamReader.represents g.R.StreamReader.header g.R.StreamReader.held g.R.StreamReader.row g.R.StreamReader.rests c.records.reader c.advance.new.self next) c.in-Rest.is c.in-Ok.ensures in
+    carried_all g.T.Stage.calculation c.args.head (λ state. g.T.Stage.is_at state c.records.stage c.records.beside) before _ c.records.out _ _ (c.records.invariant.course before course standing) reads.none
+
+pub returns-in-Stop-clause-course : goal.returns-in-Stop-clause-course
+returns-in-Stop-clause-course g c before course standing =
+    let reads = subst (λ (next : Next). Advances g.R.StreamReader.represents g.R.StreamReader.header g.R.StreamReader.held g.R.StreamReader.row g.R.StreamReader.rests c.records.reader c.advance.new.self next) c.in-Stop.is c.in-Ok.ensures in
+    carried_all g.T.Stage.calculation c.args.head (λ state. g.T.Stage.is_at state c.records.stage c.records.beside) before _ c.records.out _ _ (c.records.invariant.course before course standing) reads.none

@@ -1,10 +1,10 @@
-use Rattle.std.proofs.Common.{◌+◌, [], ◌++◌, Option, Err, refl, sym, ap, subst, ◌∙◌, take, length, arith}
+use Rattle.std.proofs.Common.{◌+◌, [], ◌++◌, Option, Err, refl, ap, subst, ◌∙◌, take, length, arith}
 use Rattle.std.proofs.lemmas.Grind.{common_steps}
 use Rattle.kt_out.specs.InputFiles.{InputsState}
 use Rattle.kt_out.specs.Reading.{GivesKnown}
 use Rattle.kt_stream.specs.declared.stop.StreamStop.{StreamStop}
 use Rattle.kt_loop.specs.InputFile.{file_bytes, left_from}
-use Rattle.kt_loop.specs.Reading.{FeedsBy}
+use Rattle.kt_loop.specs.Reading.{RestsBy}
 use Rattle.kt_loop.proofs.FileReading.{all_read, of_whole, counts_alone, counts_on, read_as, going_front, going_uncounted, on_ok}
 use Rattle.kt_loop.proofs.Going.{read_none, fed_of, read_more, filled_block, going_first, going_more, stopped, faulted, stream_refused, ended_so, standing_first}
 use Rattle.kt_loop.proofs.Stepping.{no_inputs}
@@ -25,6 +25,7 @@ pieces-init g c = record {
   going = going_front g.T.Stage.calculation g.R.StreamReader.represents (λ contents. g.R.StreamReader.represents contents [] [] c.args.reader.now) (λ state. g.T.Stage.is_at state c.args.stage.now c.args.beside.now) (λ state. g.T.Stage.is_at state c.begin.new.stage c.begin.new.beside) (file_bytes (g.I.Inputs.state c.args.inputs.now).held c.args.name.now) _ _ c.begin.new.reader c.begin.new.out
       (going_first g.T.Stage.calculation g.R.StreamReader.represents (λ contents. g.R.StreamReader.represents contents [] [] c.args.reader.now) (λ state. g.T.Stage.is_at state c.args.stage.now c.args.beside.now) (λ state. g.T.Stage.is_at state c.begin.new.stage c.begin.new.beside) _ (file_bytes (g.I.Inputs.state c.args.inputs.now).held c.args.name.now) _ _ c.begin.new.reader c.begin.new.out c.in_default-begin.ensures.stands
       (λ contents start fresh at. c.in_default-begin.ensures.course contents _ start fresh (standing_first (λ state. g.T.Stage.is_at state c.args.stage.now c.args.beside.now) start _ c.args.out.now c.requires.empty at)));
+  rests = c.in_default-begin.ensures.rests;
   ready = c.in_default-begin.ensures.ready;
   inputs = refl;
   faults = (c.in_default-begin.ensures.counted no_inputs).of_sink;
@@ -77,7 +78,7 @@ returns-in-Some-clause-settled g c contents start fresh at =
     let moved = subst (λ (state : InputsState). GivesKnown (left_from (file_bytes state.held c.args.name.now) c.pieces.at) (left_from (file_bytes state.held c.args.name.now) (c.pieces.at + c.in-Ok-read_piece.read)) c.as_mut_slice.result.now c.read_piece.new.block c.in-Ok-read_piece.read) c.pieces.invariant.inputs c.in-Ok-read_piece.ensures.moved in
     let same = filled_block c.pieces.block.items c.read_piece.new.block c.pieces.block.len c.pieces.block.ok.0 (c.read_piece.auto.block ∙ ap length c.as_mut_slice.ensures.value) in
     let read = read_more _ _ _ going.fed _ c.read_piece.new.block (take c.in-Ok-read_piece.read c.deref.result.now) c.in-Ok-read_piece.read going.read moved (ap (take c.in-Ok-read_piece.read) (c.deref.ensures.value ∙ same)) in
-    let stops = subst (λ (stop : Option StreamStop). FeedsBy contents (g.R.StreamReader.represents contents) stop (going.fed ++ take c.in-Ok-read_piece.read c.deref.result.now) (contents (going.fed ++ take c.in-Ok-read_piece.read c.deref.result.now)).entries c.turn.new.reader) c.in-Some.is (c.in-Ok-turn.ensures.stands contents going.fed (going.represented contents fresh)) in
+    let stops = subst (λ (stop : Option StreamStop). RestsBy contents (g.R.StreamReader.represents contents) stop (going.fed ++ take c.in-Ok-read_piece.read c.deref.result.now) (contents (going.fed ++ take c.in-Ok-read_piece.read c.deref.result.now)).entries c.turn.new.reader) c.in-Some.is (c.in-Ok-turn.ensures.stands contents going.fed (going.represented contents fresh)) in
     stream_refused g.T.Stage.calculation contents (c.what_is_read_stays.ensures contents [] [] c.args.reader.now fresh) start _ _ (λ state. g.T.Stage.is_at state c.turn.new.stage c.turn.new.beside) _ c.turn.new.out _ c.in-Some.stop (fed_of _ _ _ read) stops.refused
     (c.in-Ok-turn.ensures.course contents _ going.fed start (going.represented contents fresh) (going.course contents start fresh at))
 
@@ -94,8 +95,9 @@ pieces-preserved g c =
       going = going_uncounted g.T.Stage.calculation g.R.StreamReader.represents (λ contents. g.R.StreamReader.represents contents [] [] c.args.reader.now) (λ state. g.T.Stage.is_at state c.args.stage.now c.args.beside.now) (λ state. g.T.Stage.is_at state c.turn.new.stage c.turn.new.beside) (file_bytes (g.I.Inputs.state c.args.inputs.now).held c.args.name.now) _ _ c.turn.new.reader c.turn.new.out _ _
           (going_more g.T.Stage.calculation g.R.StreamReader.represents (λ contents. g.R.StreamReader.represents contents [] [] c.args.reader.now) (λ state. g.T.Stage.is_at state c.args.stage.now c.args.beside.now) (λ state. g.T.Stage.is_at state c.pieces.stage c.pieces.beside) (file_bytes (g.I.Inputs.state c.args.inputs.now).held c.args.name.now) (left_from (file_bytes (g.I.Inputs.state c.args.inputs.now).held c.args.name.now) c.pieces.at) _ _ c.pieces.reader c.pieces.out (λ state. g.T.Stage.is_at state c.turn.new.stage c.turn.new.beside) _ _ c.turn.new.reader c.turn.new.out 0 _ c.read_piece.new.block
           (take c.in-Ok-read_piece.read c.deref.result.now) c.in-Ok-read_piece.read going moved (ap (take c.in-Ok-read_piece.read) (c.deref.ensures.value ∙ same)) c.in-Ok-read_piece.ensures.within.0 (omega (arith, c.in-Ok-read_piece.ensures.within.1, c.read_piece.auto.block))
-          (λ contents fresh. subst (λ (stop : Option StreamStop). FeedsBy contents (g.R.StreamReader.represents contents) stop (going.fed ++ take c.in-Ok-read_piece.read c.deref.result.now) (contents (going.fed ++ take c.in-Ok-read_piece.read c.deref.result.now)).entries c.turn.new.reader) c.in_default-stop.is (c.in-Ok-turn.ensures.stands contents going.fed (going.represented contents fresh))) c.requires.fresh.contents c.requires.fresh.stands
+          (λ contents fresh. subst (λ (stop : Option StreamStop). RestsBy contents (g.R.StreamReader.represents contents) stop (going.fed ++ take c.in-Ok-read_piece.read c.deref.result.now) (contents (going.fed ++ take c.in-Ok-read_piece.read c.deref.result.now)).entries c.turn.new.reader) c.in_default-stop.is (c.in-Ok-turn.ensures.stands contents going.fed (going.represented contents fresh))) c.requires.fresh.contents c.requires.fresh.stands
           (λ contents start fresh at. c.in-Ok-turn.ensures.course contents _ going.fed start (going.represented contents fresh) (going.course contents start fresh at)));
+      rests = c.in-Ok-turn.ensures.rests;
       ready = c.in-Ok-turn.ensures.ready;
       inputs = c.in-Ok-read_piece.ensures.counts ∙ c.pieces.invariant.inputs;
       faults = (c.in-Ok-turn.ensures.counted no_inputs).of_sink ∙ c.pieces.invariant.faults;
@@ -113,8 +115,8 @@ pub returns-clause-read : goal.returns-clause-read
 returns-clause-read g c =
     on_ok c.finish.result _ (λ contents fresh.
     let going = c.pieces.invariant.going in
-    of_whole (file_bytes (g.I.Inputs.state c.args.inputs.now).held c.args.name.now) _ going.fed (λ bytes. g.R.StreamReader.represents contents bytes (contents bytes).entries c.finish.new.reader) (all_read (g.I.Inputs.state c.args.inputs.now).held c.args.name.now c.args.size c.pieces.at going.fed c.requires.sized (omega (arith, c.pieces-test.false)) going.read)
-    (subst (λ reader. g.R.StreamReader.represents contents going.fed (contents going.fed).entries reader) (sym c.finish.ensures.unread) (going.represented contents fresh)))
+    of_whole (file_bytes (g.I.Inputs.state c.args.inputs.now).held c.args.name.now) _ going.fed (λ bytes. g.R.StreamReader.represents contents bytes (contents bytes).entries c.pieces.reader) (all_read (g.I.Inputs.state c.args.inputs.now).held c.args.name.now c.args.size c.pieces.at going.fed c.requires.sized (omega (arith, c.pieces-test.false)) going.read)
+    (going.represented contents fresh))
 
 pub returns-clause-counted : goal.returns-clause-counted
 returns-clause-counted g c reads =

@@ -2,7 +2,7 @@ use Rattle.std.proofs.Common.{ℕ, List, [], ◌++◌, Option, Err, refl, sym, a
 use Rattle.std.proofs.lemmas.Grind.{common_steps}
 use Rattle.kt_out.specs.Reading.{GivesKnown}
 use Rattle.kt_stream.specs.declared.stop.StreamStop.{StreamStop}
-use Rattle.kt_loop.specs.Reading.{FeedsBy}
+use Rattle.kt_loop.specs.Reading.{RestsBy}
 use Rattle.kt_ends.specs.Hiding.{none_failed}
 use Rattle.kt_ends.specs.Stops.{end_status, stop_status}
 use Rattle.kt_loop.specs.Outcome.{outcome}
@@ -22,6 +22,7 @@ pub turns-init : goal.turns-init
 turns-init g c = record {
   going = going_first g.T.Stage.calculation g.R.StreamReader.represents (λ contents. g.R.StreamReader.represents contents [] [] c.args.reader.now) (λ state. g.T.Stage.is_at state c.args.stage.now c.args.beside.now) (λ state. g.T.Stage.is_at state c.begin.new.stage c.begin.new.beside) _ (g.S.Source.state c.args.source.now).left _ _ c.begin.new.reader c.begin.new.out c.in_default-begin.ensures.stands
       (λ contents start fresh at. c.in_default-begin.ensures.course contents _ start fresh (standing_first (λ state. g.T.Stage.is_at state c.args.stage.now c.args.beside.now) start _ c.args.out.now c.requires.empty at));
+  rests = c.in_default-begin.ensures.rests;
   ready = c.in_default-begin.ensures.ready;
   inputs = λ others. (c.in_default-begin.ensures.counted others).of_inputs;
   reads = refl;
@@ -64,7 +65,7 @@ returns-in-Some-clause-settled g c contents start fresh at =
     let going = c.turns.invariant.going in
     let same = filled_block c.turns.block.items c.read.new.buf c.turns.block.len c.turns.block.ok.0 (c.read.auto.buf ∙ ap length c.as_mut_slice.ensures.value) in
     let read = read_more _ _ _ going.fed _ c.read.new.buf (take c.in-Ok-read.read c.deref.result.now) c.in-Ok-read.read going.read c.in-Ok-read.ensures.moved.moved (ap (take c.in-Ok-read.read) (c.deref.ensures.value ∙ same)) in
-    let stops = subst (λ (stop : Option StreamStop). FeedsBy contents (g.R.StreamReader.represents contents) stop (going.fed ++ take c.in-Ok-read.read c.deref.result.now) (contents (going.fed ++ take c.in-Ok-read.read c.deref.result.now)).entries c.turn.new.reader) c.in-Some.is (c.in-Ok-turn.ensures.stands contents going.fed (going.represented contents fresh)) in
+    let stops = subst (λ (stop : Option StreamStop). RestsBy contents (g.R.StreamReader.represents contents) stop (going.fed ++ take c.in-Ok-read.read c.deref.result.now) (contents (going.fed ++ take c.in-Ok-read.read c.deref.result.now)).entries c.turn.new.reader) c.in-Some.is (c.in-Ok-turn.ensures.stands contents going.fed (going.represented contents fresh)) in
     stream_refused g.T.Stage.calculation contents (c.what_is_read_stays.ensures contents [] [] c.args.reader.now fresh) start _ _ (λ state. g.T.Stage.is_at state c.turn.new.stage c.turn.new.beside) _ c.turn.new.out _ c.in-Some.stop (fed_of _ _ _ read) stops.refused
     (c.in-Ok-turn.ensures.course contents _ going.fed start (going.represented contents fresh) (going.course contents start fresh at))
 
@@ -79,8 +80,9 @@ turns-preserved g c =
     record {
       going = going_more g.T.Stage.calculation g.R.StreamReader.represents (λ contents. g.R.StreamReader.represents contents [] [] c.args.reader.now) (λ state. g.T.Stage.is_at state c.args.stage.now c.args.beside.now) (λ state. g.T.Stage.is_at state c.turns.stage c.turns.beside) _ _ _ _ c.turns.reader c.turns.out (λ state. g.T.Stage.is_at state c.turn.new.stage c.turn.new.beside) _ _ c.turn.new.reader c.turn.new.out _ _ c.read.new.buf
           (take c.in-Ok-read.read c.deref.result.now) c.in-Ok-read.read going c.in-Ok-read.ensures.moved.moved (ap (take c.in-Ok-read.read) (c.deref.ensures.value ∙ same)) (omega (arith, c.if-read-eq0.false)) (omega (arith, c.in-Ok-read.ensures.within, c.read.auto.buf))
-          (λ contents fresh. subst (λ (stop : Option StreamStop). FeedsBy contents (g.R.StreamReader.represents contents) stop (going.fed ++ take c.in-Ok-read.read c.deref.result.now) (contents (going.fed ++ take c.in-Ok-read.read c.deref.result.now)).entries c.turn.new.reader) c.in_default-stop.is (c.in-Ok-turn.ensures.stands contents going.fed (going.represented contents fresh))) c.requires.fresh.contents c.requires.fresh.stands
+          (λ contents fresh. subst (λ (stop : Option StreamStop). RestsBy contents (g.R.StreamReader.represents contents) stop (going.fed ++ take c.in-Ok-read.read c.deref.result.now) (contents (going.fed ++ take c.in-Ok-read.read c.deref.result.now)).entries c.turn.new.reader) c.in_default-stop.is (c.in-Ok-turn.ensures.stands contents going.fed (going.represented contents fresh))) c.requires.fresh.contents c.requires.fresh.stands
           (λ contents start fresh at. c.in-Ok-turn.ensures.course contents _ going.fed start (going.represented contents fresh) (going.course contents start fresh at));
+      rests = c.in-Ok-turn.ensures.rests;
       ready = c.in-Ok-turn.ensures.ready;
       inputs = λ others. (c.in-Ok-turn.ensures.counted others).of_inputs ∙ c.turns.invariant.inputs others;
       reads = c.in-Ok-read.ensures.moved.counted ∙ c.turns.invariant.reads;

@@ -3,4 +3,4 @@ use Rattle.kt_loop.proofs.KnownReading.{feeds_known}
 use Rattle.kt_loop.proofs.known_reader.KnownReaderStreamReader.feed.Goals as goal
 
 pub returns : goal.returns
-returns g c = feeds_known g.E.Entry.form c.what_is_read_stays.ensures c.args.self.now (record c.args.self.now { reader = c.feed.new.self }) c.args.piece.now c.feed.result refl c.feed.ensures.exact
+returns g c = feeds_known g.E.Entry.form c.args.self.now (record c.args.self.now { reader = c.feed.new.self }) c.args.piece.now c.feed.result refl c.feed.ensures.fed c.feed.ensures.shape

@@ -2,4 +2,4 @@ use Rattle.kt_loop.proofs.RecordReading.{feeds_so}
 use Rattle.kt_loop.proofs.record_reader.RecordReaderStreamReader.feed.Goals as goal
 
 pub returns : goal.returns
-returns g c = feeds_so g.E.Entry.form c.what_is_read_stays.ensures c.args.self.now c.feed.new.self c.args.piece.now c.feed.result c.feed.ensures.exact
+returns g c = feeds_so g.E.Entry.form c.args.self.now c.feed.new.self c.args.piece.now c.feed.result c.feed.ensures.fed c.feed.ensures.shape

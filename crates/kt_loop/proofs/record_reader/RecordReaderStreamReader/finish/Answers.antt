@@ -1,5 +1,5 @@
 use Rattle.kt_loop.proofs.RecordReading.{finishes_so}
 use Rattle.kt_loop.proofs.record_reader.RecordReaderStreamReader.finish.Goals as goal
 
-pub returns-clause-exact : goal.returns-clause-exact
-returns-clause-exact g c = finishes_so g.E.Entry.form c.args.self.now c.finish.result c.finish.ensures.exact
+pub returns : goal.returns
+returns g c = record { exact = finishes_so g.E.Entry.form c.args.self.now c.finish.result c.finish.ensures.exact }
