@@ -11,7 +11,7 @@ use kt_loop::laws::{records_give_their_rows, what_is_read_can_be_taken};
 use kt_loop::{Stage, run_stage};
 use kt_money::Bytes;
 use kt_out::{Sink, Source};
-use kt_stream::{Head, SummaryReader, SummaryRecord};
+use kt_stream::{Head, Placed, SummaryReader, SummaryRecord};
 use std::alloc::Global;
 
 /// The event loss table of a summary stream, with or without the names of its columns.
@@ -54,11 +54,10 @@ impl Stage<Head, SummaryRecord, ()> for EventLosses {
         &mut self,
         _beside: &mut (),
         head: Head,
-        _at: u64,
-        entry: SummaryRecord,
+        placed: &Placed<SummaryRecord>,
         out: &mut Bytes,
     ) -> Result<(), ToolStop> {
-        elt_text(out, head.samples, &entry)?;
+        elt_text(out, head.samples, &placed.entry)?;
         Ok(())
     }
 

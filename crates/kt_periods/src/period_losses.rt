@@ -11,7 +11,7 @@ use kt_loop::laws::{records_give_their_rows, what_is_read_can_be_taken};
 use kt_loop::{Stage, run_stage};
 use kt_money::Bytes;
 use kt_out::{Sink, Source};
-use kt_stream::{Head, SummaryReader, SummaryRecord};
+use kt_stream::{Head, Placed, SummaryReader, SummaryRecord};
 use kt_tables::Portfolio;
 use std::alloc::Global;
 
@@ -56,12 +56,11 @@ impl<'a> Stage<Head, SummaryRecord, ()> for PeriodRows<'a> {
         &mut self,
         _beside: &mut (),
         head: Head,
-        _at: u64,
-        entry: SummaryRecord,
+        placed: &Placed<SummaryRecord>,
         out: &mut Bytes,
     ) -> Result<(), ToolStop> {
-        let occurrences = self.portfolio.occurrences(entry.event);
-        plt_record_text(out, head.samples, &entry, occurrences)?;
+        let occurrences = self.portfolio.occurrences(placed.entry.event);
+        plt_record_text(out, head.samples, &placed.entry, occurrences)?;
         Ok(())
     }
 

@@ -7,7 +7,7 @@ use kt_loop::Stage;
 use kt_money::Bytes;
 use kt_period_cells::Cells;
 use kt_rec::Perspective;
-use kt_stream::{Head, SummaryRecord};
+use kt_stream::{Head, Placed, SummaryRecord};
 use kt_tables::Portfolio;
 use std::alloc::Global;
 
@@ -56,16 +56,16 @@ impl<'a> Stage<Head, SummaryRecord, ()> for PeriodLosses<'a> {
         &mut self,
         _beside: &mut (),
         head: Head,
-        _at: u64,
-        entry: SummaryRecord,
+        placed: &Placed<SummaryRecord>,
         _out: &mut Bytes,
     ) -> Result<(), ToolStop> {
         self.portfolio.keeps_periods();
+        let entry = &placed.entry;
         let occurrences = self.portfolio.occurrences(entry.event);
         let Some(cells) = &mut self.cells else {
             unreachable!()
         };
-        match cells.add(Perspective::Gul, head.set, &entry, occurrences) {
+        match cells.add(Perspective::Gul, head.set, entry, occurrences) {
             Ok(()) => Ok(()),
             Err(stop) => Err(cell_stop(entry.event, stop)),
         }

@@ -18,16 +18,16 @@ add-requires-clause-periods c =
     let rows = c.args.self.now.portfolio.now.rows in
     let are = cells_are rows.periods c.args.head c.args.self.now.cells c.in-Some.cells c.requires.ready.are c.in-Some.is in
     subst (AreWithin c.in-Some.cells.periods) (sym c.occurrences-occurrences.ensures.value)
-    (subst (λ (periods : ℕ). AreWithin periods (occurrences_of rows c.args.entry.event)) (sym are.0) (fits_periods rows c.keeps_periods.ensures.kept c.args.entry.event))
+    (subst (λ (periods : ℕ). AreWithin periods (occurrences_of rows c.args.placed.now.entry.event)) (sym are.0) (fits_periods rows c.keeps_periods.ensures.kept c.args.placed.now.entry.event))
 
 pub returns-in-Ok-clause-step : goal.returns-in-Ok-clause-step
 returns-in-Ok-clause-step c = λ state at.
     let stands = cells_stand state.history c.args.self.now.cells c.in-Some.cells at.holds c.in-Some.is in
-    let adds = subst (λ (rows : List Occurrence). Adds state.history (record { perspective = Gul; set = c.args.head.set; entry = c.args.entry; at = rows }) (Ok c.in-Ok.field-0) c.add.new.self) c.occurrences-occurrences.ensures.value (c.in-Ok.ensures.added state.history stands) in
-    takes_on c.args.head state (record { at = c.args._at; entry = c.args.entry }) c.args.self.now.kind c.args.self.now.portfolio.now.rows at.same_kind at.same_rows c.args._out.now c.add.new.self adds.0 adds.1
+    let adds = subst (λ (rows : List Occurrence). Adds state.history (record { perspective = Gul; set = c.args.head.set; entry = c.args.placed.now.entry; at = rows }) (Ok c.in-Ok.field-0) c.add.new.self) c.occurrences-occurrences.ensures.value (c.in-Ok.ensures.added state.history stands) in
+    takes_on c.args.head state c.args.placed.now c.args.self.now.kind c.args.self.now.portfolio.now.rows at.same_kind at.same_rows c.args._out.now c.add.new.self adds.0 adds.1
 
-pub returns-clause-step : goal.returns-clause-step
-returns-clause-step c = λ state at.
+pub returns-in-Err-clause-step : goal.returns-in-Err-clause-step
+returns-in-Err-clause-step c = λ state at.
     let stands = cells_stand state.history c.args.self.now.cells c.in-Some.cells at.holds c.in-Some.is in
-    let adds = subst (λ (rows : List Occurrence). Adds state.history (record { perspective = Gul; set = c.args.head.set; entry = c.args.entry; at = rows }) (Err c.in-Err.stop) c.add.new.self) c.occurrences-occurrences.ensures.value (c.in-Err.ensures.added state.history stands) in
-    rw c.cell_stop.ensures.value (takes_to_refusal c.args.head state (record { at = c.args._at; entry = c.args.entry }) c.args.self.now.kind c.args.self.now.portfolio.now.rows at.same_kind at.same_rows c.args._out.now c.in-Err.stop (λ next. StandsAt next c.args.self.now.kind c.args.self.now.portfolio.now.rows (Some c.add.new.self)) adds.0)
+    let adds = subst (λ (rows : List Occurrence). Adds state.history (record { perspective = Gul; set = c.args.head.set; entry = c.args.placed.now.entry; at = rows }) (Err c.in-Err.stop) c.add.new.self) c.occurrences-occurrences.ensures.value (c.in-Err.ensures.added state.history stands) in
+    rw c.cell_stop.ensures.value (takes_to_refusal c.args.head state c.args.placed.now c.args.self.now.kind c.args.self.now.portfolio.now.rows at.same_kind at.same_rows c.args._out.now c.in-Err.stop (λ next. StandsAt next c.args.self.now.kind c.args.self.now.portfolio.now.rows (Some c.add.new.self)) adds.0)
