@@ -10,7 +10,7 @@ use kt_ends::{Refusal, ToolStop};
 use kt_loop::{Stage, run_over_file};
 use kt_money::Bytes;
 use kt_out::{Inputs, Sink};
-use kt_stream::{Head, put_head};
+use kt_stream::{Head, Placed, put_head};
 use std::alloc::Global;
 
 /// What is written of one of several streams: the header of the first, and the records of each.
@@ -62,11 +62,10 @@ impl<M: JoinedKind> Stage<Head, M::Record, ()> for JoinedStream<M> {
         &mut self,
         _beside: &mut (),
         _head: Head,
-        _at: u64,
-        entry: M::Record,
+        placed: &Placed<M::Record>,
         out: &mut Bytes,
     ) -> Result<(), ToolStop> {
-        self.kind.put(out, &entry)?;
+        self.kind.put(out, &placed.entry)?;
         Ok(())
     }
 
