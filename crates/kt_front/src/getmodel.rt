@@ -23,7 +23,7 @@ use kt_model::{ModelStop, distributions};
 use kt_money::{Bytes, OutOfMemory};
 use kt_out::{Inputs, Sink, Source};
 use kt_rec::FootRow;
-use kt_stream::{Cdf, EventId, EventReader, Head, StreamKind, put_cdf, put_head};
+use kt_stream::{Cdf, EventId, EventReader, Head, Placed, StreamKind, put_cdf, put_head};
 use kt_tables::Portfolio;
 use std::alloc::Global;
 
@@ -103,18 +103,12 @@ impl<'a, I: Inputs> Stage<Head, EventId, I> for Distributions<'a> {
         &mut self,
         inputs: &mut I,
         _head: Head,
-        _at: u64,
-        entry: EventId,
+        placed: &Placed<EventId>,
         out: &mut Bytes,
     ) -> Result<(), ToolStop> {
-        match foot_rows(self.alloc, inputs, self.portfolio, entry.event) {
-            Ok(rows) => put_event(
-                self.alloc,
-                self.portfolio,
-                entry.event,
-                rows.as_slice(),
-                out,
-            ),
+        let event = placed.entry.event;
+        match foot_rows(self.alloc, inputs, self.portfolio, event) {
+            Ok(rows) => put_event(self.alloc, self.portfolio, event, rows.as_slice(), out),
             Err(stop) => Err(load_stop(stop)),
         }
     }

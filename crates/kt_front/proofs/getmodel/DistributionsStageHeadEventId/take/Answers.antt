@@ -11,7 +11,7 @@ use Rattle.kt_front.proofs.getmodel.DistributionsStageHeadEventId.take.Goals as 
 
 pub returns-in-Ok-clause-step : goal.returns-in-Ok-clause-step
 returns-in-Ok-clause-step g c made at =
-    let event = c.args.entry.event in
+    let event = c.args.placed.now.entry.event in
     let found = of_footprint (λ bytes. c.in-Ok.rows.items ≡ event_rows c.args.self.now.portfolio.now.rows bytes event) (g.I.Inputs.state c.args.inputs.now).held made.footprint at.1 c.in-Ok.ensures.value in
     let are : c.as_slice.result.now ≡ event_rows made.rows made.footprint event = c.as_slice.ensures.value ∙ found ∙ ap (λ (rows : Rows). event_rows rows made.footprint event) at.0 in
     steps_as (rows_step made event (event_rows made.rows made.footprint event)) made _ c.args.out.now c.put_event.new.out c.put_event.result
