@@ -1,17 +1,13 @@
 -- Files that are streams of one kind with one header are joined to the one stream of all their records: lemmas.
 -- The rules: docs/COMMANDS.md, "kat".
-use Rattle.std.proofs.Common.{◌≡◌, ◌≤◌, ℕ, ◌+◌, Bool, true, false, nat_eq, nat_le, ◌&&◌, not, List, [], ◌∷◌, ◌++◌, length, map, Option, None, Some, Result, Ok, Err, refl, sym, ap, ap₂, ◌∙◌, append_assoc, flat_map, if◌then◌else◌, eq-eqb, le-leb, arith}
+use Rattle.std.proofs.Common.{◌≡◌, ◌≤◌, ℕ, ◌+◌, Bool, true, ◌&&◌, not, List, [], ◌∷◌, ◌++◌, length, map, Option, None, Some, Result, Ok, Err, refl, sym, ap, ap₂, ◌∙◌, append_assoc, flat_map, if◌then◌else◌, eq-eqb, le-leb, arith}
 use Rattle.kt_out.specs.NamedFiles.{FileMap}
 use Rattle.kt_stream.specs.Bins.{cdf_form, cdf_shape}
-use Rattle.kt_stream.specs.Grammar.{Spells, placed_from, records_bytes}
+use Rattle.kt_stream.specs.Grammar.{placed_from, records_bytes}
 use Rattle.kt_stream.specs.Header.{header_bytes, header_size}
 use Rattle.kt_stream.specs.Losses.{loss_form, loss_shape}
 use Rattle.kt_stream.specs.Stream.{Form}
 use Rattle.kt_stream.specs.Summary.{summary_form, summary_shape}
-use Rattle.kt_stream.specs.declared.entry.Cdf.{Cdf}
-use Rattle.kt_stream.specs.declared.entry.LossRecord.{LossRecord}
-use Rattle.kt_stream.specs.declared.entry.Placed.{Placed}
-use Rattle.kt_stream.specs.declared.entry.SummaryRecord.{SummaryRecord}
 use Rattle.kt_stream.specs.declared.kind.Head.{Head}
 use Rattle.kt_stream.specs.declared.kind.Shape.{Shape}
 use Rattle.kt_stream.specs.declared.kind.StreamKind.TheVariants.{Gul, Loss}
@@ -25,10 +21,9 @@ use Rattle.kt_loop.specs.Outcome.{gives}
 use Rattle.kt_loop.specs.RecordStreams.{contents_of}
 use Rattle.kt_kat.specs.FileKinds.{kind_of_files}
 use Rattle.kt_kat.specs.Files.{and_files, file_by_file, file_limit, files_of, found_file, one_then}
-use Rattle.kt_kat.specs.Joining.{differs, heading_of, joined, joined_by, joined_files, joined_from, or_head, records_text, same_head}
+use Rattle.kt_kat.specs.Joining.{joined, joined_files, or_head, records_text, same_head}
 use Rattle.kt_kat.specs.Outcome.{by_files, kat_outcome, together}
 use Rattle.kt_kat.specs.StreamFiles.{AreStreamFiles, IsStreamFile}
-use Rattle.kt_kat.specs.declared.front.FileKind.{FileKind}
 
 -- the bytes of the stream of this header and these records
 abbrev pub stream_text : {E : Type 0} → Form E → Shape → Head → List E → List ℕ
