@@ -17,7 +17,9 @@ use std::thread::Threads;
 use tools::take;
 
 /// The files of the cases.
-const DATA: [&str; 5] = ["words", "loads", "runs", "faults", "chains"];
+const DATA: [&str; 7] = [
+    "words", "loads", "runs", "faults", "chains", "limits", "hostile",
+];
 
 /// Prints the differences of a script, and how many answers were compared.
 fn print_end<R: Print>(rt: &R, name: &str, script: &Script) -> Result<(), NotTaken> {

@@ -112,7 +112,8 @@ pub(crate) fn next_record<'a, const N: usize>(
 }
 
 /// Hands the values of all records to a sink, where the first column has the number `first`. An error is
-/// the first bad field, by record and then by column; then a record that is cut by the end; or want of memory.
+/// the first bad field, by record and then by column; then a record that is cut by the end; or want of memory. The sink has
+/// taken the records before the refused one then, so what it made of them is to be let go.
 #[inline(always)]
 pub fn read_records<const N: usize, S: RowSink<N>>(
     kinds: &[Kind; N],

@@ -224,7 +224,8 @@ fn read_rows_behind_heading<const N: usize, S: RowSink<N>>(
 }
 
 /// Hands the values of a CSV text, its heading left out, to a sink. An error is the first bad place: by
-/// row, in a row the number of its fields first, then by column; or want of memory.
+/// row, in a row the number of its fields first, then by column; or want of memory. The sink has taken the rows before the
+/// refused one then, so what it made of them is to be let go.
 #[inline(always)]
 #[tactic(auto, unfolding(crate::specs::Texts::text_rows))]
 pub fn read_text<const N: usize, S: RowSink<N>>(

@@ -6,6 +6,8 @@ use Rattle.kt_ends.specs.declared.status.Refusal.{Refusal}
 use Rattle.kt_ends.specs.declared.tool_stop.ToolStop.{ToolStop}
 use Rattle.kt_ends.specs.declared.tool_stop.ToolStop.TheVariants.{Refused, ReadFault, WriteFault, NoMemory}
 use Rattle.kt_keys.specs.Refusals.{is_loaded}
+use Rattle.kt_rec.specs.declared.foot_rows.ModelStop.{ModelStop}
+use Rattle.kt_rec.specs.declared.foot_rows.ModelStop.TheVariants as model
 use Rattle.kt_load.specs.EventRows.{HasFootprint, footprint_name}
 use Rattle.kt_out.specs.NamedFiles.{FileMap}
 use Rattle.kt_rec.specs.declared.table.Table.TheVariants as table
@@ -35,3 +37,8 @@ IsRowStop (Refused why) = IsRow why
 IsRowStop ReadFault = ⊥
 IsRowStop WriteFault = ⊥
 IsRowStop NoMemory = Unit {0}
+
+-- the distributions of an event were not made
+abbrev pub model_stop : ℕ → ModelStop → ToolStop
+model_stop event (model.Row row why) = Refused (Row event row why)
+model_stop event model.OutOfMemory = NoMemory

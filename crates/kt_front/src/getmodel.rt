@@ -11,7 +11,7 @@ ghost use Rattle.kt_out.specs.OutputFiles.{OutputsState};
 ghost use Rattle.kt_rec.specs.declared.table.Table.TheVariants as table;
 ghost use Rattle.kt_stream.specs.Bins.{cdf_bytes};
 ghost use Rattle.kt_front.specs.ModelOutcome.{ModelTables, model_outcome, rows_step};
-ghost use Rattle.kt_front.specs.ModelStage.{IsModelReady, IsRowStop};
+ghost use Rattle.kt_front.specs.ModelStage.{IsModelReady, IsRowStop, model_stop as stop_of_model};
 ghost use Rattle.kt_loop.specs.Running.{stream_uses};
 
 use crate::stops::load_stop;
@@ -37,6 +37,16 @@ fn put_cdfs(out: &mut Bytes, records: &[Cdf]) -> Result<(), OutOfMemory>
     Ok(())
 }
 
+/// How the tool ends where the distributions of an event were not made.
+fn model_stop(event: u32, stop: ModelStop) -> ToolStop
+    ensures { result ≡ stop_of_model event stop }
+{
+    match stop {
+        ModelStop::Row { row, cause } => ToolStop::Refused(Refusal::Row { event, row, cause }),
+        ModelStop::OutOfMemory => ToolStop::NoMemory,
+    }
+}
+
 /// Appends the distributions of an event whose footprint has these rows, unless one of them is refused.
 fn put_event(
     alloc: Global,
@@ -54,10 +64,7 @@ fn put_event(
             put_cdfs(out, records.as_slice())?;
             Ok(())
         }
-        Err(ModelStop::Row { row, cause }) => {
-            Err(ToolStop::Refused(Refusal::Row { event, row, cause }))
-        }
-        Err(ModelStop::OutOfMemory) => Err(ToolStop::NoMemory),
+        Err(stop) => Err(model_stop(event, stop)),
     }
 }
 

@@ -1,3 +1,4 @@
+pub mod FrontLemmas
 pub mod SampleLemmas
 pub mod StepLemmas
 pub mod MomentLemmas

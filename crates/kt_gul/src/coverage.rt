@@ -1,10 +1,11 @@
 //! The records of the items of one coverage that an event strikes.
 //! The rules: docs/CALCULATION.md, "Coverage cut"; docs/STREAMS.md, "Records".
-ghost use Rattle.std.specs.Prelude.{◌≡◌, ℕ, ◌+◌, ◌*◌, ◌<◌, ◌≤◌, ◌^◌, true, length, slice_index, map, drop, All, IfOk, OnOk, [], ◌++◌};
+ghost use Rattle.std.specs.Prelude.{◌≡◌, ℕ, ◌+◌, ◌*◌, ◌<◌, ◌≤◌, ◌^◌, true, length, slice_index, map, drop, All, IfOk, OnOk, OnErr, [], ◌++◌};
 ghost use Rattle.std.specs.List.{filter_map, flat_map, range_with_len};
 ghost use Rattle.kt_rec.specs.declared.table.Table.TheVariants as table;
 ghost use Rattle.kt_keys.specs.Refusals.{is_loaded};
 ghost use Rattle.kt_checks.specs.TableChecks.{tiv_of};
+ghost use Rattle.kt_gul.specs.Fronts.{StandsInFront};
 ghost use Rattle.kt_gul.specs.GroundUp.{item_tiv, raw_loss, item_record};
 ghost use Rattle.kt_gul.specs.Steps.{AreTables};
 ghost use Rattle.kt_gul.specs.Coverage.{IsRow, IsScratch, IsStruck, IsGroup, group_total};
@@ -110,6 +111,8 @@ fn push_plain<E: Exit>(
     requires losses { losses.now ≡ flat_map (λ struck. map (raw_loss portfolio.now.rows draw.event cdfs.now struck.item) (range_with_len 0 (draw.samples + 2))) group.now }
     requires plain { draw.cut ≡ true → (place : ℕ) → 1 ≤ place → place < draw.samples + 2 → group_total portfolio.now.rows draw.event cdfs.now group.now place ≤ tiv_of portfolio.now.rows.coverages coverage }
     ensures ok { OnOk result (E.pieces exit.new ≡ E.pieces exit.old ++ flat_map E.spelled (filter_map (item_record portfolio.now.rows draw.samples draw.cut draw.event cdfs.now) (map (λ struck. struck.item) group.now))) }
+
+    ensures front { OnErr result (StandsInFront (E.pieces exit.old) (E.pieces exit.new)) }
 {
     let width = draw.samples as usize + 2;
     let mut rest = losses;
@@ -146,6 +149,8 @@ fn push_cut<E: Exit>(
     requires cut { length cut.old ≡ draw.samples + 2 }
     requires most { (place : ℕ) → place < draw.samples + 2 → group_total portfolio.now.rows draw.event cdfs.now group.now place < 2 ^ 64 }
     ensures ok { OnOk result (E.pieces exit.new ≡ E.pieces exit.old ++ flat_map E.spelled (filter_map (item_record portfolio.now.rows draw.samples draw.cut draw.event cdfs.now) (map (λ struck. struck.item) group.now))) }
+
+    ensures front { OnErr result (StandsInFront (E.pieces exit.old) (E.pieces exit.new)) }
 {
     let width = draw.samples as usize + 2;
     clear(before);
@@ -181,6 +186,8 @@ fn push_single<E: Exit>(
     requires single { length group.now ≡ 1 }
     requires empty { losses.items ≡ [] }
     ensures ok { OnOk result (E.pieces exit.new ≡ E.pieces exit.old ++ flat_map E.spelled (filter_map (item_record portfolio.now.rows draw.samples draw.cut draw.event cdfs.now) (map (λ struck. struck.item) group.now))) }
+
+    ensures front { OnErr result (StandsInFront (E.pieces exit.old) (E.pieces exit.new)) }
 {
     let losses = struck_losses(portfolio, draw, tiv, cdfs, tables, &group[0], losses)?;
     push_plain(portfolio, draw, coverage, cdfs, group, &losses, exit)?;
@@ -207,6 +214,8 @@ pub(crate) fn push_coverage<E: Exit>(
     requires scratch { IsScratch (draw.samples + 2) scratch }
     ensures scratch { IfOk result (IsScratch (draw.samples + 2)) }
     ensures ok { OnOk result (E.pieces exit.new ≡ E.pieces exit.old ++ flat_map E.spelled (filter_map (item_record portfolio.now.rows draw.samples draw.cut draw.event cdfs.now) (map (λ struck. struck.item) group.now))) }
+
+    ensures front { OnErr result (StandsInFront (E.pieces exit.old) (E.pieces exit.new)) }
 {
     let tiv = portfolio.tiv(coverage);
     let Scratch {

@@ -1,6 +1,6 @@
 //! The ground-up losses of an event, as records.
 //! The rules: docs/CALCULATION.md, "Sampled loss", "Mean and deviation of an item", "Coverage cut".
-ghost use Rattle.std.specs.Prelude.{◌≡◌, ◌+◌, ◌-◌, ◌<◌, ◌≤◌, true, length, map, take, drop, All, IfOk, OnOk, ◌++◌, slice_index_or};
+ghost use Rattle.std.specs.Prelude.{◌≡◌, ◌+◌, ◌-◌, ◌<◌, ◌≤◌, true, length, map, take, drop, All, IfOk, OnOk, OnErr, ◌++◌, slice_index_or};
 ghost use Rattle.std.specs.List.{filter_map, flat_map};
 ghost use Rattle.std.specs.List.Sorted.{IsPermutation, IsNonDecreasingBy};
 ghost use Rattle.kt_rec.specs.declared.table.Table.TheVariants as table;
@@ -9,6 +9,7 @@ ghost use Rattle.kt_stream.specs.Losses.{IsLoss, loss_bytes};
 ghost use Rattle.kt_stream.specs.Pairs.{IsId};
 ghost use Rattle.kt_stream.specs.declared.entry.LossRecord.{LossRecord};
 ghost use Rattle.kt_gul.specs.declared.struck.StruckItem.{StruckItem};
+ghost use Rattle.kt_gul.specs.Fronts.{StandsInFront};
 ghost use Rattle.kt_gul.specs.GroundUp.{item_record, ground_up_records};
 ghost use Rattle.kt_gul.specs.StruckItems.{AreCdfs, AreInOrder, id_of, item_of};
 ghost use Rattle.kt_gul.specs.Steps.{AreTables};
@@ -16,7 +17,7 @@ ghost use Rattle.kt_gul.specs.Groups.{IsGroupEnd};
 
 use crate::coverage::push_coverage;
 use crate::draw::Draw;
-use crate::exit::{Exit, Written};
+use crate::exit::{Exit, Written, pairs_room};
 use crate::held::{CdfEntry, HeldCdf, held_cdfs};
 use crate::struck::{StruckItem, is_by_id, struck_items};
 use crate::sums::Scratch;
@@ -65,6 +66,8 @@ fn put_groups<E: Exit>(
     requires order { AreInOrder portfolio.now.rows cdfs.now struck.now }
     requires tables { AreTables portfolio.now.rows.damage_bin_dict cdfs.now (length cdfs.now) tables.now.tables.items tables.now.steps.items }
     ensures ok { OnOk result (E.pieces exit.new ≡ E.pieces exit.old ++ flat_map E.spelled (filter_map (item_record portfolio.now.rows draw.samples draw.cut draw.event cdfs.now) (map item_of struck.now))) }
+
+    ensures front { OnErr result (StandsInFront (E.pieces exit.old) (E.pieces exit.new)) }
 {
     portfolio.is_valid();
     let mut scratch = Scratch::new(draw.alloc, draw.samples as usize + 2)?;
@@ -111,17 +114,23 @@ fn records_by_id(
     Ok(records)
 }
 
-/// Appends the bytes of records.
+/// Appends the bytes of records, all or none.
 fn put_records(out: &mut Bytes, records: &[LossRecord]) -> Result<(), AllocError>
     ensures ok { OnOk result (out.new ≡ out.old ++ flat_map loss_bytes records.now) }
+
+    ensures unchanged { OnErr result (out.new ≡ out.old) }
 {
+    let before = out.len();
     for record in records {
-        put_loss(out, record)?;
+        if let Err(stop) = put_loss(out, record) {
+            out.truncate(before);
+            return Err(stop);
+        }
     }
     Ok(())
 }
 
-/// Appends the bytes of the records of struck items that stand by rising id.
+/// Appends the bytes of the records of struck items that stand by rising id, all or none.
 fn put_written(
     portfolio: &Portfolio,
     draw: Draw,
@@ -136,13 +145,23 @@ fn put_written(
     requires tables { AreTables portfolio.now.rows.damage_bin_dict cdfs.now (length cdfs.now) tables.now.tables.items tables.now.steps.items }
     requires rising { IsNonDecreasingBy id_of struck.now }
     ensures ok { OnOk result (out.new ≡ out.old ++ flat_map loss_bytes (ground_up_records portfolio.now.rows draw.samples draw.cut draw.event cdfs.now)) }
+
+    ensures unchanged { OnErr result (out.new ≡ out.old) }
 {
     portfolio.is_valid();
+    let room = pairs_room(draw.alloc)?;
+    let length = out.len();
     let before = replace(out, Bytes::new(draw.alloc));
-    let mut written = Written::new(draw.alloc, before)?;
-    put_groups(portfolio, draw, cdfs, tables, struck, &mut written)?;
+    let mut written = Written::new(before, room);
+    let answer = put_groups(portfolio, draw, cdfs, tables, struck, &mut written);
     *out = written.into_bytes();
-    Ok(())
+    match answer {
+        Ok(()) => Ok(()),
+        Err(stop) => {
+            out.truncate(length);
+            Err(stop)
+        }
+    }
 }
 
 /// The items that an event strikes, by coverage and then by id.
@@ -194,7 +213,7 @@ pub fn ground_up(
 }
 
 /// Appends the records of the ground-up losses of an event as they stand in a stream: those of `ground_up`, which says what must
-/// hold. An error is want of memory.
+/// hold. An error is want of memory; the bytes are then as they were.
 pub fn put_ground_up<T: CdfEntry>(
     alloc: Global,
     portfolio: &Portfolio,
@@ -208,6 +227,8 @@ pub fn put_ground_up<T: CdfEntry>(
     requires samples { samples ≤ 1000 }
     requires cdfs { AreCdfs (length portfolio.now.rows.damage_bin_dict) (map T.cdf_of cdfs.now) }
     ensures ok { OnOk result (out.new ≡ out.old ++ flat_map loss_bytes (ground_up_records portfolio.now.rows samples cut event (map T.cdf_of cdfs.now))) }
+
+    ensures unchanged { OnErr result (out.new ≡ out.old) }
 {
     portfolio.is_valid();
     let cdfs = held_cdfs(alloc, cdfs)?;

@@ -1,7 +1,8 @@
 //! Where the records of an event's losses go: into a list, or into the bytes of a stream.
 //! The rules: docs/CALCULATION.md, "Coverage cut"; docs/STREAMS.md, "Records".
-ghost use Rattle.std.specs.Prelude.{◌≡◌, ◌+◌, ◌*◌, ◌≤◌, ◌++◌, [], ◌∷◌, length, slice_index, IfOk, OnOk};
+ghost use Rattle.std.specs.Prelude.{◌≡◌, ◌+◌, ◌*◌, ◌≤◌, ◌++◌, [], ◌∷◌, length, slice_index, IfOk, OnOk, OnErr};
 ghost use Rattle.std.specs.List.{filter_map, flat_map};
+ghost use Rattle.kt_gul.specs.Fronts.{StandsInFront};
 ghost use Rattle.kt_gul.specs.GroundUp.{pairs_of, record_with};
 
 use crate::draw::Draw;
@@ -29,11 +30,13 @@ pub trait Exit {
     ghost spelled: { LossRecord → List Piece };
 
     /// Appends the record of an item's losses by their places, where one is above 0. An error
-    /// is want of memory.
+    /// is want of memory; the pieces that it had stay in front.
     fn put(&mut self, draw: Draw, id: u32, row: &[u64]) -> Result<(), AllocError>
         requires samples { draw.samples ≤ 1000 }
         requires row { length row.now ≡ draw.samples + 2 }
-        ensures ok { OnOk result (pieces self.new ≡ pieces self.old ++ flat_map spelled (filter_map (record_with draw.event id) (pairs_of (λ place. slice_index row.now place) draw.samples ∷ []))) };
+        ensures ok { OnOk result (pieces self.new ≡ pieces self.old ++ flat_map spelled (filter_map (record_with draw.event id) (pairs_of (λ place. slice_index row.now place) draw.samples ∷ []))) }
+
+        ensures front { OnErr result (StandsInFront (pieces self.old) (pieces self.new)) };
 }
 
 impl Exit for Vec<LossRecord> {
@@ -59,6 +62,13 @@ impl Exit for Vec<LossRecord> {
     }
 }
 
+/// Room for the bytes of one record's pairs. An error is want of memory.
+pub(crate) fn pairs_room(alloc: Global) -> Result<Vec<u8>, AllocError>
+    ensures size { IfOk result (λ room. length room.items ≡ 12036) }
+{
+    vec![in alloc; 0; MOST_PAIRS]
+}
+
 /// The bytes of a stream, which get the records of losses. Contracts see the bytes.
 #[derive(Drop)]
 pub struct Written {
@@ -78,12 +88,12 @@ impl Model for Written {
 }
 
 impl Written {
-    /// Behind these bytes. An error is want of memory.
-    pub(crate) fn new(alloc: Global, out: Bytes) -> Result<Written, AllocError>
-        ensures value { IfOk result (λ written. written ≡ out) }
+    /// Behind these bytes, with this room for the bytes of one record's pairs.
+    pub(crate) fn new(out: Bytes, room: Vec<u8>) -> Written
+        requires room { length room.items ≡ 12036 }
+        ensures value { result ≡ out }
     {
-        let room = vec![in alloc; 0; MOST_PAIRS]?;
-        Ok(Written { out, room })
+        Written { out, room }
     }
 
     /// The bytes.

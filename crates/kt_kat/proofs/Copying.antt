@@ -14,6 +14,7 @@ use Rattle.kt_ends.specs.declared.status.Status.TheVariants.{Done, ReadFault, No
 use Rattle.kt_loop.specs.InputFile.{IsSized, file_bytes, left_from}
 use Rattle.kt_loop.specs.Outcome.{gives}
 use Rattle.kt_loop.specs.Settling.{IsEnd}
+use Rattle.kt_kat.specs.Stops.{unread_stop}
 
 -- so many bytes of the file are written, where the file and the sink are known
 abbrev pub HasCopied : Option (List ℕ) → ℕ → Option (List ℕ) → Option (List ℕ) → Type 0
@@ -86,13 +87,18 @@ copied_so_far (Some bytes) at before now had = by_sink before had
 
 -- ---- ends
 
-pub read_failed : (left before now : Option (List ℕ)) → CopiedFront left before now → IfSome left (λ bytes. IsEnd (gives Done bytes) before now ReadFault)
+read_failed : (left before now : Option (List ℕ)) → CopiedFront left before now → IfSome left (λ bytes. IsEnd (gives Done bytes) before now ReadFault)
 read_failed None before now front = tt
 read_failed (Some bytes) before now front = record { verdict = tt; output = front }
 
-pub memory_wanting : (left before now : Option (List ℕ)) → CopiedFront left before now → IfSome left (λ bytes. IsEnd (gives Done bytes) before now NoMemory)
+memory_wanting : (left before now : Option (List ℕ)) → CopiedFront left before now → IfSome left (λ bytes. IsEnd (gives Done bytes) before now NoMemory)
 memory_wanting None before now front = tt
 memory_wanting (Some bytes) before now front = record { verdict = tt; output = front }
+
+-- whatever the fault of the read was
+pub read_stopped : (fault : Fault) (left before now : Option (List ℕ)) → CopiedFront left before now → IfSome left (λ bytes. IsEnd (gives Done bytes) before now (stop_status (unread_stop fault)))
+read_stopped Failed left before now front = read_failed left before now front
+read_stopped OutOfMemory left before now front = memory_wanting left before now front
 
 write_failed : (fault : Fault) (left before now : Option (List ℕ)) → CopiedFront left before now → IfSome left (λ bytes. IsEnd (gives Done bytes) before now (stop_status (fault_stop fault)))
 write_failed fault None before now front = tt

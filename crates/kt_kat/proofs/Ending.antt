@@ -4,6 +4,8 @@ use Rattle.std.specs.Prelude.{IfSome}
 use Rattle.std.proofs.lemmas.Bool.{false≢true}
 use Rattle.kt_out.specs.Counts.{Rose}
 use Rattle.kt_out.specs.InputFiles.{InputsState, CountsFault}
+use Rattle.kt_out.specs.declared.fault.Fault.{Fault}
+use Rattle.kt_out.specs.declared.fault.Fault.TheVariants.{Failed, OutOfMemory}
 use Rattle.kt_out.specs.NamedFiles.{FileMap}
 use Rattle.kt_out.specs.OutputFiles.{OutputsState}
 use Rattle.kt_out.specs.Reading.{SourceState}
@@ -24,7 +26,8 @@ use Rattle.kt_ends.specs.declared.tool_stop.ToolStop.TheVariants as stop
 use Rattle.kt_loop.specs.InputFile.{file_bytes}
 use Rattle.kt_loop.specs.Settling.{IsEnd}
 use Rattle.kt_kat.specs.Files.{files_of}
-use Rattle.kt_kat.specs.Found.{AreFound, TellsRefusal, Looked}
+use Rattle.kt_kat.specs.Found.{AreFound, TellsRefusal, Looked, LooksInto}
+use Rattle.kt_kat.specs.Stops.{unread_stop}
 use Rattle.kt_kat.specs.FileKinds.{kind_at_front, kind_of_files}
 use Rattle.kt_kat.specs.Joining.{joined_files}
 use Rattle.kt_kat.specs.declared.front.FileKind.{FileKind}
@@ -163,9 +166,14 @@ module _ (names : List (List ℕ)) (before now : InputsState) (outputs : Outputs
   ends_unfound T stop.WriteFault tells looked = absurd looked
   ends_unfound T stop.NoMemory tells looked = ends_for_memory _ kat_uses _ _ _ (way looked)
 
-  -- the first file could not be read
-  pub ends_unread : CountsFault before now → ToolEnds kat_uses (λ files bytes. kat_outcome names files) (world before outputs source sink) (world now outputs source sink) status.ReadFault
+  -- the first file could not be looked into
+  ends_unread : CountsFault before now → ToolEnds kat_uses (λ files bytes. kat_outcome names files) (world before outputs source sink) (world now outputs source sink) status.ReadFault
   ends_unread failed = ends_unread_files _ kat_uses _ _ _ refl failed refl refl refl
 
-  pub ends_wanting : now ≡ before → ToolEnds kat_uses (λ files bytes. kat_outcome names files) (world before outputs source sink) (world now outputs source sink) status.NoMemory
+  ends_wanting : now ≡ before → ToolEnds kat_uses (λ files bytes. kat_outcome names files) (world before outputs source sink) (world now outputs source sink) status.NoMemory
   ends_wanting same = ends_for_memory _ kat_uses _ _ _ (way same)
+
+  -- whatever the fault of the look was
+  pub ends_unseen : (T : Type 0) (fault : Fault) → LooksInto {T = T} before now (Err fault) → ToolEnds kat_uses (λ files bytes. kat_outcome names files) (world before outputs source sink) (world now outputs source sink) (stop_status (unread_stop fault))
+  ends_unseen T Failed looked = ends_unread looked
+  ends_unseen T OutOfMemory looked = ends_wanting looked

@@ -3,16 +3,14 @@ use Rattle.std.proofs.Common.{◌≡◌, ℕ, ◌+◌, List, [], ◌∷◌, ◌+
 use Rattle.std.specs.Prelude.{IfSome, map}
 use Rattle.std.specs.List.{slice_get}
 use Rattle.std.proofs.lemmas.Option.{slice_get_within, unwrap_or-slice_get}
-use Rattle.kt_out.specs.InputFiles.{InputsState, CountsFault}
+use Rattle.kt_out.specs.InputFiles.{InputsState}
 use Rattle.kt_out.specs.NamedFiles.{FileMap}
-use Rattle.kt_out.specs.declared.fault.Fault.{Fault}
-use Rattle.kt_out.specs.declared.fault.Fault.TheVariants.{Failed, OutOfMemory}
 use Rattle.kt_ends.specs.declared.status.Refusal.{Refusal}
 use Rattle.kt_ends.specs.declared.status.Refusal.TheVariants as refusal
 use Rattle.kt_ends.specs.declared.tool_stop.ToolStop.{ToolStop}
 use Rattle.kt_ends.specs.declared.tool_stop.ToolStop.TheVariants as stop
 use Rattle.kt_kat.specs.Files.{found_file, and_files, files_of}
-use Rattle.kt_kat.specs.Found.{IsFound, AreFound, TellsRefusal, Looked, LooksInto}
+use Rattle.kt_kat.specs.Found.{IsFound, AreFound, TellsRefusal, Looked}
 
 -- the word at a place, and the words behind it
 pub word_at : (words : List (List ℕ)) (n : ℕ) (word : List ℕ) → slice_get words n ≡ Some word → drop n words ≡ word ∷ drop (n + 1) words
@@ -90,11 +88,3 @@ looked_on T U first before after why same looked = subst (λ (state : InputsStat
     stop_as stop.ReadFault looked = looked
     stop_as stop.WriteFault looked = absurd looked
     stop_as stop.NoMemory looked = looked
-
--- ---- a look into a file
-
-pub looked_failed : (T : Type 0) (before after : InputsState) (fault : Fault) → fault ≡ Failed → LooksInto {T = T} before after (Err fault) → CountsFault before after
-looked_failed T before after fault is looked = let told : LooksInto {T = T} before after (Err Failed) = subst (λ (f : Fault). LooksInto {T = T} before after (Err f)) is looked in told
-
-pub looked_wanting : (T : Type 0) (before after : InputsState) (fault : Fault) → fault ≡ OutOfMemory → LooksInto {T = T} before after (Err fault) → after ≡ before
-looked_wanting T before after fault is looked = let told : LooksInto {T = T} before after (Err OutOfMemory) = subst (λ (f : Fault). LooksInto {T = T} before after (Err f)) is looked in told

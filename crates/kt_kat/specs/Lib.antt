@@ -1,5 +1,6 @@
 pub mod Files
 pub mod Found
+pub mod Stops
 pub mod Joining
 pub mod Stage
 pub mod FileKinds

@@ -8,6 +8,7 @@ mod kinds;
 pub mod laws;
 mod plain;
 mod sizes;
+mod stops;
 mod streams;
 mod tool;
 

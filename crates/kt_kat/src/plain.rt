@@ -4,9 +4,10 @@ ghost use Rattle.std.specs.Prelude.{◌≡◌, ◌≤◌, ◌+◌, ◌<◌, take
 ghost use Rattle.kt_out.specs.Writing.{Gains};
 
 use crate::file_step::FileStep;
+use crate::stops::unread_stop;
 use kt_ends::{ToolStop, write_stop};
 use kt_loop::{BLOCK, read_piece, zeros};
-use kt_out::{Fault, Inputs, Sink, write_all};
+use kt_out::{Inputs, Sink, write_all};
 use std::alloc::Global;
 
 /// Writes the bytes of files.
@@ -41,8 +42,7 @@ impl FileStep for PlainBytes {
         'pieces: while at < size {
             let read = match read_piece(inputs, name, size, at, block.as_mut_slice()) {
                 Ok(read) => read,
-                Err(Fault::Failed) => return Err(ToolStop::ReadFault),
-                Err(Fault::OutOfMemory) => return Err(ToolStop::NoMemory),
+                Err(fault) => return Err(unread_stop(fault)),
             };
             if let Err(fault) = write_all(sink, &block[..read]) {
                 return Err(write_stop(fault));

@@ -4,14 +4,12 @@ ghost use Rattle.std.specs.Prelude.{◌≡◌, ◌+◌, ◌<◌, ◌≤◌, leng
 ghost use Rattle.kt_kat.specs.Files.{found_file, files_of, file_limit};
 ghost use Rattle.kt_kat.specs.Found.{IsFound, AreFound, TellsRefusal, Looked};
 
-use kt_ends::{Refusal, ToolStop};
-use kt_out::{Absent, Inputs};
+use crate::stops::{absent_stop, size_within};
+use kt_ends::ToolStop;
+use kt_out::Inputs;
 use kt_rec::Name;
 use kt_words::Words;
 use std::alloc::{AllocError, Global};
-
-/// The most bytes of a file.
-const FILE_LIMIT: u64 = 1_073_741_824;
 
 /// A name of these bytes.
 fn name_of(alloc: Global, bytes: &[u8]) -> Result<Name, AllocError>
@@ -33,16 +31,10 @@ fn size_of<I: Inputs>(alloc: Global, inputs: &mut I, word: &[u8]) -> Result<u64,
     let Ok(name) = name_of(alloc, word) else {
         return Err(ToolStop::NoMemory);
     };
-    let size = match inputs.size(word) {
-        Ok(size) => size,
-        Err(Absent::Missing) => return Err(ToolStop::Refused(Refusal::Missing { name })),
-        Err(Absent::Failed) => return Err(ToolStop::ReadFault),
-        Err(Absent::OutOfMemory) => return Err(ToolStop::NoMemory),
-    };
-    if size > FILE_LIMIT {
-        return Err(ToolStop::Refused(Refusal::TooLarge { name }));
+    match inputs.size(word) {
+        Ok(size) => size_within(name, size),
+        Err(why) => Err(absent_stop(name, why)),
     }
-    Ok(size)
 }
 
 /// The sizes of the files that all words but the first name, in their order. The first that is missing or too large is refused.

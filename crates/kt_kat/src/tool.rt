@@ -17,9 +17,10 @@ use crate::front::{FileKind, kind_of_file};
 use crate::kinds::{CdfStreams, GulStreams, LossStreams, SummaryStreams};
 use crate::plain::PlainBytes;
 use crate::sizes::find_sizes;
+use crate::stops::unread_stop;
 use crate::streams::StreamFiles;
 use kt_ends::ToolStop;
-use kt_out::{Fault, Inputs, Sink};
+use kt_out::{Inputs, Sink};
 use kt_words::Words;
 use std::alloc::Global;
 
@@ -70,8 +71,7 @@ pub fn kat<I: Inputs, K: Sink>(
     };
     let kind = match kind_of_file(inputs, words.word(1), sizes[0]) {
         Ok(kind) => kind,
-        Err(Fault::Failed) => return Err(ToolStop::ReadFault),
-        Err(Fault::OutOfMemory) => return Err(ToolStop::NoMemory),
+        Err(fault) => return Err(unread_stop(fault)),
     };
     write_together(alloc, kind, words, sizes.as_slice(), inputs, sink)
 }

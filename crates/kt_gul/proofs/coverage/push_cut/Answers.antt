@@ -3,6 +3,7 @@ use Rattle.std.proofs.lemmas.Grind.{common_steps}
 use Rattle.kt_gul.specs.declared.struck.StruckItem.{StruckItem}
 use Rattle.kt_gul.specs.Coverage.{IsRow}
 use Rattle.kt_gul.specs.GroundUp.{final_loss, raw_loss}
+use Rattle.kt_gul.proofs.FrontLemmas.{put_behind, where_refused}
 use Rattle.kt_gul.proofs.CoverageLemmas.{rest_long, row_front, total_within, pushed_more, cut_pairs_are, pieces_more}
 use Rattle.kt_gul.proofs.coverage.push_cut.Goals as goal
 
@@ -77,3 +78,7 @@ returns g c = grind (arith, common_steps)
 
 pub cut_row-requires-clause-losses : goal.cut_row-requires-clause-losses
 cut_row-requires-clause-losses g c = grind (arith, common_steps)
+
+pub returns-in_err-put-clause-front : goal.returns-in_err-put-clause-front
+returns-in_err-put-clause-front g c =
+    where_refused c.from_residual.result (put_behind (g.E.Exit.pieces c.args.exit.now) _ (g.E.Exit.pieces c.loop-struck.exit) (g.E.Exit.pieces c.put.new.self) c.loop-struck.invariant.pieces_are c.in_err-put.ensures.front)

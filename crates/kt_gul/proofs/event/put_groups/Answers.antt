@@ -6,6 +6,7 @@ use Rattle.kt_gul.specs.declared.struck.StruckItem.{StruckItem}
 use Rattle.kt_gul.specs.Coverage.{IsGroup}
 use Rattle.kt_gul.specs.GroundUp.{item_record}
 use Rattle.kt_gul.specs.StruckItems.{item_of}
+use Rattle.kt_gul.proofs.FrontLemmas.{put_behind, where_refused}
 use Rattle.kt_gul.proofs.GroupLemmas.{group_is, done_more}
 use Rattle.kt_gul.proofs.event.put_groups.Goals as goal
 
@@ -44,10 +45,13 @@ loop-start-init g c = record {
   scratch = c.in_ok-scratch.ensures.value;
 }
 
-pub returns : goal.returns
-returns g c =
+pub returns-clause-ok : goal.returns-clause-ok
+returns-clause-ok g c =
     let first = g.E.Exit.pieces c.args.exit.now in
     let made = item_record c.args.portfolio.now.rows c.args.draw.samples c.args.draw.cut c.args.draw.event c.args.cdfs.now in
-    record {
-      ok = c.loop-start.invariant.done.pieces_are ∙ ap (λ (struck : List StruckItem). first ++ flat_map g.E.Exit.spelled (filter_map made (map item_of struck))) (take_all c.loop-start.start c.args.struck.now (omega (arith, c.loop-start-test.false)));
-    }
+    c.loop-start.invariant.done.pieces_are ∙ ap (λ (struck : List StruckItem). first ++ flat_map g.E.Exit.spelled (filter_map made (map item_of struck))) (take_all c.loop-start.start c.args.struck.now (omega (arith, c.loop-start-test.false)))
+
+pub returns-in_err-scratch-2-clause-front : goal.returns-in_err-scratch-2-clause-front
+returns-in_err-scratch-2-clause-front g c =
+    where_refused c.from_residual-in_err-scratch-2.result
+    (put_behind (g.E.Exit.pieces c.args.exit.now) _ (g.E.Exit.pieces c.loop-start.exit) (g.E.Exit.pieces c.push_coverage.new.exit) c.loop-start.invariant.done.pieces_are c.in_err-scratch-2.ensures.front)

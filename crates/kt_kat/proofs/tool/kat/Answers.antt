@@ -1,18 +1,19 @@
-use Rattle.std.proofs.Common.{◌≡◌, ◌∙◌, ◌<◌, Ok, List, ℕ, length, drop, subst, refl, sym, ap, arith}
+use Rattle.std.proofs.Common.{◌≡◌, ◌∙◌, ◌<◌, Ok, Err, List, ℕ, length, drop, subst, refl, sym, ap, arith}
 use Rattle.std.specs.Prelude.{IfSome}
 use Rattle.std.proofs.lemmas.List.{length-drop}
 use Rattle.std.specs.Global.{Vec}
-use Rattle.kt_out.specs.InputFiles.{InputsState, CountsFault}
+use Rattle.kt_out.specs.InputFiles.{InputsState}
 use Rattle.kt_ends.specs.Stops.{end_status}
 use Rattle.kt_loop.specs.InputFile.{IsSized, file_bytes}
 use Rattle.kt_loop.specs.Settling.{IsEnd}
 use Rattle.kt_kat.specs.FileKinds.{kind_at_front}
 use Rattle.kt_kat.specs.Files.{files_of}
+use Rattle.kt_kat.specs.Found.{LooksInto}
 use Rattle.kt_kat.specs.declared.front.FileKind.{FileKind}
 use Rattle.kt_kat.specs.Outcome.{together}
-use Rattle.kt_kat.proofs.Finding.{word_at, looked_failed, looked_wanting}
+use Rattle.kt_kat.proofs.Finding.{word_at}
 use Rattle.kt_kat.proofs.OneByOne.{sized_first, first_size}
-use Rattle.kt_kat.proofs.Ending.{ended_found, ends_together, ends_unfound, ends_unread, ends_wanting, counted_from}
+use Rattle.kt_kat.proofs.Ending.{ended_found, ends_together, ends_unfound, ends_unseen, counted_from}
 use Rattle.kt_kat.proofs.tool.kat.Goals as goal
 
 pub kind_of_file-requires : goal.kind_of_file-requires
@@ -26,12 +27,10 @@ kind_of_file-requires g c =
 pub returns-in-Err : goal.returns-in-Err
 returns-in-Err g c outputs source = ends_unfound (drop 1 c.args.words.now) _ _ outputs source _ (Vec ℕ) c.in-Err.stop c.in-Err.ensures.refused c.in-Err.ensures.counted
 
-pub returns-in-Err-Failed : goal.returns-in-Err-Failed
-returns-in-Err-Failed g c outputs source =
-    ends_unread (drop 1 c.args.words.now) _ _ outputs source _ (subst (λ (state : InputsState). CountsFault state (g.I.Inputs.state c.kind_of_file.new.inputs)) c.in-Ok.ensures.counted (looked_failed FileKind _ _ c.in-Err-Failed.field-0 c.in-Err-Failed.field-0-is c.in-Err-Failed.ensures.counts))
-
-pub returns-in-Err-OutOfMemory : goal.returns-in-Err-OutOfMemory
-returns-in-Err-OutOfMemory g c outputs source = ends_wanting (drop 1 c.args.words.now) _ _ outputs source _ (looked_wanting FileKind _ _ c.in-Err-OutOfMemory.field-0 c.in-Err-OutOfMemory.field-0-is c.in-Err-OutOfMemory.ensures.counts ∙ c.in-Ok.ensures.counted)
+pub returns-in-Err-kind_of_file : goal.returns-in-Err-kind_of_file
+returns-in-Err-kind_of_file g c outputs source =
+    let looked = subst (λ (state : InputsState). LooksInto {T = FileKind} state (g.I.Inputs.state c.kind_of_file.new.inputs) (Err c.in-Err-kind_of_file.fault)) c.in-Ok.ensures.counted c.in-Err-kind_of_file.ensures.counts in
+    rw c.unread_stop.ensures (ends_unseen (drop 1 c.args.words.now) _ _ outputs source _ FileKind c.in-Err-kind_of_file.fault looked)
 
 pub returns : goal.returns
 returns g c outputs source =

@@ -1,0 +1,20 @@
+-- What stands in front stays there, whatever is put behind it.
+use Rattle.std.proofs.Common.{◌≡◌, List, ◌++◌, ◌≤◌, length, take, ap, sym, ◌∙◌, arith, Result, Ok, Err, OnErr}
+use Rattle.std.proofs.Math.Seq.{take-append_seam}
+use Rattle.std.proofs.lemmas.List.{length-append, take-take}
+use Rattle.kt_gul.specs.Fronts.{StandsInFront}
+
+-- something was put
+pub some_put : {A : Type 0} (before more now : List A) → now ≡ before ++ more → StandsInFront before now
+some_put before more now is = ap (take (length before)) is ∙ take-append_seam before more
+
+-- something was put, and some of the next behind it
+pub put_behind : {A : Type 0} (before more middle now : List A) → middle ≡ before ++ more → StandsInFront middle now → StandsInFront before now
+put_behind before more middle now is front =
+    let within : length before ≤ length middle = omega (arith, ap length is, length-append before more) in
+    sym (take-take (length before) (length middle) now within) ∙ (ap (take (length before)) front ∙ some_put before more middle is)
+
+-- what holds holds where a call was refused
+pub where_refused : {A E : Type 0} {Holds : Type 0} (result : Result A E) → Holds → OnErr result Holds
+where_refused (Ok value) holds = tt
+where_refused (Err stop) holds = holds
