@@ -93,6 +93,10 @@ pub stopped_extends : {E : Type 0} (form : Form E) (shape : Shape) (head : Optio
 stopped_extends form shape head row stop start pending piece =
     extends_by form (stopped shape head row stop start pending) piece (stopped shape head row stop start pending) refl (λ more. refl) (faces form shape head row (Some stop) start pending tt) (λ n at-place. tt)
 
+-- a piece behind what was left of a block
+pub piece_behind : (left pending piece now : List ℕ) → now ≡ left ++ piece → left ≡ pending → now ≡ pending ++ piece
+piece_behind left pending piece now is same = is ∙ ap (λ (xs : List ℕ). xs ++ piece) same
+
 longer : (start : ℕ) (pending piece now : List ℕ) → now ≡ pending ++ piece → (n : ℕ) → start + length pending ≡ n → start + length now ≡ n + length piece
 longer start pending piece now is n at-place = omega (arith, ap length is, length-append pending piece, at-place)
 

@@ -214,7 +214,8 @@ impl<E: Entry> RecordReader<E> {
         self.head
     }
 
-    /// Says that the stream ends here: Ok exactly where the bytes are a whole stream of the kind.
+    /// Says that the stream ends here, once all whole records were read: Ok exactly where the bytes are a whole stream
+    /// of the kind.
     pub fn finish(&self) -> Result<(), StreamStop>
         requires { IsRested E E.form self.now }
         ensures exact { Finishes E E.form self.now result }
