@@ -1,5 +1,5 @@
 -- What the parts of a round that were folded do to its events.
-use Rattle.std.proofs.Common.{◌≡◌, ◌≤◌, ◌<◌, ℕ, zero, suc, ◌+◌, ◌-◌, ◌*◌, ◌/◌, ◌%◌, List, [], ◌∷◌, ◌++◌, length, map, take, drop, Option, Some, None, refl, sym, ap, subst, ◌∙◌, append_assoc, append-nil, arith}
+use Rattle.std.proofs.Common.{◌≡◌, ◌≤◌, ◌<◌, ℕ, zero, suc, ◌+◌, ◌-◌, ◌*◌, ◌/◌, ◌%◌, List, [], ◌∷◌, ◌++◌, length, map, take, drop, Option, Some, None, Result, Ok, Err, IfOk, refl, sym, ap, subst, ◌∙◌, append_assoc, append-nil, arith}
 use Rattle.std.specs.List.{AllByRecursion}
 use Rattle.std.proofs.Math.Nat.{div-add-mod, div-lt_iff_lt-mul, mod-lt}
 use Rattle.std.proofs.lemmas.List.{map-append, take-append-drop}
@@ -17,7 +17,7 @@ use Rattle.kt_tree.specs.Sums.{each_append}
 use Rattle.kt_chain.specs.Events.{RunInput, all_added, block_added, block_of, blocks_added, event_added}
 use Rattle.kt_chain.specs.Outcome.{event_refusal, row_refusal}
 use Rattle.kt_chain.specs.Reached.{Passes, StopsAt}
-use Rattle.kt_chain.specs.Rounds.{FoldStart, FoldState, HasRows, HasStopped, IsPart, IsReason, RoundParts, StandsBehind, StopsBehind, StopsBy, blocks_of, fold_refusal, given_block, part_count, part_events, part_of, with_blocks}
+use Rattle.kt_chain.specs.Rounds.{FoldStart, FoldState, HasRows, HasStopped, IsPart, IsReason, IsWhy, RoundParts, StandsBehind, StopsBehind, StopsBy, blocks_of, fold_refusal, given_block, part_count, part_events, part_of, with_blocks}
 use Rattle.kt_load.specs.EventRows.{EventRows, ids_of}
 use Rattle.kt_chain.specs.Runs.{AreGivenRows, FoldsTo, IsFolded}
 use Rattle.kt_chain.specs.declared.fold.FoldStop.{FoldStop}
@@ -224,3 +224,9 @@ module _ (run : RunInput) (round : RoundParts) (terms_are : run.terms ≡ round.
   round_stopped fold count number stop stopped why is =
       let stops = subst (λ (found : Option Refusal). StopsBy run.rows (all_added run done) stopped.blocks stopped.block found fold.kept) is stopped.has_stopped.stops in
       round_stops fold stopped.blocks stopped.block why stopped.given (subst (λ (n : ℕ). IsPart round n stopped.block) (sym stopped.many) stopped.is_given) stops stopped.has_stopped.same stopped.has_stopped.samples
+
+-- what a stop of the fold is answered by holds what is wanted where it refuses the run
+pub why_answered : {E : Type 0} (found : Option Refusal) (answer : Result (Option Refusal) E) (Holds : Option Refusal → Type 0) → IsWhy found answer → ((why : Refusal) → found ≡ Some why → Holds (Some why)) → IfOk answer Holds
+why_answered (Some why) answer Holds is holds = rw is (holds why refl)
+why_answered None (Ok refusal) Holds is holds = absurd is
+why_answered None (Err stop) Holds is holds = tt

@@ -126,6 +126,12 @@ fold_refusal (fold_stop.Cell event why) = cell_refusal event why
 fold_refusal (fold_stop.Row row) = Some (refusal.Row row.event row.row row.cause)
 fold_refusal fold_stop.OutOfMemory = None
 
+-- the answer for a stop of the fold: why it refuses the run, or want of memory where that stopped it
+abbrev pub IsWhy : {E : Type 0} → Option Refusal → Result (Option Refusal) E → Type 0
+IsWhy (Some why) answer = answer ≡ Ok (Some why)
+IsWhy None (Ok refusal) = ⊥
+IsWhy None (Err memory) = Unit {0}
+
 -- how a fold has stopped by why it did: for want of memory nothing is said
 abbrev pub StopsBy : Rows → List Added → List PartBlock → PartBlock → Option Refusal → List PartBlock → Type 0
 StopsBy rows history parts part None kept = Unit {0}

@@ -13,10 +13,10 @@ ghost use Rattle.kt_outputs.specs.Files.{Makes, files_with};
 ghost use Rattle.kt_stream.specs.Pairs.{IsId};
 ghost use Rattle.kt_tables.specs.Lookups.{event_ids};
 ghost use Rattle.kt_chain.specs.Events.{RunInput};
-ghost use Rattle.kt_chain.specs.Rounds.{FitsRun, IsEventRefusal, IsRunStop, blocks_of};
+ghost use Rattle.kt_chain.specs.Rounds.{FitsRun, IsEventRefusal, IsRunStop, IsWhy, blocks_of, fold_refusal};
 ghost use Rattle.kt_chain.specs.Runs.{AreGivenRows, Counts, FoldsTo, IsFolded, IsRunOf, RoundGoes, RoundMakes};
 
-use crate::fold::RunFold;
+use crate::fold::{FoldStop, RunFold};
 use crate::rows::fill_rows;
 use crate::texts::RoundTexts;
 use crate::work::RoundWork;
@@ -76,6 +76,16 @@ impl<'a, R, G> Run<'a, R, G> {
     }
 }
 
+/// Why a stop of the fold refuses the run. An error is want of memory, and comes where that stopped the fold and nowhere else.
+fn why_stopped(stop: FoldStop) -> Result<Option<Refusal>, AllocError>
+    ensures { IsWhy (fold_refusal stop) result }
+{
+    match stop.refusal() {
+        Some(refusal) => Ok(Some(refusal)),
+        None => Err(AllocError),
+    }
+}
+
 /// Folds the parts of a round, and answers why one of its events is refused, if one is. An error is want of memory.
 fn fold_round<R: Threads + Sync, G: Gate + Sync>(
     run: &Run<'_, R, G>,
@@ -113,10 +123,7 @@ fn fold_round<R: Threads + Sync, G: Gate + Sync>(
     ) {
         Ok(()) => Ok(None),
         Err(RoundStop::OutOfMemory) => Err(AllocError),
-        Err(RoundStop::Fold { stop, .. }) => match stop.refusal() {
-            Some(refusal) => Ok(Some(refusal)),
-            None => Err(AllocError),
-        },
+        Err(RoundStop::Fold { stop, .. }) => why_stopped(stop),
     }
 }
 

@@ -2,7 +2,7 @@
 use Rattle.std.proofs.Common.{◌≡◌, List, ◌++◌, ◌≤◌, length, take, ap, sym, ◌∙◌, arith, Result, Ok, Err, OnErr}
 use Rattle.std.proofs.Math.Seq.{take-append_seam}
 use Rattle.std.proofs.lemmas.List.{length-append, take-take}
-use Rattle.kt_gul.specs.Fronts.{StandsInFront}
+use Rattle.kt_gul.specs.GroundUp.{StandsInFront}
 
 -- something was put
 pub some_put : {A : Type 0} (before more now : List A) → now ≡ before ++ more → StandsInFront before now

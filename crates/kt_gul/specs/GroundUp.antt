@@ -1,6 +1,6 @@
 -- The ground-up losses of an event: of each item, cut to the insured values of coverages, and as records.
 -- The rules: docs/CALCULATION.md, "Sampled loss", "Mean and deviation of an item", "Coverage cut".
-use Rattle.std.specs.Prelude.{ℕ, zero, suc, ◌+◌, ◌*◌, ◌&&◌, Bool, not, cond, nat_eq, nat_lt, ℤ, pos, negsuc, List, [], ◌∷◌, Option, None, Some}
+use Rattle.std.specs.Prelude.{ℕ, zero, suc, ◌+◌, ◌*◌, ◌&&◌, Bool, not, cond, nat_eq, nat_lt, ℤ, pos, negsuc, List, [], ◌∷◌, ◌≡◌, length, take, Option, None, Some}
 use Rattle.std.specs.List.{filter_map, range_with_len, sum_by}
 use Rattle.kt_money.specs.Sharing.{share_of}
 use Rattle.kt_rec.specs.Rows.{Rows}
@@ -110,3 +110,7 @@ by_id (row ∷ rows) = insert_by_id row (by_id rows)
 -- the records of the ground-up losses of an event: of its items by rising id
 abbrev pub ground_up_records : Rows → ℕ → Bool → ℕ → List Cdf → List LossRecord
 ground_up_records rows samples cut event cdfs = filter_map (item_record rows samples cut event cdfs) (by_id rows.items)
+
+-- what was there stands in front of what is there now: some records were put behind it, until memory was wanting
+abbrev pub StandsInFront : {A : Type 0} → List A → List A → Type 0
+StandsInFront before now = take (length before) now ≡ before

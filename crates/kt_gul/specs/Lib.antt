@@ -7,7 +7,6 @@ pub mod MomentSums
 pub mod ItemLosses
 pub mod Coverage
 pub mod Sums
-pub mod Fronts
 pub mod Gathered
 pub mod StruckItems
 pub mod Groups

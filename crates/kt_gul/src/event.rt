@@ -9,15 +9,14 @@ ghost use Rattle.kt_stream.specs.Losses.{IsLoss, loss_bytes};
 ghost use Rattle.kt_stream.specs.Pairs.{IsId};
 ghost use Rattle.kt_stream.specs.declared.entry.LossRecord.{LossRecord};
 ghost use Rattle.kt_gul.specs.declared.struck.StruckItem.{StruckItem};
-ghost use Rattle.kt_gul.specs.Fronts.{StandsInFront};
-ghost use Rattle.kt_gul.specs.GroundUp.{item_record, ground_up_records};
+ghost use Rattle.kt_gul.specs.GroundUp.{StandsInFront, item_record, ground_up_records};
 ghost use Rattle.kt_gul.specs.StruckItems.{AreCdfs, AreInOrder, id_of, item_of};
 ghost use Rattle.kt_gul.specs.Steps.{AreTables};
 ghost use Rattle.kt_gul.specs.Groups.{IsGroupEnd};
 
 use crate::coverage::push_coverage;
 use crate::draw::Draw;
-use crate::exit::{Exit, Written, pairs_room};
+use crate::exit::{Exit, MOST_PAIRS, Written};
 use crate::held::{CdfEntry, HeldCdf, held_cdfs};
 use crate::struck::{StruckItem, is_by_id, struck_items};
 use crate::sums::Scratch;
@@ -149,19 +148,17 @@ fn put_written(
     ensures unchanged { OnErr result (out.new ≡ out.old) }
 {
     portfolio.is_valid();
-    let room = pairs_room(draw.alloc)?;
+    let room = vec![in draw.alloc; 0; MOST_PAIRS]?;
     let length = out.len();
     let before = replace(out, Bytes::new(draw.alloc));
     let mut written = Written::new(before, room);
     let answer = put_groups(portfolio, draw, cdfs, tables, struck, &mut written);
     *out = written.into_bytes();
-    match answer {
-        Ok(()) => Ok(()),
-        Err(stop) => {
-            out.truncate(length);
-            Err(stop)
-        }
+    if let Err(stop) = answer {
+        out.truncate(length);
+        return Err(stop);
     }
+    Ok(())
 }
 
 /// The items that an event strikes, by coverage and then by id.

@@ -2,18 +2,17 @@
 //! The rules: docs/CALCULATION.md, "Coverage cut"; docs/STREAMS.md, "Records".
 ghost use Rattle.std.specs.Prelude.{◌≡◌, ◌+◌, ◌*◌, ◌≤◌, ◌++◌, [], ◌∷◌, length, slice_index, IfOk, OnOk, OnErr};
 ghost use Rattle.std.specs.List.{filter_map, flat_map};
-ghost use Rattle.kt_gul.specs.Fronts.{StandsInFront};
-ghost use Rattle.kt_gul.specs.GroundUp.{pairs_of, record_with};
+ghost use Rattle.kt_gul.specs.GroundUp.{StandsInFront, pairs_of, record_with};
 
 use crate::draw::Draw;
 use crate::pairs::{row_pairs, write_row};
 use kt_money::Bytes;
 use kt_stream::{LossRecord, loss_front};
-use std::alloc::{AllocError, Global};
+use std::alloc::AllocError;
 use std::marker::Model;
 
 /// The bytes of the pairs of a record with 1,000 samples, with the end pair.
-const MOST_PAIRS: usize = 12_036;
+pub(crate) const MOST_PAIRS: usize = 12_036;
 
 /// What takes the losses of items as records.
 pub trait Exit {
@@ -52,21 +51,11 @@ impl Exit for Vec<LossRecord> {
     fn put(&mut self, draw: Draw, id: u32, row: &[u64]) -> Result<(), AllocError> {
         let pairs = row_pairs(draw.alloc, row, draw.samples)?;
         if !pairs.as_slice().is_empty() {
-            self.push(LossRecord {
-                event: draw.event,
-                id,
-                pairs,
-            })?;
+            let event = draw.event;
+            self.push(LossRecord { event, id, pairs })?;
         }
         Ok(())
     }
-}
-
-/// Room for the bytes of one record's pairs. An error is want of memory.
-pub(crate) fn pairs_room(alloc: Global) -> Result<Vec<u8>, AllocError>
-    ensures size { IfOk result (λ room. length room.items ≡ 12036) }
-{
-    vec![in alloc; 0; MOST_PAIRS]
 }
 
 /// The bytes of a stream, which get the records of losses. Contracts see the bytes.

@@ -27,18 +27,11 @@ impl Scratch {
     {
         Ok(Scratch {
             losses: Vec::with_capacity(alloc, ROOM)?,
-            totals: zeros(alloc, width)?,
-            before: zeros(alloc, width)?,
-            cut: zeros(alloc, width)?,
+            totals: vec![in alloc; 0; width]?,
+            before: vec![in alloc; 0; width]?,
+            cut: vec![in alloc; 0; width]?,
         })
     }
-}
-
-/// As many zeros.
-fn zeros(alloc: Global, width: usize) -> Result<Vec<u64>, AllocError>
-    ensures value { IfOk result (λ sums. IsRow (λ place. 0) width sums.items) }
-{
-    vec![in alloc; 0; width]
 }
 
 /// Makes sums 0.

@@ -1,10 +1,12 @@
-use Rattle.std.proofs.Common.{◌∙◌, ◌+◌, ◌*◌, ◌-◌, ◌/◌, ◌≤◌, [], ℕ, Err, length, ap, sym, subst}
+use Rattle.std.proofs.Common.{◌∙◌, ◌+◌, ◌*◌, ◌-◌, ◌/◌, ◌≤◌, [], ℕ, List, ◌≡◌, Err, length, ap, sym, subst}
 use Rattle.kt_chain.specs.declared.fold.FoldStop.{FoldStop}
 use Rattle.kt_part.specs.Folding.{RoundEnds}
 use Rattle.kt_part.specs.declared.round.RoundStop.{RoundStop}
-use Rattle.kt_chain.proofs.RoundLemmas.{begins, enough, few_parts, round_passes, round_stopped, start_of}
-use Rattle.kt_chain.specs.Rounds.{IsGoodPart, IsPart, RoundParts, StandsBehind, StopsBehind, part_count}
-use Rattle.kt_chain.specs.Runs.{RunShares}
+use Rattle.kt_chain.proofs.RoundLemmas.{begins, enough, few_parts, round_passes, round_stopped, start_of, why_answered}
+use Rattle.kt_chain.specs.Events.{RunInput}
+use Rattle.kt_chain.specs.Rounds.{IsGoodPart, IsPart, RoundParts, StandsBehind, StopsBehind, fold_refusal, part_count}
+use Rattle.kt_chain.specs.Runs.{AreGivenRows, FoldsTo, IsFolded, RunShares}
+use Rattle.kt_load.specs.EventRows.{ids_of}
 use Rattle.kt_event.specs.Plan.{terms_of}
 use Rattle.kt_chain.proofs.rounds.fold_round.Goals as goal
 
@@ -30,8 +32,10 @@ returns-in-Ok-clause-fits g c = λ part good. c.run_round.ensures.fits part (c.r
 pub returns-in-Err-OutOfMemory-clause-fits : goal.returns-in-Err-OutOfMemory-clause-fits
 returns-in-Err-OutOfMemory-clause-fits g c = λ part good. c.run_round.ensures.fits part (c.requires.fits part good)
 
-pub returns-in-Some-clause-folds : goal.returns-in-Some-clause-folds
-returns-in-Some-clause-folds g c = λ input done terms rows given folded.
+pub returns-clause-folds : goal.returns-clause-folds
+returns-clause-folds g c =
+    why_answered (fold_refusal c.in-Err-Fold.stop) c.why_stopped.result (λ refusal. (input : RunInput) (done : List ℕ) → input.terms ≡ c.args.run.now.terms → input.rows ≡ c.args.run.now.portfolio.rows → AreGivenRows input c.args.given.now → IsFolded input done c.args.fold.now → FoldsTo input done (ids_of c.args.given.now) refusal c.run_round.new.fold) c.why_stopped.ensures
+    (λ why is. λ input done terms rows given folded.
     let round : RoundParts = record { terms = terms_of c.run.inside.plan.now; rows = c.run.inside.portfolio.now.rows; given = c.args.given.now; batch = c.run.inside.batch } in
     let count = (c.count.result + c.run.inside.batch - 1) / c.run.inside.batch in
     let start = start_of input done in
@@ -40,10 +44,7 @@ returns-in-Some-clause-folds g c = λ input done terms rows given folded.
     c.run_round.new.fold count c.in-Err-Fold.field-0-0 c.in-Err-Fold.stop
     (subst (λ (stop : RoundStop FoldStop). RoundEnds (IsPart round) (StandsBehind start c.run_round.new.fold) (StopsBehind start c.run_round.new.fold) [] count (Err stop)) c.in-Err-Fold.field-0-is
     (c.in-Err-Fold.ensures.round start [] (begins input done c.args.fold.now folded)))
-    c.in-Some.refusal (sym c.refusal.ensures ∙ c.in-Some.is)
-
-pub returns-in-Some-clause-fits : goal.returns-in-Some-clause-fits
-returns-in-Some-clause-fits g c = λ part good. c.run_round.ensures.fits part (c.requires.fits part good)
+    why is)
 
 pub returns-clause-fits : goal.returns-clause-fits
 returns-clause-fits g c = λ part good. c.run_round.ensures.fits part (c.requires.fits part good)
