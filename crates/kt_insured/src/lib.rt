@@ -12,5 +12,5 @@ mod sums;
 
 pub use index::OutputIndex;
 pub use made::Insured;
-pub use run::insured;
+pub use run::{insured, put_insured};
 pub use sums::LayerSum;
