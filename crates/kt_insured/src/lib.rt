@@ -5,6 +5,7 @@ mod index;
 pub mod laws;
 mod layout;
 mod made;
+mod outlets;
 mod outputs;
 mod run;
 mod shared;

@@ -5,7 +5,7 @@ ghost use Rattle.std.specs.List.{AllByRecursion, filter_map, flat_map};
 ghost use Rattle.kt_stream.specs.Losses.{loss_bytes};
 ghost use Rattle.kt_insured.specs.Table.{record_in};
 
-use crate::layout::Outlet;
+use crate::outlets::Outlet;
 use kt_money::Bytes;
 use kt_shares::{Table, push_record};
 use kt_stream::{LossRecord, Records};

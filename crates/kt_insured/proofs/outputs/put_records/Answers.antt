@@ -2,7 +2,7 @@ use Rattle.std.proofs.Common.{◌≡◌, ◌++◌, ◌∙◌, drop, length, take
 use Rattle.std.proofs.lemmas.List.{length-append, length-take-le}
 use Rattle.kt_shares.specs.WrittenLaws.{put-more}
 use Rattle.kt_insured.specs.Table.{record_in}
-use Rattle.kt_insured.specs.declared.layout.Outlet.{Outlet}
+use Rattle.kt_insured.specs.declared.outlets.Outlet.{Outlet}
 use Rattle.kt_insured.proofs.outputs.put_records.Goals as goal
 
 pub loop-outlet-preserved : goal.loop-outlet-preserved
