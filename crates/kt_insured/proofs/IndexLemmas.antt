@@ -1,156 +1,127 @@
 -- The outputs that are found by their units are those that have a place.
-use Rattle.std.proofs.Common.{◌≡◌, ℕ, ◌&&◌, ◌||◌, Bool, true, false, cond, nat_eq, List, [], ◌∷◌, Option, Some, None, length, map, refl, sym, ap, ◌∙◌}
+use Rattle.std.proofs.Common.{◌≡◌, ℕ, ◌&&◌, Bool, true, false, cond, nat_eq, List, [], ◌∷◌, ◌++◌, Option, Some, None, length, map, refl, sym, ap, ◌∙◌, append-nil}
 use Rattle.std.proofs.Math.Path.{fun_ext}
 use Rattle.std.specs.Prelude.{option_map, slice_get}
 use Rattle.std.specs.Cmp.{nat_eq_equiv}
-use Rattle.std.specs.List.{cons_option, filter, filter_map, flat_map, list_any, range_with_len, zip}
+use Rattle.std.specs.List.{cons_option, filter, filter_map, flat_map, range_with_len, zip}
 use Rattle.std.specs.Map.{lookup}
-use Rattle.std.proofs.lemmas.Bool.{or_left, or_right}
+use Rattle.std.specs.Option.{option_or}
+use Rattle.std.proofs.lemmas.Bool.{eqb-true}
+use Rattle.kt_rec.specs.Rising.{IsRising}
 use Rattle.kt_rec.specs.declared.financial.FmXref.{FmXref}
 use Rattle.kt_keys.specs.Keys.{same_pair}
-use Rattle.kt_tree.specs.Members.{any-of, member-filter}
-use Rattle.kt_rec.specs.Rising.{rising, rising-member, rising-rises, rising-unique}
-use Rattle.kt_fmtree.specs.RisingLaws.{rising-filter}
-use Rattle.kt_structure.proofs.CoverageLemmas.{list_any-flat_map}
-use Rattle.kt_insured.specs.Index.{AreIndexed, first_of, ids_at, unit_output}
+use Rattle.kt_fmtree.specs.RisingLaws.{KeepsId, rising-made}
+use Rattle.kt_insured.specs.Index.{AreIndexed, outlet_in, outlets_at, unit_output}
 use Rattle.kt_insured.specs.Insured.{in_order}
 use Rattle.kt_insured.specs.Layout.{outlet_of}
+use Rattle.kt_insured.specs.Outlets.{AreFirsts, found}
 use Rattle.kt_insured.specs.declared.index.OutputIndex.{OutputIndex}
 use Rattle.kt_insured.specs.declared.index.UnitOutput.{UnitOutput}
+use Rattle.kt_insured.specs.declared.outlets.Outlet.{Outlet}
+use Rattle.kt_insured.proofs.ListLemmas.{followed}
+use Rattle.kt_insured.proofs.OrderLemmas.{order-rises}
+use Rattle.kt_insured.proofs.OutletLemmas.{found-append, found-made, outlets-unique, row_at}
 
--- an output of a unit that no key names has no place
-outlet-none : (keys : List (ℕ × ℕ)) (row : FmXref) → list_any (nat_eq row.agg_id) (map (λ key. key.0) keys) ≡ false → outlet_of keys row ≡ None
-outlet-none keys row none = ap (option_map (λ place. record { id = row.output_id; place = place })) (absent keys (range_with_len 0 (length keys)) none)
+-- the first of rows with a key is what is found of it
+pub first-found : {X : Type 0} (key : X → ℕ) (id : ℕ) (rows : List X) → slice_get (filter (λ row. nat_eq (key row) id) rows) 0 ≡ lookup (nat_eq id) (map (λ row. (key row, row)) rows)
+first-found key id [] = refl
+first-found key id (row ∷ rows) =
+    by (nat_eq (key row) id) (first-found key id rows)
+    ∙ ap (λ b. cond b (Some row) (lookup (nat_eq id) (map (λ row. (key row, row)) rows))) (nat_eq_equiv.symm (key row) id)
   where
-    absent : (keys : List (ℕ × ℕ)) (places : List ℕ) → list_any (nat_eq row.agg_id) (map (λ key. key.0) keys) ≡ false → lookup (same_pair (row.agg_id, row.layer_id)) (zip keys places) ≡ None
-    absent [] places none = refl
-    absent (key ∷ keys) [] none = refl
-    absent (key ∷ keys) (place ∷ places) none = by (nat_eq row.agg_id key.0) none (absent keys places)
-      where
-        by : (b : Bool) → (b || list_any (nat_eq row.agg_id) (map (λ key. key.0) keys)) ≡ false → (list_any (nat_eq row.agg_id) (map (λ key. key.0) keys) ≡ false → lookup (same_pair (row.agg_id, row.layer_id)) (zip keys places) ≡ None) → cond (b && nat_eq row.layer_id key.1) (Some place) (lookup (same_pair (row.agg_id, row.layer_id)) (zip keys places)) ≡ None
-        by true none rest = let clash : true ≡ false = none in cc
-        by false none rest = rest none
-
--- the ids of the outputs of a unit
-abbrev ids_in : List FmXref → ℕ → List ℕ
-ids_in outputs unit = map (λ row. row.output_id) (filter (λ row. nat_eq row.agg_id unit) outputs)
-
--- the first row of an output
-abbrev row_of : List FmXref → ℕ → Option FmXref
-row_of outputs id = lookup (nat_eq id) (map (λ row. (row.output_id, row)) outputs)
-
--- those of a unit that are kept are those of the rows
-ids-kept : (outputs : List FmXref) (unit : ℕ) → map (λ row. row.output_id) (filter (λ row. nat_eq row.agg_id unit) (map unit_output outputs)) ≡ ids_in outputs unit
-ids-kept [] unit = refl
-ids-kept (row ∷ outputs) unit = by (nat_eq row.agg_id unit) (ids-kept outputs unit)
-  where
-    by : (b : Bool) → map (λ row. row.output_id) (filter (λ row. nat_eq row.agg_id unit) (map unit_output outputs)) ≡ ids_in outputs unit → map (λ row. row.output_id) (cond b (unit_output row ∷ filter (λ row. nat_eq row.agg_id unit) (map unit_output outputs)) (filter (λ row. nat_eq row.agg_id unit) (map unit_output outputs))) ≡ map (λ row. row.output_id) (cond b (row ∷ filter (λ row. nat_eq row.agg_id unit) outputs) (filter (λ row. nat_eq row.agg_id unit) outputs))
-    by true rest = ap (λ ids. row.output_id ∷ ids) rest
-    by false rest = rest
-
--- an output is among those of the unit of its row
-row-among : (outputs : List FmXref) (id : ℕ) (found : FmXref) → row_of outputs id ≡ Some found → list_any (nat_eq id) (ids_in outputs found.agg_id) ≡ true
-row-among [] id found is = cc
-row-among (row ∷ outputs) id found is = by (nat_eq id row.output_id) refl is (row-among outputs id found)
-  where
-    later : (b : Bool) → list_any (nat_eq id) (ids_in outputs found.agg_id) ≡ true → list_any (nat_eq id) (map (λ row. row.output_id) (cond b (row ∷ filter (λ row. nat_eq row.agg_id found.agg_id) outputs) (filter (λ row. nat_eq row.agg_id found.agg_id) outputs))) ≡ true
-    later true rest = or_right (nat_eq id row.output_id) _ rest
-    later false rest = rest
-
-    first : row ≡ found → nat_eq id row.output_id ≡ true → list_any (nat_eq id) (map (λ row. row.output_id) (cond (nat_eq row.agg_id found.agg_id) (row ∷ filter (λ row. nat_eq row.agg_id found.agg_id) outputs) (filter (λ row. nat_eq row.agg_id found.agg_id) outputs))) ≡ true
-    first same here =
-        let unit : nat_eq row.agg_id found.agg_id ≡ true = ap (λ (one : FmXref). nat_eq row.agg_id one.agg_id) (sym same) ∙ nat_eq_equiv.refl row.agg_id in
-        ap (λ b. list_any (nat_eq id) (map (λ row. row.output_id) (cond b (row ∷ filter (λ row. nat_eq row.agg_id found.agg_id) outputs) (filter (λ row. nat_eq row.agg_id found.agg_id) outputs)))) unit
-        ∙ or_left (nat_eq id row.output_id) _ here
-
-    by : (b : Bool) → nat_eq id row.output_id ≡ b → cond b (Some row) (row_of outputs id) ≡ Some found → (row_of outputs id ≡ Some found → list_any (nat_eq id) (ids_in outputs found.agg_id) ≡ true) → list_any (nat_eq id) (ids_in (row ∷ outputs) found.agg_id) ≡ true
-    by true here is rest = let same : row ≡ found = cc in first same here
-    by false here is rest = later (nat_eq row.agg_id found.agg_id) (rest is)
-
--- each is among all outputs
-among-all : (outputs : List FmXref) (unit id : ℕ) → list_any (nat_eq id) (ids_in outputs unit) ≡ true → list_any (nat_eq id) (map (λ row. row.output_id) outputs) ≡ true
-among-all [] unit id some = some
-among-all (row ∷ outputs) unit id some = by (nat_eq row.agg_id unit) some (among-all outputs unit id)
-  where
-    either : (b : Bool) → (b || list_any (nat_eq id) (ids_in outputs unit)) ≡ true → (list_any (nat_eq id) (ids_in outputs unit) ≡ true → list_any (nat_eq id) (map (λ row. row.output_id) outputs) ≡ true) → (b || list_any (nat_eq id) (map (λ row. row.output_id) outputs)) ≡ true
-    either true some rest = refl
-    either false some rest = rest some
-
-    by : (b : Bool) → list_any (nat_eq id) (map (λ row. row.output_id) (cond b (row ∷ filter (λ row. nat_eq row.agg_id unit) outputs) (filter (λ row. nat_eq row.agg_id unit) outputs))) ≡ true → (list_any (nat_eq id) (ids_in outputs unit) ≡ true → list_any (nat_eq id) (map (λ row. row.output_id) outputs) ≡ true) → (nat_eq id row.output_id || list_any (nat_eq id) (map (λ row. row.output_id) outputs)) ≡ true
-    by true some rest = either (nat_eq id row.output_id) some rest
-    by false some rest = or_right (nat_eq id row.output_id) _ (rest some)
-
--- what is left out gives nothing
-made-filter : {Y : Type 0} (row_at : ℕ → Option FmXref) (make : FmXref → Option Y) (test : ℕ → Bool) → ((id : ℕ) → test id ≡ false → (row : FmXref) → row_at id ≡ Some row → make row ≡ None) → (ids : List ℕ) → filter_map make (filter_map row_at (filter test ids)) ≡ filter_map make (filter_map row_at ids)
-made-filter row_at make test none [] = refl
-made-filter {Y} row_at make test none (id ∷ ids) = by (test id) refl (row_at id) refl (made-filter row_at make test none ids)
-  where
-    by : (b : Bool) → test id ≡ b → (found : Option FmXref) → row_at id ≡ found → filter_map make (filter_map row_at (filter test ids)) ≡ filter_map make (filter_map row_at ids) → filter_map make (filter_map row_at (cond b (id ∷ filter test ids) (filter test ids))) ≡ filter_map make (cons_option found (filter_map row_at ids))
-    by true here None is rest = ap (λ found. filter_map make (cons_option found (filter_map row_at (filter test ids)))) is ∙ rest
-    by true here (Some row) is rest = ap (λ found. filter_map make (cons_option found (filter_map row_at (filter test ids)))) is ∙ ap (cons_option (make row)) rest
-    by false here None is rest = rest
-    by false here (Some row) is rest = rest ∙ ap (λ made. cons_option made (filter_map make (filter_map row_at ids))) (sym (none id here row is))
-
--- the first row of an output is what is found of it
-pub first-found : (id : ℕ) (outputs : List FmXref) → first_of outputs id ≡ lookup (nat_eq id) (map (λ row. (row.output_id, row)) outputs)
-first-found id [] = refl
-first-found id (row ∷ outputs) =
-    by (nat_eq row.output_id id) (first-found id outputs)
-    ∙ ap (λ b. cond b (Some row) (lookup (nat_eq id) (map (λ (row : FmXref). (row.output_id, row)) outputs))) (nat_eq_equiv.symm row.output_id id)
-  where
-    by : (b : Bool) → first_of outputs id ≡ lookup (nat_eq id) (map (λ row. (row.output_id, row)) outputs)
-        → slice_get (cond b (row ∷ filter (λ row. nat_eq row.output_id id) outputs) (filter (λ row. nat_eq row.output_id id) outputs)) 0 ≡ cond b (Some row) (lookup (nat_eq id) (map (λ (row : FmXref). (row.output_id, row)) outputs))
+    by : (b : Bool) → slice_get (filter (λ row. nat_eq (key row) id) rows) 0 ≡ lookup (nat_eq id) (map (λ row. (key row, row)) rows)
+        → slice_get (cond b (row ∷ filter (λ row. nat_eq (key row) id) rows) (filter (λ row. nat_eq (key row) id) rows)) 0 ≡ cond b (Some row) (lookup (nat_eq id) (map (λ row. (key row, row)) rows))
     by true rest = refl
     by false rest = rest
 
-module _ (outputs : List FmXref) (index : OutputIndex) (are : AreIndexed outputs index) (keys : List (ℕ × ℕ)) (units : List ℕ) (units_are : units ≡ map (λ key. key.0) keys) where
-  -- whether an output is of one of the units
-  abbrev of_unit : ℕ → Bool
-  of_unit id = list_any (λ unit. list_any (nat_eq id) (ids_in outputs unit)) units
+-- ---- outputs with the places of their layers
 
-  ids-are : (unit : ℕ) → ids_at index unit ≡ ids_in outputs unit
-  ids-are unit = ap (map (λ (row : UnitOutput). row.output_id)) (are.by_unit unit) ∙ ids-kept outputs unit
+-- an output with a place, where it is of a layer of a unit
+abbrev outlet_for : (ℕ × ℕ) × ℕ → FmXref → Option Outlet
+outlet_for placed row = cond (same_pair (row.agg_id, row.layer_id) placed.0) (Some (record { id = row.output_id; place = placed.1 })) None
 
-  -- their ids are those of all outputs that are
-  units-ids : rising (flat_map (ids_at index) units) ≡ filter of_unit (rising (map (λ row. row.output_id) outputs))
-  units-ids = rising-unique (rising (flat_map (ids_at index) units)) (filter of_unit (rising (map (λ row. row.output_id) outputs))) (rising-rises (flat_map (ids_at index) units)) (rising-filter of_unit (rising (map (λ row. row.output_id) outputs)) (rising-rises (map (λ row. row.output_id) outputs))) same
+-- an output with the place that stands beside its unit and layer
+abbrev outlet_at : List ((ℕ × ℕ) × ℕ) → FmXref → Option Outlet
+outlet_at placed row = option_map (λ place. record { id = row.output_id; place = place }) (lookup (same_pair (row.agg_id, row.layer_id)) placed)
+
+for-keeps : (placed : (ℕ × ℕ) × ℕ) (row : FmXref) → KeepsId (λ (outlet : Outlet). outlet.id) row.output_id (outlet_for placed row)
+for-keeps placed row = by (same_pair (row.agg_id, row.layer_id) placed.0)
+  where
+    by : (b : Bool) → KeepsId (λ (outlet : Outlet). outlet.id) row.output_id (cond b (Some (record { id = row.output_id; place = placed.1 })) None)
+    by true = refl
+    by false = tt
+
+at-keeps : (placed : List ((ℕ × ℕ) × ℕ)) (row : FmXref) → KeepsId (λ (outlet : Outlet). outlet.id) row.output_id (outlet_at placed row)
+at-keeps placed row = by (lookup (same_pair (row.agg_id, row.layer_id)) placed)
+  where
+    by : (place : Option ℕ) → KeepsId (λ (outlet : Outlet). outlet.id) row.output_id (option_map (λ place. record { id = row.output_id; place = place }) place)
+    by None = tt
+    by (Some place) = refl
+
+-- those of a unit, of which a layer is taken, are those of the layer
+at-rows : (placed : (ℕ × ℕ) × ℕ) (rows : List FmXref) → filter_map (outlet_in placed.0.1 placed.1) (filter (λ row. nat_eq row.agg_id placed.0.0) (map unit_output rows)) ≡ filter_map (outlet_for placed) rows
+at-rows placed [] = refl
+at-rows placed (row ∷ rows) = by (nat_eq row.agg_id placed.0.0) (at-rows placed rows)
+  where
+    by : (b : Bool) → filter_map (outlet_in placed.0.1 placed.1) (filter (λ row. nat_eq row.agg_id placed.0.0) (map unit_output rows)) ≡ filter_map (outlet_for placed) rows
+        → filter_map (outlet_in placed.0.1 placed.1) (cond b (unit_output row ∷ filter (λ row. nat_eq row.agg_id placed.0.0) (map unit_output rows)) (filter (λ row. nat_eq row.agg_id placed.0.0) (map unit_output rows)))
+        ≡ cons_option (cond (b && nat_eq row.layer_id placed.0.1) (Some (record { id = row.output_id; place = placed.1 })) None) (filter_map (outlet_for placed) rows)
+    by true rest = ap (cons_option (outlet_in placed.0.1 placed.1 (unit_output row))) rest
+    by false rest = rest
+
+module _ (rows : List FmXref) (rises : IsRising (map (λ row. row.output_id) rows)) where
+  -- of the outputs of all layers of units the first with an id has the first place of its unit and layer
+  found-all : (id : ℕ) (placed : List ((ℕ × ℕ) × ℕ)) → found id (flat_map (λ one. filter_map (outlet_for one) rows) placed) ≡ followed (row_at id rows) (outlet_at placed)
+  found-all id [] = by (row_at id rows)
     where
-      found : (id : ℕ) → list_any (nat_eq id) (flat_map (ids_at index) units) ≡ of_unit id
-      found id = list_any-flat_map (nat_eq id) (ids_at index) units ∙ ap (λ (f : ℕ → List ℕ). list_any (λ unit. list_any (nat_eq id) (f unit)) units) (fun_ext ids-are)
-
-      is_output : (id : ℕ) (units : List ℕ) → list_any (λ unit. list_any (nat_eq id) (ids_in outputs unit)) units ≡ true → list_any (nat_eq id) (map (λ row. row.output_id) outputs) ≡ true
-      is_output id [] none = cc
-      is_output id (unit ∷ units) some = by (list_any (nat_eq id) (ids_in outputs unit)) refl some (is_output id units)
-        where
-          by : (b : Bool) → list_any (nat_eq id) (ids_in outputs unit) ≡ b → (b || list_any (λ unit. list_any (nat_eq id) (ids_in outputs unit)) units) ≡ true → (list_any (λ unit. list_any (nat_eq id) (ids_in outputs unit)) units ≡ true → list_any (nat_eq id) (map (λ row. row.output_id) outputs) ≡ true) → list_any (nat_eq id) (map (λ row. row.output_id) outputs) ≡ true
-          by true here some rest = among-all outputs unit id here
-          by false here some rest = rest some
-
-      both : (id : ℕ) (b : Bool) → of_unit id ≡ b → b ≡ (b && list_any (nat_eq id) (map (λ row. row.output_id) outputs))
-      both id true here = sym (is_output id units here)
-      both id false here = refl
-
-      same : (id : ℕ) → list_any (nat_eq id) (rising (flat_map (ids_at index) units)) ≡ list_any (nat_eq id) (filter of_unit (rising (map (λ row. row.output_id) outputs)))
-      same id =
-          rising-member (flat_map (ids_at index) units) id
-          ∙ (found id
-          ∙ (both id (of_unit id) refl
-          ∙ (ap (λ b. of_unit id && b) (sym (rising-member (map (λ row. row.output_id) outputs) id))
-          ∙ sym (member-filter of_unit id (rising (map (λ row. row.output_id) outputs))))))
-
-  -- an output of another unit has no place
-  other-none : (id : ℕ) → of_unit id ≡ false → (row : FmXref) → row_of outputs id ≡ Some row → outlet_of keys row ≡ None
-  other-none id other row is = outlet-none keys row (by (list_any (nat_eq row.agg_id) (map (λ key. key.0) keys)) refl)
+      by : (row : Option FmXref) → None ≡ followed row (outlet_at [])
+      by None = refl
+      by (Some row) = refl
+  found-all id (one ∷ placed) =
+      found-append id (filter_map (outlet_for one) rows) (flat_map (λ one. filter_map (outlet_for one) rows) placed)
+      ∙ (ap (λ first. option_or first (found id (flat_map (λ one. filter_map (outlet_for one) rows) placed))) (found-made (outlet_for one) (for-keeps one) id rows rises)
+      ∙ (ap (option_or (followed (row_at id rows) (outlet_for one))) (found-all id placed)
+      ∙ by (row_at id rows)))
     where
-      by : (b : Bool) → list_any (nat_eq row.agg_id) (map (λ key. key.0) keys) ≡ b → b ≡ false
-      by false none = refl
-      by true member =
-          let some = any-of (λ unit. list_any (nat_eq id) (ids_in outputs unit)) row.agg_id units (ap (list_any (nat_eq row.agg_id)) units_are ∙ member) (row-among outputs id row is) in
-          let clash : true ≡ false = sym some ∙ other in cc
+      test : (row : FmXref) (b : Bool) → option_or (cond b (Some (record { id = row.output_id; place = one.1 })) None) (outlet_at placed row) ≡ option_map (λ place. record { id = row.output_id; place = place }) (cond b (Some one.1) (lookup (same_pair (row.agg_id, row.layer_id)) placed))
+      test row true = refl
+      test row false = refl
 
-  -- the outputs of the units have the places of all
-  pub outlets-found : filter_map (outlet_of keys) (filter_map (first_of index.by_id) (rising (flat_map (ids_at index) units))) ≡ filter_map (outlet_of keys) (in_order outputs)
-  outlets-found =
-      ap (λ (row_at : ℕ → Option FmXref). filter_map (outlet_of keys) (filter_map row_at (rising (flat_map (ids_at index) units)))) (fun_ext are.by_id)
-      ∙ (ap (λ ids. filter_map (outlet_of keys) (filter_map (row_of outputs) ids)) units-ids
-      ∙ made-filter (row_of outputs) (outlet_of keys) of_unit other-none (rising (map (λ row. row.output_id) outputs)))
+      by : (row : Option FmXref) → option_or (followed row (outlet_for one)) (followed row (outlet_at placed)) ≡ followed row (outlet_at (one ∷ placed))
+      by None = refl
+      by (Some row) = test row (same_pair (row.agg_id, row.layer_id) one.0)
+
+-- the first outlets of the units and layers that have places are those of all outputs
+pub outlets-found : (outputs : List FmXref) (index : OutputIndex) → AreIndexed outputs index → (keys : List (ℕ × ℕ)) (placed : List ((ℕ × ℕ) × ℕ)) → placed ≡ zip keys (range_with_len 0 (length keys)) → (kept : List Outlet) → AreFirsts (flat_map (outlets_at index) placed) kept → kept ≡ filter_map (outlet_of keys) (in_order outputs)
+outlets-found outputs index are keys placed placed_is kept firsts =
+    outlets-unique kept (filter_map (outlet_at placed) rows) firsts.rises (rising-made (λ (row : FmXref). row.output_id) (λ (outlet : Outlet). outlet.id) (outlet_at placed) (at-keeps placed) rows rises) same
+    ∙ ap (λ placed. filter_map (outlet_at placed) rows) placed_is
+  where
+    rows : List FmXref
+    rows = in_order outputs
+
+    rises : IsRising (map (λ row. row.output_id) rows)
+    rises = order-rises outputs
+
+    each : flat_map (outlets_at index) placed ≡ flat_map (λ one. filter_map (outlet_for one) rows) placed
+    each = ap (λ make. flat_map make placed) (fun_ext (λ (one : (ℕ × ℕ) × ℕ). ap (filter_map (outlet_in one.0.1 one.1)) (are.by_unit one.0.0) ∙ at-rows one rows))
+
+    same : (id : ℕ) → found id kept ≡ found id (filter_map (outlet_at placed) rows)
+    same id = firsts.same id ∙ (ap (found id) each ∙ (found-all rows rises id placed ∙ sym (found-made (outlet_at placed) (at-keeps placed) id rows rises)))
+
+-- ---- one output of a unit more
+
+taken-test : (layer place : ℕ) (row : UnitOutput) (b : Bool) → nat_eq row.layer_id layer ≡ b → outlet_in layer place row ≡ cond b (Some (record { id = row.output_id; place = place })) None
+taken-test layer place row b is = ap (λ b. cond b (Some (record { id = row.output_id; place = place })) None) is
+
+-- it is taken where it is of the layer
+pub taken-in : (layer place : ℕ) (row : UnitOutput) (now next : List Outlet) → row.layer_id ≡ layer → next ≡ now ++ record { id = row.output_id; place = place } ∷ [] → next ≡ now ++ cons_option (outlet_in layer place row) []
+taken-in layer place row now next same next_is =
+    next_is ∙ ap (λ one. now ++ cons_option one []) (sym (taken-test layer place row true (ap (nat_eq row.layer_id) (sym same) ∙ nat_eq_equiv.refl row.layer_id)))
+
+pub left-out : (layer place : ℕ) (row : UnitOutput) (now : List Outlet) → (row.layer_id ≡ layer → ⊥) → now ≡ now ++ cons_option (outlet_in layer place row) []
+left-out layer place row now other = sym (append-nil now) ∙ ap (λ one. now ++ cons_option one []) (sym (taken-test layer place row false (by (nat_eq row.layer_id layer) refl)))
+  where
+    by : (b : Bool) → nat_eq row.layer_id layer ≡ b → b ≡ false
+    by true is = absurd (other (eqb-true row.layer_id layer is))
+    by false is = refl

@@ -10,5 +10,6 @@ pub mod RecordLemmas
 pub mod TotalLemmas
 pub mod WithinLemmas
 pub mod OrderLemmas
+pub mod OutletLemmas
 pub mod StruckLemmas
 pub mod IndexLemmas

@@ -31,7 +31,7 @@ found-id id (output ∷ outputs) = by (nat_eq id output.output_id) refl (found-i
     by false apart rest = rest
 
 -- the ids of outputs in order rise
-order-rises : (outputs : List FmXref) → IsRising (map (λ output. output.output_id) (in_order outputs))
+pub order-rises : (outputs : List FmXref) → IsRising (map (λ output. output.output_id) (in_order outputs))
 order-rises outputs =
     let ids = rising (map (λ row. row.output_id) outputs) in
     rising-made (λ (id : ℕ). id) (λ (output : FmXref). output.output_id) (λ id. lookup (nat_eq id) (map (λ row. (row.output_id, row)) outputs)) (λ id. found-id id outputs) ids (subst IsRising (sym (map-id ids)) (rising-rises (map (λ row. row.output_id) outputs)))

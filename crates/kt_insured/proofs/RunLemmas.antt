@@ -15,7 +15,7 @@ use Rattle.kt_insured.specs.Insured.{insured_records, layer_sums}
 use Rattle.kt_insured.specs.Layout.{IsLayout, Laid}
 use Rattle.kt_insured.specs.Table.{record_in, sums_in}
 use Rattle.kt_shares.specs.declared.layers.TopLayer.{TopLayer}
-use Rattle.kt_insured.specs.declared.layout.Outlet.{Outlet}
+use Rattle.kt_insured.specs.declared.outlets.Outlet.{Outlet}
 use Rattle.kt_insured.specs.declared.sums.LayerSum.{LayerSum}
 use Rattle.kt_insured.proofs.TableLemmas.{amounts-within, places-within, records-are, sums-are}
 

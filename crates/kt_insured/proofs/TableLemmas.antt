@@ -22,7 +22,7 @@ use Rattle.kt_insured.specs.Insured.{in_order, insured_records, layer_sum, layer
 use Rattle.kt_insured.specs.Layout.{keys, outlet_of, place_in}
 use Rattle.kt_insured.specs.Table.{pairs_in, record_in, sum_in, sums_in}
 use Rattle.kt_shares.specs.declared.layers.TopLayer.{TopLayer}
-use Rattle.kt_insured.specs.declared.layout.Outlet.{Outlet}
+use Rattle.kt_insured.specs.declared.outlets.Outlet.{Outlet}
 use Rattle.kt_insured.proofs.ListLemmas.{filter_map-twice, place-none, place-some, followed}
 use Rattle.kt_insured.proofs.OutputLemmas.{length-row, output-is}
 use Rattle.kt_insured.proofs.SumLemmas.{sum_by-mapped}

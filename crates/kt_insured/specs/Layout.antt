@@ -11,7 +11,7 @@ use Rattle.kt_shares.specs.Layers.{IsTopLayer, key_of}
 use Rattle.kt_shares.specs.Shares.{layers_of}
 use Rattle.kt_shares.specs.declared.layers.TopLayer.{TopLayer}
 use Rattle.kt_insured.specs.Insured.{in_order}
-use Rattle.kt_insured.specs.declared.layout.Outlet.{Outlet}
+use Rattle.kt_insured.specs.declared.outlets.Outlet.{Outlet}
 use Rattle.kt_insured.specs.declared.layout.Layout.TheInside.{Inside}
 
 -- who has shares of the policy losses of a top: by rule 0 the top, by rules 1 and 2 the ids beneath it

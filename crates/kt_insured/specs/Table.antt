@@ -9,7 +9,7 @@ use Rattle.kt_shares.specs.Shares.{record_with}
 use Rattle.kt_shares.specs.Table.{pairs_by_row, row_at, sampled_sum}
 use Rattle.kt_shares.specs.declared.layers.TopLayer.{TopLayer}
 use Rattle.kt_insured.specs.Insured.{sum_with}
-use Rattle.kt_insured.specs.declared.layout.Outlet.{Outlet}
+use Rattle.kt_insured.specs.declared.outlets.Outlet.{Outlet}
 use Rattle.kt_insured.specs.declared.sums.LayerSum.{LayerSum}
 
 -- the pairs of the shares in a place

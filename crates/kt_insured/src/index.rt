@@ -3,19 +3,21 @@
 ghost use Rattle.std.specs.Prelude.{◌≡◌, ◌++◌, ℕ, nat_eq, map, IfOk, OnOk};
 ghost use Rattle.std.specs.List.{filter, filter_map, flat_map};
 ghost use Rattle.std.specs.Map.{lookup};
-ghost use Rattle.kt_rec.specs.Rising.{rising};
-ghost use Rattle.kt_insured.specs.Index.{AreIndexed, first_of, ids_at, unit_output};
+ghost use Rattle.kt_insured.specs.Index.{AreIndexed, first_of, outlet_in, outlets_at, unit_output};
+ghost use Rattle.kt_insured.specs.Insured.{in_order};
 
+use crate::outlets::Outlet;
 use kt_fmtree::rising;
 use kt_index::{ByKey, Keyed};
 use kt_rec::FmXref;
 use kt_tables::Portfolio;
 use std::alloc::{AllocError, Global};
 
-/// An output of a unit, or of an item.
+/// An output of a layer of a unit, or of an item.
 #[derive(Clone, Copy, Drop)]
 struct UnitOutput {
     agg_id: u32,
+    layer_id: u32,
     output_id: u32,
 }
 
@@ -27,11 +29,18 @@ impl Keyed for UnitOutput {
     }
 }
 
-/// The outputs of a portfolio, by their units and by their ids. They depend on the tables alone, so that they serve all runs.
+/// The outputs of a portfolio, by their units, those of a unit by rising id. They depend on the tables alone, so that they serve
+/// all runs.
 #[derive(Drop)]
 pub struct OutputIndex {
     by_unit: ByKey<UnitOutput>,
-    by_id: ByKey<FmXref>,
+}
+
+/// The ids of outputs.
+fn output_ids(alloc: Global, outputs: &[FmXref]) -> Result<Vec<u32>, AllocError>
+    ensures value { IfOk result (λ ids. ids.items ≡ map (λ row. row.output_id) outputs.now) }
+{
+    outputs.iter().map(|row| row.output_id).collect(alloc)
 }
 
 /// The first row of an output.
@@ -58,12 +67,30 @@ fn rows_in_order(
     Ok(found)
 }
 
+/// The rows of outputs, by their ids.
+fn by_id(alloc: Global, outputs: &[FmXref]) -> Result<ByKey<FmXref>, AllocError>
+    ensures value { IfOk result (λ index. (id : ℕ) → first_of index id ≡ lookup (nat_eq id) (map (λ row. (row.output_id, row)) outputs.now)) }
+{
+    ByKey::new(alloc, outputs)
+}
+
+/// The outputs by rising id, each by its first row.
+fn in_order(alloc: Global, outputs: &[FmXref]) -> Result<Vec<FmXref>, AllocError>
+    ensures value { IfOk result (λ found. found.items ≡ in_order outputs.now) }
+{
+    let rows = by_id(alloc, outputs)?;
+    let ids = rising(output_ids(alloc, outputs)?)?;
+    let found = rows_in_order(alloc, &ids, &rows)?;
+    Ok(found)
+}
+
 /// The output of a row.
 fn unit_output(row: &FmXref) -> UnitOutput
     ensures value { result ≡ unit_output row.now }
 {
     UnitOutput {
         agg_id: row.agg_id,
+        layer_id: row.layer_id,
         output_id: row.output_id,
     }
 }
@@ -80,14 +107,7 @@ fn by_unit(alloc: Global, outputs: &[FmXref]) -> Result<ByKey<UnitOutput>, Alloc
     ensures kept { IfOk result (λ index. (key : ℕ) → filter (λ row. nat_eq row.agg_id key) index ≡ filter (λ row. nat_eq row.agg_id key) (map unit_output outputs.now)) }
 {
     let rows = unit_outputs(alloc, outputs)?;
-    ByKey::new(alloc, &rows)
-}
-
-/// The rows of outputs, by their ids.
-fn by_id(alloc: Global, outputs: &[FmXref]) -> Result<ByKey<FmXref>, AllocError>
-    ensures value { IfOk result (λ index. (id : ℕ) → first_of index id ≡ lookup (nat_eq id) (map (λ row. (row.output_id, row)) outputs.now)) }
-{
-    ByKey::new(alloc, outputs)
+    ByKey::of_rows(rows)
 }
 
 impl OutputIndex {
@@ -95,40 +115,44 @@ impl OutputIndex {
     pub fn new(alloc: Global, portfolio: &Portfolio) -> Result<OutputIndex, AllocError>
         ensures value { IfOk result (AreIndexed portfolio.now.rows.fm_xref) }
     {
-        let outputs = &portfolio.tables().fm_xref;
-        let by_unit = by_unit(alloc, outputs)?;
-        let by_id = by_id(alloc, outputs)?;
-        Ok(OutputIndex { by_unit, by_id })
+        let outputs = in_order(alloc, &portfolio.tables().fm_xref)?;
+        let by_unit = by_unit(alloc, &outputs)?;
+        Ok(OutputIndex { by_unit })
     }
 
-    /// Puts the ids of the outputs of a unit behind others.
-    fn push_ids(&self, unit: u32, ids: &mut Vec<u32>) -> Result<(), AllocError>
-        ensures ok { OnOk result (ids.new.items ≡ ids.old.items ++ ids_at self.now unit) }
+    /// Puts the outputs of a layer of a unit, with a place, behind others.
+    fn push_outlets(
+        &self,
+        key: (u32, u32),
+        place: usize,
+        outlets: &mut Vec<Outlet>,
+    ) -> Result<(), AllocError>
+        ensures ok { OnOk result (outlets.new.items ≡ outlets.old.items ++ outlets_at self.now (key, place)) }
     {
-        let rows = self.by_unit.of(u64::from(unit));
+        let rows = self.by_unit.of(u64::from(key.0));
         for row in rows {
-            ids.push(row.output_id)?;
+            if row.layer_id == key.1 {
+                outlets.push(Outlet {
+                    id: row.output_id,
+                    place,
+                })?;
+            }
         }
         Ok(())
     }
 
-    /// The ids of the outputs of units, unit by unit.
-    fn ids(&self, alloc: Global, units: &[u32]) -> Result<Vec<u32>, AllocError>
-        ensures value { IfOk result (λ ids. ids.items ≡ flat_map (ids_at self.now) units.now) }
+    /// The outputs of layers of units, each with the place that stands beside its unit and layer.
+    pub(crate) fn outlets(
+        &self,
+        alloc: Global,
+        placed: &[((u32, u32), usize)],
+    ) -> Result<Vec<Outlet>, AllocError>
+        ensures value { IfOk result (λ outlets. outlets.items ≡ flat_map (outlets_at self.now) placed.now) }
     {
-        let mut ids = Vec::new(alloc);
-        for unit in units {
-            self.push_ids(*unit, &mut ids)?;
+        let mut outlets = Vec::with_capacity(alloc, placed.len())?;
+        for one in placed {
+            self.push_outlets(one.0, one.1, &mut outlets)?;
         }
-        Ok(ids)
-    }
-
-    /// The outputs of units, by rising id.
-    pub(crate) fn of(&self, alloc: Global, units: &[u32]) -> Result<Vec<FmXref>, AllocError>
-        ensures value { IfOk result (λ found. found.items ≡ filter_map (first_of self.now.by_id) (rising (flat_map (ids_at self.now) units.now))) }
-    {
-        let ids = rising(self.ids(alloc, units)?)?;
-        let found = rows_in_order(alloc, &ids, &self.by_id)?;
-        Ok(found)
+        Ok(outlets)
     }
 }

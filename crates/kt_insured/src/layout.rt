@@ -2,35 +2,21 @@
 //! The rule: docs/FINANCIAL_MODULE.md, "Insured losses".
 ghost use Rattle.std.specs.Prelude.{◌≡◌, ◌++◌, ℕ, nat_eq, List, [], ◌∷◌, length, map, IfOk, OnOk};
 ghost use Rattle.std.specs.List.{AllByRecursion, filter_map, flat_map, range_with_len, zip};
-ghost use Rattle.std.specs.HashMap.{get};
-ghost use Rattle.std.specs.Map.{lookup};
-ghost use Rattle.kt_keys.specs.Keys.{same_pair};
 ghost use Rattle.kt_rec.specs.declared.financial.FmXref.{FmXref};
 ghost use Rattle.kt_rec.specs.Rising.{IsRising};
 ghost use Rattle.kt_tree.specs.Tree.{Tree};
 ghost use Rattle.kt_fmtree.specs.Parts.{IsProgramme};
 ghost use Rattle.kt_insured.specs.Index.{AreIndexed};
 ghost use Rattle.kt_insured.specs.Insured.{in_order};
-ghost use Rattle.kt_insured.specs.Layout.{IsLayout, keys_for, outlet_of, place_in};
+ghost use Rattle.kt_insured.specs.Layout.{IsLayout, keys_for, outlet_of};
 ghost use Rattle.kt_shares.specs.Layers.{IsTopLayer, key_of};
 
 use crate::index::OutputIndex;
+use crate::outlets::{Outlet, first_outlets};
 use kt_fmtree::Programme;
-use kt_keys::first_values;
-use kt_rec::FmXref;
 use kt_shares::{TopLayer, top_layers};
 use std::alloc::{AllocError, Global};
-use std::collections::HashMap;
 use std::marker::Model;
-
-/// An output that has a loss, and its place in a row of shares.
-#[derive(Clone, Copy)]
-pub(crate) struct Outlet {
-    /// The output.
-    pub(crate) id: u32,
-    /// Its place, counted from 0.
-    pub(crate) place: usize,
-}
 
 /// Where the loss of each output stands in a row of shares: of the layers of all tops, by top and then by layer, the shares of
 /// each policy loss.
@@ -98,60 +84,6 @@ fn placed_keys(alloc: Global, keys: &[(u32, u32)]) -> Result<Vec<((u32, u32), us
     Ok(placed)
 }
 
-/// The place that each key has in its first pair.
-fn first_places(
-    alloc: Global,
-    pairs: &[((u32, u32), usize)],
-) -> Result<HashMap<(u32, u32), usize>, AllocError>
-    ensures value { IfOk result (λ places. (key : ℕ × ℕ) → get same_pair places key ≡ lookup (same_pair key) pairs.now) }
-{
-    first_values(alloc, pairs)
-}
-
-/// The first place of each key.
-fn places_of(alloc: Global, keys: &[(u32, u32)]) -> Result<HashMap<(u32, u32), usize>, AllocError>
-    ensures value { IfOk result (λ places. (key : ℕ × ℕ) → get same_pair places key ≡ place_in keys.now key) }
-{
-    let pairs = placed_keys(alloc, keys)?;
-    let places = first_places(alloc, &pairs)?;
-    Ok(places)
-}
-
-/// The units of keys.
-fn units_of(alloc: Global, keys: &[(u32, u32)]) -> Result<Vec<u32>, AllocError>
-    ensures value { IfOk result (λ units. units.items ≡ map (λ key. key.0) keys.now) }
-{
-    keys.iter().map(|key| key.0).collect(alloc)
-}
-
-/// An output with its place, where it has one.
-fn outlet_of(places: &HashMap<(u32, u32), usize>, output: &FmXref) -> Option<Outlet>
-    ensures value { (keys : List (ℕ × ℕ)) → ((key : ℕ × ℕ) → get same_pair places.now key ≡ place_in keys key) → result ≡ outlet_of keys output.now }
-{
-    let place = places.get(&(output.agg_id, output.layer_id))?;
-    Some(Outlet {
-        id: output.output_id,
-        place: *place,
-    })
-}
-
-/// The outputs that have a place, with it.
-fn outlets_of(
-    alloc: Global,
-    places: &HashMap<(u32, u32), usize>,
-    outputs: &[FmXref],
-) -> Result<Vec<Outlet>, AllocError>
-    ensures value { IfOk result (λ outlets. (keys : List (ℕ × ℕ)) → ((key : ℕ × ℕ) → get same_pair places.now key ≡ place_in keys key) → outlets.items ≡ filter_map (outlet_of keys) outputs.now) }
-{
-    let mut outlets = Vec::with_capacity(alloc, outputs.len())?;
-    for output in outputs {
-        if let Some(outlet) = outlet_of(places, output) {
-            outlets.push(outlet)?;
-        }
-    }
-    Ok(outlets)
-}
-
 /// The outputs that have a place among keys, with it, by rising output.
 fn outlets_for(
     alloc: Global,
@@ -160,10 +92,8 @@ fn outlets_for(
 ) -> Result<Vec<Outlet>, AllocError>
     ensures value { IfOk result (λ outlets. (all : List FmXref) → AreIndexed all outputs.now → outlets.items ≡ filter_map (outlet_of keys.now) (in_order all)) }
 {
-    let places = places_of(alloc, keys)?;
-    let units = units_of(alloc, keys)?;
-    let found = outputs.of(alloc, &units)?;
-    let outlets = outlets_of(alloc, &places, &found)?;
+    let placed = placed_keys(alloc, keys)?;
+    let outlets = first_outlets(alloc, outputs.outlets(alloc, &placed)?)?;
     Ok(outlets)
 }
 

@@ -5,6 +5,7 @@ mod index;
 pub mod laws;
 mod layout;
 mod made;
+mod outlets;
 mod outputs;
 mod run;
 mod shared;
@@ -12,5 +13,5 @@ mod sums;
 
 pub use index::OutputIndex;
 pub use made::Insured;
-pub use run::insured;
+pub use run::{insured, put_insured};
 pub use sums::LayerSum;

@@ -1,7 +1,8 @@
 //! The insured losses of a run, and the sums of its layers.
 //! The rule: docs/FINANCIAL_MODULE.md, "Insured losses".
-ghost use Rattle.std.specs.Prelude.{◌≡◌, ◌≤◌, map, All, IfOk};
-ghost use Rattle.kt_stream.specs.Losses.{IsLoss};
+ghost use Rattle.std.specs.Prelude.{◌≡◌, ◌≤◌, ◌++◌, map, All, IfOk, OnErr, OnOk};
+ghost use Rattle.std.specs.List.{flat_map};
+ghost use Rattle.kt_stream.specs.Losses.{IsLoss, loss_bytes};
 ghost use Rattle.kt_runs.specs.RunLosses.{AreWithin};
 ghost use Rattle.kt_tree.specs.Programme.{tree_of};
 ghost use Rattle.kt_tree.specs.Tree.{Tree};
@@ -14,9 +15,10 @@ ghost use Rattle.kt_insured.specs.Layout.{IsLayout};
 use crate::index::OutputIndex;
 use crate::layout::Layout;
 use crate::made::Insured;
-use crate::outputs::records_of;
+use crate::outputs::{put_records, records_of};
 use crate::sums::sums_of;
 use kt_fmtree::Programme;
+use kt_money::Bytes;
 use kt_runs::{RunEntry, event_of};
 use kt_shares::{ids_of, table_of};
 use kt_structure::Structure;
@@ -82,4 +84,59 @@ pub fn insured<T: RunEntry>(
     let layout = Layout::new(alloc, outputs, &programme, rule)?;
     let made = insured_of(alloc, portfolio, &programme, &layout, samples, records)?;
     Ok(made)
+}
+
+/// Appends the insured losses of the records of a run, by a programme of the ids that have losses, as they stand in a stream. An
+/// error is want of memory, and nothing is appended then.
+fn put_of<T: RunEntry>(
+    alloc: Global,
+    portfolio: &Portfolio,
+    programme: &Programme,
+    layout: &Layout,
+    samples: u32,
+    records: &[T],
+    out: &mut Bytes,
+) -> Result<(), AllocError>
+    requires samples { samples ≤ 1000 }
+    requires rule { layout.now.rule ≤ 2 }
+    requires layout { (tree : Tree) → IsProgramme tree programme.now → IsLayout tree portfolio.now.rows.fm_xref programme.now layout.now }
+    requires records { All (IsLoss samples) (map T.entry_of records.now) }
+    requires within { AreWithin (map T.entry_of records.now) }
+    ensures ok { OnOk result ((tree : Tree) → IsProgramme tree programme.now → out.new ≡ out.old ++ flat_map loss_bytes (insured_records tree layout.now.rule samples portfolio.now.rows.fm_xref (map T.entry_of records.now))) }
+    ensures unchanged { OnErr result (out.new ≡ out.old) }
+{
+    programme.is_of_a_tree();
+    let event = event_of(records);
+    let layers = layout.layers();
+    let table = table_of(alloc, programme, samples, layout.rule(), layers, records)?;
+    put_records(alloc, event, &table, layout.outlets(), out)?;
+    Ok(())
+}
+
+/// Appends the insured losses of the records of one run as they stand in a stream: the records of `insured`, which says what must
+/// hold. An error is want of memory, and nothing is appended then.
+pub fn put_insured<T: RunEntry>(
+    alloc: Global,
+    portfolio: &Portfolio,
+    structure: &Structure,
+    outputs: &OutputIndex,
+    samples: u32,
+    rule: u32,
+    records: &[T],
+    out: &mut Bytes,
+) -> Result<(), AllocError>
+    requires samples { samples ≤ 1000 }
+    requires rule { rule ≤ 2 }
+    requires structure { IsStructure (tree_of portfolio.now.rows 0) (kept_by structure.now) }
+    requires outputs { AreIndexed portfolio.now.rows.fm_xref outputs.now }
+    requires records { All (IsLoss samples) (map T.entry_of records.now) }
+    requires within { AreWithin (map T.entry_of records.now) }
+    ensures ok { OnOk result (out.new ≡ out.old ++ flat_map loss_bytes (insured_records (tree_of portfolio.now.rows 0) rule samples portfolio.now.rows.fm_xref (map T.entry_of records.now))) }
+    ensures unchanged { OnErr result (out.new ≡ out.old) }
+{
+    let ids = ids_of(alloc, records)?;
+    let programme = structure.programme(alloc, &ids)?;
+    let layout = Layout::new(alloc, outputs, &programme, rule)?;
+    put_of(alloc, portfolio, &programme, &layout, samples, records, out)?;
+    Ok(())
 }

@@ -33,7 +33,7 @@ shares-more total weights at below =
     ap (λ s. take at (share_out total weights) ++ s ∷ []) (sym here) ∙ sym (take_more (share_out total weights) at 0 (omega (arith, below, long)))
 
 -- an only weight has the whole
-only-share : (total : ℕ) (weights : List ℕ) → length weights ≡ 1 → total ≤ sum weights → total ∷ [] ≡ share_out total weights
+pub only-share : (total : ℕ) (weights : List ℕ) → length weights ≡ 1 → total ≤ sum weights → total ∷ [] ≡ share_out total weights
 only-share total [] one few = absurd (omega arith)
 only-share total (w ∷ v ∷ weights) one few = absurd (omega arith)
 only-share total (w ∷ []) one few =

@@ -1,9 +1,9 @@
 //! Amounts of units given down a programme by lanes, level by level.
 //! The rule: docs/FINANCIAL_MODULE.md, "Allocation".
-ghost use Rattle.std.specs.Prelude.{◌≡◌, ◌+◌, ◌≤◌, ◌<◌, ◌^◌, ◌++◌, ℕ, false, length, All, IfOk, OnOk, slice_index};
+ghost use Rattle.std.specs.Prelude.{◌≡◌, ◌+◌, ◌≤◌, ◌<◌, ◌^◌, ◌++◌, ℕ, true, false, length, map, All, IfOk, OnOk, slice_index};
 ghost use Rattle.std.specs.List.{flat_map, range_with_len, sum};
 ghost use Rattle.kt_money.specs.Sharing.{share_out};
-ghost use Rattle.kt_alloc.specs.Placed.{levels_down, parts_from};
+ghost use Rattle.kt_alloc.specs.Placed.{levels_down, node_at, parts_from};
 ghost use Rattle.kt_lanes.specs.Lanes.{column, AreWide, CanTake, child_losses};
 ghost use Rattle.kt_lanes.specs.Climbed.{IsClimbed, carried_at};
 ghost use Rattle.kt_lanes.specs.Down.{AreBacked, ArePlaced, CanGive, given_losses, placed_at};
@@ -57,8 +57,8 @@ fn push_children(
     Ok(())
 }
 
-/// What amounts of the units of a level give to those of the level below. An error is want of memory.
-fn level_down(
+/// What amounts of the units of a level give to those of the level below, unit by unit. An error is want of memory.
+fn level_by_unit(
     alloc: Global,
     nodes: &[Node],
     width: usize,
@@ -90,6 +90,57 @@ fn level_down(
     Ok(given)
 }
 
+/// Whether the units in places have an only child each.
+fn are_single(nodes: &[Node], places: &[usize]) -> bool
+    requires places { All (λ place. place < length nodes.now) places.now }
+    ensures single { result ≡ true → All (λ place. (node_at nodes.now place).width ≡ 1) places.now }
+{
+    for place in places {
+        if nodes[*place].width != 1 {
+            return false;
+        }
+    }
+    true
+}
+
+/// The places of the first children of the units in places. An error is want of memory.
+fn starts_of(alloc: Global, nodes: &[Node], places: &[usize]) -> Result<Vec<usize>, AllocError>
+    requires places { All (λ place. place < length nodes.now) places.now }
+    ensures value { IfOk result (λ starts. starts.items ≡ map (λ place. (node_at nodes.now place).start) places.now) }
+{
+    let mut starts = Vec::with_capacity(alloc, places.len())?;
+    for place in places {
+        starts.push(nodes[*place].start)?;
+    }
+    Ok(starts)
+}
+
+/// What amounts of the units of a level give to those of the level below: only children have them whole, as they are. An error is
+/// want of memory.
+fn level_down(
+    alloc: Global,
+    nodes: &[Node],
+    width: usize,
+    below: &[Vec<u64>],
+    parts: PlacedLanes,
+) -> Result<PlacedLanes, AllocError>
+    requires can { All (CanTake width below.now) nodes.now }
+    requires wide { AreWide width below.now }
+    requires parts { ArePlaced width parts }
+    requires places { All (λ place. place < length nodes.now) parts.places.items }
+    requires backed { (k : ℕ) → k < width → AreBacked nodes.now (column k below.now) (placed_at k parts) }
+    ensures given { IfOk result (ArePlaced width) }
+    ensures value { IfOk result (λ given. (k : ℕ) → k < width → placed_at k given ≡ flat_map (given_losses nodes.now (column k below.now)) (placed_at k parts)) }
+{
+    if are_single(nodes, &parts.places) {
+        let places = starts_of(alloc, nodes, &parts.places)?;
+        let lanes = parts.lanes;
+        return Ok(PlacedLanes { places, lanes });
+    }
+    let given = level_by_unit(alloc, nodes, width, below, &parts)?;
+    Ok(given)
+}
+
 /// What amounts of the units of a level give to the ids beneath them. An error is want of memory.
 pub(crate) fn lanes_down(
     alloc: Global,
@@ -116,7 +167,7 @@ pub(crate) fn lanes_down(
         programme.nodes_above(next),
         climbed.width,
         below,
-        &parts,
+        parts,
     )?;
     let last = lanes_down(alloc, programme, lanes, climbed, next, given)?;
     Ok(last)

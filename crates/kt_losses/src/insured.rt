@@ -13,10 +13,9 @@ ghost use Rattle.kt_tree.specs.Programme.{tree_of};
 
 use crate::heading::put_heading;
 use crate::judging::write_losses;
-use crate::putting::put_losses;
 use crate::table::LossTool;
 use kt_ends::ToolStop;
-use kt_insured::{OutputIndex, insured};
+use kt_insured::{OutputIndex, put_insured};
 use kt_money::Bytes;
 use kt_out::{Sink, Source};
 use kt_stream::{Head, LossRecord, Placed};
@@ -59,7 +58,7 @@ impl LossTool for InsuredLosses {
         run: &[Placed<LossRecord>],
         out: &mut Bytes,
     ) -> Result<(), AllocError> {
-        let made = insured(
+        put_insured(
             self.alloc,
             portfolio,
             &self.structure,
@@ -67,8 +66,8 @@ impl LossTool for InsuredLosses {
             head.samples,
             self.rule,
             run,
-        )?;
-        put_losses(out, made.records.as_slice())
+            out,
+        )
     }
 }
 

@@ -24,6 +24,9 @@ use std::collections::HashSet;
 /// The place of the id in a record, in bytes.
 const ID_PLACE: u64 = 4;
 
+/// More bytes than most runs need.
+const RUN_MEMORY: usize = 4_194_304;
+
 /// The kind of the stream.
 fn losses_kind(items: bool) -> StreamKind
     ensures { result ≡ losses_kind items }
@@ -46,6 +49,12 @@ fn check_stop(alloc: Global, stop: CheckStop) -> ToolStop
         },
         CheckStop::OutOfMemory => ToolStop::NoMemory,
     }
+}
+
+/// Takes a block of memory and gives it back. Where the allocator would give the memory of each run back to the system and ask for
+/// it anew, it keeps as much from then on. Nothing else depends on it, so it may fail.
+fn keep_memory(alloc: Global) {
+    let _ = Vec::<u8>::with_capacity(alloc, RUN_MEMORY);
 }
 
 /// A tool over the losses of a portfolio, with the sums of the run that is open.
@@ -139,6 +148,7 @@ pub(crate) fn write_losses<T: LossTool + Drop, S: Source, K: Sink>(
 {
     runs_give_their_text::<Head, LossRecord, (T, Portfolio)>();
     what_is_read_can_be_taken::<LossRecord>();
+    keep_memory(alloc);
     let ids = match known_ids(alloc, tool.of_items(), portfolio.tables()) {
         Ok(ids) => ids,
         Err(_) => return Err(ToolStop::NoMemory),

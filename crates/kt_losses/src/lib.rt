@@ -7,11 +7,9 @@ mod insured;
 mod judging;
 mod known;
 mod net;
-mod putting;
 mod summaries;
 mod table;
 
 pub use insured::write_insured;
 pub use net::write_net;
-pub use putting::put_losses;
 pub use summaries::write_summaries;

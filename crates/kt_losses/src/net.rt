@@ -12,12 +12,11 @@ ghost use Rattle.kt_tree.specs.Programme.{tree_of};
 
 use crate::heading::put_heading;
 use crate::judging::write_losses;
-use crate::putting::put_losses;
 use crate::table::LossTool;
 use kt_ends::ToolStop;
 use kt_money::Bytes;
 use kt_out::{Sink, Source};
-use kt_ri::{one_stage, stage_of};
+use kt_ri::{put_net, stage_of};
 use kt_stream::{Head, LossRecord, Placed};
 use kt_structure::Structure;
 use kt_tables::Portfolio;
@@ -57,8 +56,14 @@ impl LossTool for NetLosses {
         run: &[Placed<LossRecord>],
         out: &mut Bytes,
     ) -> Result<(), AllocError> {
-        let made = one_stage(self.alloc, &self.structure, head.samples, self.rule, run)?;
-        put_losses(out, made.net.as_slice())
+        put_net(
+            self.alloc,
+            &self.structure,
+            head.samples,
+            self.rule,
+            run,
+            out,
+        )
     }
 }
 

@@ -2,5 +2,6 @@ pub mod PlaceLemmas
 pub mod FewLemmas
 pub mod CededLemmas
 pub mod NetLemmas
+pub mod WrittenLemmas
 pub mod StageLemmas
 pub mod StruckLemmas

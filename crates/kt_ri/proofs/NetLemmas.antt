@@ -1,9 +1,10 @@
 -- What is left of the records of a run, record by record.
-use Rattle.std.proofs.Common.{◌≡◌, ℕ, ◌+◌, ◌-◌, ◌<◌, ◌≤◌, ◌||◌, Bool, true, false, cond, nat_eq, ℤ, List, [], ◌∷◌, Vec, Global, Option, Some, None, length, map, refl, sym, ap, subst, ◌∙◌, arith}
+use Rattle.std.proofs.Common.{◌≡◌, ℕ, ◌+◌, ◌-◌, ◌<◌, ◌≤◌, ◌||◌, Bool, true, false, cond, nat_eq, ℤ, List, [], ◌∷◌, Vec, Global, Option, Some, None, length, map, slice_index, refl, sym, ap, subst, ◌∙◌, arith}
 use Rattle.std.specs.Prelude.{All, unwrap_or}
 use Rattle.std.specs.List.{AllByRecursion, cons_option, filter, filter_map, list_any, sum_by}
 use Rattle.std.proofs.lemmas.List.Elements.{All-from_recursion, recursion_from_All}
 use Rattle.std.proofs.lemmas.List.Sums.{sum_by-cons}
+use Rattle.kt_lanes.specs.Lanes.{IsLane}
 use Rattle.kt_rec.specs.Rising.{IsRising}
 use Rattle.kt_stream.specs.declared.entry.LossRecord.{LossRecord}
 use Rattle.kt_stream.specs.declared.entry.Pair.{Pair}
@@ -17,9 +18,9 @@ use Rattle.kt_fmtree.specs.RisingLaws.{rising-made}
 use Rattle.kt_shares.specs.LookupLaws.{lookup-none}
 use Rattle.kt_shares.specs.PairLaws.{pairs-le}
 use Rattle.kt_shares.specs.RecordLaws.{record-event, record-good, record-id}
-use Rattle.kt_shares.specs.RowLaws.{rows-are}
+use Rattle.kt_shares.specs.RowLaws.{pairs-agree, rows-are}
 use Rattle.kt_shares.specs.Shares.{insured_range, layers_of, part_of_id, record_with}
-use Rattle.kt_shares.specs.Table.{row_place}
+use Rattle.kt_shares.specs.Table.{pairs_by_row, row_place}
 use Rattle.kt_ri.specs.Ceded.{AreCeded, AreRows, IsPlaceIn, ceded_in, pairs_behind, part_behind}
 use Rattle.kt_ri.specs.Ceding.{IsPlaceOf}
 use Rattle.kt_ri.specs.Reinsurance.{ceded_at, ceded_loss, net_record, net_records}
@@ -66,6 +67,13 @@ module _ (tree : Tree) (parts : Parts) (is : IsProgramme tree parts) (rule sampl
   behind-are place found left pairs =
       rows-are samples (λ row. part_behind left (loss_of (sidx_at (row_place row)) pairs) (ceded_in ceded place row)) (λ sidx. part_behind left (loss_of sidx pairs) (ceded_at tree rule records id sidx))
       (λ row below. ap (part_behind left (loss_of (sidx_at (row_place row)) pairs)) (ceded-at place found row below))
+
+-- a lane of what is left of losses, or of what is ceded, has its pairs
+pub lane-behind : (samples : ℕ) (pairs : List Pair) (ceded : List (Vec ℕ Global)) (place : Option ℕ) (left : Bool) (before lane : List ℕ) → IsLane (samples + 1) (λ row. loss_of (sidx_at (row_place row)) pairs) before → IsLane (length before) (λ row. part_behind left (slice_index before row) (ceded_in ceded place row)) lane → pairs_by_row (slice_index lane) (length lane) ≡ pairs_behind left ceded samples place pairs
+lane-behind samples pairs ceded place left before lane losses behind =
+    ap (pairs_by_row (slice_index lane)) (behind.wide ∙ losses.wide)
+    ∙ pairs-agree (slice_index lane) (λ row. part_behind left (loss_of (sidx_at (row_place row)) pairs) (ceded_in ceded place row)) (samples + 1)
+    (λ row below. behind.each row (subst (λ n. row < n) (sym losses.wide) below) ∙ ap (λ n. part_behind left n (ceded_in ceded place row)) (losses.each row below))
 
 -- ---- net losses are records of a stream, and a run
 

@@ -10,7 +10,9 @@ mod reinsured;
 mod shared;
 mod stage;
 mod stages;
+mod written;
 
 pub use reinsured::{Reinsured, one_stage};
 pub use stage::stage_of;
 pub use stages::reinsure;
+pub use written::put_net;

@@ -48,7 +48,7 @@ fn take_none(losses: &mut [u64], left: bool)
 }
 
 /// What is left of losses of an id whose place may be absent, or what it cedes, in the place of the losses.
-fn take_behind(losses: &mut [u64], ceded: &[Vec<u64>], place: Option<usize>, left: bool)
+pub(crate) fn take_behind(losses: &mut [u64], ceded: &[Vec<u64>], place: Option<usize>, left: bool)
     requires place { IsPlaceIn ceded.now place }
     requires wide { AreWide (length losses.old) ceded.now }
     ensures value { IsLane (length losses.old) (λ row. part_behind left (slice_index losses.old row) (ceded_in ceded.now place row)) losses.new }

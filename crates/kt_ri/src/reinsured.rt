@@ -29,7 +29,7 @@ pub struct Reinsured {
 }
 
 /// The programme that cedes the losses of a run: of the units that they come to.
-fn ceding_for<T: RunEntry>(
+pub(crate) fn ceding_for<T: RunEntry>(
     alloc: Global,
     stage: &Structure,
     records: &[T],

@@ -6,3 +6,4 @@ pub mod RowLemmas
 pub mod ByLanesLemmas
 pub mod ByRowsLemmas
 pub mod TableLemmas
+pub mod WrittenLemmas

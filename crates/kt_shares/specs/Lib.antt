@@ -13,3 +13,4 @@ pub mod PairLaws
 pub mod RecordLaws
 pub mod TableLaws
 pub mod StruckLaws
+pub mod WrittenLaws

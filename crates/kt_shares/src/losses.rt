@@ -40,6 +40,18 @@ fn add_losses(lane: &mut [u64], samples: u32, pairs: &[Pair])
     }
 }
 
+/// Puts the losses of pairs in cents, row by row, in the place of what a lane has.
+pub fn take_losses(lane: &mut [u64], samples: u32, pairs: &[Pair])
+    requires samples { samples ≤ 1000 }
+    requires wide { length lane.old ≡ samples + 1 }
+    requires pairs { AllByRecursion (IsPair samples) pairs.now }
+    requires few { (sidx : ℤ) → loss_of sidx pairs.now ≤ 10000000000000000 }
+    ensures value { IsLane (samples + 1) (λ row. loss_of (sidx_at (row_place row)) pairs.now) lane.new }
+{
+    lane.fill(0);
+    add_losses(lane, samples, pairs);
+}
+
 /// The losses of pairs in cents, row by row. An error is want of memory.
 pub fn losses_of(alloc: Global, samples: u32, pairs: &[Pair]) -> Result<Vec<u64>, AllocError>
     requires samples { samples ≤ 1000 }

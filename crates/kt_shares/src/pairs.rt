@@ -12,7 +12,7 @@ use std::alloc::{AllocError, Global};
 
 /// The pair of a row.
 #[inline]
-fn pair_at(row: u32, loss: u64) -> Pair
+pub(crate) fn pair_at(row: u32, loss: u64) -> Pair
     requires { row ≤ 1000 }
     ensures value { result ≡ record { sidx = sidx_at (row_place row); loss = loss } }
 {

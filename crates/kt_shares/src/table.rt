@@ -1,14 +1,15 @@
 //! What layers have of a run: a row for the mean, and one for each sample.
 //! The rule: docs/FINANCIAL_MODULE.md, "Insured losses".
-ghost use Rattle.std.specs.Prelude.{◌≡◌, ◌≤◌, ◌<◌, ◌+◌, ◌-◌, ℕ, length, map, All, IfOk, slice_index};
-ghost use Rattle.std.specs.List.{AllByRecursion, range_with_len, sum_by};
-ghost use Rattle.kt_stream.specs.Losses.{IsLoss};
+ghost use Rattle.std.specs.Prelude.{◌≡◌, ◌≤◌, ◌<◌, ◌+◌, ◌-◌, ◌*◌, ◌++◌, ℕ, [], length, map, All, IfOk, OnErr, OnOk, slice_index};
+ghost use Rattle.std.specs.List.{AllByRecursion, cons_option, flat_map, range_with_len, sum_by};
+ghost use Rattle.kt_stream.specs.Losses.{IsLoss, loss_bytes};
 ghost use Rattle.kt_runs.specs.RunLosses.{AreWithin};
 ghost use Rattle.kt_tree.specs.Tree.{Tree};
 ghost use Rattle.kt_fmtree.specs.Parts.{IsProgramme};
 ghost use Rattle.kt_lanes.specs.Climbed.{AreLosses};
 ghost use Rattle.kt_shares.specs.Layers.{IsTopLayer, key_of};
 ghost use Rattle.kt_shares.specs.ByLanes.{AreLayers};
+ghost use Rattle.kt_shares.specs.Shares.{record_with};
 ghost use Rattle.kt_shares.specs.Table.{HasAmounts, pairs_by_row, row_at, sampled_sum, table_for};
 
 use crate::by_lanes::{LayerLanes, are_plain, layer_lanes};
@@ -16,8 +17,10 @@ use crate::by_rows::lanes_by_rows;
 use crate::layers::TopLayer;
 use crate::losses::id_lanes;
 use crate::pairs::lane_pairs;
+use crate::written::{pair_room, put_lane};
 use kt_fmtree::Programme;
 use kt_lanes::{climb, has_plain_units};
+use kt_money::Bytes;
 use kt_runs::RunEntry;
 use kt_stream::Pairs;
 use std::alloc::{AllocError, Global};
@@ -77,6 +80,32 @@ impl Table {
     {
         let pairs = lane_pairs(alloc, self.shares(place))?;
         Ok(pairs)
+    }
+
+    /// Room for the pairs of one record of the shares. An error is want of memory.
+    pub fn room(&self, alloc: Global) -> Result<Vec<u8>, AllocError>
+        ensures room { IfOk result (λ room. length room.items ≡ 12 * length self.now + 12) }
+    {
+        pair_room(alloc, self.rows)
+    }
+
+    /// Appends the record of an event and an id with the shares in a place, where these are above 0, as it stands in a stream. An
+    /// error is want of memory, and nothing is appended then.
+    pub fn put(
+        &self,
+        event: u32,
+        id: u32,
+        place: usize,
+        room: &mut [u8],
+        out: &mut Bytes,
+    ) -> Result<(), AllocError>
+        requires place { All (λ row. place < length row.shares) self.now }
+        requires room { 12 * length self.now + 12 ≤ length room.old }
+        ensures room { length room.new ≡ length room.old }
+        ensures ok { OnOk result (out.new ≡ out.old ++ flat_map loss_bytes (cons_option (record_with event id (pairs_by_row (λ row. slice_index (row_at self.now row).shares place) (length self.now))) [])) }
+        ensures unchanged { OnErr result (out.new ≡ out.old) }
+    {
+        put_lane(event, id, self.shares(place), room, out)
     }
 
     /// The policy losses of a layer in cents, row by row.

@@ -59,7 +59,7 @@ impl Structure {
     {
         let top = self.top_level;
         let layers = layers(alloc, &self.layers, top, &tops)?;
-        let terms = terms(alloc, &self.layers, &self.terms, top, &tops)?;
+        let terms = terms(alloc, &self.terms, top, &tops, &layers)?;
         let beneath = beneath(alloc, &self.next, top, &ids, &tops)?;
         let plan = Plan::new(links, &self.terms, &self.tivs);
         let (levels, leaves) = levels_of(alloc, &plan, top, &tops, &ids)?;

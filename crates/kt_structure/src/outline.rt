@@ -1,6 +1,6 @@
 //! The tops of a programme, their layers, and the ids beneath them.
 //! The rule: docs/FINANCIAL_MODULE.md, "Levels".
-ghost use Rattle.std.specs.Prelude.{◌≡◌, ℕ, nat_eq, map, option_map, is_some, IfOk};
+ghost use Rattle.std.specs.Prelude.{◌≡◌, ℕ, nat_eq, List, length, map, option_map, is_some, IfOk};
 ghost use Rattle.std.specs.List.{filter, filter_map};
 ghost use Rattle.std.specs.HashMap.{get};
 ghost use Rattle.kt_keys.specs.Climbing.{climbed};
@@ -160,17 +160,17 @@ fn layer_terms(
 /// The terms of the layers of each top.
 pub(crate) fn terms(
     alloc: Global,
-    links: &ByKey<Link>,
     terms: &Terms,
     level: u32,
     tops: &[u32],
+    layers: &[Vec<u32>],
 ) -> Result<Vec<Vec<Profile>>, AllocError>
-    ensures value { IfOk result (λ rows. map (λ row. row.items) rows.items ≡ map (λ top. map (λ layer. found_terms terms.now layer level top) (or_first (linked links.now level top))) tops.now) }
+    requires same { length layers.now ≡ length tops.now }
+    ensures value { IfOk result (λ rows. (layers_at : ℕ → List ℕ) → map (λ one. one.items) layers.now ≡ map layers_at tops.now → map (λ row. row.items) rows.items ≡ map (λ top. map (λ layer. found_terms terms.now layer level top) (layers_at top)) tops.now) }
 {
     let mut rows = Vec::with_capacity(alloc, tops.len())?;
-    for top in tops {
-        let layers = layers_of(alloc, links, level, *top)?;
-        rows.push(layer_terms(alloc, terms, level, *top, &layers)?)?;
+    for at in 0..tops.len() {
+        rows.push(layer_terms(alloc, terms, level, tops[at], &layers[at])?)?;
     }
     Ok(rows)
 }

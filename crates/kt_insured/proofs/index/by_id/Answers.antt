@@ -11,6 +11,6 @@ pub returns : goal.returns
 returns c = record {
   value =
       IfOk-weaker c.new.result _ (λ index. (id : ℕ) → first_of index id ≡ lookup (nat_eq id) (map (λ row. (row.output_id, row)) c.args.outputs.now))
-      (λ index kept id. ap (λ (rows : List FmXref). slice_get rows 0) (kept id) ∙ first-found id c.args.outputs.now)
+      (λ index kept id. ap (λ (rows : List FmXref). slice_get rows 0) (kept id) ∙ first-found (λ (row : FmXref). row.output_id) id c.args.outputs.now)
       c.new.ensures.kept;
 }

@@ -4,7 +4,7 @@ use Rattle.kt_shares.specs.RowLaws.{made-more}
 use Rattle.kt_shares.specs.Shares.{record_with}
 use Rattle.kt_stream.specs.declared.entry.Pair.{Pair}
 use Rattle.kt_insured.specs.Table.{record_in}
-use Rattle.kt_insured.specs.declared.layout.Outlet.{Outlet}
+use Rattle.kt_insured.specs.declared.outlets.Outlet.{Outlet}
 use Rattle.kt_insured.proofs.outputs.records_of.Goals as goal
 
 pub loop-outlet-preserved : goal.loop-outlet-preserved

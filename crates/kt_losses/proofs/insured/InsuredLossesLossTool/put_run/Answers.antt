@@ -1,5 +1,5 @@
 use Rattle.kt_losses.proofs.ToolLemmas.{entries_are_losses}
 use Rattle.kt_losses.proofs.insured.InsuredLossesLossTool.put_run.Goals as goal
 
-pub insured-requires-clause-records : goal.insured-requires-clause-records
-insured-requires-clause-records c = entries_are_losses c.args.head.samples c.args.run.now c.requires.good
+pub put_insured-requires-clause-records : goal.put_insured-requires-clause-records
+put_insured-requires-clause-records c = entries_are_losses c.args.head.samples c.args.run.now c.requires.good

@@ -2,7 +2,7 @@ use Rattle.std.proofs.Common.{◌≡◌, ◌<◌, ℕ, take}
 use Rattle.std.specs.List.{flat_map}
 use Rattle.kt_lanes.specs.Lanes.{column}
 use Rattle.kt_lanes.specs.Down.{ArePlaced, given_losses, placed_at}
-use Rattle.kt_lanes.proofs.down.level_down.Given as goal
+use Rattle.kt_lanes.proofs.down.level_by_unit.Given as goal
 
 abbrev pub invariant-loop-at : goal.invariant-loop-at
 invariant-loop-at l = record {
