@@ -49,6 +49,9 @@ impl<T: Keyed> ByKey<T> {
         ensures permutation { IfOk result (IsPermutation rows.items) }
         ensures kept { IfOk result (λ index. (key : ℕ) → filter (λ row. nat_eq (T.key_of row) key) index ≡ filter (λ row. nat_eq (T.key_of row) key) rows.items) }
     {
+        if is_by_key(&rows) {
+            return Ok(ByKey { rows });
+        }
         let mut rows = rows;
         rows.sort_by_key(|row| row.key())?;
         Ok(ByKey { rows })
