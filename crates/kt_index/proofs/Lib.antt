@@ -1,3 +1,4 @@
 pub mod KeyLemmas
 pub mod CoverLemmas
 pub mod TotalLemmas
+pub mod PlaceLemmas

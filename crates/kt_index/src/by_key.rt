@@ -2,7 +2,7 @@
 ghost use Rattle.std.specs.Prelude.{◌≡◌, true, ◌≤◌, ◌-◌, ℕ, ◌&&◌, nat_eq, nat_le, length, take, drop, IfOk};
 ghost use Rattle.std.specs.List.{filter};
 ghost use Rattle.std.specs.List.Sorted.{IsPermutation, IsNonDecreasingBy};
-ghost use Rattle.kt_index.specs.KeyEnds.{KeyEnds};
+ghost use Rattle.kt_index.specs.KeyEnds.{IsBelow, IsUpto, KeyEnds};
 
 use std::alloc::{AllocError, Global};
 use std::marker::Model;
@@ -49,6 +49,9 @@ impl<T: Keyed> ByKey<T> {
         ensures permutation { IfOk result (IsPermutation rows.items) }
         ensures kept { IfOk result (λ index. (key : ℕ) → filter (λ row. nat_eq (T.key_of row) key) index ≡ filter (λ row. nat_eq (T.key_of row) key) rows.items) }
     {
+        if is_by_key(&rows) {
+            return Ok(ByKey { rows });
+        }
         let mut rows = rows;
         rows.sort_by_key(|row| row.key())?;
         Ok(ByKey { rows })
@@ -113,12 +116,58 @@ fn copy_of<T: Copy + Drop>(alloc: Global, rows: &[T]) -> Result<Vec<T>, AllocErr
 
 /// The places at which the rows of a range of keys begin and end.
 fn ends<T: Keyed>(rows: &[T], low: u64, top: u64) -> (usize, usize)
-    requires { IsNonDecreasingBy T.key_of rows.now }
+    requires rising { IsNonDecreasingBy T.key_of rows.now }
+    requires order { low ≤ top }
     ensures value { KeyEnds T.key_of rows.now low top result.0 result.1 }
 {
-    let start = rows.partition_point(|row| row.key() < low);
-    let end = rows.partition_point(|row| row.key() <= top);
-    (start, end)
+    let start = rows_below(rows, low);
+    let found = rows_upto(&rows[start..], top);
+    (start, start + found)
+}
+
+/// How many rows have a key below one. Where keys rise by one from row to row, as ids mostly do, that is known from the first.
+fn rows_below<T: Keyed>(rows: &[T], low: u64) -> usize
+    requires rising { IsNonDecreasingBy T.key_of rows.now }
+    ensures within { result ≤ length rows.now }
+    ensures value { IsBelow T.key_of rows.now low result }
+{
+    let first = match rows.first() {
+        Some(row) => row.key(),
+        None => return 0,
+    };
+    let guess = low.saturating_sub(first) as usize;
+    if is_start(rows, low, guess) {
+        return guess;
+    }
+    rows.partition_point(|row| row.key() < low)
+}
+
+/// Whether so many rows have a key below one, where there are more.
+#[inline]
+fn is_start<T: Keyed>(rows: &[T], low: u64, place: usize) -> bool
+    requires rising { IsNonDecreasingBy T.key_of rows.now }
+    ensures within { result ≡ true → place ≤ length rows.now }
+    ensures value { result ≡ true → IsBelow T.key_of rows.now low place }
+{
+    if place >= rows.len() || rows[place].key() < low {
+        return false;
+    }
+    place == 0 || rows[place - 1].key() < low
+}
+
+/// How many rows have a key up to a greatest. Mostly that is one row.
+fn rows_upto<T: Keyed>(rows: &[T], top: u64) -> usize
+    requires rising { IsNonDecreasingBy T.key_of rows.now }
+    ensures within { result ≤ length rows.now }
+    ensures value { IsUpto T.key_of rows.now top result }
+{
+    if rows.is_empty() || rows[0].key() > top {
+        return 0;
+    }
+    if rows.len() == 1 || rows[1].key() > top {
+        return 1;
+    }
+    rows.partition_point(|row| row.key() <= top)
 }
 
 /// The rows from a place up to but not including another.

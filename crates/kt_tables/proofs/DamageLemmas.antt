@@ -50,8 +50,8 @@ range_in : (low top n : ℕ) → low ≤ n → n ≤ top → (nat_le low n && na
 range_in low top n h k = grind (arith, nat_tests)
 
 -- the rows of a key among those of a range that has it
-pub narrowed : (low top key : ℕ) → low ≤ key → key ≤ top → (rows : List Vulnerability) → filter (λ row. nat_eq (damage_key row) key) (filter (λ row. nat_le low (damage_key row) && nat_le (damage_key row) top) rows) ≡ filter (λ row. nat_eq (damage_key row) key) rows
-narrowed low top key above below rows =
-    filter_in (λ row. nat_eq (damage_key row) key) (λ row. nat_le low (damage_key row) && nat_le (damage_key row) top)
-    (λ row is. let same = eqb-true (damage_key row) key is in range_in low top (damage_key row) (omega arith) (omega arith))
+pub narrowed : {X : Type 0} (key_of : X → ℕ) (low top key : ℕ) → low ≤ key → key ≤ top → (rows : List X) → filter (λ row. nat_eq (key_of row) key) (filter (λ row. nat_le low (key_of row) && nat_le (key_of row) top) rows) ≡ filter (λ row. nat_eq (key_of row) key) rows
+narrowed key_of low top key above below rows =
+    filter_in (λ row. nat_eq (key_of row) key) (λ row. nat_le low (key_of row) && nat_le (key_of row) top)
+    (λ row is. let same = eqb-true (key_of row) key is in range_in low top (key_of row) (omega arith) (omega arith))
     rows

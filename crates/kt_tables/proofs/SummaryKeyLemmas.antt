@@ -13,7 +13,8 @@ use Rattle.kt_rec.specs.declared.perspective.Perspective.{Perspective}
 use Rattle.kt_rec.specs.declared.perspective.Perspective.TheVariants.{Gul, Il, Ri}
 use Rattle.kt_rec.specs.declared.summary.FmSummaryXref.{FmSummaryXref}
 use Rattle.kt_rec.specs.declared.summary.GulSummaryXref.{GulSummaryXref}
-use Rattle.kt_tables.specs.Kept.{unit_key, unit_summary}
+use Rattle.kt_tables.specs.Kept.{unit_summary}
+use Rattle.kt_tables.specs.SetRows.{unit_key}
 use Rattle.kt_tables.specs.Lookups.{summary_rows}
 
 -- keys that join two numbers are equal where both are

@@ -12,6 +12,7 @@ use Rattle.kt_index.specs.Exposure.{AddsUp}
 use Rattle.kt_checks.specs.SummaryChecks.{CountsSummaries}
 use Rattle.kt_tables.specs.Portfolio.{IsPortfolio}
 use Rattle.kt_tables.specs.Lookups.{event_ids, item_pairs, return_periods_of, summary_rows, place_in, exposure_of}
+use Rattle.kt_tables.specs.SetRows.{unit_key}
 use Rattle.kt_tables.specs.declared.place.Place.{Place}
 use Rattle.kt_rec.specs.declared.perspective.Perspective.{Perspective}
 use Rattle.kt_rec.specs.declared.perspective.Perspective.TheVariants.{Gul, Il}
@@ -31,10 +32,6 @@ use Rattle.kt_tables.specs.declared.portfolio.Portfolio.TheInside.{Inside}
 -- the summary of a unit in a set, by a row
 abbrev pub unit_summary : SummaryUnit → UnitSummary
 unit_summary row = record { set = row.set; unit = row.unit; summary = row.summary }
-
--- the key of such a summary: its set, and then its unit
-abbrev pub unit_key : UnitSummary → ℕ
-unit_key row = row.set * 2 ^ 32 + row.unit
 
 -- the summaries of ids are those of their rows
 pub record AreSummaries (rows : List SummaryUnit) (summaries : Summaries) : Type 0 where

@@ -6,3 +6,4 @@ pub mod DamageLaws
 pub mod SummaryLaws
 pub mod PeriodLaws
 pub mod PairLaws
+pub mod SetRows

@@ -8,8 +8,10 @@ mod lookups;
 mod place;
 mod portfolio;
 mod searches;
+mod set;
 mod shared;
 mod summaries;
 
 pub use place::Place;
 pub use portfolio::Portfolio;
+pub use set::SetSummaries;

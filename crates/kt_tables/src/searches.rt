@@ -10,10 +10,12 @@ ghost use Rattle.kt_keys.specs.Refusals.{is_loaded};
 ghost use Rattle.kt_checks.specs.TableChecks.{tiv_of};
 ghost use Rattle.kt_tables.specs.Kept.{AreSummariesOf, damage_key};
 ghost use Rattle.kt_tables.specs.PairLaws.{ArePairsRising};
+ghost use Rattle.kt_tables.specs.SetRows.{AreFound};
 ghost use Rattle.kt_tables.specs.Lookups.{damages_at, item_pairs, items_with, pair_of, return_periods_of, random_place, random_of, occurrences_of, place_in, has_summary_set, summary_in, exposure_of};
 
 use crate::place::Place;
 use crate::portfolio::Portfolio;
+use crate::set::SetSummaries;
 use crate::summaries::{Summaries, first_summary};
 use kt_index::{pair_key, rows_between, rows_of};
 use kt_rec::{DamageBin, Item, Occurrence, Perspective, Vulnerability};
@@ -169,6 +171,18 @@ impl Portfolio {
         self.is_valid();
         let summaries = self.summaries(perspective);
         first_summary(summaries.by_id.of(pair_key(set, id)))
+    }
+
+    /// The summaries of items, or of outputs, in a set.
+    pub fn set_summaries(&self, perspective: Perspective, set: u32) -> SetSummaries<'_>
+        ensures value { AreFound (summary_in perspective self.now.rows set) result }
+    {
+        self.is_valid();
+        let by_id = self.summaries(perspective).by_id.as_slice();
+        SetSummaries {
+            rows: rows_between(by_id, pair_key(set, 0), pair_key(set, u32::MAX)),
+            set,
+        }
     }
 
     /// The exposure of a summary of a set in cents: the insured values of the distinct coverages of all items, or outputs,

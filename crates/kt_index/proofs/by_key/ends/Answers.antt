@@ -1,16 +1,20 @@
-use Rattle.std.proofs.Common.{rules, leb, ltb}
-use Rattle.std.proofs.lemmas.List.Sorted.{IsPartitionPoint-from_clause, IsPartitionedBy-leb, IsPartitionedBy-ltb}
+-- The rows up to the greatest key are those below the least, and those found behind them.
+use Rattle.std.proofs.Common.{arith, length-drop}
+use Rattle.std.proofs.lemmas.List.{take_rest}
+use Rattle.kt_index.proofs.PlaceLemmas.{upto_behind}
 use Rattle.kt_index.proofs.by_key.ends.Goals as goal
 
 pub returns : goal.returns
 returns g c =
     let key = g.T.Keyed.key_of in
     let rows = c.args.rows.now in
+    let start = c.rows_below-start.ensures in
+    let found = rw take_rest at c.rows_upto-found.ensures in
     record {
       value = record {
-        start_within = search rules;
-        last_within = search rules;
-        below = IsPartitionPoint-from_clause (λ row. ltb (key row) c.args.low) _ _ c.partition_point-start.ensures.partitioned (IsPartitionedBy-ltb key rows c.args.low c.requires) (λ a r q k. search rules);
-        upto = IsPartitionPoint-from_clause (λ row. leb (key row) c.args.top) _ _ c.partition_point-end.ensures.partitioned (IsPartitionedBy-leb key rows c.args.top c.requires) (λ a r q k. search rules);
+        start_within = start.within;
+        last_within = omega (arith, start.within, found.within, length-drop c.rows_below-start.result rows);
+        below = start.value;
+        upto = upto_behind key rows c.args.low c.args.top c.rows_below-start.result c.rows_upto-found.result c.requires.order start.within start.value found.value;
       };
     }

@@ -1,7 +1,8 @@
 use Rattle.std.proofs.Common.{◌∙◌, ℕ, List, ap, map, nat_eq}
 use Rattle.std.specs.Prelude.{option_map, slice_get}
 use Rattle.std.specs.List.{filter}
-use Rattle.kt_tables.specs.Kept.{unit_key, unit_summary}
+use Rattle.kt_tables.specs.Kept.{unit_summary}
+use Rattle.kt_tables.specs.SetRows.{unit_key}
 use Rattle.kt_tables.specs.Lookups.{summary_rows}
 use Rattle.kt_tables.specs.declared.summaries.UnitSummary.{UnitSummary}
 use Rattle.kt_tables.proofs.SummaryKeyLemmas.{summary_by_key, units_few}

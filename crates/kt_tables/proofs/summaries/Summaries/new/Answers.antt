@@ -1,6 +1,6 @@
 use Rattle.std.proofs.Common.{rules, ◌∙◌, ap, nat_eq}
 use Rattle.std.specs.List.{filter}
-use Rattle.kt_tables.specs.Kept.{unit_key}
+use Rattle.kt_tables.specs.SetRows.{unit_key}
 use Rattle.kt_tables.proofs.summaries.Summaries.new.Goals as goal
 
 pub returns-clause-value : goal.returns-clause-value
