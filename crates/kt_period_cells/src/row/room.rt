@@ -15,12 +15,14 @@ use kt_stream::Pair;
 fn are_at_most(places: &[Cell], most: u64) -> bool
     ensures value { result ≡ true → All (λ one. one.total ≤ most) places.now }
 {
+    let mut is_above = false;
     for cell in places {
+        // No early end, so that several totals are compared at once.
         if cell.total > most {
-            return false;
+            is_above = true;
         }
     }
-    true
+    !is_above
 }
 
 /// How many cells are new where a sample has one: 1 where it had none before.
