@@ -13,7 +13,7 @@ not_true true is = cc
 
 pub loop-cell-preserved : goal.loop-cell-preserved
 loop-cell-preserved c = elim c.if-cell-most.branch [
-  then-cell-most w ↦ λ low. absurd (true_is_not (sym w.is_above-is ∙ low))
+  | then-cell-most w ↦ λ low. absurd (true_is_not (sym w.is_above-is ∙ low))
   | else-cell-most w ↦ λ low. all_take_more (λ (one : Cell). one.total ≤ c.args.most) c.args.places.now c.loop-cell.cell-index (record { total = 0; maximum = 0 }) c.loop-cell-test.true (c.loop-cell.invariant (sym w.is_above-is ∙ low)) (omega (arith, w.if-cell-most.false))
 ]
   where
