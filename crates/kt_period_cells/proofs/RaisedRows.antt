@@ -1,5 +1,5 @@
 -- The losses of pairs, added to one row of many.
-use Rattle.std.proofs.Common.{◌≡◌, ℕ, zero, suc, ◌+◌, ◌<◌, ◌≤◌, List, [], ◌∷◌, ◌++◌, length, take, get_or, set, arith, refl, sym, ap, ◌∙◌, append_assoc, append-nil, length-append, cond, Some, Option}
+use Rattle.std.proofs.Common.{◌≡◌, ℕ, zero, suc, ◌+◌, ◌<◌, ◌≤◌, List, [], ◌∷◌, ◌++◌, length, take, map, get_or, set, arith, refl, sym, ap, ◌∙◌, append_assoc, append-nil, length-append, cond, Some, Option}
 use Rattle.std.specs.Prelude.{Bool, true, false, nat_lt, All, ℤ, pos, negsuc, ◌≤ℤ◌}
 use Rattle.std.specs.List.{flat_map}
 use Rattle.std.proofs.lemmas.Bool.{and_parts}
@@ -14,19 +14,21 @@ use Rattle.kt_rec.specs.declared.perspective.CellKey.{CellKey}
 use Rattle.kt_stream.specs.declared.entry.Pair.{Pair}
 use Rattle.kt_period_cells.specs.declared.cell.Cell.{Cell}
 use Rattle.kt_period_cells.specs.declared.row.Row.{Row}
+use Rattle.kt_period_cells.specs.declared.row_key.RowKey.{RowKey}
 use Rattle.kt_period_cells.specs.declared.rows.Spot.{Spot}
 use Rattle.kt_period_cells.specs.Amounts.{sample_of}
 use Rattle.kt_period_cells.specs.Journal.{Clear}
 use Rattle.kt_period_cells.specs.Losses.{KeyLoss, key_of, same_key, has_cells, is_added, total, maximum, opened}
 use Rattle.kt_period_cells.specs.Room.{Raises, added_sum}
-use Rattle.kt_period_cells.specs.RowCells.{cells_of, cell_in, IsWide, Changes, one_of}
-use Rattle.kt_period_cells.specs.Rows.{Apart, entries_of, place_of, row_for, row_keys, spot_loss, spot_losses}
+use Rattle.kt_period_cells.specs.RowCells.{SampleCells, cells_of, cell_in, IsWide, Changes, one_of, placed}
+use Rattle.kt_period_cells.specs.Rows.{Apart, entries_of, key_in, place_of, row_entries, row_for, row_keys, spot_loss, spot_losses}
 use Rattle.kt_period_cells.specs.Standing.{FitsCells, Standing, cell_at, cell_of, most_cells, most_total, raised, sidx_in_range, total_in}
 use Rattle.kt_period_cells.specs.TotalLaws.{added_some, total_of_cell}
+use Rattle.kt_period_cells.proofs.PlacedCells.{placed_cells}
 use Rattle.kt_period_cells.proofs.Places.{keys_set, placed_within}
 use Rattle.kt_period_cells.proofs.Puts.{count_put}
 use Rattle.kt_period_cells.proofs.RoomLemmas.{raised_within, roomy_cell}
-use Rattle.kt_period_cells.proofs.RowBounds.{fits_changed, found_bounds}
+use Rattle.kt_period_cells.proofs.RowBounds.{fits_changed, fits_same, found_bounds}
 use Rattle.kt_period_cells.proofs.RowKeys.{sample_within}
 use Rattle.kt_period_cells.proofs.SameLosses.{SameLosses, total_append, maximum_append, opened_append, within_clear}
 use Rattle.kt_period_cells.proofs.Steps.{extra, standing_push}
@@ -61,18 +63,23 @@ set_again (z ∷ xs) (suc i) x y = ap (λ ys. z ∷ ys) (set_again xs i x y)
 sum_push : (pairs : List Pair) (pair : Pair) → added_sum (pairs ++ pair ∷ []) ≡ added_sum pairs + cond (is_added pair) pair.loss 0
 sum_push pairs pair = sum_by_push (λ (pair : Pair). cond (is_added pair) pair.loss 0) pairs pair
 
+-- rows with one key and the same cells have the same entries
+same_entries : (old new : Row) → new.key ≡ old.key → cells_of new ≡ cells_of old → row_entries new ≡ row_entries old
+same_entries old new key cells = ap (λ (k : RowKey). map (λ one. (key_in k one.0, one.1)) (cells_of new)) key ∙ ap (λ (cs : SampleCells). map (λ one. (key_in old.key one.0, one.1)) cs) cells
+
 module _ (samples : ℕ) where
-  -- no pair
-  pub raises_none : (row : Row) → Raises samples row row [] 0
-  raises_none row =
+  -- no pair: a row with the key and the places of another
+  pub raises_none : (old new : Row) → 1 ≤ length old.places.items → new.key ≡ old.key → new.places.items ≡ old.places.items → Raises samples old new [] 0
+  raises_none old new some key places =
+      let cells : cells_of new ≡ cells_of old = placed_cells new (omega (arith, some, ap length places)) ∙ ap (placed 0) places ∙ sym (placed_cells old some) in
       record {
-        key = refl;
-        len = refl;
-        count = omega arith;
+        key = key;
+        len = ap length places;
+        count = omega (arith, ap length cells);
         few = omega arith;
-        fits = λ periods fits. fits;
-        room = λ more room. All-weaker (λ (one : Cell). one.total + (0 + more) ≤ most_total) (λ (one : Cell). one.total + more ≤ most_total) (λ one high. omega (arith, high)) row.places.items room;
-        adds = λ rows place p s u period before apart found is stands. rw (entries_same rows place row row is refl, append-nil before) stands;
+        fits = λ periods fits. fits_same periods samples old new fits key places cells;
+        room = λ more room. rw places (All-weaker (λ (one : Cell). one.total + (0 + more) ≤ most_total) (λ (one : Cell). one.total + more ≤ most_total) (λ one high. omega (arith, high)) old.places.items room);
+        adds = λ rows place p s u period before apart found is stands. rw (entries_same rows place old new is (same_entries old new key cells), append-nil before) stands;
       }
 
   -- the losses of pairs in one row, with one pair more

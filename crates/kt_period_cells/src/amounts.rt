@@ -100,7 +100,7 @@ impl SummaryCells<'_> {
         requires sample { 1 ≤ sample }
         ensures { IfOk result (λ found. found.items ≡ amounts_of self.now.maxima (of_sample sample) (group_entries self.now)) }
     {
-        let mut found = Vec::new(alloc);
+        let mut found = Vec::with_capacity(alloc, self.places.len())?;
         for place in self.places {
             push_sample(&mut found, self.rows, place, sample, self.maxima)?;
         }

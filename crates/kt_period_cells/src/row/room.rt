@@ -3,6 +3,7 @@
 ghost use Rattle.std.specs.Prelude.{◌≡◌, ◌+◌, ◌<◌, ◌≤◌, ◌≤ℤ◌, ℕ, pos, All, Some, true, length};
 ghost use Rattle.kt_period_cells.specs.Standing.{most_total, raised};
 ghost use Rattle.kt_period_cells.specs.RowCells.{Changes, cell_in, cells_of, one_of};
+ghost use Rattle.kt_period_cells.specs.declared.row.Row.{Row};
 ghost use Rattle.kt_period_cells.specs.Room.{IsRoomy, Raises, added_sum};
 
 use super::{Row, placed_cell};
@@ -15,12 +16,14 @@ use kt_stream::Pair;
 fn are_at_most(places: &[Cell], most: u64) -> bool
     ensures value { result ≡ true → All (λ one. one.total ≤ most) places.now }
 {
+    let mut is_above = false;
     for cell in places {
+        // No early end, so that several totals are compared at once.
         if cell.total > most {
-            return false;
+            is_above = true;
         }
     }
-    true
+    !is_above
 }
 
 /// How many cells are new where a sample has one: 1 where it had none before.
@@ -33,6 +36,22 @@ fn new_cells(old: Option<Cell>) -> usize
     }
 }
 
+/// Adds a loss to the cell of a sample that has a place and room for it. Returns the cell before.
+fn raise(places: &mut [Cell], sample: u32, loss: u64) -> Option<Cell>
+    requires place { sample < length places.old }
+    requires some { 1 ≤ loss }
+    requires room { All (λ one. one.total + loss ≤ most_total) places.old }
+    ensures value { (old new : Row) → old.places.items ≡ places.old → new.key ≡ old.key → new.places.items ≡ places.new → Changes old new sample (Some (raised (cell_in (cells_of old) sample) loss)) }
+    ensures before { (row : Row) → row.places.items ≡ places.old → result ≡ cell_in (cells_of row) sample }
+    ensures len { length places.new ≡ length places.old }
+    ensures room { (more : ℕ) → All (λ one. one.total + (loss + more) ≤ most_total) places.old → All (λ one. one.total + more ≤ most_total) places.new }
+{
+    let old = placed_cell(places, sample);
+    let cell = raised(old, loss);
+    places[sample as usize] = cell;
+    old
+}
+
 impl Row {
     /// Whether each sample has a place, and its total room for so much more.
     pub(crate) fn has_room(&self, more: u64) -> bool
@@ -42,22 +61,6 @@ impl Row {
         self.places.len() > 0 && are_at_most(self.places.as_slice(), MOST_TOTAL - more)
     }
 
-    /// Adds a loss to the cell of a sample that has a place and room for it. Returns the cell before.
-    pub(crate) fn raise(&mut self, sample: u32, loss: u64) -> Option<Cell>
-        requires place { sample < length self.old.places.items }
-        requires some { 1 ≤ loss }
-        requires room { All (λ one. one.total + loss ≤ most_total) self.old.places.items }
-        ensures value { Changes self.old self.new sample (Some (raised (cell_in (cells_of self.old) sample) loss)) }
-        ensures before { result ≡ cell_in (cells_of self.old) sample }
-        ensures len { length self.new.places.items ≡ length self.old.places.items }
-        ensures room { (more : ℕ) → All (λ one. one.total + (loss + more) ≤ most_total) self.old.places.items → All (λ one. one.total + more ≤ most_total) self.new.places.items }
-    {
-        let old = placed_cell(self.places.as_slice(), sample);
-        let cell = raised(old, loss);
-        self.places[sample as usize] = cell;
-        old
-    }
-
     /// Adds the losses of pairs to the cells of their samples, which have places and room for them. Returns how many cells are new.
     pub(crate) fn raise_all(&mut self, pairs: &[Pair], samples: u32) -> usize
         requires places { length self.old.places.items ≡ samples + 1 }
@@ -65,12 +68,13 @@ impl Row {
         requires room { All (λ one. one.total + added_sum pairs.now ≤ most_total) self.old.places.items }
         ensures value { Raises samples self.old self.new pairs.now result }
     {
+        let places = self.places.as_mut_slice();
         let mut opened = 0;
         for pair in pairs {
             if !is_added(pair) {
                 continue;
             }
-            opened += new_cells(self.raise(pair_sample(pair), pair.loss));
+            opened += new_cells(raise(places, pair_sample(pair), pair.loss));
         }
         opened
     }
