@@ -8,6 +8,7 @@ use Rattle.std.proofs.Math.ListN.{length-set}
 use Rattle.std.proofs.Math.Seq.{drop-length}
 use Rattle.kt_cells.specs.Kinds.{under}
 use Rattle.kt_cells.specs.Reading.{behind, in_front, rule_after, value_from, row_values, floor_after, table_rows}
+use Rattle.kt_cells.specs.Fronts.{RowRead}
 use Rattle.kt_cells.specs.Taking.{HandsFront, HandsOver}
 use Rattle.kt_cells.specs.declared.kind.Kind.{Kind}
 use Rattle.kt_cells.specs.declared.stop.Cause.{Cause}
@@ -15,7 +16,7 @@ use Rattle.kt_cells.specs.declared.stop.TableStop.{TableStop}
 use Rattle.kt_cells.specs.declared.stop.TableStop.TheVariants.{Bad}
 
 -- nothing before changes nothing
-behind-nil : {A E : Type 0} (rest : Result (List A) E) → behind [] rest ≡ rest
+pub behind-nil : {A E : Type 0} (rest : Result (List A) E) → behind [] rest ≡ rest
 behind-nil (Ok more) = refl
 behind-nil (Err e) = refl
 
@@ -30,11 +31,6 @@ pub row_values-value : {C : Type 0} (read : Kind → C → Result ℕ Cause) (ru
     → row_values read rule floor row column (kind ∷ kinds) (cell ∷ cells) ≡ in_front value (row_values read (rule_after rule kind value) 0 row (column + 1) kinds cells)
 unfolding row_values
 row_values-value read rule floor row column value kind kinds cell cells good = rw good refl
-
--- a row is read as far as its first values, and these cells are left, with this rule and floor for them
-pub record RowRead (read : Kind → List ℕ → Result ℕ Cause) (row first : ℕ) (kinds : List Kind) (all : Result (List ℕ) TableStop) (values : List ℕ) (done rule least : ℕ) (left : List (List ℕ)) : Type 0 where
-  pub so_far : all ≡ behind (take done values) (row_values read rule least row (first + done) (drop done kinds) left)
-  pub width : length values ≡ length kinds
 
 module _ {read : Kind → List ℕ → Result ℕ Cause} {row first : ℕ} {kinds : List Kind} {all : Result (List ℕ) TableStop} {values : List ℕ} {done rule least : ℕ} {left : List (List ℕ)} (now : RowRead read row first kinds all values done rule least left) where
   -- a value more

@@ -17,7 +17,8 @@ use Rattle.kt_cells.specs.declared.stop.TableStop.{TableStop}
 use Rattle.kt_cells.specs.declared.stop.TableStop.TheVariants.{Bad, CutRecord}
 use Rattle.kt_cells.proofs.KindLemmas.{kind-facts, field_value-range}
 use Rattle.kt_cells.proofs.RangeLemmas.{AreRead, not_below-above, length-rows, row-read, row-range, rows-range, rows-read, read-rows, in_order-any}
-use Rattle.kt_cells.proofs.ReadingLemmas.{RowRead, row-more, row-stops, table_rows-row, table_rows-stops}
+use Rattle.kt_cells.specs.Fronts.{RowRead}
+use Rattle.kt_cells.proofs.ReadingLemmas.{row-more, row-stops, table_rows-row, table_rows-stops}
 
 -- a record takes at most eight bytes a column
 pub record_width-most : (kinds : List Kind) → record_width kinds ≤ 8 * length kinds

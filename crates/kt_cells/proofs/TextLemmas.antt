@@ -1,6 +1,6 @@
 -- The rows of a text: their ranges, what a sink takes of one, and how far one is read field by field.
 use Rattle.std.proofs.Common.{◌≡◌, ◌<◌, ℕ, Bool, List, length, sym, ◌+◌, ◌≤◌, true, false, [], ◌∷◌, ◌++◌, take, drop, get_or, refl, ap, ◌∙◌, arith, length-append, append_assoc}
-use Rattle.std.specs.Prelude.{Result, Ok, Err, OnOk, slice_set}
+use Rattle.std.specs.Prelude.{Result, Ok, Err, Option, None, Some, IfSome, OnOk, slice_set, ◌==◌, ◌≢◌}
 use Rattle.kt_text.specs.Rows.{csv_rows}
 use Rattle.kt_cells.specs.Laws.{TextsAreInRange}
 use Rattle.kt_cells.specs.Ranges.{AreRows, AreInOrder, IsRow, FitsBytes}
@@ -10,11 +10,13 @@ use Rattle.kt_cells.specs.declared.kind.Kind.{Kind}
 use Rattle.kt_cells.specs.declared.stop.TableStop.{TableStop}
 use Rattle.kt_cells.proofs.KindLemmas.{text_value-range, IsRow-fits}
 use Rattle.kt_cells.proofs.RangeLemmas.{rows-read, rows-range, not_below-above, row-read, row-range}
+use Rattle.std.proofs.lemmas.Bool.{eq-eqb, ne_eqb}
 use Rattle.std.proofs.lemmas.List.{append-nil}
-use Rattle.kt_text.specs.PlainText.{EndsField, IsField, StandsBehind}
+use Rattle.kt_text.specs.PlainText.{BeginsField, EndsField, IsField, StandsBehind}
 use Rattle.kt_cells.specs.Reading.{and_then, row_values, rule_after, not_below}
+use Rattle.kt_cells.specs.Fronts.{PlainRead}
 use Rattle.kt_cells.specs.Taking.{HasRow}
-use Rattle.kt_cells.proofs.ReadingLemmas.{RowRead, row-more, row_end}
+use Rattle.kt_cells.proofs.ReadingLemmas.{behind-nil, row-more, row_end}
 
 -- the rows of a text are in range and in order
 pub texts-in_range : TextsAreInRange
@@ -36,12 +38,14 @@ row-taken kinds floor row values fields takes width good =
     let range = row-range text_value text_value-range 0 kinds fields values (row-read text_value 0 floor row 1 kinds fields values width (sym good)).0 in
     takes values range (IsRow-fits 0 kinds values range)
 
--- a row of a text is read as far as its first fields, whatever fields follow and whatever its number is
-pub record PlainRead (kinds : List Kind) (floor : ℕ) (text values : List ℕ) (done rule least : ℕ) (at_end : Bool) (rest : List ℕ) : Type 0 where
-  pub fields : List (List ℕ)
-  pub stands : StandsBehind at_end text fields rest
-  pub counted : length fields ≡ done
-  pub read : (number : ℕ) (more : List (List ℕ)) → RowRead text_value number 1 kinds (row_values text_value 0 floor number 1 kinds (fields ++ more)) values done rule least more
+-- no field is read
+pub plain-start : {kinds : List Kind} (floor : ℕ) {text values rest : List ℕ} → BeginsField text [] rest → length values ≡ length kinds → PlainRead kinds floor text values 0 0 floor false rest
+plain-start floor begins width = record {
+  fields = [];
+  stands = begins;
+  counted = refl;
+  read = λ number more. record { so_far = sym (behind-nil _); width = width };
+}
 
 -- a field more
 pub plain-more : {kinds : List Kind} {floor : ℕ} {text values : List ℕ} {done rule least : ℕ} {rest : List ℕ} → PlainRead kinds floor text values done rule least false rest → (d : Kind) (at_end : Bool) (size value : ℕ) (next : List ℕ) → done < length kinds
@@ -67,3 +71,17 @@ plain-end now all = record {
   width = now.counted ∙ all;
   read = λ number. row_end (rw (append-nil now.fields) at (now.read number [])) all;
 }
+
+module _ {kinds : List Kind} {floor : ℕ} {text values : List ℕ} {done rule least columns : ℕ} {rest : List ℕ} (now : PlainRead kinds floor text values done rule least (done == columns) rest) where
+  -- there are more columns
+  pub plain-goes_on : columns ≢ done → PlainRead kinds floor text values done rule least false rest
+  plain-goes_on more = rw (ne_eqb done columns (λ e. more (sym e))) at now
+
+  -- there is no column more
+  pub plain-all : columns ≡ done → length kinds ≡ columns → HasRow kinds floor text values rest
+  plain-all all width = plain-end (rw (eq-eqb done columns (sym all)) at now) (sym all ∙ sym width)
+
+-- what holds of a thing that is there, holds of it with what follows
+pub of-some : {A : Type 0} {P Q : A → Type 0} (found : Option A) → ((x : A) → P x → Q x) → IfSome found P → IfSome found Q
+of-some None follows holds = tt
+of-some (Some x) follows holds = follows x holds

@@ -1,4 +1,5 @@
 pub mod Cells
+pub mod Fronts
 pub mod Header
 pub mod Kinds
 pub mod Laws

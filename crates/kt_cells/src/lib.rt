@@ -7,6 +7,7 @@ mod header;
 mod kind;
 mod laws;
 mod lines;
+mod plain_rows;
 mod reader;
 mod record_lines;
 mod record_writer;

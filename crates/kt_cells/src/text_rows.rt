@@ -1,5 +1,5 @@
 //! The rows of a CSV text, read one after the other.
-ghost use Rattle.std.specs.Prelude.{◌≡◌, ◌∷◌, ◌<◌, ◌≤◌, ◌+◌, ◌^◌, ℕ, List, [], IfOk, IfErr, IfSome, OnOk, length, Ok};
+ghost use Rattle.std.specs.Prelude.{◌≡◌, ◌∷◌, ◌<◌, ◌≤◌, ◌+◌, ◌^◌, ℕ, List, [], IfOk, IfErr, OnOk, length, Ok};
 ghost use Rattle.csv.specs.Records.{fields_of};
 ghost use Rattle.kt_text.specs.PlainText.{csv_records};
 ghost use Rattle.kt_text.specs.Records.{StandsBetween, bytes_left, records_left};
@@ -8,16 +8,16 @@ ghost use Rattle.kt_cells.specs.Texts.{text_value, text_rows};
 ghost use Rattle.kt_cells.specs.Stops.{Tells};
 ghost use Rattle.kt_cells.specs.Reading.{row_values, table_rows};
 ghost use Rattle.kt_cells.specs.Ranges.{IsRow, AreRows, AreInOrder, FitsBytes};
-ghost use Rattle.kt_cells.specs.Taking.{HandsOver, HandsFront, HasRow, TakesMore};
+ghost use Rattle.kt_cells.specs.Taking.{HandsOver, HandsFront, TakesMore};
 
 use crate::cells::Cells;
-use crate::front_value::front_value;
 use crate::kind::Kind;
-use crate::reader::{floor_after, read_row, rule_after};
+use crate::plain_rows::plain_row;
+use crate::reader::{floor_after, read_row};
 use crate::row_sink::RowSink;
 use crate::stop::{Cause, TableStop};
 use csv::{ByteRecord, Reader};
-use kt_text::{behind_field, behind_heading, first_field, next_record, reader_of, record_field};
+use kt_text::{behind_heading, next_record, reader_of, record_field};
 use std::alloc::{AllocError, Global};
 
 // A record with as many fields as a table has columns.
@@ -39,43 +39,6 @@ impl<'a, const N: usize> Cells<N> for RecordRow<'a, N> {
     fn value(&self, row: u64, column: usize, kind: Kind) -> Result<u64, Cause> {
         kind.value_of(record_field(self.fields, column))
     }
-}
-
-// A row of a text, and the text from the end of its line on.
-#[derive(Clone, Copy)]
-struct ReadRow<'a, const N: usize> {
-    values: [u64; N],
-    rest: &'a [u8],
-}
-
-// The next row of a text, if its fields stand there without quotes and each has a value that is none of its refusals: all
-// other rows are for the reader of records.
-#[inline(always)]
-fn plain_row<'a, const N: usize>(
-    text: &'a [u8],
-    kinds: &[Kind; N],
-    floor: u64,
-) -> Option<ReadRow<'a, N>>
-    requires size { N < 100 }
-    requires some { 0 < N }
-    ensures row { IfSome result (λ row. HasRow kinds.now floor text.now row.values row.rest.now) }
-    ensures shorter { IfSome result (λ row. length row.rest.now < length text.now) }
-{
-    let mut rest = first_field(text)?;
-    let mut values = [0; N];
-    let mut rule = 0;
-    let mut least = floor;
-    for (column, kind) in kinds.iter().enumerate() {
-        let field = front_value(kind.under(rule), rest)?;
-        if field.value < least {
-            return None;
-        }
-        rest = behind_field(&rest[field.size..], column + 1 == N)?;
-        values[column] = field.value;
-        rule = rule_after(rule, *kind, field.value);
-        least = 0;
-    }
-    Some(ReadRow { values, rest })
 }
 
 // How far the rows of a text are read: how many, and the least first value that the next one may have.

@@ -1,7 +1,7 @@
 use Rattle.std.proofs.Common.{drop}
 use Rattle.kt_cells.specs.Cells.{row_at}
 use Rattle.kt_cells.specs.Reading.{row_values}
-use Rattle.kt_cells.proofs.ReadingLemmas.{RowRead}
+use Rattle.kt_cells.specs.Fronts.{RowRead}
 use Rattle.kt_cells.proofs.reader.read_row.Given as goal
 
 abbrev pub invariant-loop-column : goal.invariant-loop-column

@@ -3,7 +3,7 @@ use Rattle.std.proofs.lemmas.Bool.{eq-eqb, ne_eqb}
 use Rattle.std.proofs.lemmas.List.{take_rest}
 use Rattle.kt_cells.specs.declared.kind.Kind.TheVariants.{Id}
 use Rattle.kt_cells.proofs.TextLemmas.{plain-more, plain-end}
-use Rattle.kt_cells.proofs.text_rows.plain_row.Goals as goal
+use Rattle.kt_cells.proofs.plain_rows.long_row.Goals as goal
 
 pub loop-column-preserved : goal.loop-column-preserved
 loop-column-preserved g c =

@@ -1,6 +1,6 @@
 use Rattle.std.proofs.Common.{◌==◌, ◌<◌, length}
-use Rattle.kt_cells.proofs.TextLemmas.{PlainRead}
-use Rattle.kt_cells.proofs.text_rows.plain_row.Given as goal
+use Rattle.kt_cells.specs.Fronts.{PlainRead}
+use Rattle.kt_cells.proofs.plain_rows.long_row.Given as goal
 
 abbrev pub invariant-loop-column : goal.invariant-loop-column
 invariant-loop-column g l = PlainRead l.kinds l.floor l.text l.values l.column l.rule l.least (l.column == g.row.N) l.rest

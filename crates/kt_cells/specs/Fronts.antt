@@ -1,0 +1,20 @@
+-- How far a row is read, field by field.
+use Rattle.std.specs.Prelude.{◌≡◌, ℕ, ◌+◌, Bool, List, ◌++◌, length, take, drop, Result}
+use Rattle.kt_text.specs.PlainText.{StandsBehind}
+use Rattle.kt_cells.specs.Reading.{behind, row_values}
+use Rattle.kt_cells.specs.Texts.{text_value}
+use Rattle.kt_cells.specs.declared.kind.Kind.{Kind}
+use Rattle.kt_cells.specs.declared.stop.Cause.{Cause}
+use Rattle.kt_cells.specs.declared.stop.TableStop.{TableStop}
+
+-- a row is read as far as its first values, and these cells are left, with this rule and floor for them
+pub record RowRead (read : Kind → List ℕ → Result ℕ Cause) (row first : ℕ) (kinds : List Kind) (all : Result (List ℕ) TableStop) (values : List ℕ) (done rule least : ℕ) (left : List (List ℕ)) : Type 0 where
+  pub so_far : all ≡ behind (take done values) (row_values read rule least row (first + done) (drop done kinds) left)
+  pub width : length values ≡ length kinds
+
+-- a row of a text is read as far as its first fields, whatever fields follow and whatever its number is
+pub record PlainRead (kinds : List Kind) (floor : ℕ) (text values : List ℕ) (done rule least : ℕ) (at_end : Bool) (rest : List ℕ) : Type 0 where
+  pub fields : List (List ℕ)
+  pub stands : StandsBehind at_end text fields rest
+  pub counted : length fields ≡ done
+  pub read : (number : ℕ) (more : List (List ℕ)) → RowRead text_value number 1 kinds (row_values text_value 0 floor number 1 kinds (fields ++ more)) values done rule least more
