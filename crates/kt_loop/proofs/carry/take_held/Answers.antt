@@ -42,8 +42,8 @@ records-preserved g c =
           carried_more g.T.Stage.calculation c.args.head _ (λ state. g.T.Stage.is_at state c.take_one.new.stage c.take_one.new.beside) before _ _ _ c.take_one.new.out _ _ _ _ going reads.first
           (subst (λ (placed : Placed g.row.R-Entry.Denot). Stands (λ state. g.T.Stage.is_at state c.take_one.new.stage c.take_one.new.beside) before (g.K.Sink.state c.take_one.new.sink).taken c.take_one.new.out (took g.T.Stage.calculation c.args.head going.course placed)) c.record.ensures
           (c.in_default.ensures.course before going.course going.standing));
-      inputs = λ others. (c.in_default.ensures.counted others).of_inputs ∙ c.records.invariant.inputs others;
-      faults = (c.in_default.ensures.counted no_inputs).of_sink ∙ c.records.invariant.faults;
+      inputs = λ others. ◌∙◌ {a = g.T.Stage.inputs others c.take_one.new.beside} (c.in_default.ensures.counted others).of_inputs (c.records.invariant.inputs others);
+      faults = ◌∙◌ {a = (g.K.Sink.state c.take_one.new.sink).faults} (c.in_default.ensures.counted no_inputs).of_sink c.records.invariant.faults;
     }
 
 -- ---- no record is left
