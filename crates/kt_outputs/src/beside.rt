@@ -16,7 +16,7 @@ use std::alloc::{AllocError, Global};
 use std::thread::{self, Threads};
 
 /// How many files a hand has at the most.
-const HAND: usize = 8;
+const HAND: usize = 64;
 
 /// How many hands are busy at the most.
 const MOST_HANDS: usize = 256;
@@ -50,7 +50,7 @@ fn hand_texts<F, T: Texts<F>>(
     texts: &T,
 ) -> Result<Vec<Bytes>, OutOfMemory>
     requires within { first + count ≤ length files.now }
-    requires few { count ≤ 2048 }
+    requires few { count ≤ 16384 }
     requires hands { (1 ≤ hands) × (hands ≤ 256) }
     requires hand { hand < hands }
     ensures whole { IfOk result (λ made. IsWhole count hands hand made.items) }
@@ -76,7 +76,7 @@ fn hands_beside<R: Threads + Sync, F: Sync, T: Texts<F> + Sync>(
     texts: &T,
 ) -> Result<Vec<Hand>, AllocError>
     requires within { first + count ≤ length files.now }
-    requires few { count ≤ 2048 }
+    requires few { count ≤ 16384 }
     requires hands { (1 ≤ hands) × (hands ≤ 256) }
     ensures count { IfOk result (λ made. length made.items ≡ hands) }
     ensures whole { IfOk result (λ made. AreWhole count hands made.items) }
@@ -168,13 +168,13 @@ fn hands_for(left: usize, workers: usize) -> usize
 /// How many of the files that are left these hands have.
 fn files_of(left: usize, hands: usize) -> usize
     requires few { hands ≤ 256 }
-    ensures value { result ≡ min left (8 * hands) }
+    ensures value { result ≡ min left (64 * hands) }
 {
     left.min(HAND * hands)
 }
 
 /// Appends to each file of a list the text that it gains, as `append_texts` does, where the texts are made by as many hands as
-/// `workers` says, side by side, whole, each hand in a thread of its own where one can be made: of eight files a hand at a time, the
+/// `workers` says, side by side, whole, each hand in a thread of its own where one can be made: of up to 64 files a hand at a time, the
 /// first file to the first hand, the next to the next. They are appended one after the other, on the calling thread. `workers` is at least 1, and the names of the files are distinct. After a refusal a front of the files has gained its
 /// text, and the next a front of it. The count of faults rises exactly where `Failed` comes; want of memory, also of a name or of a
 /// text, raises none.
