@@ -1,4 +1,4 @@
-use Rattle.std.proofs.Common.{◌≡◌, ◌++◌, take, length}
+use Rattle.std.proofs.Common.{◌≡◌, ◌++◌, take}
 use Rattle.std.specs.List.{flat_map}
 use Rattle.kt_stream.specs.Losses.{loss_bytes}
 use Rattle.kt_losses.proofs.putting.put_losses.Given as goal
