@@ -1,12 +1,10 @@
 //! The summaries of a stream of losses.
 //! The rules: docs/COMMANDS.md, "summarycalc".
-ghost use Rattle.std.specs.Prelude.{◌≡◌, ◌++◌, OnErr, OnOk, true};
-ghost use Rattle.std.specs.List.{flat_map};
+ghost use Rattle.std.specs.Prelude.{◌≡◌, true};
 ghost use Rattle.kt_ends.specs.Ending.{StreamToolEnds};
 ghost use Rattle.kt_loop.specs.Running.{stream_uses};
 ghost use Rattle.kt_losses.specs.Judged.{judged_outcome};
 ghost use Rattle.kt_losses.specs.Tables.{perspective_of, summary_table};
-ghost use Rattle.kt_stream.specs.Summary.{summary_bytes};
 
 use crate::judging::write_losses;
 use crate::table::LossTool;
@@ -14,8 +12,8 @@ use kt_ends::ToolStop;
 use kt_money::Bytes;
 use kt_out::{Sink, Source};
 use kt_rec::Perspective;
-use kt_stream::{Head, LossRecord, Placed, StreamKind, SummaryRecord, put_head, put_summary};
-use kt_sum::summarise_placed;
+use kt_stream::{Head, LossRecord, Placed, StreamKind, put_head};
+use kt_sum::put_run_summaries;
 use kt_tables::Portfolio;
 use std::alloc::{AllocError, Global};
 
@@ -28,22 +26,6 @@ fn perspective_of(items: bool) -> Perspective
     } else {
         Perspective::Il
     }
-}
-
-/// Appends summary records, one after the other. An error is want of memory, and nothing is appended then.
-fn put_summaries(out: &mut Bytes, entries: &[SummaryRecord]) -> Result<(), AllocError>
-    ensures ok { OnOk result (out.new ≡ out.old ++ flat_map summary_bytes entries.now) }
-
-    ensures unchanged { OnErr result (out.new ≡ out.old) }
-{
-    let whole = out.len();
-    for entry in entries {
-        if let Err(stop) = put_summary(out, entry) {
-            out.truncate(whole);
-            return Err(stop);
-        }
-    }
-    Ok(())
 }
 
 /// The summaries of a set.
@@ -76,13 +58,19 @@ impl LossTool for SetSummaries {
     fn put_run(
         &self,
         portfolio: &Portfolio,
-        _head: Head,
+        head: Head,
         run: &[Placed<LossRecord>],
         out: &mut Bytes,
     ) -> Result<(), AllocError> {
-        let perspective = perspective_of(self.items);
-        let made = summarise_placed(self.alloc, portfolio, perspective, self.set, run)?;
-        put_summaries(out, made.as_slice())
+        put_run_summaries(
+            self.alloc,
+            portfolio,
+            perspective_of(self.items),
+            self.set,
+            head.samples,
+            run,
+            out,
+        )
     }
 }
 

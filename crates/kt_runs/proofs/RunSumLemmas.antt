@@ -16,12 +16,7 @@ use Rattle.kt_runs.specs.RunSums.{AreRunSums, AreSums}
 use Rattle.kt_runs.specs.Sidx.{place_of, sidx_at}
 use Rattle.kt_runs.specs.Adding.{IsAdded}
 use Rattle.kt_runs.proofs.AddLemmas.{own_more}
-use Rattle.kt_runs.specs.LossLaws.{pair_sidx}
-
--- a sidx of a stream has its place among the sums
-pub sidx_inside : (samples : ℕ) (sidx : ℤ) → IsSidx samples sidx → (2147483646 ≤ place_of sidx) × (place_of sidx < 2147483646 + (samples + 3))
-sidx_inside samples (pos n) is = let high = is.highest in (omega arith, omega (arith, ints, high))
-sidx_inside samples (negsuc n) is = let low = is.lowest in (omega (arith, ints, low), omega (arith, ints, low))
+use Rattle.kt_runs.specs.LossLaws.{pair_sidx, sidx_inside}
 
 -- and is found at it
 sidx_back : (samples : ℕ) (sidx : ℤ) → IsSidx samples sidx → sidx_at (place_of sidx) ≡ sidx

@@ -1,14 +1,21 @@
--- Which sidx have a loss.
-use Rattle.std.proofs.Common.{◌≡◌, ℕ, zero, suc, ◌+◌, ◌<◌, Bool, true, false, cond, ℤ, List, [], ◌∷◌, refl, subst, arith}
+-- Which sidx have a loss, and where they stand among the sums of a stream.
+use Rattle.std.proofs.Common.{◌≡◌, ℕ, zero, suc, ◌+◌, ◌<◌, ◌≤◌, Bool, true, false, cond, ℤ, pos, negsuc, List, [], ◌∷◌, refl, subst, arith}
 use Rattle.std.specs.List.{AllByRecursion}
 use Rattle.std.specs.Ordering.{int_eq}
 use Rattle.std.proofs.lemmas.Bool.Decides.{Decides-int_eq}
+use Rattle.std.proofs.lemmas.Int.{ints}
 use Rattle.std.proofs.lemmas.List.Sums.{sum_by-cons}
 use Rattle.kt_stream.specs.declared.entry.LossRecord.{LossRecord}
 use Rattle.kt_stream.specs.declared.entry.Pair.{Pair}
 use Rattle.kt_stream.specs.Losses.{IsLoss}
 use Rattle.kt_stream.specs.Pairs.{IsPair, IsSidx}
+use Rattle.kt_runs.specs.Sidx.{place_of}
 use Rattle.kt_runs.specs.RunLosses.{loss_of, run_loss}
+
+-- a sidx of a stream has its place among the sums
+pub sidx_inside : (samples : ℕ) (sidx : ℤ) → IsSidx samples sidx → (2147483646 ≤ place_of sidx) × (place_of sidx < 2147483646 + (samples + 3))
+sidx_inside samples (pos n) is = let high = is.highest in (omega arith, omega (arith, ints, high))
+sidx_inside samples (negsuc n) is = let low = is.lowest in (omega (arith, ints, low), omega (arith, ints, low))
 
 -- a sidx at which pairs have a loss is that of a pair
 pub pair_sidx : (samples : ℕ) (sidx : ℤ) (pairs : List Pair) → AllByRecursion (IsPair samples) pairs → 0 < loss_of sidx pairs → IsSidx samples sidx

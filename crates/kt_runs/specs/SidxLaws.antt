@@ -5,7 +5,7 @@ use Rattle.std.proofs.lemmas.Int.{ints}
 use Rattle.kt_runs.specs.Sidx.{place_of, sidx_at}
 
 -- the place of the sidx at a place
-place_back : (place : ℕ) → place_of (sidx_at place) ≡ place
+pub place_back : (place : ℕ) → place_of (sidx_at place) ≡ place
 place_back place = by (nat_lt place 2147483648) refl
   where
     by : (b : Bool) → nat_lt place 2147483648 ≡ b → place_of (cond b (negsuc (2147483647 - place)) (pos (place - 2147483648))) ≡ place

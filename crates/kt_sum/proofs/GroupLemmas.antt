@@ -14,7 +14,7 @@ use Rattle.kt_rec.specs.Rising.{rising}
 use Rattle.kt_sum.specs.Summaries.{is_summary, members, summary_of_run}
 use Rattle.kt_runs.specs.Sidx.{pair_of, pairs_of, sidx_at}
 use Rattle.kt_runs.specs.Adding.{Holds}
-use Rattle.kt_sum.specs.Mapping.{IsGroupEnd, IsLeft, of_summary, record_at}
+use Rattle.kt_sum.specs.Mapping.{IsGroupEnd, IsLeft, IsText, of_summary, record_at}
 use Rattle.kt_sum.proofs.RisingLemmas.{rising_group}
 
 -- ---- what mapped records add
@@ -148,7 +148,7 @@ module _ (rest : List Mapped) (order : IsNonDecreasingBy (λ m. m.summary) rest)
       front [] later some own above = absurd (omega arith)
       front (n ∷ group) later some own above = ap (λ n. rising (n ∷ group ++ later)) own.0 ∙ rising_group summary group later own.1 above
 
-module _ (find : ℕ → Option ℕ) (exposure : ℕ → ℕ) (records : List LossRecord) (rest : List Mapped) (made : List SummaryRecord) (left : IsLeft find exposure records rest made) (summary last : ℕ) (ends : IsGroupEnd rest summary last) where
+module _ {X : Type 0} (text : List SummaryRecord → List X) (is : IsText text) (find : ℕ → Option ℕ) (exposure : ℕ → ℕ) (records : List LossRecord) (rest : List Mapped) (made : List X) (left : IsLeft text find exposure records rest made) (summary last : ℕ) (ends : IsGroupEnd rest summary last) where
   -- the first are the members of their summary
   pub group_members : (d : Mapped) → map (record_at records) (take last rest) ≡ members find records summary
   group_members d =
@@ -158,12 +158,13 @@ module _ (find : ℕ → Option ℕ) (exposure : ℕ → ℕ) (records : List Lo
       ∙ (left.members_are 0 d (omega (arith, ends.some, ends.within)) ∙ ap (members find records) first))
 
   -- the others are left
-  pub left_later : IsLeft find exposure records (drop last rest) (made ++ filter_map (summary_of_run find exposure records) (summary ∷ []))
+  pub left_later : IsLeft text find exposure records (drop last rest) (made ++ text (filter_map (summary_of_run find exposure records) (summary ∷ [])))
   left_later = record {
     whole =
-        left.whole ∙ (ap (λ ids. made ++ filter_map (summary_of_run find exposure records) ids) (rising_step rest left.order summary last ends)
-        ∙ (ap (λ more. made ++ more) (filter_map-append (summary_of_run find exposure records) (summary ∷ []) (rising (map (λ m. m.summary) (drop last rest))))
-        ∙ sym (append_assoc made _ _)));
+        left.whole ∙ (ap (λ ids. made ++ text (filter_map (summary_of_run find exposure records) ids)) (rising_step rest left.order summary last ends)
+        ∙ (ap (λ more. made ++ text more) (filter_map-append (summary_of_run find exposure records) (summary ∷ []) (rising (map (λ m. m.summary) (drop last rest))))
+        ∙ (ap (λ more. made ++ more) (is.joined (filter_map (summary_of_run find exposure records) (summary ∷ [])) (filter_map (summary_of_run find exposure records) (rising (map (λ m. m.summary) (drop last rest)))))
+        ∙ sym (append_assoc made _ _))));
     named = All-drop (λ (m : Mapped). m.place < length records) last rest left.named;
     members_are = λ k d below.
         let inside : last + k < length rest = omega (arith, length-drop last rest) in

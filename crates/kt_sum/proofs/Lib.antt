@@ -2,6 +2,7 @@ pub mod PairLemmas
 pub mod RisingLemmas
 pub mod GroupLemmas
 pub mod SpanLemmas
+pub mod WideLemmas
 pub mod GoodLemmas
 pub mod MapLemmas
 pub mod RunLemmas

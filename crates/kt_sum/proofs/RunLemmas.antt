@@ -1,6 +1,8 @@
 -- The record of a summary, by the mapped records that come to it.
-use Rattle.std.proofs.Common.{◌≡◌, ℕ, ◌+◌, ◌<◌, List, [], ◌∷◌, ◌++◌, Option, Some, None, length, map, refl, sym, ap, arith, ◌∙◌, append-nil}
-use Rattle.std.specs.List.{cons_option, range_with_len}
+use Rattle.std.proofs.Common.{◌≡◌, ℕ, ◌+◌, ◌<◌, ◌≤◌, ℤ, List, [], ◌∷◌, ◌++◌, Option, Some, None, length, map, refl, sym, ap, arith, ◌∙◌, append-nil}
+use Rattle.std.specs.List.{cons_option, flat_map, range_with_len}
+use Rattle.kt_stream.specs.Pairs.{pairs_bytes}
+use Rattle.kt_stream.specs.Summary.{summary_bytes}
 use Rattle.kt_stream.specs.declared.entry.LossRecord.{LossRecord}
 use Rattle.kt_stream.specs.declared.entry.Pair.{Pair}
 use Rattle.kt_stream.specs.declared.entry.SummaryRecord.{SummaryRecord}
@@ -10,7 +12,9 @@ use Rattle.kt_runs.specs.RunLosses.{event_of}
 use Rattle.kt_sum.specs.Summaries.{members, record_with, sidx_range, summary_of_run}
 use Rattle.kt_runs.specs.Sidx.{pairs_of, sidx_at}
 use Rattle.kt_sum.specs.Mapping.{record_at}
+use Rattle.kt_sum.specs.Adding.{IsSpan}
 use Rattle.kt_sum.proofs.GroupLemmas.{members_within}
+use Rattle.kt_sum.proofs.WideLemmas.{span_pairs}
 
 -- where there is a pair there is a record
 some_record : (event summary exposure : ℕ) (pairs : List Pair) → 0 < length pairs → record_with event summary exposure pairs ≡ Some (record { event = event; summary = summary; exposure = exposure; pairs = pairs })
@@ -28,12 +32,16 @@ module _ (find : ℕ → Option ℕ) (exposure : ℕ → ℕ) (records : List Lo
   group_within least within k =
       omega (arith, ap (run_loss (sidx_at (least + k))) are, members_within (sidx_at (least + k)) find records summary, within (sidx_at (least + k)))
 
-  module _ (least width : ℕ) (range : map sidx_at (range_with_len least width) ≡ sidx_range records) (pairs : List Pair) (is : pairs ≡ pairs_of (λ sidx. run_loss sidx (map (record_at records) group)) (map sidx_at (range_with_len least width))) where
+  -- what the group has at a sidx is no more than what the run has
+  group_most : (sidx : ℤ) → run_loss sidx (map (record_at records) group) ≤ run_loss sidx records
+  group_most sidx = omega (arith, ap (run_loss sidx) are, members_within sidx find records summary)
+
+  module _ (least width : ℕ) (span : IsSpan records least width) (pairs : List Pair) (is : pairs ≡ pairs_of (λ sidx. run_loss sidx (map (record_at records) group)) (map sidx_at (range_with_len least width))) where
     -- the record of a summary has the pairs of its group
-    summary_is : summary_of_run find exposure records summary ≡ record_with (event_of records) summary (exposure summary) pairs
+    pub summary_is : summary_of_run find exposure records summary ≡ record_with (event_of records) summary (exposure summary) pairs
     summary_is =
         ap (λ group. record_with (event_of records) summary (exposure summary) (pairs_of (λ sidx. run_loss sidx group) (sidx_range records))) (sym are)
-        ∙ (ap (λ range. record_with (event_of records) summary (exposure summary) (pairs_of (λ sidx. run_loss sidx (map (record_at records) group)) range)) (sym range)
+        ∙ (ap (record_with (event_of records) summary (exposure summary)) (sym (span_pairs records (λ sidx. run_loss sidx (map (record_at records) group)) group_most least width span))
         ∙ ap (record_with (event_of records) summary (exposure summary)) (sym is))
 
     -- it stands behind the records that are made
@@ -47,3 +55,17 @@ module _ (find : ℕ → Option ℕ) (exposure : ℕ → ℕ) (records : List Lo
     -- without pairs there is none
     pub skipped : (made : List SummaryRecord) → length pairs ≡ 0 → made ≡ made ++ cons_option (summary_of_run find exposure records summary) []
     skipped made none = sym (ap (λ found. made ++ cons_option found []) (summary_is ∙ no_pairs (event_of records) summary (exposure summary) pairs none) ∙ append-nil made)
+
+    -- its bytes are those of the fields in front and those of the pairs
+    pub put : (event worth : ℕ) → event ≡ event_of records → worth ≡ exposure summary → 0 < length pairs → (front text : List ℕ) → ((pairs : List Pair) → summary_bytes (record { event = event; summary = summary; exposure = worth; pairs = pairs }) ≡ front ++ pairs_bytes pairs) → text ≡ pairs_bytes pairs → front ++ text ≡ flat_map summary_bytes (cons_option (summary_of_run find exposure records summary) [])
+    put event worth event_is worth_is some front text fronts text_is =
+        ap (λ text. front ++ text) text_is
+        ∙ (sym (fronts pairs)
+        ∙ (ap (λ event. summary_bytes (record { event = event; summary = summary; exposure = worth; pairs = pairs })) event_is
+        ∙ (ap (λ worth. summary_bytes (record { event = event_of records; summary = summary; exposure = worth; pairs = pairs })) worth_is
+        ∙ (sym (append-nil (summary_bytes (record { event = event_of records; summary = summary; exposure = exposure summary; pairs = pairs })))
+        ∙ ap (λ found. flat_map summary_bytes (cons_option found [])) (sym (summary_is ∙ some_record (event_of records) summary (exposure summary) pairs some))))))
+
+    -- without pairs there are no bytes
+    pub put_none : pairs ≡ [] → flat_map summary_bytes (cons_option (summary_of_run find exposure records summary) []) ≡ []
+    put_none none = ap (λ found. flat_map summary_bytes (cons_option found [])) (summary_is ∙ ap (record_with (event_of records) summary (exposure summary)) none)

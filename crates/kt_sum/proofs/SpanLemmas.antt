@@ -1,9 +1,10 @@
 -- The places that records have are in their span.
-use Rattle.std.proofs.Common.{◌≡◌, ℕ, ◌+◌, ◌-◌, ◌<◌, ◌≤◌, ◌^◌, min, max, List, [], ◌∷◌, ◌++◌, length, slice_index, slice_index_or, take, append-nil, refl, sym, ap, subst, arith, ◌∙◌}
+use Rattle.std.proofs.Common.{◌≡◌, ◌≢◌, ◌⊎◌, inl, inr, ℕ, ◌+◌, ◌-◌, ◌<◌, ◌≤◌, ◌^◌, min, max, List, [], ◌∷◌, ◌++◌, length, slice_index, slice_index_or, take, append-nil, refl, sym, ap, subst, arith, ◌∙◌}
 use Rattle.std.specs.Prelude.{All}
 use Rattle.std.specs.List.{AllByRecursion, fold}
 use Rattle.std.proofs.lemmas.Grind.{flat_map-append}
-use Rattle.std.proofs.lemmas.List.{take_more}
+use Rattle.std.proofs.lemmas.Bool.{cases_eq}
+use Rattle.std.proofs.lemmas.List.{get_or_read, take_more}
 use Rattle.std.proofs.lemmas.List.Concat.{flat_map-cons}
 use Rattle.std.proofs.lemmas.List.Elements.{All-from_recursion}
 use Rattle.std.proofs.lemmas.List.Sums.{fold-append}
@@ -12,7 +13,10 @@ use Rattle.kt_stream.specs.declared.entry.Pair.{Pair}
 use Rattle.kt_sum.specs.Summaries.{end_place, least_place, pair_places, places}
 use Rattle.kt_runs.specs.Sidx.{place_of}
 use Rattle.kt_runs.specs.Adding.{AreInside, Holds, IsInside}
-use Rattle.kt_sum.specs.Adding.{IsSpan}
+use Rattle.kt_sum.specs.Adding.{IsNoFarther, IsSpan}
+use Rattle.kt_runs.specs.LossLaws.{sidx_inside}
+use Rattle.kt_stream.specs.Losses.{IsLoss}
+use Rattle.kt_stream.specs.Pairs.{IsPair}
 
 -- the least is at most where it began
 pub least_le : (a : ℕ) (list : List ℕ) → fold min a list ≤ a
@@ -71,7 +75,6 @@ span_within list within = omega (arith, least_le 4294967296 list, within)
 -- the span of the places of records
 pub span_is : (records : List LossRecord) (least last : ℕ) → least ≡ least_place (places records) → last ≡ end_place (places records) → last ≤ 2 ^ 32 → IsSpan records least (last - least)
 span_is records least last least_is last_is within = rw (least_is, last_is) (record {
-  range_is = refl;
   inside = span_inside records;
   within = span_within (places records) (omega (arith, last_is, within));
 })
@@ -101,3 +104,26 @@ end_more f start so_far now records i entry pairs below is pairs_are before afte
     ∙ (ap (λ n. fold f n (pair_places pairs)) before
     ∙ (ap (λ pairs. fold f (fold f start (places (take i records))) (pair_places pairs)) pairs_are
     ∙ (sym (fold-append f start (places (take i records)) (pair_places entry.pairs)) ∙ ap (fold f start) (sym (places_more records i entry below is)))))
+
+-- places no farther behind that of sidx -2 than a number below 2^31 stand so far behind it
+near : (most place : ℕ) → most < 2147483648 → IsNoFarther most place → IsInside 2147483646 (most + 1) place
+near most place few is = let short = is.short in let close = is.near in record { low = omega arith; high = omega arith }
+
+-- and so do those of all pairs of records
+pub near_span : (records : List LossRecord) (most : ℕ) → most < 2147483648 → All (λ entry. All (λ pair. IsNoFarther most (place_of pair.sidx)) entry.pairs) records → IsSpan records 2147483646 (most + 1)
+near_span records most few is = record { inside = λ i d below k e within. near most _ few (is i d below k e within); within = omega arith }
+
+-- the pairs of one record more stand no farther than a greater number
+pub farther_more : (records : List LossRecord) (i most now : ℕ) (entry : LossRecord) (pairs : List Pair) → most ≤ now → entry ≡ slice_index_or records i entry → i < length records → pairs ≡ entry.pairs → All (λ pair. IsNoFarther now (place_of pair.sidx)) pairs → ((k : ℕ) (d : LossRecord) → k < i → All (λ pair. IsNoFarther most (place_of pair.sidx)) (slice_index_or records k d).pairs) → (k : ℕ) (d : LossRecord) → k < i + 1 → All (λ pair. IsNoFarther now (place_of pair.sidx)) (slice_index_or records k d).pairs
+farther_more records i most now entry pairs up is below pairs_are these before k d less = by (cases_eq k i)
+  where
+    by : (k ≡ i) ⊎ (k ≢ i) → All (λ pair. IsNoFarther now (place_of pair.sidx)) (slice_index_or records k d).pairs
+    by (inl same) = subst (λ (pairs : List Pair). All (λ pair. IsNoFarther now (place_of pair.sidx)) pairs) (pairs_are ∙ ap (λ (entry : LossRecord). entry.pairs) (get_or_read records i entry below is d) ∙ ap (λ k. (slice_index_or records k d).pairs) (sym same)) these
+    by (inr apart) = λ j e inside. let here = before k d (omega arith) j e inside in record { short = here.short; near = omega (arith, here.near) }
+
+-- the places of the sidx of a stream
+pub stream_places : (samples : ℕ) (records : List LossRecord) → samples ≤ 1000 → All (IsLoss samples) records → IsSpan records 2147483646 (samples + 3)
+stream_places samples records few good = record {
+  inside = λ i d below k e within. let inside = sidx_inside samples (slice_index_or (slice_index_or records i d).pairs k e).sidx (All-from_recursion (IsPair samples) (slice_index_or records i d).pairs (good i d below).pairs.each k e within).sidx in record { low = inside.0; high = inside.1 };
+  within = omega arith;
+}

@@ -43,9 +43,18 @@ pub record IsGroupEnd (mapped : List Mapped) (summary last : ℕ) : Type 0 where
   pub together : (k : ℕ) (d : Mapped) → k < last → (slice_index_or mapped k d).summary ≡ summary
   pub other : (d : Mapped) → last < length mapped → (slice_index_or mapped last d).summary ≢ summary
 
--- the summaries of the mapped records before the rest are made
-pub record IsLeft (find : ℕ → Option ℕ) (exposure : ℕ → ℕ) (records : List LossRecord) (rest : List Mapped) (made : List SummaryRecord) : Type 0 where
-  pub whole : summaries_by find exposure records ≡ made ++ filter_map (summary_of_run find exposure records) (rising (map (λ m. m.summary) rest))
+-- what is made of the records of the summaries of the mapped records before the rest
+pub record IsLeft {X : Type 0} (text : List SummaryRecord → List X) (find : ℕ → Option ℕ) (exposure : ℕ → ℕ) (records : List LossRecord) (rest : List Mapped) (made : List X) : Type 0 where
+  pub whole : text (summaries_by find exposure records) ≡ made ++ text (filter_map (summary_of_run find exposure records) (rising (map (λ m. m.summary) rest)))
   pub named : AreNamed records rest
   pub members_are : All (λ m. map (record_at records) (of_summary m.summary rest) ≡ members find records m.summary) rest
   pub order : IsNonDecreasingBy (λ m. m.summary) rest
+
+-- what is made of records that stand one after the other, and of none
+pub record IsText {X : Type 0} (text : List SummaryRecord → List X) : Type 0 where
+  pub none : text [] ≡ []
+  pub joined : (front back : List SummaryRecord) → text (front ++ back) ≡ text front ++ text back
+
+-- what is made of the summaries before the rest stands behind what was there
+abbrev pub StandsBehind : {X : Type 0} → (List SummaryRecord → List X) → (ℕ → Option ℕ) → (ℕ → ℕ) → List LossRecord → List X → List Mapped → List X → Type 0
+StandsBehind {X} text find exposure records before rest now = (made : List X) × (now ≡ before ++ made) × IsLeft text find exposure records rest made

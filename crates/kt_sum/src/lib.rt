@@ -4,8 +4,11 @@
 mod group;
 pub mod laws;
 mod mapped;
+mod put;
 mod run;
+mod set_run;
 mod span;
 mod sums;
 
+pub use put::put_run_summaries;
 pub use run::{summarise, summarise_placed};

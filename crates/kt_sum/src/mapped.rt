@@ -1,13 +1,14 @@
 //! The records of a run by the summaries to which they come.
 //! The rule: docs/CALCULATION.md, "Summaries".
-ghost use Rattle.std.specs.Prelude.{map, IfOk};
+ghost use Rattle.std.specs.Prelude.{ℕ, Option, map, IfOk};
 ghost use Rattle.kt_tables.specs.Lookups.{summary_in};
+ghost use Rattle.kt_tables.specs.SetRows.{AreFound};
 ghost use Rattle.kt_sum.specs.Mapping.{AreMapped, AreAllMapped};
 
+use crate::set_run::SetRun;
 use kt_index::{ByKey, Keyed};
-use kt_rec::Perspective;
 use kt_runs::RunEntry;
-use kt_tables::Portfolio;
+use kt_tables::SetSummaries;
 use std::alloc::{AllocError, Global};
 
 /// A record that comes to a summary.
@@ -30,33 +31,29 @@ impl Keyed for Mapped {
 /// The records whose ids a set maps to a summary, in their order.
 fn mapped_records<T: RunEntry>(
     alloc: Global,
-    portfolio: &Portfolio,
-    perspective: Perspective,
-    set: u32,
+    summaries: &SetSummaries,
     records: &[T],
 ) -> Result<Vec<Mapped>, AllocError>
-    ensures value { IfOk result (λ mapped. AreMapped (summary_in perspective portfolio.now.rows set) (map T.entry_of records.now) (map T.entry_of records.now) mapped.items) }
+    ensures value { IfOk result (λ mapped. (find : ℕ → Option ℕ) → AreFound find summaries.now → AreMapped find (map T.entry_of records.now) (map T.entry_of records.now) mapped.items) }
 {
-    let mut mapped = Vec::new(alloc);
+    let mut mapped = Vec::with_capacity(alloc, records.len())?;
     for (place, held) in records.iter().enumerate() {
-        if let Some(summary) = portfolio.summary_of(perspective, set, held.entry().id) {
+        if let Some(summary) = summaries.of(held.entry().id) {
             mapped.push(Mapped { summary, place })?;
         }
     }
     Ok(mapped)
 }
 
-/// The records whose ids a set maps to a summary, by rising summary.
+/// The records of a run whose ids its set maps to a summary, by rising summary.
 pub(crate) fn mapped_in_order<T: RunEntry>(
     alloc: Global,
-    portfolio: &Portfolio,
-    perspective: Perspective,
-    set: u32,
-    records: &[T],
+    run: &SetRun<'_, T>,
 ) -> Result<ByKey<Mapped>, AllocError>
-    ensures value { IfOk result (λ mapped. AreAllMapped (summary_in perspective portfolio.now.rows set) (map T.entry_of records.now) mapped) }
+    ensures value { IfOk result (λ mapped. AreAllMapped (summary_in run.now.perspective run.now.portfolio.now.rows run.now.set) (map T.entry_of run.now.records.now) mapped) }
 {
-    let mapped = mapped_records(alloc, portfolio, perspective, set, records)?;
-    let sorted = ByKey::new(alloc, &mapped)?;
+    let summaries = run.portfolio.set_summaries(run.perspective, run.set);
+    let mapped = mapped_records(alloc, &summaries, run.records)?;
+    let sorted = ByKey::of_rows(mapped)?;
     Ok(sorted)
 }

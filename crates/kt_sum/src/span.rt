@@ -1,12 +1,20 @@
 //! The sidx that the records of a run have: from which place to which.
 //! The rule: docs/CALCULATION.md, "Summaries".
-ghost use Rattle.std.specs.Prelude.{◌≡◌, ◌+◌, ◌≤◌, ◌^◌, map, min, max};
+ghost use Rattle.std.specs.Prelude.{◌≡◌, ◌+◌, ◌≤◌, ◌^◌, map, min, max, All};
+ghost use Rattle.kt_stream.specs.Losses.{IsLoss};
+ghost use Rattle.kt_runs.specs.Sidx.{place_of};
 ghost use Rattle.std.specs.List.{fold};
 ghost use Rattle.kt_sum.specs.Summaries.{least_place, end_place, pair_places, places};
-ghost use Rattle.kt_sum.specs.Adding.{IsSpan};
+ghost use Rattle.kt_sum.specs.Adding.{IsNoFarther, IsSpan};
 
 use kt_runs::{RunEntry, place_of};
 use kt_stream::Pair;
+
+/// The place of sidx -2, the least of a stream.
+const FIRST: u32 = 2_147_483_646;
+
+/// How many places stand from it on.
+const BEHIND: u32 = 2_147_483_648;
 
 /// The least place so far, and the place behind the greatest.
 #[derive(Clone, Copy)]
@@ -57,13 +65,65 @@ fn ends_of<T: RunEntry>(records: &[T]) -> Ends
     ends
 }
 
-/// The places of the sums of a run of records.
-pub(crate) fn span_of<T: RunEntry>(records: &[T]) -> Span
+/// How far behind sidx -2 the sidx of pairs stand at the most, and no less than so far; those before it count as farther than all
+/// others.
+#[inline]
+fn farthest(so_far: u32, pairs: &[Pair]) -> u32
+    ensures kept { so_far ≤ result }
+    ensures all { All (λ pair. IsNoFarther result (place_of pair.sidx)) pairs.now }
+{
+    let mut most = so_far;
+    for pair in pairs {
+        most = most.max(place_of(pair).wrapping_sub(FIRST));
+    }
+    most
+}
+
+/// How far behind sidx -2 the sidx of records stand at the most.
+fn farthest_of<T: RunEntry>(records: &[T]) -> u32
+    ensures all { All (λ entry. All (λ pair. IsNoFarther result (place_of pair.sidx)) entry.pairs) (map T.entry_of records.now) }
+{
+    let mut most = 0;
+    for held in records {
+        most = farthest(most, held.entry().pairs.as_slice());
+    }
+    most
+}
+
+/// The places from the least sidx of records to the greatest.
+fn exact_span<T: RunEntry>(records: &[T]) -> Span
     ensures value { IsSpan (map T.entry_of records.now) result.least result.width }
 {
     let ends = ends_of(records);
     Span {
         least: ends.least,
         width: ends.upto.saturating_sub(ends.least) as usize,
+    }
+}
+
+/// The places of the sums of a run of records: those from sidx -2 on, where no record has a lower sidx.
+pub(crate) fn span_of<T: RunEntry>(records: &[T]) -> Span
+    ensures value { IsSpan (map T.entry_of records.now) result.least result.width }
+{
+    let most = farthest_of(records);
+    if most >= BEHIND {
+        return exact_span(records);
+    }
+    Span {
+        least: u64::from(FIRST),
+        width: most as usize + 1,
+    }
+}
+
+/// The places of the sums of a run of records of a stream with so many samples: those of all its sidx.
+pub(crate) fn stream_span<T: RunEntry>(samples: u32, records: &[T]) -> Span
+    requires samples { samples ≤ 1000 }
+    requires good { All (IsLoss samples) (map T.entry_of records.now) }
+    ensures value { IsSpan (map T.entry_of records.now) result.least result.width }
+{
+    let _ = records;
+    Span {
+        least: u64::from(FIRST),
+        width: samples as usize + 3,
     }
 }

@@ -5,7 +5,8 @@ use Rattle.kt_stream.specs.declared.entry.Pair.{Pair}
 use Rattle.kt_runs.specs.Adding.{IsAdded}
 use Rattle.kt_runs.specs.Sidx.{place_of, sidx_at}
 use Rattle.kt_runs.proofs.AddLemmas.{added_more}
-use Rattle.kt_runs.proofs.RunSumLemmas.{not_past, past, run_kept, set_few, sidx_inside}
+use Rattle.kt_runs.proofs.RunSumLemmas.{not_past, past, run_kept, set_few}
+use Rattle.kt_runs.specs.LossLaws.{sidx_inside}
 use Rattle.std.proofs.lemmas.List.Elements.{All-from_recursion}
 use Rattle.kt_stream.specs.Pairs.{IsPair}
 use Rattle.kt_runs.proofs.run_sums.add_to_run.Goals as goal

@@ -9,7 +9,7 @@ use Rattle.kt_sum.proofs.run.summaries_of.Goals as goal
 
 pub push_summaries-requires-clause-span : goal.push_summaries-requires-clause-span
 push_summaries-requires-clause-span g c =
-    span_sums (map g.T.RunEntry.entry_of c.args.records.now) c.span_of-span.result.least c.span_of-span.result.width c.in_ok-sums.sums.items c.deref_mut.result.now c.span_of-span.ensures.value c.in_ok-sums.ensures.value c.deref_mut.ensures.value
+    span_sums (map g.T.RunEntry.entry_of c.args.run.now.records.now) c.span_of-span.result.least c.span_of-span.result.width c.in_ok-sums.sums.items c.deref_mut.result.now c.span_of-span.ensures.value c.in_ok-sums.ensures.value c.deref_mut.ensures.value
 
 pub push_summaries-requires-clause-zeros : goal.push_summaries-requires-clause-zeros
 push_summaries-requires-clause-zeros g c =
@@ -17,8 +17,8 @@ push_summaries-requires-clause-zeros g c =
 
 pub returns-clause-good : goal.returns-clause-good
 returns-clause-good g c = λ samples are.
-    let rows = c.args.portfolio.now.rows in
+    let rows = c.args.run.now.portfolio.now.rows in
     subst (λ (made : List SummaryRecord). All (IsSummary samples) made) (sym (c.from_vec.ensures.value ∙ c.in_ok-made.ensures.value))
-    (summaries_good (summary_in c.args.perspective rows c.args.set) (exposure_of c.args.perspective rows c.args.portfolio.now.need.rule c.args.set)
-    (λ id summary is. let known = c.keeps_summaries.ensures.kept.known c.args.perspective c.args.set id summary is in (known.least, known.most))
-    (c.keeps_summaries.ensures.kept.exposures c.args.perspective c.args.set) samples (map g.T.RunEntry.entry_of c.args.records.now) c.requires.losses are)
+    (summaries_good (summary_in c.args.run.now.perspective rows c.args.run.now.set) (exposure_of c.args.run.now.perspective rows c.args.run.now.portfolio.now.need.rule c.args.run.now.set)
+    (λ id summary is. let known = c.keeps_summaries.ensures.kept.known c.args.run.now.perspective c.args.run.now.set id summary is in (known.least, known.most))
+    (c.keeps_summaries.ensures.kept.exposures c.args.run.now.perspective c.args.run.now.set) samples (map g.T.RunEntry.entry_of c.args.run.now.records.now) c.requires.losses are)

@@ -1,9 +1,10 @@
-use Rattle.std.proofs.Common.{map, sym, subst}
+use Rattle.std.proofs.Common.{◌+◌, map, subst, sym}
 use Rattle.kt_sum.specs.Adding.{IsSpan}
-use Rattle.kt_sum.proofs.SpanLemmas.{span_is}
+use Rattle.kt_sum.proofs.SpanLemmas.{near_span}
 use Rattle.kt_sum.proofs.span.span_of.Goals as goal
 
 pub returns : goal.returns
-returns g c = record {
-  value = subst (IsSpan (map g.T.RunEntry.entry_of c.args.records.now) c.ends_of-ends.result.least) (sym c.saturating_sub.ensures) (span_is (map g.T.RunEntry.entry_of c.args.records.now) c.ends_of-ends.result.least c.ends_of-ends.result.upto c.ends_of-ends.ensures.least c.ends_of-ends.ensures.last c.ends_of-ends.ensures.within);
-}
+returns g c =
+    let records = map g.T.RunEntry.entry_of c.args.records.now in
+    let most = c.farthest_of-most.result in
+    record { value = subst (λ least. IsSpan records least (most + 1)) (sym c.from.ensures) (near_span records most c.if-most-ge-BEHIND.false c.farthest_of-most.ensures.all) }
