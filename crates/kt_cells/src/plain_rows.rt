@@ -6,6 +6,7 @@ ghost use Rattle.kt_cells.specs.Taking.{HasRow};
 use crate::front_value::front_value;
 use crate::kind::Kind;
 use crate::reader::rule_after;
+use crate::row_sink::RowSink;
 use kt_text::{behind_field, first_field};
 
 // Rows of so many columns are read without a loop, so that the kind of each column is known where its field is read.
@@ -47,9 +48,9 @@ fn with_field<'a, const N: usize>(
     Some(PlainRow { values, rule, rest })
 }
 
-// The next row of a text with few columns.
-#[inline(always)]
-fn short_row<'a, const N: usize>(
+// The next row of a text with few columns. Each kind of sink has its own copy of this code, so that it is put where the kinds are
+// known.
+fn short_row<'a, const N: usize, S: RowSink<N>>(
     text: &'a [u8],
     kinds: &[Kind; N],
     floor: u64,
@@ -121,7 +122,7 @@ fn long_row<'a, const N: usize>(
 /// The next row of a text, if its fields stand there without quotes and each has a value that is none of its refusals: all
 /// other rows are for the reader of records.
 #[inline(always)]
-pub(crate) fn plain_row<'a, const N: usize>(
+pub(crate) fn plain_row<'a, const N: usize, S: RowSink<N>>(
     text: &'a [u8],
     kinds: &[Kind; N],
     floor: u64,
@@ -132,7 +133,7 @@ pub(crate) fn plain_row<'a, const N: usize>(
     ensures shorter { IfSome result (λ row. length row.rest.now < length text.now) }
 {
     if N <= SHORT {
-        short_row(text, kinds, floor)
+        short_row::<N, S>(text, kinds, floor)
     } else {
         long_row(text, kinds, floor)
     }

@@ -68,7 +68,8 @@ fn read_plain_rows<'a, const N: usize, S: RowSink<N>>(
     let mut count = 0;
     let mut floor = 0;
     let mut rest = text;
-    while let Some(row) = plain_row(rest, kinds, floor) {
+    let columns = *kinds;
+    while let Some(row) = plain_row::<N, S>(rest, &columns, floor) {
         count += 1;
         floor = floor_after(ordered, &row.values);
         sink.take(&row.values)?;
