@@ -69,11 +69,12 @@ fn read_plain_rows<'a, const N: usize, S: RowSink<N>>(
     let mut floor = 0;
     let mut rest = text;
     let columns = *kinds;
-    while let Some(row) = plain_row::<N, S>(rest, &columns, floor) {
+    let mut values = [0; N];
+    while let Some(behind) = plain_row::<N, S>(rest, &columns, floor, &mut values) {
         count += 1;
-        floor = floor_after(ordered, &row.values);
-        sink.take(&row.values)?;
-        rest = row.rest;
+        floor = floor_after(ordered, &values);
+        sink.take(&values)?;
+        rest = behind;
     }
     Ok(PlainFront { count, floor, rest })
 }
