@@ -34,11 +34,12 @@ fn with_field<'a, const N: usize>(
     ensures shorter { IfSome result (λ next. length next.rest.now ≤ length front.entry.rest.now) }
 {
     let kind = kinds[column];
-    let field = front_value(kind.under(front.rule), front.rest)?;
+    let is_last = column + 1 == N;
+    let field = front_value(kind.under(front.rule), front.rest, is_last)?;
     if field.value < least {
         return None;
     }
-    let rest = behind_field(&front.rest[field.size..], column + 1 == N)?;
+    let rest = behind_field(&front.rest[field.size..], is_last)?;
     values[column] = field.value;
     let rule = rule_after(front.rule, kind, field.value);
     Some(RowFront { rule, rest })
@@ -96,11 +97,12 @@ fn long_row<'a, const N: usize>(
     let mut rule = 0;
     let mut least = floor;
     for (column, kind) in kinds.iter().enumerate() {
-        let field = front_value(kind.under(rule), rest)?;
+        let is_last = column + 1 == N;
+        let field = front_value(kind.under(rule), rest, is_last)?;
         if field.value < least {
             return None;
         }
-        rest = behind_field(&rest[field.size..], column + 1 == N)?;
+        rest = behind_field(&rest[field.size..], is_last)?;
         values[column] = field.value;
         rule = rule_after(rule, *kind, field.value);
         least = 0;
