@@ -1,6 +1,6 @@
 -- The rows of a text: their ranges, what a sink takes of one, and how far one is read field by field.
 use Rattle.std.proofs.Common.{◌≡◌, ◌<◌, ℕ, Bool, List, length, sym, ◌+◌, ◌≤◌, true, false, [], ◌∷◌, ◌++◌, take, drop, get_or, refl, ap, ◌∙◌, arith, length-append, append_assoc}
-use Rattle.std.specs.Prelude.{Result, Ok, Err, Option, None, Some, IfSome, OnOk, slice_set, ◌==◌, ◌≢◌}
+use Rattle.std.specs.Prelude.{Result, Ok, Err, OnOk, slice_set, ◌==◌, ◌≢◌}
 use Rattle.kt_text.specs.Rows.{csv_rows}
 use Rattle.kt_cells.specs.Laws.{TextsAreInRange}
 use Rattle.kt_cells.specs.Ranges.{AreRows, AreInOrder, IsRow, FitsBytes}
@@ -80,8 +80,3 @@ module _ {kinds : List Kind} {floor : ℕ} {text values : List ℕ} {done rule l
   -- there is no column more
   pub plain-all : columns ≡ done → length kinds ≡ columns → HasRow kinds floor text values rest
   plain-all all width = plain-end (rw (eq-eqb done columns (sym all)) at now) (sym all ∙ sym width)
-
--- what holds of a thing that is there, holds of it with what follows
-pub of-some : {A : Type 0} {P Q : A → Type 0} (found : Option A) → ((x : A) → P x → Q x) → IfSome found P → IfSome found Q
-of-some None follows holds = tt
-of-some (Some x) follows holds = follows x holds

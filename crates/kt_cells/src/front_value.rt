@@ -21,24 +21,29 @@ fn front_number(kind: Kind, text: &[u8]) -> Option<FrontNumber>
     }
 }
 
-// Whether a field may end in front of a text. No clause needs it: it tells which way is the faster one.
+// Whether a field may end in front of a text: the last one of a row at the end of a line, another at a comma. No clause needs it:
+// it tells which way is the faster one.
 #[inline(always)]
-fn ends_field(text: &[u8]) -> bool {
+fn ends_field(text: &[u8], is_last: bool) -> bool {
     match text {
-        [first, ..] => *first == b',' || *first == b'\n' || *first == b'\r',
+        [first, ..] if is_last => *first == b'\n' || *first == b'\r',
+        [first, ..] => *first == b',',
         _ => false,
     }
 }
 
-/// The value of the field at the front of a text and the field's size, if it has no quotes and its value is one of the kind.
+/// The value of the field at the front of a text and the field's size, if it has no quotes and its value is one of the kind. It is
+/// found faster where the field ends as the last one of a row, or as another, does.
 #[inline(always)]
-pub(crate) fn front_value(kind: Kind, text: &[u8]) -> Option<FrontNumber>
+pub(crate) fn front_value(kind: Kind, text: &[u8], is_last: bool) -> Option<FrontNumber>
     ensures within { IfSome result (λ field. field.size ≤ length text.now) }
     ensures field { IfSome result (λ field. IsField text.now field.size) }
     ensures value { IfSome result (λ field. text_value kind (take field.size text.now) ≡ Ok field.value) }
 {
     match front_number(kind, text) {
-        Some(number) if ends_field(&text[number.size..]) => match kind.in_range(number.value) {
+        Some(number) if ends_field(&text[number.size..], is_last) => match kind.in_range(
+            number.value,
+        ) {
             Ok(value) => Some(FrontNumber {
                 size: number.size,
                 value,

@@ -6,87 +6,78 @@ ghost use Rattle.kt_cells.specs.Taking.{HasRow};
 use crate::front_value::front_value;
 use crate::kind::Kind;
 use crate::reader::rule_after;
+use crate::row_sink::RowSink;
 use kt_text::{behind_field, first_field};
 
 // Rows of so many columns are read without a loop, so that the kind of each column is known where its field is read.
 const SHORT: usize = 5;
 
-/// The first values of a row of a text; behind all of them, the text from the end of its line on.
+// How far a row of a text is read: the rule by which the rest of it is read, and the text that is left.
 #[derive(Clone, Copy)]
-pub(crate) struct PlainRow<'a, const N: usize> {
-    /// The values, and 0 where none is read yet.
-    pub(crate) values: [u64; N],
-    /// The rule by which the rest of the row is read.
+struct RowFront<'a> {
     rule: u64,
-    /// The text behind what is read.
-    pub(crate) rest: &'a [u8],
+    rest: &'a [u8],
 }
 
-// A row with the field of one more column, whose value is not below `least`.
+// Reads the field of one more column, whose value is not below `least`.
 #[inline(always)]
 fn with_field<'a, const N: usize>(
-    row: &PlainRow<'a, N>,
+    front: RowFront<'a>,
     kinds: &[Kind; N],
     column: usize,
     least: u64,
-) -> Option<PlainRow<'a, N>>
+    values: &mut [u64; N],
+) -> Option<RowFront<'a>>
     requires size { N < 100 }
     requires column { column < N }
-    ensures read { (floor : ℕ) (text : List ℕ) → PlainRead kinds.now floor text row.now.values column row.now.rule least false row.now.rest.now → IfSome result (λ next. PlainRead kinds.now floor text next.values (column + 1) next.rule 0 (column + 1 == N) next.rest.now) }
-    ensures shorter { IfSome result (λ next. length next.rest.now ≤ length row.now.rest.now) }
+    ensures read { (floor : ℕ) (text : List ℕ) → PlainRead kinds.now floor text values.old column front.entry.rule least false front.entry.rest.now → IfSome result (λ next. PlainRead kinds.now floor text values.new (column + 1) next.rule 0 (column + 1 == N) next.rest.now) }
+    ensures shorter { IfSome result (λ next. length next.rest.now ≤ length front.entry.rest.now) }
 {
     let kind = kinds[column];
-    let field = front_value(kind.under(row.rule), row.rest)?;
+    let is_last = column + 1 == N;
+    let field = front_value(kind.under(front.rule), front.rest, is_last)?;
     if field.value < least {
         return None;
     }
-    let rest = behind_field(&row.rest[field.size..], column + 1 == N)?;
-    let mut values = row.values;
+    let rest = behind_field(&front.rest[field.size..], is_last)?;
     values[column] = field.value;
-    let rule = rule_after(row.rule, kind, field.value);
-    Some(PlainRow { values, rule, rest })
+    let rule = rule_after(front.rule, kind, field.value);
+    Some(RowFront { rule, rest })
 }
 
-// The next row of a text with few columns.
-#[inline(always)]
-fn short_row<'a, const N: usize>(
+// The next row of a text with few columns. Each kind of sink has its own copy of this code, so that it is put where the kinds are
+// known.
+fn short_row<'a, const N: usize, S: RowSink<N>>(
     text: &'a [u8],
     kinds: &[Kind; N],
     floor: u64,
-) -> Option<PlainRow<'a, N>>
+    values: &mut [u64; N],
+) -> Option<&'a [u8]>
     requires some { 0 < N }
     requires few { N ≤ 5 }
-    ensures row { IfSome result (λ row. HasRow kinds.now floor text.now row.values row.rest.now) }
-    ensures shorter { IfSome result (λ row. length row.rest.now < length text.now) }
+    ensures row { IfSome result (λ rest. HasRow kinds.now floor text.now values.new rest.now) }
+    ensures shorter { IfSome result (λ rest. length rest.now < length text.now) }
 {
     let rest = first_field(text)?;
-    let (values, rule) = ([0; N], 0);
-    let start = PlainRow { values, rule, rest };
-    let Some(first) = with_field(&start, kinds, 0, floor) else {
-        return None;
-    };
+    let start = RowFront { rule: 0, rest };
+    let first = with_field(start, kinds, 0, floor, values)?;
     if N == 1 {
-        return Some(first);
+        return Some(first.rest);
     }
-    let Some(second) = with_field(&first, kinds, 1, 0) else {
-        return None;
-    };
+    let second = with_field(first, kinds, 1, 0, values)?;
     if N == 2 {
-        return Some(second);
+        return Some(second.rest);
     }
-    let Some(third) = with_field(&second, kinds, 2, 0) else {
-        return None;
-    };
+    let third = with_field(second, kinds, 2, 0, values)?;
     if N == 3 {
-        return Some(third);
+        return Some(third.rest);
     }
-    let Some(fourth) = with_field(&third, kinds, 3, 0) else {
-        return None;
-    };
+    let fourth = with_field(third, kinds, 3, 0, values)?;
     if N == 4 {
-        return Some(fourth);
+        return Some(fourth.rest);
     }
-    with_field(&fourth, kinds, 4, 0)
+    let fifth = with_field(fourth, kinds, 4, 0, values)?;
+    Some(fifth.rest)
 }
 
 // The next row of a text with any number of columns.
@@ -95,45 +86,47 @@ fn long_row<'a, const N: usize>(
     text: &'a [u8],
     kinds: &[Kind; N],
     floor: u64,
-) -> Option<PlainRow<'a, N>>
+    values: &mut [u64; N],
+) -> Option<&'a [u8]>
     requires size { N < 100 }
     requires some { 0 < N }
-    ensures row { IfSome result (λ row. HasRow kinds.now floor text.now row.values row.rest.now) }
-    ensures shorter { IfSome result (λ row. length row.rest.now < length text.now) }
+    ensures row { IfSome result (λ rest. HasRow kinds.now floor text.now values.new rest.now) }
+    ensures shorter { IfSome result (λ rest. length rest.now < length text.now) }
 {
     let mut rest = first_field(text)?;
-    let mut values = [0; N];
     let mut rule = 0;
     let mut least = floor;
     for (column, kind) in kinds.iter().enumerate() {
-        let field = front_value(kind.under(rule), rest)?;
+        let is_last = column + 1 == N;
+        let field = front_value(kind.under(rule), rest, is_last)?;
         if field.value < least {
             return None;
         }
-        rest = behind_field(&rest[field.size..], column + 1 == N)?;
+        rest = behind_field(&rest[field.size..], is_last)?;
         values[column] = field.value;
         rule = rule_after(rule, *kind, field.value);
         least = 0;
     }
-    Some(PlainRow { values, rule, rest })
+    Some(rest)
 }
 
-/// The next row of a text, if its fields stand there without quotes and each has a value that is none of its refusals: all
-/// other rows are for the reader of records.
+/// Reads the values of the next row of a text, if its fields stand there without quotes and each has a value that is none of
+/// its refusals, and gives the text from the end of its line on: all other rows are for the reader of records.
 #[inline(always)]
-pub(crate) fn plain_row<'a, const N: usize>(
+pub(crate) fn plain_row<'a, const N: usize, S: RowSink<N>>(
     text: &'a [u8],
     kinds: &[Kind; N],
     floor: u64,
-) -> Option<PlainRow<'a, N>>
+    values: &mut [u64; N],
+) -> Option<&'a [u8]>
     requires size { N < 100 }
     requires some { 0 < N }
-    ensures row { IfSome result (λ row. HasRow kinds.now floor text.now row.values row.rest.now) }
-    ensures shorter { IfSome result (λ row. length row.rest.now < length text.now) }
+    ensures row { IfSome result (λ rest. HasRow kinds.now floor text.now values.new rest.now) }
+    ensures shorter { IfSome result (λ rest. length rest.now < length text.now) }
 {
     if N <= SHORT {
-        short_row(text, kinds, floor)
+        short_row::<N, S>(text, kinds, floor, values)
     } else {
-        long_row(text, kinds, floor)
+        long_row(text, kinds, floor, values)
     }
 }

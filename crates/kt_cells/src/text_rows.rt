@@ -68,11 +68,13 @@ fn read_plain_rows<'a, const N: usize, S: RowSink<N>>(
     let mut count = 0;
     let mut floor = 0;
     let mut rest = text;
-    while let Some(row) = plain_row(rest, kinds, floor) {
+    let columns = *kinds;
+    let mut values = [0; N];
+    while let Some(behind) = plain_row::<N, S>(rest, &columns, floor, &mut values) {
         count += 1;
-        floor = floor_after(ordered, &row.values);
-        sink.take(&row.values)?;
-        rest = row.rest;
+        floor = floor_after(ordered, &values);
+        sink.take(&values)?;
+        rest = behind;
     }
     Ok(PlainFront { count, floor, rest })
 }

@@ -1,10 +1,10 @@
 //! Sinks of rows: the records of a file, made of them, and one that keeps none.
-ghost use Rattle.std.specs.Prelude.{◌≡◌, ◌++◌, map, drop};
-ghost use Rattle.kt_cells.specs.Records.{records_bytes};
+ghost use Rattle.std.specs.Prelude.{◌≡◌, ◌++◌, ◌∷◌, [], map, drop};
+ghost use Rattle.kt_cells.specs.Records.{record_bytes, records_bytes};
 ghost use Rattle.kt_rec.specs.declared.table.Table.TheVariants.{Footprint};
 ghost use Rattle.kt_schema.specs.Tables.{kinds_of};
 
-use crate::schema::FOOTPRINT_RECORD;
+use byteorder::{ByteOrder, LittleEndian};
 use kt_cells::{Kind, RowSink, push_record};
 use kt_money::Bytes;
 use std::alloc::AllocError;
@@ -31,6 +31,18 @@ impl<'a, const N: usize> RowSink<N> for Records<'a, N> {
     }
 }
 
+/// The bytes of a record of the footprint file.
+#[inline(always)]
+fn footprint_record(areaperil: u32, intensity: u32, prob: u32) -> [u8; 12]
+    ensures { result ≡ record_bytes (drop 1 (kinds_of Footprint)) (areaperil ∷ intensity ∷ prob ∷ []) }
+{
+    let mut record = [0; 12];
+    LittleEndian::write_u32(&mut record, areaperil);
+    LittleEndian::write_u32(&mut record[4..], intensity);
+    LittleEndian::write_u32(&mut record[8..], prob);
+    record
+}
+
 /// Records of the footprint, which leave the event out, behind what is in `out`.
 #[derive(Drop)]
 pub(crate) struct FootprintRecords {
@@ -38,15 +50,17 @@ pub(crate) struct FootprintRecords {
 }
 
 impl RowSink<4> for FootprintRecords {
-    ghost use Rattle.std.specs.Prelude.{⊤};
+    ghost use Rattle.kt_cells.specs.Ranges.{FitsBytes};
 
-    ghost takes = { λ _. ⊤ };
+    ghost takes = { FitsBytes (kinds_of Footprint) };
 
     ghost takes_to = { λ start rows now. now.out ≡ start.out ++ records_bytes (drop 1 (kinds_of Footprint)) (map (drop 1) rows) };
 
     #[inline(always)]
     fn take(&mut self, row: &[u64; 4]) -> Result<(), AllocError> {
-        push_record(&mut self.out, &FOOTPRINT_RECORD, &row[1..])?;
+        let [_event, areaperil, intensity, prob] = *row;
+        let record = footprint_record(areaperil as u32, intensity as u32, prob as u32);
+        self.out.append(&record)?;
         Ok(())
     }
 }

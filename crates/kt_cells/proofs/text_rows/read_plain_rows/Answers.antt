@@ -9,12 +9,12 @@ take-requires g c =
     let row = c.in-Some.ensures.row in
     (omega (arith, c.requires.size), (c.requires.size, row-taken c.args.kinds.now _ _ _ _ c.requires.takes row.width (row.read 1)))
 
-pub loop-row-preserved : goal.loop-row-preserved
-loop-row-preserved g c =
+pub loop-behind-preserved : goal.loop-behind-preserved
+loop-behind-preserved g c =
     let row = c.in-Some.ensures.row in
     rw c.floor_after-floor.ensures (record {
-      within = omega (arith, c.loop-row.invariant.within, c.in-Some.ensures.shorter);
-      front = front-more c.loop-row.invariant.front _ c.in-Some.row.values _
-          (rw row.split (table_rows-row text_value c.args.ordered 1 c.args.kinds.now c.loop-row.floor (c.loop-row.count + 1) c.in-Some.row.values row.fields _ row.width (row.read (c.loop-row.count + 1))))
+      within = omega (arith, c.loop-behind.invariant.within, c.in-Some.ensures.shorter);
+      front = front-more c.loop-behind.invariant.front _ c.plain_row.new.values _
+          (rw row.split (table_rows-row text_value c.args.ordered 1 c.args.kinds.now c.loop-behind.floor (c.loop-behind.count + 1) c.plain_row.new.values row.fields _ row.width (row.read (c.loop-behind.count + 1))))
           (c.in_ok-take.ensures.ok _);
     })

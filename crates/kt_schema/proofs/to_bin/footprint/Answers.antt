@@ -3,4 +3,4 @@ use Rattle.kt_schema.proofs.SinkLemmas.{records-fresh}
 use Rattle.kt_schema.proofs.to_bin.footprint.Goals as goal
 
 pub read_text-requires : goal.read_text-requires
-read_text-requires c = (omega arith, (omega arith, (omega arith, ((λ row range fits. tt), records-fresh _ _))))
+read_text-requires c = (omega arith, (omega arith, (omega arith, ((λ row range fits. fits), records-fresh _ _))))
