@@ -8,9 +8,8 @@ ghost use Rattle.kt_part.specs.declared.inbox.Item.{Item};
 use crate::inbox::{Inbox, Item, Lane};
 use rtrb::Producer;
 use std::alloc::Global;
-use std::thread::yield_now;
 
-/// How often the merger looks over all lanes before it leaves the rest to the drain.
+/// How often the merger looks over all lanes at the most before it leaves the rest to the drain.
 const LOOKS: u32 = 1000;
 
 /// Takes one item out of a lane, if one is there.
@@ -33,17 +32,18 @@ fn look_over<B: Drop>(inbox: &mut Inbox<B>, lanes: &mut [Lane<B>])
     }
 }
 
-/// Looks over all lanes until `count` items have come, or it has looked often enough. It never waits.
+/// Looks over all lanes as long as something comes, until `count` items have come, or it has looked often enough. It never waits: a
+/// merger that did would have a share of a worker's processor.
 pub fn merge<B: Drop>(count: u32, inbox: &mut Inbox<B>, lanes: &mut [Lane<B>])
     ensures same { AreSame lanes.old lanes.new }
     ensures come { HasCome inbox.old (all_received lanes.old) → HasCome inbox.new (all_received lanes.new) }
 {
     for _turn in 0..LOOKS {
+        let before = inbox.arrived;
         look_over(inbox, lanes);
-        if count <= inbox.arrived {
+        if count <= inbox.arrived || inbox.arrived == before {
             return;
         }
-        yield_now();
     }
 }
 
