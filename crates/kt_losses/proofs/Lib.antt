@@ -1,2 +1,3 @@
 pub mod RunLemmas
 mod ToolLemmas
+mod KnownLemmas

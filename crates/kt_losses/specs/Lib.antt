@@ -1,3 +1,4 @@
 pub mod Judged
+pub mod Known
 pub mod Standing
 pub mod Tables

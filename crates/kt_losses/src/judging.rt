@@ -6,10 +6,11 @@ ghost use Rattle.kt_loop.specs.Running.{stream_uses};
 ghost use Rattle.kt_losses.specs.Judged.{judged_outcome, losses_kind};
 ghost use Rattle.kt_losses.specs.Standing.{IsCheckStop};
 
-use crate::known::known_ids;
+use crate::known::{KnownId, is_among, known_ids};
 use crate::table::LossTool;
 use kt_checks::CheckStop;
 use kt_ends::{Refusal, ToolStop};
+use kt_index::ByKey;
 use kt_load::file_name;
 use kt_loop::laws::{runs_give_their_text, what_is_read_can_be_taken};
 use kt_loop::{RunStage, run_by_run};
@@ -19,7 +20,6 @@ use kt_runs::{add_to_run, clear_run, no_run_sums};
 use kt_stream::{Head, LossReader, LossRecord, Placed, StreamKind};
 use kt_tables::Portfolio;
 use std::alloc::Global;
-use std::collections::HashSet;
 
 /// The place of the id in a record, in bytes.
 const ID_PLACE: u64 = 4;
@@ -62,15 +62,15 @@ fn keep_memory(alloc: Global) {
 struct JudgedLosses<'a, T> {
     alloc: Global,
     portfolio: &'a Portfolio,
-    ids: &'a HashSet<u32>,
+    ids: &'a ByKey<KnownId>,
     sums: Vec<u64>,
     tool: T,
 }
 
 impl<'a, T: LossTool> RunStage<Head, LossRecord, ()> for JudgedLosses<'a, T> {
-    ghost use Rattle.std.specs.Prelude.{◌≡◌, ℕ, nat_eq};
-    ghost use Rattle.std.specs.HashSet.{contains};
+    ghost use Rattle.std.specs.Prelude.{◌≡◌, ℕ};
     ghost use Rattle.kt_losses.specs.Judged.{is_known, judged_runs};
+    ghost use Rattle.kt_losses.specs.Known.{has_id};
     ghost use Rattle.kt_losses.specs.Standing.{AreKnown, HoldsSums};
     ghost use Rattle.kt_stream.specs.Header.{IsHead};
     ghost use Rattle.kt_stream.specs.Losses.{IsLoss, loss_form, loss_shape};
@@ -85,7 +85,7 @@ impl<'a, T: LossTool> RunStage<Head, LossRecord, ()> for JudgedLosses<'a, T> {
 
     ghost is_at = { λ made stage _. (stage.tool ≡ made.0) × (stage.portfolio.now ≡ made.1) };
 
-    ghost is_ready = { λ header run stage _. HoldsSums header run stage.sums.items × (((id : ℕ) → contains nat_eq stage.ids.now id ≡ is_known (T.table stage.tool).items stage.portfolio.now.rows id) × (T.serves stage.portfolio.now stage.tool × AreKnown (T.table stage.tool).items stage.portfolio.now.rows run)) };
+    ghost is_ready = { λ header run stage _. HoldsSums header run stage.sums.items × (((id : ℕ) → has_id stage.ids.now id ≡ is_known (T.table stage.tool).items stage.portfolio.now.rows id) × (T.serves stage.portfolio.now stage.tool × AreKnown (T.table stage.tool).items stage.portfolio.now.rows run)) };
 
     ghost accepts = { IsHead Gul };
 
@@ -109,7 +109,7 @@ impl<'a, T: LossTool> RunStage<Head, LossRecord, ()> for JudgedLosses<'a, T> {
         _run: &[Placed<LossRecord>],
         placed: &Placed<LossRecord>,
     ) -> Result<(), ToolStop> {
-        if !self.ids.contains(&placed.entry.id) {
+        if !is_among(self.ids, placed.entry.id) {
             let byte = placed.at + ID_PLACE;
             return Err(ToolStop::Refused(Refusal::UnknownId { byte }));
         }

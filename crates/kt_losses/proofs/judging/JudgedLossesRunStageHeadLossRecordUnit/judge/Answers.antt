@@ -16,8 +16,8 @@ returns-clause-ready g c =
     let rows = c.args.self.now.portfolio.now.rows in
     let long : c.args.self.now.sums.len ≡ length sums = sym (c.add_to_run.auto.sums ∙ c.deref_mut.ensures.len) in
     let kept = c.add_to_run.ensures.kept (bare run) (subst (AreRunSums samples (bare run)) (sym c.deref_mut.ensures.value) c.requires.ready.0) c.if-not-add_to_run.false in
-    let found = c.contains.ensures in
-    let has = c.if-not-contains.false in
+    let found = c.is_among.ensures.value in
+    let has = c.if-not-is_among.false in
     let as_set = c.requires.ready.1.0 placed.entry.id in
     let is : is_known items rows placed.entry.id ≡ true = cc in (
       subst (AreRunSums samples (bare (run ++ placed ∷ []))) (sym (front_whole sums _ _ long)) (subst (λ (records : List LossRecord). AreRunSums samples records sums) (sym (bare_more run placed)) kept),
