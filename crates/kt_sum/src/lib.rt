@@ -11,4 +11,4 @@ mod span;
 mod sums;
 
 pub use put::put_run_summaries;
-pub use run::{summarise, summarise_placed};
+pub use run::summarise;

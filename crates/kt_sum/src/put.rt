@@ -111,8 +111,8 @@ fn put_summaries<T: RunEntry>(
     Ok(())
 }
 
-/// Appends the records of the summaries of a set as `summarise_placed` makes them, for the records of one run of a stream with so
-/// many samples, at most 1,000. An error is want of memory, and nothing is appended then.
+/// Appends the records of the summaries of a set as `summarise` makes them, for the records of one run of a stream with so many
+/// samples, at most 1,000, which have their places in it. An error is want of memory, and nothing is appended then.
 pub fn put_run_summaries(
     alloc: Global,
     portfolio: &Portfolio,

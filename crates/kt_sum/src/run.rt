@@ -19,7 +19,7 @@ use crate::span::span_of;
 use crate::sums::NO_PAIR;
 use kt_rec::Perspective;
 use kt_runs::{RunEntry, event_of, zeros};
-use kt_stream::{LossRecord, Pair, Placed, Records, SummaryRecord};
+use kt_stream::{LossRecord, Pair, Records, SummaryRecord};
 use kt_tables::Portfolio;
 use std::alloc::{AllocError, Global};
 
@@ -123,27 +123,6 @@ pub fn summarise(
     requires losses { AreWithin records.now }
     ensures value { IfOk result (λ made. made ≡ run_summaries perspective portfolio.now.rows portfolio.now.need.rule set records.now) }
     ensures good { (samples : ℕ) → All (IsLoss samples) records.now → IfOk result (λ made. All (IsSummary samples) made) }
-{
-    let run = SetRun {
-        portfolio,
-        perspective,
-        set,
-        records,
-    };
-    summaries_of(alloc, &run)
-}
-
-/// As `summarise`, for records with their places in a stream.
-pub fn summarise_placed(
-    alloc: Global,
-    portfolio: &Portfolio,
-    perspective: Perspective,
-    set: u32,
-    records: &[Placed<LossRecord>],
-) -> Result<Records<SummaryRecord>, AllocError>
-    requires losses { AreWithin (map (λ placed. placed.entry) records.now) }
-    ensures value { IfOk result (λ made. made ≡ run_summaries perspective portfolio.now.rows portfolio.now.need.rule set (map (λ placed. placed.entry) records.now)) }
-    ensures good { (samples : ℕ) → All (IsLoss samples) (map (λ placed. placed.entry) records.now) → IfOk result (λ made. All (IsSummary samples) made) }
 {
     let run = SetRun {
         portfolio,
