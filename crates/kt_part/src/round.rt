@@ -33,7 +33,8 @@ pub enum RoundStop<S> {
     OutOfMemory,
 }
 
-/// The workers beside the merger, until both have ended.
+/// The workers beside the merger, until both have ended. The calling thread runs what is handed over last, the workers: it is the first
+/// of them, so that one thread less has to be found a processor.
 fn run_beside<R: Threads + Sync, W: Work + Sync>(
     rt: &R,
     claims: &Claims,
@@ -54,12 +55,12 @@ fn run_beside<R: Threads + Sync, W: Work + Sync>(
     join_mut(
         rt,
         &mut ||
+            ensures { AreSame ends.entry.now ends.exit.now × (HasCome inbox.entry.now (all_received ends.entry.now) → HasCome inbox.exit.now (all_received ends.exit.now)) }
+        { merge(count, inbox, ends) },
+        &mut ||
             requires { IsSync R.row × IsSync W.row × IsSend W.Block.row × (count ≤ 16) × (count ≤ W.most work.now) × (0 < length arms.now) × All (IsReady claims.now) arms.now }
             ensures { HaveWorked claims.entry.now (W.gives work.entry.now) count arms.entry.now arms.exit.now }
         { run_arms(rt, claims, work, count, arms) },
-        &mut ||
-            ensures { AreSame ends.entry.now ends.exit.now × (HasCome inbox.entry.now (all_received ends.entry.now) → HasCome inbox.exit.now (all_received ends.exit.now)) }
-        { merge(count, inbox, ends) },
     );
 }
 
