@@ -12,7 +12,7 @@ use kt_stream::LossRecord;
 use std::alloc::{AllocError, Global};
 
 /// The place of sidx -2, the least of a stream.
-const FIRST: u64 = 2_147_483_646;
+const FIRST: u32 = 2_147_483_646;
 
 /// The most that the losses of a sidx may add to in a run, in cents.
 const MOST: u64 = 10_000_000_000_000_000;
@@ -33,7 +33,7 @@ pub fn add_to_run(sums: &mut [u64], samples: u32, entry: &LossRecord) -> bool
     ensures kept { (records : List LossRecord) → AreRunSums samples records sums.old → result ≡ true → AreRunSums samples (records ++ entry.now ∷ []) sums.new }
 {
     for pair in entry.pairs.as_slice() {
-        let place = (place_of(pair) as u64 - FIRST) as usize;
+        let place = (place_of(pair) - FIRST) as usize;
         let sum = sums[place] + pair.loss;
         if sum > MOST {
             return false;
