@@ -20,7 +20,7 @@ use Rattle.kt_period_cells.specs.Amounts.{sample_of}
 use Rattle.kt_period_cells.specs.Journal.{Clear}
 use Rattle.kt_period_cells.specs.Losses.{KeyLoss, key_of, same_key, has_cells, is_added, total, maximum, opened}
 use Rattle.kt_period_cells.specs.Room.{Raises, added_sum}
-use Rattle.kt_period_cells.specs.RowCells.{SampleCells, cells_of, cell_in, IsWide, Changes, one_of, placed}
+use Rattle.kt_period_cells.specs.RowCells.{AreLow, SampleCells, cells_of, cell_in, IsWide, Changes, one_of, placed}
 use Rattle.kt_period_cells.specs.Rows.{Apart, entries_of, key_in, place_of, row_entries, row_for, row_keys, spot_loss, spot_losses}
 use Rattle.kt_period_cells.specs.Standing.{FitsCells, Standing, cell_at, cell_of, most_cells, most_total, raised, sidx_in_range, total_in}
 use Rattle.kt_period_cells.specs.TotalLaws.{added_some, total_of_cell}
@@ -78,6 +78,7 @@ module _ (samples : ℕ) where
         count = omega (arith, ap length cells);
         few = omega arith;
         fits = λ periods fits. fits_same periods samples old new fits key places cells;
+        totals = λ most low. rw places (All-weaker (λ (one : Cell). one.total ≤ most) (λ (one : Cell). one.total ≤ most + 0) (λ one high. omega (arith, high)) old.places.items low);
         room = λ more room. rw places (All-weaker (λ (one : Cell). one.total + (0 + more) ≤ most_total) (λ (one : Cell). one.total + more ≤ most_total) (λ one high. omega (arith, high)) old.places.items room);
         adds = λ rows place p s u period before apart found is stands. rw (entries_same rows place old new is (same_entries old new key cells), append-nil before) stands;
       }
@@ -99,6 +100,7 @@ module _ (samples : ℕ) where
         count = so_far.count;
         few = omega (arith, so_far.few, length-append pairs (pair ∷ []));
         fits = so_far.fits;
+        totals = λ most low. All-weaker (λ (one : Cell). one.total ≤ most + added_sum pairs) (λ (one : Cell). one.total ≤ most + added_sum (pairs ++ pair ∷ [])) (λ one high. omega (arith, high, sum)) mid.places.items (so_far.totals most low);
         room = λ more room. so_far.room more (All-weaker (λ (one : Cell). one.total + (added_sum (pairs ++ pair ∷ []) + more) ≤ most_total) (λ (one : Cell). one.total + (added_sum pairs + more) ≤ most_total) (λ one high. omega (arith, high, sum)) old.places.items room);
         adds = λ rows place p s u period before apart found is stands.
             let spot : Spot = record { period = period; row = place } in
@@ -116,8 +118,9 @@ module _ (samples : ℕ) where
       Changes mid new (sample_of pair.sidx) (Some (raised (cell_in (cells_of mid) (sample_of pair.sidx)) pair.loss)) → length new.places.items ≡ length mid.places.items →
       total_in (cell_in (cells_of mid) (sample_of pair.sidx)) + pair.loss ≤ most_total →
       ((more : ℕ) → All (λ one. one.total + (pair.loss + more) ≤ most_total) mid.places.items → All (λ one. one.total + more ≤ most_total) new.places.items) →
+      ((most : ℕ) → AreLow most mid.places.items → AreLow (most + pair.loss) new.places.items) →
       m + one_of (cell_in (cells_of mid) (sample_of pair.sidx)) ≡ n + 1 → Raises samples old new (pairs ++ pair ∷ []) m
-  raises_more old mid new pairs pair n m added low so_far changes len fit room_more opened_is =
+  raises_more old mid new pairs pair n m added low so_far changes len fit room_more totals_more opened_is =
       let sample : ℕ = sample_of pair.sidx in
       let was : Option Cell = cell_in (cells_of mid) sample in
       let some : 1 ≤ pair.loss = added_some pair added in
@@ -131,6 +134,7 @@ module _ (samples : ℕ) where
         fits = λ periods fits.
             let middle = so_far.fits periods fits in
             fits_changed periods samples sample mid new (Some (raised was pair.loss)) middle changes (raised_within samples sample pair.loss was (sample_within samples pair.sidx within) some fit (found_bounds samples sample (cells_of mid) middle.cells).1);
+        totals = λ most low. All-weaker (λ (one : Cell). one.total ≤ most + added_sum pairs + pair.loss) (λ (one : Cell). one.total ≤ most + added_sum (pairs ++ pair ∷ [])) (λ one high. omega (arith, high, sum)) new.places.items (totals_more (most + added_sum pairs) (so_far.totals most low));
         room = λ more room. room_more more (so_far.room (pair.loss + more) (All-weaker (λ (one : Cell). one.total + (added_sum (pairs ++ pair ∷ []) + more) ≤ most_total) (λ (one : Cell). one.total + (added_sum pairs + (pair.loss + more)) ≤ most_total) (λ one high. omega (arith, high, sum)) old.places.items room));
         adds = λ rows place p s u period before apart found is stands.
             let spot : Spot = record { period = period; row = place } in

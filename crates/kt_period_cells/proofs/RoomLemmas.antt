@@ -1,13 +1,14 @@
 -- Rows with room for the losses of a record, after one of them was added.
-use Rattle.std.proofs.Common.{◌≡◌, ℕ, zero, suc, ◌+◌, ◌*◌, ◌-◌, ◌<◌, ◌≤◌, List, [], ◌∷◌, length, get_or, set, take, arith, ap, ◌∙◌, subst, cond, add-mul, Some, None, Option}
-use Rattle.std.specs.Prelude.{Bool, true, false, nat_eq, All}
+use Rattle.std.proofs.Common.{◌≡◌, ℕ, zero, suc, ◌+◌, ◌*◌, ◌-◌, ◌<◌, ◌≤◌, List, [], ◌∷◌, length, get_or, set, take, arith, refl, ap, ◌∙◌, subst, cond, add-mul, Some, None, Option}
+use Rattle.std.specs.Prelude.{Bool, true, false, nat_eq, nat_le, min, All}
+use Rattle.std.proofs.lemmas.Bool.Decides.{nat_tests}
 use Rattle.std.proofs.lemmas.List.{take_more}
 use Rattle.std.proofs.lemmas.List.Elements.{All-get_or, All-set, All-push, All-weaker}
 use Rattle.kt_period_cells.specs.declared.cell.Cell.{Cell}
 use Rattle.kt_period_cells.specs.declared.row.Row.{Row}
 use Rattle.kt_period_cells.specs.declared.rows.Spot.{Spot}
 use Rattle.kt_period_cells.specs.Standing.{raised, total_in, maximum_in, most_total}
-use Rattle.kt_period_cells.specs.RowCells.{cells_of, cell_in, placed, CellFits}
+use Rattle.kt_period_cells.specs.RowCells.{AreLow, cells_of, cell_in, placed, CellFits}
 use Rattle.kt_period_cells.specs.SummaryRows.{row_at}
 use Rattle.kt_period_cells.specs.Room.{IsRoomy, IsRoomyAt, AreRoomy}
 use Rattle.kt_period_cells.proofs.PlacedCells.{some_cell, placed_cells, placed_get}
@@ -46,6 +47,12 @@ room_raised cs s loss more d c within low room =
     All-set (λ (one : Cell). one.total + more ≤ most_total) cs s c (omega (arith, low, All-get_or (λ (one : Cell). one.total + (loss + more) ≤ most_total) cs s d within room))
     (All-weaker (λ (one : Cell). one.total + (loss + more) ≤ most_total) (λ (one : Cell). one.total + more ≤ most_total) (λ one here. omega (arith, here)) cs room)
 
+-- and their bound
+pub totals_raised : (cs : List Cell) (s loss most : ℕ) (d c : Cell) → s < length cs → c.total ≤ (get_or cs s d).total + loss → AreLow most cs → AreLow (most + loss) (set cs s c)
+totals_raised cs s loss most d c within low bound =
+    All-set (λ (one : Cell). one.total ≤ most + loss) cs s c (omega (arith, low, All-get_or (λ (one : Cell). one.total ≤ most) cs s d within bound))
+    (All-weaker (λ (one : Cell). one.total ≤ most) (λ (one : Cell). one.total ≤ most + loss) (λ one here. omega (arith, here)) cs bound)
+
 -- what holds of the first ones and of one more
 pub all_take_more : {X : Type 0} (P : X → Type 0) (xs : List X) (i : ℕ) (d : X) → i < length xs → All P (take i xs) → P (get_or xs i d) → All P (take (i + 1) xs)
 all_take_more P xs i d within all here = rw (take_more xs i d within) (All-push P (take i xs) (get_or xs i d) all here)
@@ -61,6 +68,14 @@ roomy_within more (row ∷ rows) (suc i) room = omega (arith, roomy_within more 
 -- the row that was read
 pub roomy_row : (more : ℕ) (rows : List Row) (i : ℕ) (row : Row) → i < length rows → row ≡ get_or rows i row → IsRoomyAt more (row_at rows i) → IsRoomy more row
 roomy_row more rows i row within is room = subst (IsRoomyAt more) (row_is rows i row within is) room
+
+-- the lower of two bounds, of places whose totals have room for a sum
+pub low_sum : (cs : List Cell) (most sum : ℕ) → sum ≤ most_total → AreLow (most + sum) cs → All (λ one. one.total + 0 ≤ most_total) cs → AreLow (min most (most_total - sum) + sum) cs
+low_sum cs most sum few low room = by_test (nat_le most (most_total - sum)) refl
+  where
+    by_test : (b : Bool) → nat_le most (most_total - sum) ≡ b → AreLow (min most (most_total - sum) + sum) cs
+    by_test true lower = All-weaker (λ (one : Cell). one.total ≤ most + sum) (λ (one : Cell). one.total ≤ min most (most_total - sum) + sum) (λ one here. grind (arith, nat_tests, lower, here)) cs low
+    by_test false higher = All-weaker (λ (one : Cell). one.total + 0 ≤ most_total) (λ (one : Cell). one.total ≤ min most (most_total - sum) + sum) (λ one here. grind (arith, nat_tests, higher, here, few)) cs room
 
 -- room for less
 pub roomy_less : (more less : ℕ) → less ≤ more → (found : Option Row) → IsRoomyAt more found → IsRoomyAt less found

@@ -131,6 +131,10 @@ module _ (old new : Row) (s at : ℕ) (none : old.places.items ≡ []) (rising :
   pub listed_same : new.listed.items ≡ old.listed.items → cells_of new ≡ cells_of old
   listed_same items = behind ∙ items ∙ sym before
 
+-- what changes in a row with another bound changes in the row
+pub changes_bound : (old new : Row) (most s : ℕ) (cell : Option Cell) → Changes (record old { most = most }) new s cell → Changes old new s cell
+changes_bound old new most s cell changes = record { key = changes.key; wide = changes.wide; cells = changes.cells; count = changes.count; rising = changes.rising; fits = changes.fits }
+
 -- a row without a loss of a sample: its cell is taken out
 pub lowers_out : (old new : Row) (s loss greatest : ℕ) (here : Cell) → Some here ≡ cell_in (cells_of old) s → here.total ≤ loss → Changes old new s None → Lowers old new s loss greatest 1
 lowers_out old new s loss greatest here found low changes =

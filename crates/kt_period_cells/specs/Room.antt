@@ -8,7 +8,7 @@ use Rattle.kt_period_cells.specs.declared.row.Row.{Row}
 use Rattle.kt_period_cells.specs.declared.rows.Spot.{Spot}
 use Rattle.kt_period_cells.specs.Losses.{KeyLoss, is_added}
 use Rattle.kt_period_cells.specs.Standing.{Standing, most_total}
-use Rattle.kt_period_cells.specs.RowCells.{RowFits, cells_of}
+use Rattle.kt_period_cells.specs.RowCells.{AreLow, RowFits, cells_of}
 use Rattle.kt_period_cells.specs.Rows.{Apart, entries_of, place_of, row_for, row_keys, spot_losses}
 use Rattle.kt_period_cells.specs.SummaryRows.{row_at}
 
@@ -44,5 +44,6 @@ pub record Raises (samples : ℕ) (old new : Row) (pairs : List Pair) (opened : 
   pub count : length (cells_of new) ≡ length (cells_of old) + opened
   pub few : opened ≤ length pairs
   pub fits : (periods : ℕ) → RowFits periods samples old → RowFits periods samples new
+  pub totals : (most : ℕ) → AreLow most old.places.items → AreLow (most + added_sum pairs) new.places.items
   pub room : (more : ℕ) → All (λ one. one.total + (added_sum pairs + more) ≤ most_total) old.places.items → All (λ one. one.total + more ≤ most_total) new.places.items
   pub adds : AddsTo samples old pairs new

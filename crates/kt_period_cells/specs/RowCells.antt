@@ -62,6 +62,14 @@ pub record IsGap (cells : SampleCells) (sample place : ℕ) : Type 0 where
   pub lower : (j : ℕ) → j < place → sample_at cells j < sample
   pub higher : (j : ℕ) → place ≤ j → j < length cells → sample < sample_at cells j
 
+-- no total of places is above a bound
+abbrev pub AreLow : ℕ → List Cell → Type 0
+AreLow most places = All (λ one. one.total ≤ most) places
+
+-- no total of the places of a row is above the bound that it keeps
+abbrev pub HasBound : Row → Type 0
+HasBound row = AreLow row.most row.places.items
+
 -- a cell within the bounds
 pub record CellFits (samples : ℕ) (one : ℕ × Cell) : Type 0 where
   pub sample : one.0 ≤ samples

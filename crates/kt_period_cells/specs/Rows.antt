@@ -13,7 +13,7 @@ use Rattle.kt_period_cells.specs.declared.row.Row.{Row}
 use Rattle.kt_period_cells.specs.declared.rows.Spot.{Spot}
 use Rattle.kt_stream.specs.declared.entry.Pair.{Pair}
 use Rattle.kt_period_cells.specs.Losses.{KeyLoss, key_of, is_added}
-use Rattle.kt_period_cells.specs.RowCells.{RowFits, cells_of}
+use Rattle.kt_period_cells.specs.RowCells.{HasBound, RowFits, cells_of}
 
 -- the number of a perspective
 abbrev pub perspective_number : Perspective → ℕ
@@ -86,6 +86,7 @@ pub record IsTable (periods samples held : ℕ) (index : List (IndexKey × ℕ))
   pub some_samples : 1 ≤ samples
   pub few_samples : samples ≤ 1000
   pub fits : All (RowFits periods samples) rows
+  pub bounds : All HasBound rows
   pub found : (row : RowKey) → lookup (same_index (index_key row)) index ≡ place_of row (row_keys rows)
   pub apart : Apart (row_keys rows)
   pub count : held ≡ length (entries_of rows)

@@ -73,8 +73,8 @@ impl Cells {
             Err(_) => return Err(CellStop::OutOfMemory),
         };
         let struck = spots.as_slice();
-        if self.rows.has_room(pairs, struck) {
-            self.rows.add_within(pairs, struck);
+        if let Some(sum) = self.rows.sum_with_room(pairs, struck) {
+            self.rows.add_within(pairs, sum, struck);
             return Ok(());
         }
         // Some loss may pass a limit: the losses are noted, so that they can be taken back.

@@ -1,9 +1,11 @@
 //! A row of cells: what one summary has in one period.
 //! The rules: docs/CALCULATION.md, "Periods".
-ghost use Rattle.std.specs.Prelude.{◌≡◌, ◌+◌, ◌≤◌, [], IfOk, OnOk, OnErr, Some, None, true, is_some, length};
-ghost use Rattle.kt_period_cells.specs.RowCells.{IsRising, HasPlace, IsWide, Changes, Lowers, cell_in, cells_of, placed};
+ghost use Rattle.std.specs.Prelude.{◌≡◌, ◌⊎◌, ◌+◌, ◌≤◌, [], IfOk, OnOk, OnErr, Some, None, true, is_some, length};
+ghost use Rattle.kt_period_cells.specs.RowCells.{AreLow, HasBound, IsRising, HasPlace, IsWide, Changes, Lowers, cell_in, cells_of, placed};
+ghost use Rattle.kt_period_cells.specs.Standing.{most_total};
 
 use crate::cell::Cell;
+use crate::raising::MOST_TOTAL;
 use crate::row_key::RowKey;
 use kt_money::OutOfMemory;
 use std::alloc::Global;
@@ -27,6 +29,8 @@ pub(crate) struct Row {
     listed: Vec<(u32, Cell)>,
     /// The cells of all samples, where there are any: a total of 0 is no cell.
     places: Vec<Cell>,
+    /// A bound in cents: no total of the places is above it, so that most records have room without a look at the totals.
+    most: u64,
 }
 
 /// No cell.
@@ -52,6 +56,7 @@ fn no_cells(alloc: Global, samples: u32) -> Result<Vec<Cell>, OutOfMemory>
     requires { samples ≤ 1000 }
     ensures len { IfOk result (λ places. length places.items ≡ samples + 1) }
     ensures none { IfOk result (λ places. placed 0 places.items ≡ []) }
+    ensures low { IfOk result (λ places. AreLow 0 places.items) }
 {
     vec![in alloc; NO_CELL; samples as usize + 1]
 }
@@ -68,6 +73,7 @@ impl Row {
         ensures key { IfOk result (λ row. row.key ≡ key) }
         ensures cells { IfOk result (λ row. cells_of row ≡ []) }
         ensures wide { IfOk result (λ row. IsWide samples row.places.items) }
+        ensures bound { IfOk result HasBound }
     {
         let places = if wide {
             no_cells(alloc, samples)?
@@ -79,6 +85,7 @@ impl Row {
             next: 0,
             listed: Vec::new(alloc),
             places,
+            most: 0,
         })
     }
 
@@ -100,7 +107,9 @@ impl Row {
         requires some { 1 ≤ cell.total }
         ensures ok { OnOk result (Changes self.old self.new sample (Some cell)) }
         ensures err { OnErr result ((self.new.key ≡ self.old.key) × (self.new.places.items ≡ self.old.places.items) × (cells_of self.new ≡ cells_of self.old) × (cell_in (cells_of self.old) sample ≡ None)) }
+        ensures bound { self.new.most ≡ most_total }
     {
+        self.most = MOST_TOTAL;
         if self.places.is_empty() {
             return self.list(sample, cell);
         }
@@ -114,6 +123,7 @@ impl Row {
         requires rising { IsRising self.old.listed.items }
         ensures ok { OnOk result (Changes self.old self.new sample (Some cell)) }
         ensures err { OnErr result ((self.new.key ≡ self.old.key) × (self.new.places.items ≡ self.old.places.items) × (cells_of self.new ≡ cells_of self.old) × (cell_in (cells_of self.old) sample ≡ None)) }
+        ensures bound { self.new.most ≡ self.old.most }
     {
         match place(self.listed.as_slice(), self.next, sample) {
             Ok(at) => {
@@ -133,6 +143,7 @@ impl Row {
     fn take_out(&mut self, sample: u32)
         requires { IsRising (cells_of self.old) }
         ensures value { Changes self.old self.new sample None }
+        ensures bound { self.new.most ≡ self.old.most }
     {
         if self.places.is_empty() {
             self.unlist(sample);
@@ -149,6 +160,7 @@ impl Row {
         requires listed { self.old.places.items ≡ [] }
         requires rising { IsRising self.old.listed.items }
         ensures value { Changes self.old self.new sample None }
+        ensures bound { self.new.most ≡ self.old.most }
     {
         match place(self.listed.as_slice(), self.next, sample) {
             Ok(at) => {
@@ -164,6 +176,7 @@ impl Row {
         requires there { is_some (cell_in (cells_of self.old) sample) ≡ true }
         requires some { 1 ≤ cell.total }
         ensures value { Changes self.old self.new sample (Some cell) }
+        ensures bound { self.new.most ≡ self.old.most }
     {
         if self.places.is_empty() {
             self.list_back(sample, cell);
@@ -181,6 +194,7 @@ impl Row {
         requires rising { IsRising self.old.listed.items }
         requires there { is_some (cell_in self.old.listed.items sample) ≡ true }
         ensures value { Changes self.old self.new sample (Some cell) }
+        ensures bound { self.new.most ≡ self.old.most }
     {
         match place(self.listed.as_slice(), self.next, sample) {
             Ok(at) => {
@@ -195,11 +209,13 @@ impl Row {
     pub(crate) fn lower(&mut self, sample: u32, loss: u64, greatest: u64) -> usize
         requires { IsRising (cells_of self.old) }
         ensures value { Lowers self.old self.new sample loss greatest result }
+        ensures bound { (self.new ≡ self.old) ⊎ (self.new.most ≡ most_total) }
     {
         let cell = match self.cell(sample) {
             Some(cell) => cell,
             None => return 0,
         };
+        self.most = MOST_TOTAL;
         if cell.total <= loss {
             self.take_out(sample);
             return 1;

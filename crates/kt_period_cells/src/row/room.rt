@@ -2,7 +2,7 @@
 //! The rules: docs/CALCULATION.md, "Periods"; docs/LIMITS.md, "Cells".
 ghost use Rattle.std.specs.Prelude.{◌≡◌, ◌+◌, ◌<◌, ◌≤◌, ◌≤ℤ◌, ℕ, pos, All, Some, true, length};
 ghost use Rattle.kt_period_cells.specs.Standing.{most_total, raised};
-ghost use Rattle.kt_period_cells.specs.RowCells.{Changes, cell_in, cells_of, one_of};
+ghost use Rattle.kt_period_cells.specs.RowCells.{AreLow, Changes, HasBound, cell_in, cells_of, one_of};
 ghost use Rattle.kt_period_cells.specs.declared.row.Row.{Row};
 ghost use Rattle.kt_period_cells.specs.Room.{IsRoomy, Raises, added_sum};
 
@@ -14,7 +14,7 @@ use kt_stream::Pair;
 
 /// Whether the total of each place is at most this one.
 fn are_at_most(places: &[Cell], most: u64) -> bool
-    ensures value { result ≡ true → All (λ one. one.total ≤ most) places.now }
+    ensures value { result ≡ true → AreLow most places.now }
 {
     let mut is_above = false;
     for cell in places {
@@ -45,6 +45,7 @@ fn raise(places: &mut [Cell], sample: u32, loss: u64) -> Option<Cell>
     ensures before { (row : Row) → row.places.items ≡ places.old → result ≡ cell_in (cells_of row) sample }
     ensures len { length places.new ≡ length places.old }
     ensures room { (more : ℕ) → All (λ one. one.total + (loss + more) ≤ most_total) places.old → All (λ one. one.total + more ≤ most_total) places.new }
+    ensures totals { (most : ℕ) → AreLow most places.old → AreLow (most + loss) places.new }
 {
     let old = placed_cell(places, sample);
     let cell = raised(old, loss);
@@ -55,18 +56,24 @@ fn raise(places: &mut [Cell], sample: u32, loss: u64) -> Option<Cell>
 impl Row {
     /// Whether each sample has a place, and its total room for so much more.
     pub(crate) fn has_room(&self, more: u64) -> bool
-        requires { more ≤ most_total }
+        requires few { more ≤ most_total }
+        requires bound { HasBound self.now }
         ensures value { result ≡ true → IsRoomy more self.now }
     {
-        self.places.len() > 0 && are_at_most(self.places.as_slice(), MOST_TOTAL - more)
+        let most = MOST_TOTAL - more;
+        self.places.len() > 0 && (self.most <= most || are_at_most(self.places.as_slice(), most))
     }
 
-    /// Adds the losses of pairs to the cells of their samples, which have places and room for them. Returns how many cells are new.
-    pub(crate) fn raise_all(&mut self, pairs: &[Pair], samples: u32) -> usize
+    /// Adds the losses of pairs to the cells of their samples, which have places and room for them: losses of this sum. Returns how
+    /// many cells are new.
+    pub(crate) fn raise_all(&mut self, pairs: &[Pair], sum: u64, samples: u32) -> usize
+        requires sum { sum ≡ added_sum pairs.now }
+        requires few { sum ≤ most_total }
         requires places { length self.old.places.items ≡ samples + 1 }
         requires sidx { All (λ pair. pair.sidx ≤ℤ pos samples) pairs.now }
         requires room { All (λ one. one.total + added_sum pairs.now ≤ most_total) self.old.places.items }
         ensures value { Raises samples self.old self.new pairs.now result }
+        ensures bound { HasBound self.old → HasBound self.new }
     {
         let places = self.places.as_mut_slice();
         let mut opened = 0;
@@ -76,6 +83,7 @@ impl Row {
             }
             opened += new_cells(raise(places, pair_sample(pair), pair.loss));
         }
+        self.most = self.most.min(MOST_TOTAL - sum) + sum;
         opened
     }
 }

@@ -1,10 +1,12 @@
 //! A place for each sample in a row that lists its cells.
 //! The rules: docs/CALCULATION.md, "Periods".
-ghost use Rattle.std.specs.Prelude.{◌≡◌, ◌+◌, ◌≤◌, All, IfOk, length};
+ghost use Rattle.std.specs.Prelude.{◌≡◌, ◌⊎◌, ◌+◌, ◌≤◌, All, IfOk, length};
 ghost use Rattle.kt_period_cells.specs.RowCells.{IsRising, IsWide, CellFits, cells_of, placed};
+ghost use Rattle.kt_period_cells.specs.Standing.{most_total};
 
 use super::{Row, no_cells};
 use crate::cell::Cell;
+use crate::raising::MOST_TOTAL;
 use kt_money::OutOfMemory;
 use std::alloc::Global;
 
@@ -33,12 +35,14 @@ impl Row {
         ensures key { self.new.key ≡ self.old.key }
         ensures cells { cells_of self.new ≡ cells_of self.old }
         ensures wide { IsWide samples self.new.places.items }
+        ensures bound { (self.new ≡ self.old) ⊎ (self.new.most ≡ most_total) }
     {
         if !self.places.is_empty() {
             return Ok(());
         }
         self.places = places_of(alloc, self.listed.as_slice(), samples)?;
         self.listed = Vec::new(alloc);
+        self.most = MOST_TOTAL;
         Ok(())
     }
 }

@@ -40,16 +40,30 @@ fn added_loss(pair: &Pair) -> u128
     }
 }
 
+/// The sum of the losses that are added up, where it is at most the greatest total.
+fn small_sum(pairs: &[Pair]) -> Option<u64>
+    requires { All (λ pair. pair.loss ≤ 10 ^ 16) pairs.now }
+    ensures { IfSome result (λ sum. (sum ≡ added_sum pairs.now) × (sum ≤ most_total)) }
+{
+    let sum = added_sum(pairs);
+    if sum > u128::from(MOST_TOTAL) {
+        None
+    } else {
+        Some(sum as u64)
+    }
+}
+
 /// So many times a sum, where that is at most the greatest total.
-fn times_sum(count: usize, sum: u128) -> Option<u64>
+fn times_sum(count: usize, sum: u64) -> Option<u64>
+    requires { sum ≤ most_total }
     ensures { IfSome result (λ more. (more ≡ count * sum) × (more ≤ most_total)) }
 {
-    let most = u128::from(MOST_TOTAL);
-    if sum > most {
-        return None;
+    let more = count as u128 * u128::from(sum);
+    if more > u128::from(MOST_TOTAL) {
+        None
+    } else {
+        Some(more as u64)
     }
-    let more = count as u128 * sum;
-    if more > most { None } else { Some(more as u64) }
 }
 
 impl Rows {
@@ -81,22 +95,37 @@ impl Rows {
         true
     }
 
-    /// Whether no loss of the pairs can pass a limit in the rows at spots, and these have a place for each sample.
-    pub(crate) fn has_room(&self, pairs: &[Pair], spots: &[Spot]) -> bool
-        requires { All (λ pair. pair.loss ≤ 10 ^ 16) pairs.now }
-        ensures cells { result ≡ true → length (entries_of self.now.rows) + length spots.now * length pairs.now ≤ most_cells }
-        ensures totals { result ≡ true → AreRoomy (length spots.now * added_sum pairs.now) spots.now self.now.rows }
+    /// Whether the rows at spots have a place for each sample, and room for a sum in each of their cells as often as there are spots.
+    fn have_sum_room(&self, spots: &[Spot], sum: u64) -> bool
+        requires { sum ≤ most_total }
+        ensures value { result ≡ true → AreRoomy (length spots.now * sum) spots.now self.now.rows }
     {
-        match times_sum(spots.len(), added_sum(pairs)) {
-            Some(more) => {
-                self.has_cells_room(spots.len(), pairs.len()) && self.have_room(spots, more)
-            }
+        match times_sum(spots.len(), sum) {
+            Some(more) => self.have_room(spots, more),
             None => false,
         }
     }
 
-    /// Adds the losses of the pairs to the row at a spot, which has room for them.
-    fn add_spot(&mut self, pairs: &[Pair], spot: &Spot)
+    /// The sum of the losses of the pairs, where none of them can pass a limit in the rows at spots, and these have a place for each
+    /// sample.
+    pub(crate) fn sum_with_room(&self, pairs: &[Pair], spots: &[Spot]) -> Option<u64>
+        requires { All (λ pair. pair.loss ≤ 10 ^ 16) pairs.now }
+        ensures sum { IfSome result (λ sum. (sum ≡ added_sum pairs.now) × (sum ≤ most_total)) }
+        ensures cells { IfSome result (λ _. length (entries_of self.now.rows) + length spots.now * length pairs.now ≤ most_cells) }
+        ensures totals { IfSome result (λ sum. AreRoomy (length spots.now * sum) spots.now self.now.rows) }
+    {
+        match small_sum(pairs) {
+            Some(sum)
+                if self.has_cells_room(spots.len(), pairs.len())
+                    && self.have_sum_room(spots, sum) => Some(sum),
+            _ => None,
+        }
+    }
+
+    /// Adds the losses of the pairs, of this sum, to the row at a spot, which has room for them.
+    fn add_spot(&mut self, pairs: &[Pair], sum: u64, spot: &Spot)
+        requires sum { sum ≡ added_sum pairs.now }
+        requires low { sum ≤ most_total }
         requires sidx { All (λ pair. pair.sidx ≤ℤ pos self.old.samples) pairs.now }
         requires few { length (entries_of self.old.rows) + length pairs.now ≤ most_cells }
         requires room { IsRoomyAt (added_sum pairs.now) (row_at self.old.rows spot.now.row) }
@@ -106,7 +135,7 @@ impl Rows {
         ensures room { (more : ℕ) (spots : List Spot) → AreRoomy (added_sum pairs.now + more) spots self.old.rows → AreRoomy more spots self.new.rows }
         ensures step { (perspective : Perspective) (set summary : ℕ) (before : List KeyLoss) → IsSpot perspective set summary (row_keys self.old.rows) spot.now → Standing before (entries_of self.old.rows) → Standing (before ++ flat_map (spot_losses perspective set summary (spot.now ∷ [])) pairs.now) (entries_of self.new.rows) }
     {
-        let opened = self.rows[spot.row].raise_all(pairs, self.samples);
+        let opened = self.rows[spot.row].raise_all(pairs, sum, self.samples);
         self.held += opened;
     }
 
@@ -117,8 +146,10 @@ impl Rows {
         let _held = self.held;
     }
 
-    /// Adds the losses of the pairs to the rows at spots, which have room for them.
-    pub(crate) fn add_within(&mut self, pairs: &[Pair], spots: &[Spot])
+    /// Adds the losses of the pairs, of this sum, to the rows at spots, which have room for them.
+    pub(crate) fn add_within(&mut self, pairs: &[Pair], sum: u64, spots: &[Spot])
+        requires sum { sum ≡ added_sum pairs.now }
+        requires low { sum ≤ most_total }
         requires sidx { All (λ pair. pair.sidx ≤ℤ pos self.old.samples) pairs.now }
         requires few { length (entries_of self.old.rows) + length spots.now * length pairs.now ≤ most_cells }
         requires room { AreRoomy (length spots.now * added_sum pairs.now) spots.now self.old.rows }
@@ -126,7 +157,7 @@ impl Rows {
         ensures step { (perspective : Perspective) (set summary : ℕ) (before : List KeyLoss) → All (IsSpot perspective set summary (row_keys self.old.rows)) spots.now → Standing before (entries_of self.old.rows) → Clear before (flat_map (spot_losses perspective set summary spots.now) pairs.now) (entries_of self.new.rows) }
     {
         for spot in spots {
-            self.add_spot(pairs, spot);
+            self.add_spot(pairs, sum, spot);
         }
         self.keeps_totals();
     }

@@ -27,8 +27,8 @@ returns-clause-added c = λ history stands.
     let goes = rw (c.as_slice-pairs.ensures.value, c.as_slice-struck.ensures.value, same) at (c.in-Err-add_pairs.ensures.step (all_losses history) begins) in
     (goes.0, c.take_all_back.ensures.returned (all_losses history) goes.1)
 
-pub returns-then-has_room-clause-added : goal.returns-then-has_room-clause-added
-returns-then-has_room-clause-added c = λ history stands.
+pub returns-in-Some-clause-added : goal.returns-in-Some-clause-added
+returns-in-Some-clause-added c = λ history stands.
     let here = rw (← c.self.view_is) at stands in
     let begins : Standing (all_losses history) (entries_of c.spots.new.self.rows) = rw c.in-Ok.ensures.entries here in
     let same : flat_map (spot_losses c.args.perspective c.args.set c.args.entry.now.summary c.in-Ok.spots.items) c.args.entry.now.pairs ≡ flat_map (pair_losses c.args.perspective c.args.set c.args.entry.now.summary c.args.at.now) c.args.entry.now.pairs =

@@ -7,7 +7,7 @@ use Rattle.kt_period_cells.proofs.row.Row.list.Goals as goal
 pub returns-in_err-insert-in-Err-clause-err : goal.returns-in_err-insert-in-Err-clause-err
 returns-in_err-insert-in-Err-clause-err c =
     let gap = rw c.as_slice.ensures.value at c.in-Err.ensures.absent in
-    let after : Row = record { key = c.args.self.now.key; next = c.args.self.now.next; listed = c.insert.new.self; places = c.args.self.now.places } in
+    let after : Row = record { key = c.args.self.now.key; next = c.args.self.now.next; listed = c.insert.new.self; places = c.args.self.now.places; most = c.args.self.now.most } in
     on_err c.from_residual.result (refl, refl, listed_same c.args.self.now after c.args.sample c.in-Err.at c.requires.listed c.requires.rising refl refl c.in_err-insert-in-Err.ensures.items, listed_gap c.args.self.now c.args.self.now c.args.sample c.in-Err.at c.requires.listed c.requires.rising refl refl gap)
 
 pub returns-in-Ok-clause-ok : goal.returns-in-Ok-clause-ok

@@ -8,7 +8,7 @@ use Rattle.kt_period_cells.proofs.row.Row.list_back.Goals as goal
 pub returns-in-Ok : goal.returns-in-Ok
 returns-in-Ok c =
     let at = rw c.as_slice.ensures.value at c.in-Ok.ensures.found in
-    record { value = listed_set c.args.self.now _ c.args.sample c.in-Ok.at c.requires.listed c.requires.rising refl refl c.args.cell at refl }
+    record { value = listed_set c.args.self.now _ c.args.sample c.in-Ok.at c.requires.listed c.requires.rising refl refl c.args.cell at refl; bound = refl }
 
 pub returns-in-Err : goal.returns-in-Err
 returns-in-Err c =

@@ -8,7 +8,7 @@ use Rattle.kt_period_cells.proofs.row.Row.put_back.Goals as goal
 
 pub returns-then-at-len : goal.returns-then-at-len
 returns-then-at-len c =
-    record { value = changes_place c.args.self.now _ c.args.sample c.args.cell _ (omega (arith, c.if-at-len.true, c.len.ensures, c.args.self.now.places.ok.0)) refl refl (sym (some_cell_is c.args.cell c.requires.some)) }
+    record { value = changes_place c.args.self.now _ c.args.sample c.args.cell _ (omega (arith, c.if-at-len.true, c.len.ensures, c.args.self.now.places.ok.0)) refl refl (sym (some_cell_is c.args.cell c.requires.some)); bound = refl }
 
 pub returns-else-at-len : goal.returns-else-at-len
 returns-else-at-len c =

@@ -1,16 +1,18 @@
 -- The losses of one pair more.
-use Rattle.std.proofs.Common.{◌≡◌, ◌+◌, pos, List, length, take, get_or, arith, refl, sym, ap, subst, ◌∙◌, take_all}
-use Rattle.std.specs.Prelude.{true, ◌≤ℤ◌}
+use Rattle.std.proofs.Common.{◌≡◌, ◌+◌, ◌≤◌, pos, List, length, take, get_or, arith, refl, sym, ap, subst, ◌∙◌, take_all}
+use Rattle.std.specs.Prelude.{All, true, ◌≤ℤ◌}
 use Rattle.std.specs.Vec.{with_items}
 use Rattle.std.proofs.lemmas.List.{take_more, with_items_is}
-use Rattle.std.proofs.lemmas.List.Elements.{All-get_or}
+use Rattle.std.proofs.lemmas.List.Elements.{All-get_or, All-weaker}
 use Rattle.kt_stream.specs.declared.entry.Pair.{Pair}
 use Rattle.kt_period_cells.specs.declared.cell.Cell.{Cell}
 use Rattle.kt_period_cells.specs.declared.row.Row.{Row}
 use Rattle.kt_period_cells.specs.Amounts.{sample_of}
 use Rattle.kt_period_cells.specs.Losses.{is_added}
-use Rattle.kt_period_cells.specs.Room.{Raises}
+use Rattle.kt_period_cells.specs.Room.{Raises, added_sum}
 use Rattle.kt_period_cells.specs.RowCells.{cell_in, cells_of, one_of}
+use Rattle.kt_period_cells.specs.Standing.{most_total}
+use Rattle.kt_period_cells.proofs.RoomLemmas.{low_sum}
 use Rattle.kt_period_cells.proofs.RaisedRows.{raises_none, raises_passed, raises_more, room_left, total_left, added_place}
 use Rattle.kt_period_cells.proofs.row.Row.raise_all.Goals as goal
 
@@ -71,11 +73,17 @@ loop-pair-preserved c =
       few = omega (arith, c.loop-pair.invariant.few, c.new_cells-opened.ensures.value);
       raised = λ row key places. rw (take_more pairs i none c.loop-pair-test.true)
           (raises_more c.args.samples c.args.self.now mid row (take i pairs) pair c.loop-pair.opened (c.loop-pair.opened + c.new_cells-opened.result) added low now (rw c.pair_sample.ensures.value at (c.raise.ensures.value mid row here key places)) (ap length places ∙ c.raise.ensures.len ∙ sym (ap length here))
-          (total_left mid (sample_of pair.sidx) pair.loss place room) (λ more fits. rw places (c.raise.ensures.room more (rw here at fits))) opened);
+          (total_left mid (sample_of pair.sidx) pair.loss place room) (λ more fits. rw places (c.raise.ensures.room more (rw here at fits))) (λ most low. rw places (c.raise.ensures.totals most (rw here at low))) opened);
     }
 
 pub returns : goal.returns
 returns c =
     let now = c.loop-pair.invariant in
-    let last : Row = with_places c.args.self.now c.loop-pair.places in
-    record { value = subst (λ (pairs : List Pair). Raises c.args.samples c.args.self.now last pairs c.loop-pair.opened) (take_all c.loop-pair.pair-index c.args.pairs.now c.loop-pair-test.false) (now.raised last refl (has_places c.args.self.now c.loop-pair.places now.len)) }
+    let last : Row = record (with_places c.args.self.now c.loop-pair.places) { most = c.min.result + c.args.sum } in
+    let places = has_places c.args.self.now c.loop-pair.places now.len in
+    let raises : Raises c.args.samples c.args.self.now last c.args.pairs.now c.loop-pair.opened = subst (λ (pairs : List Pair). Raises c.args.samples c.args.self.now last pairs c.loop-pair.opened) (take_all c.loop-pair.pair-index c.args.pairs.now c.loop-pair-test.false) (now.raised last refl places) in
+    let room : All (λ one. one.total + (added_sum c.args.pairs.now + 0) ≤ most_total) c.args.self.now.places.items = All-weaker (λ (one : Cell). one.total + added_sum c.args.pairs.now ≤ most_total) (λ (one : Cell). one.total + (added_sum c.args.pairs.now + 0) ≤ most_total) (λ one high. omega (arith, high)) c.args.self.now.places.items c.requires.room in
+    record {
+      value = raises;
+      bound = λ bound. rw c.min.ensures (low_sum last.places.items c.args.self.now.most c.args.sum c.requires.few (rw (← c.requires.sum) at (raises.totals c.args.self.now.most bound)) (raises.room 0 room));
+    }

@@ -5,7 +5,7 @@ use Rattle.kt_period_cells.specs.declared.cell.Cell.{Cell}
 use Rattle.kt_period_cells.specs.Standing.{raised}
 use Rattle.kt_period_cells.specs.RowCells.{SampleCells, cells_of, cell_in, placed}
 use Rattle.kt_period_cells.proofs.PlacedCells.{changes_place, placed_cells, some_cell_is}
-use Rattle.kt_period_cells.proofs.RoomLemmas.{room_for, raised_low, room_raised}
+use Rattle.kt_period_cells.proofs.RoomLemmas.{room_for, raised_low, room_raised, totals_raised}
 use Rattle.kt_period_cells.proofs.row.room.raise.Goals as goal
 
 -- no cell
@@ -33,3 +33,8 @@ pub returns-clause-room : goal.returns-clause-room
 returns-clause-room c = λ more room.
     let low = raised_low c.args.places.now c.args.sample c.args.loss none c.raised-cell.result c.placed_cell-old.result c.requires.place (c.placed_cell-old.ensures.value) c.raised-cell.ensures.value in
     room_raised c.args.places.now c.args.sample c.args.loss more none c.raised-cell.result c.requires.place low room
+
+pub returns-clause-totals : goal.returns-clause-totals
+returns-clause-totals c = λ most bound.
+    let low = raised_low c.args.places.now c.args.sample c.args.loss none c.raised-cell.result c.placed_cell-old.result c.requires.place (c.placed_cell-old.ensures.value) c.raised-cell.ensures.value in
+    totals_raised c.args.places.now c.args.sample c.args.loss most none c.raised-cell.result c.requires.place low bound

@@ -4,7 +4,7 @@ use Rattle.kt_period_cells.specs.Room.{added_sum}
 use Rattle.kt_period_cells.proofs.Places.{keys_set}
 use Rattle.kt_period_cells.proofs.RaisedRows.{wide_length}
 use Rattle.kt_period_cells.proofs.RoomLemmas.{roomy_within, roomy_row, all_roomy_set}
-use Rattle.kt_period_cells.proofs.RowBounds.{table_row, table_set}
+use Rattle.kt_period_cells.proofs.RowBounds.{table_bound, table_row, table_set}
 use Rattle.kt_period_cells.proofs.Tables.{length_set}
 use Rattle.kt_period_cells.proofs.rows.Rows.add_spot.Goals as goal
 
@@ -43,7 +43,8 @@ invariant_of-self c =
     let within = roomy_within (added_sum c.args.pairs.now) c.self.inside.rows.items c.args.spot.now.row room in
     let fits = table_row _ _ _ _ c.self.inside.rows.items c.args.spot.now.row c.index_mut.result.now c.self.invariant within c.index_mut.ensures.value in
     let raises = c.raise_all-opened.ensures.value in
-    table_set _ _ _ _ _ c.self.inside.rows.items c.args.spot.now.row c.index_mut.result.now c.raise_all-opened.new.self c.self.invariant within c.index_mut.ensures.value raises.key (raises.fits c.self.inside.periods fits) (omega (arith, raises.count))
+    table_set _ _ _ _ _ c.self.inside.rows.items c.args.spot.now.row c.index_mut.result.now c.raise_all-opened.new.self c.self.invariant within c.index_mut.ensures.value raises.key (raises.fits c.self.inside.periods fits)
+    (c.raise_all-opened.ensures.bound (table_bound _ _ _ _ c.self.inside.rows.items c.args.spot.now.row c.index_mut.result.now c.self.invariant within c.index_mut.ensures.value)) (omega (arith, raises.count))
 
 pub returns-clause-rows : goal.returns-clause-rows
 returns-clause-rows c = rw (← c.self.view_is) (keys_set c.self.inside.rows.items c.args.spot.now.row c.index_mut.result.now c.raise_all-opened.new.self c.index_mut.ensures.value c.raise_all-opened.ensures.value.key)

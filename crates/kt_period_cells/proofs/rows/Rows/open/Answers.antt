@@ -17,7 +17,7 @@ invariant_of-self-in-Ok c =
     let found : (q : IndexKey) → lookup (same_index q) c.insert.new.self.entries ≡ cond (same_index (index_key c.args.key) q) (Some (length c.self.inside.rows.items)) (lookup (same_index q) c.self.inside.index.entries) =
     λ q. c.in-Ok.ensures.updates.0 q ∙ ap (λ (k : IndexKey). cond (same_index k q) (Some c.len-place.result) (lookup (same_index q) c.self.inside.index.entries)) c.index_key.ensures.value
     ∙ ap (λ n. cond (same_index (index_key c.args.key) q) (Some n) (lookup (same_index q) c.self.inside.index.entries)) (c.len-place.ensures ∙ c.self.inside.rows.ok.0) in
-    rw c.in_ok-push.ensures.items (table_push _ _ _ c.self.inside.index.entries c.insert.new.self.entries c.self.inside.rows.items c.args.key c.in_ok-row.row c.self.invariant missing c.requires.first last c.in_ok-row.ensures.key c.in_ok-row.ensures.cells c.in_ok-row.ensures.wide found)
+    rw c.in_ok-push.ensures.items (table_push _ _ _ c.self.inside.index.entries c.insert.new.self.entries c.self.inside.rows.items c.args.key c.in_ok-row.row c.self.invariant missing c.requires.first last c.in_ok-row.ensures.key c.in_ok-row.ensures.cells c.in_ok-row.ensures.wide c.in_ok-row.ensures.bound found)
 
 pub returns-in-Ok-clause-entries : goal.returns-in-Ok-clause-entries
 returns-in-Ok-clause-entries c = rw (← c.self.view_is, c.in_ok-push.ensures.items) (entries_push c.self.inside.rows.items c.in_ok-row.row c.in_ok-row.ensures.cells)

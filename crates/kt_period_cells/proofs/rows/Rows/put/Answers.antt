@@ -12,7 +12,7 @@ use Rattle.kt_period_cells.proofs.Steps.{put_step, put_stop, put_noted}
 use Rattle.kt_period_cells.proofs.OneRow.{row_same}
 use Rattle.kt_period_cells.proofs.Places.{placed_within, keys_set}
 use Rattle.kt_period_cells.proofs.Tables.{same_read, cells_changed, entries_same}
-use Rattle.kt_period_cells.proofs.RowBounds.{raised_fits, fits_changed, fits_same, table_set}
+use Rattle.kt_period_cells.proofs.RowBounds.{raised_fits, fits_bound, fits_changed, fits_same, table_set}
 use Rattle.kt_period_cells.proofs.PlacedCells.{wide_has}
 use Rattle.kt_period_cells.proofs.RowKeys.{sample_within}
 use Rattle.kt_period_cells.proofs.Puts.{row_of_key, count_put, held_put}
@@ -78,8 +78,8 @@ invariant_of-self c =
     let was : c.cell-old.result ≡ cell_in (cells_of c.index_mut.result.now) c.sample_of-sample.result = c.cell-old.ensures.value ∙ ap (λ (row : Row). cell_in (cells_of row) c.sample_of-sample.result) (sym same) in
     let changes : Changes c.index_mut.result.now c.set.new.self c.sample_of-sample.result (Some c.raised.result) = c.in-Ok-set.ensures.ok in
     let cell = raised_fits _ c.sample_of-sample.result c.args.key.sidx c.cell-old.result c.args.loss sidx c.sample_of-sample.ensures.value c.requires.some c.in-None.ensures.room (rw was here.greatest) in
-    table_set _ _ _ _ _ c.self.inside.rows.items c.args.row c.index_mut.result.now c.set.new.self c.self.invariant here.within c.index_mut.ensures.value changes.key
-    (fits_changed _ _ _ c.index_mut.result.now c.set.new.self (Some c.raised.result) here.fits changes (rw c.raised.ensures.value cell))
+    let fits = fits_changed _ _ _ c.index_mut.result.now c.set.new.self (Some c.raised.result) here.fits changes (rw c.raised.ensures.value cell) in
+    table_set _ _ _ _ _ c.self.inside.rows.items c.args.row c.index_mut.result.now c.set.new.self c.self.invariant here.within c.index_mut.ensures.value changes.key fits (fits_bound _ c.set.new.self fits.cells c.in-Ok-set.ensures.bound)
     (held_put c.self.inside.held c.held_with-self-inside.result c.sample_of-sample.result c.index_mut.result.now c.set.new.self c.raised.result c.cell-old.result changes was c.held_with-self-inside.ensures.value)
 
 pub returns-in-Ok-set-clause-rows : goal.returns-in-Ok-set-clause-rows
@@ -121,8 +121,9 @@ invariant_of-self-in-Err-set c =
     let sidx = rw (← c.self.view_is) at c.requires.sidx in
     let here = row_of_key _ _ _ _ _ c.self.inside.rows.items c.args.key c.args.row c.index_mut.result.now c.self.invariant found sidx c.sample_of-sample.ensures.value c.index_mut.ensures.value in
     let kept = c.in-Err-set.ensures.err in
-    table_set _ _ _ _ _ c.self.inside.rows.items c.args.row c.index_mut.result.now c.set.new.self c.self.invariant here.within c.index_mut.ensures.value kept.0
-    (fits_same _ _ c.index_mut.result.now c.set.new.self here.fits kept.0 kept.1 kept.2) (ap (λ (n : ℕ). c.self.inside.held + n) (ap length (sym kept.2)))
+    let fits = fits_same _ _ c.index_mut.result.now c.set.new.self here.fits kept.0 kept.1 kept.2 in
+    table_set _ _ _ _ _ c.self.inside.rows.items c.args.row c.index_mut.result.now c.set.new.self c.self.invariant here.within c.index_mut.ensures.value kept.0 fits (fits_bound _ c.set.new.self fits.cells c.in-Err-set.ensures.bound)
+    (ap (λ (n : ℕ). c.self.inside.held + n) (ap length (sym kept.2)))
 
 pub returns-clause-rows : goal.returns-clause-rows
 returns-clause-rows c =

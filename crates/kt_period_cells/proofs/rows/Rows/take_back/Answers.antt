@@ -1,7 +1,7 @@
 -- One loss taken back: the entries stand for one less, and the rows stay within their bounds.
 use Rattle.std.proofs.Common.{arith, sym, ◌∙◌}
 use Rattle.kt_period_cells.proofs.Places.{placed_within}
-use Rattle.kt_period_cells.proofs.RowBounds.{table_row, table_set}
+use Rattle.kt_period_cells.proofs.RowBounds.{bound_after, table_bound, table_row, table_set}
 use Rattle.kt_period_cells.proofs.TakenBack.{lowers_key, lowers_fits, row_length, lowers_stands, nowhere_stands}
 use Rattle.kt_period_cells.proofs.rows.Rows.take_back.Goals as goal
 
@@ -31,8 +31,10 @@ invariant_of-self c =
     let within = placed_within _ c.self.inside.rows.items c.in-Some.row found in
     let fits = table_row _ _ _ _ c.self.inside.rows.items c.in-Some.row c.index_mut.result.now c.self.invariant within c.index_mut.ensures.value in
     let lowers = c.lower-gone.ensures.value in
-    table_set _ _ _ _ _ c.self.inside.rows.items c.in-Some.row c.index_mut.result.now c.lower-gone.new.self c.self.invariant within c.index_mut.ensures.value (lowers_key _ _ _ _ _ _ lowers)
-    (lowers_fits _ _ _ _ _ _ _ _ c.requires fits lowers)
+    let after = lowers_fits _ _ _ _ _ _ _ _ c.requires fits lowers in
+    let bound = table_bound _ _ _ _ c.self.inside.rows.items c.in-Some.row c.index_mut.result.now c.self.invariant within c.index_mut.ensures.value in
+    table_set _ _ _ _ _ c.self.inside.rows.items c.in-Some.row c.index_mut.result.now c.lower-gone.new.self c.self.invariant within c.index_mut.ensures.value (lowers_key _ _ _ _ _ _ lowers) after
+    (bound_after _ c.index_mut.result.now c.lower-gone.new.self bound after.cells c.lower-gone.ensures.bound)
     (omega (arith, lowers.count, row_length c.self.inside.rows.items c.in-Some.row c.index_mut.result.now within c.index_mut.ensures.value, c.self.invariant.count))
 
 pub returns-in-Some-clause-taken : goal.returns-in-Some-clause-taken

@@ -6,7 +6,7 @@ use Rattle.kt_period_cells.proofs.rows.Rows.widen.Goals as goal
 
 pub invariant_of-self : goal.invariant_of-self
 invariant_of-self c =
-    table_widened _ _ _ _ c.self.inside.rows.items c.args.place c.index_mut.result.now c.widen.new.self c.self.invariant (omega (arith, c.if-place-len.false, c.len.ensures, c.self.inside.rows.ok.0)) c.index_mut.ensures.value c.widen.ensures.key c.widen.ensures.cells c.widen.ensures.wide
+    table_widened _ _ _ _ c.self.inside.rows.items c.args.place c.index_mut.result.now c.widen.new.self c.self.invariant (omega (arith, c.if-place-len.false, c.len.ensures, c.self.inside.rows.ok.0)) c.index_mut.ensures.value c.widen.ensures.key c.widen.ensures.cells c.widen.ensures.wide c.widen.ensures.bound
 
 pub returns-clause-entries : goal.returns-clause-entries
 returns-clause-entries c = rw (← c.self.view_is) (entries_widened c.self.inside.rows.items c.args.place c.index_mut.result.now c.widen.new.self c.index_mut.ensures.value c.widen.ensures.key c.widen.ensures.cells)
