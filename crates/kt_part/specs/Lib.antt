@@ -7,3 +7,4 @@ pub mod Arrivals
 pub mod Lanes
 pub mod Claimed
 pub mod Gathering
+pub mod Stepping
