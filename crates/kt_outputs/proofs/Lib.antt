@@ -1,4 +1,5 @@
 pub mod ListLemmas
+pub mod CallLemmas
 pub mod FileLemmas
 pub mod MidwayLemmas
 pub mod StepLemmas

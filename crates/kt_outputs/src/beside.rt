@@ -8,12 +8,13 @@ ghost use Rattle.kt_outputs.specs.Files.{Makes, files_with};
 ghost use Rattle.kt_outputs.specs.Names.{AreDistinct};
 ghost use Rattle.kt_outputs.specs.Texts.{text_of};
 
+use crate::calls::calls_beside;
 use crate::named::{Named, name_of};
 use crate::texts::Texts;
 use kt_money::{Bytes, OutOfMemory};
 use kt_out::{Fault, Outputs, append_all};
 use std::alloc::{AllocError, Global};
-use std::thread::{self, Threads};
+use std::thread::Threads;
 
 /// How many files a hand has at the most.
 const HAND: usize = 64;
@@ -82,7 +83,7 @@ fn hands_beside<R: Threads + Sync, F: Sync, T: Texts<F> + Sync>(
     ensures whole { IfOk result (λ made. AreWhole count hands made.items) }
     ensures value { IfOk result (λ made. (start : T.Start) → T.are_of start texts.now → AreHands (text_of T.pieces_of start texts.now) files.now first hands made.items) }
 {
-    thread::map_indices(
+    calls_beside(
         rt,
         alloc,
         hands,

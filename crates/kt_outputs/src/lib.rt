@@ -3,6 +3,7 @@
 
 mod appending;
 mod beside;
+mod calls;
 mod creating;
 mod named;
 mod spill;

@@ -1,0 +1,64 @@
+//! Calls that are made side by side, each in a thread of its own.
+ghost use Rattle.std.specs.Prelude.{ℕ, ◌+◌, ◌^◌, ◌<◌, ◌≤◌, ◌≡◌, IfOk, vec_len};
+ghost use Rattle.std.specs.Fork.{GivesEach};
+ghost use Rattle.std.specs.Fork.Halves.{GivesFrom};
+ghost use Rattle.std.specs.Thread.{IsSend, IsSync};
+
+use std::alloc::{AllocError, Global};
+use std::thread::{Threads, join};
+
+/// The calls of so many numbers from one on.
+#[cycle(calls)]
+fn calls_from<R: Threads + Sync, X: Send + Drop, F: Fn(usize) -> X + Sync>(
+    rt: &R,
+    alloc: Global,
+    from: usize,
+    count: usize,
+    call: &F,
+) -> Result<Vec<X>, AllocError>
+    requires count { 0 < count }
+    requires room { from + count < 2 ^ 64 }
+    requires accepts { (i : ℕ) → from ≤ i → i < from + count → F.pre call.now i }
+    ensures { IfOk result (λ made. GivesFrom F.Fn call.now from count made.items) }
+{
+    if count == 1 {
+        let mut one = Vec::new(alloc);
+        one.push(call(from))?;
+        return Ok(one);
+    }
+    let low = 1;
+    let high = count - low;
+    let up = from + low;
+    let first = move || -> Result<Vec<X>, AllocError>
+        requires { IsSync R.row × IsSync F.row × IsSend X.row × (0 < low) × (from + low < 2 ^ 64) × ((i : ℕ) → from ≤ i → i < from + low → F.pre call.now i) }
+        ensures { IfOk result (λ made. GivesFrom F.Fn call.entry.now from low made.items) }
+    { calls_from(rt, alloc, from, low, call) };
+    let others = move || -> Result<Vec<X>, AllocError>
+        requires { IsSync R.row × IsSync F.row × IsSend X.row × (0 < high) × (up + high < 2 ^ 64) × ((i : ℕ) → up ≤ i → i < up + high → F.pre call.now i) }
+        ensures { IfOk result (λ made. GivesFrom F.Fn call.entry.now up high made.items) }
+    { calls_from(rt, alloc, up, high, call) };
+    let (a, b) = join(rt, first, others);
+    let mut all = a?;
+    let mut rest = b?;
+    all.append(&mut rest)?;
+    Ok(all)
+}
+
+/// What the calls with the numbers below `count` answer, in their order, each in a thread of its own where one can be made. An error is
+/// want of memory. The calling thread makes all threads, one after the other, and makes the last call itself: a thread that a new
+/// one makes is often put beside it, while another processor stands idle.
+pub(crate) fn calls_beside<R: Threads + Sync, X: Send + Drop, F: Fn(usize) -> X + Sync>(
+    rt: &R,
+    alloc: Global,
+    count: usize,
+    call: &F,
+) -> Result<Vec<X>, AllocError>
+    requires { (i : ℕ) → i < count → F.pre call.now i }
+    ensures len { IfOk result (λ made. vec_len made ≡ count) }
+    ensures each { IfOk result (λ made. GivesEach F.Fn call.now count made.items) }
+{
+    if count == 0 {
+        return Ok(Vec::new(alloc));
+    }
+    calls_from(rt, alloc, 0, count, call)
+}
