@@ -3,7 +3,7 @@ ghost use Rattle.std.specs.Prelude.{◌≡◌, ◌<◌, nat_eq, IfOk};
 ghost use Rattle.std.specs.HashSet.{contains};
 ghost use Rattle.kt_rec.specs.Rows.{rows_of};
 ghost use Rattle.kt_keys.specs.FirstRow.{first_where};
-ghost use Rattle.kt_keys.specs.Keys.{same_pair};
+ghost use Rattle.kt_keys.specs.Keys.{programme_of, same_pair};
 ghost use Rattle.kt_keys.specs.Refusals.{over_stages};
 ghost use Rattle.kt_checks.specs.ProgrammeChecks.{inputs_of, has_sources, is_rootless, rootless_at, source_check};
 
@@ -67,6 +67,20 @@ fn inputs_of(alloc: Global, tables: &Tables, stage: u32) -> Result<Vec<u32>, All
     }
 }
 
+/// The first row of the programme of the base, at 0, or of a stage that takes losses from what has none. A programme without rows
+/// takes no memory.
+fn first_source(alloc: Global, tables: &Tables, stage: u32) -> Result<Option<u64>, AllocError>
+    requires { stage < 10 }
+    ensures value { IfOk result (λ row. row ≡ rootless_at (inputs_of (rows_of tables.now) stage) (programme_of (rows_of tables.now) stage)) }
+{
+    let programme = programme(tables, stage);
+    if programme.is_empty() {
+        return Ok(None);
+    }
+    let inputs = inputs_of(alloc, tables, stage)?;
+    rootless_at(alloc, &inputs, programme)
+}
+
 /// Whether the programme is loaded, and the table that its losses are of.
 fn has_sources(need: &Need, stage: u32) -> bool
     requires { stage < 10 }
@@ -90,8 +104,7 @@ fn source_check(
     requires { stage < 10 }
     ensures value { IfOk result (λ found. found ≡ source_check (rows_of tables.now) need.now stage) }
 {
-    let inputs = inputs_of(alloc, tables, stage)?;
-    let row = rootless_at(alloc, &inputs, programme(tables, stage))?;
+    let row = first_source(alloc, tables, stage)?;
     let made = has_sources(need, stage);
     Ok(Refusal::of(
         11,

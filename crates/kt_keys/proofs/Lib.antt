@@ -1,4 +1,3 @@
 pub mod FirstRowLemmas
 pub mod RisingLemmas
-pub mod LookupLemmas
 pub mod RefusalLemmas

@@ -1,5 +1,6 @@
 //! The first row of a list that repeats a key, has an unknown key, or makes a sum too large.
-ghost use Rattle.std.specs.Prelude.{◌≡◌, ℕ, not, true, None, IfOk};
+ghost use Rattle.std.specs.Prelude.{◌≡◌, ℕ, nat_eq, not, true, None, IfOk};
+ghost use Rattle.std.specs.List.{list_any};
 ghost use Rattle.std.specs.HashSet.{contains, IsFromIterResult};
 ghost use Rattle.std.specs.HashMap.{get};
 ghost use Rattle.std.specs.Map.{lookup};
@@ -70,16 +71,43 @@ fn first_outside<K: Copy + Eq + Hash + Drop>(known: &HashSet<K>, keys: &[K]) -> 
     None
 }
 
-/// The first row, counted from 1, whose key is not among the known ones.
-pub(crate) fn first_unknown<K: Copy + Eq + Hash + Drop>(
-    alloc: Global,
-    known: &[K],
-    keys: &[K],
-) -> Result<Option<u64>, AllocError>
-    ensures value { IfOk result (λ row. row ≡ unknown_at K.eq known.now keys.now) }
+/// Whether an id is the one that stands among known ones where it would if these rose by one from row to row.
+#[inline]
+fn is_in_place(known: &[u32], first: u32, id: u32) -> bool
+    ensures known { result ≡ true → list_any (nat_eq id) known.now ≡ true }
 {
+    let place = id.wrapping_sub(first) as usize;
+    place < known.len() && known[place] == id
+}
+
+/// Whether each id stands among known ones where it would if these rose by one from row to row, as ids mostly do: then none is
+/// unknown, and no memory was taken.
+fn are_in_place(known: &[u32], ids: &[u32]) -> bool
+    ensures known { result ≡ true → first_where (λ id. not (list_any (nat_eq id) known.now)) ids.now ≡ None }
+{
+    let first = known.first().copied().unwrap_or(0);
+    for id in ids {
+        if !is_in_place(known, first, *id) {
+            return false;
+        }
+    }
+    true
+}
+
+/// The first row, counted from 1, whose id is not among the known ones.
+#[tactic(auto, unfolding(crate::specs::FirstRow::unknown_at))]
+pub(crate) fn first_unknown(
+    alloc: Global,
+    known: &[u32],
+    ids: &[u32],
+) -> Result<Option<u64>, AllocError>
+    ensures value { IfOk result (λ row. row ≡ unknown_at nat_eq known.now ids.now) }
+{
+    if are_in_place(known, ids) {
+        return Ok(None);
+    }
     let known = set_of(alloc, known)?;
-    Ok(first_outside(&known, keys))
+    Ok(first_outside(&known, ids))
 }
 
 /// The first row, counted from 1, at which what its key has so far adds to more than `most`.
@@ -110,12 +138,13 @@ pub fn first_values<K: Copy + Eq + Hash + Drop, V: Copy + Drop>(
 ) -> Result<HashMap<K, V>, AllocError>
     ensures value { IfOk result (λ values. (key : K) → get K.eq values key ≡ lookup (K.eq key) pairs.now) }
 {
-    let mut values: HashMap<K, V> = HashMap::new(alloc);
-    for pair in pairs {
-        let (key, value) = *pair;
-        if !values.contains_key(&key) {
-            values.insert(key, value)?;
-        }
+    let mut values: HashMap<K, V> = HashMap::with_capacity(alloc, pairs.len())?;
+    // From the last row to the first, so that the value of the first row stays.
+    let mut place = pairs.len();
+    while place > 0 {
+        place -= 1;
+        let pair = pairs[place];
+        values.insert(pair.0, pair.1)?;
     }
     Ok(values)
 }

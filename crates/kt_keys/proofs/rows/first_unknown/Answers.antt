@@ -5,6 +5,6 @@ use Rattle.kt_keys.proofs.rows.first_unknown.Goals as goal
 
 pub returns : goal.returns
 unfolding unknown_at
-returns g c = record {
-  value = c.first_outside.ensures.value ∙ ap (λ known. first_where (λ key. not (known key)) c.args.keys.now) (fun_ext (c.in_ok-known.ensures.value.0));
+returns c = record {
+  value = c.first_outside.ensures.value ∙ ap (λ known. first_where (λ id. not (known id)) c.args.ids.now) (fun_ext (c.in_ok-known.ensures.value.0));
 }
