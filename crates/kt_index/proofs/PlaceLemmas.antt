@@ -31,19 +31,16 @@ module _ {X : Type 0} (key : X → ℕ) (rows : List X) (rising : IsNonDecreasin
     λ k d least under. let next = here d in let up = rising place k d least under in not_lower (key (get_or rows k d)) low (omega arith),
   )
 
-  -- no row is up to a greatest, where the first is above it
-  pub upto_none : (top : ℕ) → ((d : X) → 0 < length rows → top < key (get_or rows 0 d)) → IsUpto key rows top 0
-  upto_none top first = (
-    λ k d least under. absurd (omega arith),
-    λ k d least under. let next = first d (omega arith) in let up = rising 0 k d (omega arith) under in not_upto (key (get_or rows k d)) top (omega arith),
+  -- rows are up to a greatest, where the last of them is, and the row behind them is above it
+  pub upto_at : (top count : ℕ) → ((d : X) → 0 < count → key (get_or rows (count - 1) d) ≤ top) → ((d : X) → count < length rows → top < key (get_or rows count d)) → count ≤ length rows → IsUpto key rows top count
+  upto_at top count last next within = (
+    λ k d least under. let here = last d (omega arith) in let up = rising k (count - 1) d (omega arith) (omega arith) in is_upto (key (get_or rows k d)) top (omega arith),
+    λ k d least under. let here = next d (omega arith) in let up = rising count k d least under in not_upto (key (get_or rows k d)) top (omega arith),
   )
 
   -- one row is, where the next is above it
   pub upto_one : (top : ℕ) → ((d : X) → key (get_or rows 0 d) ≤ top) → ((d : X) → 1 < length rows → top < key (get_or rows 1 d)) → 0 < length rows → IsUpto key rows top 1
-  upto_one top first second some = (
-    λ k d least under. let next = first d in let up = rising k 0 d (omega arith) (omega arith) in is_upto (key (get_or rows k d)) top (omega arith),
-    λ k d least under. let next = second d (omega arith) in let up = rising 1 k d (omega arith) under in not_upto (key (get_or rows k d)) top (omega arith),
-  )
+  upto_one top first second some = upto_at top 1 (λ d under. first d) second (omega arith)
 
 -- rows up to a greatest behind those below a least
 pub upto_behind : {X : Type 0} (key : X → ℕ) (rows : List X) (low top start found : ℕ) → low ≤ top → start ≤ length rows → IsBelow key rows low start → IsUpto key (drop start rows) top found → IsUpto key rows top (start + found)

@@ -107,6 +107,18 @@ pub fn rows_between<T: Keyed>(rows: &[T], low: u64, top: u64) -> &[T]
     between(rows, start, end)
 }
 
+/// The rows of a key among rows by rising key, none where it has none. They are looked for first at the place from which the last
+/// ones stand, which is then the place of these.
+pub fn rows_near<'a, T: Keyed>(rows: &'a [T], key: u64, near: &mut usize) -> &'a [T]
+    requires { IsNonDecreasingBy T.key_of rows.now }
+    ensures value { result.now ≡ filter (λ row. nat_eq (T.key_of row) key) rows.now }
+{
+    let start = start_near(rows, key, *near);
+    *near = start;
+    let end = start + rows_in_front(&rows[start..], key);
+    between(rows, start, end)
+}
+
 /// A copy of rows.
 fn copy_of<T: Copy + Drop>(alloc: Global, rows: &[T]) -> Result<Vec<T>, AllocError>
     ensures value { IfOk result (λ copy. copy.items ≡ rows.now) }
@@ -123,6 +135,31 @@ fn ends<T: Keyed>(rows: &[T], low: u64, top: u64) -> (usize, usize)
     let start = rows_below(rows, low);
     let found = rows_upto(&rows[start..], top);
     (start, start + found)
+}
+
+/// How many rows have a key below one, where that may be so many.
+fn start_near<T: Keyed>(rows: &[T], low: u64, near: usize) -> usize
+    requires rising { IsNonDecreasingBy T.key_of rows.now }
+    ensures within { result ≤ length rows.now }
+    ensures value { IsBelow T.key_of rows.now low result }
+{
+    if is_start(rows, low, near) {
+        return near;
+    }
+    rows_below(rows, low)
+}
+
+/// How many rows have a key up to a greatest, counted one by one: for few rows.
+fn rows_in_front<T: Keyed>(rows: &[T], top: u64) -> usize
+    requires rising { IsNonDecreasingBy T.key_of rows.now }
+    ensures within { result ≤ length rows.now }
+    ensures value { IsUpto T.key_of rows.now top result }
+{
+    let mut count = 0;
+    while count < rows.len() && rows[count].key() <= top {
+        count += 1;
+    }
+    count
 }
 
 /// How many rows have a key below one. Where keys rise by one from row to row, as ids mostly do, that is known from the first.

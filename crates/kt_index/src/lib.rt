@@ -5,6 +5,6 @@ mod by_key;
 mod exposure;
 mod keys;
 
-pub use by_key::{ByKey, Keyed, is_by_key, rows_between, rows_of};
+pub use by_key::{ByKey, Keyed, is_by_key, rows_between, rows_near, rows_of};
 pub use exposure::{SummaryUnit, UnitCoverage, exposures};
 pub use keys::pair_key;

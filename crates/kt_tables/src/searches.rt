@@ -17,7 +17,7 @@ use crate::place::Place;
 use crate::portfolio::Portfolio;
 use crate::set::SetSummaries;
 use crate::summaries::{Summaries, first_summary};
-use kt_index::{pair_key, rows_between, rows_of};
+use kt_index::{pair_key, rows_between, rows_near};
 use kt_rec::{DamageBin, Item, Occurrence, Perspective, Vulnerability};
 use std::collections::HashMap;
 
@@ -78,27 +78,29 @@ impl Portfolio {
         &self.tables.damage_bin_dict
     }
 
-    /// The damage of a vulnerability: its rows by rising intensity, those of one intensity in table order.
-    pub fn damages_of(&self, vulnerability: u32) -> &[Vulnerability]
-        ensures rising { IsNonDecreasingBy damage_key result.now }
-        ensures value { (intensity : ℕ) → intensity < 2 ^ 32 → filter (λ row. nat_eq (damage_key row) (vulnerability * 2 ^ 32 + intensity)) result.now ≡ damages_at self.now.rows vulnerability intensity }
-    {
-        let low = pair_key(vulnerability, 0);
-        let top = pair_key(vulnerability, u32::MAX);
-        match &self.lookups.hazard.damages {
-            Some(sorted) => rows_between(sorted.as_slice(), low, top),
-            None => rows_between(&self.tables.vulnerability, low, top),
-        }
-    }
-
     /// The damage of a vulnerability at an intensity: its rows in table order, none where it has none.
     pub fn damages(&self, vulnerability: u32, intensity: u32) -> &[Vulnerability]
         ensures value { result.now ≡ damages_at self.now.rows vulnerability intensity }
     {
-        rows_of(
-            self.damages_of(vulnerability),
-            pair_key(vulnerability, intensity),
-        )
+        let mut near = 0;
+        self.damages_near(vulnerability, intensity, &mut near)
+    }
+
+    /// The damage of a vulnerability at an intensity, as `damages` has it. It is looked for first at a place, which is then that of
+    /// its first row: with the place of the last search for the same damage it is found at once.
+    pub fn damages_near<'a>(
+        &'a self,
+        vulnerability: u32,
+        intensity: u32,
+        near: &mut usize,
+    ) -> &'a [Vulnerability]
+        ensures value { result.now ≡ damages_at self.now.rows vulnerability intensity }
+    {
+        let key = pair_key(vulnerability, intensity);
+        match &self.lookups.hazard.damages {
+            Some(sorted) => rows_near(sorted.as_slice(), key, near),
+            None => rows_near(&self.tables.vulnerability, key, near),
+        }
     }
 
     /// The insured value of a coverage in cents, 0 where it is unknown.
