@@ -2,8 +2,9 @@ pub mod ChanceLemmas
 pub mod AddLemmas
 pub mod BinLemmas
 pub mod RecordLemmas
-mod SeenLemmas
-mod JudgeLemmas
+pub mod SeenLemmas
+pub mod JudgeLemmas
+pub mod RisingLemmas
 mod Worked
 pub mod PairLemmas
 pub mod TotalLemmas

@@ -1,3 +1,4 @@
 pub mod Distribution
 pub mod Scratch
+pub mod Rising
 pub mod Seen

@@ -1,15 +1,14 @@
 //! The bins of one distribution.
 //! The rules: docs/CALCULATION.md, "Damage distribution".
-ghost use Rattle.std.specs.Prelude.{◌≡◌, ℕ, ◌-◌, ◌<◌, ◌≤◌, length, slice_index, slice_index_or, All, IfOk};
+ghost use Rattle.std.specs.Prelude.{◌≡◌, ℕ, ◌-◌, ◌<◌, ◌≤◌, length, slice_index, slice_index_or, OnOk};
 ghost use Rattle.std.specs.List.{sum};
 ghost use Rattle.kt_rec.specs.declared.hazard.DamageBin.{DamageBin};
-ghost use Rattle.kt_stream.specs.Bins.{AreBins};
 ghost use Rattle.kt_model.specs.Distribution.{bins_behind};
 ghost use Rattle.kt_model.specs.Scratch.{AreChances};
 
 use kt_rec::DamageBin;
 use kt_stream::{Bin, Bins};
-use std::alloc::{AllocError, Global};
+use std::alloc::AllocError;
 
 /// How many bins there are up to the last whose chance is above 0.
 fn count_of(chances: &[u64]) -> usize
@@ -24,20 +23,18 @@ fn count_of(chances: &[u64]) -> usize
     count
 }
 
-/// The bins of a distribution with these chances.
-pub(crate) fn bins_of(
-    alloc: Global,
+/// Puts the bins of a distribution with these chances in place of others.
+pub(crate) fn make_bins(
     chances: &[u64],
     dictionary: &[DamageBin],
-) -> Result<Bins, AllocError>
+    bins: &mut Bins,
+) -> Result<(), AllocError>
     requires same { length chances.now ≡ length dictionary.now }
     requires fits { sum chances.now ≤ 1002001000000 }
-    requires means { All (λ row. row.interpolation ≤ 1000000) dictionary.now }
-    ensures value { (chance : ℕ → ℕ) → AreChances chance chances.now dictionary.now → IfOk result (λ bins. bins ≡ bins_behind chance 0 dictionary.now) }
-    ensures fits { (chance : ℕ → ℕ) → AreChances chance chances.now dictionary.now → IfOk result (λ bins. AreBins 0 bins × (length bins ≤ length dictionary.now)) }
+    ensures value { (chance : ℕ → ℕ) → AreChances chance chances.now dictionary.now → OnOk result (bins.new ≡ bins_behind chance 0 dictionary.now) }
 {
     let count = count_of(chances);
-    let mut bins = Vec::with_capacity(alloc, count)?;
+    bins.truncate(0);
     let mut before = 0;
     for place in 0..count {
         before += chances[place];
@@ -46,5 +43,5 @@ pub(crate) fn bins_of(
             mean: dictionary[place].interpolation,
         })?;
     }
-    Ok(Bins::from_vec(bins))
+    Ok(())
 }

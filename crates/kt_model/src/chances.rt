@@ -8,18 +8,9 @@ ghost use Rattle.kt_tables.specs.DamageLaws.{KeepsDamage};
 ghost use Rattle.kt_tables.specs.Lookups.{damages_at};
 ghost use Rattle.kt_model.specs.Scratch.{chance_at, chance_in};
 
-use kt_index::{pair_key, rows_of};
+use crate::scratch::PLACES;
 use kt_rec::{FootRow, Vulnerability};
 use kt_tables::Portfolio;
-use std::alloc::{AllocError, Global};
-
-/// The chances of so many bins, all 0.
-pub(crate) fn no_chances(alloc: Global, bins: usize) -> Result<Vec<u64>, AllocError>
-    ensures bins { IfOk result (λ chances. length chances.items ≡ bins) }
-    ensures none { IfOk result (λ chances. sum chances.items ≡ 0) }
-{
-    vec![in alloc; 0u64; bins]
-}
 
 /// Sets all chances to 0.
 pub(crate) fn clear(chances: &mut [u64])
@@ -42,18 +33,18 @@ fn add_damages(chances: &mut [u64], damages: &[Vulnerability], prob: u32)
     }
 }
 
-/// The damage at an intensity, of all damage of a vulnerability.
-fn damages_in(damages: &[Vulnerability], vulnerability: u32, intensity: u32) -> &[Vulnerability]
-    requires rising { IsNonDecreasingBy damage_key damages.now }
-    ensures value { result.now ≡ filter (λ row. nat_eq (damage_key row) (vulnerability * 2 ^ 32 + intensity)) damages.now }
-    ensures short { intensity < 2 ^ 32 }
+/// Where to keep the place of the damage of a vulnerability at an intensity. No contract speaks of the places kept there: what is
+/// found at one is tested.
+fn slot_of(vulnerability: u32, intensity: u32) -> usize
+    ensures { result < 512 }
 {
-    rows_of(damages, pair_key(vulnerability, intensity))
+    (vulnerability as usize * 32 + intensity as usize) % PLACES
 }
 
 /// Adds the damage of a vulnerability in the rows of one areaperil to chances that are all 0.
 pub(crate) fn add_rows(
     chances: &mut [u64],
+    places: &mut [usize],
     portfolio: &Portfolio,
     rows: &[FootRow],
     vulnerability: u32,
@@ -61,13 +52,16 @@ pub(crate) fn add_rows(
     requires kept { KeepsDamage portfolio.now.rows }
     requires bins { length chances.old ≡ length portfolio.now.rows.damage_bin_dict }
     requires none { sum chances.old ≡ 0 }
+    requires places { length places.old ≡ 512 }
     requires within { sum_by (λ row. row.prob) rows.now ≤ 1001000 }
     ensures each { (bin : ℕ) → bin < length chances.old → slice_index chances.new bin ≡ chance_in portfolio.now.rows rows.now vulnerability (bin + 1) }
     ensures total { sum chances.new ≤ 1002001000000 }
 {
-    let damages = portfolio.damages_of(vulnerability);
     for row in rows {
-        let here = damages_in(damages, vulnerability, row.intensity);
+        let slot = slot_of(vulnerability, row.intensity);
+        let mut place = places[slot];
+        let here = portfolio.damages_near(vulnerability, row.intensity, &mut place);
+        places[slot] = place;
         add_damages(chances, here, row.prob);
     }
 }

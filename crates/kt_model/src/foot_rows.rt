@@ -6,12 +6,13 @@ ghost use Rattle.kt_model.specs.Seen.{IsSeen};
 ghost use Rattle.kt_rec.specs.declared.foot_rows.ModelStop.TheVariants.{OutOfMemory};
 ghost use Rattle.kt_rec.specs.declared.hazard.FootRow.{FootRow};
 
+use crate::rising_rows::rise_unrefused;
 use kt_rec::{FootRow, ModelStop, RowCause};
 use std::alloc::{AllocError, Global};
 use std::collections::{HashMap, HashSet};
 
 /// Why the fields of a row are refused.
-fn field_cause(row: &FootRow) -> Option<RowCause>
+pub(crate) fn field_cause(row: &FootRow) -> Option<RowCause>
     ensures value { result ≡ field_cause row.now }
 {
     if row.areaperil < 1 || row.areaperil > 2_147_483_647 {
@@ -65,8 +66,8 @@ impl Seen {
     }
 }
 
-/// Judges the rows of an event's footprint: the first that is refused, with its cause, or want of memory.
-pub fn check_rows(alloc: Global, rows: &[FootRow]) -> Result<(), ModelStop>
+/// The first row that is refused, with its cause, or want of memory.
+fn check_each(alloc: Global, rows: &[FootRow]) -> Result<(), ModelStop>
     ensures ok { OnOk result (first_refused_row rows.now ≡ None) }
     ensures within { OnOk result ((areaperil : ℕ) → areaperil_total rows.now areaperil ≤ 1001000) }
 
@@ -82,4 +83,18 @@ pub fn check_rows(alloc: Global, rows: &[FootRow]) -> Result<(), ModelStop>
         }
     }
     Ok(())
+}
+
+/// Judges the rows of an event's footprint: the first that is refused, with its cause, or want of memory. Rows by rising areaperil
+/// and then intensity are judged without memory.
+pub fn check_rows(alloc: Global, rows: &[FootRow]) -> Result<(), ModelStop>
+    ensures ok { OnOk result (first_refused_row rows.now ≡ None) }
+    ensures within { OnOk result ((areaperil : ℕ) → areaperil_total rows.now areaperil ≤ 1001000) }
+
+    ensures refused { IfErr result (λ stop. (first_refused_row rows.now ≡ Some stop) ⊎ (stop ≡ OutOfMemory)) }
+{
+    if rise_unrefused(rows) {
+        return Ok(());
+    }
+    check_each(alloc, rows)
 }

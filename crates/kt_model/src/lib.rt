@@ -4,11 +4,15 @@
 mod bins;
 mod chances;
 mod event;
+mod exit;
 mod foot_rows;
 pub mod laws;
 mod pairs;
+mod rising_rows;
+mod scratch;
 mod shared;
 
-pub use event::distributions;
+pub use event::{distributions, put_distributions};
 pub use foot_rows::check_rows;
 pub use kt_rec::{ModelStop, RowCause};
+pub use scratch::Scratch;

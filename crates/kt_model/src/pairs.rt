@@ -27,8 +27,16 @@ fn from_place(pairs: &[(u32, u32)], place: usize) -> &[(u32, u32)]
     &pairs[place..]
 }
 
+/// Whether the pair at a place has the areaperil of the one before it.
+fn is_of_last(pairs: &[(u32, u32)], place: usize) -> bool
+    requires { place < length pairs.now }
+{
+    place > 0 && pairs[place].0 == pairs[place - 1].0
+}
+
 /// The place of the first pair, from a place on, whose areaperil has a row; the number of pairs where there is none. Both stand
-/// by rising areaperil.
+/// by rising areaperil, and the pair before the place, where there is one, has a row. No contract speaks of that: of a pair that
+/// has no row, too, the distribution is right.
 pub(crate) fn next_struck(pairs: &[(u32, u32)], rows: &[FootRow], place: usize) -> usize
     requires within { place ≤ length pairs.now }
     requires pairs_rise { IsNonDecreasingBy (λ pair. pair.0) pairs.now }
@@ -37,7 +45,7 @@ pub(crate) fn next_struck(pairs: &[(u32, u32)], rows: &[FootRow], place: usize) 
     ensures within { result ≤ length pairs.now }
     ensures passed { (k : ℕ) (d : ℕ × ℕ) → place ≤ k → k < result → HasNone rows.now (slice_index_or pairs.now k d).0 }
 {
-    if place == pairs.len() {
+    if place == pairs.len() || is_of_last(pairs, place) {
         return place;
     }
     let Some(next) = next_areaperil(rows, pairs[place].0) else {

@@ -1,10 +1,12 @@
 //! The public types may be sent to threads and shared by them.
+use crate::scratch::Scratch;
 use kt_stream::{Cdf, Records};
 
 /// Takes what may be sent to threads and shared by them.
 fn is_shared<T: Send + Sync>(_: &T) {}
 
 /// Each public type once.
-pub(crate) fn are_shared(records: &Records<Cdf>) {
+pub(crate) fn are_shared(records: &Records<Cdf>, scratch: &Scratch) {
     is_shared(records);
+    is_shared(scratch);
 }

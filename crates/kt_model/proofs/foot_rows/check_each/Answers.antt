@@ -3,7 +3,7 @@ use Rattle.std.proofs.lemmas.List.{get_or_default}
 use Rattle.kt_rec.specs.declared.hazard.FootRow.{FootRow}
 use Rattle.kt_model.specs.Seen.{IsSeen}
 use Rattle.kt_model.proofs.JudgeLemmas.{seen_to, passes_on, refuses_at}
-use Rattle.kt_model.proofs.foot_rows.check_rows.Goals as goal
+use Rattle.kt_model.proofs.foot_rows.check_each.Goals as goal
 
 pub loop-index-preserved : goal.loop-index-preserved
 loop-index-preserved c =
