@@ -1,7 +1,6 @@
 //! The tool that makes the damage distributions of the events of a stream.
 //! The rules: docs/COMMANDS.md, "getmodel".
-ghost use Rattle.std.specs.Prelude.{◌≡◌, ◌++◌, true, OnOk, IfErr};
-ghost use Rattle.std.specs.List.{flat_map};
+ghost use Rattle.std.specs.Prelude.{◌≡◌, true, IfErr};
 ghost use Rattle.kt_ends.specs.Ending.{ToolEnds};
 ghost use Rattle.kt_ends.specs.Stops.{end_status};
 ghost use Rattle.kt_ends.specs.World.{world};
@@ -9,7 +8,6 @@ ghost use Rattle.kt_keys.specs.Refusals.{is_loaded};
 ghost use Rattle.kt_loop.specs.Steps.{StepsBy};
 ghost use Rattle.kt_out.specs.OutputFiles.{OutputsState};
 ghost use Rattle.kt_rec.specs.declared.table.Table.TheVariants as table;
-ghost use Rattle.kt_stream.specs.Bins.{cdf_bytes};
 ghost use Rattle.kt_front.specs.ModelOutcome.{ModelTables, model_outcome, rows_step};
 ghost use Rattle.kt_front.specs.ModelStage.{IsModelReady, IsRowStop, model_stop as stop_of_model};
 ghost use Rattle.kt_loop.specs.Running.{stream_uses};
@@ -19,23 +17,13 @@ use kt_ends::{Refusal, ToolStop};
 use kt_load::foot_rows;
 use kt_loop::laws::what_is_read_can_be_taken;
 use kt_loop::{Stage, run_stage};
-use kt_model::{ModelStop, distributions};
-use kt_money::{Bytes, OutOfMemory};
+use kt_model::{ModelStop, Scratch, put_distributions};
+use kt_money::Bytes;
 use kt_out::{Inputs, Sink, Source};
 use kt_rec::FootRow;
-use kt_stream::{Cdf, EventId, EventReader, Head, Placed, StreamKind, put_cdf, put_head};
+use kt_stream::{EventId, EventReader, Head, Placed, StreamKind, put_head};
 use kt_tables::Portfolio;
 use std::alloc::Global;
-
-/// Appends distributions, one after the other.
-fn put_cdfs(out: &mut Bytes, records: &[Cdf]) -> Result<(), OutOfMemory>
-    ensures { OnOk result (out.new ≡ out.old ++ flat_map cdf_bytes records.now) }
-{
-    for record in records {
-        put_cdf(out, record)?;
-    }
-    Ok(())
-}
 
 /// How the tool ends where the distributions of an event were not made.
 fn model_stop(event: u32, stop: ModelStop) -> ToolStop
@@ -53,17 +41,15 @@ fn put_event(
     portfolio: &Portfolio,
     event: u32,
     rows: &[FootRow],
+    scratch: &mut Scratch,
     out: &mut Bytes,
 ) -> Result<(), ToolStop>
     requires loaded { is_loaded portfolio.now.need 0 table.DamageBinDict ≡ true }
     ensures step { (made : ModelTables) → portfolio.now.rows ≡ made.rows → StepsBy (rows_step made event rows.now) (λ next. next ≡ made) out.old out.new result }
     ensures stops { IfErr result IsRowStop }
 {
-    match distributions(alloc, portfolio, event, rows) {
-        Ok(records) => {
-            put_cdfs(out, records.as_slice())?;
-            Ok(())
-        }
+    match put_distributions(alloc, portfolio, event, rows, scratch, out) {
+        Ok(()) => Ok(()),
         Err(stop) => Err(model_stop(event, stop)),
     }
 }
@@ -73,6 +59,7 @@ fn put_event(
 struct Distributions<'a> {
     alloc: Global,
     portfolio: &'a Portfolio,
+    scratch: Scratch,
 }
 
 impl<'a, I: Inputs> Stage<Head, EventId, I> for Distributions<'a> {
@@ -115,7 +102,14 @@ impl<'a, I: Inputs> Stage<Head, EventId, I> for Distributions<'a> {
     ) -> Result<(), ToolStop> {
         let event = placed.entry.event;
         match foot_rows(self.alloc, inputs, self.portfolio, event) {
-            Ok(rows) => put_event(self.alloc, self.portfolio, event, rows.as_slice(), out),
+            Ok(rows) => put_event(
+                self.alloc,
+                self.portfolio,
+                event,
+                rows.as_slice(),
+                &mut self.scratch,
+                out,
+            ),
             Err(stop) => Err(load_stop(stop)),
         }
     }
@@ -139,6 +133,10 @@ pub fn write_distributions<I: Inputs, S: Source, K: Sink>(
 {
     what_is_read_can_be_taken::<EventId>();
     let mut reader = EventReader::new(alloc);
-    let mut stage = Distributions { alloc, portfolio };
+    let mut stage = Distributions {
+        alloc,
+        portfolio,
+        scratch: Scratch::new(alloc),
+    };
     run_stage(alloc, &mut reader, &mut stage, inputs, source, sink)
 }
