@@ -1,5 +1,7 @@
 pub mod AnswerLemmas
 pub mod ItemLemmas
+pub mod PairsMadeLemmas
+pub mod PairSetLemmas
 pub mod ExposureLemmas
 pub mod DamageLemmas
 pub mod SummaryLemmas

@@ -6,4 +6,5 @@ pub mod DamageLaws
 pub mod SummaryLaws
 pub mod PeriodLaws
 pub mod PairLaws
+pub mod PairsMade
 pub mod SetRows

@@ -1,14 +1,16 @@
 //! The lookups of items.
-ghost use Rattle.std.specs.Prelude.{◌≡◌, true, IfOk};
+ghost use Rattle.std.specs.Prelude.{◌≡◌, ◌<◌, ◌^◌, true, false, IfOk, OnOk};
+ghost use Rattle.std.specs.BTreeSet.{insert_key};
 ghost use Rattle.std.specs.List.Sorted.{IsPermutation, IsNonDecreasingBy};
 ghost use Rattle.kt_rec.specs.Rows.{rows_of};
-ghost use Rattle.kt_tables.specs.Lookups.{item_pairs};
-ghost use Rattle.kt_tables.specs.Kept.{AreById, AreItemLookups};
+ghost use Rattle.kt_tables.specs.Lookups.{item_pairs, pair_order};
+ghost use Rattle.kt_tables.specs.Kept.{AreById, AreItemLookups, item_key};
+ghost use Rattle.kt_tables.specs.PairLaws.{ArePairsRising};
+ghost use Rattle.kt_tables.specs.PairsMade.{ArePairsUpto, IsLastPair, IsNotLastPair};
 
 use kt_index::ByKey;
 use kt_rec::{Item, Tables};
 use std::alloc::{AllocError, Global};
-use std::collections::BTreeSet;
 
 /// The lookups of items.
 #[derive(Drop)]
@@ -64,23 +66,46 @@ fn by_id(alloc: Global, items: &[Item]) -> Result<Option<Vec<Item>>, AllocError>
     Ok(Some(sorted))
 }
 
-/// The pairs of areaperil and vulnerability that some item has, in order.
-fn pair_set(alloc: Global, items: &[Item]) -> Result<BTreeSet<(u32, u32)>, AllocError>
-    ensures value { IfOk result (λ pairs. pairs.keys ≡ item_pairs items.now) }
+/// Whether the last of pairs is this one.
+fn is_last(pairs: &[(u32, u32)], pair: (u32, u32)) -> bool
+    ensures same { result ≡ true → IsLastPair pairs.now pair }
+    ensures other { result ≡ false → IsNotLastPair pairs.now pair }
 {
-    let mut pairs: BTreeSet<(u32, u32)> = BTreeSet::new(alloc);
-    for row in items {
-        pairs.insert((row.areaperil_id, row.vulnerability_id))?;
+    match pairs.last() {
+        Some(last) => last.0 == pair.0 && last.1 == pair.1,
+        None => false,
     }
-    Ok(pairs)
 }
 
-/// The pairs of areaperil and vulnerability that some item has, each once, rising.
+/// Puts the pair of an areaperil and a vulnerability behind rising ones, of which none is above it, unless it is the last of them.
+fn push_pair(
+    pairs: &mut Vec<(u32, u32)>,
+    areaperil: u32,
+    vulnerability: u32,
+) -> Result<(), AllocError>
+    requires rising { ArePairsRising pairs.old.items }
+    requires upto { ArePairsUpto (areaperil, vulnerability) pairs.old.items }
+    ensures value { OnOk result (pairs.new.items ≡ insert_key pair_order pairs.old.items (areaperil, vulnerability)) }
+    ensures short { vulnerability < 2 ^ 32 }
+{
+    let pair = (areaperil, vulnerability);
+    if is_last(pairs, pair) {
+        return Ok(());
+    }
+    pairs.push(pair)?;
+    Ok(())
+}
+
+/// The pairs of areaperil and vulnerability of items that stand in the order of these, each once, rising.
 fn pairs(alloc: Global, items: &[Item]) -> Result<Vec<(u32, u32)>, AllocError>
+    requires rising { IsNonDecreasingBy item_key items.now }
     ensures value { IfOk result (λ pairs. pairs.items ≡ item_pairs items.now) }
 {
-    let pairs = pair_set(alloc, items)?;
-    pairs.iter().copied().collect(alloc)
+    let mut pairs: Vec<(u32, u32)> = Vec::new(alloc);
+    for row in items {
+        push_pair(&mut pairs, row.areaperil_id, row.vulnerability_id)?;
+    }
+    Ok(pairs)
 }
 
 impl ItemLookups {
@@ -88,10 +113,11 @@ impl ItemLookups {
     pub(crate) fn new(alloc: Global, tables: &Tables) -> Result<ItemLookups, AllocError>
         ensures value { IfOk result (AreItemLookups (rows_of tables.now)) }
     {
+        let by_pair = ByKey::new(alloc, &tables.items)?;
         Ok(ItemLookups {
             by_id: by_id(alloc, &tables.items)?,
-            pairs: pairs(alloc, &tables.items)?,
-            by_pair: ByKey::new(alloc, &tables.items)?,
+            pairs: pairs(alloc, by_pair.as_slice())?,
+            by_pair,
         })
     }
 }
