@@ -1,12 +1,12 @@
 -- The bins of a distribution, as far as a loop has come, and that they are such as a stream may have.
-use Rattle.std.proofs.Common.{◌≡◌, ℕ, ◌+◌, ◌-◌, ◌<◌, ◌≤◌, Bool, true, false, cond, List, [], ◌∷◌, ◌++◌, length, get_or, drop, map, refl, ap, sym, subst, ◌∙◌, nat_eq, arith, append-nil, append_assoc}
+use Rattle.std.proofs.Common.{◌≡◌, ℕ, ◌+◌, ◌-◌, ◌<◌, ◌≤◌, Bool, true, false, cond, List, [], ◌∷◌, ◌++◌, length, get_or, drop, refl, ap, sym, subst, ◌∙◌, nat_eq, arith, append-nil, append_assoc}
 use Rattle.std.specs.Prelude.{All}
-use Rattle.std.specs.List.{sum, sum_by}
+use Rattle.std.specs.List.{sum_by}
 use Rattle.std.proofs.lemmas.Bool.{eqb-true}
 use Rattle.std.proofs.lemmas.Bool.Decides.{nat_tests}
-use Rattle.std.proofs.lemmas.List.{drop_more, get_or-drop, get_or-map, get_or_default, length-drop, length-map, same_lists}
+use Rattle.std.proofs.lemmas.List.{drop_more, get_or-drop, length-drop}
 use Rattle.std.proofs.lemmas.List.Elements.{All-head, All-tail}
-use Rattle.std.proofs.lemmas.List.Sums.{get_or-le-sum_by, sum-map, sum_by-le, sum_by-cons}
+use Rattle.std.proofs.lemmas.List.Sums.{get_or-le-sum_by, sum_by-le, sum_by-cons}
 use Rattle.kt_rec.specs.declared.hazard.DamageBin.{DamageBin}
 use Rattle.kt_stream.specs.declared.entry.Bin.{Bin}
 use Rattle.kt_stream.specs.Bins.{AreBins, lowest}
@@ -65,15 +65,6 @@ module _ (chance : ℕ → ℕ) where
         ∙ (ap (λ n. bins ++ (record { prob_to = before + n; mean = (get_or rows k none).interpolation } ∷ bins_behind chance (before + n) (drop (k + 1) rows))) (sym here)
         ∙ (ap (λ rest. bins ++ rest) (sym (ap (bins_behind chance before) split ∙ bins_some before (get_or rows k none) (drop (k + 1) rows) (subst (λ list. 0 < sum_by of_row list) split (some_behind k last order within some))))
         ∙ was))
-
-    -- the chances together are those of the dictionary's rows
-    pub sum_is : sum_by of_row rows ≡ sum chances
-    sum_is =
-        sym (sum-map of_row rows)
-        ∙ ap sum (same_lists (map of_row rows) chances (length-map rows of_row ∙ sym same) (λ k d below. get_or-map of_row rows k none d (short k below) ∙ (are k none (short k below) ∙ get_or_default chances k 0 d (subst (λ n. k < n) (sym same) (short k below)))))
-      where
-        short : (k : ℕ) → k < length (map of_row rows) → k < length rows
-        short k below = subst (λ n. k < n) (length-map rows of_row) below
 
     -- no bin behind the last chance
     pub bins_done : (bins all : List Bin) (count before : ℕ) → ((k : ℕ) → count ≤ k → get_or chances k 0 ≡ 0) → bins ++ bins_behind chance before (drop count rows) ≡ all → bins ≡ all

@@ -43,10 +43,6 @@ module _ (rows : List FootRow) (row : FootRow) where
   total_here : areaperil_total (rows ++ row ∷ []) row.areaperil ≡ areaperil_total rows row.areaperil + row.prob
   total_here = sum_by_push (λ x. cond (nat_eq x.areaperil row.areaperil) x.prob 0) rows row ∙ ap (λ b. areaperil_total rows row.areaperil + cond b row.prob 0) (eq_refl row.areaperil)
 
-  -- a row whose fields are fine, that stands once, and whose areaperil does not add to too much
-  pub cause_fine : field_cause row ≡ None → list_any (is_at row.areaperil row.intensity) rows ≡ false → (total : ℕ) → total ≡ areaperil_total rows row.areaperil + row.prob → total ≤ 1001000 → row_cause rows row ≡ None
-  cause_fine fields once total sum h = cause_is (field_cause row) (list_any (is_at row.areaperil row.intensity) rows) (nat_lt 1001000 (areaperil_total (rows ++ row ∷ []) row.areaperil)) false false fields once (ap (nat_lt 1001000) (total_here ∙ sym sum) ∙ le-ltb _ _ h)
-
   module _ (old : Seen) (is : IsSeen rows old) (fields : field_cause row ≡ None) (added : Bool) (asked : added ≡ not (contains same_pair old.pairs (row.areaperil, row.intensity))) where
     -- a row that stands twice
     pub cause_twice : added ≡ false → Some cause.Twice ≡ row_cause rows row

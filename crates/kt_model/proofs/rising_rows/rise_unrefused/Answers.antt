@@ -1,13 +1,9 @@
-use Rattle.std.proofs.Common.{List, refl, subst, get_or, take}
+use Rattle.std.proofs.Common.{List, subst, get_or, take}
 use Rattle.std.proofs.lemmas.List.{get_or_default}
 use Rattle.kt_rec.specs.declared.hazard.FootRow.{FootRow}
 use Rattle.kt_model.specs.Rising.{IsReached}
 use Rattle.kt_model.proofs.JudgeLemmas.{seen_to, passes_on}
-use Rattle.kt_model.proofs.RisingLemmas.{reached_none}
 use Rattle.kt_model.proofs.rising_rows.rise_unrefused.Goals as goal
-
-pub loop-row-init : goal.loop-row-init
-loop-row-init c = record { reached = reached_none _ refl; first = refl }
 
 pub loop-row-preserved : goal.loop-row-preserved
 loop-row-preserved c =
