@@ -35,14 +35,14 @@ struct Seen {
 }
 
 impl Seen {
-    /// Nothing was seen.
-    fn new(alloc: Global) -> Seen
-        ensures value { IsSeen [] result }
+    /// Nothing was seen, with room for so many rows.
+    fn new(alloc: Global, rows: usize) -> Result<Seen, AllocError>
+        ensures value { IfOk result (IsSeen []) }
     {
-        Seen {
-            pairs: HashSet::new(alloc),
-            totals: HashMap::new(alloc),
-        }
+        Ok(Seen {
+            pairs: HashSet::with_capacity(alloc, rows)?,
+            totals: HashMap::with_capacity(alloc, rows)?,
+        })
     }
 
     /// Sees one more row, and says why it is refused behind those seen so far.
@@ -73,7 +73,7 @@ fn check_each(alloc: Global, rows: &[FootRow]) -> Result<(), ModelStop>
 
     ensures refused { IfErr result (λ stop. (first_refused_row rows.now ≡ Some stop) ⊎ (stop ≡ OutOfMemory)) }
 {
-    let mut seen = Seen::new(alloc);
+    let mut seen = Seen::new(alloc, rows.len())?;
     for (index, row) in rows.iter().enumerate() {
         if let Some(cause) = seen.see(row)? {
             return Err(ModelStop::Row {
