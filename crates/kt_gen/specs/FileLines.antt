@@ -1,13 +1,10 @@
 -- What a run of a generated set shows of its output files: a line for each.
 -- The rules: docs/GENERATOR.md, "What is shown of a run".
-use Rattle.std.specs.Prelude.{ℕ, ◌==◌, List, [], ◌∷◌, ◌++◌, length, count_by, Option, None, Some}
+use Rattle.std.specs.Prelude.{ℕ, List, [], ◌∷◌, ◌++◌, length, Option, None, Some}
 use Rattle.std.specs.List.{flat_map}
+use Rattle.kt_counted.specs.Counts.{line_count}
 use Rattle.kt_money.specs.NumberText.{count_text}
 use Rattle.kt_out.specs.NamedFiles.{FileMap}
-
--- how many lines a text has: how often it has the byte LF
-abbrev pub line_count : List ℕ → ℕ
-line_count text = count_by (λ byte. byte == 10) text
 
 -- the line of a file: its name, how many lines it has and how many bytes, with blanks between
 abbrev pub file_line : List ℕ → List ℕ → List ℕ

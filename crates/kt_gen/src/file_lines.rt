@@ -1,31 +1,25 @@
 //! What a run of a generated set shows of its output files: a line for each.
 //! The rules: docs/GENERATOR.md, "What is shown of a run".
-ghost use Rattle.std.specs.Prelude.{◌≡◌, ◌++◌, OnOk, map};
+ghost use Rattle.std.specs.Prelude.{◌≡◌, ◌++◌, List, ℕ, OnOk, map};
+ghost use Rattle.kt_counted.specs.Counts.{counts_of};
 ghost use Rattle.kt_out.specs.NamedFiles.{bytes_of};
-ghost use Rattle.kt_gen.specs.FileLines.{file_line, file_lines, line_count, line_of};
+ghost use Rattle.kt_gen.specs.FileLines.{file_line, file_lines, line_of};
 
+use kt_counted::{CountedOutputs, Counts};
 use kt_money::{Bytes, OutOfMemory, push_count};
-use kt_out::SureOutputs;
 use kt_outputs::Named;
 use kt_rec::Name;
 use std::alloc::Global;
 
-/// How many lines a text has.
-fn line_count(text: &[u8]) -> usize
-    ensures { result ≡ line_count text.now }
-{
-    text.iter().filter(|byte| **byte == b'\n').count()
-}
-
-/// Appends the line of a file. An error is want of memory.
-fn push_file_line(out: &mut Bytes, name: &[u8], text: &[u8]) -> Result<(), OutOfMemory>
-    ensures { OnOk result (out.new ≡ out.old ++ file_line name.now text.now) }
+/// Appends the line of a file with these counts. An error is want of memory.
+fn push_file_line(out: &mut Bytes, name: &[u8], counts: Counts) -> Result<(), OutOfMemory>
+    ensures { (text : List ℕ) → counts ≡ counts_of text → OnOk result (out.new ≡ out.old ++ file_line name.now text) }
 {
     out.append(name)?;
     out.push(b' ')?;
-    push_count(out, line_count(text) as u64)?;
+    push_count(out, counts.lines)?;
     out.push(b' ')?;
-    push_count(out, text.len() as u64)?;
+    push_count(out, counts.bytes)?;
     out.push(b'\n')
 }
 
@@ -34,14 +28,14 @@ fn push_line_of<F: Named>(
     alloc: Global,
     out: &mut Bytes,
     file: &F,
-    outputs: &SureOutputs,
+    outputs: &CountedOutputs,
 ) -> Result<(), OutOfMemory>
     ensures { OnOk result (out.new ≡ out.old ++ line_of (F.name file.now) (bytes_of outputs.now (F.name file.now))) }
 {
     let mut name = Name::new(alloc);
     file.push_name(&mut name)?;
-    match outputs.get(name.as_slice()) {
-        Some(text) => push_file_line(out, name.as_slice(), text),
+    match outputs.counts(name.as_slice()) {
+        Some(counts) => push_file_line(out, name.as_slice(), counts),
         None => Ok(()),
     }
 }
@@ -52,7 +46,7 @@ pub fn push_file_lines<F: Named>(
     alloc: Global,
     out: &mut Bytes,
     files: &[F],
-    outputs: &SureOutputs,
+    outputs: &CountedOutputs,
 ) -> Result<(), OutOfMemory>
     ensures ok { OnOk result (out.new ≡ out.old ++ file_lines (bytes_of outputs.now) (map F.name files.now)) }
 {

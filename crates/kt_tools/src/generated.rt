@@ -18,6 +18,7 @@ ghost use Rattle.kt_words.specs.Command.{IsGen};
 ghost use Rattle.kt_words.specs.declared.command.Command.TheVariants as Command;
 
 use kt_chain::{ChainOptions, run_chain};
+use kt_counted::CountedOutputs;
 use kt_ends::{ToolStop, write_stop};
 use kt_event::{Terms, chain_need};
 use kt_files::laws::names_are_distinct;
@@ -26,7 +27,7 @@ use kt_front::load_stop;
 use kt_gen::{generate, made_files_are_shown, push_file_lines};
 use kt_load::load;
 use kt_money::Bytes;
-use kt_out::{Gate, Sink, SureInputs, SureOutputs, write_all};
+use kt_out::{Gate, Sink, SureInputs, write_all};
 use kt_rec::Perspective;
 use kt_tables::Portfolio;
 use std::alloc::Global;
@@ -57,7 +58,7 @@ fn run_loaded<R: Threads + Sync, G: Gate + Sync>(
     workers: u32,
     portfolio: &Portfolio,
     inputs: &mut SureInputs,
-    outputs: &mut SureOutputs,
+    outputs: &mut CountedOutputs,
 ) -> Result<Vec<OutputFile>, ToolStop>
     requires some { 1 ≤ workers }
     requires few { workers ≤ 16 }
@@ -88,7 +89,7 @@ fn load_set_and_run<R: Threads + Sync, G: Gate + Sync>(
     alloc: Global,
     workers: u32,
     inputs: &mut SureInputs,
-    outputs: &mut SureOutputs,
+    outputs: &mut CountedOutputs,
 ) -> Result<Vec<OutputFile>, ToolStop>
     requires some { 1 ≤ workers }
     requires few { workers ≤ 16 }
@@ -111,7 +112,7 @@ fn run_generated<R: Threads + Sync, G: Gate + Sync>(
     items: u32,
     events: u32,
     workers: u32,
-    outputs: &mut SureOutputs,
+    outputs: &mut CountedOutputs,
 ) -> Result<Vec<OutputFile>, ToolStop>
     requires set { IsGen items events workers }
     requires none { outputs.old ≡ [] }
@@ -137,7 +138,7 @@ pub(crate) fn write_generated<R: Threads + Sync, G: Gate + Sync, K: Sink>(
     // The source and the files are none of its objects: whatever they hold and have counted stays so.
     ensures { (inputs : InputsState) (outputs : OutputsState) (source : SourceState) → ToolEnds (command_uses (Command.Gen seed items events workers)) (λ _ _. generated_outcome seed items events) (world inputs outputs source (K.state sink.old)) (world inputs outputs source (K.state sink.new)) (end_status result) }
 {
-    let mut outputs = SureOutputs::new(alloc);
+    let mut outputs = CountedOutputs::new(alloc);
     let files = match run_generated(rt, gate, alloc, seed, items, events, workers, &mut outputs) {
         Ok(files) => files,
         Err(stop) => return Err(stop),

@@ -1,10 +1,11 @@
 //! A made-up set, and the lines of files.
 
 use crate::failure::Failure;
+use kt_counted::CountedOutputs;
 use kt_gen::{generate, push_file_lines};
 use kt_load::{file_name, load_order};
 use kt_money::{Bytes, OutOfMemory};
-use kt_out::{Inputs, Outputs, SureInputs, SureOutputs};
+use kt_out::{Inputs, Outputs, SureInputs};
 use kt_outputs::Named;
 use kt_rec::Name;
 use std::alloc::AllocGlobal;
@@ -68,7 +69,7 @@ impl Named for Called {
 /// Prints the lines of two files, of which the first was not made.
 pub(crate) fn print_file_lines<R: AllocGlobal + Print>(rt: &R) -> Result<(), Failure> {
     let alloc = rt.alloc();
-    let mut outputs = SureOutputs::new(alloc);
+    let mut outputs = CountedOutputs::new(alloc);
     if outputs.append(b"a.csv", b"event_id\n1\n2").is_err() {
         return Err(Failure);
     }
