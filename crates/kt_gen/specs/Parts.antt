@@ -25,6 +25,10 @@ hazard_tables =
     ∷ table_at 0 table.Random
     ∷ []
 
+-- the footprint alone
+abbrev pub footprint_tables : List TableId
+footprint_tables = table_at 0 table.Footprint ∷ []
+
 -- the insurance
 abbrev pub insurance_tables : List TableId
 insurance_tables = table_at 0 table.FmProgramme ∷ table_at 0 table.FmPolicytc ∷ table_at 0 table.FmProfile ∷ table_at 0 table.FmXref ∷ []

@@ -1,11 +1,12 @@
 //! A generated set of input files.
 //! The rules: docs/GENERATOR.md.
 ghost use Rattle.std.specs.Prelude.{◌≡◌, ◌≤◌, IfOk};
-ghost use Rattle.kt_gen.specs.Generated.{generated_files};
+ghost use Rattle.kt_gen.specs.Generated.{files_of, generated_files};
+ghost use Rattle.kt_gen.specs.Parts.{footprint_tables};
 
 use crate::draws::Draws;
 use crate::parts::{
-    add_exposure, add_hazard, add_insurance, add_periods, add_stage, add_summaries,
+    add_exposure, add_footprint, add_hazard, add_insurance, add_periods, add_stage, add_summaries,
 };
 use kt_money::OutOfMemory;
 use kt_out::SureInputs;
@@ -33,5 +34,22 @@ pub fn generate(
     add_summaries(alloc, &mut inputs, items)?;
     add_periods(alloc, &mut inputs, &mut draws, items, events)?;
     add_stage(alloc, &mut inputs, items)?;
+    Ok(inputs)
+}
+
+/// The footprint's file of such a set alone, for a run whose other tables are loaded.
+pub fn generate_footprint(
+    alloc: Global,
+    seed: u32,
+    items: u32,
+    events: u32,
+) -> Result<SureInputs, OutOfMemory>
+    requires few_items { items ≤ 9000 }
+    requires few_events { events ≤ 10000 }
+    ensures value { IfOk result (λ inputs. inputs ≡ record { files = files_of seed items events footprint_tables; misses = 0 }) }
+{
+    let mut inputs = SureInputs::new(alloc);
+    let mut draws = Draws::new(seed);
+    add_footprint(alloc, &mut inputs, &mut draws, items, events)?;
     Ok(inputs)
 }

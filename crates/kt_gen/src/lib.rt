@@ -16,5 +16,5 @@ mod stage;
 mod summaries;
 
 pub use file_lines::push_file_lines;
-pub use generated::generate;
+pub use generated::{generate, generate_footprint};
 pub use laws::made_files_are_shown;

@@ -4,7 +4,7 @@ ghost use Rattle.std.specs.Prelude.{◌≡◌, ◌≤◌, ℕ, OnOk};
 ghost use Rattle.kt_out.specs.NamedFiles.{with_file};
 ghost use Rattle.kt_load.specs.FileNames.{file_name_of, stage_tables, table_at};
 ghost use Rattle.kt_gen.specs.Generated.{draws_before_footprint, draws_before_occurrences, files_of};
-ghost use Rattle.kt_gen.specs.Parts.{exposure_tables, hazard_tables, insurance_tables, period_tables, summary_tables, with_files};
+ghost use Rattle.kt_gen.specs.Parts.{exposure_tables, footprint_tables, hazard_tables, insurance_tables, period_tables, summary_tables, with_files};
 
 use crate::damage::{damage_bins_file, vulnerability_file};
 use crate::draws::Draws;
@@ -96,6 +96,25 @@ pub(crate) fn add_hazard(
     )?;
     let random = random_file(alloc, RANDOM_NUMBERS, draws)?;
     add(alloc, inputs, 0, Table::Random, &random)
+}
+
+/// Adds the footprint's file alone. An error is want of memory.
+pub(crate) fn add_footprint(
+    alloc: Global,
+    inputs: &mut SureInputs,
+    draws: &mut Draws,
+    items: u32,
+    events: u32,
+) -> Result<(), AllocError>
+    requires items { items ≤ 9000 }
+    requires events { events ≤ 10000 }
+    requires none { draws.old.made ≡ 0 }
+    ensures { OnOk result (inputs.new ≡ record inputs.old { files = with_files inputs.old.files (files_of draws.old.seed items events footprint_tables) }) }
+{
+    // The draws of the coverages come before those of the footprint.
+    coverages_file(alloc, items, draws)?;
+    let footprint = footprint_file(alloc, events, draws)?;
+    add(alloc, inputs, 0, Table::Footprint, &footprint)
 }
 
 /// Adds the files of the insurance. An error is want of memory.

@@ -1,6 +1,6 @@
 -- A run of all stages over a made-up set, in memory.
 use Rattle.std.proofs.Common.{◌≡◌, ◌∙◌, ℕ, Bool, true, false, List, [], ◌∷◌, length, Option, None, Some, Result, Ok, Err, refl, sym, ap, subst, arith, inl, inr}
-use Rattle.std.specs.Prelude.{◌⊎◌, ◌&&◌, ◌++◌, is_some, map, nat_lt, if◌then◌else◌, MatchResult}
+use Rattle.std.specs.Prelude.{◌⊎◌, ◌&&◌, ◌++◌, is_some, map, nat_lt, if◌then◌else◌, unwrap_or, IsSomeAnd, MatchResult}
 use Rattle.std.specs.List.{list_all}
 use Rattle.kt_cells.specs.declared.stop.TableStop.{TableStop}
 use Rattle.kt_cells.specs.declared.stop.TableStop.TheVariants as table
@@ -26,14 +26,15 @@ use Rattle.kt_event.specs.declared.terms.Terms.{Terms}
 use Rattle.kt_files.specs.OutputFiles.{output_files, output_name}
 use Rattle.kt_files.specs.declared.file.OutputFile.{OutputFile}
 use Rattle.kt_gen.specs.FileLines.{file_lines}
-use Rattle.kt_gen.specs.Generated.{generated_files}
+use Rattle.kt_gen.specs.Generated.{files_of, generated_files}
+use Rattle.kt_gen.specs.Parts.{footprint_tables}
 use Rattle.kt_gen.specs.Shown.{MadeFilesAreShown, lines_of_files, names_of}
 use Rattle.kt_keys.specs.declared.need.Need.{Need}
 use Rattle.kt_keys.specs.declared.need.Refusal.{Refusal}
-use Rattle.kt_load.specs.EventRows.{HasFootprint}
+use Rattle.kt_load.specs.EventRows.{HasFootprint, footprint_name}
 use Rattle.kt_load.specs.FootprintSize.{footprint_size-known}
 use Rattle.kt_load.specs.Ends.{AfterStop, TellsLoad}
-use Rattle.kt_load.specs.FileNames.{file_name_of, table_at}
+use Rattle.kt_load.specs.FileNames.{file_name_of}
 use Rattle.kt_load.specs.Loaded.{loaded, needed, unless_refused}
 use Rattle.kt_load.specs.Reading.{file_limit, go_on, with_read, with_size, with_table_file, with_table_files}
 use Rattle.kt_load.specs.declared.stop.LoadStop.{LoadStop}
@@ -48,8 +49,6 @@ use Rattle.kt_out.specs.Writing.{SinkState}
 use Rattle.kt_outputs.specs.Files.{files_with}
 use Rattle.kt_outputs.specs.Names.{AreDistinct}
 use Rattle.kt_rec.specs.Rows.{Rows, no_rows}
-use Rattle.kt_rec.specs.TableSet.{is_in}
-use Rattle.kt_rec.specs.declared.table.Table.TheVariants as rec_table
 use Rattle.kt_rec.specs.declared.table.TableId.{TableId}
 use Rattle.kt_schema.specs.Loading.{loaded_rows}
 use Rattle.kt_tools.specs.GeneratedRun.{MadeInMemory, StopsInMemory, generated_map, generated_run, generated_terms, shown, shown_by}
@@ -142,11 +141,10 @@ no_sink = record { taken = None; faults = 0 }
 untouched : (uses : Uses) (before : World) → UnderWay uses before before
 untouched uses before = record { inputs = refl; outputs = refl; sink = refl; reads = refl; source = λ unused. refl }
 
--- the footprint's file is as long as it was when the tables were loaded
-pub footprint_known : (before after : SureFiles) (need : Need) (rows : Rows) → need ≡ chain_need generated_terms → loaded (bytes_of before.files) need ≡ Ok rows → sure_inputs after ≡ sure_inputs before → HasFootprint (Some (bytes_of after.files)) rows.footprint_size
-footprint_known before after need rows is loads same =
-    subst (λ (state : InputsState). HasFootprint state.held rows.footprint_size) (sym same)
-    (footprint_size-known (Some (bytes_of before.files)) need rows loads (subst (λ (one : Need). is_in one.loaded (table_at 0 rec_table.Footprint) ≡ true) (sym is) refl))
+-- the footprint's file is as long as that of the tables that were loaded
+pub footprint_known : (set held : FileMap) (rows : Rows) → loaded set (chain_need generated_terms) ≡ Ok rows → held footprint_name ≡ set footprint_name → HasFootprint (Some held) rows.footprint_size
+footprint_known set held rows loads same =
+    subst (λ (found : Option (List ℕ)). IsSomeAnd found (λ bytes. length bytes ≡ rows.footprint_size)) (sym same) (footprint_size-known (Some set) (chain_need generated_terms) rows loads refl)
 
 -- the tables of the set are loaded for its run
 pub loaded_for_run : (seed items events : ℕ) (before : SureFiles) (misses : ℕ) (need : Need) (rows : Rows) → before ≡ record { files = generated_files seed items events; misses = misses } → need ≡ chain_need generated_terms → loaded (bytes_of before.files) need ≡ Ok rows → loaded (generated_map seed items events) (chain_need generated_terms) ≡ Ok rows
@@ -154,9 +152,9 @@ loaded_for_run seed items events before misses need rows is for loads =
     subst (λ (held : SureFiles). loaded (bytes_of held.files) (chain_need generated_terms) ≡ Ok rows) is
     (subst (λ (one : Need). loaded (bytes_of before.files) one ≡ Ok rows) for loads)
 
--- they are still there behind the loading
-pub still_held : (seed items events : ℕ) (before after : SureFiles) (misses : ℕ) → before ≡ record { files = generated_files seed items events; misses = misses } → sure_inputs after ≡ sure_inputs before → Some (bytes_of after.files) ≡ Some (generated_map seed items events)
-still_held seed items events before after misses is same = ap (λ (state : InputsState). state.held) same ∙ ap (λ (held : SureFiles). Some (bytes_of held.files)) is
+-- the footprint that is made alone is that of the set
+pub footprint_held : (seed items events : ℕ) (inputs : SureFiles) → inputs ≡ record { files = files_of seed items events footprint_tables; misses = 0 } → bytes_of inputs.files footprint_name ≡ generated_map seed items events footprint_name
+footprint_held seed items events inputs is = ap (λ (held : SureFiles). bytes_of held.files footprint_name) is
 
 -- a run into no files, by its terms
 pub ends_by_terms : (terms : Terms) (rows : Rows) (before after : SureFiles) (old made : List File) (end : Status) → terms ≡ generated_terms → old ≡ []
@@ -172,37 +170,39 @@ never_a_file (refusal.Missing name) is missing = is
 never_a_file why is missing = missing
 
 module _ (seed items events : ℕ) (rows : Rows) (loads : loaded (generated_map seed items events) (chain_need generated_terms) ≡ Ok rows) where
-  abbrev files : FileMap
-  files = generated_map seed items events
-
-  abbrev input : RunInput
-  input = run_input generated_terms rows files
-
-  -- once the tables are loaded, the run is that over their rows
-  run_is : generated_run seed items events ≡ chain_outcome input
+  -- once the tables are loaded, the run is that over their rows and the footprint
+  run_is : (held : FileMap) → held footprint_name ≡ generated_map seed items events footprint_name → generated_run seed items events ≡ chain_outcome (run_input generated_terms rows held)
   unfolding generated_run
-  run_is = ap (λ (tables : Result Rows LoadStop). with_tables tables (λ rows. chain_outcome (run_input generated_terms rows files))) loads
+  run_is held same =
+      ap (λ (tables : Result Rows LoadStop). with_tables tables (λ rows. chain_outcome (run_input generated_terms rows (generated_map seed items events)))) loads
+      ∙ ap (λ (found : Option (List ℕ)). chain_outcome (record { terms = generated_terms; rows = rows; footprint = unwrap_or found [] })) (sym same)
 
-  module _ (before after : SureFiles) (made : List File) (held : Some (bytes_of before.files) ≡ Some files) where
+  module _ (before after : SureFiles) (made : List File) (held : bytes_of before.files footprint_name ≡ generated_map seed items events footprint_name) where
+    abbrev files : FileMap
+    files = bytes_of before.files
+
+    abbrev input : RunInput
+    input = run_input generated_terms rows files
+
     abbrev Ends : Result (Unit {0}) ToolStop → Type 0
     Ends end = ToolEnds chain_uses (λ files _. chain_outcome (run_input generated_terms rows files)) (world (sure_inputs before) (sure_outputs []) no_source no_sink) (world (sure_inputs after) (sure_outputs made) no_source no_sink) (end_status end)
 
     finds : Finds chain_uses (world (sure_inputs before) (sure_outputs []) no_source no_sink) files []
-    finds = record { files_told = λ used. held; source_told = λ used. cc }
+    finds = record { files_told = λ used. refl; source_told = λ used. cc }
 
     -- it is done
     pub made_in_memory : (shows : MadeFilesAreShown) (distinct : AreDistinct (map output_name (output_files rows generated_terms.last))) (names : List OutputFile) → names ≡ output_files rows generated_terms.last → Ends (Ok tt) → MadeInMemory (generated_run seed items events) made names
     made_in_memory shows distinct names are ended =
         let wanted : List File = (chain_outcome input).files in
         let shown_are : file_lines (bytes_of made) (names_of wanted) ≡ lines_of_files wanted = shows wanted (bytes_of []) (bytes_of made) (subst AreDistinct (sym (names_of_run input)) distinct) (ended.files files [] finds) in
-        subst (λ (run : Outcome). MadeInMemory run made names) (sym run_is) (record {
+        subst (λ (run : Outcome). MadeInMemory run made names) (sym (run_is files held)) (record {
           done = ended.verdict files [] finds;
           lines = ap (λ (all : List OutputFile). file_lines (bytes_of made) (map output_name all)) are ∙ ap (file_lines (bytes_of made)) (sym (names_of_run input)) ∙ shown_are;
         })
 
     -- it has stopped
     pub stops_in_memory : (why : ToolStop) → IsRunStop why → Ends (Err why) → StopsInMemory (generated_run seed items events) why
-    stops_in_memory (stop.Refused why) is ended = (subst (λ (run : Outcome). run.status ≡ status.Refused why) (sym run_is) (ended.verdict files [] finds), never_a_file why is)
+    stops_in_memory (stop.Refused why) is ended = (subst (λ (run : Outcome). run.status ≡ status.Refused why) (sym (run_is files held)) (ended.verdict files [] finds), never_a_file why is)
     stops_in_memory stop.ReadFault is ended = none_of_both ended.counted.rose
     stops_in_memory stop.WriteFault is ended = none_of_both ended.counted.rose
     stops_in_memory stop.NoMemory is ended = tt

@@ -1,12 +1,11 @@
 //! A run of all stages over a made-up set, in memory.
 //! The rules: docs/GENERATOR.md, "What is shown of a run"; docs/COMMANDS.md, "gen".
-ghost use Rattle.std.specs.Prelude.{◌≡◌, ◌≤◌, ℕ, [], Ok, Some, MatchResult};
+ghost use Rattle.std.specs.Prelude.{◌≡◌, ◌≤◌, ℕ, [], IfOk, Ok, Some, MatchResult};
 ghost use Rattle.kt_ends.specs.Ending.{ToolEnds};
 ghost use Rattle.kt_ends.specs.Stops.{end_status};
 ghost use Rattle.kt_ends.specs.World.{world};
 ghost use Rattle.kt_event.specs.Needs.{chain_need as need_of_terms};
-ghost use Rattle.kt_gen.specs.Generated.{generated_files};
-ghost use Rattle.kt_load.specs.EventRows.{HasFootprint};
+ghost use Rattle.kt_load.specs.EventRows.{HasFootprint, footprint_name};
 ghost use Rattle.kt_load.specs.Loaded.{loaded};
 ghost use Rattle.kt_out.specs.InputFiles.{InputsState};
 ghost use Rattle.kt_out.specs.NamedFiles.{bytes_of};
@@ -24,7 +23,7 @@ use kt_event::{Terms, chain_need};
 use kt_files::laws::names_are_distinct;
 use kt_files::{OutputFile, output_files};
 use kt_front::load_stop;
-use kt_gen::{generate, made_files_are_shown, push_file_lines};
+use kt_gen::{generate, generate_footprint, made_files_are_shown, push_file_lines};
 use kt_load::load;
 use kt_money::Bytes;
 use kt_out::{Gate, Sink, SureInputs, write_all};
@@ -49,8 +48,8 @@ fn generated_terms() -> Terms
     }
 }
 
-/// Runs all stages over the tables of a made-up set, into output files in memory, which must be empty. It answers these files in
-/// the order of their making. An error is the refusal of the run, or want of memory.
+/// Runs all stages over the tables of a made-up set and its footprint, into output files that are counted, of which there must be
+/// none. It answers these files in the order of their making. An error is the refusal of the run, or want of memory.
 fn run_loaded<R: Threads + Sync, G: Gate + Sync>(
     rt: &R,
     gate: &G,
@@ -65,7 +64,7 @@ fn run_loaded<R: Threads + Sync, G: Gate + Sync>(
     requires need { portfolio.now.need ≡ need_of_terms terms_of_generated }
     requires file { HasFootprint (Some (bytes_of inputs.old.files)) portfolio.now.rows.footprint_size }
     requires none { outputs.old ≡ [] }
-    ensures { (seed items events : ℕ) → loaded (generated_map seed items events) (need_of_terms terms_of_generated) ≡ Ok portfolio.now.rows → Some (bytes_of inputs.old.files) ≡ Some (generated_map seed items events) → MatchResult result (λ files. MadeInMemory (generated_run seed items events) outputs.new files.items) (StopsInMemory (generated_run seed items events)) }
+    ensures { (seed items events : ℕ) → loaded (generated_map seed items events) (need_of_terms terms_of_generated) ≡ Ok portfolio.now.rows → bytes_of inputs.old.files footprint_name ≡ generated_map seed items events footprint_name → MatchResult result (λ files. MadeInMemory (generated_run seed items events) outputs.new files.items) (StopsInMemory (generated_run seed items events)) }
 {
     let terms = generated_terms();
     let files = output_files(alloc, portfolio, terms.last)?;
@@ -82,28 +81,25 @@ fn run_loaded<R: Threads + Sync, G: Gate + Sync>(
     }
 }
 
-/// Loads the tables of a made-up set, and runs all stages over them. A function of its own, so that it alone lets the tables go.
-fn load_set_and_run<R: Threads + Sync, G: Gate + Sync>(
-    rt: &R,
-    gate: &G,
-    alloc: Global,
-    workers: u32,
-    inputs: &mut SureInputs,
-    outputs: &mut CountedOutputs,
-) -> Result<Vec<OutputFile>, ToolStop>
-    requires some { 1 ≤ workers }
-    requires few { workers ≤ 16 }
-    requires none { outputs.old ≡ [] }
-    ensures { (seed items events : ℕ) → inputs.old ≡ record { files = generated_files seed items events; misses = 0 } → MatchResult result (λ files. MadeInMemory (generated_run seed items events) outputs.new files.items) (StopsInMemory (generated_run seed items events)) }
+/// Makes a set and loads its tables. The files are let go: a run over tables that are loaded reads the footprint alone. An error is
+/// a refusal of the tables, or want of memory.
+fn load_set(alloc: Global, seed: u32, items: u32, events: u32) -> Result<Portfolio, ToolStop>
+    requires some_items { 1 ≤ items }
+    requires few_items { items ≤ 9000 }
+    requires some_events { 1 ≤ events }
+    requires few_events { events ≤ 10000 }
+    ensures loaded { MatchResult result (λ portfolio. loaded (generated_map seed items events) (need_of_terms terms_of_generated) ≡ Ok portfolio.rows) (StopsInMemory (generated_run seed items events)) }
+    ensures need { IfOk result (λ portfolio. portfolio.need ≡ need_of_terms terms_of_generated) }
 {
-    match load(alloc, inputs, chain_need(&generated_terms())) {
-        Ok(portfolio) => run_loaded(rt, gate, alloc, workers, &portfolio, inputs, outputs),
+    let mut inputs = generate(alloc, seed, items, events)?;
+    match load(alloc, &mut inputs, chain_need(&generated_terms())) {
+        Ok(portfolio) => Ok(portfolio),
         Err(stop) => Err(load_stop(stop)),
     }
 }
 
-/// Makes a set and runs all stages over it, into output files in memory, which must be empty. It answers these files in the
-/// order of their making. An error is the refusal of the run, or want of memory.
+/// Makes a set and runs all stages over it, into output files that are counted, of which there must be none. It answers these
+/// files in the order of their making. An error is the refusal of the run, or want of memory.
 fn run_generated<R: Threads + Sync, G: Gate + Sync>(
     rt: &R,
     gate: &G,
@@ -118,8 +114,11 @@ fn run_generated<R: Threads + Sync, G: Gate + Sync>(
     requires none { outputs.old ≡ [] }
     ensures { MatchResult result (λ files. MadeInMemory (generated_run seed items events) outputs.new files.items) (StopsInMemory (generated_run seed items events)) }
 {
-    let mut inputs = generate(alloc, seed, items, events)?;
-    load_set_and_run(rt, gate, alloc, workers, &mut inputs, outputs)
+    let mut inputs = generate_footprint(alloc, seed, items, events)?;
+    match load_set(alloc, seed, items, events) {
+        Ok(portfolio) => run_loaded(rt, gate, alloc, workers, &portfolio, &mut inputs, outputs),
+        Err(stop) => Err(stop),
+    }
 }
 
 /// Makes a set of this seed with so many items and events, runs all stages over it by so many workers, and writes a line for each
