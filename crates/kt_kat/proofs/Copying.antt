@@ -33,11 +33,11 @@ copied_first None before = tt
 copied_first (Some bytes) before = copied_nothing bytes before
 
 -- bytes up to a place, and so many behind it
-taken_on : (at n : ℕ) (bytes : List ℕ) → take at bytes ++ take n (drop at bytes) ≡ take (at + n) bytes
+pub taken_on : (at n : ℕ) (bytes : List ℕ) → take at bytes ++ take n (drop at bytes) ≡ take (at + n) bytes
 taken_on at n bytes = sym (take-add at n bytes)
 
 -- a piece that was read is what stands at its place
-piece_is : (bytes : List ℕ) (now : Option (List ℕ)) (room filled piece : List ℕ) (at n : ℕ) → Gives (drop at bytes) now room filled n → piece ≡ take n filled → piece ≡ take n (drop at bytes)
+pub piece_is : (bytes : List ℕ) (now : Option (List ℕ)) (room filled piece : List ℕ) (at n : ℕ) → Gives (drop at bytes) now room filled n → piece ≡ take n filled → piece ≡ take n (drop at bytes)
 piece_is bytes now room filled piece at n gives is = is ∙ ap (take n) gives.bytes ∙ take_at (take n (drop at bytes)) (drop n room) n (length-take-le n (drop at bytes) gives.was_left)
 
 more_taken : (bytes piece taken : List ℕ) (at n : ℕ) (mid now : Option (List ℕ)) → piece ≡ take n (drop at bytes) → mid ≡ Some (taken ++ take at bytes) → Gains mid now piece → now ≡ Some (taken ++ take (at + n) bytes)

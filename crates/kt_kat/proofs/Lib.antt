@@ -1,5 +1,5 @@
 mod Finding
 mod OneByOne
 mod Ending
-mod StreamOutcome
+mod StreamCopies
 mod Copying

@@ -2,7 +2,7 @@ pub mod Files
 pub mod Found
 pub mod Stops
 pub mod Joining
-pub mod Stage
+pub mod Copied
 pub mod FileKinds
 pub mod Outcome
 pub mod Examples

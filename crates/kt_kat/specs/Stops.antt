@@ -5,6 +5,7 @@ use Rattle.kt_out.specs.declared.fault.Absent.{Absent}
 use Rattle.kt_out.specs.declared.fault.Absent.TheVariants as absent
 use Rattle.kt_out.specs.declared.fault.Fault.{Fault}
 use Rattle.kt_out.specs.declared.fault.Fault.TheVariants as fault
+use Rattle.kt_stream.specs.declared.stop.StreamStop.{StreamStop}
 use Rattle.kt_ends.specs.declared.status.Refusal.TheVariants as refusal
 use Rattle.kt_ends.specs.declared.tool_stop.ToolStop.{ToolStop}
 use Rattle.kt_ends.specs.declared.tool_stop.ToolStop.TheVariants as stop
@@ -24,3 +25,7 @@ size_within name size = if nat_le size file_limit then Ok size else Err (stop.Re
 abbrev pub unread_stop : Fault → ToolStop
 unread_stop fault.Failed = stop.ReadFault
 unread_stop fault.OutOfMemory = stop.NoMemory
+
+-- the stream of the file of this number is refused so
+abbrev pub file_stop : ℕ → StreamStop → ToolStop
+file_stop number why = stop.Refused (refusal.File number why)

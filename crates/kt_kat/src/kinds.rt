@@ -1,20 +1,19 @@
 //! The kinds of stream that are joined.
 //! The rules: docs/STREAMS.md, "Headers" and "Records".
-ghost use Rattle.std.specs.Prelude.{◌≡◌, [], ◌++◌, OnOk};
+ghost use Rattle.std.specs.Prelude.{◌≡◌, [], None};
 ghost use Rattle.kt_stream.specs.declared.kind.Shape.{Shape};
-ghost use Rattle.kt_stream.specs.Reader.{Represents};
+ghost use Rattle.kt_stream.specs.Reader.{Represents, IsRested};
 
-use kt_money::{Bytes, OutOfMemory};
 use kt_stream::{
     Cdf, CdfReader, Entry, LossReader, LossRecord, RecordReader, StreamKind, SummaryReader,
-    SummaryRecord, put_cdf, put_loss, put_summary,
+    SummaryRecord,
 };
 use std::alloc::Global;
 
 /// The most bins of a distribution.
 const MOST_BINS: u32 = 1000;
 
-/// A kind of stream: how its records are read and written.
+/// A kind of stream: how its records are read.
 pub trait JoinedKind: Copy {
     /// Its records.
     type Record: Entry;
@@ -26,14 +25,12 @@ pub trait JoinedKind: Copy {
     fn kind(self) -> StreamKind
         ensures { result ≡ shape.kind };
 
-    /// A reader that was given no bytes.
+    /// A reader that was given no bytes, and has no header yet.
     fn reader(self, alloc: Global) -> RecordReader<Self::Record>
         ensures value { Represents Self.Record Self.Record.form [] [] result }
-        ensures shape { result.shape ≡ shape };
-
-    /// Appends a record as it stood in its stream. An error is want of memory.
-    fn put(self, out: &mut Bytes, entry: &Self::Record) -> Result<(), OutOfMemory>
-        ensures ok { OnOk result (out.new ≡ out.old ++ Self.Record.form.bytes entry.now) };
+        ensures shape { result.shape ≡ shape }
+        ensures headless { result.head ≡ None }
+        ensures rests { IsRested Self.Record Self.Record.form result };
 }
 
 /// Streams of damage distributions.
@@ -66,10 +63,6 @@ impl JoinedKind for CdfStreams {
     fn reader(self, alloc: Global) -> RecordReader<Cdf> {
         CdfReader::new(alloc, MOST_BINS)
     }
-
-    fn put(self, out: &mut Bytes, entry: &Cdf) -> Result<(), OutOfMemory> {
-        put_cdf(out, entry)
-    }
 }
 
 impl JoinedKind for GulStreams {
@@ -86,10 +79,6 @@ impl JoinedKind for GulStreams {
 
     fn reader(self, alloc: Global) -> RecordReader<LossRecord> {
         LossReader::new(alloc, StreamKind::Gul)
-    }
-
-    fn put(self, out: &mut Bytes, entry: &LossRecord) -> Result<(), OutOfMemory> {
-        put_loss(out, entry)
     }
 }
 
@@ -108,10 +97,6 @@ impl JoinedKind for LossStreams {
     fn reader(self, alloc: Global) -> RecordReader<LossRecord> {
         LossReader::new(alloc, StreamKind::Loss)
     }
-
-    fn put(self, out: &mut Bytes, entry: &LossRecord) -> Result<(), OutOfMemory> {
-        put_loss(out, entry)
-    }
 }
 
 impl JoinedKind for SummaryStreams {
@@ -127,9 +112,5 @@ impl JoinedKind for SummaryStreams {
 
     fn reader(self, alloc: Global) -> RecordReader<SummaryRecord> {
         SummaryReader::new(alloc)
-    }
-
-    fn put(self, out: &mut Bytes, entry: &SummaryRecord) -> Result<(), OutOfMemory> {
-        put_summary(out, entry)
     }
 }

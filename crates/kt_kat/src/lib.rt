@@ -1,6 +1,7 @@
 //! The tool that makes one stream of the streams in some files, or writes their bytes one after the other.
 #![tactic(auto)]
 
+mod copied;
 mod each_file;
 mod file_step;
 mod front;

@@ -1,11 +1,12 @@
 //! How a file that is not taken ends the tool.
 //! The rules: docs/COMMANDS.md, "kat"; docs/REFUSALS.md, "Order".
 ghost use Rattle.std.specs.Prelude.{◌≡◌};
-ghost use Rattle.kt_kat.specs.Stops.{absent_stop as stop_of_absent, size_within as within, unread_stop as stop_of_fault};
+ghost use Rattle.kt_kat.specs.Stops.{absent_stop as stop_of_absent, file_stop as stop_in_file, size_within as within, unread_stop as stop_of_fault};
 
 use kt_ends::{Refusal, ToolStop};
 use kt_out::{Absent, Fault};
 use kt_rec::Name;
+use kt_stream::StreamStop;
 
 /// The most bytes of a file.
 const FILE_LIMIT: u64 = 1_073_741_824;
@@ -40,4 +41,11 @@ pub(crate) fn unread_stop(fault: Fault) -> ToolStop
         Fault::Failed => ToolStop::ReadFault,
         Fault::OutOfMemory => ToolStop::NoMemory,
     }
+}
+
+/// How the tool ends where the stream of the file of this number is refused.
+pub(crate) fn file_stop(number: u32, stop: StreamStop) -> ToolStop
+    ensures { result ≡ stop_in_file number stop }
+{
+    ToolStop::Refused(Refusal::File { file: number, stop })
 }

@@ -1,98 +1,30 @@
 //! The streams in files as one stream.
 //! The rules: docs/COMMANDS.md, "kat".
-ghost use Rattle.std.specs.Prelude.{◌≡◌, ◌≤◌, None, OnOk, OnErr};
-ghost use Rattle.kt_kat.specs.Joining.{same_head, or_head};
-ghost use Rattle.kt_kat.specs.Stage.{file_stop, refused_file};
+ghost use Rattle.std.specs.Prelude.{◌≡◌, ◌++◌, ℕ, List, [], None, Option, OnOk, IfSome};
+ghost use Rattle.kt_out.specs.InputFiles.{InputsState};
+ghost use Rattle.kt_out.specs.OutputFiles.{OutputsState};
+ghost use Rattle.kt_out.specs.Reading.{SourceState};
+ghost use Rattle.kt_stream.specs.Reader.{Represents, IsRested};
+ghost use Rattle.kt_stream.specs.Stream.{stream_of};
+ghost use Rattle.kt_ends.specs.Ending.{Counted};
+ghost use Rattle.kt_ends.specs.Stops.{end_status};
+ghost use Rattle.kt_ends.specs.World.{world};
+ghost use Rattle.kt_loop.specs.InputFile.{IsSized, file_bytes};
+ghost use Rattle.kt_loop.specs.RecordStreams.{contents_of};
+ghost use Rattle.kt_loop.specs.Settling.{IsEnd};
+ghost use Rattle.kt_kat.specs.Copied.{Copies, IsCopied, OpensFile};
+ghost use Rattle.kt_kat.specs.Joining.{joined, or_head};
 
+use crate::copied::{copy_records, open};
 use crate::file_step::FileStep;
 use crate::kinds::JoinedKind;
-use kt_ends::{Refusal, ToolStop};
-use kt_loop::{Stage, run_over_file};
-use kt_money::Bytes;
+use crate::stops::{file_stop, unread_stop};
+use kt_ends::ToolStop;
+use kt_loop::{BLOCK, read_piece, zeros};
 use kt_out::{Inputs, Sink};
-use kt_stream::{Head, Placed, put_head};
+use kt_stream::laws::{no_header_means_no_records, what_is_read_stays};
+use kt_stream::{Head, RecordReader};
 use std::alloc::Global;
-
-/// What is written of one of several streams: the header of the first, and the records of each.
-#[derive(Drop)]
-struct JoinedStream<M> {
-    kind: M,
-    first: Option<Head>,
-    number: u32,
-}
-
-/// Whether two headers are the same.
-fn is_same(one: Head, other: Head) -> bool
-    ensures { result ≡ same_head one other }
-{
-    one.samples == other.samples && one.set == other.set
-}
-
-impl<M: JoinedKind> Stage<Head, M::Record, ()> for JoinedStream<M> {
-    ghost use Rattle.std.specs.Prelude.{◌≡◌};
-    ghost use Rattle.kt_kat.specs.Stage.{Place, file_calculation};
-
-    ghost State = { Place };
-
-    ghost calculation = { file_calculation M.Record.form M.shape.kind };
-
-    ghost is_at = { λ place stage _. (place.first ≡ stage.first) × (place.number ≡ stage.number) };
-
-    ghost is_ready = { λ _ _ _. Unit {0} };
-
-    ghost accepts = { λ _. Unit {0} };
-
-    ghost is_good = { λ _ _. Unit {0} };
-
-    ghost inputs = { λ others _. others };
-
-    fn open(&mut self, _beside: &mut (), head: Head, out: &mut Bytes) -> Result<(), ToolStop> {
-        let Some(first) = self.first else {
-            put_head(out, self.kind.kind(), head)?;
-            return Ok(());
-        };
-        if is_same(first, head) {
-            Ok(())
-        } else {
-            Err(ToolStop::Refused(Refusal::HeaderDiffers { file: self.number }))
-        }
-    }
-
-    fn take(
-        &mut self,
-        _beside: &mut (),
-        _head: Head,
-        placed: &Placed<M::Record>,
-        out: &mut Bytes,
-    ) -> Result<(), ToolStop> {
-        self.kind.put(out, &placed.entry)?;
-        Ok(())
-    }
-
-    fn end(&mut self, _beside: &mut (), _head: Head, _out: &mut Bytes) -> Result<(), ToolStop> {
-        Ok(())
-    }
-}
-
-/// What refuses the stream of the file of this number refuses the file.
-fn file_refusal(number: u32, refusal: Refusal) -> Refusal
-    ensures { result ≡ refused_file number refusal }
-{
-    match refusal {
-        Refusal::Stream(stop) => Refusal::File { file: number, stop },
-        other => other,
-    }
-}
-
-/// A stop at the file of this number.
-fn in_file(number: u32, stop: ToolStop) -> ToolStop
-    ensures { result ≡ file_stop number stop }
-{
-    match stop {
-        ToolStop::Refused(refusal) => ToolStop::Refused(file_refusal(number, refusal)),
-        other => other,
-    }
-}
 
 /// The header of the first file, where there was one, else that of this file.
 fn first_of(first: Option<Head>, head: Option<Head>) -> Option<Head>
@@ -120,6 +52,96 @@ impl<M> StreamFiles<M> {
     }
 }
 
+impl<M: JoinedKind> StreamFiles<M> {
+    /// Writes or compares the header of the file of this number, where it is whole now and was not before.
+    fn open<K: Sink>(
+        &self,
+        alloc: Global,
+        number: u32,
+        was_open: bool,
+        head: Option<Head>,
+        sink: &mut K,
+    ) -> Result<(), ToolStop>
+        ensures { OpensFile M.shape.kind self.now.first number was_open head (K.state sink.old) (K.state sink.new) result }
+    {
+        if was_open {
+            return Ok(());
+        }
+        let Some(head) = head else {
+            return Ok(());
+        };
+        open(alloc, self.kind.kind(), self.first, number, head, sink)
+    }
+
+    /// Takes a piece of the file of this number, and writes what is whole by it.
+    fn turn<K: Sink>(
+        &self,
+        alloc: Global,
+        number: u32,
+        reader: &mut RecordReader<M::Record>,
+        piece: &[u8],
+        sink: &mut K,
+    ) -> Result<(), ToolStop>
+        ensures copied { (fed : List ℕ) (before : Option (List ℕ)) → IsCopied M.Record.form M.shape self.now.first fed reader.old before (K.state sink.old).taken → Copies M.Record.form M.shape self.now.first number (fed ++ piece.now) reader.new before (K.state sink.new).taken result }
+        ensures rests { OnOk result (IsRested M.Record M.Record.form reader.new) }
+        ensures counted { (inputs : InputsState) (outputs : OutputsState) (source : SourceState) → Counted (world inputs outputs source (K.state sink.old)) (world inputs outputs source (K.state sink.new)) (end_status result) }
+    {
+        what_is_read_stays::<M::Record>();
+        no_header_means_no_records::<M::Record>();
+        let was_open = reader.head().is_some();
+        if let Err(_) = reader.feed(piece) {
+            return Err(ToolStop::NoMemory);
+        }
+        if let Err(stop) = self.open(alloc, number, was_open, reader.head(), sink) {
+            return Err(stop);
+        }
+        copy_records(number, reader, sink)
+    }
+
+    /// Writes the file of this number, of so many bytes, block by block.
+    fn copy<I: Inputs, K: Sink>(
+        &self,
+        alloc: Global,
+        number: u32,
+        reader: &mut RecordReader<M::Record>,
+        name: &[u8],
+        size: u64,
+        inputs: &mut I,
+        sink: &mut K,
+    ) -> Result<(), ToolStop>
+        requires fresh { Represents M.Record M.Record.form [] [] reader.old }
+        requires shape { reader.old.shape ≡ M.shape }
+        requires headless { reader.old.head ≡ None }
+        requires rests { IsRested M.Record M.Record.form reader.old }
+        requires sized { IsSized (I.state inputs.old).held name.now size }
+
+        ensures ended { IfSome (file_bytes (I.state inputs.old).held name.now) (λ bytes. IsEnd (joined M.Record.form M.shape.kind self.now.first number (contents_of M.Record.form M.shape bytes)) (K.state sink.old).taken (K.state sink.new).taken (end_status result)) }
+        ensures head { OnOk result (IfSome (file_bytes (I.state inputs.old).held name.now) (λ bytes. reader.new.head ≡ (stream_of M.Record.form M.shape bytes).head)) }
+        ensures files { (I.state inputs.new).held ≡ (I.state inputs.old).held }
+        ensures counted { (outputs : OutputsState) (source : SourceState) → Counted (world (I.state inputs.old) outputs source (K.state sink.old)) (world (I.state inputs.new) outputs source (K.state sink.new)) (end_status result) }
+    {
+        what_is_read_stays::<M::Record>();
+        let Ok(mut block) = zeros(alloc, BLOCK) else {
+            return Err(ToolStop::NoMemory);
+        };
+        let mut at = 0;
+        'pieces: while at < size {
+            let read = match read_piece(inputs, name, size, at, block.as_mut_slice()) {
+                Ok(read) => read,
+                Err(fault) => return Err(unread_stop(fault)),
+            };
+            if let Err(stop) = self.turn(alloc, number, reader, &block[..read], sink) {
+                return Err(stop);
+            }
+            at += read as u64;
+        }
+        match reader.finish() {
+            Ok(()) => Ok(()),
+            Err(stop) => Err(file_stop(number, stop)),
+        }
+    }
+}
+
 impl<M: JoinedKind> FileStep for StreamFiles<M> {
     ghost use Rattle.std.specs.Prelude.{◌≡◌, Option};
     ghost use Rattle.kt_stream.specs.declared.kind.Head.{Head};
@@ -144,22 +166,8 @@ impl<M: JoinedKind> FileStep for StreamFiles<M> {
         sink: &mut K,
     ) -> Result<(), ToolStop> {
         let mut reader = self.kind.reader(alloc);
-        let mut stage = JoinedStream {
-            kind: self.kind,
-            first: self.first,
-            number,
-        };
-        if let Err(stop) = run_over_file(
-            alloc,
-            &mut reader,
-            &mut stage,
-            &mut (),
-            name,
-            size,
-            inputs,
-            sink,
-        ) {
-            return Err(in_file(number, stop));
+        if let Err(stop) = self.copy(alloc, number, &mut reader, name, size, inputs, sink) {
+            return Err(stop);
         }
         self.first = first_of(self.first, reader.head());
         Ok(())

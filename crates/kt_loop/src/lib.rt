@@ -18,7 +18,7 @@ mod turn;
 
 pub use block::{BLOCK, zeros};
 pub use by_run::{RunStage, run_by_run};
-pub use file::{read_piece, run_over_file};
+pub use file::read_piece;
 pub use known_reader::{KnownHead, KnownReader};
 pub use reader::StreamReader;
 pub use run::run_stage;

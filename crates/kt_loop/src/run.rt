@@ -80,7 +80,7 @@ fn read_all<R: StreamReader, W, T: Stage<R::Head, R::Entry, W>, S: Source, K: Si
 }
 
 /// Writes what is pending behind a refusal: how the run ends that stopped so.
-pub(crate) fn settle<K: Sink>(stop: ToolStop, sink: &mut K, out: &mut Bytes) -> ToolStop
+fn settle<K: Sink>(stop: ToolStop, sink: &mut K, out: &mut Bytes) -> ToolStop
     ensures end { (made : Outcome) (before : Option (List ℕ)) → StopSettles made before (K.state sink.old).taken out.old stop → IsEnd made before (K.state sink.new).taken (stop_status result) }
     ensures counted { (inputs : InputsState) (inputs_now : InputsState) (outputs : OutputsState) (source : SourceState) (source_now : SourceState) (first : SinkState) → StopCounts inputs inputs_now source.faults source_now.faults first.faults (K.state sink.old).faults stop → Counted (world inputs outputs source first) (world inputs_now outputs source_now (K.state sink.new)) (stop_status result) }
     ensures unread { stop ≡ ReadFault → result ≡ ReadFault }

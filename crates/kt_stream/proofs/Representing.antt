@@ -21,12 +21,12 @@ use Rattle.kt_stream.proofs.Heading.{header_kept, header_got}
 use Rattle.kt_stream.proofs.Room.{room_within, room_beyond, room_length, room_steps, room_stops}
 
 -- a reader that goes on
-abbrev pub running : {E : Type 0} → Shape → Option Head → Placed E → ℕ → List ℕ → Reading E
-running shape head row start pending = record { shape = shape; head = head; row = row; stop = None; start = start; pending = pending }
+abbrev pub running : {E : Type 0} → Shape → Option Head → Placed E → List ℕ → ℕ → List ℕ → Reading E
+running shape head row passed start pending = record { shape = shape; head = head; row = row; passed = passed; stop = None; start = start; pending = pending }
 
 -- a reader that was stopped
-abbrev pub stopped : {E : Type 0} → Shape → Option Head → Placed E → StreamStop → ℕ → List ℕ → Reading E
-stopped shape head row stop start pending = record { shape = shape; head = head; row = row; stop = Some stop; start = start; pending = pending }
+abbrev pub stopped : {E : Type 0} → Shape → Option Head → Placed E → List ℕ → StreamStop → ℕ → List ℕ → Reading E
+stopped shape head row passed stop start pending = record { shape = shape; head = head; row = row; passed = passed; stop = Some stop; start = start; pending = pending }
 
 -- records in front of others in front of a stream
 pub after_after : {E : Type 0} (front back : List (Placed E)) (s : Stream E) → after front (after back s) ≡ after (front ++ back) s
@@ -64,11 +64,11 @@ goes_bare form shape start room bytes is = elim (cases_lt room (length bytes)) [
   | inr fits ↦ rw (room_within room (reads_on form shape None start) bytes fits) (waits_bare form shape start bytes (rw (take_all room bytes fits) at is))
 ]
 
-pub faces : {E : Type 0} (form : Form E) (shape : Shape) (head : Option Head) (row : Placed E) (stop : Option StreamStop) (start : ℕ) (pending : List ℕ) → WaitsBy stop head shape start pending
-    → Faces E form (record { shape = shape; head = head; row = row; stop = stop; start = start; pending = pending })
-faces form shape head row (Some stop) start pending waits = record { head = refl; records = refl }
-faces form shape (Some h) row None start pending waits = record { head = headed_goes form shape h start (stream_limit - start) (pending ++ []); records = refl }
-faces form shape None row None start pending waits =
+pub faces : {E : Type 0} (form : Form E) (shape : Shape) (head : Option Head) (row : Placed E) (passed : List ℕ) (stop : Option StreamStop) (start : ℕ) (pending : List ℕ) → WaitsBy stop head shape start pending
+    → Faces E form (record { shape = shape; head = head; row = row; passed = passed; stop = stop; start = start; pending = pending })
+faces form shape head row passed (Some stop) start pending waits = record { head = refl; records = refl }
+faces form shape (Some h) row passed None start pending waits = record { head = headed_goes form shape h start (stream_limit - start) (pending ++ []); records = refl }
+faces form shape None row passed None start pending waits =
     let bare = goes_bare form shape start (stream_limit - start) (pending ++ []) (rw (append-nil pending) waits) in
     record { head = bare.head; records = bare.records }
 
@@ -89,13 +89,9 @@ extends_by {E} form old piece new shape onward faced place = λ bytes taken rep.
     }
 
 -- a reader that was stopped stands for all longer bytes
-pub stopped_extends : {E : Type 0} (form : Form E) (shape : Shape) (head : Option Head) (row : Placed E) (stop : StreamStop) (start : ℕ) (pending piece : List ℕ) → Extends E form (stopped shape head row stop start pending) piece (stopped shape head row stop start pending)
-stopped_extends form shape head row stop start pending piece =
-    extends_by form (stopped shape head row stop start pending) piece (stopped shape head row stop start pending) refl (λ more. refl) (faces form shape head row (Some stop) start pending tt) (λ n at-place. tt)
-
--- a piece behind what was left of a block
-pub piece_behind : (left pending piece now : List ℕ) → now ≡ left ++ piece → left ≡ pending → now ≡ pending ++ piece
-piece_behind left pending piece now is same = is ∙ ap (λ (xs : List ℕ). xs ++ piece) same
+pub stopped_extends : {E : Type 0} (form : Form E) (shape : Shape) (head : Option Head) (row : Placed E) (before passed : List ℕ) (stop : StreamStop) (start : ℕ) (pending piece : List ℕ) → Extends E form (stopped shape head row before stop start pending) piece (stopped shape head row passed stop start pending)
+stopped_extends form shape head row before passed stop start pending piece =
+    extends_by form (stopped shape head row before stop start pending) piece (stopped shape head row passed stop start pending) refl (λ more. refl) (faces form shape head row passed (Some stop) start pending tt) (λ n at-place. tt)
 
 longer : (start : ℕ) (pending piece now : List ℕ) → now ≡ pending ++ piece → (n : ℕ) → start + length pending ≡ n → start + length now ≡ n + length piece
 longer start pending piece now is n at-place = omega (arith, ap length is, length-append pending piece, at-place)
@@ -104,11 +100,11 @@ joined : (pending piece now more : List ℕ) → now ≡ pending ++ piece → pe
 joined pending piece now more is = sym (append_assoc pending piece more) ∙ ap (λ (xs : List ℕ). xs ++ more) (sym is)
 
 -- the piece stands behind what is pending
-pub joined_extends : {E : Type 0} (form : Form E) (shape : Shape) (head : Option Head) (row : Placed E) (start : ℕ) (pending piece now : List ℕ) → now ≡ pending ++ piece → WaitsBy None head shape start now
-    → Extends E form (running shape head row start pending) piece (running shape head row start now)
-joined_extends form shape head row start pending piece now is waits =
-    extends_by form (running shape head row start pending) piece (running shape head row start now) refl
-    (λ more. ap (goes_on form shape head start) (joined pending piece now more is)) (faces form shape head row None start now waits) (longer start pending piece now is)
+pub joined_extends : {E : Type 0} (form : Form E) (shape : Shape) (head : Option Head) (row : Placed E) (before passed : List ℕ) (start : ℕ) (pending piece now : List ℕ) → now ≡ pending ++ piece → WaitsBy None head shape start now
+    → Extends E form (running shape head row before start pending) piece (running shape head row passed start now)
+joined_extends form shape head row before passed start pending piece now is waits =
+    extends_by form (running shape head row before start pending) piece (running shape head row passed start now) refl
+    (λ more. ap (goes_on form shape head start) (joined pending piece now more is)) (faces form shape head row passed None start now waits) (longer start pending piece now is)
 
 header_on : {E : Type 0} (form : Form E) (shape : Shape) (h : Head) (start : ℕ) (bytes more : List ℕ) → header_in shape.kind bytes ≡ Got h
     → reads_on form shape None start (bytes ++ more) ≡ after [] (reads_on form shape (Some h) (start + header_size shape.kind) (drop (header_size shape.kind) bytes ++ more))
@@ -129,19 +125,19 @@ header_opens kind h start bytes some is =
     record { good = read.good; long = omega (arith, read.long, room.1); within = omega (arith, read.long, room.0) }
 
 -- the header is whole now
-pub header_extends : {E : Type 0} (form : Form E) (shape : Shape) (h : Head) (row : Placed E) (start : ℕ) (pending piece now : List ℕ) → now ≡ pending ++ piece → start ≤ stream_limit → header_in shape.kind (take (stream_limit - start) now) ≡ Got h
-    → Extends E form (running shape None row start pending) piece (running shape (Some h) row (start + header_size shape.kind) (drop (header_size shape.kind) now))
-header_extends {E} form shape h row start pending piece now now-is some is =
+pub header_extends : {E : Type 0} (form : Form E) (shape : Shape) (h : Head) (row : Placed E) (before passed : List ℕ) (start : ℕ) (pending piece now : List ℕ) → now ≡ pending ++ piece → start ≤ stream_limit → header_in shape.kind (take (stream_limit - start) now) ≡ Got h
+    → Extends E form (running shape None row before start pending) piece (running shape (Some h) row passed (start + header_size shape.kind) (drop (header_size shape.kind) now))
+header_extends {E} form shape h row before passed start pending piece now now-is some is =
     let size = header_size shape.kind in
     let room = stream_limit - start in
     let opens = header_opens shape.kind h start now some is in
     let left : room - size ≡ stream_limit - (start + size) = omega arith in
-    extends_by form (running shape None row start pending) piece (running shape (Some h) row (start + size) (drop size now)) refl
+    extends_by form (running shape None row before start pending) piece (running shape (Some h) row passed (start + size) (drop size now)) refl
     (λ more.
     ap (goes_on form shape None start) (joined pending piece now more now-is)
     ∙ room_steps room size (reads_on form shape None start) (reads_on form shape (Some h) (start + size)) now [] more (header_got shape.kind (take room now) h is).long (λ more. header_on form shape h start (take room now) more is)
     ∙ ap (λ (n : ℕ). within_room n (reads_on form shape (Some h) (start + size)) (drop size now ++ more)) left)
-    (faces form shape (Some h) row None (start + size) (drop size now) tt)
+    (faces form shape (Some h) row passed None (start + size) (drop size now) tt)
     (λ n at-place. omega (arith, length-drop size now, opens.long, longer start pending piece now now-is n at-place))
 
 -- a refusal of a header speaks of the stream
@@ -156,15 +152,15 @@ unfolding reads_on
 header_ends form shape fault start bytes more is = rw (kept_wrong (header_in shape.kind bytes) _ fault is (header_kept shape.kind bytes more)) refl
 
 -- the header is wrong
-pub wrong_extends : {E : Type 0} (form : Form E) (shape : Shape) (fault : HeaderFault) (row : Placed E) (start : ℕ) (pending piece now : List ℕ) → now ≡ pending ++ piece → header_in shape.kind (take (stream_limit - start) now) ≡ Wrong fault
-    → Extends E form (running shape None row start pending) piece (stopped shape None row (header_stop fault) start now)
-wrong_extends form shape fault row start pending piece now now-is is =
+pub wrong_extends : {E : Type 0} (form : Form E) (shape : Shape) (fault : HeaderFault) (row : Placed E) (before passed : List ℕ) (start : ℕ) (pending piece now : List ℕ) → now ≡ pending ++ piece → header_in shape.kind (take (stream_limit - start) now) ≡ Wrong fault
+    → Extends E form (running shape None row before start pending) piece (stopped shape None row passed (header_stop fault) start now)
+wrong_extends form shape fault row before passed start pending piece now now-is is =
     let room = stream_limit - start in
-    extends_by form (running shape None row start pending) piece (stopped shape None row (header_stop fault) start now) refl
+    extends_by form (running shape None row before start pending) piece (stopped shape None row passed (header_stop fault) start now) refl
     (λ more.
     ap (goes_on form shape None start) (joined pending piece now more now-is)
     ∙ room_stops room (reads_on form shape None start) now more None [] (header_stop fault) (λ more. header_ends form shape fault start (take room now) more is))
-    (faces form shape None row (Some (header_stop fault)) start now tt) (λ n at-place. tt)
+    (faces form shape None row passed (Some (header_stop fault)) start now tt) (λ n at-place. tt)
 
 -- ---- before the first byte
 
@@ -199,9 +195,9 @@ first_rests form Summary bins nothing = refl
 first_rests {E} form Events bins nothing = ap (λ (w : Walk E). record { head = first_head Events; entries = w.entries; end = w.end }) (no_record form (record { kind = Events; bins = bins }) (nothing (record { kind = Events; bins = bins }) 0 0))
 
 -- a reader that was given nothing
-first_stands : {E : Type 0} (form : Form E) (shape : Shape) (row : Placed E) → Represents E form [] [] (running shape (first_head shape.kind) row 0 [])
-first_stands {E} form shape row =
-    let faced = faces form shape (first_head shape.kind) row None 0 [] (first_waits shape.kind shape.bins) in
+first_stands : {E : Type 0} (form : Form E) (shape : Shape) (row : Placed E) (passed : List ℕ) → Represents E form [] [] (running shape (first_head shape.kind) row passed 0 [])
+first_stands {E} form shape row passed =
+    let faced = faces form shape (first_head shape.kind) row passed None 0 [] (first_waits shape.kind shape.bins) in
     let now : stream_of form shape [] ≡ goes_on form shape (first_head shape.kind) 0 [] = first_onward form shape.kind shape.bins [] in
     record {
       head = sym (ap (λ (s : Stream E). s.head) now ∙ faced.head);
@@ -210,12 +206,12 @@ first_stands {E} form shape row =
       place = refl;
     }
 
-pub fresh : {E : Type 0} (form : Form E) (shape : Shape) (row : Placed E) (pending : List ℕ) → pending ≡ [] → Represents E form [] [] (running shape (first_head shape.kind) row 0 pending)
-fresh form shape row pending empty = rw empty (first_stands form shape row)
+pub fresh : {E : Type 0} (form : Form E) (shape : Shape) (row : Placed E) (passed pending : List ℕ) → pending ≡ [] → Represents E form [] [] (running shape (first_head shape.kind) row passed 0 pending)
+fresh form shape row passed pending empty = rw empty (first_stands form shape row passed)
 
 -- it holds no record
-pub fresh_dry : {E : Type 0} (form : Form E) (shape : Shape) (row : Placed E) (pending : List ℕ) → pending ≡ [] → ((shape : Shape) (samples at : ℕ) → form.unit shape samples [] at ≡ Short) → IsDry E form (running shape (first_head shape.kind) row 0 pending)
-fresh_dry form shape row pending empty nothing = rw empty (record { within = omega arith; rests = first_rests form shape.kind shape.bins nothing })
+pub fresh_dry : {E : Type 0} (form : Form E) (shape : Shape) (row : Placed E) (passed pending : List ℕ) → pending ≡ [] → ((shape : Shape) (samples at : ℕ) → form.unit shape samples [] at ≡ Short) → IsDry E form (running shape (first_head shape.kind) row passed 0 pending)
+fresh_dry form shape row passed pending empty nothing = rw empty (record { within = omega arith; rests = first_rests form shape.kind shape.bins nothing })
 
 first_good : (kind : StreamKind) → IfSome (first_head kind) (λ head. IsHead kind head)
 first_good Cdf = tt
@@ -225,5 +221,5 @@ first_good Summary = tt
 first_good Events = (refl, refl)
 
 -- and it is a reader
-pub fresh_reader : {E : Type 0} (shape : Shape) (row : Placed E) (pending : List ℕ) → pending ≡ [] → IsReader E (running shape (first_head shape.kind) row 0 pending)
-fresh_reader shape row pending empty = rw empty (record { head = first_good shape.kind; stop = tt; start = omega arith; waits = first_waits shape.kind shape.bins })
+pub fresh_reader : {E : Type 0} (shape : Shape) (row : Placed E) (passed pending : List ℕ) → pending ≡ [] → IsReader E (running shape (first_head shape.kind) row passed 0 pending)
+fresh_reader shape row passed pending empty = rw empty (record { head = first_good shape.kind; stop = tt; start = omega arith; waits = first_waits shape.kind shape.bins })

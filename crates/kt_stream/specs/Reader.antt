@@ -20,6 +20,8 @@ pub record Reading (E : Type 0) : Type 0 where
   pub head : Option Head
   -- the record that was read last
   pub row : Placed E
+  -- the bytes of the records that were read since the last piece came
+  pub passed : List ℕ
   -- what refused the stream
   pub stop : Option StreamStop
   -- the byte of the stream at which the header or the record that is read next begins
@@ -125,6 +127,7 @@ pub record AdvancesOne (E : Type 0) (form : Form E) (Good : Shape → ℕ → E 
   pub shape : new.shape ≡ old.shape
   pub head : new.head ≡ old.head
   pub first : held form old ≡ new.row ∷ held form new
+  pub passed : new.passed ≡ old.passed ++ form.bytes new.row.entry
   pub stands : (bytes : List ℕ) (taken : List (Placed E)) → Represents E form bytes taken old → Represents E form bytes (taken ++ new.row ∷ []) new
   pub fits : (head : Head) → old.head ≡ Some head → IsPlaced E form Good old.shape head new.row
 
@@ -138,6 +141,7 @@ pub record AdvancesToRest (E : Type 0) (form : Form E) (old new : Reading E) : T
   pub shape : new.shape ≡ old.shape
   pub head : new.head ≡ old.head
   pub none : held form old ≡ []
+  pub passed : new.passed ≡ old.passed
   pub running : new.stop ≡ None
   pub rests : IsRested E form new
   pub stands : (bytes : List ℕ) (taken : List (Placed E)) → Represents E form bytes taken old → Represents E form bytes taken new
@@ -148,6 +152,7 @@ pub record AdvancesToStop (E : Type 0) (form : Form E) (old : Reading E) (stop :
   pub shape : new.shape ≡ old.shape
   pub head : new.head ≡ old.head
   pub none : held form old ≡ []
+  pub passed : new.passed ≡ old.passed
   pub stopped : new.stop ≡ Some stop
   pub kind : IsRefusal stop
   pub rests : IsRested E form new

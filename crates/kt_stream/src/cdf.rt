@@ -132,6 +132,7 @@ impl RecordReader<Cdf> {
     pub fn new(alloc: Global, bins: u32) -> Self
         ensures value { Represents Cdf cdf_form [] [] result }
         ensures shape { result.shape ≡ cdf_shape bins }
+        ensures head { result.head ≡ None }
         ensures rests { IsRested Cdf cdf_form result }
     {
         RecordReader::of_shape(

@@ -1,6 +1,7 @@
 //! The records of a stream of ground-up losses, or of losses after terms.
 //! The rules: docs/STREAMS.md, "Records".
 ghost use Rattle.std.specs.Prelude.{◌≡◌, ◌+◌, ◌<◌, ◌≤◌, ◌^◌, [], length, IfOk};
+ghost use Rattle.kt_stream.specs.Header.{first_head};
 ghost use Rattle.kt_stream.specs.Losses.{loss_front_in, loss_form, loss_shape, IsLoss, IsLossKind};
 ghost use Rattle.kt_stream.specs.Reader.{Represents, IsRested};
 ghost use Rattle.kt_stream.specs.Stream.{IsLawful};
@@ -87,6 +88,7 @@ impl RecordReader<LossRecord> {
         requires { IsLossKind kind }
         ensures value { Represents LossRecord loss_form [] [] result }
         ensures shape { result.shape ≡ loss_shape kind }
+        ensures head { result.head ≡ first_head kind }
         ensures rests { IsRested LossRecord loss_form result }
     {
         RecordReader::of_shape(alloc, Shape { kind, bins: 0 })

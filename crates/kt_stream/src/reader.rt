@@ -2,7 +2,7 @@
 //! The rules: docs/STREAMS.md, "Readers".
 ghost use Rattle.std.specs.Prelude.{◌≡◌, ◌+◌, ◌-◌, ◌≤◌, ◌<◌, [], ◌∷◌, ◌++◌, None, Some, length, take, drop, IfOk, OnOk, OnErr, IfSome, IfNone};
 ghost use Rattle.kt_stream.specs.Stop.{IsRefusal};
-ghost use Rattle.kt_stream.specs.Stream.{fault_at, stream_limit};
+ghost use Rattle.kt_stream.specs.Stream.{AreBytes, fault_at, stream_limit};
 ghost use Rattle.kt_stream.specs.Reader.{rest_end};
 
 use crate::entry::Placed;
@@ -44,7 +44,8 @@ fn cut_at(head: Option<Head>, pending: &[u8], byte: u64) -> Option<StreamStop>
 fn within_limit(bytes: &[u8], used: usize, start: u64) -> &[u8]
     requires used { used ≤ length bytes.now }
     requires start { start ≤ stream_limit }
-    ensures { result.now ≡ take (stream_limit - start) (drop used bytes.now) }
+    ensures value { result.now ≡ take (stream_limit - start) (drop used bytes.now) }
+    ensures bytes { AreBytes result.now }
 {
     let rest = &bytes[used..];
     let room = (STREAM_LIMIT - start) as usize;
@@ -55,21 +56,26 @@ fn within_limit(bytes: &[u8], used: usize, start: u64) -> &[u8]
     }
 }
 
-/// Drops the first bytes of a block.
-fn drop_front(block: &mut Vec<u8>, used: usize)
+/// Keeps the bytes of a block from a place on, with a piece behind them. An error is want of memory, and nothing
+/// changes then.
+fn keep_behind(block: &mut Vec<u8>, used: usize, piece: &[u8]) -> Result<(), AllocError>
     requires { used ≤ length block.old.items }
-    ensures { block.new.items ≡ drop used block.old.items }
+    ensures ok { OnOk result (block.new.items ≡ drop used block.old.items ++ piece.now) }
+
+    ensures memory { OnErr result (block.new.items ≡ block.old.items) }
 {
-    if used == 0 {
-        return;
+    block.reserve(piece.len())?;
+    if used > 0 {
+        let len = block.len();
+        block.as_mut_slice().copy_within(used..len, 0);
+        block.truncate(len - used);
     }
-    let len = block.len();
-    block.as_mut_slice().copy_within(used..len, 0);
-    block.truncate(len - used);
+    block.extend_from_slice(piece)
 }
 
 /// A reader of the records of one kind, which says the same however the stream is cut into pieces. It holds
-/// the bytes that were not read yet, and the record that was read last.
+/// the bytes that were not read yet, the record that was read last, and the bytes of the records that were read since
+/// the last piece came.
 #[derive(Drop)]
 pub struct RecordReader<E: Entry> {
     shape: Shape,
@@ -78,29 +84,31 @@ pub struct RecordReader<E: Entry> {
     stop: Option<StreamStop>,
     start: u64,
     block: Vec<u8>,
+    from: usize,
     used: usize,
 }
 
 impl<E: Entry> Model for RecordReader<E> {
-    ghost use Rattle.std.specs.Prelude.{◌≤◌, length, drop};
+    ghost use Rattle.std.specs.Prelude.{◌≤◌, ◌-◌, length, take, drop};
     ghost use Rattle.kt_stream.specs.Reader.{Reading, IsReader};
 
     ghost Value = { Reading E };
 
-    ghost view = { λ r. record { shape = r.shape; head = r.head; row = r.row; stop = r.stop; start = r.start; pending = drop r.used r.block.items } };
+    ghost view = { λ r. record { shape = r.shape; head = r.head; row = r.row; passed = take (r.used - r.from) (drop r.from r.block.items); stop = r.stop; start = r.start; pending = drop r.used r.block.items } };
 
-    ghost invariant = { λ r. (r.used ≤ length r.block.items) × IsReader E (record { shape = r.shape; head = r.head; row = r.row; stop = r.stop; start = r.start; pending = drop r.used r.block.items }) };
+    ghost invariant = { λ r. (r.from ≤ r.used) × (r.used ≤ length r.block.items) × IsReader E (record { shape = r.shape; head = r.head; row = r.row; passed = take (r.used - r.from) (drop r.from r.block.items); stop = r.stop; start = r.start; pending = drop r.used r.block.items }) };
 }
 
 impl<E: Entry> RecordReader<E> {
     ghost use Rattle.kt_stream.specs.declared.kind.Head.{Head};
-    ghost use Rattle.kt_stream.specs.Header.{IsHead};
+    ghost use Rattle.kt_stream.specs.Header.{IsHead, first_head};
     ghost use Rattle.kt_stream.specs.Reader.{Represents, Extends, Advances, IsRested, HoldsNone, Finishes, held};
 
     /// A reader that is told so much of its stream and was given no bytes. Asks for no memory.
     pub(crate) fn of_shape(alloc: Global, shape: Shape) -> Self
         ensures value { Represents E E.form [] [] result }
         ensures shape { result.shape ≡ shape }
+        ensures head { result.head ≡ first_head shape.kind }
         ensures rests { IsRested E E.form result }
     {
         E::laws();
@@ -114,24 +122,26 @@ impl<E: Entry> RecordReader<E> {
             stop: None,
             start: 0,
             block: Vec::new(alloc),
+            from: 0,
             used: 0,
         }
     }
 
-    /// Takes the next piece of the stream, and reads the header once it is whole. Behind a refusal a piece changes
-    /// nothing. An error is want of memory, and nothing changes then.
+    /// Takes the next piece of the stream, and reads the header once it is whole. Behind a refusal a piece is let go. An error is want of memory, and nothing changes then.
     pub fn feed(&mut self, piece: &[u8]) -> Result<(), AllocError>
         ensures fed { OnOk result (Extends E E.form self.old piece.now self.new) }
         ensures shape { OnOk result (self.new.shape ≡ self.old.shape) }
+        ensures passed { OnOk result (self.new.passed ≡ []) }
 
         ensures memory { OnErr result (self.new ≡ self.old) }
     {
         if let Some(_stop) = self.stop {
+            self.from = self.used;
             return Ok(());
         }
-        drop_front(&mut self.block, self.used);
+        keep_behind(&mut self.block, self.used, piece)?;
+        self.from = 0;
         self.used = 0;
-        self.block.extend_from_slice(piece)?;
         if let Some(_head) = self.head {
             return Ok(());
         }
@@ -144,6 +154,7 @@ impl<E: Entry> RecordReader<E> {
             Read::Got(head) => {
                 self.head = Some(head);
                 self.used = header_length(self.shape.kind);
+                self.from = self.used;
                 self.start += self.used as u64;
             }
         }
@@ -203,6 +214,13 @@ impl<E: Entry> RecordReader<E> {
         ensures value { result.now ≡ self.now.row }
     {
         &self.row
+    }
+
+    /// The bytes in which the records stand that were read since the last piece came, one behind the other.
+    pub fn passed(&self) -> &[u8]
+        ensures value { result.now ≡ self.now.passed }
+    {
+        &self.block.as_slice()[self.from..self.used]
     }
 
     /// The header, once it is whole and good. Without one no record is held.

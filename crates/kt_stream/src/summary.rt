@@ -1,6 +1,6 @@
 //! The records of a summary stream.
 //! The rules: docs/STREAMS.md, "Records".
-ghost use Rattle.std.specs.Prelude.{◌≡◌, ◌+◌, ◌<◌, ◌≤◌, ◌^◌, [], length, IfOk};
+ghost use Rattle.std.specs.Prelude.{◌≡◌, ◌+◌, ◌<◌, ◌≤◌, ◌^◌, [], None, length, IfOk};
 ghost use Rattle.kt_stream.specs.Summary.{front_in, summary_form, IsSummary, summary_shape};
 ghost use Rattle.kt_stream.specs.Stream.{IsLawful};
 ghost use Rattle.kt_stream.specs.Reader.{Represents, IsRested};
@@ -105,6 +105,7 @@ impl RecordReader<SummaryRecord> {
     pub fn new(alloc: Global) -> Self
         ensures value { Represents SummaryRecord summary_form [] [] result }
         ensures shape { result.shape ≡ summary_shape }
+        ensures head { result.head ≡ None }
         ensures rests { IsRested SummaryRecord summary_form result }
     {
         RecordReader::of_shape(

@@ -11,7 +11,7 @@ returns-then-pending-self g c =
     let running : r.stop ≡ None = ap (λ (r : Reading g.row.E.Denot). r.stop) c.self.view_is ∙ c.requires.running in
     let none = rw (← c.self.view_is) at c.requires.none in
     let fits : length (drop r.used r.block.items) ≤ stream_limit - r.start = rw (c.as_slice.ensures.value, take_rest) at c.if-pending-self.true in
-    rw (← c.self.view_is, running) (needs_more g.E.Entry.form r.shape r.head r.row r.start (drop r.used r.block.items) none c.self.invariant.1.start fits)
+    rw (← c.self.view_is, running) (needs_more g.E.Entry.form r.shape r.head r.row _ r.start (drop r.used r.block.items) none c.self.invariant.2.start fits)
 
 pub returns : goal.returns
 returns g c =
@@ -19,4 +19,4 @@ returns g c =
     let running : r.stop ≡ None = ap (λ (r : Reading g.row.E.Denot). r.stop) c.self.view_is ∙ c.requires.running in
     let none = rw (← c.self.view_is) at c.requires.none in
     let beyond : stream_limit - r.start < length (drop r.used r.block.items) = rw (c.as_slice.ensures.value, take_rest) at c.if-pending-self.false in
-    rw (← c.self.view_is, running) (too_long_stop g.E.Entry.form r.shape r.head r.row r.start (drop r.used r.block.items) none beyond)
+    rw (← c.self.view_is, running) (too_long_stop g.E.Entry.form r.shape r.head r.row _ r.start (drop r.used r.block.items) none beyond)

@@ -1,0 +1,399 @@
+-- What is written of a file that is a stream, piece by piece, is what it gives.
+use Rattle.std.proofs.Common.{◌≡◌, ℕ, Bool, true, false, List, [], ◌∷◌, ◌++◌, take, drop, Option, Some, None, Result, Ok, Err, refl, sym, ap, ◌∙◌, append_assoc, append-nil, ◌+◌, ◌≤◌, length, subst, inl}
+use Rattle.std.specs.Prelude.{IfSome, IsSomeAnd, if◌then◌else◌}
+use Rattle.std.specs.Option.{is_some}
+use Rattle.std.proofs.lemmas.Grind.{flat_map-append}
+use Rattle.std.proofs.lemmas.Bool.{false≢true}
+use Rattle.std.proofs.lemmas.List.{take-append-drop, take_all}
+use Rattle.kt_out.specs.InputFiles.{InputsState}
+use Rattle.kt_out.specs.NamedFiles.{FileMap}
+use Rattle.kt_out.specs.OutputFiles.{OutputsState}
+use Rattle.kt_out.specs.Reading.{GivesKnown, SourceState}
+use Rattle.kt_out.specs.Writing.{SinkState, Gains, GainsFront}
+use Rattle.kt_out.specs.declared.fault.Fault.{Fault}
+use Rattle.kt_out.specs.declared.fault.Fault.TheVariants.{Failed, OutOfMemory}
+use Rattle.kt_stream.specs.declared.entry.Placed.{Placed}
+use Rattle.kt_stream.specs.declared.kind.Head.{Head}
+use Rattle.kt_stream.specs.declared.kind.Shape.{Shape}
+use Rattle.kt_stream.specs.declared.kind.StreamKind.{StreamKind}
+use Rattle.kt_stream.specs.declared.stop.StreamStop.{StreamStop}
+use Rattle.kt_stream.specs.Growth.{GrowsTo}
+use Rattle.kt_stream.specs.Reader.{AdvancesOne, AdvancesToRest, AdvancesToStop, Reading, Represents, Ends, held, held_by, refused, stream_from}
+use Rattle.kt_stream.specs.Stream.{Form, Stream, stream_of, fault_of, fault_at}
+use Rattle.kt_ends.specs.Ending.{Counted, IsFront, GainedFront}
+use Rattle.kt_ends.specs.Outcome.{Outcome}
+use Rattle.kt_ends.specs.Stops.{end_status, stop_status}
+use Rattle.kt_ends.specs.World.{world}
+use Rattle.kt_ends.specs.declared.status.Refusal.{Refusal}
+use Rattle.kt_ends.specs.declared.status.Refusal.TheVariants.{File, HeaderDiffers}
+use Rattle.kt_ends.specs.declared.status.Status.{Status}
+use Rattle.kt_ends.specs.declared.status.Status.TheVariants as status
+use Rattle.kt_ends.specs.declared.tool_stop.ToolStop.{ToolStop}
+use Rattle.kt_ends.specs.declared.tool_stop.ToolStop.TheVariants as stop
+use Rattle.kt_loop.specs.InputFile.{IsSized, file_bytes, left_from}
+use Rattle.kt_loop.specs.Outcome.{gives}
+use Rattle.kt_loop.specs.RecordStreams.{contents_of}
+use Rattle.kt_loop.specs.Settling.{IsEnd}
+use Rattle.kt_kat.specs.Copied.{Agrees, Copies, CopiesRecords, HasGained, IsCopied, Opens, OpensFile, ReadsAll, StopsIn, Written, copied_text}
+use Rattle.kt_kat.specs.Joining.{differs, file_status, heading_of, joined, joined_by, records_text}
+use Rattle.kt_kat.specs.Stops.{unread_stop}
+use Rattle.kt_kat.proofs.Copying.{piece_is, taken_on}
+use Rattle.kt_kat.proofs.Ending.{counted_none}
+
+-- ---- what the sink has gained
+
+-- one text behind another
+pub gained_more : (before mid now : Option (List ℕ)) (text piece : List ℕ) → HasGained before mid text → Gains mid now piece → HasGained before now (text ++ piece)
+gained_more None mid now text piece had gains = tt
+gained_more (Some taken) mid now text piece had gains =
+    let told : now ≡ Some ((taken ++ text) ++ piece) = subst (λ (o : Option (List ℕ)). Gains o now piece) had gains in
+    told ∙ ap (λ (xs : List ℕ). Some xs) (append_assoc taken text piece)
+
+-- a text that is a front of an output
+front_gained : (before now : Option (List ℕ)) (text output : List ℕ) → HasGained before now text → IsFront text output → IfSome before (λ taken. GainedFront output taken now)
+front_gained None now text output had front = tt
+front_gained (Some taken) now text output had front = record { front = text; is_front = front; gained = had }
+
+-- some front of one text behind another
+part_gained : (before mid now : Option (List ℕ)) (text piece output : List ℕ) → HasGained before mid text → GainsFront mid now piece → IsFront (text ++ piece) output → IfSome before (λ taken. GainedFront output taken now)
+part_gained None mid now text piece output had gains front = tt
+part_gained (Some taken) mid now text piece output had gains front =
+    let k : ℕ = gains.length_taken in
+    let told : now ≡ Some ((taken ++ text) ++ take k piece) = subst (λ (o : Option (List ℕ)). Gains o now (take k piece)) had gains.gained in
+    record {
+      front = text ++ take k piece;
+      is_front = record {
+        rest = drop k piece ++ front.rest;
+        is = front.is ∙ ap (λ (xs : List ℕ). (text ++ xs) ++ front.rest) (sym (take-append-drop k piece)) ∙ ap (λ (xs : List ℕ). xs ++ front.rest) (sym (append_assoc text (take k piece) (drop k piece))) ∙ append_assoc (text ++ take k piece) (drop k piece) front.rest;
+      };
+      gained = told ∙ ap (λ (xs : List ℕ). Some xs) (append_assoc taken text (take k piece));
+    }
+
+-- a reader without a header holds no record
+none_by : {E : Type 0} (why : Option StreamStop) (entries : List (Placed E)) → held_by why None entries ≡ []
+none_by None entries = refl
+none_by (Some why) entries = refl
+
+no_head_held : {E : Type 0} (form : Form E) (r : Reading E) → r.head ≡ None → held form r ≡ []
+no_head_held form r none = ap (λ (head : Option Head). held_by r.stop head (stream_from form r []).entries) none ∙ none_by r.stop (stream_from form r []).entries
+
+-- ---- the records that a reader reads
+
+-- these records were read of those that were still to be read
+pub record HasPassed {E : Type 0} (form : Form E) (old now : Reading E) : Type 0 where
+  pub done : List (Placed E)
+  pub shape : now.shape ≡ old.shape
+  pub head : now.head ≡ old.head
+  pub left : held form old ≡ done ++ held form now
+  pub passed : now.passed ≡ old.passed ++ records_text form done
+  pub stands : (bytes : List ℕ) (taken : List (Placed E)) → Represents E form bytes taken old → Represents E form bytes (taken ++ done) now
+
+module _ {E : Type 0} (form : Form E) (old : Reading E) where
+  pub passed_none : HasPassed form old old
+  passed_none = record { done = []; shape = refl; head = refl; left = refl; passed = sym (append-nil old.passed); stands = λ bytes taken stands. subst (λ (read : List (Placed E)). Represents E form bytes read old) (sym (append-nil taken)) stands }
+
+  module _ (now new : Reading E) (had : HasPassed form old now) where
+    pub passed_one : {Good : Shape → ℕ → E → Type 0} → AdvancesOne E form Good now new → HasPassed form old new
+    passed_one one =
+        let row : List (Placed E) = new.row ∷ [] in
+        record {
+          done = had.done ++ row;
+          shape = one.shape ∙ had.shape;
+          head = one.head ∙ had.head;
+          left = had.left ∙ ap (λ (later : List (Placed E)). had.done ++ later) one.first ∙ sym (append_assoc had.done row (held form new));
+          passed = one.passed ∙ ap (λ (xs : List ℕ). xs ++ form.bytes new.row.entry) had.passed ∙ append_assoc old.passed (records_text form had.done) (form.bytes new.row.entry)
+              ∙ ap (λ (xs : List ℕ). old.passed ++ xs) (ap (λ (xs : List ℕ). records_text form had.done ++ xs) (sym (append-nil (form.bytes new.row.entry))) ∙ sym (flat_map-append (λ (placed : Placed E). form.bytes placed.entry) had.done row));
+          stands = λ bytes taken stands. subst (λ (read : List (Placed E)). Represents E form bytes read new) (append_assoc taken had.done row) (one.stands bytes (taken ++ had.done) (had.stands bytes taken stands));
+        }
+
+    -- none is left
+    all_done : held form now ≡ [] → had.done ≡ held form old
+    all_done none = sym (had.left ∙ ap (λ (later : List (Placed E)). had.done ++ later) none ∙ append-nil had.done)
+
+    pub passed_rest : AdvancesToRest E form now new → ReadsAll form old None new
+    passed_rest rest =
+        let all = all_done rest.none in
+        record {
+          shape = rest.shape ∙ had.shape;
+          head = rest.head ∙ had.head;
+          passed = rest.passed ∙ had.passed ∙ ap (λ (read : List (Placed E)). old.passed ++ records_text form read) all;
+          stands = λ bytes taken stands. subst (λ (read : List (Placed E)). Represents E form bytes (taken ++ read) new) all (rest.stands bytes (taken ++ had.done) (had.stands bytes taken stands));
+          rests = rest.rests;
+          refuses = tt;
+        }
+
+    pub passed_stop : (why : StreamStop) → AdvancesToStop E form now why new → ReadsAll form old (Some why) new
+    passed_stop why ended =
+        let all = all_done ended.none in
+        record {
+          shape = ended.shape ∙ had.shape;
+          head = ended.head ∙ had.head;
+          passed = ended.passed ∙ had.passed ∙ ap (λ (read : List (Placed E)). old.passed ++ records_text form read) all;
+          stands = λ bytes taken stands. subst (λ (read : List (Placed E)). Represents E form bytes (taken ++ read) new) all (ended.stands bytes (taken ++ had.done) (had.stands bytes taken stands));
+          rests = ended.rests;
+          refuses = λ bytes taken stands more. ended.refuses bytes (taken ++ had.done) (had.stands bytes taken stands) more ∙ ap (λ (read : List (Placed E)). refused new.head (taken ++ read) why) all;
+        }
+
+-- ---- what a file gives
+
+module _ {E : Type 0} (form : Form E) (shape : Shape) (first : Option Head) (number : ℕ) where
+  abbrev of_bytes : List ℕ → Stream E
+  of_bytes bytes = stream_of form shape bytes
+
+  abbrev text : Option Head → List (Placed E) → List ℕ
+  text head entries = copied_text form shape.kind first head entries
+
+  abbrev made : List ℕ → Outcome
+  made bytes = joined form shape.kind first number (contents_of form shape bytes)
+
+  -- what a file gives whose header agrees
+  joined_is : (head : Option Head) (entries : List (Placed E)) (fault : Option StreamStop) → Agrees first head → joined_by form shape.kind first number head entries fault ≡ gives (file_status number fault) (text head entries)
+  joined_is None entries fault agrees = refl
+  joined_is (Some head) entries fault agrees =
+      ap (λ (other : Bool). if other then gives (status.Refused (HeaderDiffers number)) [] else gives (file_status number fault) (heading_of shape.kind first head ++ records_text form entries)) agrees
+
+  -- more records
+  text_more : (head : Head) (entries later : List (Placed E)) → text (Some head) (entries ++ later) ≡ text (Some head) entries ++ records_text form later
+  text_more head entries later =
+      ap (λ (xs : List ℕ). heading_of shape.kind first head ++ xs) (flat_map-append (λ (placed : Placed E). form.bytes placed.entry) entries later)
+      ∙ sym (append_assoc (heading_of shape.kind first head) (records_text form entries) (records_text form later))
+
+  -- what is written of the front of a file is a front of what it gives
+  grown_front : (head : Option Head) (entries later : List (Placed E)) (now : Stream E) (fault : Option StreamStop) → Agrees first head → ((h : Head) → head ≡ Some h → now.head ≡ Some h) → now.entries ≡ entries ++ later
+      → IsFront (text head entries) (joined_by form shape.kind first number now.head now.entries fault).output
+  grown_front None entries later now fault agrees heads is = record { rest = (joined_by form shape.kind first number now.head now.entries fault).output; is = refl }
+  grown_front (Some h) entries later now fault agrees heads is = record {
+    rest = records_text form later;
+    is = ap (λ (head : Option Head). (joined_by form shape.kind first number head now.entries fault).output) (heads h refl) ∙ ap (λ (o : Outcome). o.output) (joined_is (Some h) now.entries fault agrees) ∙ ap (text (Some h)) is ∙ text_more h entries later;
+  }
+
+  module _ (grows : (bytes more : List ℕ) → GrowsTo E (of_bytes bytes) (of_bytes (bytes ++ more))) where
+    front_of : (fed more : List ℕ) → Agrees first (of_bytes fed).head → IsFront (text (of_bytes fed).head (of_bytes fed).entries) (made (fed ++ more)).output
+    front_of fed more agrees =
+        let grown = grows fed more in
+        grown_front (of_bytes fed).head (of_bytes fed).entries grown.entries.0 (of_bytes (fed ++ more)) (fault_of form shape (fed ++ more)) agrees grown.head grown.entries.1
+
+    -- a read failed, or no memory was there
+    pub stops_unread : (fault : Fault) (fed : List ℕ) (r : Reading E) (before now : Option (List ℕ)) → IsCopied form shape first fed r before now → StopsIn form shape first number fed before now (unread_stop fault)
+    stops_unread Failed fed r before now copied more = record { verdict = tt; output = front_gained before now _ (made (fed ++ more)).output copied.written (front_of fed more copied.agrees) }
+    stops_unread OutOfMemory fed r before now copied more = record { verdict = tt; output = front_gained before now _ (made (fed ++ more)).output copied.written (front_of fed more copied.agrees) }
+
+    -- the same behind a piece
+    pub stops_behind : (why : ToolStop) (fed piece : List ℕ) (before now : Option (List ℕ)) → StopsIn form shape first number fed before now why → StopsIn form shape first number (fed ++ piece) before now why
+    stops_behind why fed piece before now stops more = subst (λ (bytes : List ℕ). IsEnd (made bytes) before now (stop_status why)) (sym (append_assoc fed piece more)) (stops (piece ++ more))
+
+    -- ---- the header
+
+    -- the reader was given these bytes of a file, it read these records, and its header and they are written
+    pub record IsOpened (fed : List ℕ) (taken : List (Placed E)) (before now : Option (List ℕ)) (r : Reading E) : Type 0 where
+      pub told : r.shape ≡ shape
+      pub stands : Represents E form fed taken r
+      pub agrees : Agrees first r.head
+      pub written : HasGained before now (text r.head taken)
+
+    made_headed : (fed more : List ℕ) (h : Head) → (of_bytes fed).head ≡ Some h → made (fed ++ more) ≡ joined_by form shape.kind first number (Some h) (of_bytes (fed ++ more)).entries (fault_of form shape (fed ++ more))
+    made_headed fed more h is = ap (λ (head : Option Head). joined_by form shape.kind first number head (of_bytes (fed ++ more)).entries (fault_of form shape (fed ++ more))) ((grows fed more).head h is)
+
+    heading_front : (fed more : List ℕ) (h : Head) → (of_bytes fed).head ≡ Some h → differs first h ≡ false → IsFront ([] ++ heading_of shape.kind first h) (made (fed ++ more)).output
+    heading_front fed more h is same = record {
+      rest = records_text form (of_bytes (fed ++ more)).entries;
+      is = ap (λ (o : Outcome). o.output) (made_headed fed more h is ∙ joined_is (Some h) (of_bytes (fed ++ more)).entries (fault_of form shape (fed ++ more)) same);
+    }
+
+    open_stops : (fed : List ℕ) (before : Option (List ℕ)) (mid now : SinkState) (h : Head) (why : ToolStop) → HasGained before mid.taken [] → (of_bytes fed).head ≡ Some h → Opens {T = Unit {0}} shape.kind first number h mid now (Err why) → StopsIn form shape first number fed before now.taken why
+    open_stops fed before mid now h (stop.Refused why) had is opens more =
+        subst (λ (o : Outcome). IsEnd o before now.taken (status.Refused why)) (sym (made_headed fed more h is ∙ ap (λ (other : Bool). if other then gives (status.Refused (HeaderDiffers number)) [] else gives (file_status number (fault_of form shape (fed ++ more))) (text (Some h) (of_bytes (fed ++ more)).entries)) opens.0))
+        (record { verdict = ap (λ w. status.Refused w) (sym opens.1); output = subst (λ (s : SinkState). HasGained before s.taken []) (sym opens.2) had })
+    open_stops fed before mid now h stop.ReadFault had is opens more = absurd opens.1
+    open_stops fed before mid now h stop.WriteFault had is opens more = record { verdict = tt; output = part_gained before mid.taken now.taken [] (heading_of shape.kind first h) (made (fed ++ more)).output had opens.1.front (heading_front fed more h is opens.0) }
+    open_stops fed before mid now h stop.NoMemory had is opens more = record { verdict = tt; output = part_gained before mid.taken now.taken [] (heading_of shape.kind first h) (made (fed ++ more)).output had opens.1.front (heading_front fed more h is opens.0) }
+
+    -- the header is whole now, or was before
+    open_done : (was : Bool) (old head : Option Head) (taken : List (Placed E)) (before : Option (List ℕ)) (mid now : SinkState) → was ≡ is_some old → ((h : Head) → old ≡ Some h → head ≡ Some h) → (old ≡ None → taken ≡ []) → Agrees first old → HasGained before mid.taken (text old taken)
+        → OpensFile {T = Unit {0}} shape.kind first number was head mid now (Ok tt) → Agrees first head × HasGained before now.taken (text head taken)
+    open_done false (Some h) head taken before mid now is stays none agrees had opens = absurd (false≢true is)
+    open_done true None head taken before mid now is stays none agrees had opens = absurd (false≢true (sym is))
+    open_done true (Some h) head taken before mid now is stays none agrees had opens =
+        subst (λ (other : Option Head). Agrees first other × HasGained before now.taken (text other taken)) (sym (stays h refl)) (agrees, subst (λ (s : SinkState). HasGained before s.taken (text (Some h) taken)) (sym opens) had)
+    open_done false None None taken before mid now is stays none agrees had opens = (tt, subst (λ (s : SinkState). HasGained before s.taken []) (sym opens) had)
+    open_done false None (Some h) taken before mid now is stays none agrees had opens =
+        let whole : text (Some h) taken ≡ heading_of shape.kind first h = ap (text (Some h)) (none refl) ∙ append-nil (heading_of shape.kind first h) in
+        (opens.0, subst (λ (xs : List ℕ). HasGained before now.taken xs) (sym whole) (gained_more before mid.taken now.taken [] (heading_of shape.kind first h) had opens.1.moved))
+
+    -- the header is refused, or could not be written
+    open_fails : (was : Bool) (old head : Option Head) (fed : List ℕ) (taken : List (Placed E)) (before : Option (List ℕ)) (mid now : SinkState) (why : ToolStop) → was ≡ is_some old → (of_bytes fed).head ≡ head → HasGained before mid.taken (text old taken)
+        → OpensFile {T = Unit {0}} shape.kind first number was head mid now (Err why) → StopsIn form shape first number fed before now.taken why
+    open_fails true old head fed taken before mid now why is heads had opens = absurd opens
+    open_fails false old None fed taken before mid now why is heads had opens = absurd opens
+    open_fails false None (Some h) fed taken before mid now why is heads had opens = open_stops fed before mid now h why had heads opens
+    open_fails false (Some other) (Some h) fed taken before mid now why is heads had opens = absurd (false≢true is)
+
+    -- ---- a piece
+
+    module _ (fed piece : List ℕ) (old mid : Reading E) (before : Option (List ℕ)) (sink sink_mid : SinkState) (was : Bool) (copied : IsCopied form shape first fed old before sink.taken) (extends : Represents E form (fed ++ piece) (of_bytes fed).entries mid) (same : mid.shape ≡ old.shape) (was-is : was ≡ is_some old.head) where
+      old_head : old.head ≡ (of_bytes fed).head
+      old_head = subst (λ (s : Shape). old.head ≡ (stream_of form s fed).head) copied.told copied.stands.head
+
+      mid_head : mid.head ≡ (of_bytes (fed ++ piece)).head
+      mid_head = subst (λ (s : Shape). mid.head ≡ (stream_of form s (fed ++ piece)).head) (same ∙ copied.told) extends.head
+
+      old_written : HasGained before sink.taken (text old.head (of_bytes fed).entries)
+      old_written = subst (λ (head : Option Head). HasGained before sink.taken (text head (of_bytes fed).entries)) (sym old_head) copied.written
+
+      pub piece_stops : (why : ToolStop) → OpensFile {T = Unit {0}} shape.kind first number was mid.head sink sink_mid (Err why) → StopsIn form shape first number (fed ++ piece) before sink_mid.taken why
+      piece_stops why opens = open_fails was old.head mid.head (fed ++ piece) (of_bytes fed).entries before sink sink_mid why was-is (sym mid_head) old_written opens
+
+      pub piece_opens : ((of_bytes fed).head ≡ None → (of_bytes fed).entries ≡ []) → OpensFile {T = Unit {0}} shape.kind first number was mid.head sink sink_mid (Ok tt) → IsOpened (fed ++ piece) (of_bytes fed).entries before sink_mid.taken mid
+      piece_opens none opens =
+          let done = open_done was old.head mid.head (of_bytes fed).entries before sink sink_mid was-is (λ h is. mid_head ∙ (grows fed piece).head h (sym old_head ∙ is)) (λ is. none (sym old_head ∙ is)) (subst (Agrees first) (sym old_head) copied.agrees) old_written opens in
+          record { told = same ∙ copied.told; stands = extends; agrees = done.0; written = done.1 }
+
+    -- ---- the records
+
+    text_behind : (head : Option Head) (entries later : List (Placed E)) → (head ≡ None → later ≡ []) → text head entries ++ records_text form later ≡ text head (entries ++ later)
+    text_behind None entries later none = ap (records_text form) (none refl)
+    text_behind (Some h) entries later none = sym (text_more h entries later)
+
+    module _ (fed : List ℕ) (taken : List (Placed E)) (before : Option (List ℕ)) (sink sink_now : SinkState) (old new : Reading E) (opened : IsOpened fed taken before sink.taken old) where
+      head_is : old.head ≡ (of_bytes fed).head
+      head_is = subst (λ (s : Shape). old.head ≡ (stream_of form s fed).head) opened.told opened.stands.head
+
+      entries_are : taken ++ held form old ≡ (of_bytes fed).entries
+      entries_are = subst (λ (s : Shape). taken ++ held form old ≡ (stream_of form s fed).entries) opened.told opened.stands.records
+
+      all_text : text old.head taken ++ records_text form (held form old) ≡ text old.head (taken ++ held form old)
+      all_text = text_behind old.head taken (held form old) (no_head_held form old)
+
+      whole_text : text old.head taken ++ records_text form (held form old) ≡ text (of_bytes fed).head (of_bytes fed).entries
+      whole_text = all_text ∙ ap (text old.head) entries_are ∙ ap (λ (head : Option Head). text head (of_bytes fed).entries) head_is
+
+      piece_front : (more : List ℕ) → IsFront (text old.head taken ++ records_text form (held form old)) (made (fed ++ more)).output
+      piece_front more = subst (λ (xs : List ℕ). IsFront xs (made (fed ++ more)).output) (sym whole_text) (front_of fed more (subst (Agrees first) head_is opened.agrees))
+
+      records_refused : (why : StreamStop) → ReadsAll form old (Some why) new → (more : List ℕ) → made (fed ++ more) ≡ gives (status.Refused (File number why)) (text old.head (taken ++ held form old))
+      records_refused why reads more =
+          let all : of_bytes (fed ++ more) ≡ refused old.head (taken ++ held form old) why = subst (λ (s : Shape). stream_of form s (fed ++ more) ≡ refused old.head (taken ++ held form old) why) (reads.shape ∙ opened.told)
+          (reads.refuses fed taken opened.stands more ∙ ap (λ (head : Option Head). refused head (taken ++ held form old) why) reads.head) in
+          ap (λ (s : Stream E). joined_by form shape.kind first number s.head s.entries (fault_at (length (fed ++ more)) s.end)) all ∙ joined_is old.head (taken ++ held form old) (Some why) opened.agrees
+
+      pub records_copied : (result : Result (Unit {0}) ToolStop) → CopiesRecords form number old sink sink_now new result → Copies form shape first number fed new before sink_now.taken result
+      records_copied (Ok done) copies = record {
+        told = copies.0.shape ∙ opened.told;
+        stands = subst (λ (entries : List (Placed E)). Represents E form fed entries new) entries_are (copies.0.stands fed taken opened.stands);
+        agrees = subst (Agrees first) head_is opened.agrees;
+        written = subst (λ (xs : List ℕ). HasGained before sink_now.taken xs) whole_text (gained_more before sink.taken sink_now.taken _ _ opened.written copies.1.moved);
+      }
+      records_copied (Err (stop.Refused refusal)) copies = λ more.
+          subst (λ (o : Outcome). IsEnd o before sink_now.taken (status.Refused refusal)) (sym (records_refused copies.why copies.reads more))
+          (record { verdict = ap (λ w. status.Refused w) (sym copies.refusal-is); output = subst (λ (xs : List ℕ). HasGained before sink_now.taken xs) all_text (gained_more before sink.taken sink_now.taken _ _ opened.written copies.written.moved) })
+      records_copied (Err stop.ReadFault) copies = λ more. absurd copies
+      records_copied (Err stop.WriteFault) copies = λ more. record { verdict = tt; output = part_gained before sink.taken sink_now.taken _ _ (made (fed ++ more)).output opened.written copies.front (piece_front more) }
+      records_copied (Err stop.NoMemory) copies = λ more. record { verdict = tt; output = part_gained before sink.taken sink_now.taken _ _ (made (fed ++ more)).output opened.written copies.front (piece_front more) }
+
+  -- ---- the whole file
+
+  -- before its first byte
+  pub copied_none : (r : Reading E) (before : Option (List ℕ)) → r.shape ≡ shape → r.head ≡ None → Represents E form [] [] r → IsCopied form shape first [] r before before
+  copied_none r before told none stands =
+      let head : (of_bytes []).head ≡ None = sym (subst (λ (s : Shape). r.head ≡ (stream_of form s []).head) told stands.head) ∙ none in
+      let entries : [] ≡ (of_bytes []).entries = sym (no_head_held form r none) ∙ subst (λ (s : Shape). held form r ≡ (stream_of form s []).entries) told stands.records in
+      record {
+        told = told;
+        stands = subst (λ (taken : List (Placed E)). Represents E form [] taken r) entries stands;
+        agrees = subst (Agrees first) (sym head) tt;
+        written = subst (λ (h : Option Head). HasGained before before (text h (of_bytes []).entries)) (sym head) (gained_none before);
+      }
+    where
+      gained_none : (before : Option (List ℕ)) → HasGained before before []
+      gained_none None = tt
+      gained_none (Some taken) = ap (λ (xs : List ℕ). Some xs) (sym (append-nil taken))
+
+  -- behind its last byte
+  pub file_ends : (bytes : List ℕ) (r : Reading E) (before now : Option (List ℕ)) (fault : Option StreamStop) → IsCopied form shape first bytes r before now → Ends E form r fault → IsEnd (made bytes) before now (file_status number fault)
+  file_ends bytes r before now fault copied ends =
+      let fault-is : fault_of form shape bytes ≡ fault = subst (λ (s : Shape). fault_of form s bytes ≡ fault) copied.told (ends bytes (of_bytes bytes).entries copied.stands) in
+      subst (λ (o : Outcome). IsEnd o before now (file_status number fault)) (sym (ap (joined_by form shape.kind first number (of_bytes bytes).head (of_bytes bytes).entries) fault-is ∙ joined_is (of_bytes bytes).head (of_bytes bytes).entries fault copied.agrees)) (by_fault fault)
+    where
+      by_fault : (why : Option StreamStop) → IsEnd (gives (file_status number why) (text (of_bytes bytes).head (of_bytes bytes).entries)) before now (file_status number why)
+      by_fault None = record { verdict = refl; output = copied.written }
+      by_fault (Some why) = record { verdict = refl; output = copied.written }
+
+-- ---- a file whose bytes may be known
+
+module _ {E : Type 0} (form : Form E) (shape : Shape) (first : Option Head) (number : ℕ) (before now : Option (List ℕ)) where
+  abbrev pub IsCopiedTo : Option (List ℕ) → ℕ → Reading E → Option (List ℕ) → Type 0
+  IsCopiedTo left at r now = IfSome left (λ bytes. IsCopied form shape first (take at bytes) r before now)
+
+  abbrev pub EndsFile : Option (List ℕ) → Status → Type 0
+  EndsFile left end = IfSome left (λ bytes. IsEnd (joined form shape.kind first number (contents_of form shape bytes)) before now end)
+
+  -- before its first byte
+  pub file_first : (left : Option (List ℕ)) (r : Reading E) → r.shape ≡ shape → r.head ≡ None → Represents E form [] [] r → IsCopiedTo left 0 r before
+  file_first None r told none stands = tt
+  file_first (Some bytes) r told none stands = copied_none form shape first number r before told none stands
+
+  -- a piece of it
+  pub file_copies : (left next : Option (List ℕ)) (at n : ℕ) (room filled piece : List ℕ) (old new : Reading E) (mid : Option (List ℕ)) (result : Result (Unit {0}) ToolStop) → IsCopiedTo left at old mid → GivesKnown (left_from left at) next room filled n → piece ≡ take n filled
+      → ((fed : List ℕ) → IsCopied form shape first fed old before mid → Copies form shape first number (fed ++ piece) new before now result) → IfSome left (λ bytes. Copies form shape first number (take (at + n) bytes) new before now result)
+  file_copies None next at n room filled piece old new mid result copied gives is turns = tt
+  file_copies (Some bytes) next at n room filled piece old new mid result copied gives is turns =
+      subst (λ (fed : List ℕ). Copies form shape first number fed new before now result) (ap (λ (xs : List ℕ). take at bytes ++ xs) (piece_is bytes next room filled piece at n gives is) ∙ taken_on at n bytes) (turns (take at bytes) copied)
+
+  -- it ends so whatever bytes follow
+  pub file_stops : (left : Option (List ℕ)) (at : ℕ) (why : ToolStop) → IfSome left (λ bytes. StopsIn form shape first number (take at bytes) before now why) → EndsFile left (stop_status why)
+  file_stops None at why stops = tt
+  file_stops (Some bytes) at why stops = subst (λ (whole : List ℕ). IsEnd (joined form shape.kind first number (contents_of form shape whole)) before now (stop_status why)) (take-append-drop at bytes) (stops (drop at bytes))
+
+  pub file_unread : ((bytes more : List ℕ) → GrowsTo E (stream_of form shape bytes) (stream_of form shape (bytes ++ more))) → (fault : Fault) (left : Option (List ℕ)) (at : ℕ) (r : Reading E) → IsCopiedTo left at r now → EndsFile left (stop_status (unread_stop fault))
+  file_unread grows fault None at r copied = tt
+  file_unread grows fault (Some bytes) at r copied = file_stops (Some bytes) at (unread_stop fault) (stops_unread form shape first number grows fault (take at bytes) r before now copied)
+
+  -- behind its last byte
+  whole_copied : (left : Option (List ℕ)) (size at : ℕ) (r : Reading E) → IsSomeAnd left (λ bytes. size ≡ length bytes) → size ≤ at → IsCopiedTo left at r now → IfSome left (λ bytes. IsCopied form shape first bytes r before now)
+  whole_copied None size at r sized end copied = tt
+  whole_copied (Some bytes) size at r sized end copied = subst (λ (fed : List ℕ). IsCopied form shape first fed r before now) (take_all at bytes (subst (λ (n : ℕ). n ≤ at) sized end)) copied
+
+  pub file_copied : (held : Option FileMap) (name : List ℕ) (size at : ℕ) (r : Reading E) → IsSized held name size → size ≤ at → IsCopiedTo (file_bytes held name) at r now → IfSome (file_bytes held name) (λ bytes. IsCopied form shape first bytes r before now)
+  file_copied None name size at r sized end copied = tt
+  file_copied (Some files) name size at r sized end copied = whole_copied (files name) size at r sized end copied
+
+  pub file_done : (left : Option (List ℕ)) (r : Reading E) (fault : Option StreamStop) → IfSome left (λ bytes. IsCopied form shape first bytes r before now) → Ends E form r fault → EndsFile left (file_status number fault)
+  file_done None r fault copied ends = tt
+  file_done (Some bytes) r fault copied ends = file_ends form shape first number bytes r before now fault copied ends
+
+  pub file_head : (left : Option (List ℕ)) (r : Reading E) → IfSome left (λ bytes. IsCopied form shape first bytes r before now) → IfSome left (λ bytes. r.head ≡ (stream_of form shape bytes).head)
+  file_head None r copied = tt
+  file_head (Some bytes) r copied = subst (λ (s : Shape). r.head ≡ (stream_of form s bytes).head) copied.told copied.stands.head
+
+-- ---- counts
+
+module _ (inputs : InputsState) (outputs : OutputsState) (source : SourceState) (mid now : SinkState) where
+  written_counts : (text : List ℕ) (result : Result (Unit {0}) ToolStop) → Written mid now text result → Counted (world inputs outputs source mid) (world inputs outputs source now) (end_status result)
+  written_counts text (Ok done) wrote = counted_none inputs inputs outputs source mid now refl wrote.counted
+  written_counts text (Err (stop.Refused why)) wrote = absurd wrote
+  written_counts text (Err stop.ReadFault) wrote = absurd wrote
+  written_counts text (Err stop.WriteFault) wrote = record { rose = inl (wrote.counted, refl); reads = record { inputs = refl; source = refl }; misses = refl }
+  written_counts text (Err stop.NoMemory) wrote = counted_none inputs inputs outputs source mid now refl wrote.counted
+
+  open_counts : (kind : StreamKind) (first : Option Head) (number : ℕ) (head : Head) (result : Result (Unit {0}) ToolStop) → Opens kind first number head mid now result → Counted (world inputs outputs source mid) (world inputs outputs source now) (end_status result)
+  open_counts kind first number head (Ok done) opens = written_counts (heading_of kind first head) (Ok done) opens.1
+  open_counts kind first number head (Err (stop.Refused why)) opens =
+      subst (λ (refusal : Refusal). Counted (world inputs outputs source mid) (world inputs outputs source now) (status.Refused refusal)) (sym opens.1) (counted_none inputs inputs outputs source mid now refl (ap (λ (s : SinkState). s.faults) opens.2))
+  open_counts kind first number head (Err stop.ReadFault) opens = absurd opens.1
+  open_counts kind first number head (Err stop.WriteFault) opens = written_counts (heading_of kind first head) (Err stop.WriteFault) opens.1
+  open_counts kind first number head (Err stop.NoMemory) opens = written_counts (heading_of kind first head) (Err stop.NoMemory) opens.1
+
+  pub file_open_counts : (kind : StreamKind) (first : Option Head) (number : ℕ) (was : Bool) (head : Option Head) (result : Result (Unit {0}) ToolStop) → OpensFile kind first number was head mid now result → Counted (world inputs outputs source mid) (world inputs outputs source now) (end_status result)
+  file_open_counts kind first number false (Some head) result opens = open_counts kind first number head result opens
+  file_open_counts kind first number false None (Ok done) opens = counted_none inputs inputs outputs source mid now refl (ap (λ (s : SinkState). s.faults) opens)
+  file_open_counts kind first number false None (Err why) opens = absurd opens
+  file_open_counts kind first number true head (Ok done) opens = counted_none inputs inputs outputs source mid now refl (ap (λ (s : SinkState). s.faults) opens)
+  file_open_counts kind first number true head (Err why) opens = absurd opens
+
+  pub records_counts : {E : Type 0} (form : Form E) (number : ℕ) (old new : Reading E) (result : Result (Unit {0}) ToolStop) → CopiesRecords form number old mid now new result → Counted (world inputs outputs source mid) (world inputs outputs source now) (end_status result)
+  records_counts form number old new (Ok done) copies = written_counts (records_text form (held form old)) (Ok done) copies.1
+  records_counts form number old new (Err (stop.Refused why)) copies =
+      subst (λ (refusal : Refusal). Counted (world inputs outputs source mid) (world inputs outputs source now) (status.Refused refusal)) (sym copies.refusal-is) (counted_none inputs inputs outputs source mid now refl copies.written.counted)
+  records_counts form number old new (Err stop.ReadFault) copies = absurd copies
+  records_counts form number old new (Err stop.WriteFault) copies = written_counts (records_text form (held form old)) (Err stop.WriteFault) copies
+  records_counts form number old new (Err stop.NoMemory) copies = written_counts (records_text form (held form old)) (Err stop.NoMemory) copies
