@@ -124,7 +124,3 @@ all_copied (Some bytes) size at before now sized end had = record { verdict = re
 pub copied_all : (held : Option FileMap) (name : List ℕ) (size at : ℕ) (before now : Option (List ℕ)) → IsSized held name size → size ≤ at → HasCopied (file_bytes held name) at before now → IfSome (file_bytes held name) (λ bytes. IsEnd (gives Done bytes) before now Done)
 copied_all None name size at before now sized end had = tt
 copied_all (Some files) name size at before now sized end had = all_copied (files name) size at before now sized end had
-
--- the block that a read fills
-pub filled_block : (items buf : List ℕ) (len : ℕ) → len ≡ length items → length buf ≡ length items → take len (buf ++ drop (length buf) items) ≡ buf
-filled_block items buf len whole same = take_at buf (drop (length buf) items) len (same ∙ sym whole)

@@ -1,15 +1,15 @@
 //! The streams in files as one stream.
 //! The rules: docs/COMMANDS.md, "kat".
-ghost use Rattle.std.specs.Prelude.{◌≡◌, ◌++◌, ℕ, List, [], None, Option, OnOk, IfSome};
-ghost use Rattle.kt_out.specs.InputFiles.{InputsState};
+ghost use Rattle.std.specs.Prelude.{◌≡◌, ◌+◌, ◌<◌, ◌≤◌, ◌++◌, ℕ, List, [], None, Option, length, take, drop, IfOk, OnOk, IfSome};
+ghost use Rattle.kt_out.specs.InputFiles.{AfterRead, InputsState};
 ghost use Rattle.kt_out.specs.OutputFiles.{OutputsState};
-ghost use Rattle.kt_out.specs.Reading.{SourceState};
-ghost use Rattle.kt_stream.specs.Reader.{Represents, IsRested};
+ghost use Rattle.kt_out.specs.Reading.{GivesKnown, SourceState};
+ghost use Rattle.kt_stream.specs.Reader.{Represents, IsFilled, IsRested, piece_in};
 ghost use Rattle.kt_stream.specs.Stream.{stream_of};
 ghost use Rattle.kt_ends.specs.Ending.{Counted};
 ghost use Rattle.kt_ends.specs.Stops.{end_status};
 ghost use Rattle.kt_ends.specs.World.{world};
-ghost use Rattle.kt_loop.specs.InputFile.{IsSized, file_bytes};
+ghost use Rattle.kt_loop.specs.InputFile.{IsSized, file_bytes, left_from};
 ghost use Rattle.kt_loop.specs.RecordStreams.{contents_of};
 ghost use Rattle.kt_loop.specs.Settling.{IsEnd};
 ghost use Rattle.kt_kat.specs.Copied.{Copies, IsCopied, OpensFile};
@@ -20,8 +20,8 @@ use crate::file_step::FileStep;
 use crate::kinds::JoinedKind;
 use crate::stops::{file_stop, unread_stop};
 use kt_ends::ToolStop;
-use kt_loop::{BLOCK, read_piece, zeros};
-use kt_out::{Inputs, Sink};
+use kt_loop::{begin_block, read_piece};
+use kt_out::{Fault, Inputs, Sink};
 use kt_stream::laws::{no_header_means_no_records, what_is_read_stays};
 use kt_stream::{Head, RecordReader};
 use std::alloc::Global;
@@ -34,6 +34,27 @@ fn first_of(first: Option<Head>, head: Option<Head>) -> Option<Head>
         Some(first) => Some(first),
         None => head,
     }
+}
+
+/// Reads the next bytes of a file into a block behind those that it begins with, from a place below its size on.
+fn read_behind<I: Inputs>(
+    inputs: &mut I,
+    name: &[u8],
+    size: u64,
+    at: u64,
+    block: &mut [u8],
+    kept: usize,
+) -> Result<usize, Fault>
+    requires room { kept < length block.old }
+    requires within { at < size }
+    requires sized { IsSized (I.state inputs.old).held name.now size }
+
+    ensures moved { IfOk result (λ n. GivesKnown (left_from (file_bytes (I.state inputs.old).held name.now) at) (left_from (file_bytes (I.state inputs.old).held name.now) (at + n)) (drop kept block.old) (drop kept block.new) n) }
+    ensures front { take kept block.new ≡ take kept block.old }
+    ensures within { IfOk result (λ n. (0 < n) × (kept + n ≤ length block.old) × (at + n ≤ size)) }
+    ensures counts { AfterRead (I.state inputs.old) (I.state inputs.new) result }
+{
+    read_piece(inputs, name, size, at, &mut block[kept..])
 }
 
 /// Writes the streams of files as one stream of their kind.
@@ -73,25 +94,27 @@ impl<M: JoinedKind> StreamFiles<M> {
         open(alloc, self.kind.kind(), self.first, number, head, sink)
     }
 
-    /// Takes a piece of the file of this number, and writes what is whole by it.
+    /// Takes a piece of the file of this number, which stands in a block behind what was not read yet, and writes what is
+    /// whole by it.
     fn turn<K: Sink>(
         &self,
         alloc: Global,
         number: u32,
         reader: &mut RecordReader<M::Record>,
-        piece: &[u8],
+        block: &mut Vec<u8>,
+        upto: usize,
         sink: &mut K,
     ) -> Result<(), ToolStop>
-        ensures copied { (fed : List ℕ) (before : Option (List ℕ)) → IsCopied M.Record.form M.shape self.now.first fed reader.old before (K.state sink.old).taken → Copies M.Record.form M.shape self.now.first number (fed ++ piece.now) reader.new before (K.state sink.new).taken result }
+        requires { IsFilled reader.old.pending block.old.items upto }
+
+        ensures copied { (fed : List ℕ) (before : Option (List ℕ)) → IsCopied M.Record.form M.shape self.now.first fed reader.old before (K.state sink.old).taken → Copies M.Record.form M.shape self.now.first number (fed ++ piece_in reader.old.pending block.old.items upto) reader.new before (K.state sink.new).taken result }
         ensures rests { OnOk result (IsRested M.Record M.Record.form reader.new) }
         ensures counted { (inputs : InputsState) (outputs : OutputsState) (source : SourceState) → Counted (world inputs outputs source (K.state sink.old)) (world inputs outputs source (K.state sink.new)) (end_status result) }
     {
         what_is_read_stays::<M::Record>();
         no_header_means_no_records::<M::Record>();
         let was_open = reader.head().is_some();
-        if let Err(_) = reader.feed(piece) {
-            return Err(ToolStop::NoMemory);
-        }
+        reader.feed(block, upto);
         if let Err(stop) = self.open(alloc, number, was_open, reader.head(), sink) {
             return Err(stop);
         }
@@ -121,16 +144,18 @@ impl<M: JoinedKind> StreamFiles<M> {
         ensures counted { (outputs : OutputsState) (source : SourceState) → Counted (world (I.state inputs.old) outputs source (K.state sink.old)) (world (I.state inputs.new) outputs source (K.state sink.new)) (end_status result) }
     {
         what_is_read_stays::<M::Record>();
-        let Ok(mut block) = zeros(alloc, BLOCK) else {
-            return Err(ToolStop::NoMemory);
-        };
+        let mut block = Vec::new(alloc);
         let mut at = 0;
         'pieces: while at < size {
-            let read = match read_piece(inputs, name, size, at, block.as_mut_slice()) {
+            let kept = reader.pending().len();
+            if let Err(_) = begin_block(&mut block, reader.pending()) {
+                return Err(ToolStop::NoMemory);
+            }
+            let read = match read_behind(inputs, name, size, at, block.as_mut_slice(), kept) {
                 Ok(read) => read,
                 Err(fault) => return Err(unread_stop(fault)),
             };
-            if let Err(stop) = self.turn(alloc, number, reader, &block[..read], sink) {
+            if let Err(stop) = self.turn(alloc, number, reader, &mut block, kept + read, sink) {
                 return Err(stop);
             }
             at += read as u64;

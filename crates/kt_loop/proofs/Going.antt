@@ -69,11 +69,6 @@ pub nothing_left : (left next : Option (List ℕ)) (fed : List ℕ) → IfSome l
 nothing_left None next fed all = tt
 nothing_left (Some bytes) next fed all = all.1
 
--- ---- the block that a read fills
-
-pub filled_block : (items buf : List ℕ) (len : ℕ) → len ≡ length items → length buf ≡ length items → take len (buf ++ drop (length buf) items) ≡ buf
-filled_block items buf len whole same = take_at buf (drop (length buf) items) len (same ∙ sym whole)
-
 -- What was read of the stream after so many turns, and where the calculation came by it, whatever the reader stands for.
 pub record Going {T H E S : Type 0} (calculation : Calculation H E S Refusal) (represents : (List ℕ → Contents H E) → List ℕ → List (Placed E) → T → Type 0) (fresh : (List ℕ → Contents H E) → Type 0) (stood stands : S → Type 0) (left left_now taken taken_now : Option (List ℕ)) (reader : T) (out : List ℕ) (turns : ℕ) : Type 0 where
   pub fed : List ℕ

@@ -1,6 +1,6 @@
 -- The reader that hands over what is known, as a reader of the loop.
 use Rattle.std.proofs.Common.{◌≡◌, List, [], ◌∷◌, ◌++◌, Option, Some, None, Result, Ok, Err, refl, sym, ap, ◌∙◌, subst}
-use Rattle.std.specs.Prelude.{ℕ, IfOk, OnOk, option_map}
+use Rattle.std.specs.Prelude.{ℕ, IfOk, option_map}
 use Rattle.std.specs.List.{AllByRecursion}
 use Rattle.kt_stream.specs.declared.entry.Placed.{Placed}
 use Rattle.kt_stream.specs.declared.kind.Head.{Head}
@@ -58,10 +58,9 @@ module _ {B E : Type 0} (form : Form E) where
   plain : (it : KnownReader E B) (contents : List ℕ → Contents (KnownHead B) E) (fed : List ℕ) (taken : List (Placed E)) → stood contents fed taken it → StandsFor E form (contents_of form it.reader.shape) fed taken it.reader
   plain it contents fed taken stands = record { is = refl; represents = stands.represents }
 
-  pub feeds_known : {A C : Type 0} (old new : KnownReader E B) (piece : List ℕ) (result : Result A C) → new.known ≡ old.known → OnOk result (Extends E form old.reader piece new.reader) → OnOk result (new.reader.shape ≡ old.reader.shape)
-      → OnOk result ((contents : List ℕ → Contents (KnownHead B) E) (fed : List ℕ) (taken : List (Placed E)) → stood contents fed taken old → stood contents (fed ++ piece) taken new)
-  feeds_known old new piece (Ok done) same_known extends same = λ contents fed taken stands. record { is = carried old new contents same_known same stands.is; represents = extends fed taken stands.represents }
-  feeds_known old new piece (Err why) same_known extends same = tt
+  pub feeds_known : (old new : KnownReader E B) (piece : List ℕ) → new.known ≡ old.known → Extends E form old.reader piece new.reader → new.reader.shape ≡ old.reader.shape
+      → (contents : List ℕ → Contents (KnownHead B) E) (fed : List ℕ) (taken : List (Placed E)) → stood contents fed taken old → stood contents (fed ++ piece) taken new
+  feeds_known old new piece same_known extends same contents fed taken stands = record { is = carried old new contents same_known same stands.is; represents = extends fed taken stands.represents }
 
   -- the header, the record that was read last, and so on of a reader
   abbrev header_of : KnownReader E B → Option (KnownHead B)

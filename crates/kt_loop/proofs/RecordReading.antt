@@ -1,6 +1,6 @@
 -- The reader of records of any kind as a reader of the loop.
 use Rattle.std.proofs.Common.{◌≡◌, ℕ, List, [], ◌∷◌, ◌++◌, length, Option, Some, None, Result, Ok, Err, sym, ap, ◌∙◌, subst, append-nil}
-use Rattle.std.specs.Prelude.{IfOk, OnOk}
+use Rattle.std.specs.Prelude.{IfOk}
 use Rattle.kt_stream.specs.declared.entry.Placed.{Placed}
 use Rattle.kt_stream.specs.declared.kind.Head.{Head}
 use Rattle.kt_stream.specs.declared.kind.Shape.{Shape}
@@ -49,10 +49,8 @@ module _ {E : Type 0} (form : Form E) where
   carried : (old new : Reading E) (contents : List ℕ → Contents Head E) → new.shape ≡ old.shape → contents ≡ contents_of form old.shape → contents ≡ contents_of form new.shape
   carried old new contents same is = is ∙ ap (contents_of form) (sym same)
 
-  pub feeds_so : {A B : Type 0} (old new : Reading E) (piece : List ℕ) (result : Result A B) → OnOk result (Extends E form old piece new) → OnOk result (new.shape ≡ old.shape)
-      → OnOk result ((contents : List ℕ → Contents Head E) (fed : List ℕ) (taken : List (Placed E)) → stood contents fed taken old → stood contents (fed ++ piece) taken new)
-  feeds_so old new piece (Ok done) extends same = λ contents fed taken stands. record { is = carried old new contents same stands.is; represents = extends fed taken stands.represents }
-  feeds_so old new piece (Err why) extends same = tt
+  pub feeds_so : (old new : Reading E) (piece : List ℕ) → Extends E form old piece new → new.shape ≡ old.shape → (contents : List ℕ → Contents Head E) (fed : List ℕ) (taken : List (Placed E)) → stood contents fed taken old → stood contents (fed ++ piece) taken new
+  feeds_so old new piece extends same contents fed taken stands = record { is = carried old new contents same stands.is; represents = extends fed taken stands.represents }
 
   by_next : (Good : Shape → ℕ → E → Type 0) (old new : Reading E) (next : Next) → AdvancesRecords E form Good old next new → Advances stood reading_header (reading_held form) reading_row (reading_rests form) old new next
   by_next Good old new next.Record by = record {

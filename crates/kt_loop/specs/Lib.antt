@@ -22,3 +22,4 @@ pub mod EventRuns
 pub mod ListLaws
 pub mod EventsGiven
 pub mod EventStreams
+pub mod Blocks

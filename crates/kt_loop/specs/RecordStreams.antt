@@ -26,5 +26,8 @@ reading_held form reading = held form reading
 abbrev pub reading_row : {E : Type 0} → Reading E → Placed E
 reading_row reading = reading.row
 
+abbrev pub reading_pending : {E : Type 0} → Reading E → List ℕ
+reading_pending reading = reading.pending
+
 abbrev pub reading_rests : {E : Type 0} → Form E → Reading E → Type 0
 reading_rests form reading = IsRested _ form reading

@@ -25,7 +25,7 @@ pub struct KnownReader<E: Entry, B> {
 
 impl<E: Entry, B: Copy> StreamReader for KnownReader<E, B> {
     ghost use Rattle.kt_loop.specs.KnownStreams.{StandsKnown, known_header};
-    ghost use Rattle.kt_loop.specs.RecordStreams.{reading_held, reading_row, reading_rests};
+    ghost use Rattle.kt_loop.specs.RecordStreams.{reading_held, reading_row, reading_pending, reading_rests};
 
     type Head = KnownHead<B>;
 
@@ -39,6 +39,8 @@ impl<E: Entry, B: Copy> StreamReader for KnownReader<E, B> {
 
     ghost row = { λ it. reading_row it.reader };
 
+    ghost pending = { λ it. reading_pending it.reader };
+
     ghost rests = { λ it. reading_rests E.form it.reader };
 
     fn head(&self) -> Option<KnownHead<B>> {
@@ -51,8 +53,12 @@ impl<E: Entry, B: Copy> StreamReader for KnownReader<E, B> {
         }
     }
 
-    fn feed(&mut self, piece: &[u8]) -> Result<(), AllocError> {
-        self.reader.feed(piece)
+    fn pending(&self) -> &[u8] {
+        self.reader.pending()
+    }
+
+    fn feed(&mut self, block: &mut Vec<u8>, upto: usize) {
+        self.reader.feed(block, upto)
     }
 
     fn advance(&mut self) -> Result<Next, AllocError> {

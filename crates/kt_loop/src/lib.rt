@@ -16,7 +16,7 @@ mod spill;
 mod stage;
 mod turn;
 
-pub use block::{BLOCK, zeros};
+pub use block::{BLOCK, begin_block, zeros};
 pub use by_run::{RunStage, run_by_run};
 pub use file::read_piece;
 pub use known_reader::{KnownHead, KnownReader};

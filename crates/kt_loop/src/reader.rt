@@ -1,7 +1,8 @@
 //! A reader of a stream of any kind, as the loop uses it.
 //! The rules: docs/STREAMS.md, "Readers".
-ghost use Rattle.std.specs.Prelude.{◌≡◌, ◌++◌, ℕ, List, Option, IfOk, OnOk};
+ghost use Rattle.std.specs.Prelude.{◌≡◌, ◌++◌, ℕ, List, Option, IfOk};
 ghost use Rattle.kt_stream.specs.declared.entry.Placed.{Placed};
+ghost use Rattle.kt_stream.specs.Reader.{IsFilled, piece_in};
 ghost use Rattle.kt_loop.specs.Contents.{Contents, Grows};
 ghost use Rattle.kt_loop.specs.Reading.{IsRead, Advances, Finishes};
 
@@ -29,6 +30,9 @@ pub trait StreamReader {
     /// The record that was read last.
     ghost row: { Self → Placed Self.Entry };
 
+    /// The bytes that were not read yet.
+    ghost pending: { Self → List ℕ };
+
     /// All whole records were read, and what refuses the bytes is known.
     ghost rests: { Self → Type 0 };
 
@@ -36,9 +40,15 @@ pub trait StreamReader {
     fn head(&self) -> Option<Self::Head>
         ensures { result ≡ header self.now };
 
-    /// Takes the next piece of the stream.
-    fn feed(&mut self, piece: &[u8]) -> Result<(), AllocError>
-        ensures { OnOk result ((contents : List ℕ → Contents Self.Head Self.Entry) (fed : List ℕ) (taken : List (Placed Self.Entry)) → represents contents fed taken self.old → represents contents (fed ++ piece.now) taken self.new) };
+    /// The bytes that were not read yet.
+    fn pending(&self) -> &[u8]
+        ensures { result.now ≡ pending self.now };
+
+    /// Takes the next piece of the stream: the bytes of a block up to a place, behind those that were not read yet, with
+    /// which it begins. Another block is given for it.
+    fn feed(&mut self, block: &mut Vec<u8>, upto: usize)
+        requires { IsFilled (pending self.old) block.old.items upto }
+        ensures { (contents : List ℕ → Contents Self.Head Self.Entry) (fed : List ℕ) (taken : List (Placed Self.Entry)) → represents contents fed taken self.old → represents contents (fed ++ piece_in (pending self.old) block.old.items upto) taken self.new };
 
     /// Reads the next record, if one is whole.
     fn advance(&mut self) -> Result<Next, AllocError>

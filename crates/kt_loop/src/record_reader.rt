@@ -5,7 +5,7 @@ use kt_stream::{Entry, Head, Next, Placed, RecordReader, StreamStop, laws};
 use std::alloc::AllocError;
 
 impl<E: Entry> StreamReader for RecordReader<E> {
-    ghost use Rattle.kt_loop.specs.RecordStreams.{StandsFor, reading_header, reading_held, reading_row, reading_rests};
+    ghost use Rattle.kt_loop.specs.RecordStreams.{StandsFor, reading_header, reading_held, reading_row, reading_pending, reading_rests};
 
     type Head = Head;
 
@@ -19,14 +19,20 @@ impl<E: Entry> StreamReader for RecordReader<E> {
 
     ghost row = { reading_row };
 
+    ghost pending = { reading_pending };
+
     ghost rests = { reading_rests E.form };
 
     fn head(&self) -> Option<Head> {
         RecordReader::head(self)
     }
 
-    fn feed(&mut self, piece: &[u8]) -> Result<(), AllocError> {
-        RecordReader::feed(self, piece)
+    fn pending(&self) -> &[u8] {
+        RecordReader::pending(self)
+    }
+
+    fn feed(&mut self, block: &mut Vec<u8>, upto: usize) {
+        RecordReader::feed(self, block, upto)
     }
 
     fn advance(&mut self) -> Result<Next, AllocError> {

@@ -1,10 +1,10 @@
 //! The loop: reads a stream block by block, and carries out a calculation over it.
 //! The rules: docs/STREAMS.md, "Tools over streams".
-ghost use Rattle.std.specs.Prelude.{◌≡◌, ℕ, Bool, List, [], ◌++◌, length, None, Option, IfOk, IfSome};
+ghost use Rattle.std.specs.Prelude.{◌≡◌, ◌+◌, ◌<◌, ◌≤◌, ℕ, Bool, List, [], ◌++◌, length, take, drop, None, Option, IfOk, IfSome};
 ghost use Rattle.kt_out.specs.InputFiles.{InputsState};
 ghost use Rattle.kt_out.specs.NamedFiles.{FileMap};
 ghost use Rattle.kt_out.specs.OutputFiles.{OutputsState};
-ghost use Rattle.kt_out.specs.Reading.{SourceState};
+ghost use Rattle.kt_out.specs.Reading.{Reads, SourceState};
 ghost use Rattle.kt_out.specs.Writing.{SinkState};
 ghost use Rattle.kt_ends.specs.Ending.{AtEnd, Counted};
 ghost use Rattle.kt_ends.specs.Hiding.{HidesNone};
@@ -19,18 +19,29 @@ ghost use Rattle.kt_loop.specs.Reading.{IsFresh, ReadsGood};
 ghost use Rattle.kt_loop.specs.Running.{EndsRun};
 ghost use Rattle.kt_loop.specs.Settling.{Settles, StopSettles, IsEnd};
 
-use crate::block::{BLOCK, zeros};
+use crate::block::begin_block;
 use crate::reader::StreamReader;
 use crate::spill::spill;
 use crate::stage::Stage;
 use crate::turn::{begin, finish, turn};
 use kt_ends::{Refusal, ToolStop};
 use kt_money::Bytes;
-use kt_out::{Sink, Source};
-use std::alloc::{AllocError, Global};
+use kt_out::{Failed, Sink, Source};
+use std::alloc::Global;
 
 /// More turns than a stream has bytes: each turn but the last reads one at the least.
 const TURNS: u64 = 1_099_511_627_778;
+
+/// Takes the next bytes of the source into a block behind those that it begins with, and answers how many; 0 is the end.
+fn read_behind<S: Source>(source: &mut S, block: &mut [u8], kept: usize) -> Result<usize, Failed>
+    requires { kept < length block.old }
+
+    ensures moved { Reads (S.state source.old) (S.state source.new) (drop kept block.old) (drop kept block.new) result }
+    ensures front { take kept block.new ≡ take kept block.old }
+    ensures within { IfOk result (λ n. kept + n ≤ length block.old) }
+{
+    source.read(&mut block[kept..])
+}
 
 /// Reads the stream to its end, to a refusal or to a fault.
 fn read_all<R: StreamReader, W, T: Stage<R::Head, R::Entry, W>, S: Source, K: Sink>(
@@ -54,21 +65,23 @@ fn read_all<R: StreamReader, W, T: Stage<R::Head, R::Entry, W>, S: Source, K: Si
 {
     R::what_is_read_stays();
     R::what_is_held_was_read();
-    let Ok(mut block) = zeros(alloc, BLOCK) else {
-        return Err(ToolStop::NoMemory);
-    };
+    let mut block = Vec::new(alloc);
     if let Err(why) = begin(reader, stage, beside, sink, out) {
         return Err(why);
     }
     'turns: for _ in 0..TURNS {
-        let read = match source.read(block.as_mut_slice()) {
+        let kept = reader.pending().len();
+        if let Err(_) = begin_block(&mut block, reader.pending()) {
+            return Err(ToolStop::NoMemory);
+        }
+        let read = match read_behind(source, block.as_mut_slice(), kept) {
             Ok(read) => read,
             Err(_) => return Err(ToolStop::ReadFault),
         };
         if read == 0 {
             return finish(reader, stage, beside, sink, out);
         }
-        let stop = match turn(reader, &block[..read], stage, beside, sink, out) {
+        let stop = match turn(reader, &mut block, kept + read, stage, beside, sink, out) {
             Ok(stop) => stop,
             Err(why) => return Err(why),
         };

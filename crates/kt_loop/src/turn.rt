@@ -2,6 +2,7 @@
 //! The rules: docs/STREAMS.md, "Tools over streams".
 ghost use Rattle.std.specs.Prelude.{ℕ, List, [], ◌++◌, Option, IfOk, OnOk};
 ghost use Rattle.kt_out.specs.InputFiles.{InputsState};
+ghost use Rattle.kt_stream.specs.Reader.{IsFilled, piece_in};
 ghost use Rattle.kt_ends.specs.declared.status.Refusal.{Refusal};
 ghost use Rattle.kt_loop.specs.Calculation.{course_of, started};
 ghost use Rattle.kt_loop.specs.Contents.{Contents};
@@ -45,20 +46,22 @@ pub(crate) fn begin<R: StreamReader, W, T: Stage<R::Head, R::Entry, W>, K: Sink>
     }
 }
 
-/// Feeds a piece of the stream, and carries on with all that is whole by it: what refuses the stream, if anything does.
+/// Feeds a piece of the stream, which stands in a block behind what was not read yet, and carries on with all that is whole by it: what refuses the stream, if anything does.
 pub(crate) fn turn<R: StreamReader, W, T: Stage<R::Head, R::Entry, W>, K: Sink>(
     reader: &mut R,
-    piece: &[u8],
+    block: &mut Vec<u8>,
+    upto: usize,
     stage: &mut T,
     beside: &mut W,
     sink: &mut K,
     out: &mut Bytes,
 ) -> Result<Option<StreamStop>, ToolStop>
+    requires filled { IsFilled (R.pending reader.old) block.old.items upto }
     requires stood { Stood R.represents T.accepts T.is_good reader.old }
     requires ready { T.is_ready (R.header reader.old) stage.old beside.old }
 
-    ensures stands { IfOk result (λ stop. (contents : List ℕ → Contents R.Head R.Entry) (fed : List ℕ) → R.represents contents fed (contents fed).entries reader.old → RestsBy contents (R.represents contents) stop (fed ++ piece.now) (contents (fed ++ piece.now)).entries reader.new) }
-    ensures course { (contents : List ℕ → Contents R.Head R.Entry) (before : Option (List ℕ)) (fed : List ℕ) (start : T.State) → R.represents contents fed (contents fed).entries reader.old → Stands (λ state. T.is_at state stage.old beside.old) before (K.state sink.old).taken out.old (course_of T.calculation start (contents fed).head (contents fed).entries) → Comes (λ state. T.is_at state stage.new beside.new) before (K.state sink.new).taken out.new (course_of T.calculation start (contents (fed ++ piece.now)).head (contents (fed ++ piece.now)).entries) result }
+    ensures stands { IfOk result (λ stop. (contents : List ℕ → Contents R.Head R.Entry) (fed : List ℕ) → R.represents contents fed (contents fed).entries reader.old → RestsBy contents (R.represents contents) stop (fed ++ piece_in (R.pending reader.old) block.old.items upto) (contents (fed ++ piece_in (R.pending reader.old) block.old.items upto)).entries reader.new) }
+    ensures course { (contents : List ℕ → Contents R.Head R.Entry) (before : Option (List ℕ)) (fed : List ℕ) (start : T.State) → R.represents contents fed (contents fed).entries reader.old → Stands (λ state. T.is_at state stage.old beside.old) before (K.state sink.old).taken out.old (course_of T.calculation start (contents fed).head (contents fed).entries) → Comes (λ state. T.is_at state stage.new beside.new) before (K.state sink.new).taken out.new (course_of T.calculation start (contents (fed ++ piece_in (R.pending reader.old) block.old.items upto)).head (contents (fed ++ piece_in (R.pending reader.old) block.old.items upto)).entries) result }
     ensures rests { OnOk result (R.rests reader.new) }
     ensures ready { OnOk result (T.is_ready (R.header reader.new) stage.new beside.new) }
     ensures counted { (others : InputsState) → Counts (T.inputs others beside.old) (T.inputs others beside.new) (K.state sink.old).faults (K.state sink.new).faults result }
@@ -66,10 +69,8 @@ pub(crate) fn turn<R: StreamReader, W, T: Stage<R::Head, R::Entry, W>, K: Sink>(
     R::what_is_read_stays();
     R::what_is_held_was_read();
     let was_open = reader.head().is_some();
-    match reader.feed(piece) {
-        Ok(()) => carry_on(was_open, reader, stage, beside, sink, out),
-        Err(_) => Err(ToolStop::NoMemory),
-    }
+    reader.feed(block, upto);
+    carry_on(was_open, reader, stage, beside, sink, out)
 }
 
 /// Ends where no byte is left: refuses a stream that is cut off, or appends what is written at the end.

@@ -3,6 +3,7 @@ use Rattle.std.proofs.Common.{◌≡◌, ℕ, ◌+◌, ◌-◌, ◌≤◌, List,
 use Rattle.std.specs.Prelude.{IfSome}
 use Rattle.std.proofs.lemmas.Bool.{cases_lt}
 use Rattle.std.proofs.lemmas.List.{length-append, length-drop, append-nil, drop-append-le, take_all}
+use Rattle.std.proofs.Math.Seq.{take-add}
 use Rattle.kt_stream.specs.declared.entry.Placed.{Placed}
 use Rattle.kt_stream.specs.declared.kind.Head.{Head}
 use Rattle.kt_stream.specs.declared.kind.Shape.{Shape}
@@ -15,7 +16,7 @@ use Rattle.kt_stream.specs.declared.stop.StreamStop.{StreamStop}
 use Rattle.kt_stream.specs.Header.{IsHead, first_head, header_in, header_size}
 use Rattle.kt_stream.specs.Stop.{IsRefusal, header_stop}
 use Rattle.kt_stream.specs.Stream.{Form, Stream, Walk, Whole, walk, records_in, after, reads_on, overlong, within_room, stream_of, stream_limit}
-use Rattle.kt_stream.specs.Reader.{Reading, refused, goes_on, stream_from, held, rest_end, IsAt, Represents, IsDry, WaitsBy, IsReader, Extends}
+use Rattle.kt_stream.specs.Reader.{Reading, refused, goes_on, stream_from, held, rest_end, IsAt, Represents, IsDry, WaitsBy, IsReader, Extends, IsFilled, piece_in}
 use Rattle.kt_stream.proofs.Cases.{kept_got, kept_wrong}
 use Rattle.kt_stream.proofs.Heading.{header_kept, header_got}
 use Rattle.kt_stream.proofs.Room.{room_within, room_beyond, room_length, room_steps, room_stops}
@@ -92,6 +93,13 @@ extends_by {E} form old piece new shape onward faced place = λ bytes taken rep.
 pub stopped_extends : {E : Type 0} (form : Form E) (shape : Shape) (head : Option Head) (row : Placed E) (before passed : List ℕ) (stop : StreamStop) (start : ℕ) (pending piece : List ℕ) → Extends E form (stopped shape head row before stop start pending) piece (stopped shape head row passed stop start pending)
 stopped_extends form shape head row before passed stop start pending piece =
     extends_by form (stopped shape head row before stop start pending) piece (stopped shape head row passed stop start pending) refl (λ more. refl) (faces form shape head row passed (Some stop) start pending tt) (λ n at-place. tt)
+
+-- what is pending and the piece behind it, in a block
+pub filled_is : (pending block : List ℕ) (upto : ℕ) → IsFilled pending block upto → take upto block ≡ pending ++ piece_in pending block upto
+filled_is pending block upto filled =
+    let size = length pending in
+    let parts : upto ≡ size + (upto - size) = omega (arith, filled.behind) in
+    ap (λ (n : ℕ). take n block) parts ∙ take-add size (upto - size) block ∙ ap (λ (xs : List ℕ). xs ++ take (upto - size) (drop size block)) filled.front
 
 longer : (start : ℕ) (pending piece now : List ℕ) → now ≡ pending ++ piece → (n : ℕ) → start + length pending ≡ n → start + length now ≡ n + length piece
 longer start pending piece now is n at-place = omega (arith, ap length is, length-append pending piece, at-place)
@@ -195,8 +203,8 @@ first_rests form Summary bins nothing = refl
 first_rests {E} form Events bins nothing = ap (λ (w : Walk E). record { head = first_head Events; entries = w.entries; end = w.end }) (no_record form (record { kind = Events; bins = bins }) (nothing (record { kind = Events; bins = bins }) 0 0))
 
 -- a reader that was given nothing
-first_stands : {E : Type 0} (form : Form E) (shape : Shape) (row : Placed E) (passed : List ℕ) → Represents E form [] [] (running shape (first_head shape.kind) row passed 0 [])
-first_stands {E} form shape row passed =
+pub fresh : {E : Type 0} (form : Form E) (shape : Shape) (row : Placed E) (passed : List ℕ) → Represents E form [] [] (running shape (first_head shape.kind) row passed 0 [])
+fresh {E} form shape row passed =
     let faced = faces form shape (first_head shape.kind) row passed None 0 [] (first_waits shape.kind shape.bins) in
     let now : stream_of form shape [] ≡ goes_on form shape (first_head shape.kind) 0 [] = first_onward form shape.kind shape.bins [] in
     record {
@@ -206,12 +214,9 @@ first_stands {E} form shape row passed =
       place = refl;
     }
 
-pub fresh : {E : Type 0} (form : Form E) (shape : Shape) (row : Placed E) (passed pending : List ℕ) → pending ≡ [] → Represents E form [] [] (running shape (first_head shape.kind) row passed 0 pending)
-fresh form shape row passed pending empty = rw empty (first_stands form shape row passed)
-
 -- it holds no record
-pub fresh_dry : {E : Type 0} (form : Form E) (shape : Shape) (row : Placed E) (passed pending : List ℕ) → pending ≡ [] → ((shape : Shape) (samples at : ℕ) → form.unit shape samples [] at ≡ Short) → IsDry E form (running shape (first_head shape.kind) row passed 0 pending)
-fresh_dry form shape row passed pending empty nothing = rw empty (record { within = omega arith; rests = first_rests form shape.kind shape.bins nothing })
+pub fresh_dry : {E : Type 0} (form : Form E) (shape : Shape) (row : Placed E) (passed : List ℕ) → ((shape : Shape) (samples at : ℕ) → form.unit shape samples [] at ≡ Short) → IsDry E form (running shape (first_head shape.kind) row passed 0 [])
+fresh_dry form shape row passed nothing = record { within = omega arith; rests = first_rests form shape.kind shape.bins nothing }
 
 first_good : (kind : StreamKind) → IfSome (first_head kind) (λ head. IsHead kind head)
 first_good Cdf = tt
@@ -221,5 +226,5 @@ first_good Summary = tt
 first_good Events = (refl, refl)
 
 -- and it is a reader
-pub fresh_reader : {E : Type 0} (shape : Shape) (row : Placed E) (passed pending : List ℕ) → pending ≡ [] → IsReader E (running shape (first_head shape.kind) row passed 0 pending)
-fresh_reader shape row passed pending empty = rw empty (record { head = first_good shape.kind; stop = tt; start = omega arith; waits = first_waits shape.kind shape.bins })
+pub fresh_reader : {E : Type 0} (shape : Shape) (row : Placed E) (passed : List ℕ) → IsReader E (running shape (first_head shape.kind) row passed 0 [])
+fresh_reader shape row passed = record { head = first_good shape.kind; stop = tt; start = omega arith; waits = first_waits shape.kind shape.bins }

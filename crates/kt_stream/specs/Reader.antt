@@ -1,6 +1,6 @@
 -- What a reader of a stream holds, and which bytes it stands for.
 -- The rules: docs/STREAMS.md, "Readers".
-use Rattle.std.specs.Prelude.{◌≡◌, ℕ, ◌+◌, ◌-◌, ◌≤◌, List, [], ◌∷◌, ◌++◌, length, take, Option, Some, None, Result, Ok, Err, IfSome}
+use Rattle.std.specs.Prelude.{◌≡◌, ℕ, ◌+◌, ◌-◌, ◌≤◌, List, [], ◌∷◌, ◌++◌, length, take, drop, Option, Some, None, Result, Ok, Err, IfSome}
 use Rattle.kt_stream.specs.declared.entry.Placed.{Placed}
 use Rattle.kt_stream.specs.declared.kind.Head.{Head}
 use Rattle.kt_stream.specs.declared.kind.Shape.{Shape}
@@ -116,6 +116,16 @@ pub record IsReader (E : Type 0) (r : Reading E) : Type 0 where
 -- the reader stands for the bytes with the piece behind them, for all bytes for which it stood
 abbrev pub Extends : (E : Type 0) → Form E → Reading E → List ℕ → Reading E → Type 0
 Extends E form old piece new = (bytes : List ℕ) (taken : List (Placed E)) → Represents E form bytes taken old → Represents E form (bytes ++ piece) taken new
+
+-- a block begins with what is pending, and its bytes up to a place are the stream's
+pub record IsFilled (pending block : List ℕ) (upto : ℕ) : Type 0 where
+  pub front : take (length pending) block ≡ pending
+  pub behind : length pending ≤ upto
+  pub within : upto ≤ length block
+
+-- the piece of the stream in such a block
+abbrev pub piece_in : List ℕ → List ℕ → ℕ → List ℕ
+piece_in pending block upto = take (upto - length pending) (drop (length pending) block)
 
 -- a record of a stream with this header is in its ranges, and its bytes are within the limit
 pub record IsPlaced (E : Type 0) (form : Form E) (Good : Shape → ℕ → E → Type 0) (shape : Shape) (head : Head) (placed : Placed E) : Type 0 where

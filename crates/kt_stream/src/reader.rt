@@ -13,6 +13,7 @@ use crate::stop::{StreamStop, of_header, of_record};
 use crate::unit::Entry;
 use std::alloc::{AllocError, Global};
 use std::marker::Model;
+use std::mem::swap;
 
 /// The most bytes that a stream may have.
 const STREAM_LIMIT: u64 = 1_099_511_627_776;
@@ -40,42 +41,23 @@ fn cut_at(head: Option<Head>, pending: &[u8], byte: u64) -> Option<StreamStop>
     }
 }
 
-/// The bytes behind the first ones, as far as the limit allows, where the first of them is this byte of the stream.
-fn within_limit(bytes: &[u8], used: usize, start: u64) -> &[u8]
-    requires used { used ≤ length bytes.now }
-    requires start { start ≤ stream_limit }
-    ensures value { result.now ≡ take (stream_limit - start) (drop used bytes.now) }
+/// The bytes as far as the limit allows, where the first of them is this byte of the stream.
+fn within_limit(bytes: &[u8], start: u64) -> &[u8]
+    requires { start ≤ stream_limit }
+    ensures value { result.now ≡ take (stream_limit - start) bytes.now }
     ensures bytes { AreBytes result.now }
 {
-    let rest = &bytes[used..];
     let room = (STREAM_LIMIT - start) as usize;
-    if rest.len() <= room {
-        rest
+    if bytes.len() <= room {
+        bytes
     } else {
-        &rest[..room]
+        &bytes[..room]
     }
-}
-
-/// Keeps the bytes of a block from a place on, with a piece behind them. An error is want of memory, and nothing
-/// changes then.
-fn keep_behind(block: &mut Vec<u8>, used: usize, piece: &[u8]) -> Result<(), AllocError>
-    requires { used ≤ length block.old.items }
-    ensures ok { OnOk result (block.new.items ≡ drop used block.old.items ++ piece.now) }
-
-    ensures memory { OnErr result (block.new.items ≡ block.old.items) }
-{
-    block.reserve(piece.len())?;
-    if used > 0 {
-        let len = block.len();
-        block.as_mut_slice().copy_within(used..len, 0);
-        block.truncate(len - used);
-    }
-    block.extend_from_slice(piece)
 }
 
 /// A reader of the records of one kind, which says the same however the stream is cut into pieces. It holds
-/// the bytes that were not read yet, the record that was read last, and the bytes of the records that were read since
-/// the last piece came.
+/// a block with the bytes of the records that were read since the last piece came and those that were not read yet, and
+/// the record that was read last.
 #[derive(Drop)]
 pub struct RecordReader<E: Entry> {
     shape: Shape,
@@ -86,6 +68,7 @@ pub struct RecordReader<E: Entry> {
     block: Vec<u8>,
     from: usize,
     used: usize,
+    end: usize,
 }
 
 impl<E: Entry> Model for RecordReader<E> {
@@ -94,15 +77,15 @@ impl<E: Entry> Model for RecordReader<E> {
 
     ghost Value = { Reading E };
 
-    ghost view = { λ r. record { shape = r.shape; head = r.head; row = r.row; passed = take (r.used - r.from) (drop r.from r.block.items); stop = r.stop; start = r.start; pending = drop r.used r.block.items } };
+    ghost view = { λ r. record { shape = r.shape; head = r.head; row = r.row; passed = take (r.used - r.from) (drop r.from (take r.end r.block.items)); stop = r.stop; start = r.start; pending = drop r.used (take r.end r.block.items) } };
 
-    ghost invariant = { λ r. (r.from ≤ r.used) × (r.used ≤ length r.block.items) × IsReader E (record { shape = r.shape; head = r.head; row = r.row; passed = take (r.used - r.from) (drop r.from r.block.items); stop = r.stop; start = r.start; pending = drop r.used r.block.items }) };
+    ghost invariant = { λ r. (r.from ≤ r.used) × (r.used ≤ r.end) × (r.end ≤ length r.block.items) × IsReader E (record { shape = r.shape; head = r.head; row = r.row; passed = take (r.used - r.from) (drop r.from (take r.end r.block.items)); stop = r.stop; start = r.start; pending = drop r.used (take r.end r.block.items) }) };
 }
 
 impl<E: Entry> RecordReader<E> {
     ghost use Rattle.kt_stream.specs.declared.kind.Head.{Head};
     ghost use Rattle.kt_stream.specs.Header.{IsHead, first_head};
-    ghost use Rattle.kt_stream.specs.Reader.{Represents, Extends, Advances, IsRested, HoldsNone, Finishes, held};
+    ghost use Rattle.kt_stream.specs.Reader.{Represents, Extends, IsFilled, piece_in, Advances, IsRested, HoldsNone, Finishes, held};
 
     /// A reader that is told so much of its stream and was given no bytes. Asks for no memory.
     pub(crate) fn of_shape(alloc: Global, shape: Shape) -> Self
@@ -124,30 +107,41 @@ impl<E: Entry> RecordReader<E> {
             block: Vec::new(alloc),
             from: 0,
             used: 0,
+            end: 0,
         }
     }
 
-    /// Takes the next piece of the stream, and reads the header once it is whole. Behind a refusal a piece is let go. An error is want of memory, and nothing changes then.
-    pub fn feed(&mut self, piece: &[u8]) -> Result<(), AllocError>
-        ensures fed { OnOk result (Extends E E.form self.old piece.now self.new) }
-        ensures shape { OnOk result (self.new.shape ≡ self.old.shape) }
-        ensures passed { OnOk result (self.new.passed ≡ []) }
+    /// The bytes that were not read yet.
+    pub fn pending(&self) -> &[u8]
+        ensures value { result.now ≡ self.now.pending }
+    {
+        &self.block.as_slice()[..self.end][self.used..]
+    }
 
-        ensures memory { OnErr result (self.new ≡ self.old) }
+    /// Takes the next piece of the stream, and reads the header once it is whole: the bytes of a block up to a place,
+    /// behind those that were not read yet, with which it begins. Another block is given for it. Behind a refusal a
+    /// piece is let go.
+    pub fn feed(&mut self, block: &mut Vec<u8>, upto: usize)
+        requires { IsFilled self.old.pending block.old.items upto }
+
+        ensures fed { Extends E E.form self.old (piece_in self.old.pending block.old.items upto) self.new }
+        ensures shape { self.new.shape ≡ self.old.shape }
+        ensures passed { self.new.passed ≡ [] }
     {
         if let Some(_stop) = self.stop {
             self.from = self.used;
-            return Ok(());
+            return;
         }
-        keep_behind(&mut self.block, self.used, piece)?;
+        swap(&mut self.block, block);
         self.from = 0;
         self.used = 0;
+        self.end = upto;
         if let Some(_head) = self.head {
-            return Ok(());
+            return;
         }
         match header_of(
             self.shape.kind,
-            within_limit(self.block.as_slice(), 0, self.start),
+            within_limit(&self.block.as_slice()[..upto], self.start),
         ) {
             Read::Short => {}
             Read::Wrong(fault) => self.stop = Some(of_header(fault)),
@@ -158,7 +152,6 @@ impl<E: Entry> RecordReader<E> {
                 self.start += self.used as u64;
             }
         }
-        Ok(())
     }
 
     /// Reads the next record, if it is whole. A wrong header or record and a stream above 2^40 bytes are refused, once
@@ -173,7 +166,8 @@ impl<E: Entry> RecordReader<E> {
         let Some(head) = self.head else {
             return Ok(self.end_of_piece());
         };
-        let bytes = within_limit(self.block.as_slice(), self.used, self.start);
+        let pending = &self.block.as_slice()[..self.end][self.used..];
+        let bytes = within_limit(pending, self.start);
         match self
             .row
             .entry
@@ -200,7 +194,7 @@ impl<E: Entry> RecordReader<E> {
         requires none { HoldsNone E E.form self.old }
         ensures { Advances E E.form E.IsGood self.old result self.new }
     {
-        let pending = &self.block.as_slice()[self.used..];
+        let pending = &self.block.as_slice()[..self.end][self.used..];
         if pending.len() as u64 <= STREAM_LIMIT - self.start {
             return Next::Rest;
         }
@@ -220,7 +214,7 @@ impl<E: Entry> RecordReader<E> {
     pub fn passed(&self) -> &[u8]
         ensures value { result.now ≡ self.now.passed }
     {
-        &self.block.as_slice()[self.from..self.used]
+        &self.block.as_slice()[..self.end][self.from..self.used]
     }
 
     /// The header, once it is whole and good. Without one no record is held.
@@ -241,7 +235,7 @@ impl<E: Entry> RecordReader<E> {
         if let Some(stop) = self.stop {
             return Err(stop);
         }
-        let pending = &self.block.as_slice()[self.used..];
+        let pending = &self.block.as_slice()[..self.end][self.used..];
         match cut_at(self.head, pending, self.start + pending.len() as u64) {
             None => Ok(()),
             Some(stop) => Err(stop),

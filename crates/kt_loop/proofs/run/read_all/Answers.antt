@@ -1,4 +1,4 @@
-use Rattle.std.proofs.Common.{ℕ, List, [], ◌++◌, Option, Err, refl, sym, ap, subst, ◌∙◌, take, length, arith}
+use Rattle.std.proofs.Common.{ℕ, ◌+◌, List, [], ◌++◌, drop, Option, Err, refl, sym, ap, subst, ◌∙◌, take, length, arith}
 use Rattle.std.proofs.lemmas.Grind.{common_steps}
 use Rattle.kt_out.specs.Reading.{GivesKnown}
 use Rattle.kt_stream.specs.declared.stop.StreamStop.{StreamStop}
@@ -6,7 +6,10 @@ use Rattle.kt_loop.specs.Reading.{RestsBy}
 use Rattle.kt_ends.specs.Hiding.{none_failed}
 use Rattle.kt_ends.specs.Stops.{end_status, stop_status}
 use Rattle.kt_loop.specs.Outcome.{outcome}
-use Rattle.kt_loop.proofs.Going.{HasRead, hides_nothing, read_none, fed_of, read_more, read_all, filled_block, going_first, going_more, stopped, faulted, stream_refused, ended_so, standing_first}
+use Rattle.kt_stream.specs.Reader.{piece_in}
+use Rattle.std.proofs.lemmas.List.{length-drop}
+use Rattle.kt_loop.specs.Blocks.{block_filled, filled_block, piece_read}
+use Rattle.kt_loop.proofs.Going.{HasRead, hides_nothing, read_none, fed_of, read_more, read_all, going_first, going_more, stopped, faulted, stream_refused, ended_so, standing_first}
 use Rattle.kt_loop.proofs.Stepping.{counts_behind, counts_as, counts_read, no_inputs}
 use Rattle.kt_loop.proofs.run.read_all.Goals as goal
 
@@ -20,37 +23,41 @@ returns-in-Err-clause-counted g c others = counts_read (Unit {0}) _ _ _ _ _ _ (E
 
 pub turns-init : goal.turns-init
 turns-init g c = record {
-  going = going_first g.T.Stage.calculation g.R.StreamReader.represents (λ contents. g.R.StreamReader.represents contents [] [] c.args.reader.now) (λ state. g.T.Stage.is_at state c.args.stage.now c.args.beside.now) (λ state. g.T.Stage.is_at state c.begin.new.stage c.begin.new.beside) _ (g.S.Source.state c.args.source.now).left _ _ c.begin.new.reader c.begin.new.out c.in_default-begin.ensures.stands
-      (λ contents start fresh at. c.in_default-begin.ensures.course contents _ start fresh (standing_first (λ state. g.T.Stage.is_at state c.args.stage.now c.args.beside.now) start _ c.args.out.now c.requires.empty at));
-  rests = c.in_default-begin.ensures.rests;
-  ready = c.in_default-begin.ensures.ready;
-  inputs = λ others. (c.in_default-begin.ensures.counted others).of_inputs;
+  going = going_first g.T.Stage.calculation g.R.StreamReader.represents (λ contents. g.R.StreamReader.represents contents [] [] c.args.reader.now) (λ state. g.T.Stage.is_at state c.args.stage.now c.args.beside.now) (λ state. g.T.Stage.is_at state c.begin.new.stage c.begin.new.beside) _ (g.S.Source.state c.args.source.now).left _ _ c.begin.new.reader c.begin.new.out c.in_default.ensures.stands
+      (λ contents start fresh at. c.in_default.ensures.course contents _ start fresh (standing_first (λ state. g.T.Stage.is_at state c.args.stage.now c.args.beside.now) start _ c.args.out.now c.requires.empty at));
+  rests = c.in_default.ensures.rests;
+  ready = c.in_default.ensures.ready;
+  inputs = λ others. (c.in_default.ensures.counted others).of_inputs;
   reads = refl;
-  faults = (c.in_default-begin.ensures.counted no_inputs).of_sink;
-  room = c.in-Ok.ensures;
+  faults = (c.in_default.ensures.counted no_inputs).of_sink;
 }
 
-pub returns-in-Err-read-clause-settled : goal.returns-in-Err-read-clause-settled
-returns-in-Err-read-clause-settled g c contents start fresh at =
+pub returns-in-Err-read_behind-clause-settled : goal.returns-in-Err-read_behind-clause-settled
+returns-in-Err-read_behind-clause-settled g c contents start fresh at =
     let going = c.turns.invariant.going in
     faulted g.T.Stage.calculation contents (c.what_is_read_stays.ensures contents [] [] c.args.reader.now fresh) start _ _ (λ state. g.T.Stage.is_at state c.turns.stage c.turns.beside) _ c.turns.out going.fed (fed_of _ _ going.fed going.read) (going.course contents start fresh at)
 
 pub returns-then-read-eq0-clause-settled : goal.returns-then-read-eq0-clause-settled
 returns-then-read-eq0-clause-settled g c contents start fresh at =
     let going = c.turns.invariant.going in
-    let none = subst (λ (n : ℕ). GivesKnown (g.S.Source.state c.turns.source).left (g.S.Source.state c.read.new.self).left c.as_mut_slice.result.now c.read.new.buf n) c.if-read-eq0.true c.in-Ok-read.ensures.moved.moved in
+    let none = subst (λ (n : ℕ). GivesKnown (g.S.Source.state c.turns.source).left (g.S.Source.state c.read_behind.new.source).left (drop (length c.pending-kept.result.now) c.as_mut_slice.result.now) (drop (length c.pending-kept.result.now) c.read_behind.new.block) n) c.if-read-eq0.true c.in-Ok.ensures.moved.moved in
     ended_so g.T.Stage.calculation contents (c.what_is_read_stays.ensures contents [] [] c.args.reader.now fresh) start _ _ (Unit {0}) _ _ c.finish.new.out going.fed c.finish.result (read_all _ _ _ going.fed _ _ going.read none)
     (c.finish.ensures.course contents _ going.fed start (going.represented contents fresh) (going.course contents start fresh at))
 
 pub returns-then-read-eq0-clause-counted : goal.returns-then-read-eq0-clause-counted
 returns-then-read-eq0-clause-counted g c others =
-    counts_read (Unit {0}) _ _ _ _ _ _ c.finish.result (counts_behind (Unit {0}) _ _ _ _ _ _ c.finish.result (c.turns.invariant.inputs others) c.turns.invariant.faults (c.finish.ensures.counted others)) (c.in-Ok-read.ensures.moved.counted ∙ c.turns.invariant.reads)
+    counts_read (Unit {0}) _ _ _ _ _ _ c.finish.result (counts_behind (Unit {0}) _ _ _ _ _ _ c.finish.result (c.turns.invariant.inputs others) c.turns.invariant.faults (c.finish.ensures.counted others)) (c.in-Ok.ensures.moved.counted ∙ c.turns.invariant.reads)
 
 pub returns-in-Err-turn-clause-settled : goal.returns-in-Err-turn-clause-settled
 returns-in-Err-turn-clause-settled g c contents start fresh at =
     let going = c.turns.invariant.going in
-    let same = filled_block c.turns.block.items c.read.new.buf c.turns.block.len c.turns.block.ok.0 (c.read.auto.buf ∙ ap length c.as_mut_slice.ensures.value) in
-    let read = read_more _ _ _ going.fed _ c.read.new.buf (take c.in-Ok-read.read c.deref.result.now) c.in-Ok-read.read going.read c.in-Ok-read.ensures.moved.moved (ap (take c.in-Ok-read.read) (c.deref.ensures.value ∙ same)) in
+    let items = take c.begin_block.new.block.len (c.read_behind.new.block ++ drop (length c.read_behind.new.block) c.begin_block.new.block.items) in
+    let same = filled_block c.begin_block.new.block.items c.read_behind.new.block c.begin_block.new.block.len c.begin_block.new.block.ok.0 (c.read_behind.auto.block ∙ ap length c.as_mut_slice.ensures.value) in
+    let kept = length c.pending-kept.result.now in
+    let pending = g.R.StreamReader.pending c.turns.reader in
+    let piece = piece_in pending items (kept + c.in-Ok.read) in
+    let piece-is = piece_read pending items c.read_behind.new.block kept c.in-Ok.read (ap length c.pending-kept.ensures) same in
+    let read = read_more _ _ _ going.fed _ (drop kept c.read_behind.new.block) piece c.in-Ok.read going.read c.in-Ok.ensures.moved.moved piece-is in
     stopped g.T.Stage.calculation contents (c.what_is_read_stays.ensures contents [] [] c.args.reader.now fresh) start _ _ (Option StreamStop) (Unit {0}) (λ state. g.T.Stage.is_at state c.turn.new.stage c.turn.new.beside) _ c.turn.new.out _ c.in-Err-turn.why (fed_of _ _ _ read)
     (c.in-Err-turn.ensures.course contents _ going.fed start (going.represented contents fresh) (going.course contents start fresh at))
 
@@ -58,36 +65,45 @@ pub returns-in-Err-turn-clause-counted : goal.returns-in-Err-turn-clause-counted
 returns-in-Err-turn-clause-counted g c others =
     counts_read (Unit {0}) _ _ _ _ _ _ (Err c.in-Err-turn.why)
     (counts_behind (Unit {0}) _ _ _ _ _ _ (Err c.in-Err-turn.why) (c.turns.invariant.inputs others) c.turns.invariant.faults (counts_as (Option StreamStop) (Unit {0}) _ _ _ _ c.in-Err-turn.why (c.in-Err-turn.ensures.counted others)))
-    (c.in-Ok-read.ensures.moved.counted ∙ c.turns.invariant.reads)
+    (c.in-Ok.ensures.moved.counted ∙ c.turns.invariant.reads)
 
 pub returns-in-Some-clause-settled : goal.returns-in-Some-clause-settled
 returns-in-Some-clause-settled g c contents start fresh at =
     let going = c.turns.invariant.going in
-    let same = filled_block c.turns.block.items c.read.new.buf c.turns.block.len c.turns.block.ok.0 (c.read.auto.buf ∙ ap length c.as_mut_slice.ensures.value) in
-    let read = read_more _ _ _ going.fed _ c.read.new.buf (take c.in-Ok-read.read c.deref.result.now) c.in-Ok-read.read going.read c.in-Ok-read.ensures.moved.moved (ap (take c.in-Ok-read.read) (c.deref.ensures.value ∙ same)) in
-    let stops = subst (λ (stop : Option StreamStop). RestsBy contents (g.R.StreamReader.represents contents) stop (going.fed ++ take c.in-Ok-read.read c.deref.result.now) (contents (going.fed ++ take c.in-Ok-read.read c.deref.result.now)).entries c.turn.new.reader) c.in-Some.is (c.in-Ok-turn.ensures.stands contents going.fed (going.represented contents fresh)) in
+    let items = take c.begin_block.new.block.len (c.read_behind.new.block ++ drop (length c.read_behind.new.block) c.begin_block.new.block.items) in
+    let same = filled_block c.begin_block.new.block.items c.read_behind.new.block c.begin_block.new.block.len c.begin_block.new.block.ok.0 (c.read_behind.auto.block ∙ ap length c.as_mut_slice.ensures.value) in
+    let kept = length c.pending-kept.result.now in
+    let pending = g.R.StreamReader.pending c.turns.reader in
+    let piece = piece_in pending items (kept + c.in-Ok.read) in
+    let piece-is = piece_read pending items c.read_behind.new.block kept c.in-Ok.read (ap length c.pending-kept.ensures) same in
+    let read = read_more _ _ _ going.fed _ (drop kept c.read_behind.new.block) piece c.in-Ok.read going.read c.in-Ok.ensures.moved.moved piece-is in
+    let stops = subst (λ (stop : Option StreamStop). RestsBy contents (g.R.StreamReader.represents contents) stop (going.fed ++ piece) (contents (going.fed ++ piece)).entries c.turn.new.reader) c.in-Some.is (c.in-Ok-turn.ensures.stands contents going.fed (going.represented contents fresh)) in
     stream_refused g.T.Stage.calculation contents (c.what_is_read_stays.ensures contents [] [] c.args.reader.now fresh) start _ _ (λ state. g.T.Stage.is_at state c.turn.new.stage c.turn.new.beside) _ c.turn.new.out _ c.in-Some.stop (fed_of _ _ _ read) stops.refused
     (c.in-Ok-turn.ensures.course contents _ going.fed start (going.represented contents fresh) (going.course contents start fresh at))
 
 pub returns-in-Some-clause-counted : goal.returns-in-Some-clause-counted
 returns-in-Some-clause-counted g c others =
-    ((c.in-Ok-turn.ensures.counted others).of_inputs ∙ c.turns.invariant.inputs others, c.in-Ok-read.ensures.moved.counted ∙ c.turns.invariant.reads, (c.in-Ok-turn.ensures.counted others).of_sink ∙ c.turns.invariant.faults)
+    ((c.in-Ok-turn.ensures.counted others).of_inputs ∙ c.turns.invariant.inputs others, c.in-Ok.ensures.moved.counted ∙ c.turns.invariant.reads, (c.in-Ok-turn.ensures.counted others).of_sink ∙ c.turns.invariant.faults)
 
 pub turns-preserved : goal.turns-preserved
 turns-preserved g c =
     let going = c.turns.invariant.going in
-    let same = filled_block c.turns.block.items c.read.new.buf c.turns.block.len c.turns.block.ok.0 (c.read.auto.buf ∙ ap length c.as_mut_slice.ensures.value) in
+    let items = take c.begin_block.new.block.len (c.read_behind.new.block ++ drop (length c.read_behind.new.block) c.begin_block.new.block.items) in
+    let same = filled_block c.begin_block.new.block.items c.read_behind.new.block c.begin_block.new.block.len c.begin_block.new.block.ok.0 (c.read_behind.auto.block ∙ ap length c.as_mut_slice.ensures.value) in
+    let kept = length c.pending-kept.result.now in
+    let pending = g.R.StreamReader.pending c.turns.reader in
+    let piece = piece_in pending items (kept + c.in-Ok.read) in
+    let piece-is = piece_read pending items c.read_behind.new.block kept c.in-Ok.read (ap length c.pending-kept.ensures) same in
     record {
-      going = going_more g.T.Stage.calculation g.R.StreamReader.represents (λ contents. g.R.StreamReader.represents contents [] [] c.args.reader.now) (λ state. g.T.Stage.is_at state c.args.stage.now c.args.beside.now) (λ state. g.T.Stage.is_at state c.turns.stage c.turns.beside) _ _ _ _ c.turns.reader c.turns.out (λ state. g.T.Stage.is_at state c.turn.new.stage c.turn.new.beside) _ _ c.turn.new.reader c.turn.new.out _ _ c.read.new.buf
-          (take c.in-Ok-read.read c.deref.result.now) c.in-Ok-read.read going c.in-Ok-read.ensures.moved.moved (ap (take c.in-Ok-read.read) (c.deref.ensures.value ∙ same)) (omega (arith, c.if-read-eq0.false)) (omega (arith, c.in-Ok-read.ensures.within, c.read.auto.buf))
-          (λ contents fresh. subst (λ (stop : Option StreamStop). RestsBy contents (g.R.StreamReader.represents contents) stop (going.fed ++ take c.in-Ok-read.read c.deref.result.now) (contents (going.fed ++ take c.in-Ok-read.read c.deref.result.now)).entries c.turn.new.reader) c.in_default-stop.is (c.in-Ok-turn.ensures.stands contents going.fed (going.represented contents fresh))) c.requires.fresh.contents c.requires.fresh.stands
+      going = going_more g.T.Stage.calculation g.R.StreamReader.represents (λ contents. g.R.StreamReader.represents contents [] [] c.args.reader.now) (λ state. g.T.Stage.is_at state c.args.stage.now c.args.beside.now) (λ state. g.T.Stage.is_at state c.turns.stage c.turns.beside) _ _ _ _ c.turns.reader c.turns.out (λ state. g.T.Stage.is_at state c.turn.new.stage c.turn.new.beside) _ _ c.turn.new.reader c.turn.new.out _ _ (drop kept c.read_behind.new.block)
+          piece c.in-Ok.read going c.in-Ok.ensures.moved.moved piece-is (omega (arith, c.if-read-eq0.false)) (omega (arith, length-drop kept c.read_behind.new.block, c.in-Ok.ensures.within, c.read_behind.auto.block))
+          (λ contents fresh. subst (λ (stop : Option StreamStop). RestsBy contents (g.R.StreamReader.represents contents) stop (going.fed ++ piece) (contents (going.fed ++ piece)).entries c.turn.new.reader) c.in_default-stop.is (c.in-Ok-turn.ensures.stands contents going.fed (going.represented contents fresh))) c.requires.fresh.contents c.requires.fresh.stands
           (λ contents start fresh at. c.in-Ok-turn.ensures.course contents _ going.fed start (going.represented contents fresh) (going.course contents start fresh at));
       rests = c.in-Ok-turn.ensures.rests;
       ready = c.in-Ok-turn.ensures.ready;
       inputs = λ others. (c.in-Ok-turn.ensures.counted others).of_inputs ∙ c.turns.invariant.inputs others;
-      reads = c.in-Ok-read.ensures.moved.counted ∙ c.turns.invariant.reads;
+      reads = c.in-Ok.ensures.moved.counted ∙ c.turns.invariant.reads;
       faults = (c.in-Ok-turn.ensures.counted no_inputs).of_sink ∙ c.turns.invariant.faults;
-      room = ap length same ∙ c.read.auto.buf ∙ ap length c.as_mut_slice.ensures.value ∙ c.turns.invariant.room;
     }
 
 pub finish-requires-clause-stood : goal.finish-requires-clause-stood
@@ -100,28 +116,37 @@ turn-requires-clause-stood g c =
     let fresh = c.requires.fresh in
     record { contents = fresh.contents; fed = c.turns.invariant.going.fed; stands = c.turns.invariant.going.represented fresh.contents fresh.stands; good = c.requires.good fresh.contents [] fresh.stands }
 
-pub returns-in_default-clause-counted : goal.returns-in_default-clause-counted
-returns-in_default-clause-counted g c = grind (arith, common_steps)
+pub returns-in-Err-begin_block-clause-counted : goal.returns-in-Err-begin_block-clause-counted
+returns-in-Err-begin_block-clause-counted g c = grind (arith, common_steps)
 
-pub returns-in_default-clause-settled : goal.returns-in_default-clause-settled
-returns-in_default-clause-settled g c = grind (arith, common_steps)
+pub returns-in-Err-begin_block-clause-settled : goal.returns-in-Err-begin_block-clause-settled
+returns-in-Err-begin_block-clause-settled g c contents start fresh at =
+    let going = c.turns.invariant.going in
+    faulted g.T.Stage.calculation contents (c.what_is_read_stays.ensures contents [] [] c.args.reader.now fresh) start _ _ (λ state. g.T.Stage.is_at state c.turns.stage c.turns.beside) _ c.turns.out going.fed (fed_of _ _ going.fed going.read) (going.course contents start fresh at)
 
-pub returns-in-Err-read-clause-counted : goal.returns-in-Err-read-clause-counted
-returns-in-Err-read-clause-counted g c = grind (arith, common_steps)
+pub returns-in-Err-read_behind-clause-counted : goal.returns-in-Err-read_behind-clause-counted
+returns-in-Err-read_behind-clause-counted g c = grind (arith, common_steps)
 
 pub returns-in-Err-clause-hides_none : goal.returns-in-Err-clause-hides_none
 returns-in-Err-clause-hides_none g c contents start fresh at = none_failed (λ bytes. outcome g.T.Stage.calculation start (contents bytes)) _ _ (stop_status c.in-Err.why) refl
 
-pub returns-in-Err-read-clause-hides_none : goal.returns-in-Err-read-clause-hides_none
-returns-in-Err-read-clause-hides_none g c contents start fresh at =
+pub returns-in-Err-read_behind-clause-hides_none : goal.returns-in-Err-read_behind-clause-hides_none
+returns-in-Err-read_behind-clause-hides_none g c contents start fresh at =
     let going = c.turns.invariant.going in
     hides_nothing g.T.Stage.calculation contents start (λ state. g.T.Stage.is_at state c.turns.stage c.turns.beside) _ _ c.turns.out going.fed (going.course contents start fresh at) _ _
-    (subst (λ (now : Option (List ℕ)). HasRead (g.S.Source.state c.args.source.now).left now going.fed) (sym c.in-Err-read.ensures.moved.kept) going.read) (going.unrefused contents fresh)
+    (subst (λ (now : Option (List ℕ)). HasRead (g.S.Source.state c.args.source.now).left now going.fed) (sym c.in-Err-read_behind.ensures.moved.kept) going.read) (going.unrefused contents fresh)
 
 pub returns-then-read-eq0-clause-hides_none : goal.returns-then-read-eq0-clause-hides_none
 returns-then-read-eq0-clause-hides_none g c contents start fresh at =
-    none_failed (λ bytes. outcome g.T.Stage.calculation start (contents bytes)) _ _ (end_status c.finish.result) (c.in-Ok-read.ensures.moved.counted ∙ c.turns.invariant.reads)
+    none_failed (λ bytes. outcome g.T.Stage.calculation start (contents bytes)) _ _ (end_status c.finish.result) (c.in-Ok.ensures.moved.counted ∙ c.turns.invariant.reads)
 
 pub returns-in-Err-turn-clause-hides_none : goal.returns-in-Err-turn-clause-hides_none
 returns-in-Err-turn-clause-hides_none g c contents start fresh at =
-    none_failed (λ bytes. outcome g.T.Stage.calculation start (contents bytes)) _ _ (stop_status c.in-Err-turn.why) (c.in-Ok-read.ensures.moved.counted ∙ c.turns.invariant.reads)
+    none_failed (λ bytes. outcome g.T.Stage.calculation start (contents bytes)) _ _ (stop_status c.in-Err-turn.why) (c.in-Ok.ensures.moved.counted ∙ c.turns.invariant.reads)
+
+-- the block begins with what the reader has not read
+pub turn-requires-clause-filled : goal.turn-requires-clause-filled
+turn-requires-clause-filled g c =
+    let same = filled_block c.begin_block.new.block.items c.read_behind.new.block c.begin_block.new.block.len c.begin_block.new.block.ok.0 (c.read_behind.auto.block ∙ ap length c.as_mut_slice.ensures.value) in
+    block_filled _ _ c.read_behind.new.block c.as_mut_slice.result.now c.pending.result.now _ c.in-Ok.read c.pending.ensures (ap length (c.pending-kept.ensures ∙ sym c.pending.ensures)) same c.in-Ok.ensures.front
+    (ap (take (length c.pending.result.now)) c.as_mut_slice.ensures.value ∙ c.in_default-begin_block.ensures.front) c.in-Ok.ensures.within c.read_behind.auto.block

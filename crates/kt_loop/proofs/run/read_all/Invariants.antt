@@ -1,4 +1,4 @@
-use Rattle.std.proofs.Common.{◌≡◌, [], length}
+use Rattle.std.proofs.Common.{◌≡◌, []}
 use Rattle.kt_out.specs.InputFiles.{InputsState}
 use Rattle.kt_loop.proofs.Going.{Going}
 use Rattle.kt_loop.proofs.run.read_all.Given as goal
@@ -12,5 +12,4 @@ invariant-turns g l = record {
   inputs : (others : InputsState) → g.T.Stage.inputs others l.beside ≡ g.T.Stage.inputs others l.fn.beside;
   reads : (g.S.Source.state l.source).faults ≡ (g.S.Source.state l.fn.source).faults;
   faults : (g.K.Sink.state l.sink).faults ≡ (g.K.Sink.state l.fn.sink).faults;
-  room : length l.block.items ≡ 65536;
 }

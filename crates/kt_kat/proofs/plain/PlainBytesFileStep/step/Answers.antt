@@ -6,10 +6,11 @@ use Rattle.kt_out.specs.Reading.{GivesKnown}
 use Rattle.kt_ends.specs.Stops.{stop_status}
 use Rattle.kt_ends.specs.declared.status.Status.TheVariants.{Done}
 use Rattle.kt_ends.specs.declared.tool_stop.ToolStop.{ToolStop}
+use Rattle.kt_loop.specs.Blocks.{filled_block}
 use Rattle.kt_loop.specs.InputFile.{file_bytes, left_from}
 use Rattle.kt_loop.specs.Outcome.{gives}
 use Rattle.kt_loop.specs.Settling.{IsEnd}
-use Rattle.kt_kat.proofs.Copying.{copied_more, copied_so_far, copied_until, read_stopped, filled_block}
+use Rattle.kt_kat.proofs.Copying.{copied_more, copied_so_far, copied_until, read_stopped}
 use Rattle.kt_kat.proofs.plain.PlainBytesFileStep.step.Goals as goal
 
 pub returns-in-Err-clause-ended : goal.returns-in-Err-clause-ended

@@ -1,4 +1,4 @@
-use Rattle.std.proofs.Common.{◌≡◌, ◌≤◌, ◌-◌, take, length}
+use Rattle.std.proofs.Common.{◌≡◌, ◌≤◌, ◌-◌, take}
 use Rattle.std.specs.Prelude.{IfSome}
 use Rattle.kt_stream.specs.Reader.{IsRested}
 use Rattle.kt_loop.specs.InputFile.{file_bytes}
@@ -10,7 +10,6 @@ abbrev pub invariant-pieces : goal.invariant-pieces
 invariant-pieces g l = record {
   inputs : g.I.Inputs.state l.inputs ≡ g.I.Inputs.state l.fn.inputs;
   faults : (g.K.Sink.state l.sink).faults ≡ (g.K.Sink.state l.fn.sink).faults;
-  room : length l.block.items ≡ 65536;
   within : l.at ≤ l.fn.size;
   rests : IsRested _ g.M.Record.Entry.form l.reader;
   copied : IfSome (file_bytes (g.I.Inputs.state l.fn.inputs).held l.fn.name) (λ bytes. IsCopied g.M.Record.Entry.form g.M.JoinedKind.shape l.fn.self.first (take l.at bytes) l.reader (g.K.Sink.state l.fn.sink).taken (g.K.Sink.state l.sink).taken);

@@ -1,40 +1,39 @@
-use Rattle.std.proofs.Common.{ℕ, ◌-◌, List, take, drop, ap, subst, ◌∙◌}
-use Rattle.std.proofs.lemmas.List.{drop-drop}
-use Rattle.kt_stream.specs.Stream.{AreBytes, stream_limit}
+use Rattle.std.proofs.Common.{◌-◌, take, drop}
+use Rattle.std.proofs.lemmas.List.{drop-drop, take_rest}
 use Rattle.kt_stream.proofs.Advancing.{advances_one, passed_more, advances_wrong, advances_row, short_none, waits_none}
 use Rattle.kt_stream.proofs.reader.RecordReader.advance.Goals as goal
 
 pub end_of_piece-requires-clause-none : goal.end_of_piece-requires-clause-none
 end_of_piece-requires-clause-none g c =
     let r = c.self.inside in
-    let waits = rw (c.in_default.is, c.in_default-head.is) at c.self.invariant.2.waits in
-    rw (← c.self.view_is, c.in_default-head.is) (waits_none g.E.Entry.form r.shape r.row (take (r.used - r.from) (drop r.from r.block.items)) r.start (drop r.used r.block.items) waits)
+    let waits = rw (c.in_default.is, c.in_default-head.is) at c.self.invariant.3.waits in
+    rw (← c.self.view_is, c.in_default-head.is) (waits_none g.E.Entry.form r.shape r.row (take (r.used - r.from) (drop r.from (take r.end r.block.items))) r.start (drop r.used (take r.end r.block.items)) waits)
 
 pub end_of_piece-requires-in-Short-clause-none : goal.end_of_piece-requires-in-Short-clause-none
 end_of_piece-requires-in-Short-clause-none g c =
     let r = c.self.inside in
-    let read = rw (c.within_limit-bytes.ensures.value, c.as_slice.ensures.value, c.in-Short.is) at c.in_ok-size.ensures.value in
-    rw c.in-Some-head.is (short_none g.E.Entry.form r.shape c.in-Some-head.head r.row (take (r.used - r.from) (drop r.from r.block.items)) r.start (drop r.used r.block.items) read)
+    let read = rw (c.within_limit-bytes.ensures.value, c.as_slice.ensures.value, take_rest, c.in-Short.is) at c.in_ok-size.ensures.value in
+    rw c.in-Some-head.is (short_none g.E.Entry.form r.shape c.in-Some-head.head r.row (take (r.used - r.from) (drop r.from (take r.end r.block.items))) r.start (drop r.used (take r.end r.block.items)) read)
 
 pub returns-in-Got : goal.returns-in-Got
 returns-in-Got g c =
     let r = c.self.inside in
-    let read = rw (c.within_limit-bytes.ensures.value, c.as_slice.ensures.value, c.in-Got.is) at c.in_ok-size.ensures.value in
-    let good = rw c.in-Some-head.is at c.self.invariant.2.head in
+    let read = rw (c.within_limit-bytes.ensures.value, c.as_slice.ensures.value, take_rest, c.in-Got.is) at c.in_ok-size.ensures.value in
+    let good = rw c.in-Some-head.is at c.self.invariant.3.head in
     record {
-      value = rw (← c.self.view_is, c.in-Some-head.is, c.in_default.is) (rw (drop-drop c.in-Got.size r.used r.block.items) at (advances_one g.E.Entry.form r.shape c.in-Some-head.head r.row _ r.start c.in-Got.size (drop r.used r.block.items) c.read_into.new.self c.laws.ensures.value good c.self.invariant.2.start read.0 read.1 _ (passed_more r.from r.used c.in-Got.size r.block.items c.self.invariant.0) (subst AreBytes (c.within_limit-bytes.ensures.value ∙ ap (λ (xs : List ℕ). take (stream_limit - r.start) (drop r.used xs)) c.as_slice.ensures.value) c.within_limit-bytes.ensures.bytes)));
+      value = rw (← c.self.view_is, c.in-Some-head.is, c.in_default.is) (rw (drop-drop c.in-Got.size r.used (take r.end r.block.items)) at (advances_one g.E.Entry.form r.shape c.in-Some-head.head r.row _ r.start c.in-Got.size (drop r.used (take r.end r.block.items)) c.read_into.new.self c.laws.ensures.value good c.self.invariant.3.start read.0 read.1 _ (passed_more r.from r.used c.in-Got.size (take r.end r.block.items) c.self.invariant.0) (rw (c.within_limit-bytes.ensures.value, c.as_slice.ensures.value, take_rest) at c.within_limit-bytes.ensures.bytes)));
     }
 
 pub returns-in-Wrong : goal.returns-in-Wrong
 returns-in-Wrong g c =
     let r = c.self.inside in
-    let read = rw (c.within_limit-bytes.ensures.value, c.as_slice.ensures.value, c.in-Wrong.is) at c.in_ok-size.ensures.value in
+    let read = rw (c.within_limit-bytes.ensures.value, c.as_slice.ensures.value, take_rest, c.in-Wrong.is) at c.in_ok-size.ensures.value in
     record {
-      value = rw (← c.self.view_is, c.of_record-stop.ensures, c.in-Some-head.is, c.in_default.is) (advances_wrong g.E.Entry.form r.shape c.in-Some-head.head r.row _ _ r.start (drop r.used r.block.items) c.in-Wrong.misfit c.laws.ensures.value read);
+      value = rw (← c.self.view_is, c.of_record-stop.ensures, c.in-Some-head.is, c.in_default.is) (advances_wrong g.E.Entry.form r.shape c.in-Some-head.head r.row _ _ r.start (drop r.used (take r.end r.block.items)) c.in-Wrong.misfit c.laws.ensures.value read);
     }
 
 pub returns-in-Short : goal.returns-in-Short
 returns-in-Short g c =
     let r = c.self.inside in
     let ends = rw c.in_default.is at c.end_of_piece-in-Short.ensures in
-    record { value = rw (← c.self.view_is, c.in_default.is) (advances_row g.E.Entry.IsGood g.E.Entry.form r.shape r.head r.row _ _ r.start (drop r.used r.block.items) c.end_of_piece-in-Short.result c.end_of_piece-in-Short.new.self ends) }
+    record { value = rw (← c.self.view_is, c.in_default.is) (advances_row g.E.Entry.IsGood g.E.Entry.form r.shape r.head r.row _ _ r.start (drop r.used (take r.end r.block.items)) c.end_of_piece-in-Short.result c.end_of_piece-in-Short.new.self ends) }
