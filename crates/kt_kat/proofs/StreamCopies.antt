@@ -178,10 +178,6 @@ module _ {E : Type 0} (form : Form E) (shape : Shape) (first : Option Head) (num
     stops_unread Failed fed r before now copied more = record { verdict = tt; output = front_gained before now _ (made (fed ++ more)).output copied.written (front_of fed more copied.agrees) }
     stops_unread OutOfMemory fed r before now copied more = record { verdict = tt; output = front_gained before now _ (made (fed ++ more)).output copied.written (front_of fed more copied.agrees) }
 
-    -- the same behind a piece
-    pub stops_behind : (why : ToolStop) (fed piece : List ℕ) (before now : Option (List ℕ)) → StopsIn form shape first number fed before now why → StopsIn form shape first number (fed ++ piece) before now why
-    stops_behind why fed piece before now stops more = subst (λ (bytes : List ℕ). IsEnd (made bytes) before now (stop_status why)) (sym (append_assoc fed piece more)) (stops (piece ++ more))
-
     -- ---- the header
 
     -- the reader was given these bytes of a file, it read these records, and its header and they are written
