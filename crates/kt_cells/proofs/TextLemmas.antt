@@ -1,6 +1,6 @@
 -- The rows of a text: their ranges, what a sink takes of one, and how far one is read field by field.
 use Rattle.std.proofs.Common.{◌≡◌, ◌<◌, ℕ, Bool, List, length, sym, ◌+◌, ◌≤◌, true, false, [], ◌∷◌, ◌++◌, take, drop, get_or, refl, ap, ◌∙◌, arith, length-append, append_assoc}
-use Rattle.std.specs.Prelude.{Result, Ok, Err, OnOk, slice_set, ◌==◌, ◌≢◌}
+use Rattle.std.specs.Prelude.{Result, Ok, Err, OnOk, IfErr, slice_set, ◌==◌, ◌≢◌}
 use Rattle.kt_text.specs.Rows.{csv_rows}
 use Rattle.kt_cells.specs.Laws.{TextsAreInRange}
 use Rattle.kt_cells.specs.Ranges.{AreRows, AreInOrder, IsRow, FitsBytes}
@@ -11,11 +11,12 @@ use Rattle.kt_cells.specs.declared.stop.TableStop.{TableStop}
 use Rattle.kt_cells.proofs.KindLemmas.{text_value-range, IsRow-fits}
 use Rattle.kt_cells.proofs.RangeLemmas.{rows-read, rows-range, not_below-above, row-read, row-range}
 use Rattle.std.proofs.lemmas.Bool.{eq-eqb, ne_eqb}
-use Rattle.std.proofs.lemmas.List.{append-nil}
+use Rattle.std.proofs.lemmas.List.{append-nil, drop-append-le, take-append-le}
 use Rattle.kt_text.specs.PlainText.{BeginsField, EndsField, IsField, StandsBehind}
 use Rattle.kt_cells.specs.Reading.{and_then, row_values, rule_after, not_below}
 use Rattle.kt_cells.specs.Fronts.{PlainRead}
-use Rattle.kt_cells.specs.Taking.{HasRow}
+use Rattle.kt_cells.specs.Stops.{Tells}
+use Rattle.kt_cells.specs.Taking.{HasRow, HandsFront, HandsOver, TakesMore, front-over, front-tells}
 use Rattle.kt_cells.proofs.ReadingLemmas.{behind-nil, row-more, row_end}
 
 -- the rows of a text are in range and in order
@@ -48,7 +49,7 @@ plain-start floor begins width = record {
 }
 
 -- a field more
-pub plain-more : {kinds : List Kind} {floor : ℕ} {text values : List ℕ} {done rule least : ℕ} {rest : List ℕ} → PlainRead kinds floor text values done rule least false rest → (d : Kind) (at_end : Bool) (size value : ℕ) (next : List ℕ) → done < length kinds
+plain-more : {kinds : List Kind} {floor : ℕ} {text values : List ℕ} {done rule least : ℕ} {rest : List ℕ} → PlainRead kinds floor text values done rule least false rest → (d : Kind) (at_end : Bool) (size value : ℕ) (next : List ℕ) → done < length kinds
     → IsField rest size → text_value (under rule (get_or kinds done d)) (take size rest) ≡ Ok value → least ≤ value
     → ((start : List ℕ) (fields : List (List ℕ)) → EndsField start fields (drop size rest) → StandsBehind at_end start fields next)
     → PlainRead kinds floor text (slice_set values done value) (done + 1) (rule_after rule (get_or kinds done d) value) 0 at_end next
@@ -62,6 +63,14 @@ plain-more {kinds} {floor} {text} {values} {done} {rule} {least} {rest} now d at
           rw (append_assoc now.fields (cell ∷ []) more)
           (row-more (now.read number (cell ∷ more)) d cell more value column refl (ap (λ result. and_then result (not_below least)) good ∙ not_below-above least value above));
     }
+
+-- a field more at the front of a text, whatever follows
+pub plain-front : {kinds : List Kind} {floor : ℕ} {text values : List ℕ} {done rule least : ℕ} (rest more : List ℕ) → PlainRead kinds floor text values done rule least false (rest ++ more) → (d : Kind) (at_end : Bool) (size value : ℕ) (next : List ℕ) → done < length kinds
+    → size ≤ length rest → IsField (rest ++ more) size → text_value (under rule (get_or kinds done d)) (take size rest) ≡ Ok value → least ≤ value
+    → ((start : List ℕ) (fields : List (List ℕ)) → EndsField start fields (drop size rest ++ more) → StandsBehind at_end start fields (next ++ more))
+    → PlainRead kinds floor text (slice_set values done value) (done + 1) (rule_after rule (get_or kinds done d) value) 0 at_end (next ++ more)
+plain-front rest more now d at_end size value next column within field good above follows =
+    plain-more now d at_end size value (next ++ more) column field (rw (take-append-le size rest more within) good) above (rw (drop-append-le size rest more within) follows)
 
 -- all fields are read
 pub plain-end : {kinds : List Kind} {floor : ℕ} {text values : List ℕ} {done rule least : ℕ} {rest : List ℕ} → PlainRead kinds floor text values done rule least true rest → done ≡ length kinds → HasRow kinds floor text values rest
@@ -80,3 +89,14 @@ module _ {kinds : List Kind} {floor : ℕ} {text values : List ℕ} {done rule l
   -- there is no column more
   pub plain-all : columns ≡ done → length kinds ≡ columns → HasRow kinds floor text values rest
   plain-all all width = plain-end (rw (eq-eqb done columns (sym all)) at now) (sym all ∙ sym width)
+
+-- the rows that are left are handed over, and so are all
+pub all-over : {S A : Type 0} (takes_to : S → List (List ℕ) → S → Type 0) (start now end : S) (all left : Result (List (List ℕ)) TableStop) (result : Result A TableStop) → HandsFront (TakesMore takes_to start now) all left
+    → OnOk result (HandsOver (TakesMore takes_to now end) left) → takes_to start [] start → OnOk result (HandsOver (λ rows. takes_to start rows end) all)
+all-over takes_to start now end all left (Ok x) front over fresh = front-over takes_to start now end all left front over fresh
+all-over takes_to start now end all left (Err stop) front over fresh = tt
+
+-- they are refused, and so are all
+pub all-tells : {A : Type 0} {has_taken : List (List ℕ) → Type 0} (all left : Result (List (List ℕ)) TableStop) (result : Result A TableStop) → HandsFront has_taken all left → IfErr result (Tells left) → IfErr result (Tells all)
+all-tells all left (Ok x) front told = tt
+all-tells all left (Err stop) front told = front-tells all left stop front told

@@ -30,6 +30,6 @@ pub use record_writer::push_record;
 pub use records::read_records;
 pub use row_sink::RowSink;
 pub use stop::{Cause, TableStop};
-pub use text_rows::read_text;
+pub use text_rows::{TextFront, read_behind, read_behind_heading, read_front, read_text};
 pub use texts::read_grid;
 pub use values::Values;

@@ -1,5 +1,5 @@
 //! The row at the front of a text, if its fields stand there without quotes.
-ghost use Rattle.std.specs.Prelude.{◌≡◌, ◌<◌, ◌≤◌, ◌+◌, ◌==◌, ℕ, List, false, IfSome, length};
+ghost use Rattle.std.specs.Prelude.{◌≡◌, ◌<◌, ◌≤◌, ◌+◌, ◌++◌, ◌==◌, ℕ, List, false, IfSome, length};
 ghost use Rattle.kt_cells.specs.Fronts.{PlainRead};
 ghost use Rattle.kt_cells.specs.Taking.{HasRow};
 
@@ -7,7 +7,7 @@ use crate::front_value::front_value;
 use crate::kind::Kind;
 use crate::reader::rule_after;
 use crate::row_sink::RowSink;
-use kt_text::{behind_field, first_field};
+use kt_text::{behind_field, fields_stay_fields, first_field};
 
 // Rows of so many columns are read without a loop, so that the kind of each column is known where its field is read.
 const SHORT: usize = 5;
@@ -30,9 +30,10 @@ fn with_field<'a, const N: usize>(
 ) -> Option<RowFront<'a>>
     requires size { N < 100 }
     requires column { column < N }
-    ensures read { (floor : ℕ) (text : List ℕ) → PlainRead kinds.now floor text values.old column front.entry.rule least false front.entry.rest.now → IfSome result (λ next. PlainRead kinds.now floor text values.new (column + 1) next.rule 0 (column + 1 == N) next.rest.now) }
+    ensures read { (floor : ℕ) (text more : List ℕ) → PlainRead kinds.now floor text values.old column front.entry.rule least false (front.entry.rest.now ++ more) → IfSome result (λ next. PlainRead kinds.now floor text values.new (column + 1) next.rule 0 (column + 1 == N) (next.rest.now ++ more)) }
     ensures shorter { IfSome result (λ next. length next.rest.now ≤ length front.entry.rest.now) }
 {
+    fields_stay_fields();
     let kind = kinds[column];
     let is_last = column + 1 == N;
     let field = front_value(kind.under(front.rule), front.rest, is_last)?;
@@ -55,7 +56,7 @@ fn short_row<'a, const N: usize, S: RowSink<N>>(
 ) -> Option<&'a [u8]>
     requires some { 0 < N }
     requires few { N ≤ 5 }
-    ensures row { IfSome result (λ rest. HasRow kinds.now floor text.now values.new rest.now) }
+    ensures row { IfSome result (λ rest. (more : List ℕ) → HasRow kinds.now floor (text.now ++ more) values.new (rest.now ++ more)) }
     ensures shorter { IfSome result (λ rest. length rest.now < length text.now) }
 {
     let rest = first_field(text)?;
@@ -90,9 +91,10 @@ fn long_row<'a, const N: usize>(
 ) -> Option<&'a [u8]>
     requires size { N < 100 }
     requires some { 0 < N }
-    ensures row { IfSome result (λ rest. HasRow kinds.now floor text.now values.new rest.now) }
+    ensures row { IfSome result (λ rest. (more : List ℕ) → HasRow kinds.now floor (text.now ++ more) values.new (rest.now ++ more)) }
     ensures shorter { IfSome result (λ rest. length rest.now < length text.now) }
 {
+    fields_stay_fields();
     let mut rest = first_field(text)?;
     let mut rule = 0;
     let mut least = floor;
@@ -111,7 +113,8 @@ fn long_row<'a, const N: usize>(
 }
 
 /// Reads the values of the next row of a text, if its fields stand there without quotes and each has a value that is none of
-/// its refusals, and gives the text from the end of its line on: all other rows are for the reader of records.
+/// its refusals, and gives the text from the end of its line on: all other rows are for the reader of records. The row is the
+/// same whatever follows the text.
 #[inline(always)]
 pub(crate) fn plain_row<'a, const N: usize, S: RowSink<N>>(
     text: &'a [u8],
@@ -121,7 +124,7 @@ pub(crate) fn plain_row<'a, const N: usize, S: RowSink<N>>(
 ) -> Option<&'a [u8]>
     requires size { N < 100 }
     requires some { 0 < N }
-    ensures row { IfSome result (λ rest. HasRow kinds.now floor text.now values.new rest.now) }
+    ensures row { IfSome result (λ rest. (more : List ℕ) → HasRow kinds.now floor (text.now ++ more) values.new (rest.now ++ more)) }
     ensures shorter { IfSome result (λ rest. length rest.now < length text.now) }
 {
     if N <= SHORT {

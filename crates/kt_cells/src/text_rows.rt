@@ -1,5 +1,5 @@
 //! The rows of a CSV text, read one after the other.
-ghost use Rattle.std.specs.Prelude.{◌≡◌, ◌∷◌, ◌<◌, ◌≤◌, ◌+◌, ◌^◌, ℕ, List, [], IfOk, IfErr, OnOk, length, Ok};
+ghost use Rattle.std.specs.Prelude.{◌≡◌, ◌∷◌, ◌<◌, ◌≤◌, ◌+◌, ◌++◌, ◌^◌, ℕ, List, [], IfOk, IfErr, OnOk, length, Ok};
 ghost use Rattle.csv.specs.Records.{fields_of};
 ghost use Rattle.kt_text.specs.PlainText.{csv_records};
 ghost use Rattle.kt_text.specs.Records.{StandsBetween, bytes_left, records_left};
@@ -41,33 +41,36 @@ impl<'a, const N: usize> Cells<N> for RecordRow<'a, N> {
     }
 }
 
-// How far the rows of a text are read: how many, and the least first value that the next one may have.
+/// How far the rows of a text are read.
 #[derive(Clone, Copy, Drop)]
-struct PlainFront<'a> {
-    count: u64,
-    floor: u64,
-    // The text behind them.
-    rest: &'a [u8],
+pub struct TextFront<'a> {
+    /// How many are read.
+    pub count: u64,
+    /// The least first value that the next one may have.
+    pub floor: u64,
+    /// The text behind them.
+    pub rest: &'a [u8],
 }
 
-// Hands over the rows at the front of a text that stand there without quotes. It fails for want of memory alone.
+/// Hands over the next rows of a text that stand there without quotes, as far as they are whole: they are the same whatever
+/// follows the text. It fails for want of memory alone.
 #[inline(always)]
-fn read_plain_rows<'a, const N: usize, S: RowSink<N>>(
-    text: &'a [u8],
+pub fn read_front<'a, const N: usize, S: RowSink<N>>(
+    start: TextFront<'a>,
     kinds: &[Kind; N],
     ordered: bool,
     sink: &mut S,
-) -> Result<PlainFront<'a>, AllocError>
+) -> Result<TextFront<'a>, AllocError>
     requires size { N < 100 }
     requires some { 0 < N }
+    requires room { start.count + length start.rest.now < 2 ^ 64 }
     requires takes { (row : List ℕ) → IsRow 0 kinds.now row → FitsBytes kinds.now row → S.takes row }
-    requires fresh { S.takes_to sink.old [] sink.old }
-    ensures value { IfOk result (λ front. HandsFront (λ rows. S.takes_to sink.old rows sink.new) (table_rows text_value ordered 1 kinds.now 0 1 (csv_records text.now)) (table_rows text_value ordered 1 kinds.now front.floor (front.count + 1) (csv_records front.rest.now))) }
-    ensures within { IfOk result (λ front. front.count + length front.rest.now ≤ length text.now) }
+    ensures value { IfOk result (λ front. (more : List ℕ) → HandsFront (TakesMore S.takes_to sink.old sink.new) (table_rows text_value ordered 1 kinds.now start.entry.floor (start.entry.count + 1) (csv_records (start.entry.rest.now ++ more))) (table_rows text_value ordered 1 kinds.now front.floor (front.count + 1) (csv_records (front.rest.now ++ more)))) }
+    ensures within { IfOk result (λ front. front.count + length front.rest.now ≤ start.entry.count + length start.entry.rest.now) }
 {
-    let mut count = 0;
-    let mut floor = 0;
-    let mut rest = text;
+    let mut count = start.count;
+    let mut floor = start.floor;
+    let mut rest = start.rest;
     let columns = *kinds;
     let mut values = [0; N];
     while let Some(behind) = plain_row::<N, S>(rest, &columns, floor, &mut values) {
@@ -76,7 +79,7 @@ fn read_plain_rows<'a, const N: usize, S: RowSink<N>>(
         sink.take(&values)?;
         rest = behind;
     }
-    Ok(PlainFront { count, floor, rest })
+    Ok(TextFront { count, floor, rest })
 }
 
 // The values of a record with as many fields as there are columns.
@@ -132,6 +135,36 @@ fn read_rows_left<const N: usize, S: RowSink<N>>(
     Ok(())
 }
 
+/// Hands over the values of all records that a text has left.
+#[inline(never)]
+pub fn read_behind<const N: usize, S: RowSink<N>>(
+    alloc: Global,
+    front: TextFront<'_>,
+    kinds: &[Kind; N],
+    ordered: bool,
+    sink: &mut S,
+) -> Result<(), TableStop>
+    requires size { N < 100 }
+    requires some { 0 < N }
+    requires room { front.count + length front.rest.now < 2 ^ 64 }
+    requires takes { (row : List ℕ) → IsRow 0 kinds.now row → FitsBytes kinds.now row → S.takes row }
+    ensures value { OnOk result (HandsOver (TakesMore S.takes_to sink.old sink.new) (table_rows text_value ordered 1 kinds.now front.entry.floor (front.entry.count + 1) (csv_records front.entry.rest.now))) }
+
+    ensures refused { IfErr result (Tells (table_rows text_value ordered 1 kinds.now front.entry.floor (front.entry.count + 1) (csv_records front.entry.rest.now))) }
+{
+    let mut reader = reader_of(alloc, front.rest);
+    let mut fields = ByteRecord::new(alloc);
+    read_rows_left(
+        &mut reader,
+        &mut fields,
+        front.count,
+        front.floor,
+        kinds,
+        ordered,
+        sink,
+    )
+}
+
 // Hands over the values of all records of a text.
 #[inline(always)]
 fn read_all_rows<const N: usize, S: RowSink<N>>(
@@ -149,23 +182,18 @@ fn read_all_rows<const N: usize, S: RowSink<N>>(
 
     ensures refused { IfErr result (Tells (table_rows text_value ordered 1 kinds.now 0 1 (csv_records text.now))) }
 {
-    let front = read_plain_rows(text, kinds, ordered, sink)?;
-    let mut reader = reader_of(alloc, front.rest);
-    let mut fields = ByteRecord::new(alloc);
-    read_rows_left(
-        &mut reader,
-        &mut fields,
-        front.count,
-        front.floor,
-        kinds,
-        ordered,
-        sink,
-    )
+    let start = TextFront {
+        count: 0,
+        floor: 0,
+        rest: text,
+    };
+    let front = read_front(start, kinds, ordered, sink)?;
+    read_behind(alloc, front, kinds, ordered, sink)
 }
 
-// Hands over the values of all records of a text but the first.
+/// Hands over the values of all records of a text but the first.
 #[inline(never)]
-fn read_rows_behind_heading<const N: usize, S: RowSink<N>>(
+pub fn read_behind_heading<const N: usize, S: RowSink<N>>(
     alloc: Global,
     text: &[u8],
     kinds: &[Kind; N],
@@ -211,6 +239,6 @@ pub fn read_text<const N: usize, S: RowSink<N>>(
 {
     match behind_heading(text) {
         Some(rest) => read_all_rows(alloc, rest, kinds, ordered, sink),
-        None => read_rows_behind_heading(alloc, text, kinds, ordered, sink),
+        None => read_behind_heading(alloc, text, kinds, ordered, sink),
     }
 }

@@ -1,14 +1,15 @@
 -- Rows that stand in a text as they are, and what the machine of CSV makes of them.
 use Rattle.std.proofs.Common.{◌≡◌, ℕ, ◌+◌, ◌-◌, ◌<◌, ◌≤◌, true, false, cond, List, [], ◌∷◌, ◌++◌, length, get_or, take, drop, Option, Some, None, refl, sym, ap, ◌∙◌, arith, inl, inr, take-append-drop, eqb}
 use Rattle.std.specs.List.{list_any}
+use Rattle.std.specs.Prelude.{IfSome}
 use Rattle.std.specs.Str.Parse.{AllDigits}
 use Rattle.std.proofs.lemmas.Bool.{cases_Bool, eqb-true, false≢true, not-true, or_cases, or_parts}
 use Rattle.std.proofs.lemmas.Bool.Decides.{nat_tests}
-use Rattle.std.proofs.lemmas.List.{length-take-le, take_rest}
+use Rattle.std.proofs.lemmas.List.{drop-append-le, length-append, length-take-le, take-append-le, take_rest}
 use Rattle.std.proofs.lemmas.List.Folds.{list_any-append}
 use Rattle.csv.specs.Writing.{default_writer, needs_byte}
 use Rattle.csv.specs.Machine.{Read, next_record, after_end, ends_at_end}
-use Rattle.csv.specs.Reading.{default_config, records, strip_bom}
+use Rattle.csv.specs.Reading.{default_config, is_bom, records, strip_bom}
 use Rattle.csv.specs.declared.parser.State.{State}
 use Rattle.csv.specs.declared.parser.State.TheVariants as st
 use Rattle.csv.specs.declared.parser.Terminator.TheVariants as term
@@ -173,6 +174,69 @@ pub decimals-field : (text : List ℕ) (count more : ℕ) → AllDigits 10 (take
 decimals-field text count more all point digits =
     plain-field text (count + (1 + more))
     (rw (point-split text count more point, list_any-append, digits_plain (take count text) all) (digits_plain (take more (drop (count + 1) text)) digits))
+
+-- ---- what holds at the front of a text, whatever follows
+
+-- the end of a line at the front
+pub skip_first-front : (xs more : List ℕ) → 1 ≤ length xs → is_line_end (get_or xs 0 0) ≡ true → records default_config (xs ++ more) ≡ records default_config (drop 1 xs ++ more)
+skip_first-front [] more some h = absurd (omega arith)
+skip_first-front (c ∷ rest) more some h = skip_line_end c (rest ++ more) h
+
+-- the first field of a row behind it
+pub begins-front : (text rest more : List ℕ) → 1 ≤ length text → is_line_end (get_or text 0 0) ≡ true → records default_config (drop 1 text ++ more) ≡ records default_config (rest ++ more) → begins_with_row rest ≡ true → BeginsField (text ++ more) [] (rest ++ more)
+begins-front [] rest more some h same begins = absurd (omega arith)
+begins-front (c ∷ text) [] more some h same begins = absurd (false≢true begins)
+begins-front (c ∷ text) (d ∷ rest) more some h same begins = begins-first (c ∷ (text ++ more)) (d ∷ (rest ++ more)) (skip_marked (c ∷ (text ++ more)) (omega arith) h ∙ same) begins
+
+-- what follows from two facts about what there may be
+pub some-both : {A : Type 0} {P Q R : A → Type 0} (found : Option A) → IfSome found P → IfSome found Q → ((x : A) → P x → Q x → R x) → IfSome found R
+some-both None p q follows = tt
+some-both (Some x) p q follows = follows x p q
+
+-- a comma, or the end of a line, behind a field
+pub comma-front : (text : List ℕ) (fields : List (List ℕ)) (rest more : List ℕ) → 1 ≤ length rest → get_or rest 0 0 ≡ 44 → EndsField text fields (rest ++ more) → BeginsField text fields (drop 1 rest ++ more)
+comma-front text fields [] more some comma ended = absurd (omega arith)
+comma-front text fields (c ∷ rest) more some comma ended = comma-behind text fields (c ∷ (rest ++ more)) (omega arith) comma ended
+
+line_end-front : (rest more : List ℕ) → begins_with_line_end rest ≡ true → begins_with_line_end (rest ++ more) ≡ true
+line_end-front [] more end = absurd (false≢true end)
+line_end-front (c ∷ rest) more end = end
+
+pub row-front : (text : List ℕ) (fields : List (List ℕ)) (rest more : List ℕ) → begins_with_line_end rest ≡ true → EndsField text fields (rest ++ more) → csv_records text ≡ fields ∷ csv_records (rest ++ more)
+row-front text fields rest more end ended = row-behind text fields (rest ++ more) (line_end-front rest more end) ended
+
+-- a field: the machine takes it behind a comma as elsewhere, so that its bytes are known to be plain
+unmarked_comma : (text : List ℕ) → strip_bom (44 ∷ text) ≡ 44 ∷ text
+unfolding strip_bom
+unmarked_comma (a ∷ b ∷ rest) = refl
+unmarked_comma _ = refl
+
+after_comma : (text : List ℕ) → BeginsField (44 ∷ text) ([] ∷ []) text
+unfolding next_record
+after_comma text = record { line = 44 ∷ text; same = ap (records default_config) (unmarked_comma text); read = refl }
+
+last_is : (before : List (List ℕ)) (first x last : List ℕ) → first ∷ x ∷ [] ≡ before ++ last ∷ [] → x ≡ last
+last_is [] first x last e = absurd (omega (arith, ap length e))
+last_is (a ∷ []) first x last e = cc e
+last_is (a ∷ b ∷ before) first x last e = absurd (omega (arith, ap length e, length-append before (last ∷ [])))
+
+pub field_front : (text more : List ℕ) (size : ℕ) → IsField text size → size ≤ length text → IsField (text ++ more) size
+field_front text more size field within =
+    let ended = field (44 ∷ text) ([] ∷ []) (after_comma text) in
+    plain-field (text ++ more) size (rw (take-append-le size text more within, last_is ended.before [] (take size text) ended.last ended.fields_are) ended.plain)
+
+-- a heading
+strip_bom-front : (text more : List ℕ) → 3 ≤ length text → strip_bom (text ++ more) ≡ strip_bom text ++ more
+unfolding strip_bom
+strip_bom-front (a ∷ b ∷ c ∷ rest) more three = elim (cases_Bool (is_bom a b c)) [ inl e ↦ rw e refl | inr e ↦ rw e refl ]
+strip_bom-front _ more three = absurd (omega arith)
+
+pub rows-front : (text whole more : List ℕ) (size : ℕ) → whole ≡ strip_bom text → 3 ≤ length text → 0 < size → size ≤ length whole → list_any ends_heading (take size whole) ≡ false → begins_with_line_end (drop size whole) ≡ true
+    → csv_rows (text ++ more) ≡ csv_records (drop size whole ++ more)
+rows-front text whole more size whole_is three some within plain ended =
+    let kept = drop-append-le size whole more within in
+    rw kept at (rows_behind (text ++ more) (whole ++ more) size (ap (λ xs. xs ++ more) whole_is ∙ sym (strip_bom-front text more three)) some
+    (omega (arith, within, length-append whole more)) (rw (take-append-le size whole more within) plain) (rw kept (line_end-front (drop size whole) more ended)))
 
 pub ruleset front_fields = (digits-field, decimals-field, take_rest)
 

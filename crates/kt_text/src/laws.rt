@@ -1,6 +1,6 @@
 //! Theorems over the definitions: what is written plainly is read back.
 
-ghost use Rattle.kt_text.specs.Laws.{CountsAreReadBack, AmountsAreReadBack, RowsAreReadBack};
+ghost use Rattle.kt_text.specs.Laws.{CountsAreReadBack, AmountsAreReadBack, RowsAreReadBack, FieldsStayFields};
 
 /// Every count below 10^18 is read back from its plain digits.
 #[tactic(auto, using(crate::proofs::PlainLemmas::count_plain))]
@@ -18,4 +18,10 @@ pub fn amounts_are_read_back()
 #[tactic(auto, using(crate::proofs::MachineLemmas::rows_plain))]
 pub fn rows_are_read_back()
     ensures { RowsAreReadBack }
+{}
+
+/// A field at the front of a text is one whatever follows.
+#[tactic(auto, using(crate::proofs::PlainRowLemmas::field_front))]
+pub fn fields_stay_fields()
+    ensures { FieldsStayFields }
 {}

@@ -1,6 +1,6 @@
 //! Rows that stand in a text without quotes: where their fields begin and end. Nothing is copied.
 
-ghost use Rattle.std.specs.Prelude.{◌≡◌, ◌≤◌, ◌<◌, ◌⊎◌, ℕ, List, true, false, cond, [], length, take, drop, IfSome, IfNone};
+ghost use Rattle.std.specs.Prelude.{◌≡◌, ◌≤◌, ◌<◌, ◌⊎◌, ◌++◌, ℕ, List, true, false, cond, [], length, take, drop, IfSome, IfNone};
 ghost use Rattle.std.specs.List.{list_all, list_any, position_or_len};
 ghost use Rattle.csv.specs.Reading.{records, default_config, strip_bom};
 ghost use Rattle.csv.specs.Writing.{default_writer, needs_byte};
@@ -72,7 +72,7 @@ fn begins_line_end(text: &[u8]) -> bool
 // The text behind the ends of lines at its front, if a row begins there.
 #[tactic(auto, using(crate::proofs::PlainRowLemmas::plain_rows))]
 fn row_behind(text: &[u8]) -> Option<&[u8]>
-    ensures same { IfSome result (λ rest. records default_config text.now ≡ records default_config rest.now) }
+    ensures same { IfSome result (λ rest. (more : List ℕ) → records default_config (text.now ++ more) ≡ records default_config (rest.now ++ more)) }
     ensures begins { IfSome result (λ rest. begins_with_row rest.now ≡ true) }
     ensures shorter { IfSome result (λ rest. length rest.now ≤ length text.now) }
     ensures none { IfNone result (list_all ends_line text.now ≡ true) }
@@ -91,6 +91,7 @@ fn row_behind(text: &[u8]) -> Option<&[u8]>
 #[inline(always)]
 pub fn first_field(text: &[u8]) -> Option<&[u8]>
     ensures begins { IfSome result (λ rest. BeginsField text.now [] rest.now) }
+    ensures begins_front { IfSome result (λ rest. (more : List ℕ) → BeginsField (text.now ++ more) [] (rest.now ++ more)) }
     ensures shorter { IfSome result (λ rest. length rest.now < length text.now) }
 
     // There is none where the text does not begin with the end of a line, or has nothing else.
@@ -110,6 +111,7 @@ pub fn first_field(text: &[u8]) -> Option<&[u8]>
 #[inline(always)]
 pub fn behind_field(text: &[u8], is_last: bool) -> Option<&[u8]>
     ensures stands { IfSome result (λ rest. (start : List ℕ) (fields : List (List ℕ)) → EndsField start fields text.now → StandsBehind is_last start fields rest.now) }
+    ensures stands_front { IfSome result (λ rest. (more start : List ℕ) (fields : List (List ℕ)) → EndsField start fields (text.now ++ more) → StandsBehind is_last start fields (rest.now ++ more)) }
     ensures shorter { IfSome result (λ rest. length rest.now ≤ length text.now) }
 
     // There is none where behind the last field no line ends, or behind another no comma stands.
@@ -127,6 +129,7 @@ pub fn behind_field(text: &[u8], is_last: bool) -> Option<&[u8]>
 #[tactic(auto, using(crate::proofs::PlainRowLemmas::plain_fields))]
 fn behind_comma(text: &[u8]) -> Option<&[u8]>
     ensures stands { IfSome result (λ rest. (start : List ℕ) (fields : List (List ℕ)) → EndsField start fields text.now → BeginsField start fields rest.now) }
+    ensures stands_front { IfSome result (λ rest. (more start : List ℕ) (fields : List (List ℕ)) → EndsField start fields (text.now ++ more) → BeginsField start fields (rest.now ++ more)) }
     ensures shorter { IfSome result (λ rest. length rest.now ≤ length text.now) }
     ensures none { IfNone result (begins_with_comma text.now ≡ false) }
 {
@@ -144,6 +147,7 @@ fn behind_comma(text: &[u8]) -> Option<&[u8]>
 #[tactic(auto, using(crate::proofs::PlainRowLemmas::plain_fields))]
 fn at_line_end(text: &[u8]) -> Option<&[u8]>
     ensures stands { IfSome result (λ rest. (start : List ℕ) (fields : List (List ℕ)) → EndsField start fields text.now → StandsBehind true start fields rest.now) }
+    ensures stands_front { IfSome result (λ rest. (more start : List ℕ) (fields : List (List ℕ)) → EndsField start fields (text.now ++ more) → StandsBehind true start fields (rest.now ++ more)) }
     ensures shorter { IfSome result (λ rest. length rest.now ≤ length text.now) }
     ensures none { IfNone result (begins_with_line_end text.now ≡ false) }
 {
@@ -176,6 +180,7 @@ fn without_mark(text: &[u8]) -> &[u8]
 /// the rows.
 pub fn behind_heading(text: &[u8]) -> Option<&[u8]>
     ensures rows { IfSome result (λ rest. csv_rows text.now ≡ csv_records rest.now) }
+    ensures rows_front { IfSome result (λ rest. 3 ≤ length text.now → (more : List ℕ) → csv_rows (text.now ++ more) ≡ csv_records (rest.now ++ more)) }
 
     // There is none where the text has no such heading.
     ensures none { IfNone result (has_plain_heading (strip_bom text.now) ≡ false) }

@@ -2,16 +2,21 @@ use Rattle.std.proofs.Common.{◌≡◌, ◌==◌, false, true, sym, ◌∙◌, 
 use Rattle.std.proofs.lemmas.Bool.{eq-eqb, ne_eqb}
 use Rattle.std.proofs.lemmas.List.{take_rest}
 use Rattle.kt_cells.specs.declared.kind.Kind.TheVariants.{Id}
-use Rattle.kt_cells.proofs.TextLemmas.{plain-more, plain-end}
+use Rattle.kt_cells.proofs.TextLemmas.{plain-start, plain-front, plain-end}
 use Rattle.kt_cells.proofs.plain_rows.long_row.Goals as goal
+
+pub loop-column-init : goal.loop-column-init
+loop-column-init g c =
+    let here : (0 == g.row.N) ≡ false = ne_eqb 0 g.row.N (λ e. omega (arith, e, c.requires.some)) in
+    (λ more. rw here (plain-start c.args.floor (c.in_ok-rest.ensures.begins_front more) (c.told-values ∙ sym c.told-kinds)), c.in_ok-rest.ensures.shorter)
 
 pub loop-column-preserved : goal.loop-column-preserved
 loop-column-preserved g c =
-    let here : (c.loop-column.column == g.row.N) ≡ false = ne_eqb c.loop-column.column g.row.N (λ e. omega (arith, c.loop-column-test.true)) in
-    rw c.rule_after-rule.ensures (
-      plain-more (rw here at c.loop-column.invariant.0) Id _ c.in_ok-field.field.size c.in_ok-field.field.value c.in_ok-rest-2.rest.now
-          (omega (arith, c.told-kinds, c.loop-column-test.true)) c.in_ok-field.ensures.field (rw c.under.ensures at c.in_ok-field.ensures.value) (omega (arith, c.if-field-least.false))
-          (rw take_rest at c.in_ok-rest-2.ensures.stands),
+    let here : (c.loop-column.column == g.row.N) ≡ false = ne_eqb c.loop-column.column g.row.N (λ e. omega (arith, c.loop-column-test.true)) in (
+      λ more.
+          rw c.rule_after-rule.ensures (plain-front c.loop-column.rest.now more (rw here at (c.loop-column.invariant.0 more)) Id _ c.in_ok-field.field.size c.in_ok-field.field.value c.in_ok-rest-2.rest.now
+          (omega (arith, c.told-kinds, c.loop-column-test.true)) c.in_ok-field.ensures.within (c.fields_stay_fields.ensures _ more _ c.in_ok-field.ensures.field c.in_ok-field.ensures.within)
+          (rw c.under.ensures at c.in_ok-field.ensures.value) (omega (arith, c.if-field-least.false)) (rw take_rest at (c.in_ok-rest-2.ensures.stands_front more))),
       omega (arith, c.loop-column.invariant.1, rw take_rest at c.in_ok-rest-2.ensures.shorter, length-drop c.in_ok-field.field.size c.loop-column.rest.now),
     )
 
@@ -19,4 +24,4 @@ pub returns-clause-row : goal.returns-clause-row
 returns-clause-row g c =
     let all : c.loop-column.column ≡ g.row.N = omega (arith, c.loop-column-test.false, c.loop-column.auto.column-end) in
     let here : (c.loop-column.column == g.row.N) ≡ true = eq-eqb c.loop-column.column g.row.N all in
-    plain-end (rw here at c.loop-column.invariant.0) (all ∙ sym c.told-kinds)
+    λ more. plain-end (rw here at (c.loop-column.invariant.0 more)) (all ∙ sym c.told-kinds)

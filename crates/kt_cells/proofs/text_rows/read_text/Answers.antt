@@ -6,4 +6,4 @@ pub returns-in-Some-clause-ranges : goal.returns-in-Some-clause-ranges
 returns-in-Some-clause-ranges g c = ranges-given c.args.ordered c.args.kinds.now c.args.text.now c.read_all_rows.result (omega (arith, c.told-kinds, c.requires.some))
 
 pub returns-in-None-clause-ranges : goal.returns-in-None-clause-ranges
-returns-in-None-clause-ranges g c = ranges-given c.args.ordered c.args.kinds.now c.args.text.now c.read_rows_behind_heading.result (omega (arith, c.told-kinds, c.requires.some))
+returns-in-None-clause-ranges g c = ranges-given c.args.ordered c.args.kinds.now c.args.text.now c.read_behind_heading.result (omega (arith, c.told-kinds, c.requires.some))

@@ -2,7 +2,7 @@ use Rattle.std.proofs.Common.{[], sym, ap, ◌∙◌, drop}
 use Rattle.std.proofs.lemmas.Bool.{MatchBool-at_false}
 use Rattle.kt_cells.specs.Reading.{table_rows}
 use Rattle.kt_cells.specs.Texts.{text_value}
-use Rattle.kt_cells.proofs.text_rows.read_rows_behind_heading.Goals as goal
+use Rattle.kt_cells.proofs.text_rows.read_behind_heading.Goals as goal
 
 -- a text without a record has no row
 pub returns-then-not-branch-clause-value : goal.returns-then-not-branch-clause-value
