@@ -9,6 +9,7 @@ use kt_money::Bytes;
 use std::alloc::AllocError;
 
 // Appends a number in four or eight bytes.
+#[inline(always)]
 fn push_number(out: &mut Bytes, width: usize, value: u64) -> Result<(), AllocError>
     requires { (width ≡ 4) ⊎ (width ≡ 8) }
     ensures ok { OnOk result (out.new ≡ out.old ++ little_bytes width value) }
@@ -21,7 +22,9 @@ fn push_number(out: &mut Bytes, width: usize, value: u64) -> Result<(), AllocErr
     }
 }
 
-/// Appends a row as a record. An error is want of memory; then a part of it may stand behind what was there.
+/// Appends a row as a record. An error is want of memory; then a part of it may stand behind what was there. The code is put
+/// where the kinds are known.
+#[inline(always)]
 pub fn push_record(out: &mut Bytes, kinds: &[Kind], values: &[u64]) -> Result<(), AllocError>
     requires { length values.now ≡ length kinds.now }
     ensures ok { OnOk result (out.new ≡ out.old ++ record_bytes kinds.now values.now) }

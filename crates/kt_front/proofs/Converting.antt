@@ -24,6 +24,7 @@ use Rattle.kt_ends.specs.declared.status.Refusal.TheVariants as refusal
 use Rattle.kt_ends.specs.declared.status.Status.TheVariants as status
 use Rattle.kt_ends.specs.declared.tool_stop.ToolStop.{ToolStop}
 use Rattle.kt_ends.specs.declared.tool_stop.ToolStop.TheVariants as tool
+use Rattle.kt_front.specs.SourceText.{MakesOf}
 use Rattle.kt_front.specs.Converting.{source_limit, source_name, ReadsWhole, EndsText, StopsText, IsTableStop, converted, within_limit}
 
 -- a fact of what is told holds of what it is
@@ -111,3 +112,9 @@ module _ (uses : Uses) (made : List ℕ → Outcome) (inputs : InputsState) (out
       (ends_unmade bytes end read (subst (λ (outcome : Outcome). StopsText outcome end) (sym is) (stops_form form why end wrote.0 ends)))
   ends_text {T} form after bytes (Err (text.Unwritten fault)) (Err end) read is wrote ends =
       rw ends (ends_made {T = T} after bytes wrote.0 (Err fault) read (is ∙ ap converted wrote.1) wrote.2)
+
+-- no file was made of the source, for it could not be read, or it is refused
+pub ends_source_unmade : (uses : Uses) (made : List ℕ → Result (List ℕ) TableStop) (inputs : InputsState) (outputs : OutputsState) (before now : SourceState) (sink : SinkState) → MakesOfSource uses → (stop : ToolStop) → MakesOf made before now (Err stop)
+    → ToolEnds uses (λ files bytes. within_limit (λ text. converted (made text)) bytes) (world inputs outputs before sink) (world inputs outputs now sink) (stop_status stop)
+ends_source_unmade uses made inputs outputs before now sink makes stop (inl unread) = ends_unread uses (λ text. converted (made text)) inputs outputs before now sink makes stop unread
+ends_source_unmade uses made inputs outputs before now sink makes stop (inr refused) = ends_unmade uses (λ text. converted (made text)) inputs outputs before now sink makes refused.0 stop refused.1 refused.2

@@ -1,5 +1,6 @@
 pub mod Loading
 pub mod Converting
+pub mod SourceText
 pub mod FootprintText
 pub mod EventList
 pub mod ModelOutcome

@@ -7,6 +7,8 @@ mod footprint;
 mod getmodel;
 mod gulcalc;
 mod stops;
+mod text_source;
+mod to_file;
 mod whole_source;
 
 pub use conversion::convert;

@@ -26,14 +26,14 @@ pub(crate) struct OpenEntry {
 
 /// The index of footprint rows, made of them one by one: the rows of the index whose events are over stand in `out`.
 #[derive(Drop)]
-pub(crate) struct IndexRecords {
+pub struct IndexRecords {
     out: Bytes,
     last: Option<OpenEntry>,
 }
 
 impl IndexRecords {
     /// No row yet. Takes no memory.
-    pub(crate) fn new(alloc: Global) -> Self
+    pub fn new(alloc: Global) -> Self
         ensures empty { result.out ≡ [] }
         ensures none { result.last ≡ None }
     {
@@ -44,7 +44,7 @@ impl IndexRecords {
     }
 
     /// The index of all rows that were taken. An error is want of memory.
-    pub(crate) fn finish(self) -> Result<Bytes, AllocError>
+    pub fn finish(self) -> Result<Bytes, AllocError>
         ensures { IfOk result (λ bytes. bytes ≡ self.out ++ records_bytes (kinds_of FootprintIdx) (index_behind self.last [])) }
     {
         match self.last {

@@ -11,9 +11,11 @@ use std::alloc::AllocError;
 
 /// Records with columns of these kinds, which stand behind what is in `out`.
 #[derive(Drop)]
-pub(crate) struct Records<'a, const N: usize> {
-    pub(crate) kinds: &'a [Kind; N],
-    pub(crate) out: Bytes,
+pub struct Records<'a, const N: usize> {
+    /// The kinds.
+    pub kinds: &'a [Kind; N],
+    /// The header of the file, and the records behind it.
+    pub out: Bytes,
 }
 
 impl<'a, const N: usize> RowSink<N> for Records<'a, N> {
@@ -45,8 +47,9 @@ fn footprint_record(areaperil: u32, intensity: u32, prob: u32) -> [u8; 12]
 
 /// Records of the footprint, which leave the event out, behind what is in `out`.
 #[derive(Drop)]
-pub(crate) struct FootprintRecords {
-    pub(crate) out: Bytes,
+pub struct FootprintRecords {
+    /// The header of the file, and the records behind it.
+    pub out: Bytes,
 }
 
 impl RowSink<4> for FootprintRecords {

@@ -13,8 +13,8 @@ use kt_money::Bytes;
 use kt_rec::Table;
 use std::alloc::{AllocError, Global};
 
-// Appends the header of a file that has one.
-fn push_header_part(
+/// Appends the header of a file that has one. An error is want of memory.
+pub fn push_header_part(
     out: &mut Bytes,
     header: bool,
     number: u32,
