@@ -1,6 +1,6 @@
-use Rattle.std.proofs.Common.{◌++◌, ◌∙◌, List, ℕ, ap, arith, length}
+use Rattle.std.proofs.Common.{◌++◌, ◌∙◌, List, ℕ, ap, arith}
 use Rattle.kt_front.proofs.Reading.{stopped_behind}
-use Rattle.kt_front.proofs.TextReading.{front_none, front_more}
+use Rattle.kt_front.proofs.TextReading.{front_more}
 use Rattle.kt_front.proofs.text_source.read_plain.Goals as goal
 
 pub returns-in-Err-clause-stopped : goal.returns-in-Err-clause-stopped

@@ -1,4 +1,4 @@
-use Rattle.std.proofs.Common.{◌++◌, ◌∙◌, [], List, ℕ, ap, append_assoc, sym}
+use Rattle.std.proofs.Common.{◌++◌, ◌∙◌}
 use Rattle.kt_text.specs.PlainText.{csv_records}
 use Rattle.kt_cells.specs.Reading.{table_rows}
 use Rattle.kt_cells.specs.Taking.{front-over, front-tells}

@@ -1,4 +1,4 @@
-use Rattle.std.proofs.Common.{◌≡◌, ◌-◌, ◌++◌, ◌∙◌, List, ℕ, ap, arith, inl, length, sym}
+use Rattle.std.proofs.Common.{◌≡◌, ◌-◌, ◌++◌, ◌∙◌, List, ℕ, ap, arith, inl, sym}
 use Rattle.std.proofs.lemmas.Grind.{common_steps}
 use Rattle.kt_text.specs.PlainText.{csv_records}
 use Rattle.kt_text.specs.Rows.{csv_rows}

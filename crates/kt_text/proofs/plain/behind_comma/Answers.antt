@@ -1,4 +1,3 @@
-use Rattle.std.proofs.Common.{arith}
 use Rattle.kt_text.proofs.PlainRowLemmas.{comma-front}
 use Rattle.kt_text.proofs.TrimmingLemmas.{behind_first}
 use Rattle.kt_text.proofs.plain.behind_comma.Goals as goal

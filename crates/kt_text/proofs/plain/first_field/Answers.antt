@@ -1,4 +1,4 @@
-use Rattle.std.proofs.Common.{ℕ, List, [], sym, ◌∙◌, arith}
+use Rattle.std.proofs.Common.{[], sym, ◌∙◌, arith}
 use Rattle.std.proofs.lemmas.List.{append-nil}
 use Rattle.kt_text.proofs.PlainRowLemmas.{some-both, begins-front}
 use Rattle.kt_text.proofs.TrimmingLemmas.{behind_first}
