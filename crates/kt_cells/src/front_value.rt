@@ -1,11 +1,11 @@
-//! The value of the field at the front of a text.
+//! The field at the front of a text: its value, and what stands behind it.
 ghost use Rattle.std.specs.Prelude.{◌≡◌, ◌≤◌, Ok, IfSome, length, take};
 ghost use Rattle.kt_text.specs.PlainText.{IsField};
-ghost use Rattle.kt_cells.specs.Kinds.{in_range};
-ghost use Rattle.kt_cells.specs.Texts.{text_value, decimals, number_in};
+ghost use Rattle.kt_cells.specs.Texts.{decimals, number_in};
+ghost use Rattle.kt_cells.specs.Fronts.{ReadsField};
 
 use crate::kind::Kind;
-use kt_text::{FrontNumber, field_length, front_amount, front_count};
+use kt_text::{FrontNumber, behind_field, field_length, front_amount, front_count};
 
 // The number at the front of a text, in the units of a kind, if plain digits write it.
 #[inline(always)]
@@ -21,49 +21,52 @@ fn front_number(kind: Kind, text: &[u8]) -> Option<FrontNumber>
     }
 }
 
-// Whether a field may end in front of a text: the last one of a row at the end of a line, another at a comma. No clause needs it:
-// it tells which way is the faster one.
-#[inline(always)]
-fn ends_field(text: &[u8], is_last: bool) -> bool {
-    match text {
-        [first, ..] if is_last => *first == b'\n' || *first == b'\r',
-        [first, ..] => *first == b',',
-        _ => false,
-    }
+/// A field at the front of a text.
+#[derive(Clone, Copy)]
+pub(crate) struct FrontField<'a> {
+    /// Its value.
+    pub(crate) value: u64,
+    /// What stands behind it: the next field, or the text from the end of the line on.
+    pub(crate) rest: &'a [u8],
 }
 
-/// The value of the field at the front of a text and the field's size, if it has no quotes and its value is one of the kind. It is
-/// found faster where the field ends as the last one of a row, or as another, does.
+// The field at the front of a text, if plain digits write its value.
 #[inline(always)]
-pub(crate) fn front_value(kind: Kind, text: &[u8], is_last: bool) -> Option<FrontNumber>
-    ensures within { IfSome result (λ field. field.size ≤ length text.now) }
-    ensures field { IfSome result (λ field. IsField text.now field.size) }
-    ensures value { IfSome result (λ field. text_value kind (take field.size text.now) ≡ Ok field.value) }
+fn plain_field(kind: Kind, text: &[u8], is_last: bool) -> Option<FrontField<'_>>
+    ensures field { IfSome result (λ field. ReadsField kind is_last text.now field.rest.now field.value) }
+    ensures shorter { IfSome result (λ field. length field.rest.now ≤ length text.now) }
 {
-    match front_number(kind, text) {
-        Some(number) if ends_field(&text[number.size..], is_last) => match kind.in_range(
-            number.value,
-        ) {
-            Ok(value) => Some(FrontNumber {
-                size: number.size,
-                value,
-            }),
-            Err(_) => None,
-        },
-        _ => any_front_value(kind, text),
+    let number = front_number(kind, text)?;
+    let rest = behind_field(&text[number.size..], is_last)?;
+    match kind.in_range(number.value) {
+        Ok(value) => Some(FrontField { value, rest }),
+        Err(_) => None,
     }
 }
 
 // The same, whatever writes the value.
 #[inline(never)]
-fn any_front_value(kind: Kind, text: &[u8]) -> Option<FrontNumber>
-    ensures within { IfSome result (λ field. field.size ≤ length text.now) }
-    ensures field { IfSome result (λ field. IsField text.now field.size) }
-    ensures value { IfSome result (λ field. text_value kind (take field.size text.now) ≡ Ok field.value) }
+fn any_field(kind: Kind, text: &[u8], is_last: bool) -> Option<FrontField<'_>>
+    ensures field { IfSome result (λ field. ReadsField kind is_last text.now field.rest.now field.value) }
+    ensures shorter { IfSome result (λ field. length field.rest.now ≤ length text.now) }
 {
     let size = field_length(text);
+    let rest = behind_field(&text[size..], is_last)?;
     match kind.value_of(&text[..size]) {
-        Ok(value) => Some(FrontNumber { size, value }),
+        Ok(value) => Some(FrontField { value, rest }),
         Err(_) => None,
+    }
+}
+
+/// The field at the front of a text, if it has no quotes, ends as the last one of a row, or as another, does, and its value is one
+/// of the kind.
+#[inline(always)]
+pub(crate) fn front_field(kind: Kind, text: &[u8], is_last: bool) -> Option<FrontField<'_>>
+    ensures field { IfSome result (λ field. ReadsField kind is_last text.now field.rest.now field.value) }
+    ensures shorter { IfSome result (λ field. length field.rest.now ≤ length text.now) }
+{
+    match plain_field(kind, text, is_last) {
+        Some(field) => Some(field),
+        None => any_field(kind, text, is_last),
     }
 }

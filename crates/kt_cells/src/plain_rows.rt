@@ -3,14 +3,14 @@ ghost use Rattle.std.specs.Prelude.{◌≡◌, ◌<◌, ◌≤◌, ◌+◌, ◌+
 ghost use Rattle.kt_cells.specs.Fronts.{PlainRead};
 ghost use Rattle.kt_cells.specs.Taking.{HasRow};
 
-use crate::front_value::front_value;
+use crate::front_value::front_field;
 use crate::kind::Kind;
 use crate::reader::rule_after;
 use crate::row_sink::RowSink;
-use kt_text::{behind_field, fields_stay_fields, first_field};
+use kt_text::{fields_stay_fields, first_field};
 
-// Rows of so many columns are read without a loop, so that the kind of each column is known where its field is read.
-const SHORT: usize = 5;
+/// Rows of so many columns are read and written without a loop, so that the kind of each column is known where its field is.
+pub(crate) const SHORT: usize = 5;
 
 // How far a row of a text is read: the rule by which the rest of it is read, and the text that is left.
 #[derive(Clone, Copy)]
@@ -36,14 +36,15 @@ fn with_field<'a, const N: usize>(
     fields_stay_fields();
     let kind = kinds[column];
     let is_last = column + 1 == N;
-    let field = front_value(kind.under(front.rule), front.rest, is_last)?;
+    let field = front_field(kind.under(front.rule), front.rest, is_last)?;
     if field.value < least {
         return None;
     }
-    let rest = behind_field(&front.rest[field.size..], is_last)?;
     values[column] = field.value;
-    let rule = rule_after(front.rule, kind, field.value);
-    Some(RowFront { rule, rest })
+    Some(RowFront {
+        rule: rule_after(front.rule, kind, field.value),
+        rest: field.rest,
+    })
 }
 
 // The next row of a text with few columns. Each kind of sink has its own copy of this code, so that it is put where the kinds are
@@ -100,11 +101,11 @@ fn long_row<'a, const N: usize>(
     let mut least = floor;
     for (column, kind) in kinds.iter().enumerate() {
         let is_last = column + 1 == N;
-        let field = front_value(kind.under(rule), rest, is_last)?;
+        let field = front_field(kind.under(rule), rest, is_last)?;
         if field.value < least {
             return None;
         }
-        rest = behind_field(&rest[field.size..], is_last)?;
+        rest = field.rest;
         values[column] = field.value;
         rule = rule_after(rule, *kind, field.value);
         least = 0;

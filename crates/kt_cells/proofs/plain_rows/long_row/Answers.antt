@@ -1,6 +1,5 @@
-use Rattle.std.proofs.Common.{◌≡◌, ◌==◌, false, true, sym, ◌∙◌, arith, length-drop}
+use Rattle.std.proofs.Common.{◌≡◌, ◌==◌, false, true, sym, ◌∙◌, arith}
 use Rattle.std.proofs.lemmas.Bool.{eq-eqb, ne_eqb}
-use Rattle.std.proofs.lemmas.List.{take_rest}
 use Rattle.kt_cells.specs.declared.kind.Kind.TheVariants.{Id}
 use Rattle.kt_cells.proofs.TextLemmas.{plain-start, plain-front, plain-end}
 use Rattle.kt_cells.proofs.plain_rows.long_row.Goals as goal
@@ -12,12 +11,13 @@ loop-column-init g c =
 
 pub loop-column-preserved : goal.loop-column-preserved
 loop-column-preserved g c =
-    let here : (c.loop-column.column == g.row.N) ≡ false = ne_eqb c.loop-column.column g.row.N (λ e. omega (arith, c.loop-column-test.true)) in (
+    let here : (c.loop-column.column == g.row.N) ≡ false = ne_eqb c.loop-column.column g.row.N (λ e. omega (arith, c.loop-column-test.true)) in
+    let read = c.in_ok-field.ensures.field in (
       λ more.
-          rw c.rule_after-rule.ensures (plain-front c.loop-column.rest.now more (rw here at (c.loop-column.invariant.0 more)) Id _ c.in_ok-field.field.size c.in_ok-field.field.value c.in_ok-rest-2.rest.now
-          (omega (arith, c.told-kinds, c.loop-column-test.true)) c.in_ok-field.ensures.within (c.fields_stay_fields.ensures _ more _ c.in_ok-field.ensures.field c.in_ok-field.ensures.within)
-          (rw c.under.ensures at c.in_ok-field.ensures.value) (omega (arith, c.if-field-least.false)) (rw take_rest at (c.in_ok-rest-2.ensures.stands_front more))),
-      omega (arith, c.loop-column.invariant.1, rw take_rest at c.in_ok-rest-2.ensures.shorter, length-drop c.in_ok-field.field.size c.loop-column.rest.now),
+          rw c.rule_after-rule.ensures (plain-front c.loop-column.rest.now more (rw here at (c.loop-column.invariant.0 more)) Id _ read.size c.in_ok-field.field.value c.in_ok-field.field.rest.now
+          (omega (arith, c.told-kinds, c.loop-column-test.true)) read.within (c.fields_stay_fields.ensures _ more _ read.field read.within)
+          (rw c.under.ensures at read.good) (omega (arith, c.if-field-least.false)) (read.behind more)),
+      omega (arith, c.loop-column.invariant.1, c.in_ok-field.ensures.shorter),
     )
 
 pub returns-clause-row : goal.returns-clause-row
