@@ -1,5 +1,5 @@
 -- The fields of a line, put in front of each other from the last to the first.
-use Rattle.std.proofs.Common.{◌≡◌, ℕ, zero, suc, ◌+◌, ◌*◌, ◌/◌, ◌^◌, ◌<◌, ◌≤◌, List, [], ◌∷◌, ◌++◌, length, take, drop, get_or, refl, sym, ap, ◌∙◌, arith, append_assoc, length-append}
+use Rattle.std.proofs.Common.{◌≡◌, ℕ, zero, suc, ◌+◌, ◌/◌, ◌^◌, ◌<◌, ◌≤◌, List, [], ◌∷◌, ◌++◌, length, take, drop, get_or, refl, sym, ap, ◌∙◌, arith, append_assoc, length-append}
 use Rattle.std.specs.Prelude.{decimal, slice_set}
 use Rattle.std.proofs.lemmas.Fmt.{length-decimal-le}
 use Rattle.std.proofs.lemmas.List.{append-nil, take_all, drop_all, drop_more, drop-set, take_more_set}
@@ -7,11 +7,11 @@ use Rattle.std.proofs.Math.ListN.{length-set}
 use Rattle.kt_money.specs.NumberText.{plain, padded_digits}
 use Rattle.kt_money.specs.NumberTextLaws.{plain-decimals, length-padded_digits}
 use Rattle.kt_cells.specs.Kinds.{under}
-use Rattle.kt_cells.specs.Lines.{fields_behind, separator, units_under}
+use Rattle.kt_cells.specs.Lines.{LineFrom, fields_behind, separator, units_under}
 use Rattle.kt_cells.specs.Reading.{rule_after}
 use Rattle.kt_cells.specs.Texts.{row_texts, value_text}
 use Rattle.kt_cells.specs.declared.kind.Kind.{Kind}
-use Rattle.kt_cells.proofs.WritingLemmas.{line_rest, line_rest-field, line_rest-later, line_rest-end}
+use Rattle.kt_cells.proofs.WritingLemmas.{line_rest-field, line_rest-later, line_rest-end}
 
 -- a number with decimals takes a point and those behind it
 pub length-plain : (whole scale value : ℕ) → 1 ≤ scale → 1 ≤ whole → value / 10 ^ scale < 10 ^ whole → value / 10 ^ scale < 2 ^ 64 → length (plain scale value) ≤ whole + 1 + scale
@@ -60,14 +60,6 @@ module _ {kinds : List Kind} {values : List ℕ} {units : List Kind} {done rule 
   units-end last =
       let none : drop done kinds ≡ [] = drop_all done kinds (omega arith) in
       sym (take_all done units (omega (arith, now.width))) ∙ sym (append-nil (take done units)) ∙ (rw none at now.so_far)
-
--- the fields of a line from a column on stand at the end of a buffer of 2,400 bytes, with room for those before
-pub record LineFrom (kinds : List Kind) (values text : List ℕ) (at column : ℕ) : Type 0 where
-  pub line_is : drop at text ≡ line_rest column (drop column (row_texts 0 kinds values))
-  pub room : 2400 + column * 24 ≤ at + 1 + length kinds * 24
-  pub inside : at ≤ 2400
-  pub long : length text ≡ 2400
-  pub within : column ≤ length kinds
 
 -- the line feed stands behind the last field
 pub line_from-end : (kinds : List Kind) (values text : List ℕ) → length values ≡ length kinds → length text ≡ 2400 → LineFrom kinds values (slice_set text 2399 10) 2399 (length kinds)

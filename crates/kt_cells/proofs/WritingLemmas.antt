@@ -8,7 +8,7 @@ use Rattle.kt_cells.specs.Kinds.{width}
 use Rattle.kt_cells.specs.Records.{record_bytes}
 use Rattle.kt_cells.specs.Taking.{HasMore}
 use Rattle.kt_cells.specs.declared.kind.Kind.{Kind}
-use Rattle.kt_cells.specs.Lines.{line_with, rows_lines, lines_behind, lines_with, line, fields_behind, separator}
+use Rattle.kt_cells.specs.Lines.{line_with, rows_lines, lines_behind, lines_with, line, line_rest, fields_behind, separator}
 use Rattle.kt_cells.specs.Reading.{and_then, in_front}
 use Rattle.kt_cells.specs.declared.stop.TableStop.{TableStop}
 
@@ -51,11 +51,6 @@ unfolding rows_lines lines_behind
 lines-more None kinds out values (Ok rows) = ap Ok (sym (append_assoc out (line_with None kinds values) (rows_lines kinds rows)))
 lines-more (Some count) kinds out values (Ok rows) = ap Ok (sym (append_assoc out (line_with (Some count) kinds values) (lines_behind count kinds rows)))
 lines-more before kinds out values (Err stop) = refl
-
--- what is left of a line, from a column on
-abbrev pub line_rest : ℕ → List (List ℕ) → List ℕ
-line_rest zero fields = line fields
-line_rest (suc column) fields = fields_behind fields
 
 -- what is left begins with the separator of its column
 pub line_rest-field : (column : ℕ) (field : List ℕ) (fields : List (List ℕ)) → line_rest column (field ∷ fields) ≡ separator column ++ (field ++ fields_behind fields)

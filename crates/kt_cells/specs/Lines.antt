@@ -1,5 +1,5 @@
 -- Lines of text: fields with commas between them and a line feed behind them.
-use Rattle.std.specs.Prelude.{ℕ, Option, None, Some, List, [], ◌∷◌, ◌++◌, ◌==◌, if◌then◌else◌}
+use Rattle.std.specs.Prelude.{◌≡◌, ℕ, zero, suc, ◌+◌, ◌*◌, ◌≤◌, Option, None, Some, List, [], ◌∷◌, ◌++◌, ◌==◌, drop, length, if◌then◌else◌}
 use Rattle.kt_money.specs.NumberText.{count_text}
 use Rattle.kt_cells.specs.Kinds.{under}
 use Rattle.kt_cells.specs.Reading.{rule_after}
@@ -50,3 +50,16 @@ unfoldable pub units_under : ℕ → List Kind → List ℕ → List Kind
 units_under rule [] values = []
 units_under rule (kind ∷ kinds) [] = []
 units_under rule (kind ∷ kinds) (value ∷ values) = under rule kind ∷ units_under (rule_after rule kind value) kinds values
+
+-- what is left of a line, from a column on
+abbrev pub line_rest : ℕ → List (List ℕ) → List ℕ
+line_rest zero fields = line fields
+line_rest (suc column) fields = fields_behind fields
+
+-- the fields of a line from a column on stand at the end of a buffer of 2,400 bytes, with room for those before
+pub record LineFrom (kinds : List Kind) (values text : List ℕ) (at column : ℕ) : Type 0 where
+  pub line_is : drop at text ≡ line_rest column (drop column (row_texts 0 kinds values))
+  pub room : 2400 + column * 24 ≤ at + 1 + length kinds * 24
+  pub inside : at ≤ 2400
+  pub long : length text ≡ 2400
+  pub within : column ≤ length kinds

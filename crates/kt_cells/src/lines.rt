@@ -1,11 +1,13 @@
 //! Rows as lines of text.
-ghost use Rattle.std.specs.Prelude.{◌≡◌, ◌+◌, ◌<◌, ◌≤◌, ◌∷◌, ◌++◌, length, drop};
+ghost use Rattle.std.specs.Prelude.{◌≡◌, ◌+◌, ◌<◌, ◌≤◌, ◌∷◌, ◌++◌, List, length, drop, min};
 ghost use Rattle.kt_money.specs.NumberText.{count_text};
-ghost use Rattle.kt_cells.specs.Lines.{line, line_with, separator, units_under};
+ghost use Rattle.kt_cells.specs.Lines.{LineFrom, line, line_with, separator, units_under};
+ghost use Rattle.kt_cells.specs.declared.kind.Kind.{Kind};
 ghost use Rattle.kt_cells.specs.Texts.{row_texts, value_text};
 ghost use Rattle.kt_cells.specs.declared.lines.TheConstants.{LINE_BYTES};
 
 use crate::kind::Kind;
+use crate::plain_rows::SHORT;
 use crate::reader::rule_after;
 use itoa::write_digits;
 use kt_money::write_plain;
@@ -61,9 +63,53 @@ fn units_of<const N: usize>(kinds: &[Kind; N], values: &[u64; N]) -> [Kind; N]
     units
 }
 
-/// Writes a row as a line that ends with the buffer, from its last field to its first, and returns where it starts.
+// Writes the field of a column, if the row has it, with its separator so that it ends at `end`, and returns where it starts.
 #[inline(always)]
-pub(crate) fn write_line<const N: usize>(
+fn write_field<const N: usize>(
+    units: &[Kind; N],
+    values: &[u64; N],
+    column: usize,
+    text: &mut [u8; LINE_BYTES],
+    end: usize,
+) -> usize
+    requires size { N < 100 }
+    requires room { 27 ≤ end }
+    requires within { end ≤ LINE_BYTES }
+    ensures start { result ≤ end }
+    ensures short { end ≤ result + 24 }
+    ensures line { (kinds : List Kind) → units.now ≡ units_under 0 kinds values.now → length kinds ≡ N → LineFrom kinds values.now text.old end (min N (column + 1)) → LineFrom kinds values.now text.new result (min N column) }
+{
+    if column >= N {
+        return end;
+    }
+    let start = write_value(units[column], values[column], text, end);
+    write_separator(column, text, start)
+}
+
+// Writes a row with few columns as a line that ends with the buffer, from its last field to its first.
+#[inline(always)]
+fn write_short_line<const N: usize>(
+    kinds: &[Kind; N],
+    values: &[u64; N],
+    text: &mut [u8; LINE_BYTES],
+) -> usize
+    requires { N ≤ 5 }
+    ensures start { result ≤ LINE_BYTES }
+    ensures room { 20 < result }
+    ensures written { drop result text.new ≡ line (row_texts 0 kinds.now values.now) }
+{
+    let units = units_of(kinds, values);
+    text[LINE_BYTES - 1] = b'\n';
+    let fifth = write_field(&units, values, 4, text, LINE_BYTES - 1);
+    let fourth = write_field(&units, values, 3, text, fifth);
+    let third = write_field(&units, values, 2, text, fourth);
+    let second = write_field(&units, values, 1, text, third);
+    write_field(&units, values, 0, text, second)
+}
+
+// Writes a row with any number of columns so.
+#[inline(always)]
+fn write_long_line<const N: usize>(
     kinds: &[Kind; N],
     values: &[u64; N],
     text: &mut [u8; LINE_BYTES],
@@ -83,6 +129,25 @@ pub(crate) fn write_line<const N: usize>(
         at = write_separator(column, text, at);
     }
     at
+}
+
+/// Writes a row as a line that ends with the buffer, from its last field to its first, and returns where it starts.
+#[inline(always)]
+pub(crate) fn write_line<const N: usize>(
+    kinds: &[Kind; N],
+    values: &[u64; N],
+    text: &mut [u8; LINE_BYTES],
+) -> usize
+    requires size { N < 100 }
+    ensures start { result ≤ LINE_BYTES }
+    ensures room { 20 < result }
+    ensures written { drop result text.new ≡ line (row_texts 0 kinds.now values.now) }
+{
+    if N <= SHORT {
+        write_short_line(kinds, values, text)
+    } else {
+        write_long_line(kinds, values, text)
+    }
 }
 
 // Writes a row as a line that ends with the buffer, with a count and a comma in front, and returns where it starts.

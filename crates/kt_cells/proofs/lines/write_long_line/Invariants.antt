@@ -1,5 +1,5 @@
-use Rattle.kt_cells.proofs.FieldLemmas.{LineFrom}
-use Rattle.kt_cells.proofs.lines.write_line.Given as goal
+use Rattle.kt_cells.specs.Lines.{LineFrom}
+use Rattle.kt_cells.proofs.lines.write_long_line.Given as goal
 
 abbrev pub invariant-loop-column : goal.invariant-loop-column
 invariant-loop-column g l = LineFrom l.kinds l.values l.text l.at l.column

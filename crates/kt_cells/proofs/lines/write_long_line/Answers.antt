@@ -2,7 +2,7 @@ use Rattle.std.proofs.Common.{◌≡◌, ◌+◌, ◌-◌, ◌++◌, ◌∙◌, 
 use Rattle.kt_cells.specs.Lines.{separator}
 use Rattle.kt_cells.specs.declared.kind.Kind.TheVariants.{Id}
 use Rattle.kt_cells.proofs.FieldLemmas.{line_from-end, line_from-more}
-use Rattle.kt_cells.proofs.lines.write_line.Goals as goal
+use Rattle.kt_cells.proofs.lines.write_long_line.Goals as goal
 
 pub loop-column-init : goal.loop-column-init
 loop-column-init g c = rw c.told-kinds at (line_from-end c.args.kinds.now c.args.values.now c.args.text.now (omega (arith, c.told-kinds, c.told-values)) c.told-text)
