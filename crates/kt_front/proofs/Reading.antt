@@ -2,12 +2,12 @@
 use Rattle.std.proofs.Common.{◌≡◌, ℕ, ◌+◌, ◌≤◌, ◌<◌, List, [], ◌++◌, length, take, drop, Option, Some, None, Ok, Err, refl, sym, ap, subst, ◌∙◌, append_assoc, arith}
 use Rattle.std.specs.Prelude.{IfSome}
 use Rattle.std.proofs.Math.Seq.{take-append_seam, take-append-add}
-use Rattle.std.proofs.lemmas.List.{append-nil, take-append-drop, take-append-le, take_at, length-take-le, length-append}
+use Rattle.std.proofs.lemmas.List.{take-append-drop, take-append-le, take_at, length-take-le, length-append}
 use Rattle.kt_out.specs.Counts.{Rose}
 use Rattle.kt_out.specs.Reading.{Gives, GivesKnown, ReadsBytes, SourceState}
 use Rattle.kt_ends.specs.declared.tool_stop.ToolStop.{ToolStop}
 use Rattle.kt_ends.specs.declared.tool_stop.ToolStop.TheVariants as tool
-use Rattle.kt_front.specs.Converting.{source_limit, IsTooLarge, ReadsWhole}
+use Rattle.kt_front.specs.Converting.{source_limit, ReadsWhole}
 use Rattle.kt_front.specs.SourceText.{HasRead, HasFed, ReadsPart, ReadsUpTo}
 
 read_none : (left : Option (List ℕ)) → HasRead left left []
@@ -23,10 +23,6 @@ read_more : (left now next : Option (List ℕ)) (fed room filled : List ℕ) (n 
 read_more None now next fed room filled n read gives = subst (λ (o : Option (List ℕ)). GivesKnown o next room filled n) read gives
 read_more (Some source) now next fed room filled n read gives =
     read_from fed source read.0 next room filled n read.2 (subst (λ (o : Option (List ℕ)). GivesKnown o next room filled n) read.1 gives)
-
--- the part of a block that a read has filled is the buffer
-pub filled_block : (items buf : List ℕ) (len : ℕ) → len ≡ length items → length buf ≡ length items → take len (buf ++ drop (length buf) items) ≡ buf
-filled_block items buf len whole same = take_at buf (drop (length buf) items) len (same ∙ sym whole)
 
 -- nothing was read yet
 pub fed_none : (state : SourceState) → HasFed state state []
@@ -50,27 +46,6 @@ fed_read {before} {now} room filled n reads = record { read = read_more before.l
 pub none_left : (before now : Option (List ℕ)) (room filled : List ℕ) (n : ℕ) → GivesKnown before now room filled n → n ≡ 0 → IfSome now (λ left. left ≡ [])
 none_left None now room filled n gives none = rw gives tt
 none_left (Some left) now room filled n gives none = rw gives.rest (rw (none, gives.at_end.0 none) refl)
-
--- a source that was read to its end
-read_end : (before now : Option (List ℕ)) (bytes : List ℕ) → HasRead before now bytes → IfSome now (λ left. left ≡ []) → IfSome before (λ source. (source ≡ bytes) × (now ≡ Some []))
-read_end None now bytes read none = tt
-read_end (Some source) now bytes read none =
-    let left : read.0 ≡ [] = subst (λ (o : Option (List ℕ)). IfSome o (λ left. left ≡ [])) read.1 none in
-    (read.2 ∙ ap (λ (xs : List ℕ). bytes ++ xs) left ∙ append-nil bytes, read.1 ∙ ap Some left)
-
-pub up_to_end : (most : ℕ) (before now : SourceState) (bytes : List ℕ) → HasFed before now bytes → length bytes ≤ most → IfSome now.left (λ left. left ≡ []) → ReadsUpTo most before now (Ok bytes)
-up_to_end most before now bytes fed few none = (fed.counted, few, read_end before.left now.left bytes fed.read none)
-
--- a source that is too large
-read_past : (most : ℕ) (before now : Option (List ℕ)) (bytes : List ℕ) → HasRead before now bytes → most < length bytes → IfSome before (λ source. most < length source)
-read_past most None now bytes read many = tt
-read_past most (Some source) now bytes read many = omega (arith, ap length read.2, length-append bytes read.0, many)
-
-pub up_to_large : (most : ℕ) (before now : SourceState) (bytes : List ℕ) (stop : ToolStop) → HasFed before now bytes → most < length bytes → IsTooLarge stop → ReadsUpTo most before now (Err stop)
-up_to_large most before now bytes (tool.Refused why) fed many large = (fed.counted, large, read_past most before.left now.left bytes fed.read many)
-up_to_large most before now bytes tool.ReadFault fed many large = absurd large
-up_to_large most before now bytes tool.WriteFault fed many large = absurd large
-up_to_large most before now bytes tool.NoMemory fed many large = fed.counted
 
 -- what stops the reading of the rest stops that of the whole
 larger : (most limit : ℕ) (before now : Option (List ℕ)) (bytes : List ℕ) → HasRead before now bytes → length bytes + most ≡ limit → IfSome now (λ source. most < length source) → IfSome before (λ source. limit < length source)

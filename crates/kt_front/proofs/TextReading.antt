@@ -14,21 +14,7 @@ use Rattle.kt_cells.specs.declared.stop.TableStop.{TableStop}
 use Rattle.kt_ends.specs.declared.tool_stop.ToolStop.{ToolStop}
 use Rattle.kt_front.specs.Converting.{IsTableStop}
 use Rattle.kt_front.specs.SourceText.{HasFed, ReadsFront, ReadsPart, ReadsText, ReadsUpTo}
-use Rattle.kt_front.proofs.Reading.{fed_none, fed_then, stopped_behind, whole_behind}
-
--- no row is read yet
-pub front_none : {S : Type 0} (takes_to : S → List (List ℕ) → S → Type 0) (kinds : List Kind) (ordered : Bool) (before : SourceState) (old : S) (there : List ℕ) (most : ℕ) → ReadsFront takes_to kinds ordered before before old old there there 0 0 most most
-front_none takes_to kinds ordered before old there most = record {
-  more = [];
-  fed = fed_none before;
-  few = omega arith;
-  front = λ after. record { rows = []; are_taken = λ start rows held. rw (append-nil rows) held; so_far = sym (behind_nil _) };
-  within = omega arith;
-}
-  where
-    behind_nil : {A E : Type 0} (rest : Result (List A) E) → behind [] rest ≡ rest
-    behind_nil (Ok more) = refl
-    behind_nil (Err e) = refl
+use Rattle.kt_front.proofs.Reading.{fed_then, stopped_behind, whole_behind}
 
 -- rows in front of rows that are in front
 front_then : {S : Type 0} (takes_to : S → List (List ℕ) → S → Type 0) (old now new : S) (all left rest : Result (List (List ℕ)) TableStop) → HandsFront (TakesMore takes_to old now) all left → HandsFront (TakesMore takes_to now new) left rest → HandsFront (TakesMore takes_to old new) all rest
