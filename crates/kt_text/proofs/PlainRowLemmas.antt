@@ -177,11 +177,6 @@ decimals-field text count more all point digits =
 
 -- ---- what holds at the front of a text, whatever follows
 
--- the end of a line at the front
-pub skip_first-front : (xs more : List ℕ) → 1 ≤ length xs → is_line_end (get_or xs 0 0) ≡ true → records default_config (xs ++ more) ≡ records default_config (drop 1 xs ++ more)
-skip_first-front [] more some h = absurd (omega arith)
-skip_first-front (c ∷ rest) more some h = skip_line_end c (rest ++ more) h
-
 -- the first field of a row behind it
 pub begins-front : (text rest more : List ℕ) → 1 ≤ length text → is_line_end (get_or text 0 0) ≡ true → records default_config (drop 1 text ++ more) ≡ records default_config (rest ++ more) → begins_with_row rest ≡ true → BeginsField (text ++ more) [] (rest ++ more)
 begins-front [] rest more some h same begins = absurd (omega arith)
