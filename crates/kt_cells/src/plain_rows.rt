@@ -6,7 +6,6 @@ ghost use Rattle.kt_cells.specs.Taking.{HasRow};
 use crate::front_value::front_field;
 use crate::kind::Kind;
 use crate::reader::rule_after;
-use crate::row_sink::RowSink;
 use kt_text::{fields_stay_fields, first_field};
 
 /// Rows of so many columns are read and written without a loop, so that the kind of each column is known where its field is.
@@ -47,9 +46,9 @@ fn with_field<'a, const N: usize>(
     })
 }
 
-// The next row of a text with few columns. Each kind of sink has its own copy of this code, so that it is put where the kinds are
-// known.
-fn short_row<'a, const N: usize, S: RowSink<N>>(
+// The next row of a text with few columns. Each table has its own copy of this code, in which its kinds are known.
+#[inline(always)]
+fn short_row<'a, const N: usize>(
     text: &'a [u8],
     kinds: &[Kind; N],
     floor: u64,
@@ -117,7 +116,7 @@ fn long_row<'a, const N: usize>(
 /// its refusals, and gives the text from the end of its line on: all other rows are for the reader of records. The row is the
 /// same whatever follows the text.
 #[inline(always)]
-pub(crate) fn plain_row<'a, const N: usize, S: RowSink<N>>(
+pub(crate) fn plain_row<'a, const N: usize>(
     text: &'a [u8],
     kinds: &[Kind; N],
     floor: u64,
@@ -129,7 +128,7 @@ pub(crate) fn plain_row<'a, const N: usize, S: RowSink<N>>(
     ensures shorter { IfSome result (λ rest. length rest.now < length text.now) }
 {
     if N <= SHORT {
-        short_row::<N, S>(text, kinds, floor, values)
+        short_row(text, kinds, floor, values)
     } else {
         long_row(text, kinds, floor, values)
     }

@@ -73,7 +73,7 @@ pub fn read_front<'a, const N: usize, S: RowSink<N>>(
     let mut rest = start.rest;
     let columns = *kinds;
     let mut values = [0; N];
-    while let Some(behind) = plain_row::<N, S>(rest, &columns, floor, &mut values) {
+    while let Some(behind) = plain_row(rest, &columns, floor, &mut values) {
         count += 1;
         floor = floor_after(ordered, &values);
         sink.take(&values)?;
