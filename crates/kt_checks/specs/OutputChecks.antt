@@ -1,5 +1,5 @@
 -- The checks of the outputs that items, or units of the top level, owe.
-use Rattle.std.specs.Prelude.{ℕ, ◌+◌, ◌&&◌, ◌||◌, nat_eq, not, Bool, false, cond, List, map, suc, zero, Option, Some, None}
+use Rattle.std.specs.Prelude.{◌≡◌, ℕ, ◌+◌, ◌<◌, ◌≤◌, ◌&&◌, ◌||◌, nat_eq, not, Bool, false, cond, List, map, suc, zero, Option, Some, None}
 use Rattle.std.specs.List.{list_any}
 use Rattle.kt_rec.specs.declared.financial.FmProgramme.{FmProgramme}
 use Rattle.kt_rec.specs.declared.financial.FmPolicytc.{FmPolicytc}
@@ -22,6 +22,12 @@ some_layer test (suc last) = some_layer test last || test (last + 1)
 -- whether a unit of the top level has a layer by its terms; one without terms has layer 1
 abbrev pub has_layer : (ℕ → Bool) → (ℕ × ℕ → Bool) → ℕ → ℕ → Bool
 has_layer has_terms is_layer unit layer = cond (has_terms unit) (is_layer (unit, layer)) (nat_eq layer 1)
+
+-- no unit has a layer behind a last one, up to the 50th
+pub record EndsAt (is_layer : ℕ × ℕ → Bool) (last : ℕ) : Type 0 where
+  pub some : 1 ≤ last
+  pub few : last ≤ 50
+  pub none : (unit layer : ℕ) → last < layer → layer ≤ 50 → is_layer (unit, layer) ≡ false
 
 -- whether for some layer, 1 to 50, of a unit of the top level its owner has no output
 abbrev pub lacks_output : (ℕ → Bool) → (ℕ × ℕ → Bool) → (ℕ × ℕ → Bool) → ℕ → ℕ → Bool

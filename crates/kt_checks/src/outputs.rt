@@ -8,7 +8,7 @@ ghost use Rattle.kt_keys.specs.FirstRow.{first_where};
 ghost use Rattle.kt_keys.specs.Keys.{same_pair};
 ghost use Rattle.kt_keys.specs.Units.{top_layers};
 ghost use Rattle.kt_keys.specs.Climbing.{next_unit, climbed};
-ghost use Rattle.kt_checks.specs.OutputChecks.{has_layer, lacks_output, lacks_at, owes_output, owing_at, missing_output_check};
+ghost use Rattle.kt_checks.specs.OutputChecks.{EndsAt, has_layer, lacks_output, lacks_at, owes_output, owing_at, missing_output_check};
 
 use kt_keys::{
     Need, Refusal, base, has_base, has_both, names_of, pair_set, pair_values, policytc, programme,
@@ -30,6 +30,8 @@ struct Lookups {
     with_terms: HashSet<u32>,
     /// These units with their layers.
     layers: HashSet<(u32, u32)>,
+    /// No unit of the top level has a layer behind this one.
+    last: u32,
     /// What the outputs are for, with their layers.
     outputs: HashSet<(u32, u32)>,
 }
@@ -76,10 +78,11 @@ fn has_layer(lookups: &Lookups, unit: u32, layer: u32) -> bool
 
 /// Whether for some layer of a unit of the top level its owner has no output.
 fn lacks_output(lookups: &Lookups, unit: u32, owner: u32) -> bool
+    requires { EndsAt (contains same_pair lookups.now.layers) lookups.now.last }
     ensures value { result ≡ lacks_output (contains nat_eq lookups.now.with_terms) (contains same_pair lookups.now.layers) (contains same_pair lookups.now.outputs) unit owner }
 {
     let mut lacks = false;
-    for below in 0..LAYERS {
+    for below in 0..lookups.last {
         let here = lacks_layer(lookups, unit, owner, below + 1);
         lacks = lacks || here;
     }
@@ -88,6 +91,7 @@ fn lacks_output(lookups: &Lookups, unit: u32, owner: u32) -> bool
 
 /// Whether an item lacks an output for some layer of the unit of the top level that its losses come to.
 fn item_lacks_output(lookups: &Lookups, top: u32, item: u32) -> bool
+    requires { EndsAt (contains same_pair lookups.now.layers) lookups.now.last }
     ensures value { result ≡ lacks_at (lacks_output (contains nat_eq lookups.now.with_terms) (contains same_pair lookups.now.layers) (contains same_pair lookups.now.outputs)) (climbed (get same_pair lookups.now.next) top 1 item) item }
 {
     match climbed(&lookups.next, top, item) {
@@ -98,6 +102,7 @@ fn item_lacks_output(lookups: &Lookups, top: u32, item: u32) -> bool
 
 /// Whether the item of a row of level 1, or by rule 0 the unit of a row of the top level, lacks an output.
 fn owes_output(lookups: &Lookups, rule: u32, top: u32, row: &FmProgramme) -> bool
+    requires { EndsAt (contains same_pair lookups.now.layers) lookups.now.last }
     ensures value { result ≡ owes_output rule top (get same_pair lookups.now.next) (lacks_output (contains nat_eq lookups.now.with_terms) (contains same_pair lookups.now.layers) (contains same_pair lookups.now.outputs)) row.now }
 {
     if rule == 0 {
@@ -109,6 +114,7 @@ fn owes_output(lookups: &Lookups, rule: u32, top: u32, row: &FmProgramme) -> boo
 
 /// The first row that lacks an output.
 fn first_owing(lookups: &Lookups, rule: u32, top: u32, rows: &[FmProgramme]) -> Option<u64>
+    requires { EndsAt (contains same_pair lookups.now.layers) lookups.now.last }
     ensures value { result ≡ first_where (owes_output rule top (get same_pair lookups.now.next) (lacks_output (contains nat_eq lookups.now.with_terms) (contains same_pair lookups.now.layers) (contains same_pair lookups.now.outputs))) rows.now }
 {
     for (index, row) in rows.iter().enumerate() {
@@ -117,6 +123,17 @@ fn first_owing(lookups: &Lookups, rule: u32, top: u32, rows: &[FmProgramme]) -> 
         }
     }
     None
+}
+
+/// The last layer of units with their layers, from 1 to 50.
+fn last_layer(layers: &[(u32, u32)]) -> u32
+    ensures value { EndsAt (λ pair. list_any (same_pair pair) layers.now) result }
+{
+    let mut last = 1;
+    for pair in layers {
+        last = last.max(pair.1);
+    }
+    last.min(LAYERS)
 }
 
 /// What the outputs are for, with their layers.
@@ -137,6 +154,7 @@ fn lookups_of(
     ensures next { IfOk result (λ lookups. (unit : ℕ × ℕ) → get same_pair lookups.next unit ≡ next_unit programme.now unit) }
     ensures with_terms { IfOk result (λ lookups. (unit : ℕ) → contains nat_eq lookups.with_terms unit ≡ list_any (nat_eq unit) (map (λ (pair : ℕ × ℕ). pair.0) (top_layers programme.now policytc.now))) }
     ensures layers { IfOk result (λ lookups. (pair : ℕ × ℕ) → contains same_pair lookups.layers pair ≡ list_any (same_pair pair) (top_layers programme.now policytc.now)) }
+    ensures last { IfOk result (λ lookups. EndsAt (contains same_pair lookups.layers) lookups.last) }
     ensures outputs { IfOk result (λ lookups. (pair : ℕ × ℕ) → contains same_pair lookups.outputs pair ≡ list_any (same_pair pair) (map (λ row. (row.agg_id, row.layer_id)) outputs.now)) }
 {
     let layers = top_layers(alloc, programme, policytc)?;
@@ -144,6 +162,7 @@ fn lookups_of(
     Ok(Lookups {
         with_terms: set_of(alloc, &units)?,
         layers: pair_set(alloc, &layers)?,
+        last: last_layer(&layers),
         outputs: owners(alloc, outputs)?,
         next: next_units(alloc, programme)?,
     })
@@ -171,6 +190,11 @@ pub(crate) fn missing_output_check(
 ) -> Result<Option<Refusal>, AllocError>
     ensures value { IfOk result (λ found. found ≡ missing_output_check (rows_of tables.now) need.now) }
 {
+    let made = has_both(need, Table::FmProgramme, Table::FmPolicytc)
+        && has_base(need, Table::FmXref);
+    if !made {
+        return Ok(None);
+    }
     let row = owing_at(
         alloc,
         need.rule,
@@ -178,7 +202,5 @@ pub(crate) fn missing_output_check(
         policytc(tables, 0),
         &tables.fm_xref,
     )?;
-    let made = has_both(need, Table::FmProgramme, Table::FmPolicytc)
-        && has_base(need, Table::FmXref);
-    Ok(Refusal::of(16, base(Table::FmProgramme), made, row))
+    Ok(Refusal::of(16, base(Table::FmProgramme), true, row))
 }

@@ -1,8 +1,8 @@
-use Rattle.std.proofs.Common.{◌≡◌, ◌+◌, ℕ, ◌&&◌, ◌||◌, not, nat_eq, ap, sym, ◌∙◌}
+use Rattle.std.proofs.Common.{◌≡◌, ◌+◌, arith, ℕ, ◌&&◌, ◌||◌, not, nat_eq, ap, sym, ◌∙◌}
 use Rattle.std.specs.HashSet.{contains}
 use Rattle.kt_keys.specs.Keys.{same_pair}
 use Rattle.kt_checks.specs.OutputChecks.{some_layer, has_layer}
-use Rattle.kt_checks.proofs.OutputLemmas.{layers-none, layers-step}
+use Rattle.kt_checks.proofs.OutputLemmas.{layers-end, layers-none, layers-step}
 use Rattle.kt_checks.proofs.outputs.lacks_output.Goals as goal
 use Rattle.kt_checks.proofs.outputs.lacks_output.Goals.{then-lacks, else-lacks}
 
@@ -18,3 +18,10 @@ loop-below-preserved c =
       | then-lacks w ↦ w.lacks-is ∙ (w.if-lacks.true ∙ (sym (ap (λ b. b || here) w.if-lacks.true) ∙ next))
       | else-lacks w ↦ w.lacks-is ∙ (sym (ap (λ b. b || here) w.if-lacks.false) ∙ next)
     ]
+
+pub returns : goal.returns
+returns c =
+    let lookups = c.args.lookups.now in
+    let test = (λ (layer : ℕ). has_layer (contains nat_eq lookups.with_terms) (contains same_pair lookups.layers) c.args.unit layer && not (contains same_pair lookups.outputs (c.args.owner, layer))) in
+    let all : c.loop-below.below ≡ lookups.last = omega arith in
+    record { value = c.loop-below.invariant ∙ (ap (some_layer test) all ∙ layers-end (contains nat_eq lookups.with_terms) (contains same_pair lookups.layers) (contains same_pair lookups.outputs) lookups.last c.requires c.args.unit c.args.owner) }
