@@ -1,4 +1,5 @@
 pub mod KeyLemmas
 pub mod CoverLemmas
+pub mod OnceLemmas
 pub mod TotalLemmas
 pub mod PlaceLemmas

@@ -1,5 +1,5 @@
 -- Steps of a loop that keeps the total of each summary.
-use Rattle.std.proofs.Common.{◌≡◌, ℕ, ◌+◌, ◌*◌, ◌^◌, ◌<◌, Bool, true, false, cond, List, [], ◌∷◌, length, get_or, take, refl, ap, sym, subst, ◌∙◌, nat_eq, Option, None, Some, unwrap_or, arith}
+use Rattle.std.proofs.Common.{◌≡◌, ℕ, ◌+◌, ◌-◌, ◌*◌, ◌^◌, ◌<◌, ◌≤◌, Bool, true, false, cond, List, [], ◌∷◌, length, get_or, take, refl, ap, sym, subst, ◌∙◌, nat_eq, Option, None, Some, unwrap_or, arith}
 use Rattle.std.proofs.Math.Path.{fun_ext}
 use Rattle.std.specs.Prelude.{◌&&◌, ◌||◌, is_some, MatchOption}
 use Rattle.std.specs.List.{IsDistinct, filter, list_any}
@@ -12,7 +12,7 @@ use Rattle.std.proofs.lemmas.List.Folds.{list_any_more}
 use Rattle.kt_keys.specs.Keys.{same_pair}
 use Rattle.kt_index.specs.declared.exposure.SummaryUnit.{SummaryUnit}
 use Rattle.kt_index.specs.declared.exposure.UnitCoverage.{UnitCoverage}
-use Rattle.kt_index.specs.Exposure.{unit_covers, summary_covers, IsTotalOf}
+use Rattle.kt_index.specs.Exposure.{AreOfOneSummary, unit_covers, summary_covers, IsTotalOf}
 use Rattle.kt_index.proofs.CoverLemmas.{list_any-filter}
 
 -- pairs with the same parts are equal
@@ -80,3 +80,22 @@ module _ (rows : List SummaryUnit) (pairs : List UnitCoverage) (value : ℕ → 
         by : (b : Bool) → same_pair ((get_or rows i d).set, (get_or rows i d).summary) key ≡ b → KnownTotal (take (i + 1) rows) key (cond b (Some total) old)
         by true e = subst (λ k. IsTotalOf (summary_covers rows pairs k) value total) (same_is _ key e) is
         by false e = step false old e (λ h. cc) known
+
+    -- a row of the summary of the row before it, whose key has a total
+    pub known-before : (found : Option ℕ) → 1 ≤ i → AreOfOneSummary (get_or rows (i - 1) d) (get_or rows i d) → key ≡ ((get_or rows i d).set, (get_or rows i d).summary) → KnownTotal (take i rows) key found → is_some found ≡ true
+    known-before (Some total) later same is known = refl
+    known-before None later same is known =
+        let last : i - 1 + 1 ≡ i = omega (arith, later) in
+        let inside : i - 1 < length rows = omega (arith, within) in
+        let here : same_pair ((get_or rows (i - 1) d).set, (get_or rows (i - 1) d).summary) key ≡ true = rw (is, same.sets, same.summaries) (both (get_or rows i d).set (get_or rows i d).summary) in
+        absurd (true_false (sym (ap (λ b. list_any (λ row. same_pair (row.set, row.summary) key) (take (i - 1) rows) || b) here ∙ or_true _) ∙ (sym (list_any_more (λ row. same_pair (row.set, row.summary) key) rows (i - 1) d inside) ∙ (ap (λ n. list_any (λ row. same_pair (row.set, row.summary) key) (take n rows)) last ∙ known))))
+      where
+        both : (set summary : ℕ) → same_pair (set, summary) (set, summary) ≡ true
+        both set summary = grind (arith, nat_tests, common_steps)
+
+        or_true : (b : Bool) → (b || true) ≡ true
+        or_true true = refl
+        or_true false = refl
+
+        true_false : true ≡ false → ⊥
+        true_false is = cc

@@ -27,3 +27,8 @@ pub record IsTotalOf (test : ℕ → Bool) (value : ℕ → ℕ) (total : ℕ) :
 -- the values of no distinct ids add to 2^64
 abbrev pub AddsUp : (ℕ → ℕ) → Type 0
 AddsUp value = (ids : List ℕ) → IsDistinct nat_eq ids → sum_by value ids < 2 ^ 64
+
+-- two rows are of one summary of a set
+pub record AreOfOneSummary (one other : SummaryUnit) : Type 0 where
+  pub sets : one.set ≡ other.set
+  pub summaries : one.summary ≡ other.summary

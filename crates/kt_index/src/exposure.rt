@@ -1,16 +1,17 @@
 //! The exposures of summaries: what the distinct coverages of each are worth.
 //! The rules: docs/CALCULATION.md, "Summary".
-ghost use Rattle.std.specs.Prelude.{◌≡◌, ◌<◌, ◌^◌, ◌*◌, ◌+◌, ◌&&◌, ◌||◌, ℕ, nat_eq, unwrap_or, IfOk};
-ghost use Rattle.std.specs.List.{list_any, sum_by};
+ghost use Rattle.std.specs.Prelude.{◌≡◌, true, ◌<◌, ◌≤◌, ◌^◌, ◌*◌, ◌+◌, ◌-◌, ◌&&◌, ◌||◌, ℕ, nat_eq, length, slice_index_or, unwrap_or, IfOk};
+ghost use Rattle.std.specs.List.{IsDistinct, list_any, sum_by};
 ghost use Rattle.std.specs.HashMap.{get};
-ghost use Rattle.std.specs.HashSet.{contains, IsUnique};
 ghost use Rattle.kt_keys.specs.Keys.{same_pair};
-ghost use Rattle.kt_index.specs.Exposure.{summary_covers, value_in, IsTotalOf, AddsUp};
+ghost use Rattle.kt_index.specs.declared.exposure.SummaryUnit.{SummaryUnit};
+ghost use Rattle.kt_index.specs.Exposure.{AreOfOneSummary, summary_covers, value_in, IsTotalOf, AddsUp};
 
 use crate::by_key::{ByKey, Keyed};
 use crate::keys::pair_key;
+use crate::once::keep_once;
 use std::alloc::{AllocError, Global};
-use std::collections::{HashMap, HashSet};
+use std::collections::HashMap;
 
 /// A unit whose losses are added to a summary of a set.
 #[derive(Clone, Copy, Drop)]
@@ -50,12 +51,12 @@ impl Keyed for UnitCoverage {
     }
 }
 
-/// Puts the coverages of pairs into a set.
-fn insert_all(seen: &mut HashSet<u32>, pairs: &[UnitCoverage]) -> Result<(), AllocError>
-    ensures value { IfOk result (λ _. (coverage : ℕ) → contains nat_eq seen.new coverage ≡ (contains nat_eq seen.old coverage || list_any (λ pair. nat_eq pair.coverage coverage) pairs.now)) }
+/// Appends the coverages of pairs.
+fn push_coverages(found: &mut Vec<u32>, pairs: &[UnitCoverage]) -> Result<(), AllocError>
+    ensures value { IfOk result (λ _. (coverage : ℕ) → list_any (nat_eq coverage) found.new.items ≡ (list_any (nat_eq coverage) found.old.items || list_any (λ pair. nat_eq pair.coverage coverage) pairs.now)) }
 {
     for pair in pairs {
-        seen.insert(pair.coverage)?;
+        found.push(pair.coverage)?;
     }
     Ok(())
 }
@@ -67,30 +68,30 @@ fn is_of(row: &SummaryUnit, set: u32, summary: u32) -> bool
     row.set == set && row.summary == summary
 }
 
-/// The coverages of a summary of a set.
-fn coverages_of(
+/// The coverages of a summary of a set, one for each row and pair.
+fn all_coverages(
     alloc: Global,
     rows: &[SummaryUnit],
     pairs: &ByKey<UnitCoverage>,
     set: u32,
     summary: u32,
-) -> Result<HashSet<u32>, AllocError>
-    ensures value { IfOk result (λ seen. (coverage : ℕ) → contains nat_eq seen coverage ≡ summary_covers rows.now pairs.now (set, summary) coverage) }
+) -> Result<Vec<u32>, AllocError>
+    ensures value { IfOk result (λ found. (coverage : ℕ) → list_any (nat_eq coverage) found.items ≡ summary_covers rows.now pairs.now (set, summary) coverage) }
 {
-    let mut seen: HashSet<u32> = HashSet::new(alloc);
+    let mut found = Vec::with_capacity(alloc, rows.len())?;
     for row in rows {
         if is_of(row, set, summary) {
-            insert_all(&mut seen, pairs.of(u64::from(row.unit)))?;
+            push_coverages(&mut found, pairs.of(u64::from(row.unit)))?;
         }
     }
-    Ok(seen)
+    Ok(found)
 }
 
 /// What coverages are worth together.
-fn value_of(tivs: &HashMap<u32, u64>, coverages: &HashSet<u32>) -> u64
-    requires { AddsUp (value_in tivs.now) }
-    ensures unique { IsUnique nat_eq coverages.now }
-    ensures value { result ≡ sum_by (value_in tivs.now) coverages.now.keys }
+fn value_of(tivs: &HashMap<u32, u64>, coverages: &[u32]) -> u64
+    requires values { AddsUp (value_in tivs.now) }
+    requires distinct { IsDistinct nat_eq coverages.now }
+    ensures value { result ≡ sum_by (value_in tivs.now) coverages.now }
 {
     coverages
         .iter()
@@ -110,7 +111,8 @@ fn summary_value(
     requires { AddsUp (value_in tivs.now) }
     ensures value { IfOk result (IsTotalOf (summary_covers rows.now pairs.now (set, summary)) (value_in tivs.now)) }
 {
-    let coverages = coverages_of(alloc, rows, pairs, set, summary)?;
+    let mut coverages = all_coverages(alloc, rows, pairs, set, summary)?;
+    keep_once(&mut coverages);
     Ok(value_of(tivs, &coverages))
 }
 
@@ -130,6 +132,18 @@ pub fn exposures(
     totals_of(alloc, &rows, &pairs, tivs)
 }
 
+/// Whether a row is of the summary of the row before it.
+fn goes_on(rows: &[SummaryUnit], place: usize) -> bool
+    requires { place < length rows.now }
+    ensures same { result ≡ true → (d : SummaryUnit) → AreOfOneSummary (slice_index_or rows.now (place - 1) d) (slice_index_or rows.now place d) }
+    ensures later { result ≡ true → 1 ≤ place }
+{
+    if place == 0 {
+        return false;
+    }
+    is_of(&rows[place - 1], rows[place].set, rows[place].summary)
+}
+
 /// The exposures of the summaries of sorted rows.
 fn totals_of(
     alloc: Global,
@@ -141,9 +155,10 @@ fn totals_of(
     ensures value { IfOk result (λ totals. (key : ℕ × ℕ) → IsTotalOf (summary_covers rows.now pairs.now key) (value_in tivs.now) (unwrap_or (get same_pair totals key) 0)) }
 {
     let mut totals: HashMap<(u32, u32), u64> = HashMap::new(alloc);
-    for row in rows.as_slice() {
+    let all = rows.as_slice();
+    for (place, row) in all.iter().enumerate() {
         let (set, summary) = (row.set, row.summary);
-        if !totals.contains_key(&(set, summary)) {
+        if !goes_on(all, place) {
             let group = rows.of(row.key());
             let value = summary_value(alloc, group, pairs, tivs, set, summary)?;
             totals.insert((set, summary), value)?;

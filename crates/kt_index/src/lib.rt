@@ -4,7 +4,9 @@
 mod by_key;
 mod exposure;
 mod keys;
+mod once;
 
 pub use by_key::{ByKey, Keyed, is_by_key, rows_between, rows_near, rows_of};
 pub use exposure::{SummaryUnit, UnitCoverage, exposures};
 pub use keys::pair_key;
+pub use once::keep_once;

@@ -5,5 +5,5 @@ use Rattle.kt_index.specs.Exposure.{value_in}
 use Rattle.kt_index.proofs.TotalLemmas.{KnownTotal}
 use Rattle.kt_index.proofs.exposure.totals_of.Given as goal
 
-abbrev pub invariant-loop-row : goal.invariant-loop-row
-invariant-loop-row l = (key : ℕ × ℕ) → KnownTotal l.row-items l.pairs (value_in l.tivs) (take l.row-index l.row-items) key (get same_pair l.totals key)
+abbrev pub invariant-loop-place : goal.invariant-loop-place
+invariant-loop-place l = (key : ℕ × ℕ) → KnownTotal l.all l.pairs (value_in l.tivs) (take l.place l.all) key (get same_pair l.totals key)
