@@ -1,9 +1,9 @@
 -- The exposures of summaries: sums over distinct coverages, and the units of items and outputs.
 use Rattle.std.proofs.Common.{◌≡◌, ℕ, Bool, true, false, cond, List, [], ◌∷◌, map, refl, ap, sym, subst, ◌∙◌, nat_eq, Option, None, Some}
 use Rattle.std.proofs.Math.Path.{fun_ext}
-use Rattle.std.specs.Prelude.{◌&&◌, ◌||◌, option_map}
+use Rattle.std.specs.Prelude.{◌&&◌, ◌||◌, option_map, slice_get}
 use Rattle.std.specs.Cmp.{nat_eq_equiv}
-use Rattle.std.specs.List.{IsDistinct, cons_option, filter_map, list_any, sum_by}
+use Rattle.std.specs.List.{IsDistinct, cons_option, filter, filter_map, list_any, sum_by}
 use Rattle.std.specs.Map.{lookup}
 use Rattle.std.proofs.lemmas.Bool.{eqb-true, or_parts}
 use Rattle.std.proofs.lemmas.Map.Keys.{IsDistinct-head, IsDistinct-tail}
@@ -19,10 +19,10 @@ use Rattle.kt_tables.specs.Portfolio.{PortfolioRows, IsPortfolio}
 use Rattle.kt_tables.specs.PortfolioLaws.{coverages_distinct, keys_kept, coverages_within}
 use Rattle.kt_tables.specs.Kept.{AreAddable}
 use Rattle.kt_rec.specs.Rows.{Rows}
-use Rattle.kt_tables.specs.Lookups.{item_has, is_unit, lies_beneath, unit_has}
+use Rattle.kt_tables.specs.Lookups.{agg_of, item_has, is_unit, lies_beneath, unit_has}
 
 -- a test of what a function gives
-list_any-map : {A B : Type 0} (f : A → B) (test : B → Bool) (rows : List A) → list_any test (map f rows) ≡ list_any (λ row. test (f row)) rows
+pub list_any-map : {A B : Type 0} (f : A → B) (test : B → Bool) (rows : List A) → list_any test (map f rows) ≡ list_any (λ row. test (f row)) rows
 list_any-map f test [] = refl
 list_any-map f test (row ∷ rows) = ap (λ b. test (f row) || b) (list_any-map f test rows)
 
@@ -105,3 +105,12 @@ module _ (has : ℕ → ℕ → Bool) (coverage : ℕ) where
       by : (found : Option ℕ) → list_any (λ x. nat_eq x.output_id row.unit && has x.agg_id coverage) outputs ≡ found_has has coverage found → summary_covers (filter_map (λ x. option_map (λ unit. record { set = x.set; summary = x.summary; unit = unit }) (units x.unit)) rows) pairs key coverage ≡ list_any (λ x. nat_eq x.set key.0 && nat_eq x.summary key.1 && list_any (λ y. nat_eq y.output_id x.unit && has y.agg_id coverage) outputs) rows → summary_covers (cons_option (option_map (λ unit. record { set = row.set; summary = row.summary; unit = unit }) found) (filter_map (λ x. option_map (λ unit. record { set = x.set; summary = x.summary; unit = unit }) (units x.unit)) rows)) pairs key coverage ≡ ((nat_eq row.set key.0 && nat_eq row.summary key.1 && list_any (λ y. nat_eq y.output_id row.unit && has y.agg_id coverage) outputs) || list_any (λ x. nat_eq x.set key.0 && nat_eq x.summary key.1 && list_any (λ y. nat_eq y.output_id x.unit && has y.agg_id coverage) outputs) rows)
       by None here rest = rest ∙ (skip (nat_eq row.set key.0 && nat_eq row.summary key.1) _ ∙ ap (λ b. (nat_eq row.set key.0 && nat_eq row.summary key.1 && b) || list_any (λ x. nat_eq x.set key.0 && nat_eq x.summary key.1 && list_any (λ y. nat_eq y.output_id x.unit && has y.agg_id coverage) outputs) rows) (sym here))
       by (Some unit) here rest = ap (λ b. (nat_eq row.set key.0 && nat_eq row.summary key.1 && b) || summary_covers (filter_map (λ x. option_map (λ u. record { set = x.set; summary = x.summary; unit = u }) (units x.unit)) rows) pairs key coverage) (agree unit ∙ sym here) ∙ ap (λ b. (nat_eq row.set key.0 && nat_eq row.summary key.1 && list_any (λ y. nat_eq y.output_id row.unit && has y.agg_id coverage) outputs) || b) rest
+
+-- what an output is for stands in its first row
+pub agg_is : (rows : List FmXref) (output : ℕ) → agg_of rows output ≡ lookup (nat_eq output) (map (λ row. (row.output_id, row.agg_id)) rows)
+agg_is [] output = refl
+agg_is (row ∷ rows) output = rw (nat_eq_equiv.symm row.output_id output) (by (nat_eq output row.output_id) (agg_is rows output))
+  where
+    by : (b : Bool) → agg_of rows output ≡ lookup (nat_eq output) (map (λ x. (x.output_id, x.agg_id)) rows) → option_map (λ x. x.agg_id) (slice_get (cond b (row ∷ filter (λ x. nat_eq x.output_id output) rows) (filter (λ x. nat_eq x.output_id output) rows)) 0) ≡ cond b (Some row.agg_id) (lookup (nat_eq output) (map (λ x. (x.output_id, x.agg_id)) rows))
+    by true rest = refl
+    by false rest = rest

@@ -7,3 +7,4 @@ pub mod DamageLemmas
 pub mod SummaryLemmas
 pub mod KeptLemmas
 pub mod SummaryKeyLemmas
+pub mod SetLemmas

@@ -1,6 +1,6 @@
 -- What a lookup in the tables gives: the plain search in their rows.
 -- The rules: docs/TABLES.md, docs/CALCULATION.md.
-use Rattle.std.specs.Prelude.{ℕ, ◌+◌, ◌-◌, ◌*◌, ◌%◌, ◌&&◌, nat_eq, Bool, false, cond, List, [], length, map, slice_index_or, Option, None, Some}
+use Rattle.std.specs.Prelude.{ℕ, ◌+◌, ◌-◌, ◌*◌, ◌%◌, ◌&&◌, nat_eq, Bool, false, cond, List, [], length, map, slice_get, slice_index_or, Option, option_map, None, Some}
 use Rattle.std.specs.List.{filter, fold, list_any, sum_by}
 use Rattle.std.specs.Ordering.{nat_cmp, ordering_then}
 use Rattle.std.specs.declared.cmp.Ordering.{Ordering}
@@ -8,6 +8,7 @@ use Rattle.std.specs.BTreeSet.{insert_key}
 use Rattle.std.specs.Map.{lookup}
 use Rattle.kt_rec.specs.Rows.{Rows}
 use Rattle.kt_rec.specs.declared.exposure.Item.{Item}
+use Rattle.kt_rec.specs.declared.financial.FmXref.{FmXref}
 use Rattle.kt_rec.specs.declared.hazard.Vulnerability.{Vulnerability}
 use Rattle.kt_rec.specs.declared.periods.Occurrence.{Occurrence}
 use Rattle.kt_rec.specs.declared.perspective.Perspective.{Perspective}
@@ -83,6 +84,10 @@ has_summary_set perspective rows set = list_any (nat_eq set) (map (λ row. row.s
 -- the summary of an id in a set
 abbrev pub summary_in : Perspective → Rows → ℕ → ℕ → Option ℕ
 summary_in perspective rows set id = lookup (same_pair (id, set)) (map (λ row. ((row.unit, row.set), row.summary)) (summary_rows perspective rows))
+
+-- what an output is for, by rows of outputs
+abbrev pub agg_of : List FmXref → ℕ → Option ℕ
+agg_of rows output = option_map (λ row. row.agg_id) (slice_get (filter (λ row. nat_eq row.output_id output) rows) 0)
 
 -- whether an item is of a coverage
 abbrev pub item_has : List Item → ℕ → ℕ → Bool

@@ -4,7 +4,7 @@ ghost use Rattle.std.specs.Prelude.{◌≡◌, map, IfOk};
 use crate::place::Place;
 use crate::summaries::UnitSummary;
 use kt_index::{SummaryUnit, UnitCoverage};
-use kt_rec::{FmSummaryXref, FmXref, FootprintIdx, GulSummaryXref, Item};
+use kt_rec::{FmSummaryXref, FootprintIdx, GulSummaryXref, Item};
 use std::alloc::{AllocError, Global};
 
 /// A row of which a part is taken.
@@ -76,24 +76,6 @@ impl Part<UnitCoverage> for Item {
             unit: self.item_id,
             coverage: self.coverage_id,
         }
-    }
-}
-
-/// What an output is for.
-impl Part<(u32, u32)> for FmXref {
-    ghost part_of = { λ row. (row.output_id, row.agg_id) };
-
-    fn part(&self) -> (u32, u32) {
-        (self.output_id, self.agg_id)
-    }
-}
-
-/// The set of a summary.
-impl Part<u32> for SummaryUnit {
-    ghost part_of = { λ row. row.set };
-
-    fn part(&self) -> u32 {
-        self.set
     }
 }
 

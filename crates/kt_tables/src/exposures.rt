@@ -1,6 +1,6 @@
 //! The exposures of the summaries of items and of outputs.
 //! The rules: docs/CALCULATION.md, "Summary".
-ghost use Rattle.std.specs.Prelude.{◌≡◌, ℕ, nat_eq, option_map, IfOk};
+ghost use Rattle.std.specs.Prelude.{◌≡◌, ℕ, option_map, IfOk};
 ghost use Rattle.std.specs.List.{filter_map};
 ghost use Rattle.std.specs.HashMap.{get};
 ghost use Rattle.kt_rec.specs.Rows.{rows_of};
@@ -8,22 +8,30 @@ ghost use Rattle.kt_rec.specs.declared.perspective.Perspective.TheVariants as pe
 ghost use Rattle.kt_keys.specs.Keys.{same_pair};
 ghost use Rattle.kt_keys.specs.Climbing.{climbed};
 ghost use Rattle.kt_index.specs.Exposure.{unit_covers};
-ghost use Rattle.kt_tables.specs.Lookups.{item_summary_rows, output_summary_rows, lies_beneath, unit_has};
+ghost use Rattle.kt_tables.specs.Lookups.{agg_of, item_summary_rows, output_summary_rows, lies_beneath, unit_has};
 ghost use Rattle.kt_tables.specs.Kept.{AreTivs, AreAddable, AreExposures};
 
 use crate::columns::parts_of;
 use kt_checks::{climbed, next_units};
-use kt_index::{SummaryUnit, UnitCoverage, exposures};
-use kt_keys::{first_values, programme, top_level};
-use kt_rec::{Item, Tables};
+use kt_index::{ByKey, SummaryUnit, UnitCoverage, exposures};
+use kt_keys::{programme, top_level};
+use kt_rec::{FmXref, Item, Tables};
 use std::alloc::{AllocError, Global};
 use std::collections::HashMap;
 
-/// The unit of a summary of an output, where the output is known.
-fn output_unit(units: &HashMap<u32, u32>, row: &SummaryUnit) -> Option<SummaryUnit>
-    ensures value { result ≡ option_map (λ unit. record { set = row.now.set; summary = row.now.summary; unit = unit }) (get nat_eq units.now row.now.unit) }
+/// What an output is for, where the output is known.
+fn agg_of(outputs: &ByKey<FmXref>, output: u32) -> Option<u32>
+    ensures value { result ≡ agg_of outputs.now output }
 {
-    let unit = units.get(&row.unit).copied()?;
+    let row = outputs.of(u64::from(output)).first()?;
+    Some(row.agg_id)
+}
+
+/// The unit of a summary of an output, where the output is known.
+fn output_unit(outputs: &ByKey<FmXref>, row: &SummaryUnit) -> Option<SummaryUnit>
+    ensures value { result ≡ option_map (λ unit. record { set = row.now.set; summary = row.now.summary; unit = unit }) (agg_of outputs.now row.now.unit) }
+{
+    let unit = agg_of(outputs, row.unit)?;
     Some(SummaryUnit {
         set: row.set,
         summary: row.summary,
@@ -34,13 +42,13 @@ fn output_unit(units: &HashMap<u32, u32>, row: &SummaryUnit) -> Option<SummaryUn
 /// The units of the summaries of outputs.
 fn output_units(
     alloc: Global,
-    units: &HashMap<u32, u32>,
+    outputs: &ByKey<FmXref>,
     rows: &[SummaryUnit],
 ) -> Result<Vec<SummaryUnit>, AllocError>
-    ensures value { IfOk result (λ found. found.items ≡ filter_map (λ row. option_map (λ unit. record { set = row.set; summary = row.summary; unit = unit }) (get nat_eq units.now row.unit)) rows.now) }
+    ensures value { IfOk result (λ found. found.items ≡ filter_map (λ row. option_map (λ unit. record { set = row.set; summary = row.summary; unit = unit }) (agg_of outputs.now row.unit)) rows.now) }
 {
     rows.iter()
-        .filter_map(|row| output_unit(units, row))
+        .filter_map(|row| output_unit(outputs, row))
         .collect(alloc)
 }
 
@@ -124,9 +132,8 @@ pub(crate) fn output_exposures(
     requires tivs { AreTivs (rows_of tables.now) tivs.now }
     ensures value { IfOk result (AreExposures perspective.Il (rows_of tables.now) rule) }
 {
-    let pairs = parts_of(alloc, &tables.fm_xref)?;
-    let aggs = first_values(alloc, &pairs)?;
-    let units = output_units(alloc, &aggs, rows)?;
+    let outputs = ByKey::new(alloc, &tables.fm_xref)?;
+    let units = output_units(alloc, &outputs, rows)?;
     let coverages = unit_coverages(alloc, tables, rule)?;
     exposures(alloc, units, coverages, tivs)
 }

@@ -1,9 +1,12 @@
 //! The summaries of the ids of a perspective in one set.
-ghost use Rattle.std.specs.Prelude.{◌≡◌, ℕ, Option};
-ghost use Rattle.kt_tables.specs.SetRows.{AreFound};
+ghost use Rattle.std.specs.Prelude.{◌≡◌, true, ℕ, nat_eq, Option, Some, IfOk};
+ghost use Rattle.std.specs.List.{list_any};
+ghost use Rattle.kt_rec.specs.Rising.{IsRising};
+ghost use Rattle.kt_tables.specs.SetRows.{AreFound, summary_at};
 
 use crate::summaries::{UnitSummary, first_summary};
-use kt_index::{pair_key, rows_of};
+use kt_index::{keep_once, pair_key, rows_of};
+use std::alloc::{AllocError, Global};
 use std::marker::Model;
 
 /// The summaries of the ids of a perspective in one set. Contracts see the summary of an id, where it has one.
@@ -31,5 +34,15 @@ impl<'a> SetSummaries<'a> {
         ensures value { (find : ℕ → Option ℕ) → AreFound find self.now → result ≡ find id }
     {
         first_summary(rows_of(self.rows, pair_key(self.set, id)))
+    }
+
+    /// The summaries that ids have, by rising number. An error is want of memory.
+    pub fn all(&self, alloc: Global) -> Result<Vec<u32>, AllocError>
+        ensures rising { IfOk result (λ all. IsRising all.items) }
+        ensures found { IfOk result (λ all. (id summary : ℕ) → summary_at self.now id ≡ Some summary → list_any (nat_eq summary) all.items ≡ true) }
+    {
+        let mut all: Vec<u32> = self.rows.iter().map(|row| row.summary).collect(alloc)?;
+        keep_once(&mut all);
+        Ok(all)
     }
 }

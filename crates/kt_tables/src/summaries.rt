@@ -1,10 +1,12 @@
 //! The summaries of items or of outputs, by set and id, with their exposures.
-ghost use Rattle.std.specs.Prelude.{◌≡◌, IfOk, option_map, slice_get};
+ghost use Rattle.std.specs.Prelude.{◌≡◌, true, ℕ, ◌-◌, ◌<◌, ◌≤◌, nat_eq, length, map, IfOk, option_map, slice_get, slice_index_or};
+ghost use Rattle.std.specs.HashSet.{contains};
+ghost use Rattle.std.specs.List.{list_any};
+ghost use Rattle.kt_index.specs.declared.exposure.SummaryUnit.{SummaryUnit};
 ghost use Rattle.kt_tables.specs.Kept.{AreSummaries};
 
 use crate::columns::parts_of;
 use kt_index::{ByKey, Keyed, SummaryUnit, pair_key};
-use kt_keys::set_of;
 use std::alloc::{AllocError, Global};
 use std::collections::{HashMap, HashSet};
 
@@ -34,6 +36,31 @@ pub(crate) fn first_summary(rows: &[UnitSummary]) -> Option<u32>
     Some(row.summary)
 }
 
+/// Whether a row is of the set of the row before it.
+fn goes_on(rows: &[SummaryUnit], place: usize) -> bool
+    requires { place < length rows.now }
+    ensures same { result ≡ true → (d : SummaryUnit) → (slice_index_or rows.now (place - 1) d).set ≡ (slice_index_or rows.now place d).set }
+    ensures later { result ≡ true → 1 ≤ place }
+{
+    if place == 0 {
+        return false;
+    }
+    rows[place - 1].set == rows[place].set
+}
+
+/// The sets of summaries. Each is put in once for rows that stand together.
+fn sets_of(alloc: Global, rows: &[SummaryUnit]) -> Result<HashSet<u32>, AllocError>
+    ensures value { IfOk result (λ sets. (set : ℕ) → contains nat_eq sets set ≡ list_any (nat_eq set) (map (λ row. row.set) rows.now)) }
+{
+    let mut sets: HashSet<u32> = HashSet::new(alloc);
+    for (place, row) in rows.iter().enumerate() {
+        if !goes_on(rows, place) {
+            sets.insert(row.set)?;
+        }
+    }
+    Ok(sets)
+}
+
 /// The summaries of items or of outputs.
 #[derive(Drop)]
 pub(crate) struct Summaries {
@@ -55,10 +82,9 @@ impl Summaries {
         ensures value { IfOk result (AreSummaries rows.now) }
         ensures exposures { IfOk result (λ summaries. summaries.exposures ≡ exposures) }
     {
-        let sets: Vec<u32> = parts_of(alloc, rows)?;
-        let units: Vec<UnitSummary> = parts_of(alloc, rows)?;
+        let units = parts_of(alloc, rows)?;
         Ok(Summaries {
-            sets: set_of(alloc, &sets)?,
+            sets: sets_of(alloc, rows)?,
             by_id: ByKey::of_rows(units)?,
             exposures,
         })

@@ -1,7 +1,6 @@
 use Rattle.std.proofs.Common.{◌∙◌, ℕ, List, Option, map, ap, nat_eq, unwrap_or}
-use Rattle.std.specs.Prelude.{◌&&◌}
+use Rattle.std.specs.Prelude.{◌&&◌, option_map, slice_get}
 use Rattle.std.specs.List.{list_any}
-use Rattle.std.specs.HashMap.{get}
 use Rattle.std.specs.Map.{lookup}
 use Rattle.std.proofs.lemmas.Result.{IfOk-weaker}
 use Rattle.kt_rec.specs.Rows.{rows_of}
@@ -9,17 +8,17 @@ use Rattle.kt_rec.specs.declared.financial.FmXref.{FmXref}
 use Rattle.kt_rec.specs.declared.perspective.Perspective.TheVariants.{Il}
 use Rattle.kt_index.specs.declared.exposure.SummaryUnit.{SummaryUnit}
 use Rattle.kt_index.specs.Exposure.{summary_covers, value_in}
-use Rattle.kt_tables.specs.Lookups.{unit_has, output_has, summary_has}
+use Rattle.kt_tables.specs.Lookups.{agg_of, unit_has, output_has, summary_has}
 use Rattle.kt_tables.specs.Kept.{AreExposures}
-use Rattle.kt_tables.proofs.ExposureLemmas.{output-covers, total-exposure}
+use Rattle.kt_tables.proofs.ExposureLemmas.{agg_is, output-covers, total-exposure}
 use Rattle.kt_tables.proofs.exposures.output_exposures.Goals as goal
 
 pub returns : goal.returns
 returns c =
     let rows = rows_of c.args.tables.now in
     let rule = c.args.rule in
-    let aggs = (λ (id : ℕ). get nat_eq c.in_ok-aggs.aggs id) in
-    let known = (λ (id : ℕ). c.in_ok-aggs.ensures.value id ∙ ap (lookup (nat_eq id)) (c.deref-2.ensures.value ∙ (c.in_ok-pairs.ensures.value ∙ ap (map (λ (row : FmXref). (row.output_id, row.agg_id))) c.deref.ensures.value))) in
+    let aggs = (λ (id : ℕ). agg_of c.in_ok-outputs.outputs id) in
+    let known = (λ (id : ℕ). ap (λ (found : List FmXref). option_map (λ row. row.agg_id) (slice_get found 0)) (c.in_ok-outputs.ensures.kept id) ∙ (agg_is c.deref.result.now id ∙ ap (λ (rows : List FmXref). lookup (nat_eq id) (map (λ row. (row.output_id, row.agg_id)) rows)) c.deref.ensures.value)) in
     let units = c.in_ok-units.ensures.value in
     record {
       value =
