@@ -1,7 +1,7 @@
 -- The sums of a run, with the losses of one record more.
 use Rattle.std.proofs.Common.{◌≡◌, ◌≢◌, ◌⊎◌, inl, inr, ℕ, zero, suc, ◌+◌, ◌-◌, ◌<◌, ◌≤◌, ◌||◌, Bool, true, false, cond, nat_lt, ℤ, pos, negsuc, List, [], ◌∷◌, ◌++◌, length, take, slice_index, slice_index_or, slice_set, refl, sym, ap, subst, arith, ◌∙◌}
 use Rattle.std.specs.List.{AllByRecursion, list_any}
-use Rattle.std.proofs.lemmas.Bool.{cases_eq}
+use Rattle.std.proofs.lemmas.Bool.{cases_eq, cases_lt}
 use Rattle.std.proofs.lemmas.Bool.Decides.{nat_tests}
 use Rattle.std.proofs.lemmas.Int.{ints}
 use Rattle.std.proofs.lemmas.List.{get_or-set_same, get_or-set_other}
@@ -14,7 +14,7 @@ use Rattle.kt_stream.specs.Pairs.{IsSidx}
 use Rattle.kt_runs.specs.RunLosses.{AreWithin, goes_past, loss_of, run_loss}
 use Rattle.kt_runs.specs.RunSums.{AreRunSums, AreSums}
 use Rattle.kt_runs.specs.Sidx.{place_of, sidx_at}
-use Rattle.kt_runs.specs.Adding.{IsAdded}
+use Rattle.kt_runs.specs.Adding.{Holds, IsAdded}
 use Rattle.kt_runs.proofs.AddLemmas.{own_more}
 use Rattle.kt_runs.specs.LossLaws.{pair_sidx, sidx_inside}
 
@@ -47,6 +47,20 @@ any_at test (x ∷ xs) (suc i) d below is = by (test x) (any_at test xs i d (ome
 any_none : {A : Type 0} (test : A → Bool) (xs : List A) → AllByRecursion (λ x. test x ≡ false) xs → list_any test xs ≡ false
 any_none test [] each = refl
 any_none test (x ∷ xs) each = ap (λ b. b || list_any test xs) each.0 ∙ any_none test xs each.1
+
+-- behind the last number there is 0
+behind_last : (numbers : List ℕ) (k : ℕ) → length numbers ≤ k → slice_index numbers k ≡ 0
+behind_last [] k above = refl
+behind_last (number ∷ numbers) zero above = absurd (omega arith)
+behind_last (number ∷ numbers) (suc k) above = behind_last numbers k (omega arith)
+
+-- sums that are 0 are sums of a run
+pub zeros_are : (samples : ℕ) (sums : List ℕ) → Holds (samples + 3) (λ k. 0) sums → AreSums samples sums
+zeros_are samples sums zeros = record { width_is = zeros.width_is; few = λ k. by k (cases_lt k (length sums)) }
+  where
+    by : (k : ℕ) → (k < length sums) ⊎ (length sums ≤ k) → slice_index sums k ≤ 10000000000000000
+    by k (inl below) = omega (arith, zeros.each k (omega (arith, zeros.width_is)))
+    by k (inr above) = omega (arith, behind_last sums k above)
 
 -- a sum that is set is within the limit where all were and its value is
 pub set_few : (sums : List ℕ) (place value : ℕ) → ((k : ℕ) → slice_index sums k ≤ 10000000000000000) → place < length sums → value ≤ 10000000000000000 → (k : ℕ) → slice_index (slice_set sums place value) k ≤ 10000000000000000

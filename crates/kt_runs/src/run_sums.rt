@@ -20,6 +20,7 @@ const MOST: u64 = 10_000_000_000_000_000;
 /// The sums of a run that has no record yet, in a stream with so many samples. An error is want of memory.
 pub fn no_run_sums(alloc: Global, samples: u32) -> Result<Vec<u64>, AllocError>
     ensures value { IfOk result (λ sums. AreRunSums samples [] sums.items) }
+    ensures sums { IfOk result (λ sums. AreSums samples sums.items) }
 {
     zeros(alloc, samples as usize + 3)
 }
@@ -31,6 +32,7 @@ pub fn add_to_run(sums: &mut [u64], samples: u32, entry: &LossRecord) -> bool
     requires sums { AreSums samples sums.old }
     ensures exact { (records : List LossRecord) → AreRunSums samples records sums.old → result ≡ not (goes_past records entry.now) }
     ensures kept { (records : List LossRecord) → AreRunSums samples records sums.old → result ≡ true → AreRunSums samples (records ++ entry.now ∷ []) sums.new }
+    ensures sums { result ≡ true → AreSums samples sums.new }
 {
     for pair in entry.pairs.as_slice() {
         let place = (place_of(pair) - FIRST) as usize;
@@ -47,6 +49,7 @@ pub fn add_to_run(sums: &mut [u64], samples: u32, entry: &LossRecord) -> bool
 pub fn clear_run(sums: &mut [u64], samples: u32)
     requires width { length sums.old ≡ samples + 3 }
     ensures value { AreRunSums samples [] sums.new }
+    ensures sums { AreSums samples sums.new }
 {
     sums.fill(0);
 }

@@ -16,14 +16,14 @@ pub fn zeros(alloc: Global, width: usize) -> Result<Vec<u64>, AllocError>
     vec![in alloc; 0; width]
 }
 
-/// Adds the losses of pairs to sums, the first of which is for the sidx at the place `least`.
+/// Adds the losses of pairs to sums, the first of which is for the sidx at the place `least`. A sum that does not fit wraps.
+#[inline]
 pub fn add_pairs(sums: &mut [u64], least: u64, pairs: &[Pair])
     requires inside { AreInside least (length sums.old) pairs.now }
-    requires fits { (k : ℕ) → k < length sums.old → slice_index sums.old k + loss_of (sidx_at (least + k)) pairs.now < 2 ^ 64 }
-    ensures value { IsAdded least sums.old pairs.now sums.new }
+    ensures value { ((k : ℕ) → k < length sums.old → slice_index sums.old k + loss_of (sidx_at (least + k)) pairs.now < 2 ^ 64) → IsAdded least sums.old pairs.now sums.new }
 {
     for pair in pairs {
         let place = (place_of(pair) as u64 - least) as usize;
-        sums[place] += pair.loss;
+        sums[place] = sums[place].wrapping_add(pair.loss);
     }
 }

@@ -63,3 +63,9 @@ overflow_add-sum c = grind (arith, common_steps)
 
 pub returns-then-sum-gt-MOST-clause-kept : goal.returns-then-sum-gt-MOST-clause-kept
 returns-then-sum-gt-MOST-clause-kept c = grind (arith, common_steps)
+
+pub returns-clause-sums : goal.returns-clause-sums
+returns-clause-sums c = λ done. record { width_is = c.loop-pair.invariant.added.width_is ∙ c.requires.sums.width_is; few = c.loop-pair.invariant.few }
+
+pub returns-then-sum-gt-MOST-clause-sums : goal.returns-then-sum-gt-MOST-clause-sums
+returns-then-sum-gt-MOST-clause-sums c = grind (arith, common_steps)
