@@ -1,3 +1,4 @@
 pub mod RunLemmas
 mod ToolLemmas
+pub mod SummingLemmas
 mod KnownLemmas

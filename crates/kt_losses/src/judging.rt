@@ -22,13 +22,13 @@ use kt_tables::Portfolio;
 use std::alloc::Global;
 
 /// The place of the id in a record, in bytes.
-const ID_PLACE: u64 = 4;
+pub(crate) const ID_PLACE: u64 = 4;
 
 /// More bytes than most runs need.
 const RUN_MEMORY: usize = 4_194_304;
 
 /// The kind of the stream.
-fn losses_kind(items: bool) -> StreamKind
+pub(crate) fn losses_kind(items: bool) -> StreamKind
     ensures { result ≡ losses_kind items }
 {
     if items {
@@ -39,7 +39,7 @@ fn losses_kind(items: bool) -> StreamKind
 }
 
 /// The stop for tables that a check refuses.
-fn check_stop(alloc: Global, stop: CheckStop) -> ToolStop
+pub(crate) fn check_stop(alloc: Global, stop: CheckStop) -> ToolStop
     ensures { IsCheckStop stop result }
 {
     match stop {

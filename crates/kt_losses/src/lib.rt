@@ -8,6 +8,7 @@ mod judging;
 mod known;
 mod net;
 mod summaries;
+mod summing;
 mod table;
 
 pub use insured::write_insured;

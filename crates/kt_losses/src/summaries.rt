@@ -6,16 +6,18 @@ ghost use Rattle.kt_loop.specs.Running.{stream_uses};
 ghost use Rattle.kt_losses.specs.Judged.{judged_outcome};
 ghost use Rattle.kt_losses.specs.Tables.{perspective_of, summary_table};
 
-use crate::judging::write_losses;
-use crate::table::LossTool;
+use crate::judging::losses_kind;
+use crate::known::known_ids;
+use crate::summing::{LastLoss, SummarySet, SummedLosses};
 use kt_ends::ToolStop;
-use kt_money::Bytes;
+use kt_loop::laws::{runs_give_their_text, what_is_read_can_be_taken};
+use kt_loop::run_stage;
 use kt_out::{Sink, Source};
 use kt_rec::Perspective;
-use kt_stream::{Head, LossRecord, Placed, StreamKind, put_head};
-use kt_sum::put_run_summaries;
+use kt_stream::{Head, LossReader, LossRecord};
+use kt_sum::RunSummaries;
 use kt_tables::Portfolio;
-use std::alloc::{AllocError, Global};
+use std::alloc::Global;
 
 /// Whose losses the stream has.
 fn perspective_of(items: bool) -> Perspective
@@ -25,52 +27,6 @@ fn perspective_of(items: bool) -> Perspective
         Perspective::Gul
     } else {
         Perspective::Il
-    }
-}
-
-/// The summaries of a set.
-#[derive(Drop)]
-struct SetSummaries {
-    alloc: Global,
-    items: bool,
-    set: u32,
-}
-
-impl LossTool for SetSummaries {
-    ghost use Rattle.kt_losses.specs.Tables.{summary_table};
-
-    ghost table = { λ tool. summary_table tool.items tool.set };
-
-    ghost serves = { λ _ _. Unit {0} };
-
-    fn of_items(&self) -> bool {
-        self.items
-    }
-
-    fn put_heading(&self, head: Head, out: &mut Bytes) -> Result<(), AllocError> {
-        let head = Head {
-            samples: head.samples,
-            set: self.set,
-        };
-        put_head(out, StreamKind::Summary, head)
-    }
-
-    fn put_run(
-        &self,
-        portfolio: &Portfolio,
-        head: Head,
-        run: &[Placed<LossRecord>],
-        out: &mut Bytes,
-    ) -> Result<(), AllocError> {
-        put_run_summaries(
-            self.alloc,
-            portfolio,
-            perspective_of(self.items),
-            self.set,
-            head.samples,
-            run,
-            out,
-        )
     }
 }
 
@@ -85,6 +41,28 @@ pub fn write_summaries<S: Source, K: Sink>(
 ) -> Result<(), ToolStop>
     ensures { StreamToolEnds (stream_uses true) (λ _ bytes. judged_outcome (summary_table items set) portfolio.now bytes) (S.state source.old) (S.state source.new) (K.state sink.old) (K.state sink.new) result }
 {
-    let tool = SetSummaries { alloc, items, set };
-    write_losses(alloc, portfolio, tool, source, sink)
+    runs_give_their_text::<Head, LossRecord, (SummarySet, Portfolio)>();
+    what_is_read_can_be_taken::<LossRecord>();
+    let ids = match known_ids(alloc, items, portfolio.tables()) {
+        Ok(ids) => ids,
+        Err(_) => return Err(ToolStop::NoMemory),
+    };
+    let summaries = match RunSummaries::new(alloc, portfolio, perspective_of(items), set) {
+        Ok(summaries) => summaries,
+        Err(_) => return Err(ToolStop::NoMemory),
+    };
+    let mut reader = LossReader::new(alloc, losses_kind(items));
+    let mut stage = SummedLosses {
+        alloc,
+        portfolio,
+        ids: &ids,
+        of: SummarySet { items, set },
+        last: LastLoss {
+            is_open: false,
+            event: 0,
+            id: 0,
+        },
+        summaries,
+    };
+    run_stage(alloc, &mut reader, &mut stage, &mut (), source, sink)
 }

@@ -54,7 +54,7 @@ members_within sidx find records summary = along (λ entry. is_summary summary (
 -- ---- the pairs of sums
 
 -- what is made place by place, by their numbers and by their sidx
-shifted : {A : Type 0} (f : ℕ → Option A) (g : ℤ → Option A) (a b n : ℕ) → ((k : ℕ) → k < n → f (a + k) ≡ g (sidx_at (b + k))) → filter_map f (range_with_len a n) ≡ filter_map g (map sidx_at (range_with_len b n))
+pub shifted : {A : Type 0} (f : ℕ → Option A) (g : ℤ → Option A) (a b n : ℕ) → ((k : ℕ) → k < n → f (a + k) ≡ g (sidx_at (b + k))) → filter_map f (range_with_len a n) ≡ filter_map g (map sidx_at (range_with_len b n))
 shifted f g a b zero same = refl
 shifted f g a b (suc n) same =
     let first : f a ≡ g (sidx_at b) = ap f (omega arith) ∙ (same 0 (omega arith) ∙ ap (λ n. g (sidx_at n)) (omega arith)) in

@@ -7,3 +7,5 @@ pub mod GoodLemmas
 pub mod MapLemmas
 pub mod RunLemmas
 pub mod OneRunLemmas
+pub mod SumsLemmas
+pub mod RunSumsLemmas

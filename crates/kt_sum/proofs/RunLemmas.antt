@@ -1,8 +1,6 @@
 -- The record of a summary, by the mapped records that come to it.
 use Rattle.std.proofs.Common.{◌≡◌, ℕ, ◌+◌, ◌<◌, ◌≤◌, ℤ, List, [], ◌∷◌, ◌++◌, Option, Some, None, length, map, refl, sym, ap, arith, ◌∙◌, append-nil}
-use Rattle.std.specs.List.{cons_option, flat_map, range_with_len}
-use Rattle.kt_stream.specs.Pairs.{pairs_bytes}
-use Rattle.kt_stream.specs.Summary.{summary_bytes}
+use Rattle.std.specs.List.{cons_option, range_with_len}
 use Rattle.kt_stream.specs.declared.entry.LossRecord.{LossRecord}
 use Rattle.kt_stream.specs.declared.entry.Pair.{Pair}
 use Rattle.kt_stream.specs.declared.entry.SummaryRecord.{SummaryRecord}
@@ -55,17 +53,3 @@ module _ (find : ℕ → Option ℕ) (exposure : ℕ → ℕ) (records : List Lo
     -- without pairs there is none
     pub skipped : (made : List SummaryRecord) → length pairs ≡ 0 → made ≡ made ++ cons_option (summary_of_run find exposure records summary) []
     skipped made none = sym (ap (λ found. made ++ cons_option found []) (summary_is ∙ no_pairs (event_of records) summary (exposure summary) pairs none) ∙ append-nil made)
-
-    -- its bytes are those of the fields in front and those of the pairs
-    pub put : (event worth : ℕ) → event ≡ event_of records → worth ≡ exposure summary → 0 < length pairs → (front text : List ℕ) → ((pairs : List Pair) → summary_bytes (record { event = event; summary = summary; exposure = worth; pairs = pairs }) ≡ front ++ pairs_bytes pairs) → text ≡ pairs_bytes pairs → front ++ text ≡ flat_map summary_bytes (cons_option (summary_of_run find exposure records summary) [])
-    put event worth event_is worth_is some front text fronts text_is =
-        ap (λ text. front ++ text) text_is
-        ∙ (sym (fronts pairs)
-        ∙ (ap (λ event. summary_bytes (record { event = event; summary = summary; exposure = worth; pairs = pairs })) event_is
-        ∙ (ap (λ worth. summary_bytes (record { event = event_of records; summary = summary; exposure = worth; pairs = pairs })) worth_is
-        ∙ (sym (append-nil (summary_bytes (record { event = event_of records; summary = summary; exposure = exposure summary; pairs = pairs })))
-        ∙ ap (λ found. flat_map summary_bytes (cons_option found [])) (sym (summary_is ∙ some_record (event_of records) summary (exposure summary) pairs some))))))
-
-    -- without pairs there are no bytes
-    pub put_none : pairs ≡ [] → flat_map summary_bytes (cons_option (summary_of_run find exposure records summary) []) ≡ []
-    put_none none = ap (λ found. flat_map summary_bytes (cons_option found [])) (summary_is ∙ ap (record_with (event_of records) summary (exposure summary)) none)

@@ -1,16 +1,15 @@
 //! The records that come to one summary.
 //! The rule: docs/CALCULATION.md, "Summaries".
-ghost use Rattle.std.specs.Prelude.{◌≡◌, ℕ, ◌+◌, ◌*◌, ◌<◌, ◌≤◌, ◌^◌, length, map, All, IfOk, slice_index, slice_index_or};
+ghost use Rattle.std.specs.Prelude.{◌≡◌, ℕ, ◌+◌, ◌<◌, ◌≤◌, ◌^◌, length, map, All, IfOk, slice_index, slice_index_or};
 ghost use Rattle.std.specs.List.{range_with_len};
 ghost use Rattle.kt_sum.specs.declared.mapped.Mapped.{Mapped};
 ghost use Rattle.kt_runs.specs.RunLosses.{run_loss};
 ghost use Rattle.kt_runs.specs.Sidx.{sidx_at, pairs_of};
 ghost use Rattle.kt_runs.specs.Adding.{Holds, AreInside};
-ghost use Rattle.kt_sum.specs.Adding.{AreBytesOf};
 ghost use Rattle.kt_sum.specs.Mapping.{AreNamed, IsGroupEnd, record_at};
 
 use crate::mapped::Mapped;
-use crate::sums::{gather_pairs, write_pairs};
+use crate::sums::gather_pairs;
 use kt_runs::{RunEntry, add_pairs};
 use kt_stream::{Pair, Pairs};
 use std::alloc::{AllocError, Global};
@@ -66,29 +65,4 @@ pub(crate) fn group_pairs<T: RunEntry>(
     sums.fill(0);
     let pairs = Vec::from_slice(alloc, &room[..used])?;
     Ok(Pairs::from_vec(pairs))
-}
-
-/// Writes the pairs of mapped records, whose sidx are among those of the sums, and the end pair behind them into room for them, and
-/// answers how many bytes these are: 0 where there is no pair. The sums are 0 before and afterwards.
-pub(crate) fn write_group<T: RunEntry>(
-    sums: &mut [u64],
-    least: u64,
-    room: &mut [u8],
-    records: &[T],
-    group: &[Mapped],
-) -> usize
-    requires named { AreNamed (map T.entry_of records.now) group.now }
-    requires inside { All (λ entry. AreInside least (length sums.old) entry.pairs) (map T.entry_of records.now) }
-    requires within { least + length sums.old ≤ 2 ^ 32 }
-    requires zeros { Holds (length sums.old) (λ k. 0) sums.old }
-    requires room { length room.old ≡ 12 * length sums.old + 12 }
-    requires few { (k : ℕ) → run_loss (sidx_at (least + k)) (map (record_at (map T.entry_of records.now)) group.now) < 2 ^ 64 }
-    ensures pairs { AreBytesOf (pairs_of (λ sidx. run_loss sidx (map (record_at (map T.entry_of records.now)) group.now)) (map sidx_at (range_with_len least (length sums.old)))) result room.new }
-    ensures zeros { Holds (length sums.old) (λ k. 0) sums.new }
-    ensures room { length room.new ≡ length room.old }
-{
-    add_group(sums, least, records, group);
-    let used = write_pairs(room, sums, least);
-    sums.fill(0);
-    used
 }

@@ -4,11 +4,12 @@
 mod group;
 pub mod laws;
 mod mapped;
-mod put;
 mod run;
+mod run_summaries;
 mod set_run;
 mod span;
+mod summary_sums;
 mod sums;
 
-pub use put::put_run_summaries;
 pub use run::summarise;
+pub use run_summaries::RunSummaries;

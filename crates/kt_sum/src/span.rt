@@ -1,7 +1,6 @@
 //! The sidx that the records of a run have: from which place to which.
 //! The rule: docs/CALCULATION.md, "Summaries".
 ghost use Rattle.std.specs.Prelude.{◌≡◌, ◌+◌, ◌≤◌, ◌^◌, map, min, max, All};
-ghost use Rattle.kt_stream.specs.Losses.{IsLoss};
 ghost use Rattle.kt_runs.specs.Sidx.{place_of};
 ghost use Rattle.std.specs.List.{fold};
 ghost use Rattle.kt_sum.specs.Summaries.{least_place, end_place, pair_places, places};
@@ -112,18 +111,5 @@ pub(crate) fn span_of<T: RunEntry>(records: &[T]) -> Span
     Span {
         least: u64::from(FIRST),
         width: most as usize + 1,
-    }
-}
-
-/// The places of the sums of a run of records of a stream with so many samples: those of all its sidx.
-pub(crate) fn stream_span<T: RunEntry>(samples: u32, records: &[T]) -> Span
-    requires samples { samples ≤ 1000 }
-    requires good { All (IsLoss samples) (map T.entry_of records.now) }
-    ensures value { IsSpan (map T.entry_of records.now) result.least result.width }
-{
-    let _ = records;
-    Span {
-        least: u64::from(FIRST),
-        width: samples as usize + 3,
     }
 }

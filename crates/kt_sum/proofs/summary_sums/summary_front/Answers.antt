@@ -1,6 +1,6 @@
 use Rattle.std.proofs.Common.{refl}
 use Rattle.kt_stream.specs.Summary.{summary_bytes}
-use Rattle.kt_sum.proofs.put.summary_front.Goals as goal
+use Rattle.kt_sum.proofs.summary_sums.summary_front.Goals as goal
 
 pub returns : goal.returns
 unfolding summary_bytes

@@ -1,0 +1,244 @@
+-- The sums of a run in each summary of a set: their records are the summaries of the run, and how they are added to.
+use Rattle.std.proofs.Common.{◌≡◌, ◌⊎◌, ◌≢◌, inl, inr, ℕ, suc, ◌+◌, ◌^◌, ◌<◌, ◌≤◌, Bool, true, false, cond, nat_eq, ℤ, List, [], ◌∷◌, ◌++◌, Option, None, Some, length, map, slice_index, slice_index_or, slice_set, refl, sym, ap, subst, arith, ◌∙◌, append-nil}
+use Rattle.std.specs.Prelude.{◌&&◌, ◌||◌, All}
+use Rattle.std.specs.Cmp.{nat_eq_equiv}
+use Rattle.std.specs.List.{AllByRecursion, cons_option, filter, filter_map, list_any}
+use Rattle.std.proofs.lemmas.Bool.{cases_eq, cases_lt, eqb-true, true≢false}
+use Rattle.std.proofs.lemmas.List.{get_or-map, get_or-set_same, get_or-set_other, get_or_default, length-map, length-set}
+use Rattle.std.proofs.lemmas.List.Elements.{All-set, filter-append, recursion_from_All}
+use Rattle.std.proofs.lemmas.List.Sums.{sum_by_push}
+use Rattle.std.proofs.lemmas.Map.Keys.{apart_from_distinct}
+use Rattle.kt_fmtree.specs.RisingLaws.{rising-filter}
+use Rattle.kt_rec.specs.Rising.{IsRising, distinct-from_rising, rising, rising-member, rising-rises, rising-unique}
+use Rattle.kt_runs.specs.Adding.{Holds, IsAdded}
+use Rattle.kt_runs.specs.RunLosses.{AreWithin, event_of, loss_of, run_loss}
+use Rattle.kt_runs.specs.Sidx.{pair_of, pairs_of, sidx_at}
+use Rattle.kt_stream.specs.Losses.{IsLoss}
+use Rattle.kt_stream.specs.declared.entry.LossRecord.{LossRecord}
+use Rattle.kt_rec.specs.declared.perspective.Perspective.{Perspective}
+use Rattle.kt_tables.specs.Lookups.{exposure_of}
+use Rattle.kt_tables.specs.Portfolio.{PortfolioRows}
+use Rattle.kt_sum.specs.Adding.{pairs_upto}
+use Rattle.kt_sum.specs.RunSummaries.{AreCleared, IsReadyRow, IsSumOf, record_of}
+use Rattle.kt_sum.specs.Summaries.{found_summaries, is_summary, members, record_with, sidx_range, summaries_by, summary_of_run}
+use Rattle.kt_sum.specs.declared.summary_sums.SummarySums.{SummarySums}
+use Rattle.kt_sum.proofs.GroupLemmas.{members_within, shifted}
+use Rattle.kt_sum.proofs.SpanLemmas.{stream_places}
+use Rattle.kt_sum.proofs.WideLemmas.{span_pairs}
+
+-- ---- ids that pass a test
+
+-- what is made of those that pass, where the others make nothing
+restricted : {X : Type 0} (f : ℕ → Option X) (test : ℕ → Bool) (ids : List ℕ) → ((id : ℕ) → test id ≡ false → f id ≡ None) → filter_map f ids ≡ filter_map f (filter test ids)
+restricted f test [] others = refl
+restricted f test (id ∷ ids) others = by (test id) refl (restricted f test ids others)
+  where
+    by : (b : Bool) → test id ≡ b → filter_map f ids ≡ filter_map f (filter test ids) → cons_option (f id) (filter_map f ids) ≡ filter_map f (cond b (id ∷ filter test ids) (filter test ids))
+    by true is rest = ap (cons_option (f id)) rest
+    by false is rest = ap (λ found. cons_option found (filter_map f ids)) (others id is) ∙ rest
+
+-- whether an id is among them
+passing : (test : ℕ → Bool) (ids : List ℕ) (id : ℕ) → list_any (nat_eq id) (filter test ids) ≡ (test id && list_any (nat_eq id) ids)
+passing test [] id = sym (none (test id))
+  where
+    none : (b : Bool) → (b && false) ≡ false
+    none true = refl
+    none false = refl
+passing test (first ∷ ids) id = by (test first) (nat_eq id first) refl refl (passing test ids id)
+  where
+    same : id ≡ first → test id ≡ test first
+    same is = ap test is
+
+    by : (b c : Bool) → test first ≡ b → nat_eq id first ≡ c → list_any (nat_eq id) (filter test ids) ≡ (test id && list_any (nat_eq id) ids) → list_any (nat_eq id) (cond b (first ∷ filter test ids) (filter test ids)) ≡ (test id && (c || list_any (nat_eq id) ids))
+    by true true passes is rest = ap (λ b. b || list_any (nat_eq id) (filter test ids)) is ∙ sym (ap (λ b. b && true) (same (eqb-true id first is) ∙ passes))
+    by true false passes is rest = ap (λ b. b || list_any (nat_eq id) (filter test ids)) is ∙ rest
+    by false true passes is rest = rest ∙ (ap (λ b. b && list_any (nat_eq id) ids) (same (eqb-true id first is) ∙ passes) ∙ sym (ap (λ b. b && true) (same (eqb-true id first is) ∙ passes)))
+    by false false passes is rest = rest
+
+-- ---- the records of summaries
+
+-- a summary to which no record comes has no members
+no_members : (find : ℕ → Option ℕ) (records : List LossRecord) (summary : ℕ) → list_any (nat_eq summary) (found_summaries find records) ≡ false → members find records summary ≡ []
+no_members find [] summary none = refl
+no_members find (entry ∷ records) summary none = by (find entry.id) none (no_members find records summary)
+  where
+    parts : (a b : Bool) → (a || b) ≡ false → (a ≡ false) × (b ≡ false)
+    parts true b is = absurd (true≢false is)
+    parts false b is = (refl, is)
+
+    by : (found : Option ℕ) → list_any (nat_eq summary) (cons_option found (found_summaries find records)) ≡ false → (list_any (nat_eq summary) (found_summaries find records) ≡ false → members find records summary ≡ []) → cond (is_summary summary found) (entry ∷ members find records summary) (members find records summary) ≡ []
+    by None none rest = rest none
+    by (Some other) none rest =
+        let each = parts (nat_eq summary other) (list_any (nat_eq summary) (found_summaries find records)) none in
+        ap (λ b. cond b (entry ∷ members find records summary) (members find records summary)) (nat_eq_equiv.symm other summary ∙ each.0) ∙ rest each.1
+
+-- no records have no pairs
+no_losses : (range : List ℤ) → pairs_of (λ sidx. run_loss sidx []) range ≡ []
+no_losses [] = refl
+no_losses (sidx ∷ range) = no_losses range
+
+-- the summaries of records are among those that ids have
+all_found : (find : ℕ → Option ℕ) (samples : ℕ) (summaries : List ℕ) → ((id summary : ℕ) → id < 2 ^ 32 → find id ≡ Some summary → list_any (nat_eq summary) summaries ≡ true) → (records : List LossRecord) → AllByRecursion (IsLoss samples) records → (summary : ℕ) → list_any (nat_eq summary) (found_summaries find records) ≡ true → list_any (nat_eq summary) summaries ≡ true
+all_found find samples summaries there [] good summary found = absurd (true≢false (sym found))
+all_found find samples summaries there (entry ∷ records) good summary found = by (find entry.id) refl found (all_found find samples summaries there records good.1 summary)
+  where
+    by : (other : Option ℕ) → find entry.id ≡ other → list_any (nat_eq summary) (cons_option other (found_summaries find records)) ≡ true → (list_any (nat_eq summary) (found_summaries find records) ≡ true → list_any (nat_eq summary) summaries ≡ true) → list_any (nat_eq summary) summaries ≡ true
+    by None is found later = later found
+    by (Some other) is found later = here (nat_eq summary other) refl found
+      where
+        here : (b : Bool) → nat_eq summary other ≡ b → (b || list_any (nat_eq summary) (found_summaries find records)) ≡ true → list_any (nat_eq summary) summaries ≡ true
+        here true same found = let most = good.0.id.1 in there entry.id summary (omega arith) (is ∙ ap Some (sym (eqb-true summary other same)))
+        here false same found = later found
+
+module _ (find : ℕ → Option ℕ) (exposure : ℕ → ℕ) (samples : ℕ) (records : List LossRecord) (few : samples ≤ 1000) (good : All (IsLoss samples) records) where
+  -- the losses of the members of a summary at a sidx
+  abbrev loss_in : ℕ → ℤ → ℕ
+  loss_in summary sidx = run_loss sidx (members find records summary)
+
+  -- the record of sums is that of their summary
+  row_record : (event : ℕ) → event ≡ event_of records → (row : SummarySums) → IsSumOf samples find records row → record_of event exposure row ≡ summary_of_run find exposure records row.summary
+  row_record event event_is row is =
+      ap (λ event. record_of event exposure row) event_is
+      ∙ ap (record_with (event_of records) row.summary (exposure row.summary))
+      (ap (λ n. pairs_upto 2147483646 row.sums.items n) is.width_is
+      ∙ (shifted (λ k. pair_of (sidx_at (2147483646 + k)) (slice_index row.sums.items k)) (λ sidx. pair_of sidx (loss_in row.summary sidx)) 0 2147483646 (samples + 3) same
+      ∙ span_pairs records (loss_in row.summary) (λ sidx. members_within sidx find records row.summary) 2147483646 (samples + 3) (stream_places samples records few good)))
+    where
+      same : (k : ℕ) → k < samples + 3 → pair_of (sidx_at (2147483646 + (0 + k))) (slice_index row.sums.items (0 + k)) ≡ pair_of (sidx_at (2147483646 + k)) (loss_in row.summary (sidx_at (2147483646 + k)))
+      same k below = let plain : 0 + k ≡ k = omega arith in ap (λ k. pair_of (sidx_at (2147483646 + k)) (slice_index row.sums.items k)) plain ∙ ap (pair_of (sidx_at (2147483646 + k))) (is.each k below)
+
+  -- so are those of all
+  rows_records : (event : ℕ) → event ≡ event_of records → (rows : List SummarySums) → AllByRecursion (IsSumOf samples find records) rows → filter_map (record_of event exposure) rows ≡ filter_map (summary_of_run find exposure records) (map (λ row. row.summary) rows)
+  rows_records event event_is [] are = refl
+  rows_records event event_is (row ∷ rows) are =
+      ap (λ found. cons_option found (filter_map (record_of event exposure) rows)) (row_record event event_is row are.0)
+      ∙ ap (cons_option (summary_of_run find exposure records row.summary)) (rows_records event event_is rows are.1)
+
+  -- a summary to which no record comes has no record
+  none_made : (summary : ℕ) → list_any (nat_eq summary) (found_summaries find records) ≡ false → summary_of_run find exposure records summary ≡ None
+  none_made summary none =
+      ap (λ group. record_with (event_of records) summary (exposure summary) (pairs_of (λ sidx. run_loss sidx group) (sidx_range records))) (no_members find records summary none)
+      ∙ ap (record_with (event_of records) summary (exposure summary)) (no_losses (sidx_range records))
+
+  -- whether a record comes to a summary
+  abbrev test : ℕ → Bool
+  test summary = list_any (nat_eq summary) (found_summaries find records)
+
+  -- the records of sums for all summaries that ids have are the summaries of the run
+  pub run_records : (event : ℕ) → event ≡ event_of records → (summaries : List ℕ) → IsRising summaries → ((id summary : ℕ) → id < 2 ^ 32 → find id ≡ Some summary → list_any (nat_eq summary) summaries ≡ true) → (rows : List SummarySums) → map (λ row. row.summary) rows ≡ summaries → All (IsSumOf samples find records) rows → filter_map (record_of event exposure) rows ≡ summaries_by find exposure records
+  run_records event event_is summaries rises there rows rows_are are =
+      rows_records event event_is rows (recursion_from_All (IsSumOf samples find records) rows are)
+      ∙ (ap (filter_map (summary_of_run find exposure records)) rows_are
+      ∙ (restricted (summary_of_run find exposure records) test summaries none_made
+      ∙ ap (filter_map (summary_of_run find exposure records)) (rising-unique (filter test summaries) (rising (found_summaries find records)) (rising-filter test summaries rises) (rising-rises (found_summaries find records)) same)))
+    where
+      same : (id : ℕ) → list_any (nat_eq id) (filter test summaries) ≡ list_any (nat_eq id) (rising (found_summaries find records))
+      same id = passing test summaries id ∙ (by (test id) refl ∙ sym (rising-member (found_summaries find records) id))
+        where
+          by : (b : Bool) → test id ≡ b → (b && list_any (nat_eq id) summaries) ≡ test id
+          by true is = all_found find samples summaries there records (recursion_from_All (IsLoss samples) records good) id is ∙ sym is
+          by false is = sym is
+
+-- the exposures of the summaries of a set
+pub exposure_same : (one other : PortfolioRows) (perspective same : Perspective) (set also : ℕ) → one ≡ other → perspective ≡ same → set ≡ also → exposure_of perspective one.rows one.need.rule set ≡ exposure_of same other.rows other.need.rule also
+exposure_same one other perspective same set also portfolio_is perspective_is set_is =
+    ap (λ (rows : PortfolioRows). exposure_of perspective rows.rows rows.need.rule set) portfolio_is
+    ∙ (ap (λ (whose : Perspective). exposure_of whose other.rows other.need.rule set) perspective_is ∙ ap (exposure_of same other.rows other.need.rule) set_is)
+
+-- rows at two places are of two summaries
+apart_rows : (rows : List SummarySums) → IsRising (map (λ row. row.summary) rows) → (i j : ℕ) (d e : SummarySums) → i < length rows → j < length rows → j ≢ i → nat_eq (slice_index_or rows i d).summary (slice_index_or rows j e).summary ≡ false
+apart_rows rows rises i j d e inside also other = rw (sym (at i d inside), sym (at j e also)) (by (cases_lt i j))
+  where
+    at : (k : ℕ) (d : SummarySums) → k < length rows → slice_index (map (λ (row : SummarySums). row.summary) rows) k ≡ (slice_index_or rows k d).summary
+    at k d below = get_or-map (λ (row : SummarySums). row.summary) rows k d 0 below
+
+    by : (i < j) ⊎ (j ≤ i) → nat_eq (slice_index (map (λ (row : SummarySums). row.summary) rows) i) (slice_index (map (λ (row : SummarySums). row.summary) rows) j) ≡ false
+    by (inl less) = apart_from_distinct nat_eq (map (λ (row : SummarySums). row.summary) rows) i j 0 (distinct-from_rising _ rises) less (omega (arith, also, length-map rows (λ (row : SummarySums). row.summary)))
+    by (inr most) = nat_eq_equiv.symm _ _ ∙ apart_from_distinct nat_eq (map (λ (row : SummarySums). row.summary) rows) j i 0 (distinct-from_rising _ rises) (omega (arith, most, other)) (omega (arith, inside, length-map rows (λ (row : SummarySums). row.summary)))
+
+-- ---- sums that are made 0
+
+-- rows of the same summaries
+pub same_summaries : (before now : List SummarySums) → length now ≡ length before → ((k : ℕ) (d : SummarySums) → k < length before → (slice_index_or now k d).summary ≡ (slice_index_or before k d).summary) → map (λ row. row.summary) now ≡ map (λ row. row.summary) before
+same_summaries [] [] long same = refl
+same_summaries [] (row ∷ now) long same = absurd (omega (arith, long))
+same_summaries (row ∷ before) [] long same = absurd (omega (arith, long))
+same_summaries (row ∷ before) (other ∷ now) long same =
+    let first : other.summary ≡ row.summary = same 0 row (omega arith) in
+    ap (λ n. n ∷ map (λ row. row.summary) now) first ∙ ap (λ ids. row.summary ∷ ids) (same_summaries before now (omega (arith, long)) (λ k d below. same (suc k) d (omega arith)))
+
+module _ (samples : ℕ) (before now : List SummarySums) (ready : All (IsReadyRow samples) before) (long : length now ≡ length before) (cleared : AreCleared (length before) before now) where
+  -- they are 0
+  pub cleared_zeros : All (λ row. Holds (samples + 3) (λ k. 0) row.sums.items) now
+  cleared_zeros k d below =
+      let inside : k < length before = omega (arith, below, long) in
+      subst (λ width. Holds width (λ k. 0) (slice_index_or now k d).sums.items) (ready k d inside).width_is (cleared k d inside).zeros
+
+  -- and ready
+  pub cleared_ready : All (IsReadyRow samples) now
+  cleared_ready k d below = let zeros = cleared_zeros k d below in record { width_is = zeros.width_is; idle = λ unused. record { width_is = refl; each = λ k inside. zeros.each k (omega (arith, inside, zeros.width_is)) } }
+
+  -- for the same summaries
+  pub cleared_summaries : map (λ row. row.summary) now ≡ map (λ row. row.summary) before
+  cleared_summaries = same_summaries before now long (λ k d below. (cleared k d below).summary)
+
+-- ---- a record more
+
+module _ (find : ℕ → Option ℕ) (samples : ℕ) (records : List LossRecord) (entry : LossRecord) where
+  -- the members of a summary with it
+  members_more : (summary : ℕ) (b : Bool) → is_summary summary (find entry.id) ≡ b → members find (records ++ entry ∷ []) summary ≡ members find records summary ++ cond b (entry ∷ []) []
+  members_more summary b is = filter-append (λ (entry : LossRecord). is_summary summary (find entry.id)) records (entry ∷ []) ∙ ap (λ b. members find records summary ++ cond b (entry ∷ []) []) is
+
+  -- sums of another summary are as they were
+  other_sum : (row : SummarySums) → is_summary row.summary (find entry.id) ≡ false → IsSumOf samples find records row → IsSumOf samples find (records ++ entry ∷ []) row
+  other_sum row other are = subst (λ group. Holds (samples + 3) (λ k. run_loss (sidx_at (2147483646 + k)) group) row.sums.items) (sym (members_more row.summary false other ∙ append-nil (members find records row.summary))) are
+
+  -- where it comes to no summary all are
+  pub none_added : find entry.id ≡ None → (rows : List SummarySums) → All (IsSumOf samples find records) rows → All (IsSumOf samples find (records ++ entry ∷ [])) rows
+  none_added none rows are k d below = other_sum (slice_index_or rows k d) (ap (is_summary (slice_index_or rows k d).summary) none) (are k d below)
+
+  module _ (within : AreWithin (records ++ entry ∷ [])) (row now : SummarySums) (summary_is : find entry.id ≡ Some row.summary) (are : IsSumOf samples find records row) (same : now.summary ≡ row.summary) where
+    -- the losses of the members with it
+    own_more : (sidx : ℤ) → run_loss sidx (members find (records ++ entry ∷ []) row.summary) ≡ run_loss sidx (members find records row.summary) + loss_of sidx entry.pairs
+    own_more sidx = ap (run_loss sidx) (members_more row.summary true (ap (is_summary row.summary) summary_is ∙ nat_eq_equiv.refl row.summary)) ∙ sum_by_push (λ (entry : LossRecord). loss_of sidx entry.pairs) (members find records row.summary) entry
+
+    -- they fit
+    pub own_fits : (k : ℕ) → k < length row.sums.items → slice_index row.sums.items k + loss_of (sidx_at (2147483646 + k)) entry.pairs < 2 ^ 64
+    own_fits k below =
+        let sidx = sidx_at (2147483646 + k) in
+        omega (arith, are.each k (omega (arith, below, are.width_is)), own_more sidx, members_within sidx find (records ++ entry ∷ []) row.summary, within sidx)
+
+    -- the sums of its summary are those with it
+    own_sum : IsAdded 2147483646 row.sums.items entry.pairs now.sums.items → IsSumOf samples find (records ++ entry ∷ []) now
+    own_sum added = subst (λ summary. Holds (samples + 3) (λ k. run_loss (sidx_at (2147483646 + k)) (members find (records ++ entry ∷ []) summary)) now.sums.items) (sym same) (record {
+      width_is = added.width_is ∙ are.width_is;
+      each = λ k below. added.each k (omega (arith, below, are.width_is)) ∙ (ap (λ n. n + loss_of (sidx_at (2147483646 + k)) entry.pairs) (are.each k below) ∙ sym (own_more (sidx_at (2147483646 + k))));
+    })
+
+    -- and so are all
+    pub some_added : (rows : List SummarySums) (place : ℕ) → place < length rows → row ≡ slice_index_or rows place row → IsRising (map (λ row. row.summary) rows) → All (IsSumOf samples find records) rows → IsAdded 2147483646 row.sums.items entry.pairs now.sums.items → All (IsSumOf samples find (records ++ entry ∷ [])) (slice_set rows place now)
+    some_added rows place inside row_is rises all added k d below = by (cases_eq k place)
+      where
+        by : (k ≡ place) ⊎ (k ≢ place) → IsSumOf samples find (records ++ entry ∷ []) (slice_index_or (slice_set rows place now) k d)
+        by (inl is) = subst (λ n. IsSumOf samples find (records ++ entry ∷ []) (slice_index_or (slice_set rows place now) n d)) (sym is) (subst (IsSumOf samples find (records ++ entry ∷ [])) (sym (get_or-set_same rows place now d inside)) (own_sum added))
+        by (inr apart) =
+            let there : k < length rows = omega (arith, below, length-set rows place now) in
+            let other : nat_eq row.summary (slice_index_or rows k d).summary ≡ false = ap (λ (row : SummarySums). nat_eq row.summary (slice_index_or rows k d).summary) row_is ∙ apart_rows rows rises place k row d inside there apart in
+            subst (IsSumOf samples find (records ++ entry ∷ [])) (sym (get_or-set_other rows place k now d apart)) (other_sum (slice_index_or rows k d) (ap (is_summary (slice_index_or rows k d).summary) summary_is ∙ other) (all k d there))
+
+-- sums that are added to are ready
+pub ready_more : (samples : ℕ) (rows : List SummarySums) (place : ℕ) (row now : SummarySums) → place < length rows → row ≡ slice_index_or rows place row → now.is_used ≡ true → length now.sums.items ≡ length row.sums.items → All (IsReadyRow samples) rows → All (IsReadyRow samples) (slice_set rows place now)
+ready_more samples rows place row now inside row_is used long ready =
+    All-set (IsReadyRow samples) rows place now
+    (record { width_is = long ∙ (ap (λ (row : SummarySums). length row.sums.items) row_is ∙ (ready place row inside).width_is); idle = λ unused. absurd (true≢false (sym used ∙ unused)) })
+    ready
+
+-- for the same summaries
+pub summaries_more : (rows : List SummarySums) (place : ℕ) (row now : SummarySums) → place < length rows → row ≡ slice_index_or rows place row → now.summary ≡ row.summary → map (λ row. row.summary) (slice_set rows place now) ≡ map (λ row. row.summary) rows
+summaries_more rows place row now inside row_is same = same_summaries rows (slice_set rows place now) (length-set rows place now) (λ k d below. by k d (cases_eq k place))
+  where
+    by : (k : ℕ) (d : SummarySums) → (k ≡ place) ⊎ (k ≢ place) → (slice_index_or (slice_set rows place now) k d).summary ≡ (slice_index_or rows k d).summary
+    by k d (inl is) =
+        ap (λ n. (slice_index_or (slice_set rows place now) n d).summary) is
+        ∙ (ap (λ (row : SummarySums). row.summary) (get_or-set_same rows place now d inside) ∙ (same ∙ (ap (λ (row : SummarySums). row.summary) (row_is ∙ get_or_default rows place row d inside) ∙ ap (λ n. (slice_index_or rows n d).summary) (sym is))))
+    by k d (inr apart) = ap (λ (row : SummarySums). row.summary) (get_or-set_other rows place k now d apart)
