@@ -1,13 +1,15 @@
-//! The reader of tables: the values of the rows, or the first place that is wrong.
-ghost use Rattle.std.specs.Prelude.{◌≡◌, ◌+◌, ◌<◌, ◌≤◌, ◌^◌, IsTrue, IfOk, IfErr, length};
-ghost use Rattle.kt_cells.specs.Cells.{cell_at, row_at};
+//! The reader of records of texts: the values of the rows, or the first place that is wrong.
+ghost use Rattle.std.specs.Prelude.{◌≡◌, ◌+◌, ◌<◌, ◌≤◌, ◌^◌, IsTrue, IfOk, IfErr, Ok, length};
+ghost use Rattle.csv.specs.Records.{fields_of};
+ghost use Rattle.kt_cells.specs.Texts.{text_value};
 ghost use Rattle.kt_cells.specs.Reading.{value_from, not_below, row_values, table_rows, rule_after as rule_behind, floor_after as floor_behind};
 ghost use Rattle.kt_cells.specs.Stops.{Tells};
 
-use crate::cells::Cells;
 use crate::kind::Kind;
 use crate::stop::{Cause, TableStop};
 use crate::values::Values;
+use csv::ByteRecord;
+use kt_text::{Grid, record_field};
 use std::alloc::Global;
 
 // The value, if it is not below the floor.
@@ -46,46 +48,34 @@ pub(crate) fn floor_after<const N: usize>(ordered: bool, values: &[u64; N]) -> u
     }
 }
 
-// The value of a cell, if it is not below the floor.
+// The value of the text of a field, if it is not below the floor.
 #[inline(always)]
-fn value_of<const N: usize, C: Cells<N>>(
-    cells: &C,
-    row: u64,
-    column: usize,
-    kind: Kind,
-    floor: u64,
-) -> Result<u64, Cause>
-    requires size { N < 100 }
-    requires row { row < length (C.cells cells.now) }
-    requires column { column < N }
-    ensures { result ≡ value_from C.read floor kind (cell_at (C.cells cells.now) row column) }
+fn value_of(kind: Kind, text: &[u8], floor: u64) -> Result<u64, Cause>
+    ensures { result ≡ value_from text_value floor kind text.now }
 {
-    let value = cells.value(row, column, kind)?;
+    let value = kind.value_of(text)?;
     checked_order(floor, value)
 }
 
-/// The values of a row, which is named by its number. The floor is for the first of them.
+/// The values of a record with as many fields as there are columns, as the row with this number. The floor is for the first of
+/// them.
 #[inline(always)]
 #[tactic(auto, using(crate::proofs::ReadingLemmas::row_end))]
-pub(crate) fn read_row<const N: usize, C: Cells<N>>(
-    cells: &C,
+pub(crate) fn read_record<const N: usize>(
+    fields: &ByteRecord,
     kinds: &[Kind; N],
-    first: u32,
-    row: u64,
     number: u64,
     floor: u64,
 ) -> Result<[u64; N], TableStop>
     requires size { N < 100 }
-    requires first { first < 100 }
-    requires row { row < length (C.cells cells.now) }
-    requires even { length (row_at (C.cells cells.now) row) ≡ N }
-    ensures { result ≡ row_values C.read 0 floor number first kinds.now (row_at (C.cells cells.now) row) }
+    requires width { length (fields_of fields.now) ≡ N }
+    ensures { result ≡ row_values text_value 0 floor number 1 kinds.now (fields_of fields.now) }
 {
     let mut values = [0; N];
     let mut rule = 0;
     let mut least = floor;
     for (column, kind) in kinds.iter().enumerate() {
-        match value_of(cells, row, column, kind.under(rule), least) {
+        match value_of(kind.under(rule), record_field(fields, column), least) {
             Ok(value) => {
                 values[column] = value;
                 rule = rule_after(rule, *kind, value);
@@ -94,7 +84,7 @@ pub(crate) fn read_row<const N: usize, C: Cells<N>>(
             Err(cause) => {
                 return Err(TableStop::Bad {
                     row: number,
-                    column: first + column as u32,
+                    column: 1 + column as u32,
                     cause,
                 });
             }
@@ -103,25 +93,23 @@ pub(crate) fn read_row<const N: usize, C: Cells<N>>(
     Ok(values)
 }
 
-/// The values of all rows, where the first column has the number `first`. Where rows are ordered, the first value of
-/// none is below that of the row before. An error is the first bad place, by row and then by column, or want of memory.
-pub(crate) fn read_rows<const N: usize, C: Cells<N>>(
+/// The values of a grid of texts. Where rows are ordered, the first value of none is below that of the row before. An
+/// error is the first bad place, by row and then by column, or want of memory.
+pub fn read_grid<const N: usize>(
     alloc: Global,
-    cells: &C,
+    grid: &Grid<N>,
     kinds: &[Kind; N],
     ordered: bool,
-    first: u32,
 ) -> Result<Values<N>, TableStop>
-    requires size { N < 100 }
-    requires first { first < 100 }
-    ensures value { IfOk result (λ values. table_rows C.read ordered first kinds.now 0 1 (C.cells cells.now) ≡ Ok values) }
+    requires { N < 100 }
+    ensures value { IfOk result (λ values. table_rows text_value ordered 1 kinds.now 0 1 grid.now ≡ Ok values) }
 
-    ensures refused { IfErr result (Tells (table_rows C.read ordered first kinds.now 0 1 (C.cells cells.now))) }
+    ensures refused { IfErr result (Tells (table_rows text_value ordered 1 kinds.now 0 1 grid.now)) }
 {
     let mut rows = Vec::new(alloc);
     let mut floor = 0;
-    for row in 0..cells.rows() {
-        let values = read_row(cells, kinds, first, row, row + 1, floor)?;
+    for row in 0..grid.rows() {
+        let values = read_record(grid.record(row), kinds, row + 1, floor)?;
         floor = floor_after(ordered, &values);
         rows.push(values)?;
     }

@@ -1,45 +1,22 @@
 //! The rows of a CSV text, read one after the other.
 ghost use Rattle.std.specs.Prelude.{◌≡◌, ◌∷◌, ◌<◌, ◌≤◌, ◌+◌, ◌++◌, ◌^◌, ℕ, List, [], IfOk, IfErr, OnOk, length, Ok};
-ghost use Rattle.csv.specs.Records.{fields_of};
 ghost use Rattle.kt_text.specs.PlainText.{csv_records};
 ghost use Rattle.kt_text.specs.Records.{StandsBetween, bytes_left, records_left};
 ghost use Rattle.kt_text.specs.Rows.{csv_rows};
 ghost use Rattle.kt_cells.specs.Texts.{text_value, text_rows};
 ghost use Rattle.kt_cells.specs.Stops.{Tells};
-ghost use Rattle.kt_cells.specs.Reading.{row_values, table_rows};
+ghost use Rattle.kt_cells.specs.Reading.{table_rows};
 ghost use Rattle.kt_cells.specs.Ranges.{IsRow, AreRows, AreInOrder, FitsBytes};
 ghost use Rattle.kt_cells.specs.Taking.{HandsOver, HandsFront, TakesMore};
 
-use crate::cells::Cells;
 use crate::kind::Kind;
 use crate::plain_rows::plain_row;
-use crate::reader::{floor_after, read_row};
+use crate::reader::{floor_after, read_record};
 use crate::row_sink::RowSink;
 use crate::stop::{Cause, TableStop};
 use csv::{ByteRecord, Reader};
-use kt_text::{behind_heading, next_record, reader_of, record_field};
+use kt_text::{behind_heading, next_record, reader_of};
 use std::alloc::{AllocError, Global};
-
-// A record with as many fields as a table has columns.
-#[derive(Clone, Copy)]
-struct RecordRow<'a, const N: usize> {
-    fields: &'a ByteRecord,
-    ghost width: { length (fields_of fields.now) ≡ N },
-}
-
-impl<'a, const N: usize> Cells<N> for RecordRow<'a, N> {
-    ghost cells = { λ row. fields_of row.fields.now ∷ [] };
-
-    ghost read = { text_value };
-
-    fn rows(&self) -> u64 {
-        1
-    }
-
-    fn value(&self, row: u64, column: usize, kind: Kind) -> Result<u64, Cause> {
-        kind.value_of(record_field(self.fields, column))
-    }
-}
 
 /// How far the rows of a text are read.
 #[derive(Clone, Copy, Drop)]
@@ -80,21 +57,6 @@ pub fn read_front<'a, const N: usize, S: RowSink<N>>(
         rest = behind;
     }
     Ok(TextFront { count, floor, rest })
-}
-
-// The values of a record with as many fields as there are columns.
-fn read_record<const N: usize>(
-    fields: &ByteRecord,
-    kinds: &[Kind; N],
-    number: u64,
-    floor: u64,
-) -> Result<[u64; N], TableStop>
-    requires size { N < 100 }
-    requires width { length (fields_of fields.now) ≡ N }
-    ensures { result ≡ row_values text_value 0 floor number 1 kinds.now (fields_of fields.now) }
-{
-    let row = RecordRow { fields };
-    read_row(&row, kinds, 1, 0, number, floor)
 }
 
 // Hands over the rows that the reader has left, behind so many that were read, the first of them not below the floor.

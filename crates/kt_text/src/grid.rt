@@ -36,14 +36,22 @@ impl<const N: usize> Grid<N> {
         self.records.len() as u64
     }
 
+    /// The record of a row, which is counted from 0.
+    pub fn record(&self, row: u64) -> &ByteRecord
+        requires row { row < length self.now }
+        ensures value { fields_of result.now ≡ slice_index_or self.now row [] }
+        ensures width { length (slice_index_or self.now row []) ≡ N }
+    {
+        record_of(&self.records, row as usize)
+    }
+
     /// The field of a row and a column, both counted from 0.
     pub fn field(&self, row: u64, column: u32) -> &[u8]
         requires row { row < length self.now }
         requires column { column < N }
         ensures { result.now ≡ cell self.now row column }
     {
-        let record = record_of(&self.records, row as usize);
-        record_field(record, column as usize)
+        record_field(self.record(row), column as usize)
     }
 }
 
