@@ -1,5 +1,5 @@
 -- The fields of a line, put in front of each other from the last to the first.
-use Rattle.std.proofs.Common.{◌≡◌, ℕ, zero, suc, ◌+◌, ◌/◌, ◌^◌, ◌<◌, ◌≤◌, List, [], ◌∷◌, ◌++◌, length, take, drop, get_or, refl, sym, ap, ◌∙◌, arith, append_assoc, length-append}
+use Rattle.std.proofs.Common.{◌≡◌, ℕ, zero, suc, ◌+◌, ◌-◌, ◌/◌, ◌^◌, ◌<◌, ◌≤◌, List, [], ◌∷◌, ◌++◌, length, take, drop, get_or, refl, sym, ap, ◌∙◌, arith, append_assoc, length-append}
 use Rattle.std.specs.Prelude.{decimal, slice_set}
 use Rattle.std.proofs.lemmas.Fmt.{length-decimal-le}
 use Rattle.std.proofs.lemmas.List.{append-nil, take_all, drop_all, drop_more, drop-set, take_more_set}
@@ -7,7 +7,7 @@ use Rattle.std.proofs.Math.ListN.{length-set}
 use Rattle.kt_money.specs.NumberText.{plain, padded_digits}
 use Rattle.kt_money.specs.NumberTextLaws.{plain-decimals, length-padded_digits}
 use Rattle.kt_cells.specs.Kinds.{under}
-use Rattle.kt_cells.specs.Lines.{LineFrom, fields_behind, separator, units_under}
+use Rattle.kt_cells.specs.Lines.{LineFrom, fields_behind, line_rest, separator, units_under}
 use Rattle.kt_cells.specs.Reading.{rule_after}
 use Rattle.kt_cells.specs.Texts.{row_texts, value_text}
 use Rattle.kt_cells.specs.declared.kind.Kind.{Kind}
@@ -62,28 +62,32 @@ module _ {kinds : List Kind} {values : List ℕ} {units : List Kind} {done rule 
       sym (take_all done units (omega (arith, now.width))) ∙ sym (append-nil (take done units)) ∙ (rw none at now.so_far)
 
 -- the line feed stands behind the last field
-pub line_from-end : (kinds : List Kind) (values text : List ℕ) → length values ≡ length kinds → length text ≡ 2400 → LineFrom kinds values (slice_set text 2399 10) 2399 (length kinds)
-line_from-end kinds values text same long =
+pub line_from-end : (kinds : List Kind) (values text : List ℕ) (end : ℕ) → length values ≡ length kinds → length text ≡ 2400 → 1 ≤ end → end ≤ 2400 → LineFrom kinds values end (drop end text) (slice_set text (end - 1) 10) (end - 1) (length kinds)
+line_from-end kinds values text end same long some within =
     let none : drop (length kinds) (row_texts 0 kinds values) ≡ [] = drop_all (length kinds) (row_texts 0 kinds values) (omega (arith, length-row_texts 0 kinds values same)) in
+    let last : end - 1 + 1 ≡ end = omega arith in
     record {
-      line_is = drop-set text 2399 10 (omega (arith, long)) ∙ rw (drop_all 2400 text (omega (arith, long)), none) (sym (line_rest-end (length kinds)));
+      line_is = drop-set text (end - 1) 10 (omega (arith, long)) ∙ rw (last, none, line_rest-end (length kinds)) refl;
       room = omega arith;
       inside = omega arith;
-      long = length-set text 2399 10 ∙ long;
+      long = length-set text (end - 1) 10 ∙ long;
       within = omega arith;
     }
 
 -- a field more, with its separator
-pub line_from-more : {kinds : List Kind} {values text : List ℕ} {at column : ℕ} → LineFrom kinds values text at (column + 1) → (next : List ℕ) (start : ℕ) (d : Kind) → length values ≡ length kinds
+pub line_from-more : {kinds : List Kind} {values after text : List ℕ} {end at column : ℕ} → LineFrom kinds values end after text at (column + 1) → (next : List ℕ) (start : ℕ) (d : Kind) → length values ≡ length kinds
     → drop start next ≡ separator column ++ (value_text (get_or (units_under 0 kinds values) column d) (get_or values column 0) ++ drop at text)
-    → length next ≡ length text → start ≤ at → at ≤ start + 24 → LineFrom kinds values next start column
-line_from-more {kinds} {values} {text} {at} {column} now next start d same put long before short =
+    → length next ≡ length text → start ≤ at → at ≤ start + 24 → LineFrom kinds values end after next start column
+line_from-more {kinds} {values} {after} {text} {end} {at} {column} now next start d same put long before short =
     let texts : List (List ℕ) = row_texts 0 kinds values in
     let split : drop column texts ≡ get_or texts column [] ∷ drop (column + 1) texts = drop_more texts column [] (omega (arith, now.within, length-row_texts 0 kinds values same)) in
     let field = row_texts-field 0 kinds values column d same (omega (arith, now.within)) in
-    let behind : drop at text ≡ fields_behind (drop (column + 1) texts) = now.line_is ∙ line_rest-later column (drop (column + 1) texts) in
+    let text : List ℕ = value_text (get_or (units_under 0 kinds values) column d) (get_or values column 0) in
+    let behind = now.line_is ∙ ap (λ rest. rest ++ after) (line_rest-later column (drop (column + 1) texts)) in
     record {
-      line_is = put ∙ rw (split, field, behind) (sym (line_rest-field column _ _));
+      line_is = put ∙ ap (λ rest. separator column ++ (text ++ rest)) behind
+          ∙ sym (ap (λ rest. rest ++ after) (ap (line_rest column) split ∙ line_rest-field column _ _ ∙ ap (λ one. separator column ++ (one ++ fields_behind (drop (column + 1) texts))) field)
+          ∙ append_assoc (separator column) _ after ∙ ap (λ rest. separator column ++ rest) (append_assoc text _ after));
       room = omega (arith, now.room, short);
       inside = omega (arith, now.inside, before);
       long = long ∙ now.long;

@@ -9,8 +9,9 @@ use Rattle.kt_cells.specs.Records.{record_bytes}
 use Rattle.kt_cells.specs.Taking.{HasMore}
 use Rattle.kt_cells.specs.declared.kind.Kind.{Kind}
 use Rattle.kt_cells.specs.Lines.{line_with, rows_lines, lines_behind, lines_with, line, line_rest, fields_behind, separator}
-use Rattle.kt_cells.specs.Reading.{and_then, in_front}
+use Rattle.kt_cells.specs.Reading.{and_then, behind}
 use Rattle.kt_cells.specs.declared.stop.TableStop.{TableStop}
+use Rattle.kt_cells.proofs.ReadingLemmas.{behind-nil}
 
 -- one number more of a record
 pub record_bytes-more : (kinds : List Kind) (values : List ℕ) (done : ℕ) (d : Kind) → done < length kinds → length values ≡ length kinds
@@ -38,19 +39,37 @@ more-piece start out next piece now written = (now.0 ++ piece, written ∙ ap (�
 abbrev pub lines_put : Option ℕ → List Kind → List ℕ → Result (List (List ℕ)) TableStop → Result (List ℕ) TableStop
 lines_put before kinds out left = and_then left (λ rows. Ok (out ++ lines_with before kinds rows))
 
+-- the line of a row stands in front of those behind it
+pub lines_with-row : (before : Option ℕ) (kinds : List Kind) (row : List ℕ) (rows : List (List ℕ)) → lines_with before kinds (row ∷ rows) ≡ line_with before kinds row ++ lines_with before kinds rows
+unfolding rows_lines lines_behind
+lines_with-row None kinds row rows = refl
+lines_with-row (Some count) kinds row rows = refl
+
+-- no row has no line
+pub lines_with-none : (before : Option ℕ) (kinds : List Kind) → lines_with before kinds [] ≡ []
+unfolding rows_lines lines_behind
+lines_with-none None kinds = refl
+lines_with-none (Some count) kinds = refl
+
+-- the lines of rows stand in front of those behind them
+lines_with-append : (before : Option ℕ) (kinds : List Kind) (rows more : List (List ℕ)) → lines_with before kinds (rows ++ more) ≡ lines_with before kinds rows ++ lines_with before kinds more
+lines_with-append before kinds [] more = rw (lines_with-none before kinds) refl
+lines_with-append before kinds (row ∷ rows) more =
+    lines_with-row before kinds row (rows ++ more)
+    ∙ ap (λ lines. line_with before kinds row ++ lines) (lines_with-append before kinds rows more)
+    ∙ sym (ap (λ lines. lines ++ lines_with before kinds more) (lines_with-row before kinds row rows) ∙ append_assoc (line_with before kinds row) (lines_with before kinds rows) (lines_with before kinds more))
+
+-- lines more
+pub lines-more : (before : Option ℕ) (kinds : List Kind) (out : List ℕ) (rows : List (List ℕ)) (left : Result (List (List ℕ)) TableStop)
+    → lines_put before kinds out (behind rows left) ≡ lines_put before kinds (out ++ lines_with before kinds rows) left
+lines-more before kinds out [] left = rw (behind-nil left, lines_with-none before kinds, append-nil out) refl
+lines-more before kinds out (row ∷ rows) (Ok more) =
+    ap Ok (ap (λ lines. out ++ lines) (lines_with-append before kinds (row ∷ rows) more) ∙ sym (append_assoc out (lines_with before kinds (row ∷ rows)) (lines_with before kinds more)))
+lines-more before kinds out (row ∷ rows) (Err stop) = refl
+
 -- no line behind what was there
 pub lines-end : (before : Option ℕ) (kinds : List Kind) (out : List ℕ) → lines_put before kinds out (Ok []) ≡ Ok out
-unfolding rows_lines lines_behind
-lines-end None kinds out = ap Ok (append-nil out)
-lines-end (Some count) kinds out = ap Ok (append-nil out)
-
--- a line more
-pub lines-more : (before : Option ℕ) (kinds : List Kind) (out values : List ℕ) (left : Result (List (List ℕ)) TableStop)
-    → lines_put before kinds out (in_front values left) ≡ lines_put before kinds (out ++ line_with before kinds values) left
-unfolding rows_lines lines_behind
-lines-more None kinds out values (Ok rows) = ap Ok (sym (append_assoc out (line_with None kinds values) (rows_lines kinds rows)))
-lines-more (Some count) kinds out values (Ok rows) = ap Ok (sym (append_assoc out (line_with (Some count) kinds values) (lines_behind count kinds rows)))
-lines-more before kinds out values (Err stop) = refl
+lines-end before kinds out = rw (lines_with-none before kinds, append-nil out) refl
 
 -- what is left begins with the separator of its column
 pub line_rest-field : (column : ℕ) (field : List ℕ) (fields : List (List ℕ)) → line_rest column (field ∷ fields) ≡ separator column ++ (field ++ fields_behind fields)

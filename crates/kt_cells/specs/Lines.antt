@@ -56,10 +56,10 @@ abbrev pub line_rest : ℕ → List (List ℕ) → List ℕ
 line_rest zero fields = line fields
 line_rest (suc column) fields = fields_behind fields
 
--- the fields of a line from a column on stand at the end of a buffer of 2,400 bytes, with room for those before
-pub record LineFrom (kinds : List Kind) (values text : List ℕ) (at column : ℕ) : Type 0 where
-  pub line_is : drop at text ≡ line_rest column (drop column (row_texts 0 kinds values))
-  pub room : 2400 + column * 24 ≤ at + 1 + length kinds * 24
+-- the fields of a line from a column on stand in a buffer of 2,400 bytes in front of what is at its end, with room for those before
+pub record LineFrom (kinds : List Kind) (values : List ℕ) (end : ℕ) (after text : List ℕ) (at column : ℕ) : Type 0 where
+  pub line_is : drop at text ≡ line_rest column (drop column (row_texts 0 kinds values)) ++ after
+  pub room : end + column * 24 ≤ at + 1 + length kinds * 24
   pub inside : at ≤ 2400
   pub long : length text ≡ 2400
   pub within : column ≤ length kinds

@@ -1,11 +1,39 @@
-//! The field at the front of a text: its value, and what stands behind it.
+//! The value that the text of a field gives, and the field at the front of a text: its value, and what stands behind it.
 ghost use Rattle.std.specs.Prelude.{◌≡◌, ◌≤◌, Ok, IfSome, length, take};
 ghost use Rattle.kt_text.specs.PlainText.{IsField};
-ghost use Rattle.kt_cells.specs.Texts.{decimals, number_in};
+ghost use Rattle.kt_cells.specs.Texts.{decimals, number_in, text_value};
 ghost use Rattle.kt_cells.specs.Fronts.{ReadsField};
 
 use crate::kind::Kind;
-use kt_text::{FrontNumber, behind_field, field_length, front_amount, front_count};
+use crate::stop::{Cause, cause_of_text};
+use kt_text::{
+    BadText, FrontNumber, behind_field, field_length, front_amount, front_count, read_count,
+    read_decimal,
+};
+
+impl Kind {
+    /// The value that the text of a field gives.
+    #[tactic(auto, unfolding(crate::specs::Texts::text_value))]
+    pub(crate) fn value_of(self, text: &[u8]) -> Result<u64, Cause>
+        ensures { result ≡ text_value self text.now }
+    {
+        match number_of(self, text) {
+            Ok(value) => self.in_range(value),
+            Err(bad) => Err(cause_of_text(bad)),
+        }
+    }
+}
+
+// The number that the text of a field stands for.
+fn number_of(kind: Kind, text: &[u8]) -> Result<u64, BadText>
+    ensures { result ≡ number_in (decimals kind) text.now }
+{
+    match kind {
+        Kind::Tiv | Kind::Amount | Kind::Term(_) => read_decimal(text, 2),
+        Kind::Ppm => read_decimal(text, 6),
+        _ => read_count(text),
+    }
+}
 
 // The number at the front of a text, in the units of a kind, if plain digits write it.
 #[inline(always)]

@@ -15,7 +15,6 @@ mod row_sink;
 mod shared;
 mod stop;
 mod text_rows;
-mod texts;
 mod values;
 
 pub use header::{HEADER_WIDTH, push_header, read_header};

@@ -1,10 +1,9 @@
 //! Rows as lines of text.
-ghost use Rattle.std.specs.Prelude.{◌≡◌, ◌+◌, ◌<◌, ◌≤◌, ◌∷◌, ◌++◌, List, length, drop, min};
-ghost use Rattle.kt_money.specs.NumberText.{count_text};
-ghost use Rattle.kt_cells.specs.Lines.{LineFrom, line, line_with, separator, units_under};
+ghost use Rattle.std.specs.Prelude.{◌≡◌, ◌+◌, ◌*◌, ◌<◌, ◌≤◌, ◌++◌, ℕ, List, length, take, drop, min};
+ghost use Rattle.kt_cells.specs.Lines.{LineFrom, line, line_with, lines_with, separator, units_under};
 ghost use Rattle.kt_cells.specs.declared.kind.Kind.{Kind};
 ghost use Rattle.kt_cells.specs.Texts.{row_texts, value_text};
-ghost use Rattle.kt_cells.specs.declared.lines.TheConstants.{LINE_BYTES};
+ghost use Rattle.kt_cells.specs.declared.lines.TheConstants.{LINE_BYTES, ROWS};
 
 use crate::kind::Kind;
 use crate::plain_rows::SHORT;
@@ -12,24 +11,21 @@ use crate::reader::rule_after;
 use itoa::write_digits;
 use kt_money::write_plain;
 
-/// So many bytes have room for a line, and for a count in front of it, whatever the values are.
+/// So many bytes have room for the lines that are written at once, with a count in front of each, whatever the values are.
 pub(crate) const LINE_BYTES: usize = 2_400;
 
-// Writes the comma that stands before a field so that it ends at `end`, unless the field is the first, and returns where
-// it starts.
+/// At most so many rows are written at once.
+pub(crate) const ROWS: usize = 16;
+
+/// How many rows with so many columns are written at once.
 #[inline(always)]
-fn write_separator(column: usize, text: &mut [u8], end: usize) -> usize
-    requires room { 1 ≤ end }
-    requires within { end ≤ length text.old }
-    ensures start { result ≤ end }
-    ensures short { end ≤ result + 1 }
-    ensures written { drop result text.new ≡ separator column ++ drop end text.old }
+pub(crate) fn rows_at_once(columns: usize) -> usize
+    requires { columns < 100 }
+    ensures some { 1 ≤ result }
+    ensures most { result ≤ ROWS }
+    ensures room { result * (columns * 24 + 22) ≤ LINE_BYTES }
 {
-    if column == 0 {
-        return end;
-    }
-    text[end - 1] = b',';
-    end - 1
+    if columns <= SHORT { ROWS } else { 1 }
 }
 
 // Writes the text of a value so that it ends at `end`, and returns where it starts: at most 23 bytes.
@@ -76,31 +72,39 @@ fn write_field<const N: usize>(
     requires room { 27 ≤ end }
     requires within { end ≤ LINE_BYTES }
     ensures start { result ≤ end }
-    ensures short { end ≤ result + 24 }
-    ensures line { (kinds : List Kind) → units.now ≡ units_under 0 kinds values.now → length kinds ≡ N → LineFrom kinds values.now text.old end (min N (column + 1)) → LineFrom kinds values.now text.new result (min N column) }
+    ensures short { end + min N column * 24 ≤ result + min N (column + 1) * 24 }
+    ensures line { (kinds : List Kind) (last : ℕ) (after : List ℕ) → units.now ≡ units_under 0 kinds values.now → length kinds ≡ N → LineFrom kinds values.now last after text.old end (min N (column + 1)) → LineFrom kinds values.now last after text.new result (min N column) }
 {
     if column >= N {
         return end;
     }
     let start = write_value(units[column], values[column], text, end);
-    write_separator(column, text, start)
+    if column == 0 {
+        return start;
+    }
+    text[start - 1] = b',';
+    start - 1
 }
 
-// Writes a row with few columns as a line that ends with the buffer, from its last field to its first.
+// Writes a row with few columns as a line that ends at `end`, from its last field to its first, and returns where it starts.
 #[inline(always)]
 fn write_short_line<const N: usize>(
     kinds: &[Kind; N],
     values: &[u64; N],
     text: &mut [u8; LINE_BYTES],
+    end: usize,
 ) -> usize
-    requires { N ≤ 5 }
-    ensures start { result ≤ LINE_BYTES }
-    ensures room { 20 < result }
-    ensures written { drop result text.new ≡ line (row_texts 0 kinds.now values.now) }
+    requires some { 0 < N }
+    requires few { N ≤ 5 }
+    requires room { N * 24 + 22 ≤ end }
+    requires within { end ≤ LINE_BYTES }
+    ensures start { result ≤ end }
+    ensures short { end ≤ result + N * 24 + 1 }
+    ensures written { drop result text.new ≡ line (row_texts 0 kinds.now values.now) ++ drop end text.old }
 {
     let units = units_of(kinds, values);
-    text[LINE_BYTES - 1] = b'\n';
-    let fifth = write_field(&units, values, 4, text, LINE_BYTES - 1);
+    text[end - 1] = b'\n';
+    let fifth = write_field(&units, values, 4, text, end - 1);
     let fourth = write_field(&units, values, 3, text, fifth);
     let third = write_field(&units, values, 2, text, fourth);
     let second = write_field(&units, values, 1, text, third);
@@ -113,75 +117,99 @@ fn write_long_line<const N: usize>(
     kinds: &[Kind; N],
     values: &[u64; N],
     text: &mut [u8; LINE_BYTES],
+    end: usize,
 ) -> usize
     requires size { N < 100 }
-    ensures start { result ≤ LINE_BYTES }
-    ensures room { 20 < result }
-    ensures written { drop result text.new ≡ line (row_texts 0 kinds.now values.now) }
+    requires some { 0 < N }
+    requires room { N * 24 + 22 ≤ end }
+    requires within { end ≤ LINE_BYTES }
+    ensures start { result ≤ end }
+    ensures short { end ≤ result + N * 24 + 1 }
+    ensures written { drop result text.new ≡ line (row_texts 0 kinds.now values.now) ++ drop end text.old }
 {
     let units = units_of(kinds, values);
-    let mut at = LINE_BYTES - 1;
+    let mut at = end - 1;
     text[at] = b'\n';
     let mut column = N;
     while column > 0 {
         column -= 1;
-        at = write_value(units[column], values[column], text, at);
-        at = write_separator(column, text, at);
+        at = write_field(&units, values, column, text, at);
     }
     at
 }
 
-/// Writes a row as a line that ends with the buffer, from its last field to its first, and returns where it starts.
+// Writes a row as a line that ends at `end`, from its last field to its first, and returns where it starts.
 #[inline(always)]
-pub(crate) fn write_line<const N: usize>(
+fn write_line<const N: usize>(
     kinds: &[Kind; N],
     values: &[u64; N],
     text: &mut [u8; LINE_BYTES],
+    end: usize,
 ) -> usize
     requires size { N < 100 }
-    ensures start { result ≤ LINE_BYTES }
-    ensures room { 20 < result }
-    ensures written { drop result text.new ≡ line (row_texts 0 kinds.now values.now) }
+    requires some { 0 < N }
+    requires room { N * 24 + 22 ≤ end }
+    requires within { end ≤ LINE_BYTES }
+    ensures start { result ≤ end }
+    ensures short { end ≤ result + N * 24 + 1 }
+    ensures written { drop result text.new ≡ line (row_texts 0 kinds.now values.now) ++ drop end text.old }
 {
     if N <= SHORT {
-        write_short_line(kinds, values, text)
+        write_short_line(kinds, values, text, end)
     } else {
-        write_long_line(kinds, values, text)
+        write_long_line(kinds, values, text, end)
     }
 }
 
-// Writes a row as a line that ends with the buffer, with a count and a comma in front, and returns where it starts.
+// Writes a row as a line that ends at `end`, behind a count as its first field where there is one, and returns where it starts.
 #[inline(always)]
-fn write_line_behind<const N: usize>(
-    count: u64,
-    kinds: &[Kind; N],
-    values: &[u64; N],
-    text: &mut [u8; LINE_BYTES],
-) -> usize
-    requires size { N < 100 }
-    ensures start { result ≤ LINE_BYTES }
-    ensures written { drop result text.new ≡ count_text count ++ 44 ∷ line (row_texts 0 kinds.now values.now) }
-{
-    let behind = write_line(kinds, values, text) - 1;
-    text[behind] = b',';
-    write_digits(count, text, behind)
-}
-
-/// Writes a row as a line that ends with the buffer, behind a count as its first field where there is one, and returns where
-/// it starts.
-#[inline(always)]
-pub(crate) fn write_line_with<const N: usize>(
+fn write_line_with<const N: usize>(
     before: Option<u64>,
     kinds: &[Kind; N],
     values: &[u64; N],
     text: &mut [u8; LINE_BYTES],
+    end: usize,
 ) -> usize
     requires size { N < 100 }
-    ensures start { result ≤ LINE_BYTES }
-    ensures written { drop result text.new ≡ line_with before kinds.now values.now }
+    requires some { 0 < N }
+    requires room { N * 24 + 22 ≤ end }
+    requires within { end ≤ LINE_BYTES }
+    ensures start { result ≤ end }
+    ensures short { end ≤ result + (N * 24 + 22) }
+    ensures written { drop result text.new ≡ line_with before kinds.now values.now ++ drop end text.old }
 {
+    let start = write_line(kinds, values, text, end);
     match before {
-        None => write_line(kinds, values, text),
-        Some(count) => write_line_behind(count, kinds, values, text),
+        None => start,
+        Some(count) => {
+            text[start - 1] = b',';
+            write_digits(count, text, start - 1)
+        }
     }
+}
+
+/// Writes so many rows as lines that end with the buffer, from the last to the first, each behind a count as its first field where
+/// there is one, and returns where they start.
+#[inline(always)]
+pub(crate) fn write_lines<const N: usize>(
+    before: Option<u64>,
+    kinds: &[Kind; N],
+    rows: &[[u64; N]; ROWS],
+    count: usize,
+    text: &mut [u8; LINE_BYTES],
+) -> usize
+    requires size { N < 100 }
+    requires some { 0 < N }
+    requires count { count ≤ ROWS }
+    requires room { count * (N * 24 + 22) ≤ LINE_BYTES }
+    ensures start { result ≤ LINE_BYTES }
+    ensures written { drop result text.new ≡ lines_with before kinds.now (take count rows.now) }
+{
+    let mut at = LINE_BYTES;
+    let mut row = count;
+    while row > 0 {
+        row -= 1;
+        at = write_line_with(before, kinds, &rows[row], text, at);
+    }
+    at
 }

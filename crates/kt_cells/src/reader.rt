@@ -12,18 +12,6 @@ use csv::ByteRecord;
 use kt_text::{Grid, record_field};
 use std::alloc::Global;
 
-// The value, if it is not below the floor.
-#[inline(always)]
-fn checked_order(floor: u64, value: u64) -> Result<u64, Cause>
-    ensures { result ≡ not_below floor value }
-{
-    if value < floor {
-        Err(Cause::Order)
-    } else {
-        Ok(value)
-    }
-}
-
 /// The rule by which the rest of a row is read.
 #[inline(always)]
 pub(crate) fn rule_after(rule: u64, kind: Kind, value: u64) -> u64
@@ -54,7 +42,11 @@ fn value_of(kind: Kind, text: &[u8], floor: u64) -> Result<u64, Cause>
     ensures { result ≡ value_from text_value floor kind text.now }
 {
     let value = kind.value_of(text)?;
-    checked_order(floor, value)
+    if value < floor {
+        Err(Cause::Order)
+    } else {
+        Ok(value)
+    }
 }
 
 /// The values of a record with as many fields as there are columns, as the row with this number. The floor is for the first of

@@ -116,41 +116,8 @@ pub fn read_behind<const N: usize, S: RowSink<N>>(
 {
     let mut reader = reader_of(alloc, front.rest);
     let mut fields = ByteRecord::new(alloc);
-    read_rows_left(
-        &mut reader,
-        &mut fields,
-        front.count,
-        front.floor,
-        kinds,
-        ordered,
-        sink,
-    )
-}
-
-// Hands over the values of all records of a text.
-#[inline(always)]
-fn read_all_rows<const N: usize, S: RowSink<N>>(
-    alloc: Global,
-    text: &[u8],
-    kinds: &[Kind; N],
-    ordered: bool,
-    sink: &mut S,
-) -> Result<(), TableStop>
-    requires size { N < 100 }
-    requires some { 0 < N }
-    requires takes { (row : List ℕ) → IsRow 0 kinds.now row → FitsBytes kinds.now row → S.takes row }
-    requires fresh { S.takes_to sink.old [] sink.old }
-    ensures value { OnOk result (HandsOver (λ rows. S.takes_to sink.old rows sink.new) (table_rows text_value ordered 1 kinds.now 0 1 (csv_records text.now))) }
-
-    ensures refused { IfErr result (Tells (table_rows text_value ordered 1 kinds.now 0 1 (csv_records text.now))) }
-{
-    let start = TextFront {
-        count: 0,
-        floor: 0,
-        rest: text,
-    };
-    let front = read_front(start, kinds, ordered, sink)?;
-    read_behind(alloc, front, kinds, ordered, sink)
+    let (count, floor) = (front.count, front.floor);
+    read_rows_left(&mut reader, &mut fields, count, floor, kinds, ordered, sink)
 }
 
 /// Hands over the values of all records of a text but the first.
@@ -199,8 +166,10 @@ pub fn read_text<const N: usize, S: RowSink<N>>(
 
     ensures refused { IfErr result (Tells (text_rows ordered kinds.now text.now)) }
 {
-    match behind_heading(text) {
-        Some(rest) => read_all_rows(alloc, rest, kinds, ordered, sink),
-        None => read_behind_heading(alloc, text, kinds, ordered, sink),
-    }
+    let Some(rest) = behind_heading(text) else {
+        return read_behind_heading(alloc, text, kinds, ordered, sink);
+    };
+    let (count, floor) = (0, 0);
+    let front = read_front(TextFront { count, floor, rest }, kinds, ordered, sink)?;
+    read_behind(alloc, front, kinds, ordered, sink)
 }

@@ -1,4 +1,4 @@
-use Rattle.std.proofs.Common.{◌-◌, ◌∙◌, ap, arith, drop, length-drop, refl}
+use Rattle.std.proofs.Common.{◌-◌, ◌∙◌, ap, arith, drop, length-drop, refl, take}
 use Rattle.std.proofs.lemmas.Bool.Decides.{nat_tests}
 use Rattle.std.proofs.lemmas.List.{take_all}
 use Rattle.kt_cells.proofs.RecordLemmas.{behind-none, record-end}
@@ -11,12 +11,12 @@ loop-rest-init g c = record { within = omega arith; text = rw behind-none refl; 
 
 pub loop-rest-preserved : goal.loop-rest-preserved
 loop-rest-preserved g c =
-    let start = c.write_line_with-start.result in
-    let text = c.write_line_with-start.new.text in
-    let line = take_all (2400 - start) (drop start text) (omega (arith, length-drop start text)) ∙ c.write_line_with-start.ensures.written in
-    let written = rw line at c.in_ok-append.ensures.ok in record {
-      within = omega (arith, c.loop-rest.invariant.within, c.in_ok-rest.ensures.shorter);
-      text = c.loop-rest.invariant.text ∙ ap (lines_put c.args.before c.args.kinds.now c.loop-rest.out) c.in_ok-rest.ensures.next ∙ rw written (lines-more c.args.before c.args.kinds.now c.loop-rest.out c.next_record.new.values _);
+    let start = c.write_lines-start.result in
+    let text = c.write_lines-start.new.text in
+    let lines = take_all (2400 - start) (drop start text) (omega (arith, length-drop start text)) ∙ c.write_lines-start.ensures.written in
+    let written = rw lines at c.in_ok-append.ensures.ok in record {
+      within = omega (arith, c.loop-rest.invariant.within, c.in_ok-read.ensures.shorter);
+      text = c.loop-rest.invariant.text ∙ ap (lines_put c.args.before c.args.kinds.now c.loop-rest.out) c.in_ok-read.ensures.next ∙ rw written (lines-more c.args.before c.args.kinds.now c.loop-rest.out (take c.in_ok-read.read.count c.next_records.new.rows) _);
       kept = more-piece c.args.out.now c.loop-rest.out c.append.new.self _ c.loop-rest.invariant.kept written;
     }
 
