@@ -9,11 +9,8 @@ use Rattle.kt_gul.specs.GroundUp.{ground_up_records}
 use Rattle.kt_gul.specs.StruckItems.{AreCdfs, cdf_key as place_key}
 use Rattle.kt_ends.specs.declared.status.Refusal.{Refusal}
 use Rattle.kt_loop.specs.ByRun.{RunCalculation, by_run, outcome_by_run}
-use Rattle.kt_loop.specs.Contents.{Contents}
-use Rattle.kt_loop.specs.KnownStreams.{known_beside, with_known}
 use Rattle.kt_loop.specs.Outcome.{outcome}
 use Rattle.kt_loop.specs.Runs.{IsRun, bare, cdf_key, goes_on}
-use Rattle.kt_loop.specs.declared.known_reader.KnownHead.{KnownHead}
 use Rattle.kt_loop.specs.declared.run_key.RunKey.{RunKey}
 use Rattle.kt_stream.specs.declared.stop.StreamStop.{StreamStop}
 use Rattle.kt_rec.specs.Rows.{Rows}
@@ -23,7 +20,7 @@ use Rattle.kt_stream.specs.Reader.{IsPlaced}
 use Rattle.kt_stream.specs.declared.entry.Cdf.{Cdf}
 use Rattle.kt_stream.specs.declared.entry.Placed.{Placed}
 use Rattle.kt_stream.specs.declared.kind.Head.{Head}
-use Rattle.kt_front.specs.GulOutcome.{GulOptions, gul_runs, run_losses}
+use Rattle.kt_front.specs.GulOutcome.{GulMade, GulOptions, gul_runs, made_runs, run_losses}
 
 -- the keys of two pairs are in the order of the pairs
 key_rises : (one two other next : ℕ) → two < 2 ^ 32 → next < 2 ^ 32 → (nat_lt one other || (nat_eq one other && nat_lt two next)) ≡ true → one * 2 ^ 32 + two < other * 2 ^ 32 + next
@@ -78,19 +75,13 @@ losses_of_run rows options (placed ∷ later) first some is =
     ap (λ (one : Placed Cdf). flat_map loss_bytes (ground_up_records rows options.0 options.1 one.entry.event (bare (placed ∷ later)))) (sym is)
     ∙ ap (λ (cdfs : List Cdf). flat_map loss_bytes (ground_up_records rows options.0 options.1 first.entry.event cdfs)) (sym (map_bare (placed ∷ later)))
 
--- ---- the outcome, whatever is known beside the header
-
 -- a calculation run by run in words of its runs
 abbrev GivesText : Type 0 → Type 0
-GivesText H = (key : Cdf → RunKey) (runs : RunCalculation H Cdf GulOptions Refusal) (kept : GulOptions) (head : H) (entries : List (Placed Cdf)) (fault : Option StreamStop) → outcome (by_run key runs) (record { kept = kept; run = [] }) (record { head = Some head; entries = entries; fault = fault }) ≡ outcome_by_run key runs head (runs.opens head kept).text (runs.opens head kept).next entries fault
+GivesText P = (key : Cdf → RunKey) (runs : RunCalculation Head Cdf P Refusal) (kept : P) (head : Head) (entries : List (Placed Cdf)) (fault : Option StreamStop) → outcome (by_run key runs) (record { kept = kept; run = [] }) (record { head = Some head; entries = entries; fault = fault }) ≡ outcome_by_run key runs head (runs.opens head kept).text (runs.opens head kept).next entries fault
 
--- with rows that are known beside the header the losses are those of these rows
-pub same_losses : {B : Type 0} (rows_in : B → Rows) (known : B) (options : GulOptions) (contents : Contents Head Cdf) → GivesText Head → GivesText (KnownHead B) → outcome (by_run cdf_key (gul_runs (λ (head : Head). rows_in known))) (record { kept = options; run = [] }) contents ≡ outcome (by_run cdf_key (gul_runs (λ (head : KnownHead B). rows_in head.known))) (record { kept = options; run = [] }) (known_beside known contents)
-same_losses {B} rows_in known options contents plain beside = by_head contents.head contents.fault
-  where
-    by_head : (head : Option Head) (fault : Option StreamStop) → outcome (by_run cdf_key (gul_runs (λ (h : Head). rows_in known))) (record { kept = options; run = [] }) (record { head = head; entries = contents.entries; fault = fault }) ≡ outcome (by_run cdf_key (gul_runs (λ (h : KnownHead B). rows_in h.known))) (record { kept = options; run = [] }) (known_beside known (record { head = head; entries = contents.entries; fault = fault }))
-    by_head None None = refl
-    by_head None (Some stop) = refl
-    by_head (Some head) fault =
-        plain cdf_key (gul_runs (λ (h : Head). rows_in known)) options head contents.entries fault
-        ∙ sym (beside cdf_key (gul_runs (λ (h : KnownHead B). rows_in h.known)) options (with_known known head) contents.entries fault)
+-- made with the tables, the losses are those by their rows
+pub same_losses : (made : GulMade) → GivesText GulOptions → GivesText GulMade → (head : Option Head) (entries : List (Placed Cdf)) (fault : Option StreamStop)
+    → outcome (by_run cdf_key (gul_runs (λ (head : Head). made.1.rows))) (record { kept = made.0; run = [] }) (record { head = head; entries = entries; fault = fault }) ≡ outcome (by_run cdf_key made_runs) (record { kept = made; run = [] }) (record { head = head; entries = entries; fault = fault })
+same_losses made plain whole None entries None = refl
+same_losses made plain whole None entries (Some stop) = refl
+same_losses made plain whole (Some head) entries fault = plain cdf_key (gul_runs (λ (head : Head). made.1.rows)) made.0 head entries fault ∙ sym (whole cdf_key made_runs made head entries fault)

@@ -17,6 +17,7 @@ use Rattle.kt_stream.specs.Losses.{loss_bytes}
 use Rattle.kt_stream.specs.declared.entry.Cdf.{Cdf}
 use Rattle.kt_stream.specs.declared.kind.Head.{Head}
 use Rattle.kt_stream.specs.declared.kind.StreamKind.TheVariants.{Gul}
+use Rattle.kt_tables.specs.Portfolio.{PortfolioRows}
 
 -- the number of samples, and whether a coverage's losses are cut
 abbrev pub GulOptions : Type 0
@@ -37,6 +38,18 @@ gul_runs rows_by = record {
   opens = λ head options. record { text = header_bytes Gul (gul_head options.0); next = Ok options };
   refuses = λ head options run placed. None;
   closes = λ head options run. run_losses (rows_by head) options run;
+}
+
+-- the options, and the tables by which the losses are made
+abbrev pub GulMade : Type 0
+GulMade = GulOptions × PortfolioRows
+
+-- the same calculation with these tables
+abbrev pub made_runs : RunCalculation Head Cdf GulMade Refusal
+made_runs = record {
+  opens = λ head made. record { text = header_bytes Gul (gul_head made.0.0); next = Ok made };
+  refuses = λ head made run placed. None;
+  closes = λ head made run. run_losses made.1.rows made.0 run;
 }
 
 -- what a stream of distributions holds, none of more bins than the dictionary of damage bins

@@ -83,7 +83,9 @@ impl<'a, I: Inputs> Stage<Head, EventId, I> for Distributions<'a> {
 
     ghost accepts = { IsHead Events };
 
-    ghost is_good = { IsPlaced EventId event_form (λ shape samples entry. IsId entry.event) event_shape };
+    ghost shape = { λ _. event_shape };
+
+    ghost is_good = { IsPlaced EventId event_form (λ shape samples entry. IsId entry.event) };
 
     ghost inputs = { λ _ inputs. I.state inputs };
 

@@ -9,51 +9,51 @@ ghost use Rattle.kt_loop.specs.Running.{stream_uses};
 
 use kt_ends::ToolStop;
 use kt_gul::put_ground_up;
-use kt_loop::laws::{runs_give_their_text, what_is_read_with_more_known_can_be_taken};
-use kt_loop::{KnownHead, KnownReader, RunStage, run_by_run};
+use kt_loop::laws::{runs_give_their_text, what_is_read_can_be_taken};
+use kt_loop::{RunStage, run_by_run};
 use kt_money::Bytes;
 use kt_out::{Sink, Source};
 use kt_stream::{Cdf, CdfReader, Head, Placed, StreamKind, put_head};
 use kt_tables::Portfolio;
 use std::alloc::Global;
 
-/// The ground-up losses of the runs of a stream of distributions, by the portfolio that is known with its header.
+/// The ground-up losses of the runs of a stream of distributions, by a portfolio whose damage bins bound theirs.
 #[derive(Drop)]
-struct GroundUp {
+struct GroundUp<'a> {
     alloc: Global,
+    portfolio: &'a Portfolio,
     samples: u32,
     cut: bool,
 }
 
-impl<'a> RunStage<KnownHead<&'a Portfolio>, Cdf, ()> for GroundUp {
-    ghost use Rattle.std.specs.Prelude.{◌≡◌, ◌≤◌};
+impl<'a> RunStage<Head, Cdf, ()> for GroundUp<'a> {
+    ghost use Rattle.std.specs.Prelude.{◌≡◌, ◌≤◌, length, true};
     ghost use Rattle.kt_stream.specs.Bins.{IsCdf, cdf_form, cdf_shape};
+    ghost use Rattle.kt_stream.specs.Header.{IsHead};
     ghost use Rattle.kt_stream.specs.Reader.{IsPlaced};
     ghost use Rattle.kt_stream.specs.declared.entry.Cdf.{Cdf};
+    ghost use Rattle.kt_stream.specs.declared.kind.StreamKind.TheVariants as kind;
     ghost use Rattle.kt_keys.specs.Refusals.{is_loaded};
     ghost use Rattle.kt_rec.specs.declared.table.Table.TheVariants as table;
-    ghost use Rattle.kt_front.specs.GulOutcome.{GulOptions, gul_runs};
+    ghost use Rattle.kt_front.specs.GulOutcome.{GulMade, made_runs};
 
-    ghost Kept = { GulOptions };
+    ghost Kept = { GulMade };
 
-    ghost runs = { gul_runs (λ head. head.known.now.rows) };
+    ghost runs = { made_runs };
 
-    ghost is_at = { λ options stage _. (stage.samples ≡ options.0) × (stage.cut ≡ options.1) };
+    ghost is_at = { λ made stage _. (stage.samples ≡ made.0.0) × (stage.cut ≡ made.0.1) × (stage.portfolio.now ≡ made.1) };
 
-    ghost is_ready = { λ _ _ stage _. (1 ≤ stage.samples) × (stage.samples ≤ 1000) };
+    ghost is_ready = { λ _ _ stage _. (1 ≤ stage.samples) × (stage.samples ≤ 1000) × (is_loaded stage.portfolio.now.need 0 table.Random ≡ true) };
 
-    ghost accepts = { λ head. is_loaded head.known.now.need 0 table.Random ≡ true };
+    ghost accepts = { IsHead kind.Cdf };
 
-    ghost is_good = { λ head placed. IsPlaced Cdf cdf_form (λ shape samples cdf. IsCdf shape.bins cdf) (cdf_shape (length head.known.now.rows.damage_bin_dict)) head.head placed };
+    ghost shape = { λ stage. cdf_shape (length stage.portfolio.now.rows.damage_bin_dict) };
+
+    ghost is_good = { IsPlaced Cdf cdf_form (λ shape samples cdf. IsCdf shape.bins cdf) };
 
     ghost inputs = { λ others _. others };
 
-    fn open(
-        &mut self,
-        _beside: &mut (),
-        _head: KnownHead<&'a Portfolio>,
-        out: &mut Bytes,
-    ) -> Result<(), ToolStop> {
+    fn open(&mut self, _beside: &mut (), _head: Head, out: &mut Bytes) -> Result<(), ToolStop> {
         let head = Head {
             samples: self.samples,
             set: 0,
@@ -65,7 +65,7 @@ impl<'a> RunStage<KnownHead<&'a Portfolio>, Cdf, ()> for GroundUp {
     fn judge(
         &mut self,
         _beside: &mut (),
-        _head: KnownHead<&'a Portfolio>,
+        _head: Head,
         _run: &[Placed<Cdf>],
         _placed: &Placed<Cdf>,
     ) -> Result<(), ToolStop> {
@@ -75,7 +75,7 @@ impl<'a> RunStage<KnownHead<&'a Portfolio>, Cdf, ()> for GroundUp {
     fn close(
         &mut self,
         _beside: &mut (),
-        head: KnownHead<&'a Portfolio>,
+        _head: Head,
         run: &[Placed<Cdf>],
         out: &mut Bytes,
     ) -> Result<(), ToolStop> {
@@ -85,7 +85,7 @@ impl<'a> RunStage<KnownHead<&'a Portfolio>, Cdf, ()> for GroundUp {
         let event = run[0].entry.event;
         put_ground_up(
             self.alloc,
-            head.known,
+            self.portfolio,
             self.samples,
             self.cut,
             event,
@@ -121,15 +121,12 @@ pub fn write_ground_up<S: Source, K: Sink>(
 {
     portfolio.keeps_damage();
     runs_give_their_text::<Head, Cdf, (u32, bool)>();
-    runs_give_their_text::<KnownHead<&Portfolio>, Cdf, (u32, bool)>();
-    what_is_read_with_more_known_can_be_taken::<Cdf, &Portfolio>();
-    let reader = CdfReader::new(alloc, bin_count(portfolio));
-    let mut reader = KnownReader {
-        reader,
-        known: portfolio,
-    };
+    runs_give_their_text::<Head, Cdf, ((u32, bool), Portfolio)>();
+    what_is_read_can_be_taken::<Cdf>();
+    let mut reader = CdfReader::new(alloc, bin_count(portfolio));
     let stage = GroundUp {
         alloc,
+        portfolio,
         samples,
         cut,
     };

@@ -11,5 +11,4 @@ pub mod RunStepping
 pub mod RecordReading
 pub mod RecordsGood
 pub mod RunLists
-pub mod KnownReading
 mod FileReading

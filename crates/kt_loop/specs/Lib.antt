@@ -13,7 +13,6 @@ pub mod Runs
 pub mod ByRun
 pub mod RunSteps
 pub mod RecordStreams
-pub mod KnownStreams
 pub mod InputFile
 pub mod Courses
 pub mod RunsGiven

@@ -6,6 +6,7 @@ ghost use Rattle.kt_out.specs.InputFiles.{InputsState};
 ghost use Rattle.kt_out.specs.NamedFiles.{FileMap};
 ghost use Rattle.kt_out.specs.OutputFiles.{OutputsState};
 ghost use Rattle.kt_stream.specs.declared.entry.Placed.{Placed};
+ghost use Rattle.kt_stream.specs.declared.kind.Shape.{Shape};
 ghost use Rattle.kt_ends.specs.Outcome.{Outcome};
 ghost use Rattle.kt_ends.specs.World.{world};
 ghost use Rattle.kt_ends.specs.Stops.{end_status};
@@ -48,8 +49,11 @@ pub trait RunStage<H, E: RunRecord, W> {
     /// A header that it can take.
     ghost accepts: { H → Type 0 };
 
-    /// A record that it can take behind a header.
-    ghost is_good: { H → Placed E → Type 0 };
+    /// The shape of the streams that it stands on. No step changes it.
+    ghost shape: { Self → Shape };
+
+    /// A record that it can take behind a header, in a stream of a shape.
+    ghost is_good: { Shape → H → Placed E → Type 0 };
 
     /// The input files beside a call: those that it asks, or others, which it leaves as they are.
     ghost inputs: { InputsState → W → InputsState };
@@ -61,6 +65,7 @@ pub trait RunStage<H, E: RunRecord, W> {
 
         ensures step { (kept : Kept) → is_at kept self.old beside.old → StepsBy (runs.opens head kept) (λ next. is_at next self.new beside.new) out.old out.new result }
         ensures ready { OnOk result (is_ready (Some head) [] self.new beside.new) }
+        ensures shape { shape self.new ≡ shape self.old }
         ensures counted { (others : InputsState) → Consults (inputs others beside.old) (inputs others beside.new) result };
 
     /// Judges a record that stands behind the records of its run.
@@ -72,13 +77,14 @@ pub trait RunStage<H, E: RunRecord, W> {
         placed: &Placed<E>,
     ) -> Result<(), ToolStop>
         requires accepted { accepts head }
-        requires good { AllByRecursion (is_good head) run.now }
-        requires next { is_good head placed.now }
+        requires good { AllByRecursion (is_good (shape self.old) head) run.now }
+        requires next { is_good (shape self.old) head placed.now }
         requires rising { IsRun E.key (run.now ++ placed.now ∷ []) }
         requires ready { is_ready (Some head) run.now self.old beside.old }
 
         ensures judged { (kept : Kept) → is_at kept self.old beside.old → JudgesBy (runs.refuses head kept run.now placed.now) (is_at kept self.new beside.new) result }
         ensures ready { OnOk result (is_ready (Some head) (run.now ++ placed.now ∷ []) self.new beside.new) }
+        ensures shape { shape self.new ≡ shape self.old }
         ensures counted { (others : InputsState) → Consults (inputs others beside.old) (inputs others beside.new) result };
 
     /// Appends what the records of a closed run give.
@@ -90,12 +96,13 @@ pub trait RunStage<H, E: RunRecord, W> {
         out: &mut Bytes,
     ) -> Result<(), ToolStop>
         requires accepted { accepts head }
-        requires good { AllByRecursion (is_good head) run.now }
+        requires good { AllByRecursion (is_good (shape self.old) head) run.now }
         requires rising { IsRun E.key run.now }
         requires ready { is_ready (Some head) run.now self.old beside.old }
 
         ensures closed { (kept : Kept) → is_at kept self.old beside.old → ClosesBy (runs.closes head kept (bare run.now)) (is_at kept self.new beside.new) out.old out.new result }
         ensures ready { OnOk result (is_ready (Some head) [] self.new beside.new) }
+        ensures shape { shape self.new ≡ shape self.old }
         ensures counted { (others : InputsState) → Consults (inputs others beside.old) (inputs others beside.new) result };
 }
 
@@ -125,15 +132,16 @@ fn judge_next<H: Copy, E: RunRecord + Reusable, W, C: RunStage<H, E, W>>(
     placed: &Placed<E>,
 ) -> Result<(), ToolStop>
     requires accepted { C.accepts head }
-    requires good { AllByRecursion (C.is_good head) it.old.run }
-    requires next { C.is_good head placed.now }
+    requires good { AllByRecursion (C.is_good (C.shape it.old.stage) head) it.old.run }
+    requires next { C.is_good (C.shape it.old.stage) head placed.now }
     requires rising { IsRun E.key (it.old.run ++ placed.now ∷ []) }
     requires ready { C.is_ready (Some head) it.old.run it.old.stage beside.old }
 
     ensures step { (kept : C.Kept) → C.is_at kept it.old.stage beside.old → StepsBy (unwritten (judged kept it.old.run placed.now (C.runs.refuses head kept it.old.run placed.now))) (λ next. C.is_at next.kept it.new.stage beside.new × (it.new.run ≡ next.run)) [] [] result }
-    ensures good { OnOk result (AllByRecursion (C.is_good head) it.new.run) }
+    ensures good { OnOk result (AllByRecursion (C.is_good (C.shape it.new.stage) head) it.new.run) }
     ensures rising { OnOk result (IsRun E.key it.new.run) }
     ensures ready { OnOk result (C.is_ready (Some head) it.new.run it.new.stage beside.new) }
+    ensures shape { C.shape it.new.stage ≡ C.shape it.old.stage }
     ensures counted { (others : InputsState) → Consults (C.inputs others beside.old) (C.inputs others beside.new) result }
 {
     if let Err(why) = it.stage.judge(beside, head, it.run.as_slice(), placed) {
@@ -153,13 +161,14 @@ fn close_open<H: Copy, E: RunRecord + Reusable, W, C: RunStage<H, E, W>>(
     out: &mut Bytes,
 ) -> Result<(), ToolStop>
     requires accepted { C.accepts head }
-    requires good { AllByRecursion (C.is_good head) it.old.run }
+    requires good { AllByRecursion (C.is_good (C.shape it.old.stage) head) it.old.run }
     requires rising { IsRun E.key it.old.run }
     requires ready { C.is_ready (Some head) it.old.run it.old.stage beside.old }
 
     ensures closed { (kept : C.Kept) → C.is_at kept it.old.stage beside.old → ClosesBy (closing C.runs head kept it.old.run) (C.is_at kept it.new.stage beside.new) out.old out.new result }
     ensures emptied { OnOk result (it.new.run ≡ []) }
     ensures ready { OnOk result (C.is_ready (Some head) [] it.new.stage beside.new) }
+    ensures shape { C.shape it.new.stage ≡ C.shape it.old.stage }
     ensures counted { (others : InputsState) → Consults (C.inputs others beside.old) (C.inputs others beside.new) result }
 {
     if it.run.as_slice().is_empty() {
@@ -185,9 +194,11 @@ impl<H: Copy, E: RunRecord + Reusable, W, C: RunStage<H, E, W>> Stage<H, E, W> f
 
     ghost is_at = { λ state it beside. C.is_at state.kept it.stage beside × (it.run ≡ state.run) };
 
-    ghost is_ready = { λ header it beside. C.is_ready header it.run it.stage beside × (IsReady C.is_good header it.run × IsRun E.key it.run) };
+    ghost is_ready = { λ header it beside. C.is_ready header it.run it.stage beside × (IsReady (C.is_good (C.shape it.stage)) header it.run × IsRun E.key it.run) };
 
     ghost accepts = { C.accepts };
+
+    ghost shape = { λ it. C.shape it.stage };
 
     ghost is_good = { C.is_good };
 
@@ -232,7 +243,7 @@ pub fn run_by_run<R: StreamReader, W, C: RunStage<R::Head, R::Entry, W> + Drop, 
 where
     R::Entry: RunRecord + Reusable,
     requires fresh { IsFresh R.represents reader.old }
-    requires good { ReadsGood R.represents C.accepts C.is_good [] reader.old }
+    requires good { ReadsGood R.represents C.accepts (C.is_good (C.shape stage)) [] reader.old }
     requires ready { C.is_ready None [] stage beside.old }
 
     ensures ended { (asks : Bool) (made : FileMap → List ℕ → Outcome) (others : InputsState) (outputs : OutputsState) (contents : List ℕ → Contents R.Head R.Entry) → R.represents contents [] [] reader.old → EndsRun (by_run R.Entry.key C.runs) contents (λ state. C.is_at state.kept stage beside.old × ([] ≡ state.run)) asks made (world (C.inputs others beside.old) outputs (S.state source.old) (K.state sink.old)) (world (C.inputs others beside.new) outputs (S.state source.new) (K.state sink.new)) (end_status result) }

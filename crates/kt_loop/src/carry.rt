@@ -37,6 +37,7 @@ fn open_stage<H, E, W, T: Stage<H, E, W>, K: Sink>(
 
     ensures course { (before : Option (List ℕ)) (course : Course T.State Refusal) → Stands (λ state. T.is_at state stage.old beside.old) before (K.state sink.now).taken out.old course → Comes (λ state. T.is_at state stage.new beside.new) before (K.state sink.now).taken out.new (opened T.calculation head course) result }
     ensures ready { OnOk result (T.is_ready (Some head) stage.new beside.new) }
+    ensures shape { T.shape stage.new ≡ T.shape stage.old }
     ensures counted { (others : InputsState) → Counts (T.inputs others beside.old) (T.inputs others beside.new) (K.state sink.now).faults (K.state sink.now).faults result }
 {
     stage.open(beside, head, out)
@@ -52,11 +53,12 @@ fn take_one<H, E, W, T: Stage<H, E, W>, K: Sink>(
     out: &mut Bytes,
 ) -> Result<(), ToolStop>
     requires accepted { T.accepts head }
-    requires good { T.is_good head placed.now }
+    requires good { T.is_good (T.shape stage.old) head placed.now }
     requires ready { T.is_ready (Some head) stage.old beside.old }
 
     ensures course { (before : Option (List ℕ)) (course : Course T.State Refusal) → Stands (λ state. T.is_at state stage.old beside.old) before (K.state sink.old).taken out.old course → Comes (λ state. T.is_at state stage.new beside.new) before (K.state sink.new).taken out.new (took T.calculation head course placed.now) result }
     ensures ready { OnOk result (T.is_ready (Some head) stage.new beside.new) }
+    ensures shape { T.shape stage.new ≡ T.shape stage.old }
     ensures counted { (others : InputsState) → Counts (T.inputs others beside.old) (T.inputs others beside.new) (K.state sink.old).faults (K.state sink.new).faults result }
 {
     if let Err(stop) = stage.take(beside, head, placed, out) {
@@ -78,7 +80,7 @@ fn take_held<R: StreamReader, W, T: Stage<R::Head, R::Entry, W>, K: Sink>(
     out: &mut Bytes,
 ) -> Result<Option<StreamStop>, ToolStop>
     requires accepted { T.accepts head }
-    requires good { AllByRecursion (T.is_good head) (R.held reader.old) }
+    requires good { AllByRecursion (T.is_good (T.shape stage.old) head) (R.held reader.old) }
     requires ready { T.is_ready (Some head) stage.old beside.old }
 
     ensures course { (before : Option (List ℕ)) (course : Course T.State Refusal) → Stands (λ state. T.is_at state stage.old beside.old) before (K.state sink.old).taken out.old course → Comes (λ state. T.is_at state stage.new beside.new) before (K.state sink.new).taken out.new (took_all T.calculation head course (R.held reader.old)) result }
@@ -86,6 +88,7 @@ fn take_held<R: StreamReader, W, T: Stage<R::Head, R::Entry, W>, K: Sink>(
     ensures rests { OnOk result (R.rests reader.new) }
     ensures header { OnOk result (R.header reader.new ≡ R.header reader.old) }
     ensures ready { OnOk result (T.is_ready (Some head) stage.new beside.new) }
+    ensures shape { T.shape stage.new ≡ T.shape stage.old }
     ensures counted { (others : InputsState) → Counts (T.inputs others beside.old) (T.inputs others beside.new) (K.state sink.old).faults (K.state sink.new).faults result }
 {
     'records: loop {
@@ -130,7 +133,7 @@ pub(crate) fn carry_on<R: StreamReader, W, T: Stage<R::Head, R::Entry, W>, K: Si
     sink: &mut K,
     out: &mut Bytes,
 ) -> Result<Option<StreamStop>, ToolStop>
-    requires good { AreGood T.accepts T.is_good (R.header reader.old) (R.held reader.old) }
+    requires good { AreGood T.accepts (T.is_good (T.shape stage.old)) (R.header reader.old) (R.held reader.old) }
     requires headless { R.header reader.old ≡ None → R.held reader.old ≡ [] }
     requires ready { T.is_ready (header_if was_open (R.header reader.old)) stage.old beside.old }
 
@@ -138,6 +141,7 @@ pub(crate) fn carry_on<R: StreamReader, W, T: Stage<R::Head, R::Entry, W>, K: Si
     ensures taken { IfOk result (λ stop. (contents : List ℕ → Contents R.Head R.Entry) (fed : List ℕ) (taken : List (Placed R.Entry)) → R.represents contents fed taken reader.old → RestsBy contents (R.represents contents) stop fed (taken ++ R.held reader.old) reader.new) }
     ensures rests { OnOk result (R.rests reader.new) }
     ensures ready { OnOk result (T.is_ready (R.header reader.new) stage.new beside.new) }
+    ensures shape { T.shape stage.new ≡ T.shape stage.old }
     ensures counted { (others : InputsState) → Counts (T.inputs others beside.old) (T.inputs others beside.new) (K.state sink.old).faults (K.state sink.new).faults result }
 {
     let Some(head) = reader.head() else {

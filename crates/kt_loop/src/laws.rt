@@ -20,8 +20,6 @@ ghost use Rattle.kt_stream.specs.Header.{IsHead};
 ghost use Rattle.kt_stream.specs.Reader.{Reading, IsPlaced};
 ghost use Rattle.kt_loop.specs.Reading.{AreGood};
 ghost use Rattle.kt_loop.specs.RecordStreams.{StandsFor};
-ghost use Rattle.kt_loop.specs.KnownStreams.{StandsKnown, IsKnownHead, IsPlacedKnown};
-ghost use Rattle.kt_loop.specs.declared.known_reader.KnownHead.{KnownHead};
 
 use kt_stream::Entry;
 use kt_stream::laws::what_is_read_fits;
@@ -52,13 +50,6 @@ pub fn events_give_one_after_the_other<E>()
 /// Whatever a reader of records reads is in its ranges: what a stage needs to take it.
 pub fn what_is_read_can_be_taken<E: Entry>()
     ensures { (contents : List ℕ → Contents Head E) (fed : List ℕ) (taken : List (Placed E)) (reading : Reading E) → StandsFor E E.form contents fed taken reading → (bytes : List ℕ) → AreGood (IsHead reading.shape.kind) (IsPlaced E E.form E.IsGood reading.shape) (contents bytes).head (contents bytes).entries }
-{
-    what_is_read_fits::<E>();
-}
-
-/// The same of a reader that hands over with the header what else is known.
-pub fn what_is_read_with_more_known_can_be_taken<E: Entry, B>()
-    ensures { (known : B) (contents : List ℕ → Contents (KnownHead B) E) (fed : List ℕ) (taken : List (Placed E)) (reading : Reading E) → StandsKnown E B E.form known contents fed taken reading → (bytes : List ℕ) → AreGood (IsKnownHead reading.shape known) (IsPlacedKnown E E.form E.IsGood reading.shape known) (contents bytes).head (contents bytes).entries }
 {
     what_is_read_fits::<E>();
 }

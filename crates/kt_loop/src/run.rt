@@ -54,7 +54,7 @@ fn read_all<R: StreamReader, W, T: Stage<R::Head, R::Entry, W>, S: Source, K: Si
     out: &mut Bytes,
 ) -> Result<(), ToolStop>
     requires fresh { IsFresh R.represents reader.old }
-    requires good { ReadsGood R.represents T.accepts T.is_good [] reader.old }
+    requires good { ReadsGood R.represents T.accepts (T.is_good (T.shape stage.old)) [] reader.old }
     requires ready { T.is_ready None stage.old beside.old }
     requires empty { out.old ≡ [] }
 
@@ -119,7 +119,7 @@ pub fn run_stage<R: StreamReader, W, T: Stage<R::Head, R::Entry, W>, S: Source, 
     sink: &mut K,
 ) -> Result<(), ToolStop>
     requires fresh { IsFresh R.represents reader.old }
-    requires good { ReadsGood R.represents T.accepts T.is_good [] reader.old }
+    requires good { ReadsGood R.represents T.accepts (T.is_good (T.shape stage.old)) [] reader.old }
     requires ready { T.is_ready None stage.old beside.old }
 
     ensures ended { (asks : Bool) (made : FileMap → List ℕ → Outcome) (others : InputsState) (outputs : OutputsState) (contents : List ℕ → Contents R.Head R.Entry) → R.represents contents [] [] reader.old → EndsRun T.calculation contents (λ state. T.is_at state stage.old beside.old) asks made (world (T.inputs others beside.old) outputs (S.state source.old) (K.state sink.old)) (world (T.inputs others beside.new) outputs (S.state source.new) (K.state sink.new)) (end_status result) }

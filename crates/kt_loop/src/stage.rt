@@ -3,6 +3,7 @@
 ghost use Rattle.std.specs.Prelude.{◌≡◌, ℕ, List, Option, None, Some, OnOk};
 ghost use Rattle.kt_out.specs.InputFiles.{InputsState};
 ghost use Rattle.kt_stream.specs.declared.entry.Placed.{Placed};
+ghost use Rattle.kt_stream.specs.declared.kind.Shape.{Shape};
 ghost use Rattle.kt_ends.specs.declared.status.Refusal.{Refusal};
 ghost use Rattle.kt_loop.specs.Calculation.{Calculation};
 ghost use Rattle.kt_loop.specs.Counts.{Consults};
@@ -30,8 +31,11 @@ pub trait Stage<H, E, W> {
     /// A header that it can take.
     ghost accepts: { H → Type 0 };
 
-    /// A record that it can take behind a header.
-    ghost is_good: { H → Placed E → Type 0 };
+    /// The shape of the streams that it stands on. No step changes it.
+    ghost shape: { Self → Shape };
+
+    /// A record that it can take behind a header, in a stream of a shape.
+    ghost is_good: { Shape → H → Placed E → Type 0 };
 
     /// The input files beside a call: those that it asks, or others, which it leaves as they are.
     ghost inputs: { InputsState → W → InputsState };
@@ -43,6 +47,7 @@ pub trait Stage<H, E, W> {
 
         ensures step { (state : State) → is_at state self.old beside.old → StepsBy (calculation.opens head state) (λ next. is_at next self.new beside.new) out.old out.new result }
         ensures ready { OnOk result (is_ready (Some head) self.new beside.new) }
+        ensures shape { shape self.new ≡ shape self.old }
         ensures counted { (others : InputsState) → Consults (inputs others beside.old) (inputs others beside.new) result };
 
     /// Appends what is written at a record.
@@ -54,11 +59,12 @@ pub trait Stage<H, E, W> {
         out: &mut Bytes,
     ) -> Result<(), ToolStop>
         requires accepted { accepts head }
-        requires good { is_good head placed.now }
+        requires good { is_good (shape self.old) head placed.now }
         requires ready { is_ready (Some head) self.old beside.old }
 
         ensures step { (state : State) → is_at state self.old beside.old → StepsBy (calculation.takes head state placed.now) (λ next. is_at next self.new beside.new) out.old out.new result }
         ensures ready { OnOk result (is_ready (Some head) self.new beside.new) }
+        ensures shape { shape self.new ≡ shape self.old }
         ensures counted { (others : InputsState) → Consults (inputs others beside.old) (inputs others beside.new) result };
 
     /// Appends what is written at the end of the stream.

@@ -1,6 +1,6 @@
 //! The turns of the loop: what each piece of the stream brings.
 //! The rules: docs/STREAMS.md, "Tools over streams".
-ghost use Rattle.std.specs.Prelude.{ℕ, List, [], ◌++◌, Option, IfOk, OnOk};
+ghost use Rattle.std.specs.Prelude.{◌≡◌, ℕ, List, [], ◌++◌, Option, IfOk, OnOk};
 ghost use Rattle.kt_out.specs.InputFiles.{InputsState};
 ghost use Rattle.kt_stream.specs.Reader.{IsFilled, piece_in};
 ghost use Rattle.kt_ends.specs.declared.status.Refusal.{Refusal};
@@ -29,13 +29,14 @@ pub(crate) fn begin<R: StreamReader, W, T: Stage<R::Head, R::Entry, W>, K: Sink>
     out: &mut Bytes,
 ) -> Result<(), ToolStop>
     requires fresh { IsFresh R.represents reader.old }
-    requires good { ReadsGood R.represents T.accepts T.is_good [] reader.old }
+    requires good { ReadsGood R.represents T.accepts (T.is_good (T.shape stage.old)) [] reader.old }
     requires ready { T.is_ready None stage.old beside.old }
 
     ensures stands { IfOk result (λ done. (contents : List ℕ → Contents R.Head R.Entry) → R.represents contents [] [] reader.old → R.represents contents [] (contents []).entries reader.new) }
     ensures course { (contents : List ℕ → Contents R.Head R.Entry) (before : Option (List ℕ)) (start : T.State) → R.represents contents [] [] reader.old → Stands {R = Refusal} (λ state. T.is_at state stage.old beside.old) before (K.state sink.old).taken out.old (started start) → Comes (λ state. T.is_at state stage.new beside.new) before (K.state sink.new).taken out.new (course_of T.calculation start (contents []).head (contents []).entries) result }
     ensures rests { OnOk result (R.rests reader.new) }
     ensures ready { OnOk result (T.is_ready (R.header reader.new) stage.new beside.new) }
+    ensures shape { T.shape stage.new ≡ T.shape stage.old }
     ensures counted { (others : InputsState) → Counts (T.inputs others beside.old) (T.inputs others beside.new) (K.state sink.old).faults (K.state sink.new).faults result }
 {
     R::what_is_read_stays();
@@ -57,13 +58,14 @@ pub(crate) fn turn<R: StreamReader, W, T: Stage<R::Head, R::Entry, W>, K: Sink>(
     out: &mut Bytes,
 ) -> Result<Option<StreamStop>, ToolStop>
     requires filled { IsFilled (R.pending reader.old) block.old.items upto }
-    requires stood { Stood R.represents T.accepts T.is_good reader.old }
+    requires stood { Stood R.represents T.accepts (T.is_good (T.shape stage.old)) reader.old }
     requires ready { T.is_ready (R.header reader.old) stage.old beside.old }
 
     ensures stands { IfOk result (λ stop. (contents : List ℕ → Contents R.Head R.Entry) (fed : List ℕ) → R.represents contents fed (contents fed).entries reader.old → RestsBy contents (R.represents contents) stop (fed ++ piece_in (R.pending reader.old) block.old.items upto) (contents (fed ++ piece_in (R.pending reader.old) block.old.items upto)).entries reader.new) }
     ensures course { (contents : List ℕ → Contents R.Head R.Entry) (before : Option (List ℕ)) (fed : List ℕ) (start : T.State) → R.represents contents fed (contents fed).entries reader.old → Stands (λ state. T.is_at state stage.old beside.old) before (K.state sink.old).taken out.old (course_of T.calculation start (contents fed).head (contents fed).entries) → Comes (λ state. T.is_at state stage.new beside.new) before (K.state sink.new).taken out.new (course_of T.calculation start (contents (fed ++ piece_in (R.pending reader.old) block.old.items upto)).head (contents (fed ++ piece_in (R.pending reader.old) block.old.items upto)).entries) result }
     ensures rests { OnOk result (R.rests reader.new) }
     ensures ready { OnOk result (T.is_ready (R.header reader.new) stage.new beside.new) }
+    ensures shape { T.shape stage.new ≡ T.shape stage.old }
     ensures counted { (others : InputsState) → Counts (T.inputs others beside.old) (T.inputs others beside.new) (K.state sink.old).faults (K.state sink.new).faults result }
 {
     R::what_is_read_stays();
@@ -81,7 +83,7 @@ pub(crate) fn finish<R: StreamReader, W, T: Stage<R::Head, R::Entry, W>, K: Sink
     sink: &K,
     out: &mut Bytes,
 ) -> Result<(), ToolStop>
-    requires stood { Stood R.represents T.accepts T.is_good reader.now }
+    requires stood { Stood R.represents T.accepts (T.is_good (T.shape stage.old)) reader.now }
     requires rests { R.rests reader.now }
     requires ready { T.is_ready (R.header reader.now) stage.old beside.old }
 

@@ -89,7 +89,9 @@ impl<'a, T: LossTool> RunStage<Head, LossRecord, ()> for JudgedLosses<'a, T> {
 
     ghost accepts = { IsHead Gul };
 
-    ghost is_good = { IsPlaced LossRecord loss_form (λ shape samples entry. IsLoss samples entry) (loss_shape Gul) };
+    ghost shape = { λ _. loss_shape Gul };
+
+    ghost is_good = { IsPlaced LossRecord loss_form (λ shape samples entry. IsLoss samples entry) };
 
     ghost inputs = { λ others _. others };
 

@@ -143,7 +143,9 @@ impl<'a> Stage<Head, LossRecord, ()> for SummedLosses<'a> {
 
     ghost accepts = { IsHead Gul };
 
-    ghost is_good = { IsPlaced LossRecord loss_form (λ shape samples entry. IsLoss samples entry) (loss_shape Gul) };
+    ghost shape = { λ _. loss_shape Gul };
+
+    ghost is_good = { IsPlaced LossRecord loss_form (λ shape samples entry. IsLoss samples entry) };
 
     ghost inputs = { λ others _. others };
 

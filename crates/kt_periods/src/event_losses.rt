@@ -39,7 +39,9 @@ impl Stage<Head, SummaryRecord, ()> for EventLosses {
 
     ghost accepts = { IsHead Summary };
 
-    ghost is_good = { IsPlaced SummaryRecord summary_form (λ shape samples entry. IsSummary samples entry) summary_shape };
+    ghost shape = { λ _. summary_shape };
+
+    ghost is_good = { IsPlaced SummaryRecord summary_form (λ shape samples entry. IsSummary samples entry) };
 
     ghost inputs = { λ others _. others };
 

@@ -1,5 +1,7 @@
-use Rattle.std.proofs.Common.{◌∙◌, subst, Option, Err}
+use Rattle.std.proofs.Common.{◌∙◌, subst, sym, Option, Err}
+use Rattle.std.specs.List.{AllByRecursion}
 use Rattle.kt_stream.specs.declared.entry.Placed.{Placed}
+use Rattle.kt_stream.specs.declared.kind.Shape.{Shape}
 use Rattle.kt_stream.specs.declared.reader.Next.{Next}
 use Rattle.kt_stream.specs.declared.stop.StreamStop.{StreamStop}
 use Rattle.kt_loop.specs.Calculation.{took}
@@ -33,8 +35,9 @@ pub records-preserved : goal.records-preserved
 records-preserved g c =
     let reads = subst (λ (next : Next). Advances g.R.StreamReader.represents g.R.StreamReader.header g.R.StreamReader.held g.R.StreamReader.row g.R.StreamReader.rests c.records.reader c.advance.new.self next) c.in-Record.is c.in-Ok.ensures in
     record {
-      good = (first_good (g.T.Stage.is_good c.args.head) _ _ _ c.records.invariant.good reads.first).1;
+      good = subst (λ (shape : Shape). AllByRecursion (g.T.Stage.is_good shape c.args.head) (g.R.StreamReader.held c.advance.new.self)) (sym c.take_one.ensures.shape) (first_good (g.T.Stage.is_good (g.T.Stage.shape c.records.stage) c.args.head) _ _ _ c.records.invariant.good reads.first).1;
       ready = c.in_default.ensures.ready;
+      shape = c.take_one.ensures.shape ∙ c.records.invariant.shape;
       header = reads.header ∙ c.records.invariant.header;
       taken = taken_more g.R.StreamReader.represents _ _ _ _ _ _ _ c.records.invariant.taken reads.first reads.stands;
       course = λ before course standing.

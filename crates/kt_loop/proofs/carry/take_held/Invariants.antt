@@ -10,8 +10,9 @@ use Rattle.kt_loop.proofs.carry.take_held.Given as goal
 -- what was taken so far, and where the calculation came by it
 abbrev pub invariant-records : goal.invariant-records
 invariant-records g l = record {
-  good : AllByRecursion (g.T.Stage.is_good l.head) (g.R.StreamReader.held l.reader);
+  good : AllByRecursion (g.T.Stage.is_good (g.T.Stage.shape l.stage) l.head) (g.R.StreamReader.held l.reader);
   ready : g.T.Stage.is_ready (Some l.head) l.stage l.beside;
+  shape : g.T.Stage.shape l.stage ≡ g.T.Stage.shape l.fn.stage;
   header : g.R.StreamReader.header l.reader ≡ g.R.StreamReader.header l.fn.reader;
   taken : HasTaken g.R.StreamReader.represents l.fn.reader l.reader (g.R.StreamReader.held l.fn.reader) (g.R.StreamReader.held l.reader);
   course : (before : Option (List ℕ)) (course : Course g.T.Stage.State Refusal) → Stands (λ state. g.T.Stage.is_at state l.fn.stage l.fn.beside) before (g.K.Sink.state l.fn.sink).taken l.fn.out course

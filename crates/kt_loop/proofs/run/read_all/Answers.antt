@@ -1,8 +1,9 @@
 use Rattle.std.proofs.Common.{ℕ, ◌+◌, List, [], ◌++◌, drop, Option, Err, refl, sym, ap, subst, ◌∙◌, take, length, arith}
 use Rattle.std.proofs.lemmas.Grind.{common_steps}
 use Rattle.kt_out.specs.Reading.{GivesKnown}
+use Rattle.kt_stream.specs.declared.kind.Shape.{Shape}
 use Rattle.kt_stream.specs.declared.stop.StreamStop.{StreamStop}
-use Rattle.kt_loop.specs.Reading.{RestsBy}
+use Rattle.kt_loop.specs.Reading.{AreGood, RestsBy}
 use Rattle.kt_ends.specs.Hiding.{none_failed}
 use Rattle.kt_ends.specs.Stops.{end_status, stop_status}
 use Rattle.kt_loop.specs.Outcome.{outcome}
@@ -27,6 +28,7 @@ turns-init g c = record {
       (λ contents start fresh at. c.in_default.ensures.course contents _ start fresh (standing_first (λ state. g.T.Stage.is_at state c.args.stage.now c.args.beside.now) start _ c.args.out.now c.requires.empty at));
   rests = c.in_default.ensures.rests;
   ready = c.in_default.ensures.ready;
+  shape = c.begin.ensures.shape;
   inputs = λ others. (c.in_default.ensures.counted others).of_inputs;
   reads = refl;
   faults = (c.in_default.ensures.counted no_inputs).of_sink;
@@ -101,6 +103,7 @@ turns-preserved g c =
           (λ contents start fresh at. c.in-Ok-turn.ensures.course contents _ going.fed start (going.represented contents fresh) (going.course contents start fresh at));
       rests = c.in-Ok-turn.ensures.rests;
       ready = c.in-Ok-turn.ensures.ready;
+      shape = c.turn.ensures.shape ∙ c.turns.invariant.shape;
       inputs = λ others. (c.in-Ok-turn.ensures.counted others).of_inputs ∙ c.turns.invariant.inputs others;
       reads = c.in-Ok.ensures.moved.counted ∙ c.turns.invariant.reads;
       faults = (c.in-Ok-turn.ensures.counted no_inputs).of_sink ∙ c.turns.invariant.faults;
@@ -109,12 +112,12 @@ turns-preserved g c =
 pub finish-requires-clause-stood : goal.finish-requires-clause-stood
 finish-requires-clause-stood g c =
     let fresh = c.requires.fresh in
-    record { contents = fresh.contents; fed = c.turns.invariant.going.fed; stands = c.turns.invariant.going.represented fresh.contents fresh.stands; good = c.requires.good fresh.contents [] fresh.stands }
+    record { contents = fresh.contents; fed = c.turns.invariant.going.fed; stands = c.turns.invariant.going.represented fresh.contents fresh.stands; good = subst (λ (shape : Shape). (bytes : List ℕ) → AreGood g.T.Stage.accepts (g.T.Stage.is_good shape) (fresh.contents bytes).head (fresh.contents bytes).entries) (sym c.turns.invariant.shape) (c.requires.good fresh.contents [] fresh.stands) }
 
 pub turn-requires-clause-stood : goal.turn-requires-clause-stood
 turn-requires-clause-stood g c =
     let fresh = c.requires.fresh in
-    record { contents = fresh.contents; fed = c.turns.invariant.going.fed; stands = c.turns.invariant.going.represented fresh.contents fresh.stands; good = c.requires.good fresh.contents [] fresh.stands }
+    record { contents = fresh.contents; fed = c.turns.invariant.going.fed; stands = c.turns.invariant.going.represented fresh.contents fresh.stands; good = subst (λ (shape : Shape). (bytes : List ℕ) → AreGood g.T.Stage.accepts (g.T.Stage.is_good shape) (fresh.contents bytes).head (fresh.contents bytes).entries) (sym c.turns.invariant.shape) (c.requires.good fresh.contents [] fresh.stands) }
 
 pub returns-in-Err-begin_block-clause-counted : goal.returns-in-Err-begin_block-clause-counted
 returns-in-Err-begin_block-clause-counted g c = grind (arith, common_steps)

@@ -12,7 +12,7 @@ use Rattle.kt_loop.proofs.turn.begin.Goals as goal
 pub carry_on-requires-clause-good : goal.carry_on-requires-clause-good
 carry_on-requires-clause-good g c =
     let fresh = c.requires.fresh.stands in
-    read_good g.T.Stage.accepts g.T.Stage.is_good _ [] _ _ (c.what_is_held_was_read.ensures c.requires.fresh.contents [] [] c.args.reader.now fresh) (c.requires.good c.requires.fresh.contents [] fresh [])
+    read_good g.T.Stage.accepts (g.T.Stage.is_good (g.T.Stage.shape c.args.stage.now)) _ [] _ _ (c.what_is_held_was_read.ensures c.requires.fresh.contents [] [] c.args.reader.now fresh) (c.requires.good c.requires.fresh.contents [] fresh [])
 
 pub carry_on-requires-clause-headless : goal.carry_on-requires-clause-headless
 carry_on-requires-clause-headless g c =

@@ -17,4 +17,4 @@ pub end-requires-clause-accepted : goal.end-requires-clause-accepted
 end-requires-clause-accepted g c =
     let stood = c.requires.stood in
     let read = c.what_is_held_was_read.ensures stood.contents stood.fed _ c.args.reader.now stood.stands in
-    head_good g.T.Stage.accepts g.T.Stage.is_good _ _ c.in-Some.head (stood.good stood.fed) (sym read.head ∙ sym c.in-Some.ensures)
+    head_good g.T.Stage.accepts (g.T.Stage.is_good (g.T.Stage.shape c.args.stage.now)) _ _ c.in-Some.head (stood.good stood.fed) (sym read.head ∙ sym c.in-Some.ensures)

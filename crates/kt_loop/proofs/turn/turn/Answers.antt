@@ -13,7 +13,7 @@ use Rattle.kt_loop.proofs.turn.turn.Goals as goal
 pub carry_on-requires-clause-good : goal.carry_on-requires-clause-good
 carry_on-requires-clause-good g c =
     let stood = c.requires.stood in
-    read_good g.T.Stage.accepts g.T.Stage.is_good _ _ _ _ (c.what_is_held_was_read.ensures stood.contents _ _ c.feed.new.self (c.feed.ensures stood.contents stood.fed _ stood.stands)) (stood.good _)
+    read_good g.T.Stage.accepts (g.T.Stage.is_good (g.T.Stage.shape c.args.stage.now)) _ _ _ _ (c.what_is_held_was_read.ensures stood.contents _ _ c.feed.new.self (c.feed.ensures stood.contents stood.fed _ stood.stands)) (stood.good _)
 
 pub carry_on-requires-clause-headless : goal.carry_on-requires-clause-headless
 carry_on-requires-clause-headless g c =
