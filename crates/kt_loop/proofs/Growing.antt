@@ -118,14 +118,6 @@ pub map_ok : {A B : Type 0} (result : Result A B) (P Q : A → Type 0) → ((val
 map_ok (Ok value) P Q each holds = each value holds
 map_ok (Err why) P Q each holds = tt
 
--- without a header no record is still to be read
-pub none_held : {H E : Type 0} (contents grown : Contents H E) (taken held : List (Placed E)) (header : Option H) → Grows contents grown → IsRead contents taken header held → header ≡ None → held ≡ []
-none_held {H} {E} contents grown taken held header grows read none = nothing contents.entries taken held (grows.headless (sym read.head ∙ none)) read.records
-  where
-    nothing : (entries taken held : List (Placed E)) → entries ≡ [] → entries ≡ taken ++ held → held ≡ []
-    nothing entries [] held none records = sym records ∙ none
-    nothing entries (placed ∷ taken) held none records = cc
-
 -- a header that was read before is read still
 pub header_stays : {H E : Type 0} (before now : Contents H E) (header header_now : Option H) (taken taken_now held held_now : List (Placed E)) → IsRead before taken header held → IsRead now taken_now header_now held_now → Grows before now → (known : H) → header ≡ Some known → header_now ≡ Some known
 header_stays before now header header_now taken taken_now held held_now read read_now grows known is = read_now.head ∙ grows.head known (sym read.head ∙ is)

@@ -2,11 +2,15 @@
 -- The rules: docs/STREAMS.md, "Readers".
 use Rattle.std.specs.Prelude.{◌≡◌, ◌≤◌, ◌^◌, List, [], ◌∷◌, ◌++◌, ℕ, length, Option, Some, None, Result, Ok, Err}
 use Rattle.std.specs.List.{AllByRecursion}
+use Rattle.kt_stream.specs.Reader.{Reading, IsRested, held}
+use Rattle.kt_stream.specs.Stream.{Form}
 use Rattle.kt_stream.specs.declared.entry.Placed.{Placed}
+use Rattle.kt_stream.specs.declared.kind.Head.{Head}
 use Rattle.kt_stream.specs.declared.reader.Next.{Next}
 use Rattle.kt_stream.specs.declared.reader.Next.TheVariants as next
 use Rattle.kt_stream.specs.declared.stop.StreamStop.{StreamStop}
 use Rattle.kt_loop.specs.Contents.{Contents, IsOpenEnd, IsRefused}
+use Rattle.kt_loop.specs.RecordStreams.{StandsFor}
 
 -- a reader that read these records holds what else was read
 pub record IsRead {H E : Type 0} (contents : Contents H E) (taken : List (Placed E)) (header : Option H) (held : List (Placed E)) : Type 0 where
@@ -30,32 +34,32 @@ RestsBy contents represents None fed taken new = GoesOn contents represents fed 
 RestsBy contents represents (Some stop) fed taken new = IsStopped contents represents fed taken stop new
 
 -- the first of the records that were still to be read was read
-pub record ReadsRecord {T H E : Type 0} (represents : (List ℕ → Contents H E) → List ℕ → List (Placed E) → T → Type 0) (header_of : T → Option H) (held : T → List (Placed E)) (row : T → Placed E) (old new : T) : Type 0 where
-  pub first : held old ≡ row new ∷ held new
-  pub stands : (contents : List ℕ → Contents H E) (fed : List ℕ) (taken : List (Placed E)) → represents contents fed taken old → represents contents fed (taken ++ row new ∷ []) new
-  pub header : header_of new ≡ header_of old
+pub record ReadsRecord {E : Type 0} (form : Form E) (old new : Reading E) : Type 0 where
+  pub first : held form old ≡ new.row ∷ held form new
+  pub stands : (contents : List ℕ → Contents Head E) (fed : List ℕ) (taken : List (Placed E)) → StandsFor E form contents fed taken old → StandsFor E form contents fed (taken ++ new.row ∷ []) new
+  pub header : new.head ≡ old.head
 
 -- no record was left, and this refuses the bytes, if anything does
-pub record ReadsRest {T H E : Type 0} (represents : (List ℕ → Contents H E) → List ℕ → List (Placed E) → T → Type 0) (header_of : T → Option H) (held : T → List (Placed E)) (rests_at : T → Type 0) (old new : T) (stop : Option StreamStop) : Type 0 where
-  pub none : held old ≡ []
-  pub ends : (contents : List ℕ → Contents H E) (fed : List ℕ) (taken : List (Placed E)) → represents contents fed taken old → RestsBy contents (represents contents) stop fed taken new
-  pub rests : rests_at new
-  pub header : header_of new ≡ header_of old
+pub record ReadsRest {E : Type 0} (form : Form E) (old new : Reading E) (stop : Option StreamStop) : Type 0 where
+  pub none : held form old ≡ []
+  pub ends : (contents : List ℕ → Contents Head E) (fed : List ℕ) (taken : List (Placed E)) → StandsFor E form contents fed taken old → RestsBy contents (StandsFor E form contents) stop fed taken new
+  pub rests : IsRested E form new
+  pub header : new.head ≡ old.head
 
 -- what asking for the next record comes to
-abbrev pub Advances : {T H E : Type 0} → ((List ℕ → Contents H E) → List ℕ → List (Placed E) → T → Type 0) → (T → Option H) → (T → List (Placed E)) → (T → Placed E) → (T → Type 0) → T → T → Next → Type 0
-Advances represents header held row rests old new next.Record = ReadsRecord represents header held row old new
-Advances represents header held row rests old new next.Rest = ReadsRest represents header held rests old new None
-Advances represents header held row rests old new (next.Stop stop) = ReadsRest represents header held rests old new (Some stop)
+abbrev pub Advances : {E : Type 0} → Form E → Reading E → Reading E → Next → Type 0
+Advances form old new next.Record = ReadsRecord form old new
+Advances form old new next.Rest = ReadsRest form old new None
+Advances form old new (next.Stop stop) = ReadsRest form old new (Some stop)
 
 -- the bytes that the reader was given have this first fault, if any
-abbrev pub EndsBy : {T H E : Type 0} → ((List ℕ → Contents H E) → List ℕ → List (Placed E) → T → Type 0) → T → Option StreamStop → Type 0
-EndsBy represents reader fault = (contents : List ℕ → Contents _ _) (fed : List ℕ) (taken : List (Placed _)) → represents contents fed taken reader → (contents fed).fault ≡ fault
+abbrev pub EndsBy : {E : Type 0} → Form E → Reading E → Option StreamStop → Type 0
+EndsBy {E} form reader fault = (contents : List ℕ → Contents Head E) (fed : List ℕ) (taken : List (Placed E)) → StandsFor E form contents fed taken reader → (contents fed).fault ≡ fault
 
 -- what finishing answers
-abbrev pub Finishes : {T H E : Type 0} → ((List ℕ → Contents H E) → List ℕ → List (Placed E) → T → Type 0) → T → Result (Unit {0}) StreamStop → Type 0
-Finishes represents reader (Ok done) = EndsBy represents reader None
-Finishes represents reader (Err stop) = EndsBy represents reader (Some stop)
+abbrev pub Finishes : {E : Type 0} → Form E → Reading E → Result (Unit {0}) StreamStop → Type 0
+Finishes form reader (Ok done) = EndsBy form reader None
+Finishes form reader (Err stop) = EndsBy form reader (Some stop)
 
 -- a header and records that a stage can take
 abbrev pub AreGood : {H E : Type 0} → (H → Type 0) → (H → Placed E → Type 0) → Option H → List (Placed E) → Type 0
@@ -68,11 +72,6 @@ pub record Stood {T H E : Type 0} (represents : (List ℕ → Contents H E) → 
   pub fed : List ℕ
   pub stands : represents contents fed (contents fed).entries reader
   pub good : (bytes : List ℕ) → AreGood accepts is_good (contents bytes).head (contents bytes).entries
-
--- a reader was given no bytes
-pub record IsFresh {T H E : Type 0} (represents : (List ℕ → Contents H E) → List ℕ → List (Placed E) → T → Type 0) (reader : T) : Type 0 where
-  pub contents : List ℕ → Contents H E
-  pub stands : represents contents [] [] reader
 
 -- whatever is read by a reader that stands so, a stage can take it
 abbrev pub ReadsGood : {T H E : Type 0} → ((List ℕ → Contents H E) → List ℕ → List (Placed E) → T → Type 0) → (H → Type 0) → (H → Placed E → Type 0) → List ℕ → T → Type 0

@@ -1,10 +1,10 @@
 -- What a stream of records holds, as the loop uses it.
 -- The rules: docs/STREAMS.md, "Readers".
-use Rattle.std.specs.Prelude.{◌≡◌, ℕ, List, Option}
+use Rattle.std.specs.Prelude.{◌≡◌, ℕ, List}
 use Rattle.kt_stream.specs.declared.entry.Placed.{Placed}
 use Rattle.kt_stream.specs.declared.kind.Head.{Head}
 use Rattle.kt_stream.specs.declared.kind.Shape.{Shape}
-use Rattle.kt_stream.specs.Reader.{Reading, Represents, IsRested, held}
+use Rattle.kt_stream.specs.Reader.{Reading, Represents}
 use Rattle.kt_stream.specs.Stream.{Form, stream_of, fault_of}
 use Rattle.kt_loop.specs.Contents.{Contents}
 
@@ -16,18 +16,3 @@ contents_of form shape bytes = record { head = (stream_of form shape bytes).head
 pub record StandsFor (E : Type 0) (form : Form E) (contents : List ℕ → Contents Head E) (fed : List ℕ) (taken : List (Placed E)) (reading : Reading E) : Type 0 where
   pub is : contents ≡ contents_of form reading.shape
   pub represents : Represents E form fed taken reading
-
-abbrev pub reading_header : {E : Type 0} → Reading E → Option Head
-reading_header reading = reading.head
-
-abbrev pub reading_held : {E : Type 0} → Form E → Reading E → List (Placed E)
-reading_held form reading = held form reading
-
-abbrev pub reading_row : {E : Type 0} → Reading E → Placed E
-reading_row reading = reading.row
-
-abbrev pub reading_pending : {E : Type 0} → Reading E → List ℕ
-reading_pending reading = reading.pending
-
-abbrev pub reading_rests : {E : Type 0} → Form E → Reading E → Type 0
-reading_rests form reading = IsRested _ form reading

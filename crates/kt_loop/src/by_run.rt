@@ -5,7 +5,9 @@ ghost use Rattle.std.specs.List.{AllByRecursion};
 ghost use Rattle.kt_out.specs.InputFiles.{InputsState};
 ghost use Rattle.kt_out.specs.NamedFiles.{FileMap};
 ghost use Rattle.kt_out.specs.OutputFiles.{OutputsState};
+ghost use Rattle.kt_stream.specs.Reader.{Represents};
 ghost use Rattle.kt_stream.specs.declared.entry.Placed.{Placed};
+ghost use Rattle.kt_stream.specs.declared.kind.Head.{Head};
 ghost use Rattle.kt_stream.specs.declared.kind.Shape.{Shape};
 ghost use Rattle.kt_ends.specs.Outcome.{Outcome};
 ghost use Rattle.kt_ends.specs.World.{world};
@@ -14,13 +16,13 @@ ghost use Rattle.kt_ends.specs.declared.status.Refusal.{Refusal};
 ghost use Rattle.kt_loop.specs.ByRun.{RunCalculation, OpenRun, by_run, closing, judged};
 ghost use Rattle.kt_loop.specs.Contents.{Contents};
 ghost use Rattle.kt_loop.specs.Counts.{Consults};
-ghost use Rattle.kt_loop.specs.Reading.{IsFresh, ReadsGood};
+ghost use Rattle.kt_loop.specs.Reading.{ReadsGood};
+ghost use Rattle.kt_loop.specs.RecordStreams.{StandsFor};
 ghost use Rattle.kt_loop.specs.RunSteps.{JudgesBy, ClosesBy, unwritten};
 ghost use Rattle.kt_loop.specs.Running.{EndsRun};
 ghost use Rattle.kt_loop.specs.Runs.{IsRun, bare, joins};
 ghost use Rattle.kt_loop.specs.Steps.{StepsBy};
 
-use crate::reader::StreamReader;
 use crate::run::run_stage;
 use crate::run_key::{RunRecord, goes_on_run};
 use crate::run_list::RunList;
@@ -28,7 +30,7 @@ use crate::stage::Stage;
 use kt_ends::ToolStop;
 use kt_money::Bytes;
 use kt_out::{Sink, Source};
-use kt_stream::{Placed, Reusable};
+use kt_stream::{Entry, Head, Placed, RecordReader, Reusable};
 use std::alloc::Global;
 
 /// A stage that gives, for a record behind those of its run, a refusal, and for the records of a closed run, the
@@ -232,21 +234,25 @@ impl<H: Copy, E: RunRecord + Reusable, W, C: RunStage<H, E, W>> Stage<H, E, W> f
 /// Reads a stream to its end and carries out a calculation run by run over it: writes what stands at the header, and
 /// then what each closed run gives. A record that opens a run closes the one before it, also where it is then refused;
 /// the end of the stream closes the last run only where the stream ends without a fault.
-pub fn run_by_run<R: StreamReader, W, C: RunStage<R::Head, R::Entry, W> + Drop, S: Source, K: Sink>(
+pub fn run_by_run<
+    E: Entry + RunRecord + Reusable,
+    W,
+    C: RunStage<Head, E, W> + Drop,
+    S: Source,
+    K: Sink,
+>(
     alloc: Global,
-    reader: &mut R,
+    reader: &mut RecordReader<E>,
     stage: C,
     beside: &mut W,
     source: &mut S,
     sink: &mut K,
 ) -> Result<(), ToolStop>
-where
-    R::Entry: RunRecord + Reusable,
-    requires fresh { IsFresh R.represents reader.old }
-    requires good { ReadsGood R.represents C.accepts (C.is_good (C.shape stage)) [] reader.old }
+    requires fresh { Represents E E.form [] [] reader.old }
+    requires good { ReadsGood (StandsFor E E.form) C.accepts (C.is_good (C.shape stage)) [] reader.old }
     requires ready { C.is_ready None [] stage beside.old }
 
-    ensures ended { (asks : Bool) (made : FileMap → List ℕ → Outcome) (others : InputsState) (outputs : OutputsState) (contents : List ℕ → Contents R.Head R.Entry) → R.represents contents [] [] reader.old → EndsRun (by_run R.Entry.key C.runs) contents (λ state. C.is_at state.kept stage beside.old × ([] ≡ state.run)) asks made (world (C.inputs others beside.old) outputs (S.state source.old) (K.state sink.old)) (world (C.inputs others beside.new) outputs (S.state source.new) (K.state sink.new)) (end_status result) }
+    ensures ended { (asks : Bool) (made : FileMap → List ℕ → Outcome) (others : InputsState) (outputs : OutputsState) (contents : List ℕ → Contents Head E) → StandsFor E E.form contents [] [] reader.old → EndsRun (by_run E.key C.runs) contents (λ state. C.is_at state.kept stage beside.old × ([] ≡ state.run)) asks made (world (C.inputs others beside.old) outputs (S.state source.old) (K.state sink.old)) (world (C.inputs others beside.new) outputs (S.state source.new) (K.state sink.new)) (end_status result) }
 {
     let mut by_run = ByRun {
         stage,

@@ -3,22 +3,25 @@
 ghost use Rattle.std.specs.Prelude.{◌≡◌, ℕ, true, false, List, [], ◌∷◌, ◌++◌, Option, Some, None, IfOk, OnOk};
 ghost use Rattle.std.specs.List.{AllByRecursion};
 ghost use Rattle.kt_out.specs.InputFiles.{InputsState};
+ghost use Rattle.kt_stream.specs.Reader.{IsRested, held};
 ghost use Rattle.kt_stream.specs.declared.entry.Placed.{Placed};
+ghost use Rattle.kt_stream.specs.declared.kind.Head.{Head};
 ghost use Rattle.kt_ends.specs.declared.status.Refusal.{Refusal};
 ghost use Rattle.kt_loop.specs.Calculation.{Course, opened, took, took_all};
 ghost use Rattle.kt_loop.specs.Carrying.{carried, header_if};
 ghost use Rattle.kt_loop.specs.Contents.{Contents};
 ghost use Rattle.kt_loop.specs.Counts.{Counts};
 ghost use Rattle.kt_loop.specs.Reading.{AreGood, RestsBy};
+ghost use Rattle.kt_loop.specs.RecordStreams.{StandsFor};
 ghost use Rattle.kt_loop.specs.Steps.{Stands, Comes};
 
-use crate::reader::StreamReader;
+use crate::record_reader::advance_reader;
 use crate::spill::spill;
 use crate::stage::Stage;
 use kt_ends::ToolStop;
 use kt_money::Bytes;
 use kt_out::Sink;
-use kt_stream::{Next, Placed, StreamStop};
+use kt_stream::{Entry, Head, Next, Placed, RecordReader, StreamStop};
 use std::alloc::AllocError;
 
 /// Where so many bytes are pending they are written, so that the memory is bounded whatever the stream.
@@ -71,28 +74,28 @@ fn take_one<H, E, W, T: Stage<H, E, W>, K: Sink>(
 }
 
 /// Takes all records that are still to be read, one after the other: what refuses the stream behind them, if anything does.
-fn take_held<R: StreamReader, W, T: Stage<R::Head, R::Entry, W>, K: Sink>(
-    reader: &mut R,
+fn take_held<E: Entry, W, T: Stage<Head, E, W>, K: Sink>(
+    reader: &mut RecordReader<E>,
     stage: &mut T,
     beside: &mut W,
-    head: R::Head,
+    head: Head,
     sink: &mut K,
     out: &mut Bytes,
 ) -> Result<Option<StreamStop>, ToolStop>
     requires accepted { T.accepts head }
-    requires good { AllByRecursion (T.is_good (T.shape stage.old) head) (R.held reader.old) }
+    requires good { AllByRecursion (T.is_good (T.shape stage.old) head) (held E.form reader.old) }
     requires ready { T.is_ready (Some head) stage.old beside.old }
 
-    ensures course { (before : Option (List ℕ)) (course : Course T.State Refusal) → Stands (λ state. T.is_at state stage.old beside.old) before (K.state sink.old).taken out.old course → Comes (λ state. T.is_at state stage.new beside.new) before (K.state sink.new).taken out.new (took_all T.calculation head course (R.held reader.old)) result }
-    ensures taken { IfOk result (λ stop. (contents : List ℕ → Contents R.Head R.Entry) (fed : List ℕ) (taken : List (Placed R.Entry)) → R.represents contents fed taken reader.old → RestsBy contents (R.represents contents) stop fed (taken ++ R.held reader.old) reader.new) }
-    ensures rests { OnOk result (R.rests reader.new) }
-    ensures header { OnOk result (R.header reader.new ≡ R.header reader.old) }
+    ensures course { (before : Option (List ℕ)) (course : Course T.State Refusal) → Stands (λ state. T.is_at state stage.old beside.old) before (K.state sink.old).taken out.old course → Comes (λ state. T.is_at state stage.new beside.new) before (K.state sink.new).taken out.new (took_all T.calculation head course (held E.form reader.old)) result }
+    ensures taken { IfOk result (λ stop. (contents : List ℕ → Contents Head E) (fed : List ℕ) (taken : List (Placed E)) → StandsFor E E.form contents fed taken reader.old → RestsBy contents (StandsFor E E.form contents) stop fed (taken ++ held E.form reader.old) reader.new) }
+    ensures rests { OnOk result (IsRested E E.form reader.new) }
+    ensures header { OnOk result (reader.new.head ≡ reader.old.head) }
     ensures ready { OnOk result (T.is_ready (Some head) stage.new beside.new) }
     ensures shape { T.shape stage.new ≡ T.shape stage.old }
     ensures counted { (others : InputsState) → Counts (T.inputs others beside.old) (T.inputs others beside.new) (K.state sink.old).faults (K.state sink.new).faults result }
 {
     'records: loop {
-        let next = match reader.advance() {
+        let next = match advance_reader(reader) {
             Ok(next) => next,
             Err(_) => return Err(ToolStop::NoMemory),
         };
@@ -109,14 +112,14 @@ fn take_held<R: StreamReader, W, T: Stage<R::Head, R::Entry, W>, K: Sink>(
 }
 
 /// What refuses the stream, if anything does, where no record is still to be read.
-fn stop_at_rest<R: StreamReader>(reader: &mut R) -> Result<Option<StreamStop>, AllocError>
-    requires none { R.held reader.old ≡ [] }
+fn stop_at_rest<E: Entry>(reader: &mut RecordReader<E>) -> Result<Option<StreamStop>, AllocError>
+    requires none { held E.form reader.old ≡ [] }
 
-    ensures taken { IfOk result (λ stop. (contents : List ℕ → Contents R.Head R.Entry) (fed : List ℕ) (taken : List (Placed R.Entry)) → R.represents contents fed taken reader.old → RestsBy contents (R.represents contents) stop fed taken reader.new) }
-    ensures rests { OnOk result (R.rests reader.new) }
-    ensures header { OnOk result (R.header reader.new ≡ R.header reader.old) }
+    ensures taken { IfOk result (λ stop. (contents : List ℕ → Contents Head E) (fed : List ℕ) (taken : List (Placed E)) → StandsFor E E.form contents fed taken reader.old → RestsBy contents (StandsFor E E.form contents) stop fed taken reader.new) }
+    ensures rests { OnOk result (IsRested E E.form reader.new) }
+    ensures header { OnOk result (reader.new.head ≡ reader.old.head) }
 {
-    match reader.advance()? {
+    match advance_reader(reader)? {
         Next::Record => unreachable!(),
         Next::Rest => Ok(None),
         Next::Stop(stop) => Ok(Some(stop)),
@@ -125,22 +128,21 @@ fn stop_at_rest<R: StreamReader>(reader: &mut R) -> Result<Option<StreamStop>, A
 
 /// Carries on with all that the reader reads: opens the stage where the header is there and was not before, and takes
 /// the records. Answers what refuses the stream behind them, if anything does.
-pub(crate) fn carry_on<R: StreamReader, W, T: Stage<R::Head, R::Entry, W>, K: Sink>(
+pub(crate) fn carry_on<E: Entry, W, T: Stage<Head, E, W>, K: Sink>(
     was_open: bool,
-    reader: &mut R,
+    reader: &mut RecordReader<E>,
     stage: &mut T,
     beside: &mut W,
     sink: &mut K,
     out: &mut Bytes,
 ) -> Result<Option<StreamStop>, ToolStop>
-    requires good { AreGood T.accepts (T.is_good (T.shape stage.old)) (R.header reader.old) (R.held reader.old) }
-    requires headless { R.header reader.old ≡ None → R.held reader.old ≡ [] }
-    requires ready { T.is_ready (header_if was_open (R.header reader.old)) stage.old beside.old }
+    requires good { AreGood T.accepts (T.is_good (T.shape stage.old)) reader.old.head (held E.form reader.old) }
+    requires ready { T.is_ready (header_if was_open reader.old.head) stage.old beside.old }
 
-    ensures course { (before : Option (List ℕ)) (course : Course T.State Refusal) → Stands (λ state. T.is_at state stage.old beside.old) before (K.state sink.old).taken out.old course → Comes (λ state. T.is_at state stage.new beside.new) before (K.state sink.new).taken out.new (carried T.calculation was_open (R.header reader.old) course (R.held reader.old)) result }
-    ensures taken { IfOk result (λ stop. (contents : List ℕ → Contents R.Head R.Entry) (fed : List ℕ) (taken : List (Placed R.Entry)) → R.represents contents fed taken reader.old → RestsBy contents (R.represents contents) stop fed (taken ++ R.held reader.old) reader.new) }
-    ensures rests { OnOk result (R.rests reader.new) }
-    ensures ready { OnOk result (T.is_ready (R.header reader.new) stage.new beside.new) }
+    ensures course { (before : Option (List ℕ)) (course : Course T.State Refusal) → Stands (λ state. T.is_at state stage.old beside.old) before (K.state sink.old).taken out.old course → Comes (λ state. T.is_at state stage.new beside.new) before (K.state sink.new).taken out.new (carried T.calculation was_open reader.old.head course (held E.form reader.old)) result }
+    ensures taken { IfOk result (λ stop. (contents : List ℕ → Contents Head E) (fed : List ℕ) (taken : List (Placed E)) → StandsFor E E.form contents fed taken reader.old → RestsBy contents (StandsFor E E.form contents) stop fed (taken ++ held E.form reader.old) reader.new) }
+    ensures rests { OnOk result (IsRested E E.form reader.new) }
+    ensures ready { OnOk result (T.is_ready reader.new.head stage.new beside.new) }
     ensures shape { T.shape stage.new ≡ T.shape stage.old }
     ensures counted { (others : InputsState) → Counts (T.inputs others beside.old) (T.inputs others beside.new) (K.state sink.old).faults (K.state sink.new).faults result }
 {

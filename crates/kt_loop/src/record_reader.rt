@@ -1,56 +1,49 @@
-//! The reader of records of any kind, as the loop uses it.
+//! The reader of records of any kind, in the words of the loop.
 //! The rules: docs/STREAMS.md, "Readers".
-use crate::reader::StreamReader;
-use kt_stream::{Entry, Head, Next, Placed, RecordReader, StreamStop, laws};
+ghost use Rattle.std.specs.Prelude.{◌++◌, ℕ, List, IfOk};
+ghost use Rattle.kt_stream.specs.Reader.{IsFilled, IsRested, Reading, held, piece_in};
+ghost use Rattle.kt_stream.specs.declared.entry.Placed.{Placed};
+ghost use Rattle.kt_stream.specs.declared.kind.Head.{Head};
+ghost use Rattle.kt_loop.specs.Contents.{Contents, Grows};
+ghost use Rattle.kt_loop.specs.Reading.{Advances, Finishes, IsRead};
+ghost use Rattle.kt_loop.specs.RecordStreams.{StandsFor};
+
+use kt_stream::{Entry, Next, RecordReader, StreamStop, laws};
 use std::alloc::AllocError;
 
-impl<E: Entry> StreamReader for RecordReader<E> {
-    ghost use Rattle.kt_loop.specs.RecordStreams.{StandsFor, reading_header, reading_held, reading_row, reading_pending, reading_rests};
-
-    type Head = Head;
-
-    type Entry = E;
-
-    ghost represents = { λ contents fed taken reading. StandsFor E E.form contents fed taken reading };
-
-    ghost header = { reading_header };
-
-    ghost held = { reading_held E.form };
-
-    ghost row = { reading_row };
-
-    ghost pending = { reading_pending };
-
-    ghost rests = { reading_rests E.form };
-
-    fn head(&self) -> Option<Head> {
-        RecordReader::head(self)
-    }
-
-    fn pending(&self) -> &[u8] {
-        RecordReader::pending(self)
-    }
-
-    fn feed(&mut self, block: &mut Vec<u8>, upto: usize) {
-        RecordReader::feed(self, block, upto)
-    }
-
-    fn advance(&mut self) -> Result<Next, AllocError> {
-        RecordReader::advance(self)
-    }
-
-    fn record(&self) -> &Placed<E> {
-        RecordReader::record(self)
-    }
-
-    fn finish(&self) -> Result<(), StreamStop> {
-        RecordReader::finish(self)
-    }
-
-    fn what_is_read_stays() {
-        laws::what_is_read_stays::<E>();
-        laws::no_header_means_no_records::<E>();
-    }
-
-    fn what_is_held_was_read() {}
+/// Takes the next piece of the stream: the bytes of a block up to a place, behind those that were not read yet, with
+/// which it begins. Another block is given for it.
+pub(crate) fn feed_reader<E: Entry>(reader: &mut RecordReader<E>, block: &mut Vec<u8>, upto: usize)
+    requires { IsFilled reader.old.pending block.old.items upto }
+    ensures { (contents : List ℕ → Contents Head E) (fed : List ℕ) (taken : List (Placed E)) → StandsFor E E.form contents fed taken reader.old → StandsFor E E.form contents (fed ++ piece_in reader.old.pending block.old.items upto) taken reader.new }
+{
+    reader.feed(block, upto)
 }
+
+/// Reads the next record, if one is whole.
+pub(crate) fn advance_reader<E: Entry>(reader: &mut RecordReader<E>) -> Result<Next, AllocError>
+    ensures { IfOk result (λ next. Advances E.form reader.old reader.new next) }
+{
+    reader.advance()
+}
+
+/// Says that the stream ends here: Ok exactly where the bytes are a whole stream.
+pub(crate) fn finish_reader<E: Entry>(reader: &RecordReader<E>) -> Result<(), StreamStop>
+    requires { IsRested E E.form reader.now }
+    ensures exact { Finishes E.form reader.now result }
+{
+    reader.finish()
+}
+
+/// What was read stays with more bytes behind: a theorem, as a function with an empty body.
+pub(crate) fn what_is_read_stays<E: Entry>()
+    ensures { (contents : List ℕ → Contents Head E) (fed : List ℕ) (taken : List (Placed E)) (reader : Reading E) → StandsFor E E.form contents fed taken reader → (bytes : List ℕ) (more : List ℕ) → Grows (contents bytes) (contents (bytes ++ more)) }
+{
+    laws::what_is_read_stays::<E>();
+    laws::no_header_means_no_records::<E>();
+}
+
+/// What was read and what is still to be read is what the bytes hold: a theorem, as a function with an empty body.
+pub(crate) fn what_is_held_was_read<E: Entry>()
+    ensures { (contents : List ℕ → Contents Head E) (fed : List ℕ) (taken : List (Placed E)) (reader : Reading E) → StandsFor E E.form contents fed taken reader → IsRead (contents fed) taken reader.head (held E.form reader) }
+{}

@@ -2,45 +2,47 @@
 //! The rules: docs/STREAMS.md, "Tools over streams".
 ghost use Rattle.std.specs.Prelude.{◌≡◌, ℕ, List, [], ◌++◌, Option, IfOk, OnOk};
 ghost use Rattle.kt_out.specs.InputFiles.{InputsState};
-ghost use Rattle.kt_stream.specs.Reader.{IsFilled, piece_in};
+ghost use Rattle.kt_stream.specs.Reader.{IsFilled, IsRested, Represents, piece_in};
+ghost use Rattle.kt_stream.specs.declared.kind.Head.{Head};
 ghost use Rattle.kt_ends.specs.declared.status.Refusal.{Refusal};
 ghost use Rattle.kt_loop.specs.Calculation.{course_of, started};
 ghost use Rattle.kt_loop.specs.Contents.{Contents};
 ghost use Rattle.kt_loop.specs.Counts.{Counts};
 ghost use Rattle.kt_loop.specs.Outcome.{outcome};
-ghost use Rattle.kt_loop.specs.Reading.{RestsBy, IsFresh, ReadsGood, Stood};
+ghost use Rattle.kt_loop.specs.Reading.{RestsBy, ReadsGood, Stood};
+ghost use Rattle.kt_loop.specs.RecordStreams.{StandsFor};
 ghost use Rattle.kt_loop.specs.Settling.{Settles};
 ghost use Rattle.kt_loop.specs.Steps.{Stands, Comes};
 
 use crate::carry::carry_on;
-use crate::reader::StreamReader;
+use crate::record_reader::{feed_reader, finish_reader, what_is_held_was_read, what_is_read_stays};
 use crate::stage::Stage;
 use kt_ends::{Refusal, ToolStop};
 use kt_money::Bytes;
 use kt_out::Sink;
-use kt_stream::StreamStop;
+use kt_stream::{Entry, Head, RecordReader, StreamStop};
 
 /// Begins: opens the stage where a stream has its header before its first byte.
-pub(crate) fn begin<R: StreamReader, W, T: Stage<R::Head, R::Entry, W>, K: Sink>(
-    reader: &mut R,
+pub(crate) fn begin<E: Entry, W, T: Stage<Head, E, W>, K: Sink>(
+    reader: &mut RecordReader<E>,
     stage: &mut T,
     beside: &mut W,
     sink: &mut K,
     out: &mut Bytes,
 ) -> Result<(), ToolStop>
-    requires fresh { IsFresh R.represents reader.old }
-    requires good { ReadsGood R.represents T.accepts (T.is_good (T.shape stage.old)) [] reader.old }
+    requires fresh { Represents E E.form [] [] reader.old }
+    requires good { ReadsGood (StandsFor E E.form) T.accepts (T.is_good (T.shape stage.old)) [] reader.old }
     requires ready { T.is_ready None stage.old beside.old }
 
-    ensures stands { IfOk result (λ done. (contents : List ℕ → Contents R.Head R.Entry) → R.represents contents [] [] reader.old → R.represents contents [] (contents []).entries reader.new) }
-    ensures course { (contents : List ℕ → Contents R.Head R.Entry) (before : Option (List ℕ)) (start : T.State) → R.represents contents [] [] reader.old → Stands {R = Refusal} (λ state. T.is_at state stage.old beside.old) before (K.state sink.old).taken out.old (started start) → Comes (λ state. T.is_at state stage.new beside.new) before (K.state sink.new).taken out.new (course_of T.calculation start (contents []).head (contents []).entries) result }
-    ensures rests { OnOk result (R.rests reader.new) }
-    ensures ready { OnOk result (T.is_ready (R.header reader.new) stage.new beside.new) }
+    ensures stands { IfOk result (λ done. (contents : List ℕ → Contents Head E) → StandsFor E E.form contents [] [] reader.old → StandsFor E E.form contents [] (contents []).entries reader.new) }
+    ensures course { (contents : List ℕ → Contents Head E) (before : Option (List ℕ)) (start : T.State) → StandsFor E E.form contents [] [] reader.old → Stands {R = Refusal} (λ state. T.is_at state stage.old beside.old) before (K.state sink.old).taken out.old (started start) → Comes (λ state. T.is_at state stage.new beside.new) before (K.state sink.new).taken out.new (course_of T.calculation start (contents []).head (contents []).entries) result }
+    ensures rests { OnOk result (IsRested E E.form reader.new) }
+    ensures ready { OnOk result (T.is_ready reader.new.head stage.new beside.new) }
     ensures shape { T.shape stage.new ≡ T.shape stage.old }
     ensures counted { (others : InputsState) → Counts (T.inputs others beside.old) (T.inputs others beside.new) (K.state sink.old).faults (K.state sink.new).faults result }
 {
-    R::what_is_read_stays();
-    R::what_is_held_was_read();
+    what_is_read_stays::<E>();
+    what_is_held_was_read::<E>();
     match carry_on(false, reader, stage, beside, sink, out) {
         Ok(_) => Ok(()),
         Err(why) => Err(why),
@@ -48,8 +50,8 @@ pub(crate) fn begin<R: StreamReader, W, T: Stage<R::Head, R::Entry, W>, K: Sink>
 }
 
 /// Feeds a piece of the stream, which stands in a block behind what was not read yet, and carries on with all that is whole by it: what refuses the stream, if anything does.
-pub(crate) fn turn<R: StreamReader, W, T: Stage<R::Head, R::Entry, W>, K: Sink>(
-    reader: &mut R,
+pub(crate) fn turn<E: Entry, W, T: Stage<Head, E, W>, K: Sink>(
+    reader: &mut RecordReader<E>,
     block: &mut Vec<u8>,
     upto: usize,
     stage: &mut T,
@@ -57,41 +59,41 @@ pub(crate) fn turn<R: StreamReader, W, T: Stage<R::Head, R::Entry, W>, K: Sink>(
     sink: &mut K,
     out: &mut Bytes,
 ) -> Result<Option<StreamStop>, ToolStop>
-    requires filled { IsFilled (R.pending reader.old) block.old.items upto }
-    requires stood { Stood R.represents T.accepts (T.is_good (T.shape stage.old)) reader.old }
-    requires ready { T.is_ready (R.header reader.old) stage.old beside.old }
+    requires filled { IsFilled reader.old.pending block.old.items upto }
+    requires stood { Stood (StandsFor E E.form) T.accepts (T.is_good (T.shape stage.old)) reader.old }
+    requires ready { T.is_ready reader.old.head stage.old beside.old }
 
-    ensures stands { IfOk result (λ stop. (contents : List ℕ → Contents R.Head R.Entry) (fed : List ℕ) → R.represents contents fed (contents fed).entries reader.old → RestsBy contents (R.represents contents) stop (fed ++ piece_in (R.pending reader.old) block.old.items upto) (contents (fed ++ piece_in (R.pending reader.old) block.old.items upto)).entries reader.new) }
-    ensures course { (contents : List ℕ → Contents R.Head R.Entry) (before : Option (List ℕ)) (fed : List ℕ) (start : T.State) → R.represents contents fed (contents fed).entries reader.old → Stands (λ state. T.is_at state stage.old beside.old) before (K.state sink.old).taken out.old (course_of T.calculation start (contents fed).head (contents fed).entries) → Comes (λ state. T.is_at state stage.new beside.new) before (K.state sink.new).taken out.new (course_of T.calculation start (contents (fed ++ piece_in (R.pending reader.old) block.old.items upto)).head (contents (fed ++ piece_in (R.pending reader.old) block.old.items upto)).entries) result }
-    ensures rests { OnOk result (R.rests reader.new) }
-    ensures ready { OnOk result (T.is_ready (R.header reader.new) stage.new beside.new) }
+    ensures stands { IfOk result (λ stop. (contents : List ℕ → Contents Head E) (fed : List ℕ) → StandsFor E E.form contents fed (contents fed).entries reader.old → RestsBy contents (StandsFor E E.form contents) stop (fed ++ piece_in reader.old.pending block.old.items upto) (contents (fed ++ piece_in reader.old.pending block.old.items upto)).entries reader.new) }
+    ensures course { (contents : List ℕ → Contents Head E) (before : Option (List ℕ)) (fed : List ℕ) (start : T.State) → StandsFor E E.form contents fed (contents fed).entries reader.old → Stands (λ state. T.is_at state stage.old beside.old) before (K.state sink.old).taken out.old (course_of T.calculation start (contents fed).head (contents fed).entries) → Comes (λ state. T.is_at state stage.new beside.new) before (K.state sink.new).taken out.new (course_of T.calculation start (contents (fed ++ piece_in reader.old.pending block.old.items upto)).head (contents (fed ++ piece_in reader.old.pending block.old.items upto)).entries) result }
+    ensures rests { OnOk result (IsRested E E.form reader.new) }
+    ensures ready { OnOk result (T.is_ready reader.new.head stage.new beside.new) }
     ensures shape { T.shape stage.new ≡ T.shape stage.old }
     ensures counted { (others : InputsState) → Counts (T.inputs others beside.old) (T.inputs others beside.new) (K.state sink.old).faults (K.state sink.new).faults result }
 {
-    R::what_is_read_stays();
-    R::what_is_held_was_read();
+    what_is_read_stays::<E>();
+    what_is_held_was_read::<E>();
     let was_open = reader.head().is_some();
-    reader.feed(block, upto);
+    feed_reader(reader, block, upto);
     carry_on(was_open, reader, stage, beside, sink, out)
 }
 
 /// Ends where no byte is left: refuses a stream that is cut off, or appends what is written at the end.
-pub(crate) fn finish<R: StreamReader, W, T: Stage<R::Head, R::Entry, W>, K: Sink>(
-    reader: &R,
+pub(crate) fn finish<E: Entry, W, T: Stage<Head, E, W>, K: Sink>(
+    reader: &RecordReader<E>,
     stage: &mut T,
     beside: &mut W,
     sink: &K,
     out: &mut Bytes,
 ) -> Result<(), ToolStop>
-    requires stood { Stood R.represents T.accepts (T.is_good (T.shape stage.old)) reader.now }
-    requires rests { R.rests reader.now }
-    requires ready { T.is_ready (R.header reader.now) stage.old beside.old }
+    requires stood { Stood (StandsFor E E.form) T.accepts (T.is_good (T.shape stage.old)) reader.now }
+    requires rests { IsRested E E.form reader.now }
+    requires ready { T.is_ready reader.now.head stage.old beside.old }
 
-    ensures course { (contents : List ℕ → Contents R.Head R.Entry) (before : Option (List ℕ)) (fed : List ℕ) (start : T.State) → R.represents contents fed (contents fed).entries reader.now → Stands (λ state. T.is_at state stage.old beside.old) before (K.state sink.now).taken out.old (course_of T.calculation start (contents fed).head (contents fed).entries) → Settles (outcome T.calculation start (contents fed)) before (K.state sink.now).taken out.new result }
+    ensures course { (contents : List ℕ → Contents Head E) (before : Option (List ℕ)) (fed : List ℕ) (start : T.State) → StandsFor E E.form contents fed (contents fed).entries reader.now → Stands (λ state. T.is_at state stage.old beside.old) before (K.state sink.now).taken out.old (course_of T.calculation start (contents fed).head (contents fed).entries) → Settles (outcome T.calculation start (contents fed)) before (K.state sink.now).taken out.new result }
     ensures counted { (others : InputsState) → Counts (T.inputs others beside.old) (T.inputs others beside.new) (K.state sink.now).faults (K.state sink.now).faults result }
 {
-    R::what_is_held_was_read();
-    if let Err(stop) = reader.finish() {
+    what_is_held_was_read::<E>();
+    if let Err(stop) = finish_reader(reader) {
         return Err(ToolStop::Refused(Refusal::Stream(stop)));
     }
     let Some(head) = reader.head() else {

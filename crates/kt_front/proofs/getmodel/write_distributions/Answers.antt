@@ -13,9 +13,6 @@ use Rattle.kt_front.specs.ModelOutcome.{model_outcome, model_tables}
 use Rattle.kt_front.proofs.ModelLemmas.{has_footprint}
 use Rattle.kt_front.proofs.getmodel.write_distributions.Goals as goal
 
-pub run_stage-requires-clause-fresh : goal.run_stage-requires-clause-fresh
-run_stage-requires-clause-fresh g c = record { contents = contents_of event_form c.new-reader.result.shape; stands = record { is = refl; represents = c.new-reader.ensures.value } }
-
 pub run_stage-requires-clause-good : goal.run_stage-requires-clause-good
 run_stage-requires-clause-good g c contents taken stands bytes =
     subst (λ (shape : Shape). AreGood (IsHead shape.kind) (IsPlaced EventId event_form (λ told samples entry. IsId entry.event) shape) (contents bytes).head (contents bytes).entries) c.new-reader.ensures.shape

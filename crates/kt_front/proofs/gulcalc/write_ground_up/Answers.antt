@@ -10,9 +10,6 @@ use Rattle.kt_front.specs.GulOutcome.{GulMade, cdf_contents, gul_outcome}
 use Rattle.kt_front.proofs.GulLemmas.{same_losses}
 use Rattle.kt_front.proofs.gulcalc.write_ground_up.Goals as goal
 
-pub run_by_run-requires-clause-fresh : goal.run_by_run-requires-clause-fresh
-run_by_run-requires-clause-fresh g c = record { contents = contents_of cdf_form c.new-reader.result.shape; stands = record { is = refl; represents = c.new-reader.ensures.value } }
-
 pub run_by_run-requires-clause-good : goal.run_by_run-requires-clause-good
 run_by_run-requires-clause-good g c contents taken stands bytes =
     subst (λ (shape : Shape). AreGood (IsHead shape.kind) (IsPlaced Cdf cdf_form (λ told samples cdf. IsCdf told.bins cdf) shape) (contents bytes).head (contents bytes).entries) (c.new-reader.ensures.shape ∙ ap cdf_shape c.bin_count.ensures)

@@ -1,9 +1,8 @@
 use Rattle.std.proofs.Common.{ℕ, ◌+◌, List, [], ◌++◌, drop, Option, Err, refl, sym, ap, subst, ◌∙◌, take, length, arith}
 use Rattle.std.proofs.lemmas.Grind.{common_steps}
 use Rattle.kt_out.specs.Reading.{GivesKnown}
-use Rattle.kt_stream.specs.declared.kind.Shape.{Shape}
 use Rattle.kt_stream.specs.declared.stop.StreamStop.{StreamStop}
-use Rattle.kt_loop.specs.Reading.{AreGood, RestsBy}
+use Rattle.kt_loop.specs.Reading.{RestsBy}
 use Rattle.kt_ends.specs.Hiding.{none_failed}
 use Rattle.kt_ends.specs.Stops.{end_status, stop_status}
 use Rattle.kt_loop.specs.Outcome.{outcome}
@@ -11,7 +10,9 @@ use Rattle.kt_stream.specs.Reader.{piece_in}
 use Rattle.std.proofs.lemmas.List.{length-drop}
 use Rattle.kt_loop.specs.Blocks.{block_filled, filled_block, piece_read}
 use Rattle.kt_loop.proofs.Going.{HasRead, hides_nothing, read_none, fed_of, read_more, read_all, going_first, going_more, stopped, faulted, stream_refused, ended_so, standing_first}
+use Rattle.kt_loop.proofs.RecordReading.{first_stands, stood_at}
 use Rattle.kt_loop.proofs.Stepping.{counts_behind, counts_as, counts_read, no_inputs}
+use Rattle.kt_loop.specs.RecordStreams.{StandsFor}
 use Rattle.kt_loop.proofs.run.read_all.Goals as goal
 
 pub returns-in-Err-clause-settled : goal.returns-in-Err-clause-settled
@@ -24,7 +25,7 @@ returns-in-Err-clause-counted g c others = counts_read (Unit {0}) _ _ _ _ _ _ (E
 
 pub turns-init : goal.turns-init
 turns-init g c = record {
-  going = going_first g.T.Stage.calculation g.R.StreamReader.represents (λ contents. g.R.StreamReader.represents contents [] [] c.args.reader.now) (λ state. g.T.Stage.is_at state c.args.stage.now c.args.beside.now) (λ state. g.T.Stage.is_at state c.begin.new.stage c.begin.new.beside) _ (g.S.Source.state c.args.source.now).left _ _ c.begin.new.reader c.begin.new.out c.in_default.ensures.stands
+  going = going_first g.T.Stage.calculation (StandsFor g.row.E.Denot g.E.Entry.form) (λ contents. StandsFor g.row.E.Denot g.E.Entry.form contents [] [] c.args.reader.now) (λ state. g.T.Stage.is_at state c.args.stage.now c.args.beside.now) (λ state. g.T.Stage.is_at state c.begin.new.stage c.begin.new.beside) _ (g.S.Source.state c.args.source.now).left _ _ c.begin.new.reader c.begin.new.out c.in_default.ensures.stands
       (λ contents start fresh at. c.in_default.ensures.course contents _ start fresh (standing_first (λ state. g.T.Stage.is_at state c.args.stage.now c.args.beside.now) start _ c.args.out.now c.requires.empty at));
   rests = c.in_default.ensures.rests;
   ready = c.in_default.ensures.ready;
@@ -56,9 +57,9 @@ returns-in-Err-turn-clause-settled g c contents start fresh at =
     let items = take c.begin_block.new.block.len (c.read_behind.new.block ++ drop (length c.read_behind.new.block) c.begin_block.new.block.items) in
     let same = filled_block c.begin_block.new.block.items c.read_behind.new.block c.begin_block.new.block.len c.begin_block.new.block.ok.0 (c.read_behind.auto.block ∙ ap length c.as_mut_slice.ensures.value) in
     let kept = length c.pending-kept.result.now in
-    let pending = g.R.StreamReader.pending c.turns.reader in
+    let pending = c.turns.reader.pending in
     let piece = piece_in pending items (kept + c.in-Ok.read) in
-    let piece-is = piece_read pending items c.read_behind.new.block kept c.in-Ok.read (ap length c.pending-kept.ensures) same in
+    let piece-is = piece_read pending items c.read_behind.new.block kept c.in-Ok.read (ap length c.pending-kept.ensures.value) same in
     let read = read_more _ _ _ going.fed _ (drop kept c.read_behind.new.block) piece c.in-Ok.read going.read c.in-Ok.ensures.moved.moved piece-is in
     stopped g.T.Stage.calculation contents (c.what_is_read_stays.ensures contents [] [] c.args.reader.now fresh) start _ _ (Option StreamStop) (Unit {0}) (λ state. g.T.Stage.is_at state c.turn.new.stage c.turn.new.beside) _ c.turn.new.out _ c.in-Err-turn.why (fed_of _ _ _ read)
     (c.in-Err-turn.ensures.course contents _ going.fed start (going.represented contents fresh) (going.course contents start fresh at))
@@ -75,11 +76,11 @@ returns-in-Some-clause-settled g c contents start fresh at =
     let items = take c.begin_block.new.block.len (c.read_behind.new.block ++ drop (length c.read_behind.new.block) c.begin_block.new.block.items) in
     let same = filled_block c.begin_block.new.block.items c.read_behind.new.block c.begin_block.new.block.len c.begin_block.new.block.ok.0 (c.read_behind.auto.block ∙ ap length c.as_mut_slice.ensures.value) in
     let kept = length c.pending-kept.result.now in
-    let pending = g.R.StreamReader.pending c.turns.reader in
+    let pending = c.turns.reader.pending in
     let piece = piece_in pending items (kept + c.in-Ok.read) in
-    let piece-is = piece_read pending items c.read_behind.new.block kept c.in-Ok.read (ap length c.pending-kept.ensures) same in
+    let piece-is = piece_read pending items c.read_behind.new.block kept c.in-Ok.read (ap length c.pending-kept.ensures.value) same in
     let read = read_more _ _ _ going.fed _ (drop kept c.read_behind.new.block) piece c.in-Ok.read going.read c.in-Ok.ensures.moved.moved piece-is in
-    let stops = subst (λ (stop : Option StreamStop). RestsBy contents (g.R.StreamReader.represents contents) stop (going.fed ++ piece) (contents (going.fed ++ piece)).entries c.turn.new.reader) c.in-Some.is (c.in-Ok-turn.ensures.stands contents going.fed (going.represented contents fresh)) in
+    let stops = subst (λ (stop : Option StreamStop). RestsBy contents (StandsFor g.row.E.Denot g.E.Entry.form contents) stop (going.fed ++ piece) (contents (going.fed ++ piece)).entries c.turn.new.reader) c.in-Some.is (c.in-Ok-turn.ensures.stands contents going.fed (going.represented contents fresh)) in
     stream_refused g.T.Stage.calculation contents (c.what_is_read_stays.ensures contents [] [] c.args.reader.now fresh) start _ _ (λ state. g.T.Stage.is_at state c.turn.new.stage c.turn.new.beside) _ c.turn.new.out _ c.in-Some.stop (fed_of _ _ _ read) stops.refused
     (c.in-Ok-turn.ensures.course contents _ going.fed start (going.represented contents fresh) (going.course contents start fresh at))
 
@@ -93,13 +94,13 @@ turns-preserved g c =
     let items = take c.begin_block.new.block.len (c.read_behind.new.block ++ drop (length c.read_behind.new.block) c.begin_block.new.block.items) in
     let same = filled_block c.begin_block.new.block.items c.read_behind.new.block c.begin_block.new.block.len c.begin_block.new.block.ok.0 (c.read_behind.auto.block ∙ ap length c.as_mut_slice.ensures.value) in
     let kept = length c.pending-kept.result.now in
-    let pending = g.R.StreamReader.pending c.turns.reader in
+    let pending = c.turns.reader.pending in
     let piece = piece_in pending items (kept + c.in-Ok.read) in
-    let piece-is = piece_read pending items c.read_behind.new.block kept c.in-Ok.read (ap length c.pending-kept.ensures) same in
+    let piece-is = piece_read pending items c.read_behind.new.block kept c.in-Ok.read (ap length c.pending-kept.ensures.value) same in
     record {
-      going = going_more g.T.Stage.calculation g.R.StreamReader.represents (λ contents. g.R.StreamReader.represents contents [] [] c.args.reader.now) (λ state. g.T.Stage.is_at state c.args.stage.now c.args.beside.now) (λ state. g.T.Stage.is_at state c.turns.stage c.turns.beside) _ _ _ _ c.turns.reader c.turns.out (λ state. g.T.Stage.is_at state c.turn.new.stage c.turn.new.beside) _ _ c.turn.new.reader c.turn.new.out _ _ (drop kept c.read_behind.new.block)
+      going = going_more g.T.Stage.calculation (StandsFor g.row.E.Denot g.E.Entry.form) (λ contents. StandsFor g.row.E.Denot g.E.Entry.form contents [] [] c.args.reader.now) (λ state. g.T.Stage.is_at state c.args.stage.now c.args.beside.now) (λ state. g.T.Stage.is_at state c.turns.stage c.turns.beside) _ _ _ _ c.turns.reader c.turns.out (λ state. g.T.Stage.is_at state c.turn.new.stage c.turn.new.beside) _ _ c.turn.new.reader c.turn.new.out _ _ (drop kept c.read_behind.new.block)
           piece c.in-Ok.read going c.in-Ok.ensures.moved.moved piece-is (omega (arith, c.if-read-eq0.false)) (omega (arith, length-drop kept c.read_behind.new.block, c.in-Ok.ensures.within, c.read_behind.auto.block))
-          (λ contents fresh. subst (λ (stop : Option StreamStop). RestsBy contents (g.R.StreamReader.represents contents) stop (going.fed ++ piece) (contents (going.fed ++ piece)).entries c.turn.new.reader) c.in_default-stop.is (c.in-Ok-turn.ensures.stands contents going.fed (going.represented contents fresh))) c.requires.fresh.contents c.requires.fresh.stands
+          (λ contents fresh. subst (λ (stop : Option StreamStop). RestsBy contents (StandsFor g.row.E.Denot g.E.Entry.form contents) stop (going.fed ++ piece) (contents (going.fed ++ piece)).entries c.turn.new.reader) c.in_default-stop.is (c.in-Ok-turn.ensures.stands contents going.fed (going.represented contents fresh))) _ (first_stands g.E.Entry.form c.args.reader.now c.requires.fresh)
           (λ contents start fresh at. c.in-Ok-turn.ensures.course contents _ going.fed start (going.represented contents fresh) (going.course contents start fresh at));
       rests = c.in-Ok-turn.ensures.rests;
       ready = c.in-Ok-turn.ensures.ready;
@@ -110,14 +111,10 @@ turns-preserved g c =
     }
 
 pub finish-requires-clause-stood : goal.finish-requires-clause-stood
-finish-requires-clause-stood g c =
-    let fresh = c.requires.fresh in
-    record { contents = fresh.contents; fed = c.turns.invariant.going.fed; stands = c.turns.invariant.going.represented fresh.contents fresh.stands; good = subst (λ (shape : Shape). (bytes : List ℕ) → AreGood g.T.Stage.accepts (g.T.Stage.is_good shape) (fresh.contents bytes).head (fresh.contents bytes).entries) (sym c.turns.invariant.shape) (c.requires.good fresh.contents [] fresh.stands) }
+finish-requires-clause-stood g c = stood_at g.E.Entry.form c.args.reader.now c.turns.reader g.T.Stage.accepts g.T.Stage.is_good _ _ c.turns.invariant.going.fed c.requires.fresh c.turns.invariant.going.represented c.requires.good c.turns.invariant.shape
 
 pub turn-requires-clause-stood : goal.turn-requires-clause-stood
-turn-requires-clause-stood g c =
-    let fresh = c.requires.fresh in
-    record { contents = fresh.contents; fed = c.turns.invariant.going.fed; stands = c.turns.invariant.going.represented fresh.contents fresh.stands; good = subst (λ (shape : Shape). (bytes : List ℕ) → AreGood g.T.Stage.accepts (g.T.Stage.is_good shape) (fresh.contents bytes).head (fresh.contents bytes).entries) (sym c.turns.invariant.shape) (c.requires.good fresh.contents [] fresh.stands) }
+turn-requires-clause-stood g c = stood_at g.E.Entry.form c.args.reader.now c.turns.reader g.T.Stage.accepts g.T.Stage.is_good _ _ c.turns.invariant.going.fed c.requires.fresh c.turns.invariant.going.represented c.requires.good c.turns.invariant.shape
 
 pub returns-in-Err-begin_block-clause-counted : goal.returns-in-Err-begin_block-clause-counted
 returns-in-Err-begin_block-clause-counted g c = grind (arith, common_steps)
@@ -151,5 +148,5 @@ returns-in-Err-turn-clause-hides_none g c contents start fresh at =
 pub turn-requires-clause-filled : goal.turn-requires-clause-filled
 turn-requires-clause-filled g c =
     let same = filled_block c.begin_block.new.block.items c.read_behind.new.block c.begin_block.new.block.len c.begin_block.new.block.ok.0 (c.read_behind.auto.block ∙ ap length c.as_mut_slice.ensures.value) in
-    block_filled _ _ c.read_behind.new.block c.as_mut_slice.result.now c.pending.result.now _ c.in-Ok.read c.pending.ensures (ap length (c.pending-kept.ensures ∙ sym c.pending.ensures)) same c.in-Ok.ensures.front
+    block_filled _ _ c.read_behind.new.block c.as_mut_slice.result.now c.pending.result.now _ c.in-Ok.read c.pending.ensures.value (ap length (c.pending-kept.ensures.value ∙ sym c.pending.ensures.value)) same c.in-Ok.ensures.front
     (ap (take (length c.pending.result.now)) c.as_mut_slice.ensures.value ∙ c.in_default-begin_block.ensures.front) c.in-Ok.ensures.within c.read_behind.auto.block

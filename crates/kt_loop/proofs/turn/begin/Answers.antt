@@ -4,26 +4,23 @@ use Rattle.kt_stream.specs.declared.stop.StreamStop.{StreamStop}
 use Rattle.kt_ends.specs.declared.status.Refusal.{Refusal}
 use Rattle.kt_loop.specs.Calculation.{Course}
 use Rattle.kt_loop.specs.Steps.{Stands, Comes}
-use Rattle.kt_loop.proofs.Growing.{begun, rest_stands, none_held, read_good}
+use Rattle.kt_loop.proofs.Growing.{begun, rest_stands, read_good}
+use Rattle.kt_loop.proofs.RecordReading.{first_stands}
 use Rattle.kt_loop.proofs.Settling.{stopped_as}
 use Rattle.kt_loop.proofs.Stepping.{counts_as}
+use Rattle.kt_loop.specs.RecordStreams.{StandsFor, contents_of}
 use Rattle.kt_loop.proofs.turn.begin.Goals as goal
 
 pub carry_on-requires-clause-good : goal.carry_on-requires-clause-good
 carry_on-requires-clause-good g c =
-    let fresh = c.requires.fresh.stands in
-    read_good g.T.Stage.accepts (g.T.Stage.is_good (g.T.Stage.shape c.args.stage.now)) _ [] _ _ (c.what_is_held_was_read.ensures c.requires.fresh.contents [] [] c.args.reader.now fresh) (c.requires.good c.requires.fresh.contents [] fresh [])
-
-pub carry_on-requires-clause-headless : goal.carry_on-requires-clause-headless
-carry_on-requires-clause-headless g c =
-    let fresh = c.requires.fresh.stands in
-    none_held _ _ [] _ _ (c.what_is_read_stays.ensures c.requires.fresh.contents [] [] c.args.reader.now fresh [] []) (c.what_is_held_was_read.ensures c.requires.fresh.contents [] [] c.args.reader.now fresh)
+    let fresh = first_stands g.E.Entry.form c.args.reader.now c.requires.fresh in
+    read_good g.T.Stage.accepts (g.T.Stage.is_good (g.T.Stage.shape c.args.stage.now)) _ [] _ _ (c.what_is_held_was_read.ensures (contents_of g.E.Entry.form c.args.reader.now.shape) [] [] c.args.reader.now fresh) (c.requires.good (contents_of g.E.Entry.form c.args.reader.now.shape) [] fresh [])
 
 pub returns-in-Ok-clause-stands : goal.returns-in-Ok-clause-stands
 returns-in-Ok-clause-stands g c contents fresh =
     let read = c.what_is_held_was_read.ensures contents [] [] c.args.reader.now fresh in
-    subst (λ (entries : List (Placed g.row.R-Entry.Denot)). g.R.StreamReader.represents contents [] entries c.carry_on.new.reader) (sym read.records)
-    (rest_stands contents (g.R.StreamReader.represents contents) c.in-Ok.field-0 [] _ c.carry_on.new.reader (c.in-Ok.ensures.taken contents [] [] fresh))
+    subst (λ (entries : List (Placed g.row.E.Denot)). StandsFor g.row.E.Denot g.E.Entry.form contents [] entries c.carry_on.new.reader) (sym read.records)
+    (rest_stands contents (StandsFor g.row.E.Denot g.E.Entry.form contents) c.in-Ok.field-0 [] _ c.carry_on.new.reader (c.in-Ok.ensures.taken contents [] [] fresh))
 
 pub returns-in-Ok-clause-course : goal.returns-in-Ok-clause-course
 returns-in-Ok-clause-course g c contents before start fresh standing =

@@ -9,9 +9,6 @@ use Rattle.kt_periods.specs.EventLossTable.{elt_heading_part, elt_record_rows, e
 use Rattle.kt_loop.specs.RecordStreams.{contents_of}
 use Rattle.kt_periods.proofs.event_losses.write_event_losses.Goals as goal
 
-pub run_stage-requires-clause-fresh : goal.run_stage-requires-clause-fresh
-run_stage-requires-clause-fresh g c = record { contents = contents_of summary_form c.new-reader.result.shape; stands = record { is = refl; represents = c.new-reader.ensures.value } }
-
 pub run_stage-requires-clause-good : goal.run_stage-requires-clause-good
 run_stage-requires-clause-good g c contents taken stands bytes =
     subst (λ (shape : Shape). AreGood (IsHead shape.kind) (IsPlaced SummaryRecord summary_form (λ told samples entry. IsSummary samples entry) shape) (contents bytes).head (contents bytes).entries) c.new-reader.ensures.shape
