@@ -1,6 +1,6 @@
 //! The summaries of a run whose records come one by one, as they stand in a stream.
 //! The rules: docs/CALCULATION.md, "Summaries"; docs/STREAMS.md, "Records".
-ghost use Rattle.std.specs.Prelude.{◌≡◌, ℕ, true, not, ◌+◌, ◌<◌, ◌≤◌, ◌∷◌, [], ◌++◌, nat_eq, List, length, map, All, slice_index, IfOk, OnOk};
+ghost use Rattle.std.specs.Prelude.{◌≡◌, ℕ, true, not, ◌+◌, ◌<◌, ◌≤◌, ◌∷◌, [], ◌++◌, nat_eq, List, length, map, All, slice_index, IfOk, OnErr, OnOk};
 ghost use Rattle.std.specs.List.{flat_map, list_any};
 ghost use Rattle.kt_rec.specs.Rising.{IsRising};
 ghost use Rattle.kt_rec.specs.declared.perspective.Perspective.{Perspective};
@@ -126,13 +126,14 @@ impl<'a> RunSummaries<'a> {
     }
 
     /// Appends the records of the summaries of a run of an event, as `summarise` makes them, and makes it ready for the first
-    /// record of the next run. An error is want of memory.
+    /// record of the next run. An error is want of memory, and nothing is appended then.
     pub fn put(&mut self, samples: u32, event: u32, out: &mut Bytes) -> Result<(), AllocError>
         requires samples { samples ≤ 1000 }
         requires ready { IsReady samples self.old }
         ensures ready { OnOk result (IsReady samples self.new) }
         ensures text { OnOk result ((portfolio : PortfolioRows) (perspective : Perspective) (set : ℕ) (records : List LossRecord) → HoldsRun portfolio perspective set samples records self.old → event ≡ event_of records → out.new ≡ out.old ++ flat_map summary_bytes (run_summaries perspective portfolio.rows portfolio.need.rule set records)) }
         ensures holds { OnOk result ((portfolio : PortfolioRows) (perspective : Perspective) (set : ℕ) → AreOf portfolio perspective set self.old → HoldsRun portfolio perspective set samples [] self.new) }
+        ensures unchanged { OnErr result (out.new ≡ out.old) }
     {
         let mut room = vec![in self.alloc; 0; PAIR * (samples as usize + 3) + PAIR]?;
         put_rows(

@@ -1,6 +1,6 @@
 //! The sums of a summary, sidx by sidx.
 //! The rules: docs/CALCULATION.md, "Summaries"; docs/STREAMS.md, "Records".
-ghost use Rattle.std.specs.Prelude.{◌≡◌, ℕ, All, true, false, ◌+◌, ◌*◌, ◌<◌, ◌≤◌, ◌^◌, ◌∷◌, [], ◌++◌, List, length, slice_index, OnOk};
+ghost use Rattle.std.specs.Prelude.{◌≡◌, ℕ, All, true, false, ◌+◌, ◌*◌, ◌<◌, ◌≤◌, ◌^◌, ◌∷◌, [], ◌++◌, List, length, slice_index, OnErr, OnOk};
 ghost use Rattle.std.specs.List.{filter_map, flat_map};
 ghost use Rattle.kt_stream.specs.Pairs.{pairs_bytes};
 ghost use Rattle.kt_stream.specs.Summary.{summary_bytes};
@@ -58,7 +58,8 @@ fn summary_front(event: u32, summary: u32, exposure: u64) -> [u8; 16]
     front
 }
 
-/// Appends the record of the sums, where one is above 0; the room takes its pairs first. An error is want of memory.
+/// Appends the record of the sums, where one is above 0; the room takes its pairs first. An error is want of memory, and nothing
+/// is appended then.
 pub(crate) fn put_sums(
     portfolio: &Portfolio,
     perspective: Perspective,
@@ -72,6 +73,7 @@ pub(crate) fn put_sums(
     requires within { 2147483646 + length row.now.sums.items ≤ 2 ^ 32 }
     requires room { 12 * length row.now.sums.items + 12 ≤ length room.old }
     ensures ok { OnOk result (out.new ≡ out.old ++ flat_map summary_bytes (filter_map (record_of event (exposure_of perspective portfolio.now.rows portfolio.now.need.rule set)) (row.now ∷ []))) }
+    ensures unchanged { OnErr result (out.new ≡ out.old) }
     ensures room { length room.new ≡ length room.old }
 {
     if !row.is_used {
@@ -82,8 +84,12 @@ pub(crate) fn put_sums(
         return Ok(());
     }
     let exposure = portfolio.exposure(perspective, set, row.summary);
+    let whole = out.len();
     out.append(&summary_front(event, row.summary, exposure))?;
-    out.append(&room[..used])?;
+    if let Err(stop) = out.append(&room[..used]) {
+        out.truncate(whole);
+        return Err(stop);
+    }
     Ok(())
 }
 
@@ -112,9 +118,14 @@ pub(crate) fn put_rows(
     requires within { All (λ row. 2147483646 + length row.sums.items ≤ 2 ^ 32) rows.now }
     requires room { All (λ row. 12 * length row.sums.items + 12 ≤ length room.old) rows.now }
     ensures ok { OnOk result (out.new ≡ out.old ++ flat_map summary_bytes (filter_map (record_of event (exposure_of perspective portfolio.now.rows portfolio.now.need.rule set)) rows.now)) }
+    ensures unchanged { OnErr result (out.new ≡ out.old) }
 {
+    let whole = out.len();
     for row in rows {
-        put_sums(portfolio, perspective, set, event, row, room, out)?;
+        if let Err(stop) = put_sums(portfolio, perspective, set, event, row, room, out) {
+            out.truncate(whole);
+            return Err(stop);
+        }
     }
     Ok(())
 }

@@ -16,15 +16,15 @@ loop-row-preserved c =
     let item = c.row-item.result in
     record {
       text =
-          c.in_ok-put_sums.ensures.ok
+          c.in_default.ensures.ok
           ∙ (ap (λ (out : List ℕ). out ++ flat_map summary_bytes (cons_option (f item) [])) c.loop-row.invariant.text
           ∙ (append_assoc c.args.out.now (flat_map summary_bytes (filter_map f (take i rows))) (flat_map summary_bytes (cons_option (f item) []))
           ∙ (ap (λ (row : SummarySums). c.args.out.now ++ (flat_map summary_bytes (filter_map f (take i rows)) ++ flat_map summary_bytes (cons_option (f row) []))) c.row-item.is
           ∙ ap (λ (text : List ℕ). c.args.out.now ++ text) (sym (text_more f rows i item c.loop-row-test.true)))));
-      room = c.in_ok-put_sums.ensures.room ∙ c.loop-row.invariant.room;
+      room = c.put_sums.ensures.room ∙ c.loop-row.invariant.room;
     }
 
-pub returns : goal.returns
-returns c =
+pub returns-clause-ok : goal.returns-clause-ok
+returns-clause-ok c =
     let f = record_of c.args.event (exposure_of c.args.perspective c.args.portfolio.now.rows c.args.portfolio.now.need.rule c.args.set) in
-    record { ok = c.loop-row.invariant.text ∙ ap (λ (rows : List SummarySums). c.args.out.now ++ flat_map summary_bytes (filter_map f rows)) (take_all c.loop-row.row-index c.args.rows.now c.loop-row-test.false) }
+    c.loop-row.invariant.text ∙ ap (λ (rows : List SummarySums). c.args.out.now ++ flat_map summary_bytes (filter_map f rows)) (take_all c.loop-row.row-index c.args.rows.now c.loop-row-test.false)

@@ -25,7 +25,7 @@ returns-clause-ok c =
     let bytes = subst (λ (sums : List ℕ). AreBytesOf (pairs_upto 2147483646 sums (length sums)) c.write_pairs-used.result c.write_pairs-used.new.room) c.deref.ensures.value c.write_pairs-used.ensures.value in
     let some : 0 < c.write_pairs-used.result = omega (arith, c.if-used-eq0.false) in
     let text = take c.write_pairs-used.result c.write_pairs-used.new.room in
-    c.in_ok-append-2.ensures.ok
+    c.in_default.ensures.ok
     ∙ (ap (λ (out : List ℕ). out ++ text) c.in_ok-append.ensures.ok
     ∙ (append_assoc c.args.out.now c.summary_front.result text
     ∙ ap (λ (text : List ℕ). c.args.out.now ++ text)

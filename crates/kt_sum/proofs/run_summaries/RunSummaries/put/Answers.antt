@@ -45,4 +45,5 @@ returns c =
         totals = subst (AreRunSums samples []) (sym totals_are) c.clear_run.ensures.value;
         rows = subst (λ (rows : List SummarySums). All (IsSumOf samples (summary_in perspective portfolio.rows set) []) rows) (sym rows_are) (cleared_zeros samples rows now ready.rows long cleared);
       };
+      unchanged = tt;
     }
