@@ -14,7 +14,7 @@ use Rattle.kt_rec.specs.Rising.{rising, rising-all}
 use Rattle.kt_sum.specs.Summaries.{end_place, found_summaries, least_place, members, places, record_with, sidx_range, summaries_by, summary_of_run}
 use Rattle.kt_runs.specs.RunLosses.{event_of}
 use Rattle.kt_runs.specs.Sidx.{pair_of, pairs_of, sidx_at}
-use Rattle.kt_sum.proofs.GroupLemmas.{members_within}
+use Rattle.kt_sum.proofs.WideLemmas.{members_within}
 use Rattle.kt_runs.specs.LossLaws.{record_sidx}
 use Rattle.kt_runs.specs.SidxLaws.{sidx_rises}
 

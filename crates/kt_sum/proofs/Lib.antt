@@ -1,11 +1,6 @@
-pub mod PairLemmas
-pub mod RisingLemmas
-pub mod GroupLemmas
 pub mod SpanLemmas
 pub mod WideLemmas
 pub mod GoodLemmas
-pub mod MapLemmas
-pub mod RunLemmas
 pub mod OneRunLemmas
 pub mod SumsLemmas
 pub mod RunSumsLemmas

@@ -1,30 +1,30 @@
 -- The sums of a run in each summary of a set: their records are the summaries of the run, and how they are added to.
-use Rattle.std.proofs.Common.{◌≡◌, ◌⊎◌, ◌≢◌, inl, inr, ℕ, suc, ◌+◌, ◌^◌, ◌<◌, ◌≤◌, Bool, true, false, cond, nat_eq, ℤ, List, [], ◌∷◌, ◌++◌, Option, None, Some, length, map, slice_index, slice_index_or, slice_set, refl, sym, ap, subst, arith, ◌∙◌, append-nil}
+use Rattle.std.proofs.Common.{◌≡◌, ◌⊎◌, ◌≢◌, inl, inr, ℕ, zero, suc, ◌+◌, ◌^◌, ◌<◌, ◌≤◌, Bool, true, false, cond, nat_eq, ℤ, List, [], ◌∷◌, ◌++◌, Option, None, Some, length, map, take, slice_index, slice_index_or, slice_set, refl, sym, ap, subst, arith, ◌∙◌, append-nil}
 use Rattle.std.specs.Prelude.{◌&&◌, ◌||◌, All}
 use Rattle.std.specs.Cmp.{nat_eq_equiv}
 use Rattle.std.specs.List.{AllByRecursion, cons_option, filter, filter_map, list_any}
 use Rattle.std.proofs.lemmas.Bool.{cases_eq, cases_lt, eqb-true, true≢false}
-use Rattle.std.proofs.lemmas.List.{get_or-map, get_or-set_same, get_or-set_other, get_or_default, length-map, length-set}
+use Rattle.std.proofs.lemmas.List.{get_or-map, take_more, get_or-set_same, get_or-set_other, get_or_default, length-map, length-set}
 use Rattle.std.proofs.lemmas.List.Elements.{All-set, filter-append, recursion_from_All}
-use Rattle.std.proofs.lemmas.List.Sums.{sum_by_push}
+use Rattle.std.proofs.lemmas.List.Sums.{sum_by_push, sum_by-take-le}
 use Rattle.std.proofs.lemmas.Map.Keys.{apart_from_distinct}
 use Rattle.kt_fmtree.specs.RisingLaws.{rising-filter}
 use Rattle.kt_rec.specs.Rising.{IsRising, distinct-from_rising, rising, rising-member, rising-rises, rising-unique}
 use Rattle.kt_runs.specs.Adding.{Holds, IsAdded}
 use Rattle.kt_runs.specs.RunLosses.{AreWithin, event_of, loss_of, run_loss}
 use Rattle.kt_runs.specs.Sidx.{pair_of, pairs_of, sidx_at}
-use Rattle.kt_stream.specs.Losses.{IsLoss}
 use Rattle.kt_stream.specs.declared.entry.LossRecord.{LossRecord}
+use Rattle.kt_stream.specs.declared.entry.Pair.{Pair}
 use Rattle.kt_rec.specs.declared.perspective.Perspective.{Perspective}
 use Rattle.kt_tables.specs.Lookups.{exposure_of}
 use Rattle.kt_tables.specs.Portfolio.{PortfolioRows}
-use Rattle.kt_sum.specs.Adding.{pairs_upto}
-use Rattle.kt_sum.specs.RunSummaries.{AreCleared, IsReadyRow, IsSumOf, record_of}
+use Rattle.kt_tables.specs.SetRows.{AreFound, SetRows, summary_at}
+use Rattle.kt_stream.specs.Losses.{IsLoss}
+use Rattle.kt_sum.specs.Adding.{IsSpan, pairs_upto}
+use Rattle.kt_sum.specs.RunSummaries.{AreCleared, IsReadyRow, IsSumOf, IsThere, record_of}
 use Rattle.kt_sum.specs.Summaries.{found_summaries, is_summary, members, record_with, sidx_range, summaries_by, summary_of_run}
 use Rattle.kt_sum.specs.declared.summary_sums.SummarySums.{SummarySums}
-use Rattle.kt_sum.proofs.GroupLemmas.{members_within, shifted}
-use Rattle.kt_sum.proofs.SpanLemmas.{stream_places}
-use Rattle.kt_sum.proofs.WideLemmas.{span_pairs}
+use Rattle.kt_sum.proofs.WideLemmas.{members_within, shifted, span_pairs}
 
 -- ---- ids that pass a test
 
@@ -77,41 +77,73 @@ no_losses : (range : List ℤ) → pairs_of (λ sidx. run_loss sidx []) range �
 no_losses [] = refl
 no_losses (sidx ∷ range) = no_losses range
 
--- the summaries of records are among those that ids have
-all_found : (find : ℕ → Option ℕ) (samples : ℕ) (summaries : List ℕ) → ((id summary : ℕ) → id < 2 ^ 32 → find id ≡ Some summary → list_any (nat_eq summary) summaries ≡ true) → (records : List LossRecord) → AllByRecursion (IsLoss samples) records → (summary : ℕ) → list_any (nat_eq summary) (found_summaries find records) ≡ true → list_any (nat_eq summary) summaries ≡ true
-all_found find samples summaries there [] good summary found = absurd (true≢false (sym found))
-all_found find samples summaries there (entry ∷ records) good summary found = by (find entry.id) refl found (all_found find samples summaries there records good.1 summary)
+-- the summaries of records are among those that have each
+all_found : (find : ℕ → Option ℕ) (summaries : List ℕ) (records : List LossRecord) → AllByRecursion (λ entry. IsThere summaries (find entry.id)) records → (summary : ℕ) → list_any (nat_eq summary) (found_summaries find records) ≡ true → list_any (nat_eq summary) summaries ≡ true
+all_found find summaries [] there summary found = absurd (true≢false (sym found))
+all_found find summaries (entry ∷ records) there summary found = by (find entry.id) there.0 found (all_found find summaries records there.1 summary)
   where
-    by : (other : Option ℕ) → find entry.id ≡ other → list_any (nat_eq summary) (cons_option other (found_summaries find records)) ≡ true → (list_any (nat_eq summary) (found_summaries find records) ≡ true → list_any (nat_eq summary) summaries ≡ true) → list_any (nat_eq summary) summaries ≡ true
+    by : (other : Option ℕ) → IsThere summaries other → list_any (nat_eq summary) (cons_option other (found_summaries find records)) ≡ true → (list_any (nat_eq summary) (found_summaries find records) ≡ true → list_any (nat_eq summary) summaries ≡ true) → list_any (nat_eq summary) summaries ≡ true
     by None is found later = later found
     by (Some other) is found later = here (nat_eq summary other) refl found
       where
         here : (b : Bool) → nat_eq summary other ≡ b → (b || list_any (nat_eq summary) (found_summaries find records)) ≡ true → list_any (nat_eq summary) summaries ≡ true
-        here true same found = let most = good.0.id.1 in there entry.id summary (omega arith) (is ∙ ap Some (sym (eqb-true summary other same)))
+        here true same found = is summary (ap Some (sym (eqb-true summary other same)))
         here false same found = later found
 
-module _ (find : ℕ → Option ℕ) (exposure : ℕ → ℕ) (samples : ℕ) (records : List LossRecord) (few : samples ≤ 1000) (good : All (IsLoss samples) records) where
+-- a summary that was found is among those found
+pub among : (found : List (Option ℕ)) (k summary : ℕ) (d : Option ℕ) → k < length found → slice_index_or found k d ≡ Some summary → list_any (nat_eq summary) (filter_map (λ one. one) found) ≡ true
+among [] k summary d below is = absurd (omega arith)
+among (one ∷ found) zero summary d below is = ap (λ one. list_any (nat_eq summary) (cons_option one (filter_map (λ one. one) found))) is ∙ ap (λ b. b || list_any (nat_eq summary) (filter_map (λ one. one) found)) (nat_eq_equiv.refl summary)
+among (one ∷ found) (suc k) summary d below is = behind one (among found k summary d (omega arith) is)
+  where
+    or : (b : Bool) → (b || true) ≡ true
+    or true = refl
+    or false = refl
+
+    behind : (one : Option ℕ) → list_any (nat_eq summary) (filter_map (λ one. one) found) ≡ true → list_any (nat_eq summary) (cons_option one (filter_map (λ one. one) found)) ≡ true
+    behind None rest = rest
+    behind (Some other) rest = ap (λ b. nat_eq summary other || b) rest ∙ or (nat_eq summary other)
+
+-- what was found for a record
+pub found_at : (find : ℕ → Option ℕ) (found : List (Option ℕ)) (records : List LossRecord) (i : ℕ) (d : Option ℕ) (entry : LossRecord) → found ≡ map (λ entry. find entry.id) records → i < length records → entry ≡ slice_index_or records i entry → find entry.id ≡ slice_index_or found i d
+found_at find found records i d entry found_is below is =
+    ap (λ (entry : LossRecord). find entry.id) is ∙ (sym (get_or-map (λ (entry : LossRecord). find entry.id) records i entry d below) ∙ ap (λ (found : List (Option ℕ)). slice_index_or found i d) (sym found_is))
+
+-- the summaries of records are among those that have each that was found
+pub found_there : (find : ℕ → Option ℕ) (summaries : List ℕ) (found : List (Option ℕ)) (records : List LossRecord) → found ≡ map (λ entry. find entry.id) records → All (IsThere summaries) found → All (λ entry. IsThere summaries (find entry.id)) records
+found_there find summaries found records found_is there k d below =
+    subst (IsThere summaries) (get_or-map (λ (entry : LossRecord). find entry.id) records k d None below)
+    (subst (λ (found : List (Option ℕ)). All (IsThere summaries) found) found_is there k None (omega (arith, below, length-map records (λ (entry : LossRecord). find entry.id))))
+
+-- the summaries of the records of a stream are among those of its ids
+pub all_there : (find : ℕ → Option ℕ) (samples : ℕ) (summaries : List ℕ) (found : SetRows) (records : List LossRecord) → AreFound find found → ((id : ℕ) → IsThere summaries (summary_at found id)) → All (IsLoss samples) records → All (λ entry. IsThere summaries (find entry.id)) records
+all_there find samples summaries found records are there good k d below =
+    let id = (slice_index_or records k d).id in
+    let most = (good k d below).id.1 in
+    subst (IsThere summaries) (are id (omega arith)) (there id)
+
+module _ (find : ℕ → Option ℕ) (exposure : ℕ → ℕ) (records : List LossRecord) (least width : ℕ) (span : IsSpan records least width) where
   -- the losses of the members of a summary at a sidx
   abbrev loss_in : ℕ → ℤ → ℕ
   loss_in summary sidx = run_loss sidx (members find records summary)
 
   -- the record of sums is that of their summary
-  row_record : (event : ℕ) → event ≡ event_of records → (row : SummarySums) → IsSumOf samples find records row → record_of event exposure row ≡ summary_of_run find exposure records row.summary
+  row_record : (event : ℕ) → event ≡ event_of records → (row : SummarySums) → IsSumOf least width find records row → record_of event exposure least row ≡ summary_of_run find exposure records row.summary
   row_record event event_is row is =
-      ap (λ event. record_of event exposure row) event_is
+      ap (λ event. record_of event exposure least row) event_is
       ∙ ap (record_with (event_of records) row.summary (exposure row.summary))
-      (ap (λ n. pairs_upto 2147483646 row.sums.items n) is.width_is
-      ∙ (shifted (λ k. pair_of (sidx_at (2147483646 + k)) (slice_index row.sums.items k)) (λ sidx. pair_of sidx (loss_in row.summary sidx)) 0 2147483646 (samples + 3) same
-      ∙ span_pairs records (loss_in row.summary) (λ sidx. members_within sidx find records row.summary) 2147483646 (samples + 3) (stream_places samples records few good)))
+      (ap (λ n. pairs_upto least row.sums.items n) is.width_is
+      ∙ (shifted (λ k. pair_of (sidx_at (least + k)) (slice_index row.sums.items k)) (λ sidx. pair_of sidx (loss_in row.summary sidx)) 0 least width same
+      ∙ span_pairs records (loss_in row.summary) (λ sidx. members_within sidx find records row.summary) least width span))
     where
-      same : (k : ℕ) → k < samples + 3 → pair_of (sidx_at (2147483646 + (0 + k))) (slice_index row.sums.items (0 + k)) ≡ pair_of (sidx_at (2147483646 + k)) (loss_in row.summary (sidx_at (2147483646 + k)))
-      same k below = let plain : 0 + k ≡ k = omega arith in ap (λ k. pair_of (sidx_at (2147483646 + k)) (slice_index row.sums.items k)) plain ∙ ap (pair_of (sidx_at (2147483646 + k))) (is.each k below)
+      same : (k : ℕ) → k < width → pair_of (sidx_at (least + (0 + k))) (slice_index row.sums.items (0 + k)) ≡ pair_of (sidx_at (least + k)) (loss_in row.summary (sidx_at (least + k)))
+      same k below = let plain : 0 + k ≡ k = omega arith in ap (λ k. pair_of (sidx_at (least + k)) (slice_index row.sums.items k)) plain ∙ ap (pair_of (sidx_at (least + k))) (is.each k below)
 
   -- so are those of all
-  rows_records : (event : ℕ) → event ≡ event_of records → (rows : List SummarySums) → AllByRecursion (IsSumOf samples find records) rows → filter_map (record_of event exposure) rows ≡ filter_map (summary_of_run find exposure records) (map (λ row. row.summary) rows)
+  rows_records : (event : ℕ) → event ≡ event_of records → (rows : List SummarySums) → AllByRecursion (IsSumOf least width find records) rows → filter_map (record_of event exposure least) rows ≡ filter_map (summary_of_run find exposure records) (map (λ row. row.summary) rows)
   rows_records event event_is [] are = refl
   rows_records event event_is (row ∷ rows) are =
-      ap (λ found. cons_option found (filter_map (record_of event exposure) rows)) (row_record event event_is row are.0)
+      ap (λ found. cons_option found (filter_map (record_of event exposure least) rows)) (row_record event event_is row are.0)
       ∙ ap (cons_option (summary_of_run find exposure records row.summary)) (rows_records event event_is rows are.1)
 
   -- a summary to which no record comes has no record
@@ -124,10 +156,10 @@ module _ (find : ℕ → Option ℕ) (exposure : ℕ → ℕ) (samples : ℕ) (r
   abbrev test : ℕ → Bool
   test summary = list_any (nat_eq summary) (found_summaries find records)
 
-  -- the records of sums for all summaries that ids have are the summaries of the run
-  pub run_records : (event : ℕ) → event ≡ event_of records → (summaries : List ℕ) → IsRising summaries → ((id summary : ℕ) → id < 2 ^ 32 → find id ≡ Some summary → list_any (nat_eq summary) summaries ≡ true) → (rows : List SummarySums) → map (λ row. row.summary) rows ≡ summaries → All (IsSumOf samples find records) rows → filter_map (record_of event exposure) rows ≡ summaries_by find exposure records
+  -- the records of sums for summaries that have all to which records come are the summaries of the run
+  pub run_records : (event : ℕ) → event ≡ event_of records → (summaries : List ℕ) → IsRising summaries → All (λ entry. IsThere summaries (find entry.id)) records → (rows : List SummarySums) → map (λ row. row.summary) rows ≡ summaries → All (IsSumOf least width find records) rows → filter_map (record_of event exposure least) rows ≡ summaries_by find exposure records
   run_records event event_is summaries rises there rows rows_are are =
-      rows_records event event_is rows (recursion_from_All (IsSumOf samples find records) rows are)
+      rows_records event event_is rows (recursion_from_All (IsSumOf least width find records) rows are)
       ∙ (ap (filter_map (summary_of_run find exposure records)) rows_are
       ∙ (restricted (summary_of_run find exposure records) test summaries none_made
       ∙ ap (filter_map (summary_of_run find exposure records)) (rising-unique (filter test summaries) (rising (found_summaries find records)) (rising-filter test summaries rises) (rising-rises (found_summaries find records)) same)))
@@ -136,7 +168,7 @@ module _ (find : ℕ → Option ℕ) (exposure : ℕ → ℕ) (samples : ℕ) (r
       same id = passing test summaries id ∙ (by (test id) refl ∙ sym (rising-member (found_summaries find records) id))
         where
           by : (b : Bool) → test id ≡ b → (b && list_any (nat_eq id) summaries) ≡ test id
-          by true is = all_found find samples summaries there records (recursion_from_All (IsLoss samples) records good) id is ∙ sym is
+          by true is = all_found find summaries records (recursion_from_All (λ (entry : LossRecord). IsThere summaries (find entry.id)) records there) id is ∙ sym is
           by false is = sym is
 
 -- the exposures of the summaries of a set
@@ -167,15 +199,15 @@ same_summaries (row ∷ before) (other ∷ now) long same =
     let first : other.summary ≡ row.summary = same 0 row (omega arith) in
     ap (λ n. n ∷ map (λ row. row.summary) now) first ∙ ap (λ ids. row.summary ∷ ids) (same_summaries before now (omega (arith, long)) (λ k d below. same (suc k) d (omega arith)))
 
-module _ (samples : ℕ) (before now : List SummarySums) (ready : All (IsReadyRow samples) before) (long : length now ≡ length before) (cleared : AreCleared (length before) before now) where
+module _ (width : ℕ) (before now : List SummarySums) (ready : All (IsReadyRow width) before) (long : length now ≡ length before) (cleared : AreCleared (length before) before now) where
   -- they are 0
-  pub cleared_zeros : All (λ row. Holds (samples + 3) (λ k. 0) row.sums.items) now
+  pub cleared_zeros : All (λ row. Holds width (λ k. 0) row.sums.items) now
   cleared_zeros k d below =
       let inside : k < length before = omega (arith, below, long) in
       subst (λ width. Holds width (λ k. 0) (slice_index_or now k d).sums.items) (ready k d inside).width_is (cleared k d inside).zeros
 
   -- and ready
-  pub cleared_ready : All (IsReadyRow samples) now
+  pub cleared_ready : All (IsReadyRow width) now
   cleared_ready k d below = let zeros = cleared_zeros k d below in record { width_is = zeros.width_is; idle = λ unused. record { width_is = refl; each = λ k inside. zeros.each k (omega (arith, inside, zeros.width_is)) } }
 
   -- for the same summaries
@@ -184,61 +216,72 @@ module _ (samples : ℕ) (before now : List SummarySums) (ready : All (IsReadyRo
 
 -- ---- a record more
 
-module _ (find : ℕ → Option ℕ) (samples : ℕ) (records : List LossRecord) (entry : LossRecord) where
+-- some of the first records keep the limit of all
+pub taken_within : (records : List LossRecord) (i : ℕ) (d : LossRecord) → i < length records → AreWithin records → AreWithin (take i records ++ slice_index_or records i d ∷ [])
+taken_within records i d below within sidx = omega (arith, ap (run_loss sidx) (take_more records i d below), sum_by-take-le (λ (entry : LossRecord). loss_of sidx entry.pairs) records (i + 1), within sidx)
+
+module _ (find : ℕ → Option ℕ) (least width : ℕ) (records : List LossRecord) (entry : LossRecord) where
   -- the members of a summary with it
   members_more : (summary : ℕ) (b : Bool) → is_summary summary (find entry.id) ≡ b → members find (records ++ entry ∷ []) summary ≡ members find records summary ++ cond b (entry ∷ []) []
   members_more summary b is = filter-append (λ (entry : LossRecord). is_summary summary (find entry.id)) records (entry ∷ []) ∙ ap (λ b. members find records summary ++ cond b (entry ∷ []) []) is
 
   -- sums of another summary are as they were
-  other_sum : (row : SummarySums) → is_summary row.summary (find entry.id) ≡ false → IsSumOf samples find records row → IsSumOf samples find (records ++ entry ∷ []) row
-  other_sum row other are = subst (λ group. Holds (samples + 3) (λ k. run_loss (sidx_at (2147483646 + k)) group) row.sums.items) (sym (members_more row.summary false other ∙ append-nil (members find records row.summary))) are
+  other_sum : (row : SummarySums) → is_summary row.summary (find entry.id) ≡ false → IsSumOf least width find records row → IsSumOf least width find (records ++ entry ∷ []) row
+  other_sum row other are = subst (λ group. Holds width (λ k. run_loss (sidx_at (least + k)) group) row.sums.items) (sym (members_more row.summary false other ∙ append-nil (members find records row.summary))) are
 
   -- where it comes to no summary all are
-  pub none_added : find entry.id ≡ None → (rows : List SummarySums) → All (IsSumOf samples find records) rows → All (IsSumOf samples find (records ++ entry ∷ [])) rows
+  pub none_added : find entry.id ≡ None → (rows : List SummarySums) → All (IsSumOf least width find records) rows → All (IsSumOf least width find (records ++ entry ∷ [])) rows
   none_added none rows are k d below = other_sum (slice_index_or rows k d) (ap (is_summary (slice_index_or rows k d).summary) none) (are k d below)
 
-  module _ (within : AreWithin (records ++ entry ∷ [])) (row now : SummarySums) (summary_is : find entry.id ≡ Some row.summary) (are : IsSumOf samples find records row) (same : now.summary ≡ row.summary) where
+  module _ (within : AreWithin (records ++ entry ∷ [])) (rows : List SummarySums) (place : ℕ) (d now : SummarySums) (inside : place < length rows) (summary_is : find entry.id ≡ Some (slice_index_or rows place d).summary) (all : All (IsSumOf least width find records) rows) (same : now.summary ≡ (slice_index_or rows place d).summary) where
+    -- the sums that are added to
+    abbrev row : SummarySums
+    row = slice_index_or rows place d
+
     -- the losses of the members with it
     own_more : (sidx : ℤ) → run_loss sidx (members find (records ++ entry ∷ []) row.summary) ≡ run_loss sidx (members find records row.summary) + loss_of sidx entry.pairs
     own_more sidx = ap (run_loss sidx) (members_more row.summary true (ap (is_summary row.summary) summary_is ∙ nat_eq_equiv.refl row.summary)) ∙ sum_by_push (λ (entry : LossRecord). loss_of sidx entry.pairs) (members find records row.summary) entry
 
     -- they fit
-    pub own_fits : (k : ℕ) → k < length row.sums.items → slice_index row.sums.items k + loss_of (sidx_at (2147483646 + k)) entry.pairs < 2 ^ 64
+    own_fits : (k : ℕ) → k < length row.sums.items → slice_index row.sums.items k + loss_of (sidx_at (least + k)) entry.pairs < 2 ^ 64
     own_fits k below =
-        let sidx = sidx_at (2147483646 + k) in
-        omega (arith, are.each k (omega (arith, below, are.width_is)), own_more sidx, members_within sidx find (records ++ entry ∷ []) row.summary, within sidx)
+        let sidx = sidx_at (least + k) in
+        let own = all place d inside in
+        omega (arith, own.each k (omega (arith, below, own.width_is)), own_more sidx, members_within sidx find (records ++ entry ∷ []) row.summary, within sidx)
 
     -- the sums of its summary are those with it
-    own_sum : IsAdded 2147483646 row.sums.items entry.pairs now.sums.items → IsSumOf samples find (records ++ entry ∷ []) now
-    own_sum added = subst (λ summary. Holds (samples + 3) (λ k. run_loss (sidx_at (2147483646 + k)) (members find (records ++ entry ∷ []) summary)) now.sums.items) (sym same) (record {
-      width_is = added.width_is ∙ are.width_is;
-      each = λ k below. added.each k (omega (arith, below, are.width_is)) ∙ (ap (λ n. n + loss_of (sidx_at (2147483646 + k)) entry.pairs) (are.each k below) ∙ sym (own_more (sidx_at (2147483646 + k))));
-    })
+    own_sum : IsAdded least row.sums.items entry.pairs now.sums.items → IsSumOf least width find (records ++ entry ∷ []) now
+    own_sum added =
+        let own = all place d inside in
+        subst (λ summary. Holds width (λ k. run_loss (sidx_at (least + k)) (members find (records ++ entry ∷ []) summary)) now.sums.items) (sym same) (record {
+          width_is = added.width_is ∙ own.width_is;
+          each = λ k below. added.each k (omega (arith, below, own.width_is)) ∙ (ap (λ n. n + loss_of (sidx_at (least + k)) entry.pairs) (own.each k below) ∙ sym (own_more (sidx_at (least + k))));
+        })
 
     -- and so are all
-    pub some_added : (rows : List SummarySums) (place : ℕ) → place < length rows → row ≡ slice_index_or rows place row → IsRising (map (λ row. row.summary) rows) → All (IsSumOf samples find records) rows → IsAdded 2147483646 row.sums.items entry.pairs now.sums.items → All (IsSumOf samples find (records ++ entry ∷ [])) (slice_set rows place now)
-    some_added rows place inside row_is rises all added k d below = by (cases_eq k place)
+    pub some_added : IsRising (map (λ row. row.summary) rows) → (pairs : List Pair) → pairs ≡ entry.pairs → (((k : ℕ) → k < length row.sums.items → slice_index row.sums.items k + loss_of (sidx_at (least + k)) pairs < 2 ^ 64) → IsAdded least row.sums.items pairs now.sums.items) → All (IsSumOf least width find (records ++ entry ∷ [])) (slice_set rows place now)
+    some_added rises pairs pairs_are adds k e below = by (cases_eq k place)
       where
-        by : (k ≡ place) ⊎ (k ≢ place) → IsSumOf samples find (records ++ entry ∷ []) (slice_index_or (slice_set rows place now) k d)
-        by (inl is) = subst (λ n. IsSumOf samples find (records ++ entry ∷ []) (slice_index_or (slice_set rows place now) n d)) (sym is) (subst (IsSumOf samples find (records ++ entry ∷ [])) (sym (get_or-set_same rows place now d inside)) (own_sum added))
+        added : IsAdded least row.sums.items entry.pairs now.sums.items
+        added = subst (λ (pairs : List Pair). ((k : ℕ) → k < length row.sums.items → slice_index row.sums.items k + loss_of (sidx_at (least + k)) pairs < 2 ^ 64) → IsAdded least row.sums.items pairs now.sums.items) pairs_are adds own_fits
+
+        by : (k ≡ place) ⊎ (k ≢ place) → IsSumOf least width find (records ++ entry ∷ []) (slice_index_or (slice_set rows place now) k e)
+        by (inl is) = subst (λ n. IsSumOf least width find (records ++ entry ∷ []) (slice_index_or (slice_set rows place now) n e)) (sym is) (subst (IsSumOf least width find (records ++ entry ∷ [])) (sym (get_or-set_same rows place now e inside)) (own_sum added))
         by (inr apart) =
             let there : k < length rows = omega (arith, below, length-set rows place now) in
-            let other : nat_eq row.summary (slice_index_or rows k d).summary ≡ false = ap (λ (row : SummarySums). nat_eq row.summary (slice_index_or rows k d).summary) row_is ∙ apart_rows rows rises place k row d inside there apart in
-            subst (IsSumOf samples find (records ++ entry ∷ [])) (sym (get_or-set_other rows place k now d apart)) (other_sum (slice_index_or rows k d) (ap (is_summary (slice_index_or rows k d).summary) summary_is ∙ other) (all k d there))
+            subst (IsSumOf least width find (records ++ entry ∷ [])) (sym (get_or-set_other rows place k now e apart)) (other_sum (slice_index_or rows k e) (ap (is_summary (slice_index_or rows k e).summary) summary_is ∙ apart_rows rows rises place k d e inside there apart) (all k e there))
 
--- sums that are added to are ready
-pub ready_more : (samples : ℕ) (rows : List SummarySums) (place : ℕ) (row now : SummarySums) → place < length rows → row ≡ slice_index_or rows place row → now.is_used ≡ true → length now.sums.items ≡ length row.sums.items → All (IsReadyRow samples) rows → All (IsReadyRow samples) (slice_set rows place now)
-ready_more samples rows place row now inside row_is used long ready =
-    All-set (IsReadyRow samples) rows place now
-    (record { width_is = long ∙ (ap (λ (row : SummarySums). length row.sums.items) row_is ∙ (ready place row inside).width_is); idle = λ unused. absurd (true≢false (sym used ∙ unused)) })
-    ready
+module _ (rows : List SummarySums) (place : ℕ) (d now : SummarySums) (inside : place < length rows) where
+  -- sums that are added to are ready
+  pub ready_more : (width : ℕ) → now.is_used ≡ true → length now.sums.items ≡ length (slice_index_or rows place d).sums.items → All (IsReadyRow width) rows → All (IsReadyRow width) (slice_set rows place now)
+  ready_more width used long ready = All-set (IsReadyRow width) rows place now (record { width_is = long ∙ (ready place d inside).width_is; idle = λ unused. absurd (true≢false (sym used ∙ unused)) }) ready
 
--- for the same summaries
-pub summaries_more : (rows : List SummarySums) (place : ℕ) (row now : SummarySums) → place < length rows → row ≡ slice_index_or rows place row → now.summary ≡ row.summary → map (λ row. row.summary) (slice_set rows place now) ≡ map (λ row. row.summary) rows
-summaries_more rows place row now inside row_is same = same_summaries rows (slice_set rows place now) (length-set rows place now) (λ k d below. by k d (cases_eq k place))
-  where
-    by : (k : ℕ) (d : SummarySums) → (k ≡ place) ⊎ (k ≢ place) → (slice_index_or (slice_set rows place now) k d).summary ≡ (slice_index_or rows k d).summary
-    by k d (inl is) =
-        ap (λ n. (slice_index_or (slice_set rows place now) n d).summary) is
-        ∙ (ap (λ (row : SummarySums). row.summary) (get_or-set_same rows place now d inside) ∙ (same ∙ (ap (λ (row : SummarySums). row.summary) (row_is ∙ get_or_default rows place row d inside) ∙ ap (λ n. (slice_index_or rows n d).summary) (sym is))))
-    by k d (inr apart) = ap (λ (row : SummarySums). row.summary) (get_or-set_other rows place k now d apart)
+  -- for the same summaries
+  pub summaries_more : now.summary ≡ (slice_index_or rows place d).summary → map (λ row. row.summary) (slice_set rows place now) ≡ map (λ row. row.summary) rows
+  summaries_more same = same_summaries rows (slice_set rows place now) (length-set rows place now) (λ k e below. by k e (cases_eq k place))
+    where
+      by : (k : ℕ) (e : SummarySums) → (k ≡ place) ⊎ (k ≢ place) → (slice_index_or (slice_set rows place now) k e).summary ≡ (slice_index_or rows k e).summary
+      by k e (inl is) =
+          ap (λ n. (slice_index_or (slice_set rows place now) n e).summary) is
+          ∙ (ap (λ (row : SummarySums). row.summary) (get_or-set_same rows place now e inside) ∙ (same ∙ (ap (λ (row : SummarySums). row.summary) (get_or_default rows place d e inside) ∙ ap (λ n. (slice_index_or rows n e).summary) (sym is))))
+      by k e (inr apart) = ap (λ (row : SummarySums). row.summary) (get_or-set_other rows place k now e apart)

@@ -1,7 +1,7 @@
 -- The pairs of losses are the same from any least place to any greatest, where no other place has a loss.
 use Rattle.std.proofs.Common.{◌≡◌, ℕ, zero, suc, ◌+◌, ◌-◌, ◌<◌, ◌≤◌, Bool, true, false, cond, ℤ, List, [], ◌∷◌, ◌++◌, Option, None, Some, map, refl, sym, ap, subst, arith, ◌∙◌, append-nil}
 use Rattle.std.specs.Prelude.{All}
-use Rattle.std.specs.List.{AllByRecursion, cons_option, range_with_len}
+use Rattle.std.specs.List.{AllByRecursion, cons_option, filter, filter_map, range_with_len}
 use Rattle.std.specs.Ordering.{int_eq}
 use Rattle.std.proofs.lemmas.Bool.Decides.{Decides-int_eq}
 use Rattle.std.proofs.lemmas.List.Elements.{recursion_from_All}
@@ -13,10 +13,18 @@ use Rattle.kt_runs.specs.RunLosses.{loss_of, run_loss}
 use Rattle.kt_runs.specs.Sidx.{pair_of, pairs_of, place_of, sidx_at}
 use Rattle.kt_runs.specs.SidxLaws.{place_back}
 use Rattle.kt_sum.specs.Adding.{IsSpan}
-use Rattle.kt_sum.specs.Summaries.{end_place, least_place, places, sidx_range}
+use Rattle.kt_sum.specs.Summaries.{end_place, is_summary, least_place, members, places, sidx_range}
 use Rattle.kt_sum.proofs.SpanLemmas.{span_inside}
 
 -- ---- the pairs of places side by side
+
+-- what is made place by place, by their numbers and by their sidx
+pub shifted : {A : Type 0} (f : ℕ → Option A) (g : ℤ → Option A) (a b n : ℕ) → ((k : ℕ) → k < n → f (a + k) ≡ g (sidx_at (b + k))) → filter_map f (range_with_len a n) ≡ filter_map g (map sidx_at (range_with_len b n))
+shifted f g a b zero same = refl
+shifted f g a b (suc n) same =
+    let first : f a ≡ g (sidx_at b) = ap f (omega arith) ∙ (same 0 (omega arith) ∙ ap (λ n. g (sidx_at n)) (omega arith)) in
+    let rest = shifted f g (a + 1) (b + 1) n (λ k below. ap f (omega arith) ∙ (same (k + 1) (omega arith) ∙ ap (λ n. g (sidx_at n)) (omega arith))) in
+    ap (λ x. cons_option x (filter_map f (range_with_len (a + 1) n))) first ∙ ap (λ xs. cons_option (g (sidx_at b)) xs) rest
 
 module _ (loss : ℤ → ℕ) where
   -- the pairs of so many places from one on
@@ -54,6 +62,18 @@ module _ (loss : ℤ → ℕ) where
       ∙ append-nil (from b w)))))
 
 -- ---- where a run has losses
+
+-- losses of some records are no more than those of all
+pub members_within : (sidx : ℤ) (find : ℕ → Option ℕ) (records : List LossRecord) (summary : ℕ) → run_loss sidx (members find records summary) ≤ run_loss sidx records
+members_within sidx find records summary = along (λ entry. is_summary summary (find entry.id)) records
+  where
+    along : (test : LossRecord → Bool) (records : List LossRecord) → run_loss sidx (filter test records) ≤ run_loss sidx records
+    along test [] = omega arith
+    along test (entry ∷ records) = by (test entry) (along test records)
+      where
+        by : (b : Bool) → run_loss sidx (filter test records) ≤ run_loss sidx records → run_loss sidx (cond b (entry ∷ filter test records) (filter test records)) ≤ run_loss sidx (entry ∷ records)
+        by true rest = omega (arith, rest, sum_by-cons (λ (entry : LossRecord). loss_of sidx entry.pairs) entry records, sum_by-cons (λ (entry : LossRecord). loss_of sidx entry.pairs) entry (filter test records))
+        by false rest = omega (arith, rest, sum_by-cons (λ (entry : LossRecord). loss_of sidx entry.pairs) entry records)
 
 -- pairs have no loss at a place that none of theirs is
 loss_outside : (least width p : ℕ) → (IsInside least width p → ⊥) → (pairs : List Pair) → AllByRecursion (λ pair. IsInside least width (place_of pair.sidx)) pairs → loss_of (sidx_at p) pairs ≡ 0

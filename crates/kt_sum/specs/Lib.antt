@@ -1,5 +1,4 @@
 pub mod Summaries
 pub mod Adding
-pub mod Mapping
 pub mod RunSummaries
 pub mod Examples

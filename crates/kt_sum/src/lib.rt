@@ -1,9 +1,8 @@
 //! Summaries: what the losses of a run come to in each summary of a set.
 #![tactic(auto)]
 
-mod group;
 pub mod laws;
-mod mapped;
+mod rows;
 mod run;
 mod run_summaries;
 mod set_run;

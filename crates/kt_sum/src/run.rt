@@ -1,113 +1,104 @@
 //! The summaries of a run.
 //! The rule: docs/CALCULATION.md, "Summaries".
-ghost use Rattle.std.specs.Prelude.{◌≡◌, ℕ, ◌∷◌, [], ◌++◌, length, map, All, IfOk, OnOk};
+ghost use Rattle.std.specs.Prelude.{◌≡◌, ℕ, ◌+◌, ◌≤◌, ◌^◌, length, map, All, Option, IfOk};
 ghost use Rattle.std.specs.List.{filter_map};
-ghost use Rattle.std.specs.List.Sorted.{IsNonDecreasingBy};
+ghost use Rattle.kt_rec.specs.Rising.{IsRising};
 ghost use Rattle.kt_stream.specs.Losses.{IsLoss};
 ghost use Rattle.kt_stream.specs.Summary.{IsSummary};
-ghost use Rattle.kt_tables.specs.Lookups.{exposure_of, summary_in};
-ghost use Rattle.kt_runs.specs.RunLosses.{AreWithin};
-ghost use Rattle.kt_sum.specs.Summaries.{members, summary_of_run, run_summaries};
+ghost use Rattle.kt_tables.specs.SetRows.{AreFound};
 ghost use Rattle.kt_runs.specs.Adding.{Holds};
+ghost use Rattle.kt_runs.specs.RunLosses.{AreWithin};
 ghost use Rattle.kt_sum.specs.Adding.{IsSpan};
-ghost use Rattle.kt_sum.specs.Mapping.{AreAllMapped, AreNamed, record_at};
+ghost use Rattle.kt_sum.specs.RunSummaries.{IsReadyRow, IsSumOf, IsThere, records_of};
+ghost use Rattle.kt_sum.specs.Summaries.{run_summaries};
 
-use crate::group::{group_end, group_pairs};
-use crate::mapped::{Mapped, mapped_in_order};
+use crate::rows::add_entry;
 use crate::set_run::SetRun;
-use crate::span::span_of;
-use crate::sums::NO_PAIR;
+use crate::span::{Span, span_of};
+use crate::summary_sums::{SummarySums, no_sums, record_of};
+use kt_index::keep_once;
 use kt_rec::Perspective;
-use kt_runs::{RunEntry, event_of, zeros};
-use kt_stream::{LossRecord, Pair, Records, SummaryRecord};
-use kt_tables::Portfolio;
+use kt_runs::event_of;
+use kt_stream::{LossRecord, Records, SummaryRecord};
+use kt_tables::{Portfolio, SetSummaries};
 use std::alloc::{AllocError, Global};
 
-/// Appends the record of a summary, to which the records of a group come, where there are pairs. The sums are 0 before and
-/// afterwards.
-fn push_summary<T: RunEntry>(
+/// The summaries that a set has for the ids of records, record by record.
+fn found_of(
     alloc: Global,
-    run: &SetRun<'_, T>,
-    summary: u32,
-    group: &[Mapped],
-    least: u64,
-    sums: &mut [u64],
-    room: &mut [Pair],
-    made: &mut Vec<SummaryRecord>,
-) -> Result<(), AllocError>
-    requires members { map (record_at (map T.entry_of run.now.records.now)) group.now ≡ members (summary_in run.now.perspective run.now.portfolio.now.rows run.now.set) (map T.entry_of run.now.records.now) summary }
-    requires named { AreNamed (map T.entry_of run.now.records.now) group.now }
-    requires losses { AreWithin (map T.entry_of run.now.records.now) }
-    requires span { IsSpan (map T.entry_of run.now.records.now) least (length sums.old) }
-    requires zeros { Holds (length sums.old) (λ k. 0) sums.old }
-    requires room { length room.old ≡ length sums.old }
-    ensures ok { OnOk result (made.new.items ≡ made.old.items ++ filter_map (summary_of_run (summary_in run.now.perspective run.now.portfolio.now.rows run.now.set) (exposure_of run.now.perspective run.now.portfolio.now.rows run.now.portfolio.now.need.rule run.now.set) (map T.entry_of run.now.records.now)) (summary ∷ [])) }
-    ensures zeros { Holds (length sums.old) (λ k. 0) sums.new }
-    ensures room { length room.new ≡ length room.old }
+    summaries: &SetSummaries,
+    records: &[LossRecord],
+) -> Result<Vec<Option<u32>>, AllocError>
+    ensures value { IfOk result (λ found. (find : ℕ → Option ℕ) → AreFound find summaries.now → found.items ≡ map (λ entry. find entry.id) records.now) }
 {
-    let pairs = group_pairs(alloc, sums, least, room, run.records, group)?;
-    if !pairs.as_slice().is_empty() {
-        made.push(SummaryRecord {
-            event: event_of(run.records),
-            summary,
-            exposure: run.portfolio.exposure(run.perspective, run.set, summary),
-            pairs,
-        })?;
+    let mut found = Vec::with_capacity(alloc, records.len())?;
+    for entry in records {
+        found.push(summaries.of(entry.id))?;
     }
-    Ok(())
+    Ok(found)
 }
 
-/// The records of the summaries of mapped records, which stand by rising summary.
-fn push_summaries<T: RunEntry>(
-    alloc: Global,
-    run: &SetRun<'_, T>,
-    mapped: &[Mapped],
-    least: u64,
-    sums: &mut [u64],
-    room: &mut [Pair],
-) -> Result<Vec<SummaryRecord>, AllocError>
-    requires all { AreAllMapped (summary_in run.now.perspective run.now.portfolio.now.rows run.now.set) (map T.entry_of run.now.records.now) mapped.now }
-    requires order { IsNonDecreasingBy (λ mapped. mapped.summary) mapped.now }
-    requires losses { AreWithin (map T.entry_of run.now.records.now) }
-    requires span { IsSpan (map T.entry_of run.now.records.now) least (length sums.old) }
-    requires zeros { Holds (length sums.old) (λ k. 0) sums.old }
-    requires room { length room.old ≡ length sums.old }
-    ensures value { IfOk result (λ made. made.items ≡ run_summaries run.now.perspective run.now.portfolio.now.rows run.now.portfolio.now.need.rule run.now.set (map T.entry_of run.now.records.now)) }
+/// The summaries among what was found.
+fn known_of(alloc: Global, found: &[Option<u32>]) -> Result<Vec<u32>, AllocError>
+    ensures { IfOk result (λ summaries. summaries.items ≡ filter_map (λ one. one) found.now) }
 {
-    let mut made = Vec::new(alloc);
-    let mut rest = mapped;
-    while !rest.is_empty() {
-        let summary = rest[0].summary;
-        let (group, later) = rest.split_at(group_end(rest, summary));
-        push_summary(alloc, run, summary, group, least, sums, room, &mut made)?;
-        rest = later;
+    found.iter().filter_map(|one| *one).collect(alloc)
+}
+
+/// The summaries among what was found, by rising number.
+fn rising_of(alloc: Global, found: &[Option<u32>]) -> Result<Vec<u32>, AllocError>
+    ensures rising { IfOk result (λ summaries. IsRising summaries.items) }
+    ensures there { IfOk result (λ summaries. All (IsThere summaries.items) found.now) }
+{
+    let mut summaries = known_of(alloc, found)?;
+    keep_once(&mut summaries);
+    Ok(summaries)
+}
+
+/// Adds the losses of records to the sums of the summaries that were found for their ids.
+fn add_records(
+    rows: &mut [SummarySums],
+    summaries: &[u32],
+    span: Span,
+    found: &[Option<u32>],
+    records: &[LossRecord],
+)
+    requires rising { IsRising summaries.now }
+    requires rows { map (λ row. row.summary) rows.old ≡ summaries.now }
+    requires there { All (IsThere summaries.now) found.now }
+    requires found { length found.now ≡ length records.now }
+    requires losses { AreWithin records.now }
+    requires span { IsSpan records.now span.least span.width }
+    requires ready { All (IsReadyRow span.width) rows.old }
+    requires zeros { All (λ row. Holds span.width (λ k. 0) row.sums.items) rows.old }
+    ensures rows { map (λ row. row.summary) rows.new ≡ summaries.now }
+    ensures ready { All (IsReadyRow span.width) rows.new }
+    ensures sums { (find : ℕ → Option ℕ) → found.now ≡ map (λ entry. find entry.id) records.now → All (IsSumOf span.least span.width find records.now) rows.new }
+{
+    let mut near = 0;
+    for place in 0..records.len() {
+        near = add_entry(rows, summaries, span, found[place], near, &records[place]);
+    }
+}
+
+/// The records of the sums of summaries, in their order, where one of the sums is above 0.
+fn made_of(
+    alloc: Global,
+    run: &SetRun<'_>,
+    span: Span,
+    rows: &[SummarySums],
+) -> Result<Vec<SummaryRecord>, AllocError>
+    requires within { span.least + span.width ≤ 2 ^ 32 }
+    requires ready { All (IsReadyRow span.width) rows.now }
+    ensures value { IfOk result (λ made. made.items ≡ records_of run.now span.least rows.now) }
+{
+    let mut made = Vec::with_capacity(alloc, rows.len())?;
+    for row in rows {
+        if let Some(entry) = record_of(alloc, run, span.least, row)? {
+            made.push(entry)?;
+        }
     }
     Ok(made)
-}
-
-/// The records of the summaries of a set, by rising summary.
-fn summaries_of<T: RunEntry>(
-    alloc: Global,
-    run: &SetRun<'_, T>,
-) -> Result<Records<SummaryRecord>, AllocError>
-    requires losses { AreWithin (map T.entry_of run.now.records.now) }
-    ensures value { IfOk result (λ made. made ≡ run_summaries run.now.perspective run.now.portfolio.now.rows run.now.portfolio.now.need.rule run.now.set (map T.entry_of run.now.records.now)) }
-    ensures good { (samples : ℕ) → All (IsLoss samples) (map T.entry_of run.now.records.now) → IfOk result (λ made. All (IsSummary samples) made) }
-{
-    run.portfolio.keeps_summaries();
-    let mapped = mapped_in_order(alloc, run)?;
-    let span = span_of(run.records);
-    let mut sums = zeros(alloc, span.width)?;
-    let mut room = vec![in alloc; NO_PAIR; span.width]?;
-    let made = push_summaries(
-        alloc,
-        run,
-        mapped.as_slice(),
-        span.least,
-        &mut sums,
-        &mut room,
-    )?;
-    Ok(Records::from_vec(made))
 }
 
 /// The records of the summaries of a set, by rising summary, for the records of one run: one event, rising ids, rising sidx.
@@ -124,11 +115,18 @@ pub fn summarise(
     ensures value { IfOk result (λ made. made ≡ run_summaries perspective portfolio.now.rows portfolio.now.need.rule set records.now) }
     ensures good { (samples : ℕ) → All (IsLoss samples) records.now → IfOk result (λ made. All (IsSummary samples) made) }
 {
+    portfolio.keeps_summaries();
     let run = SetRun {
         portfolio,
         perspective,
         set,
-        records,
+        event: event_of(records),
     };
-    summaries_of(alloc, &run)
+    let found = found_of(alloc, &portfolio.set_summaries(perspective, set), records)?;
+    let summaries = rising_of(alloc, &found)?;
+    let span = span_of(records);
+    let mut rows = no_sums(alloc, span.width, &summaries)?;
+    add_records(&mut rows, &summaries, span, &found, records);
+    let made = made_of(alloc, &run, span, &rows)?;
+    Ok(Records::from_vec(made))
 }

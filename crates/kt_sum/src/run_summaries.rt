@@ -1,23 +1,23 @@
 //! The summaries of a run whose records come one by one, as they stand in a stream.
 //! The rules: docs/CALCULATION.md, "Summaries"; docs/STREAMS.md, "Records".
-ghost use Rattle.std.specs.Prelude.{◌≡◌, ℕ, true, not, ◌+◌, ◌<◌, ◌≤◌, ◌∷◌, [], ◌++◌, nat_eq, List, length, map, All, slice_index, IfOk, OnErr, OnOk};
-ghost use Rattle.std.specs.List.{flat_map, list_any};
-ghost use Rattle.kt_rec.specs.Rising.{IsRising};
+ghost use Rattle.std.specs.Prelude.{◌≡◌, ℕ, true, not, ◌≤◌, ◌∷◌, [], ◌++◌, List, IfOk, OnErr, OnOk};
+ghost use Rattle.std.specs.List.{flat_map};
 ghost use Rattle.kt_rec.specs.declared.perspective.Perspective.{Perspective};
 ghost use Rattle.kt_stream.specs.Losses.{IsLoss};
 ghost use Rattle.kt_stream.specs.Summary.{summary_bytes};
 ghost use Rattle.kt_stream.specs.declared.entry.LossRecord.{LossRecord};
 ghost use Rattle.kt_tables.specs.Portfolio.{PortfolioRows};
-ghost use Rattle.kt_runs.specs.Adding.{Holds};
 ghost use Rattle.kt_runs.specs.RunLosses.{event_of, goes_past};
-ghost use Rattle.kt_sum.specs.RunSummaries.{AreOf, AreSummaries, HoldsRun, IsReady, IsReadyRow};
+ghost use Rattle.kt_sum.specs.RunSummaries.{AreOf, AreSummaries, HoldsRun, IsReady};
 ghost use Rattle.kt_sum.specs.Summaries.{run_summaries};
 
-use crate::summary_sums::{SummarySums, add_to, clear_rows, put_rows};
-use crate::sums::PAIR;
+use crate::rows::add_entry;
+use crate::set_run::SetRun;
+use crate::span::Span;
+use crate::summary_sums::{FIRST, SummarySums, clear_rows, no_sums, put_rows};
 use kt_money::Bytes;
 use kt_rec::Perspective;
-use kt_runs::{add_to_run, clear_run, no_run_sums, zeros};
+use kt_runs::{add_to_run, clear_run, no_run_sums};
 use kt_stream::LossRecord;
 use kt_tables::{Portfolio, SetSummaries};
 use std::alloc::{AllocError, Global};
@@ -35,38 +35,10 @@ pub struct RunSummaries<'a> {
     summaries: Vec<u32>,
     /// The sums of each, in the same order.
     rows: Vec<SummarySums>,
+    /// The place of the sums to which the last record was added.
+    near: usize,
     /// The sums of all records of the run, a place for each sidx of a stream from -2 up.
     totals: Vec<u64>,
-}
-
-/// The place of a summary among rising ones that have it.
-fn place_of(summaries: &[u32], summary: u32) -> usize
-    requires rising { IsRising summaries.now }
-    requires there { list_any (nat_eq summary) summaries.now ≡ true }
-    ensures within { result < length summaries.now }
-    ensures value { slice_index summaries.now result ≡ summary }
-{
-    match summaries.binary_search(&summary) {
-        Ok(place) => place,
-        Err(_) => unreachable!(),
-    }
-}
-
-/// Sums for each summary in a stream with so many samples, all 0.
-fn no_sums(alloc: Global, samples: u32, summaries: &[u32]) -> Result<Vec<SummarySums>, AllocError>
-    ensures summaries { IfOk result (λ rows. map (λ row. row.summary) rows.items ≡ summaries.now) }
-    ensures zeros { IfOk result (λ rows. All (λ row. Holds (samples + 3) (λ k. 0) row.sums.items) rows.items) }
-{
-    let mut rows = Vec::new(alloc);
-    for summary in summaries {
-        let row = SummarySums {
-            summary: *summary,
-            is_used: false,
-            sums: zeros(alloc, samples as usize + 3)?,
-        };
-        rows.push(row)?;
-    }
-    Ok(rows)
 }
 
 impl<'a> RunSummaries<'a> {
@@ -91,6 +63,7 @@ impl<'a> RunSummaries<'a> {
             found,
             summaries,
             rows: Vec::new(alloc),
+            near: 0,
             totals: Vec::new(alloc),
         })
     }
@@ -101,7 +74,7 @@ impl<'a> RunSummaries<'a> {
         ensures ready { OnOk result (IsReady samples self.new) }
         ensures holds { OnOk result ((portfolio : PortfolioRows) (perspective : Perspective) (set : ℕ) → AreOf portfolio perspective set self.old → HoldsRun portfolio perspective set samples [] self.new) }
     {
-        self.rows = no_sums(self.alloc, samples, &self.summaries)?;
+        self.rows = no_sums(self.alloc, samples as usize + 3, &self.summaries)?;
         self.totals = no_run_sums(self.alloc, samples)?;
         Ok(())
     }
@@ -118,10 +91,19 @@ impl<'a> RunSummaries<'a> {
         if !add_to_run(&mut self.totals, samples, entry) {
             return false;
         }
-        if let Some(summary) = self.found.of(entry.id) {
-            let place = place_of(&self.summaries, summary);
-            add_to(&mut self.rows[place], entry.pairs.as_slice());
-        }
+        let found = self.found.of(entry.id);
+        let span = Span {
+            least: FIRST,
+            width: samples as usize + 3,
+        };
+        self.near = add_entry(
+            &mut self.rows,
+            &self.summaries,
+            span,
+            found,
+            self.near,
+            entry,
+        );
         true
     }
 
@@ -135,16 +117,13 @@ impl<'a> RunSummaries<'a> {
         ensures holds { OnOk result ((portfolio : PortfolioRows) (perspective : Perspective) (set : ℕ) → AreOf portfolio perspective set self.old → HoldsRun portfolio perspective set samples [] self.new) }
         ensures unchanged { OnErr result (out.new ≡ out.old) }
     {
-        let mut room = vec![in self.alloc; 0; PAIR * (samples as usize + 3) + PAIR]?;
-        put_rows(
-            self.portfolio,
-            self.perspective,
-            self.set,
+        let run = SetRun {
+            portfolio: self.portfolio,
+            perspective: self.perspective,
+            set: self.set,
             event,
-            &self.rows,
-            &mut room,
-            out,
-        )?;
+        };
+        put_rows(self.alloc, &run, &self.rows, out)?;
         clear_rows(&mut self.rows);
         clear_run(&mut self.totals, samples);
         Ok(())

@@ -4,15 +4,15 @@
 use kt_rec::Perspective;
 use kt_tables::Portfolio;
 
-/// The records of a run, and the set whose summaries are made of them.
+/// The event of a run, and the set whose summaries are made of its records.
 #[derive(Drop)]
-pub(crate) struct SetRun<'a, T> {
+pub struct SetRun<'a> {
     /// The portfolio that has the set.
     pub(crate) portfolio: &'a Portfolio,
     /// Whose set it is.
     pub(crate) perspective: Perspective,
     /// The summary set.
     pub(crate) set: u32,
-    /// The records.
-    pub(crate) records: &'a [T],
+    /// The event.
+    pub(crate) event: u32,
 }

@@ -1,26 +1,17 @@
 //! The sidx that the records of a run have: from which place to which.
 //! The rule: docs/CALCULATION.md, "Summaries".
-ghost use Rattle.std.specs.Prelude.{◌≡◌, ◌+◌, ◌≤◌, ◌^◌, map, min, max, All};
+ghost use Rattle.std.specs.Prelude.{◌≡◌, ◌+◌, ◌≤◌, All};
 ghost use Rattle.kt_runs.specs.Sidx.{place_of};
-ghost use Rattle.std.specs.List.{fold};
-ghost use Rattle.kt_sum.specs.Summaries.{least_place, end_place, pair_places, places};
 ghost use Rattle.kt_sum.specs.Adding.{IsNoFarther, IsSpan};
 
-use kt_runs::{RunEntry, place_of};
-use kt_stream::Pair;
+use kt_runs::place_of;
+use kt_stream::{LossRecord, Pair};
 
 /// The place of sidx -2, the least of a stream.
 const FIRST: u32 = 2_147_483_646;
 
 /// How many places stand from it on.
 const BEHIND: u32 = 2_147_483_648;
-
-/// The least place so far, and the place behind the greatest.
-#[derive(Clone, Copy)]
-struct Ends {
-    least: u64,
-    upto: u64,
-}
 
 /// The places of the sums of a run: the least, and how many.
 #[derive(Clone, Copy)]
@@ -31,80 +22,72 @@ pub(crate) struct Span {
     pub(crate) width: usize,
 }
 
-/// The ends with the places of pairs.
-fn widened(ends: Ends, pairs: &[Pair]) -> Ends
-    requires within { ends.upto ≤ 2 ^ 32 }
-    ensures least { result.least ≡ fold min ends.least (pair_places pairs.now) }
-    ensures last { result.upto ≡ fold (λ last place. max last (place + 1)) ends.upto (pair_places pairs.now) }
-    ensures within { result.upto ≤ 2 ^ 32 }
+/// The least place that pairs have, and no more than so far.
+fn lowest(so_far: u32, pairs: &[Pair]) -> u32
+    ensures kept { result ≤ so_far }
+    ensures all { All (λ pair. result ≤ place_of pair.sidx) pairs.now }
 {
-    let mut least = ends.least;
-    let mut upto = ends.upto;
+    let mut least = so_far;
     for pair in pairs {
-        let place = place_of(pair) as u64;
-        least = least.min(place);
-        upto = upto.max(place + 1);
+        least = least.min(place_of(pair));
     }
-    Ends { least, upto }
+    least
 }
 
-/// The ends of the places that records have.
-fn ends_of<T: RunEntry>(records: &[T]) -> Ends
-    ensures least { result.least ≡ least_place (places (map T.entry_of records.now)) }
-    ensures last { result.upto ≡ end_place (places (map T.entry_of records.now)) }
-    ensures within { result.upto ≤ 2 ^ 32 }
+/// The least place that records have.
+fn lowest_of(records: &[LossRecord]) -> u32
+    ensures all { All (λ entry. All (λ pair. result ≤ place_of pair.sidx) entry.pairs) records.now }
 {
-    let mut ends = Ends {
-        least: 4_294_967_296,
-        upto: 0,
-    };
-    for held in records {
-        ends = widened(ends, held.entry().pairs.as_slice());
+    let mut least = u32::MAX;
+    for entry in records {
+        least = lowest(least, entry.pairs.as_slice());
     }
-    ends
+    least
 }
 
-/// How far behind sidx -2 the sidx of pairs stand at the most, and no less than so far; those before it count as farther than all
+/// How far behind a place the sidx of pairs stand at the most, and no less than so far; those before it count as farther than all
 /// others.
 #[inline]
-fn farthest(so_far: u32, pairs: &[Pair]) -> u32
+fn farthest(so_far: u32, from: u32, pairs: &[Pair]) -> u32
     ensures kept { so_far ≤ result }
-    ensures all { All (λ pair. IsNoFarther result (place_of pair.sidx)) pairs.now }
+    ensures all { All (λ pair. IsNoFarther from result (place_of pair.sidx)) pairs.now }
 {
     let mut most = so_far;
     for pair in pairs {
-        most = most.max(place_of(pair).wrapping_sub(FIRST));
+        most = most.max(place_of(pair).wrapping_sub(from));
     }
     most
 }
 
-/// How far behind sidx -2 the sidx of records stand at the most.
-fn farthest_of<T: RunEntry>(records: &[T]) -> u32
-    ensures all { All (λ entry. All (λ pair. IsNoFarther result (place_of pair.sidx)) entry.pairs) (map T.entry_of records.now) }
+/// How far behind a place the sidx of records stand at the most.
+#[inline]
+fn farthest_of(from: u32, records: &[LossRecord]) -> u32
+    ensures all { All (λ entry. All (λ pair. IsNoFarther from result (place_of pair.sidx)) entry.pairs) records.now }
 {
     let mut most = 0;
-    for held in records {
-        most = farthest(most, held.entry().pairs.as_slice());
+    for entry in records {
+        most = farthest(most, from, entry.pairs.as_slice());
     }
     most
 }
 
 /// The places from the least sidx of records to the greatest.
-fn exact_span<T: RunEntry>(records: &[T]) -> Span
-    ensures value { IsSpan (map T.entry_of records.now) result.least result.width }
+fn exact_span(records: &[LossRecord]) -> Span
+    ensures value { IsSpan records.now result.least result.width }
 {
-    let ends = ends_of(records);
+    let least = u64::from(lowest_of(records));
+    let upto = u64::from(farthest_of(0, records)) + 1;
     Span {
-        least: ends.least,
-        width: ends.upto.saturating_sub(ends.least) as usize,
+        least,
+        width: upto.saturating_sub(least) as usize,
     }
 }
 
 /// The places of the sums of a run of records: those from sidx -2 on, where no record has a lower sidx.
-pub(crate) fn span_of<T: RunEntry>(records: &[T]) -> Span
-    ensures value { IsSpan (map T.entry_of records.now) result.least result.width }
+pub(crate) fn span_of(records: &[LossRecord]) -> Span
+    ensures value { IsSpan records.now result.least result.width }
 {
-    let most = farthest_of(records);
+    let most = farthest_of(FIRST, records);
     if most >= BEHIND {
         return exact_span(records);
     }

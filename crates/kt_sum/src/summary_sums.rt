@@ -1,27 +1,23 @@
 //! The sums of a summary, sidx by sidx.
 //! The rules: docs/CALCULATION.md, "Summaries"; docs/STREAMS.md, "Records".
-ghost use Rattle.std.specs.Prelude.{◌≡◌, ℕ, All, true, false, ◌+◌, ◌*◌, ◌<◌, ◌≤◌, ◌^◌, ◌∷◌, [], ◌++◌, List, length, slice_index, OnErr, OnOk};
-ghost use Rattle.std.specs.List.{filter_map, flat_map};
-ghost use Rattle.kt_stream.specs.Pairs.{pairs_bytes};
+ghost use Rattle.std.specs.Prelude.{◌≡◌, ℕ, All, true, false, ◌+◌, ◌*◌, ◌<◌, ◌≤◌, ◌^◌, ◌∷◌, [], ◌++◌, List, length, map, slice_index, IfOk, OnErr, OnOk};
+ghost use Rattle.std.specs.List.{flat_map};
 ghost use Rattle.kt_stream.specs.Summary.{summary_bytes};
 ghost use Rattle.kt_stream.specs.declared.entry.Pair.{Pair};
-ghost use Rattle.kt_tables.specs.Lookups.{exposure_of};
 ghost use Rattle.kt_runs.specs.Adding.{AreInside, Holds, IsAdded};
 ghost use Rattle.kt_runs.specs.RunLosses.{loss_of};
 ghost use Rattle.kt_runs.specs.Sidx.{sidx_at};
-ghost use Rattle.kt_sum.specs.RunSummaries.{AreCleared, IsCleared, IsIdle, record_of};
+ghost use Rattle.kt_sum.specs.RunSummaries.{AreCleared, IsCleared, IsIdle, IsReadyRow, exposure_in, record_of, records_of};
 
-use crate::sums::write_pairs;
-use byteorder::{ByteOrder, LittleEndian};
+use crate::set_run::SetRun;
+use crate::sums::pairs_of;
 use kt_money::Bytes;
-use kt_rec::Perspective;
-use kt_runs::add_pairs;
-use kt_stream::Pair;
-use kt_tables::Portfolio;
-use std::alloc::AllocError;
+use kt_runs::{add_pairs, zeros};
+use kt_stream::{Pair, SummaryRecord, put_summary};
+use std::alloc::{AllocError, Global};
 
 /// The place of sidx -2, the least of a stream.
-const FIRST: u64 = 2_147_483_646;
+pub(crate) const FIRST: u64 = 2_147_483_646;
 
 /// What the records of a run come to in a summary.
 #[derive(Drop)]
@@ -30,67 +26,89 @@ pub struct SummarySums {
     pub(crate) summary: u32,
     /// Whether a record of the run comes to it; else the sums are 0.
     pub(crate) is_used: bool,
-    /// The sums in cents, a place for each sidx of a stream from -2 up.
+    /// The sums in cents, sidx by sidx.
     pub(crate) sums: Vec<u64>,
 }
 
-/// Adds the losses of pairs.
-pub(crate) fn add_to(row: &mut SummarySums, pairs: &[Pair])
-    requires inside { AreInside 2147483646 (length row.old.sums.items) pairs.now }
+/// Sums of so many places for each summary, all 0. An error is want of memory.
+pub(crate) fn no_sums(
+    alloc: Global,
+    width: usize,
+    summaries: &[u32],
+) -> Result<Vec<SummarySums>, AllocError>
+    ensures summaries { IfOk result (λ rows. map (λ row. row.summary) rows.items ≡ summaries.now) }
+    ensures ready { IfOk result (λ rows. All (IsReadyRow width) rows.items) }
+    ensures zeros { IfOk result (λ rows. All (λ row. Holds width (λ k. 0) row.sums.items) rows.items) }
+{
+    let mut rows = Vec::with_capacity(alloc, summaries.len())?;
+    for summary in summaries {
+        let row = SummarySums {
+            summary: *summary,
+            is_used: false,
+            sums: zeros(alloc, width)?,
+        };
+        rows.push(row)?;
+    }
+    Ok(rows)
+}
+
+/// Adds the losses of pairs to sums, the first of which is for the sidx at the place `least`.
+pub(crate) fn add_to(row: &mut SummarySums, least: u64, pairs: &[Pair])
+    requires inside { AreInside least (length row.old.sums.items) pairs.now }
     ensures summary { row.new.summary ≡ row.old.summary }
     ensures used { row.new.is_used ≡ true }
     ensures width { length row.new.sums.items ≡ length row.old.sums.items }
-    ensures added { ((k : ℕ) → k < length row.old.sums.items → slice_index row.old.sums.items k + loss_of (sidx_at (2147483646 + k)) pairs.now < 2 ^ 64) → IsAdded 2147483646 row.old.sums.items pairs.now row.new.sums.items }
+    ensures added { ((k : ℕ) → k < length row.old.sums.items → slice_index row.old.sums.items k + loss_of (sidx_at (least + k)) pairs.now < 2 ^ 64) → IsAdded least row.old.sums.items pairs.now row.new.sums.items }
 {
     row.is_used = true;
-    add_pairs(&mut row.sums, FIRST, pairs);
+    add_pairs(&mut row.sums, least, pairs);
 }
 
-/// The bytes in front of the pairs of a summary record: those of the event, of the summary and of its exposure in cents.
-#[inline]
-fn summary_front(event: u32, summary: u32, exposure: u64) -> [u8; 16]
-    ensures front { (pairs : List Pair) → summary_bytes (record { event = event; summary = summary; exposure = exposure; pairs = pairs }) ≡ result ++ pairs_bytes pairs }
-{
-    let mut front = [0; 16];
-    LittleEndian::write_u32(&mut front, event);
-    LittleEndian::write_u32(&mut front[4..], summary);
-    LittleEndian::write_u64(&mut front[8..], exposure);
-    front
-}
-
-/// Appends the record of the sums, where one is above 0; the room takes its pairs first. An error is want of memory, and nothing
-/// is appended then.
-pub(crate) fn put_sums(
-    portfolio: &Portfolio,
-    perspective: Perspective,
-    set: u32,
-    event: u32,
+/// The record of the sums of a summary, the first of which is for the sidx at the place `least`; `None` where all are 0. An error is
+/// want of memory.
+pub(crate) fn record_of(
+    alloc: Global,
+    run: &SetRun<'_>,
+    least: u64,
     row: &SummarySums,
-    room: &mut [u8],
+) -> Result<Option<SummaryRecord>, AllocError>
+    requires idle { IsIdle row.now }
+    requires within { least + length row.now.sums.items ≤ 2 ^ 32 }
+    ensures value { IfOk result (λ made. made ≡ record_of run.now.event (exposure_in run.now) least row.now) }
+{
+    if !row.is_used {
+        return Ok(None);
+    }
+    let pairs = pairs_of(alloc, &row.sums, least)?;
+    if pairs.as_slice().is_empty() {
+        return Ok(None);
+    }
+    Ok(Some(SummaryRecord {
+        event: run.event,
+        summary: row.summary,
+        exposure: run
+            .portfolio
+            .exposure(run.perspective, run.set, row.summary),
+        pairs,
+    }))
+}
+
+/// Appends the record of sums, which begin at sidx -2, where one is above 0. An error is want of memory, and nothing is appended then.
+fn put_row(
+    alloc: Global,
+    run: &SetRun<'_>,
+    row: &SummarySums,
     out: &mut Bytes,
 ) -> Result<(), AllocError>
     requires idle { IsIdle row.now }
     requires within { 2147483646 + length row.now.sums.items ≤ 2 ^ 32 }
-    requires room { 12 * length row.now.sums.items + 12 ≤ length room.old }
-    ensures ok { OnOk result (out.new ≡ out.old ++ flat_map summary_bytes (filter_map (record_of event (exposure_of perspective portfolio.now.rows portfolio.now.need.rule set)) (row.now ∷ []))) }
+    ensures ok { OnOk result (out.new ≡ out.old ++ flat_map summary_bytes (records_of run.now 2147483646 (row.now ∷ []))) }
     ensures unchanged { OnErr result (out.new ≡ out.old) }
-    ensures room { length room.new ≡ length room.old }
 {
-    if !row.is_used {
-        return Ok(());
+    match record_of(alloc, run, FIRST, row)? {
+        Some(entry) => put_summary(out, &entry),
+        None => Ok(()),
     }
-    let used = write_pairs(room, &row.sums, FIRST);
-    if used == 0 {
-        return Ok(());
-    }
-    let exposure = portfolio.exposure(perspective, set, row.summary);
-    let whole = out.len();
-    out.append(&summary_front(event, row.summary, exposure))?;
-    if let Err(stop) = out.append(&room[..used]) {
-        out.truncate(whole);
-        return Err(stop);
-    }
-    Ok(())
 }
 
 /// Makes the sums 0.
@@ -104,25 +122,21 @@ pub(crate) fn clear(row: &mut SummarySums)
     }
 }
 
-/// Appends the records of the sums of summaries, as `put_sums` does.
+/// Appends the records of the sums of summaries, as `put_row` does. An error is want of memory, and nothing is appended then.
 pub(crate) fn put_rows(
-    portfolio: &Portfolio,
-    perspective: Perspective,
-    set: u32,
-    event: u32,
+    alloc: Global,
+    run: &SetRun<'_>,
     rows: &[SummarySums],
-    room: &mut [u8],
     out: &mut Bytes,
 ) -> Result<(), AllocError>
     requires idle { All IsIdle rows.now }
     requires within { All (λ row. 2147483646 + length row.sums.items ≤ 2 ^ 32) rows.now }
-    requires room { All (λ row. 12 * length row.sums.items + 12 ≤ length room.old) rows.now }
-    ensures ok { OnOk result (out.new ≡ out.old ++ flat_map summary_bytes (filter_map (record_of event (exposure_of perspective portfolio.now.rows portfolio.now.need.rule set)) rows.now)) }
+    ensures ok { OnOk result (out.new ≡ out.old ++ flat_map summary_bytes (records_of run.now 2147483646 rows.now)) }
     ensures unchanged { OnErr result (out.new ≡ out.old) }
 {
     let whole = out.len();
     for row in rows {
-        if let Err(stop) = put_sums(portfolio, perspective, set, event, row, room, out) {
+        if let Err(stop) = put_row(alloc, run, row, out) {
             out.truncate(whole);
             return Err(stop);
         }

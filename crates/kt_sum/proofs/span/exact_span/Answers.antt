@@ -1,9 +1,7 @@
-use Rattle.std.proofs.Common.{map, sym, subst}
-use Rattle.kt_sum.specs.Adding.{IsSpan}
-use Rattle.kt_sum.proofs.SpanLemmas.{span_is}
+use Rattle.kt_sum.proofs.SpanLemmas.{exact_span}
 use Rattle.kt_sum.proofs.span.exact_span.Goals as goal
 
 pub returns : goal.returns
-returns g c = record {
-  value = subst (IsSpan (map g.T.RunEntry.entry_of c.args.records.now) c.ends_of-ends.result.least) (sym c.saturating_sub.ensures) (span_is (map g.T.RunEntry.entry_of c.args.records.now) c.ends_of-ends.result.least c.ends_of-ends.result.upto c.ends_of-ends.ensures.least c.ends_of-ends.ensures.last c.ends_of-ends.ensures.within);
-}
+returns c =
+    rw (c.saturating_sub.ensures, c.from-upto.ensures, c.from-least.ensures)
+    (record { value = exact_span c.args.records.now c.lowest_of.result c.farthest_of.result c.lowest_of.type_inv c.farthest_of.type_inv c.lowest_of.ensures.all c.farthest_of.ensures.all })

@@ -8,5 +8,5 @@ use Rattle.kt_sum.proofs.span.farthest.Given as goal
 abbrev pub invariant-loop-pair : goal.invariant-loop-pair
 invariant-loop-pair l = record {
   kept : l.so_far ≤ l.most;
-  all : (k : ℕ) (d : Pair) → k < l.pair-index → IsNoFarther l.most (place_of (slice_index_or l.pairs k d).sidx);
+  all : (k : ℕ) (d : Pair) → k < l.pair-index → IsNoFarther l.from l.most (place_of (slice_index_or l.pairs k d).sidx);
 }

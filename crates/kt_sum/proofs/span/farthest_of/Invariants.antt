@@ -1,10 +1,10 @@
 -- The pairs of the records so far stand no farther.
-use Rattle.std.proofs.Common.{ℕ, ◌<◌, map, slice_index_or}
+use Rattle.std.proofs.Common.{ℕ, ◌<◌, slice_index_or}
 use Rattle.std.specs.Prelude.{All}
 use Rattle.kt_stream.specs.declared.entry.LossRecord.{LossRecord}
 use Rattle.kt_runs.specs.Sidx.{place_of}
 use Rattle.kt_sum.specs.Adding.{IsNoFarther}
 use Rattle.kt_sum.proofs.span.farthest_of.Given as goal
 
-abbrev pub invariant-loop-held : goal.invariant-loop-held
-invariant-loop-held g l = (k : ℕ) (d : LossRecord) → k < l.held-index → All (λ pair. IsNoFarther l.most (place_of pair.sidx)) (slice_index_or (map g.T.RunEntry.entry_of l.records) k d).pairs
+abbrev pub invariant-loop-entry : goal.invariant-loop-entry
+invariant-loop-entry l = (k : ℕ) (d : LossRecord) → k < l.entry-index → All (λ pair. IsNoFarther l.from l.most (place_of pair.sidx)) (slice_index_or l.records k d).pairs
