@@ -4,12 +4,13 @@ use Rattle.std.specs.Prelude.{◌&&◌, ◌||◌, All}
 use Rattle.std.specs.Cmp.{nat_eq_equiv}
 use Rattle.std.specs.List.{AllByRecursion, cons_option, filter, filter_map, list_any}
 use Rattle.std.proofs.lemmas.Bool.{cases_eq, cases_lt, eqb-true, true≢false}
-use Rattle.std.proofs.lemmas.List.{get_or-map, take_more, get_or-set_same, get_or-set_other, get_or_default, length-map, length-set}
+use Rattle.std.proofs.lemmas.List.{get_or-map, take_more, get_or-set_same, get_or-set_other, length-map, length-set}
 use Rattle.std.proofs.lemmas.List.Elements.{All-set, filter-append, recursion_from_All}
 use Rattle.std.proofs.lemmas.List.Sums.{sum_by_push, sum_by-take-le}
 use Rattle.std.proofs.lemmas.Map.Keys.{apart_from_distinct}
 use Rattle.kt_fmtree.specs.RisingLaws.{rising-filter}
 use Rattle.kt_rec.specs.Rising.{IsRising, distinct-from_rising, rising, rising-member, rising-rises, rising-unique}
+use Rattle.kt_tree.specs.Members.{member-filter}
 use Rattle.kt_runs.specs.Adding.{Holds, IsAdded}
 use Rattle.kt_runs.specs.RunLosses.{AreWithin, event_of, loss_of, run_loss}
 use Rattle.kt_runs.specs.Sidx.{pair_of, pairs_of, sidx_at}
@@ -21,7 +22,7 @@ use Rattle.kt_tables.specs.Portfolio.{PortfolioRows}
 use Rattle.kt_tables.specs.SetRows.{AreFound, SetRows, summary_at}
 use Rattle.kt_stream.specs.Losses.{IsLoss}
 use Rattle.kt_sum.specs.Adding.{IsSpan, pairs_upto}
-use Rattle.kt_sum.specs.RunSummaries.{AreCleared, IsReadyRow, IsSumOf, IsThere, record_of}
+use Rattle.kt_sum.specs.RunSummaries.{IsReadyRow, IsSumOf, IsThere, IsZeroRow, record_of}
 use Rattle.kt_sum.specs.Summaries.{found_summaries, is_summary, members, record_with, sidx_range, summaries_by, summary_of_run}
 use Rattle.kt_sum.specs.declared.summary_sums.SummarySums.{SummarySums}
 use Rattle.kt_sum.proofs.WideLemmas.{members_within, shifted, span_pairs}
@@ -36,24 +37,6 @@ restricted f test (id ∷ ids) others = by (test id) refl (restricted f test ids
     by : (b : Bool) → test id ≡ b → filter_map f ids ≡ filter_map f (filter test ids) → cons_option (f id) (filter_map f ids) ≡ filter_map f (cond b (id ∷ filter test ids) (filter test ids))
     by true is rest = ap (cons_option (f id)) rest
     by false is rest = ap (λ found. cons_option found (filter_map f ids)) (others id is) ∙ rest
-
--- whether an id is among them
-passing : (test : ℕ → Bool) (ids : List ℕ) (id : ℕ) → list_any (nat_eq id) (filter test ids) ≡ (test id && list_any (nat_eq id) ids)
-passing test [] id = sym (none (test id))
-  where
-    none : (b : Bool) → (b && false) ≡ false
-    none true = refl
-    none false = refl
-passing test (first ∷ ids) id = by (test first) (nat_eq id first) refl refl (passing test ids id)
-  where
-    same : id ≡ first → test id ≡ test first
-    same is = ap test is
-
-    by : (b c : Bool) → test first ≡ b → nat_eq id first ≡ c → list_any (nat_eq id) (filter test ids) ≡ (test id && list_any (nat_eq id) ids) → list_any (nat_eq id) (cond b (first ∷ filter test ids) (filter test ids)) ≡ (test id && (c || list_any (nat_eq id) ids))
-    by true true passes is rest = ap (λ b. b || list_any (nat_eq id) (filter test ids)) is ∙ sym (ap (λ b. b && true) (same (eqb-true id first is) ∙ passes))
-    by true false passes is rest = ap (λ b. b || list_any (nat_eq id) (filter test ids)) is ∙ rest
-    by false true passes is rest = rest ∙ (ap (λ b. b && list_any (nat_eq id) ids) (same (eqb-true id first is) ∙ passes) ∙ sym (ap (λ b. b && true) (same (eqb-true id first is) ∙ passes)))
-    by false false passes is rest = rest
 
 -- ---- the records of summaries
 
@@ -165,7 +148,7 @@ module _ (find : ℕ → Option ℕ) (exposure : ℕ → ℕ) (records : List Lo
       ∙ ap (filter_map (summary_of_run find exposure records)) (rising-unique (filter test summaries) (rising (found_summaries find records)) (rising-filter test summaries rises) (rising-rises (found_summaries find records)) same)))
     where
       same : (id : ℕ) → list_any (nat_eq id) (filter test summaries) ≡ list_any (nat_eq id) (rising (found_summaries find records))
-      same id = passing test summaries id ∙ (by (test id) refl ∙ sym (rising-member (found_summaries find records) id))
+      same id = member-filter test id summaries ∙ (by (test id) refl ∙ sym (rising-member (found_summaries find records) id))
         where
           by : (b : Bool) → test id ≡ b → (b && list_any (nat_eq id) summaries) ≡ test id
           by true is = all_found find summaries records (recursion_from_All (λ (entry : LossRecord). IsThere summaries (find entry.id)) records there) id is ∙ sym is
@@ -188,31 +171,9 @@ apart_rows rows rises i j d e inside also other = rw (sym (at i d inside), sym (
     by (inl less) = apart_from_distinct nat_eq (map (λ (row : SummarySums). row.summary) rows) i j 0 (distinct-from_rising _ rises) less (omega (arith, also, length-map rows (λ (row : SummarySums). row.summary)))
     by (inr most) = nat_eq_equiv.symm _ _ ∙ apart_from_distinct nat_eq (map (λ (row : SummarySums). row.summary) rows) j i 0 (distinct-from_rising _ rises) (omega (arith, most, other)) (omega (arith, inside, length-map rows (λ (row : SummarySums). row.summary)))
 
--- ---- sums that are made 0
-
--- rows of the same summaries
-pub same_summaries : (before now : List SummarySums) → length now ≡ length before → ((k : ℕ) (d : SummarySums) → k < length before → (slice_index_or now k d).summary ≡ (slice_index_or before k d).summary) → map (λ row. row.summary) now ≡ map (λ row. row.summary) before
-same_summaries [] [] long same = refl
-same_summaries [] (row ∷ now) long same = absurd (omega (arith, long))
-same_summaries (row ∷ before) [] long same = absurd (omega (arith, long))
-same_summaries (row ∷ before) (other ∷ now) long same =
-    let first : other.summary ≡ row.summary = same 0 row (omega arith) in
-    ap (λ n. n ∷ map (λ row. row.summary) now) first ∙ ap (λ ids. row.summary ∷ ids) (same_summaries before now (omega (arith, long)) (λ k d below. same (suc k) d (omega arith)))
-
-module _ (width : ℕ) (before now : List SummarySums) (ready : All (IsReadyRow width) before) (long : length now ≡ length before) (cleared : AreCleared (length before) before now) where
-  -- they are 0
-  pub cleared_zeros : All (λ row. Holds width (λ k. 0) row.sums.items) now
-  cleared_zeros k d below =
-      let inside : k < length before = omega (arith, below, long) in
-      subst (λ width. Holds width (λ k. 0) (slice_index_or now k d).sums.items) (ready k d inside).width_is (cleared k d inside).zeros
-
-  -- and ready
-  pub cleared_ready : All (IsReadyRow width) now
-  cleared_ready k d below = let zeros = cleared_zeros k d below in record { width_is = zeros.width_is; idle = λ unused. record { width_is = refl; each = λ k inside. zeros.each k (omega (arith, inside, zeros.width_is)) } }
-
-  -- for the same summaries
-  pub cleared_summaries : map (λ row. row.summary) now ≡ map (λ row. row.summary) before
-  cleared_summaries = same_summaries before now long (λ k d below. (cleared k d below).summary)
+-- sums that are 0 are ready
+pub zero_ready : (width : ℕ) (row : SummarySums) → IsZeroRow width row → IsReadyRow width row
+zero_ready width row zeros = record { width_is = zeros.width_is; idle = λ unused. record { width_is = refl; each = λ k below. zeros.each k (omega (arith, below, zeros.width_is)) } }
 
 -- ---- a record more
 
@@ -271,17 +232,6 @@ module _ (find : ℕ → Option ℕ) (least width : ℕ) (records : List LossRec
             let there : k < length rows = omega (arith, below, length-set rows place now) in
             subst (IsSumOf least width find (records ++ entry ∷ [])) (sym (get_or-set_other rows place k now e apart)) (other_sum (slice_index_or rows k e) (ap (is_summary (slice_index_or rows k e).summary) summary_is ∙ apart_rows rows rises place k d e inside there apart) (all k e there))
 
-module _ (rows : List SummarySums) (place : ℕ) (d now : SummarySums) (inside : place < length rows) where
-  -- sums that are added to are ready
-  pub ready_more : (width : ℕ) → now.is_used ≡ true → length now.sums.items ≡ length (slice_index_or rows place d).sums.items → All (IsReadyRow width) rows → All (IsReadyRow width) (slice_set rows place now)
-  ready_more width used long ready = All-set (IsReadyRow width) rows place now (record { width_is = long ∙ (ready place d inside).width_is; idle = λ unused. absurd (true≢false (sym used ∙ unused)) }) ready
-
-  -- for the same summaries
-  pub summaries_more : now.summary ≡ (slice_index_or rows place d).summary → map (λ row. row.summary) (slice_set rows place now) ≡ map (λ row. row.summary) rows
-  summaries_more same = same_summaries rows (slice_set rows place now) (length-set rows place now) (λ k e below. by k e (cases_eq k place))
-    where
-      by : (k : ℕ) (e : SummarySums) → (k ≡ place) ⊎ (k ≢ place) → (slice_index_or (slice_set rows place now) k e).summary ≡ (slice_index_or rows k e).summary
-      by k e (inl is) =
-          ap (λ n. (slice_index_or (slice_set rows place now) n e).summary) is
-          ∙ (ap (λ (row : SummarySums). row.summary) (get_or-set_same rows place now e inside) ∙ (same ∙ (ap (λ (row : SummarySums). row.summary) (get_or_default rows place d e inside) ∙ ap (λ n. (slice_index_or rows n e).summary) (sym is))))
-      by k e (inr apart) = ap (λ (row : SummarySums). row.summary) (get_or-set_other rows place k now e apart)
+-- sums that are added to are ready
+pub ready_more : (width : ℕ) (rows : List SummarySums) (place : ℕ) (d now : SummarySums) → place < length rows → now.is_used ≡ true → length now.sums.items ≡ length (slice_index_or rows place d).sums.items → All (IsReadyRow width) rows → All (IsReadyRow width) (slice_set rows place now)
+ready_more width rows place d now inside used long ready = All-set (IsReadyRow width) rows place now (record { width_is = long ∙ (ready place d inside).width_is; idle = λ unused. absurd (true≢false (sym used ∙ unused)) }) ready

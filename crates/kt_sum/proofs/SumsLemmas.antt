@@ -1,8 +1,7 @@
 -- The sums of summaries: their records as bytes, and how they are made 0.
-use Rattle.std.proofs.Common.{◌≡◌, ◌⊎◌, ◌≢◌, inl, inr, ℕ, zero, suc, ◌+◌, ◌<◌, List, [], ◌∷◌, ◌++◌, Option, None, Some, length, take, slice_index, slice_index_or, slice_set, refl, sym, ap, subst, arith, ◌∙◌, add-one}
+use Rattle.std.proofs.Common.{◌≡◌, ℕ, zero, suc, ◌+◌, ◌<◌, List, [], ◌∷◌, ◌++◌, Option, None, Some, length, take, slice_index, slice_index_or, refl, sym, ap, arith, ◌∙◌, add-one}
 use Rattle.std.specs.List.{cons_option, filter_map, flat_map, range_with_len}
-use Rattle.std.proofs.lemmas.Bool.{cases_eq}
-use Rattle.std.proofs.lemmas.List.{get_or-set_same, get_or-set_other, take_more}
+use Rattle.std.proofs.lemmas.List.{take_more}
 use Rattle.std.proofs.lemmas.List.Elements.{filter_map-append}
 use Rattle.std.proofs.lemmas.Grind.{flat_map-append}
 use Rattle.kt_runs.specs.Adding.{Holds}
@@ -10,7 +9,7 @@ use Rattle.kt_runs.specs.Sidx.{pair_of, sidx_at}
 use Rattle.kt_stream.specs.Summary.{summary_bytes}
 use Rattle.kt_stream.specs.declared.entry.Pair.{Pair}
 use Rattle.kt_stream.specs.declared.entry.SummaryRecord.{SummaryRecord}
-use Rattle.kt_sum.specs.RunSummaries.{AreCleared, IsCleared, record_of}
+use Rattle.kt_sum.specs.RunSummaries.{record_of}
 use Rattle.kt_sum.specs.Adding.{pairs_upto}
 use Rattle.kt_sum.specs.Summaries.{record_with}
 use Rattle.kt_sum.specs.declared.summary_sums.SummarySums.{SummarySums}
@@ -51,15 +50,6 @@ some_record event summary worth exposure pairs (pair ∷ kept) worth_is pairs_ar
 pub no_record : (event summary worth : ℕ) (pairs kept : List Pair) → kept ≡ pairs → length kept ≡ 0 → None ≡ record_with event summary worth pairs
 no_record event summary worth pairs [] pairs_are none = ap (record_with event summary worth) pairs_are
 no_record event summary worth pairs (pair ∷ kept) pairs_are none = absurd (omega arith)
-
--- one summary more is made 0
-module _ (before now : List SummarySums) (place : ℕ) (row : SummarySums) (below : place < length now) where
-  pub cleared_more : AreCleared place before now → ((d : SummarySums) → IsCleared (slice_index_or before place d) row) → AreCleared (place + 1) before (slice_set now place row)
-  cleared_more done is k e less = by (cases_eq k place)
-    where
-      by : (k ≡ place) ⊎ (k ≢ place) → IsCleared (slice_index_or before k e) (slice_index_or (slice_set now place row) k e)
-      by (inl same) = subst (λ n. IsCleared (slice_index_or before n e) (slice_index_or (slice_set now place row) n e)) (sym same) (subst (IsCleared (slice_index_or before place e)) (sym (get_or-set_same now place row e below)) (is e))
-      by (inr apart) = subst (IsCleared (slice_index_or before k e)) (sym (get_or-set_other now place k row e apart)) (done k e (omega arith))
 
 -- the records of one row more
 records_more : (f : SummarySums → Option SummaryRecord) (rows : List SummarySums) (i : ℕ) (d : SummarySums) → i < length rows → filter_map f (take (i + 1) rows) ≡ filter_map f (take i rows) ++ cons_option (f (slice_index_or rows i d)) []

@@ -1,10 +1,11 @@
 -- The pairs of losses are the same from any least place to any greatest, where no other place has a loss.
 use Rattle.std.proofs.Common.{◌≡◌, ℕ, zero, suc, ◌+◌, ◌-◌, ◌<◌, ◌≤◌, Bool, true, false, cond, ℤ, List, [], ◌∷◌, ◌++◌, Option, None, Some, map, refl, sym, ap, subst, arith, ◌∙◌, append-nil}
-use Rattle.std.specs.Prelude.{All}
-use Rattle.std.specs.List.{AllByRecursion, cons_option, filter, filter_map, range_with_len}
+use Rattle.std.specs.Prelude.{All, not}
+use Rattle.std.specs.List.{AllByRecursion, cons_option, filter_map, range_with_len}
 use Rattle.std.specs.Ordering.{int_eq}
 use Rattle.std.proofs.lemmas.Bool.Decides.{Decides-int_eq}
 use Rattle.std.proofs.lemmas.List.Elements.{recursion_from_All}
+use Rattle.std.proofs.lemmas.List.Filters.{sum_by-filter_both}
 use Rattle.std.proofs.lemmas.List.Sums.{sum_by-cons}
 use Rattle.kt_stream.specs.declared.entry.LossRecord.{LossRecord}
 use Rattle.kt_stream.specs.declared.entry.Pair.{Pair}
@@ -65,15 +66,8 @@ module _ (loss : ℤ → ℕ) where
 
 -- losses of some records are no more than those of all
 pub members_within : (sidx : ℤ) (find : ℕ → Option ℕ) (records : List LossRecord) (summary : ℕ) → run_loss sidx (members find records summary) ≤ run_loss sidx records
-members_within sidx find records summary = along (λ entry. is_summary summary (find entry.id)) records
-  where
-    along : (test : LossRecord → Bool) (records : List LossRecord) → run_loss sidx (filter test records) ≤ run_loss sidx records
-    along test [] = omega arith
-    along test (entry ∷ records) = by (test entry) (along test records)
-      where
-        by : (b : Bool) → run_loss sidx (filter test records) ≤ run_loss sidx records → run_loss sidx (cond b (entry ∷ filter test records) (filter test records)) ≤ run_loss sidx (entry ∷ records)
-        by true rest = omega (arith, rest, sum_by-cons (λ (entry : LossRecord). loss_of sidx entry.pairs) entry records, sum_by-cons (λ (entry : LossRecord). loss_of sidx entry.pairs) entry (filter test records))
-        by false rest = omega (arith, rest, sum_by-cons (λ (entry : LossRecord). loss_of sidx entry.pairs) entry records)
+members_within sidx find records summary =
+    omega (arith, sum_by-filter_both (λ entry. is_summary summary (find entry.id)) (λ entry. not (is_summary summary (find entry.id))) (λ entry. refl) (λ (entry : LossRecord). loss_of sidx entry.pairs) records)
 
 -- pairs have no loss at a place that none of theirs is
 loss_outside : (least width p : ℕ) → (IsInside least width p → ⊥) → (pairs : List Pair) → AllByRecursion (λ pair. IsInside least width (place_of pair.sidx)) pairs → loss_of (sidx_at p) pairs ≡ 0

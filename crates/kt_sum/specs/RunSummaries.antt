@@ -1,6 +1,6 @@
 -- The sums of a run in each summary of a set, record by record.
 -- The rule: docs/CALCULATION.md, "Summaries".
-use Rattle.std.specs.Prelude.{◌≡◌, ℕ, ◌+◌, ◌<◌, true, false, nat_eq, List, length, map, All, slice_index_or, Option, Some}
+use Rattle.std.specs.Prelude.{◌≡◌, ℕ, ◌+◌, true, false, nat_eq, List, length, map, All, Option, Some}
 use Rattle.std.specs.List.{filter_map, list_any}
 use Rattle.kt_rec.specs.Rising.{IsRising}
 use Rattle.kt_rec.specs.declared.perspective.Perspective.{Perspective}
@@ -24,14 +24,9 @@ use Rattle.kt_sum.specs.declared.summary_sums.SummarySums.{SummarySums}
 abbrev pub IsIdle : SummarySums → Type 0
 IsIdle row = row.is_used ≡ false → Holds (length row.sums.items) (λ k. 0) row.sums.items
 
--- the sums are made 0
-pub record IsCleared (before now : SummarySums) : Type 0 where
-  pub summary : now.summary ≡ before.summary
-  pub zeros : Holds (length before.sums.items) (λ k. 0) now.sums.items
-
--- the first so many are made so
-abbrev pub AreCleared : ℕ → List SummarySums → List SummarySums → Type 0
-AreCleared n before now = (k : ℕ) (d : SummarySums) → k < n → IsCleared (slice_index_or before k d) (slice_index_or now k d)
+-- so many sums are all 0
+abbrev pub IsZeroRow : ℕ → SummarySums → Type 0
+IsZeroRow width row = Holds width (λ k. 0) row.sums.items
 
 -- the exposure of a summary of the set of a run
 abbrev pub exposure_in : SetRun → ℕ → ℕ

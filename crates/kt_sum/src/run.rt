@@ -6,10 +6,9 @@ ghost use Rattle.kt_rec.specs.Rising.{IsRising};
 ghost use Rattle.kt_stream.specs.Losses.{IsLoss};
 ghost use Rattle.kt_stream.specs.Summary.{IsSummary};
 ghost use Rattle.kt_tables.specs.SetRows.{AreFound};
-ghost use Rattle.kt_runs.specs.Adding.{Holds};
 ghost use Rattle.kt_runs.specs.RunLosses.{AreWithin};
 ghost use Rattle.kt_sum.specs.Adding.{IsSpan};
-ghost use Rattle.kt_sum.specs.RunSummaries.{IsReadyRow, IsSumOf, IsThere, records_of};
+ghost use Rattle.kt_sum.specs.RunSummaries.{IsReadyRow, IsSumOf, IsThere, IsZeroRow, records_of};
 ghost use Rattle.kt_sum.specs.Summaries.{run_summaries};
 
 use crate::rows::add_entry;
@@ -70,7 +69,7 @@ fn add_records(
     requires losses { AreWithin records.now }
     requires span { IsSpan records.now span.least span.width }
     requires ready { All (IsReadyRow span.width) rows.old }
-    requires zeros { All (λ row. Holds span.width (λ k. 0) row.sums.items) rows.old }
+    requires zeros { All (IsZeroRow span.width) rows.old }
     ensures rows { map (λ row. row.summary) rows.new ≡ summaries.now }
     ensures ready { All (IsReadyRow span.width) rows.new }
     ensures sums { (find : ℕ → Option ℕ) → found.now ≡ map (λ entry. find entry.id) records.now → All (IsSumOf span.least span.width find records.now) rows.new }

@@ -4,10 +4,10 @@ ghost use Rattle.std.specs.Prelude.{◌≡◌, ℕ, All, true, false, ◌+◌, �
 ghost use Rattle.std.specs.List.{flat_map};
 ghost use Rattle.kt_stream.specs.Summary.{summary_bytes};
 ghost use Rattle.kt_stream.specs.declared.entry.Pair.{Pair};
-ghost use Rattle.kt_runs.specs.Adding.{AreInside, Holds, IsAdded};
+ghost use Rattle.kt_runs.specs.Adding.{AreInside, IsAdded};
 ghost use Rattle.kt_runs.specs.RunLosses.{loss_of};
 ghost use Rattle.kt_runs.specs.Sidx.{sidx_at};
-ghost use Rattle.kt_sum.specs.RunSummaries.{AreCleared, IsCleared, IsIdle, IsReadyRow, exposure_in, record_of, records_of};
+ghost use Rattle.kt_sum.specs.RunSummaries.{IsIdle, IsReadyRow, IsZeroRow, exposure_in, record_of, records_of};
 
 use crate::set_run::SetRun;
 use crate::sums::pairs_of;
@@ -38,7 +38,7 @@ pub(crate) fn no_sums(
 ) -> Result<Vec<SummarySums>, AllocError>
     ensures summaries { IfOk result (λ rows. map (λ row. row.summary) rows.items ≡ summaries.now) }
     ensures ready { IfOk result (λ rows. All (IsReadyRow width) rows.items) }
-    ensures zeros { IfOk result (λ rows. All (λ row. Holds width (λ k. 0) row.sums.items) rows.items) }
+    ensures zeros { IfOk result (λ rows. All (IsZeroRow width) rows.items) }
 {
     let mut rows = Vec::with_capacity(alloc, summaries.len())?;
     for summary in summaries {
@@ -112,9 +112,10 @@ fn put_row(
 }
 
 /// Makes the sums 0.
-pub(crate) fn clear(row: &mut SummarySums)
+fn clear(row: &mut SummarySums)
     requires idle { IsIdle row.old }
-    ensures cleared { IsCleared row.old row.new }
+    ensures summary { row.new.summary ≡ row.old.summary }
+    ensures zeros { IsZeroRow (length row.old.sums.items) row.new }
 {
     if row.is_used {
         row.is_used = false;
@@ -147,8 +148,8 @@ pub(crate) fn put_rows(
 /// Makes the sums of summaries 0.
 pub(crate) fn clear_rows(rows: &mut [SummarySums])
     requires idle { All IsIdle rows.old }
-    ensures cleared { AreCleared (length rows.old) rows.old rows.new }
-    ensures len { length rows.new ≡ length rows.old }
+    ensures summaries { map (λ row. row.summary) rows.new ≡ map (λ row. row.summary) rows.old }
+    ensures zeros { (width : ℕ) → All (IsReadyRow width) rows.old → All (IsZeroRow width) rows.new }
 {
     for place in 0..rows.len() {
         clear(&mut rows[place]);

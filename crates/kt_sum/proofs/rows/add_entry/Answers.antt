@@ -1,9 +1,10 @@
 use Rattle.std.proofs.Common.{◌≡◌, ◌∙◌, ◌<◌, List, ℕ, Some, length, map, slice_index, slice_index_or, ap, arith, subst, sym}
+use Rattle.std.proofs.Math.Seq.{map-set_same}
 use Rattle.std.proofs.lemmas.List.{get_or-map, length-map}
 use Rattle.kt_rec.specs.Rising.{IsRising}
 use Rattle.kt_runs.specs.Adding.{AreInside}
 use Rattle.kt_sum.specs.declared.summary_sums.SummarySums.{SummarySums}
-use Rattle.kt_sum.proofs.RunSumsLemmas.{none_added, ready_more, some_added, summaries_more}
+use Rattle.kt_sum.proofs.RunSumsLemmas.{none_added, ready_more, some_added}
 use Rattle.kt_sum.proofs.rows.add_entry.Goals as goal
 
 pub returns-in-None-clause-sums : goal.returns-in-None-clause-sums
@@ -34,8 +35,8 @@ returns c =
     let below = inside rows c.args.summaries.now place c.requires.rows c.place_near-place.ensures.within in
     let summary : (slice_index_or rows place item).summary ≡ c.in-Some.summary = sym (get_or-map (λ (row : SummarySums). row.summary) rows place item 0 below) ∙ (ap (λ (ids : List ℕ). slice_index ids place) c.requires.rows ∙ c.place_near-place.ensures.value) in
     record {
-      rows = summaries_more rows place item now below added.summary ∙ c.requires.rows;
-      ready = ready_more rows place item now below span.width added.used added.width c.requires.ready;
+      rows = map-set_same (λ (row : SummarySums). row.summary) rows place now item added.summary ∙ c.requires.rows;
+      ready = ready_more span.width rows place item now below added.used added.width c.requires.ready;
       sums = λ find records found within are.
           some_added find span.least span.width records c.args.entry.now within rows place item now below (found ∙ (c.in-Some.is ∙ ap Some (sym summary))) are added.summary
           (subst IsRising (sym c.requires.rows) c.requires.rising) c.as_slice.result.now c.as_slice.ensures.value added.added;

@@ -1,11 +1,13 @@
--- The sums so far are 0, and the others as they were.
-use Rattle.std.proofs.Common.{◌≡◌, ◌≤◌, ℕ, slice_index_or}
-use Rattle.kt_sum.specs.RunSummaries.{AreCleared}
-use Rattle.kt_sum.specs.declared.summary_sums.SummarySums.{SummarySums}
+-- The sums so far are 0, and all are ready for the same summaries.
+use Rattle.std.proofs.Common.{◌≡◌, ℕ, map, take}
+use Rattle.std.specs.Prelude.{All}
+use Rattle.kt_sum.specs.RunSummaries.{IsIdle, IsReadyRow, IsZeroRow}
 use Rattle.kt_sum.proofs.summary_sums.clear_rows.Given as goal
 
 abbrev pub invariant-loop-place : goal.invariant-loop-place
 invariant-loop-place l = record {
-  cleared : AreCleared l.place l.fn.rows l.rows;
-  kept : (k : ℕ) (d : SummarySums) → l.place ≤ k → slice_index_or l.rows k d ≡ slice_index_or l.fn.rows k d;
+  idle : All IsIdle l.rows;
+  summaries : map (λ row. row.summary) l.rows ≡ map (λ row. row.summary) l.fn.rows;
+  ready : (width : ℕ) → All (IsReadyRow width) l.fn.rows → All (IsReadyRow width) l.rows;
+  zeros : (width : ℕ) → All (IsReadyRow width) l.fn.rows → All (IsZeroRow width) (take l.place l.rows);
 }

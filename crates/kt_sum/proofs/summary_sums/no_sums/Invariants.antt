@@ -1,11 +1,11 @@
 -- There are sums for the summaries so far.
 use Rattle.std.proofs.Common.{◌≡◌, map, take}
 use Rattle.std.specs.Prelude.{All}
-use Rattle.kt_runs.specs.Adding.{Holds}
+use Rattle.kt_sum.specs.RunSummaries.{IsZeroRow}
 use Rattle.kt_sum.proofs.summary_sums.no_sums.Given as goal
 
 abbrev pub invariant-loop-summary : goal.invariant-loop-summary
 invariant-loop-summary l = record {
   summaries : map (λ row. row.summary) l.rows.items ≡ take l.summary-index l.summaries;
-  zeros : All (λ row. Holds l.width (λ k. 0) row.sums.items) l.rows.items;
+  zeros : All (IsZeroRow l.width) l.rows.items;
 }

@@ -1,4 +1,4 @@
-use Rattle.std.proofs.Common.{◌≡◌, ◌∙◌, ◌+◌, ◌++◌, ℕ, List, [], length, map, ap, subst, sym}
+use Rattle.std.proofs.Common.{◌≡◌, ◌∙◌, ◌+◌, ◌++◌, ℕ, List, [], map, ap, subst, sym}
 use Rattle.std.specs.Prelude.{All}
 use Rattle.std.specs.List.{filter_map, flat_map}
 use Rattle.std.proofs.lemmas.List.{with_items_is}
@@ -7,10 +7,10 @@ use Rattle.kt_runs.specs.RunSums.{AreRunSums, AreSums}
 use Rattle.kt_stream.specs.Losses.{IsLoss}
 use Rattle.kt_stream.specs.Summary.{summary_bytes}
 use Rattle.kt_tables.specs.Lookups.{exposure_of, summary_in}
-use Rattle.kt_sum.specs.RunSummaries.{AreCleared, IsReadyRow, IsSumOf, record_of}
+use Rattle.kt_sum.specs.RunSummaries.{IsReadyRow, IsSumOf, record_of}
 use Rattle.kt_sum.specs.Summaries.{summaries_by}
 use Rattle.kt_sum.specs.declared.summary_sums.SummarySums.{SummarySums}
-use Rattle.kt_sum.proofs.RunSumsLemmas.{all_there, cleared_ready, cleared_summaries, cleared_zeros, exposure_same, run_records}
+use Rattle.kt_sum.proofs.RunSumsLemmas.{all_there, exposure_same, run_records, zero_ready}
 use Rattle.kt_sum.proofs.SpanLemmas.{stream_places}
 use Rattle.kt_sum.proofs.run_summaries.RunSummaries.put.Goals as goal
 
@@ -22,16 +22,15 @@ returns c =
     let rows = it.rows.items in
     let now = c.clear_rows.new.rows in
     let before_are : c.deref_mut.result.now ≡ rows = c.deref_mut.ensures.value in
-    let cleared = subst (λ (before : List SummarySums). AreCleared (length before) before now) before_are c.clear_rows.ensures.cleared in
-    let long : length now ≡ length rows = c.clear_rows.ensures.len ∙ ap length before_are in
-    let rows_are = with_items_is it.rows now (c.clear_rows.ensures.len ∙ c.deref_mut.ensures.len) in
+    let rows_are = with_items_is it.rows now (c.clear_rows.auto.rows ∙ c.deref_mut.ensures.len) in
     let totals_are = with_items_is it.totals c.clear_run.new.sums (c.clear_run.auto.sums ∙ c.deref_mut-2.ensures.len) in
     let ready = c.requires.ready in
+    let zeros = c.clear_rows.ensures.zeros (samples + 3) (subst (λ (rows : List SummarySums). All (IsReadyRow (samples + 3)) rows) (sym before_are) ready.rows) in
     record {
       ready = record {
         are = record { rising = ready.are.rising; there = ready.are.there };
-        rows_are = ap (λ (rows : List SummarySums). map (λ row. row.summary) rows) rows_are ∙ (cleared_summaries (samples + 3) rows now ready.rows long cleared ∙ ready.rows_are);
-        rows = subst (λ (rows : List SummarySums). All (IsReadyRow (samples + 3)) rows) (sym rows_are) (cleared_ready (samples + 3) rows now ready.rows long cleared);
+        rows_are = ap (λ (rows : List SummarySums). map (λ row. row.summary) rows) rows_are ∙ (c.clear_rows.ensures.summaries ∙ (ap (λ (rows : List SummarySums). map (λ row. row.summary) rows) before_are ∙ ready.rows_are));
+        rows = subst (λ (rows : List SummarySums). All (IsReadyRow (samples + 3)) rows) (sym rows_are) (λ k d below. zero_ready (samples + 3) _ (zeros k d below));
         totals = subst (AreSums samples) (sym totals_are) c.clear_run.ensures.sums;
       };
       text = λ portfolio perspective set records holds event_is.
@@ -45,7 +44,7 @@ returns c =
         are = record { portfolio_is = of.portfolio_is; perspective_is = of.perspective_is; set_is = of.set_is; found = of.found };
         good = All-from_recursion (IsLoss samples) [] tt;
         totals = subst (AreRunSums samples []) (sym totals_are) c.clear_run.ensures.value;
-        rows = subst (λ (rows : List SummarySums). All (IsSumOf 2147483646 (samples + 3) (summary_in perspective portfolio.rows set) []) rows) (sym rows_are) (cleared_zeros (samples + 3) rows now ready.rows long cleared);
+        rows = subst (λ (rows : List SummarySums). All (IsSumOf 2147483646 (samples + 3) (summary_in perspective portfolio.rows set) []) rows) (sym rows_are) zeros;
       };
       unchanged = tt;
     }
