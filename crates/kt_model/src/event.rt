@@ -1,6 +1,6 @@
 //! The damage distributions of an event.
 //! The rules: docs/CALCULATION.md, "Damage distribution".
-ghost use Rattle.std.specs.Prelude.{◌≡◌, ◌⊎◌, ◌≤◌, ◌++◌, ℕ, List, [], nat_eq, true, length, All, None, Some, OnOk, IfOk, IfErr};
+ghost use Rattle.std.specs.Prelude.{◌≡◌, ◌⊎◌, ◌≤◌, ◌++◌, ℕ, List, [], nat_eq, true, length, take, All, None, Some, OnErr, OnOk, IfOk, IfErr};
 ghost use Rattle.std.specs.List.{cons_option, filter, flat_map, sum_by};
 ghost use Rattle.std.specs.List.Sorted.{IsNonDecreasingBy};
 ghost use Rattle.kt_rec.specs.declared.hazard.FootRow.{FootRow};
@@ -55,7 +55,8 @@ fn make_pair(
     Ok(())
 }
 
-/// Puts the distribution of one pair of areaperil, which has these rows, and vulnerability, where it has one.
+/// Puts the distribution of one pair of areaperil, which has these rows, and vulnerability, where it has one. An error is want of memory,
+/// and nothing is put then.
 fn put_pair<E: Exit>(
     portfolio: &Portfolio,
     event: u32,
@@ -69,6 +70,7 @@ fn put_pair<E: Exit>(
     requires within { sum_by (λ row. row.prob) rows.now ≤ 1001000 }
     ensures ok { OnOk result ((foot : List FootRow) → rows.now ≡ filter (λ row. nat_eq row.areaperil pair.0) foot → E.pieces exit.new ≡ E.pieces exit.old ++ flat_map E.spelled (cons_option (record_of portfolio.now.rows event foot pair) [])) }
     ensures ready { OnOk result (IsReady portfolio.now.rows scratch.new) }
+    ensures unchanged { OnErr result (E.pieces exit.new ≡ E.pieces exit.old) }
 {
     let (areaperil, vulnerability) = pair;
     make_pair(portfolio, rows, vulnerability, scratch)?;
@@ -81,7 +83,8 @@ fn put_pair<E: Exit>(
     exit.put(&scratch.cdf)
 }
 
-/// Puts the distributions of an event, whose rows stand by rising areaperil.
+/// Puts the distributions of an event, whose rows stand by rising areaperil. An error is want of memory; some of them may then stand
+/// behind what was there.
 fn put_struck<E: Exit>(
     portfolio: &Portfolio,
     event: u32,
@@ -93,6 +96,7 @@ fn put_struck<E: Exit>(
     requires rising { IsNonDecreasingBy (λ row. row.areaperil) foot.now }
     requires within { (areaperil : ℕ) → areaperil_total foot.now areaperil ≤ 1001000 }
     ensures ok { OnOk result (E.pieces exit.new ≡ E.pieces exit.old ++ flat_map E.spelled (distributions_of portfolio.now.rows event foot.now)) }
+    ensures behind { OnErr result (take (length (E.pieces exit.old)) (E.pieces exit.new) ≡ E.pieces exit.old) }
 {
     scratch.clear(portfolio.damage_bins().len())?;
     let pairs = portfolio.pairs();
@@ -107,7 +111,8 @@ fn put_struck<E: Exit>(
     Ok(())
 }
 
-/// Judges the rows of an event's footprint, and puts its distributions.
+/// Judges the rows of an event's footprint, and puts its distributions. Where memory is wanting, some of them may stand behind what was
+/// there.
 fn put_event<E: Exit>(
     alloc: Global,
     portfolio: &Portfolio,
@@ -122,6 +127,7 @@ fn put_event<E: Exit>(
 
     // The first refused row, before anything is put, or want of memory.
     ensures refused { IfErr result (λ stop. ((first_refused_row rows.now ≡ Some stop) × (exit.new ≡ exit.old)) ⊎ (stop ≡ OutOfMemory)) }
+    ensures behind { OnErr result (take (length (E.pieces exit.old)) (E.pieces exit.new) ≡ E.pieces exit.old) }
 {
     check_rows(alloc, rows)?;
     portfolio.keeps_damage();
@@ -159,7 +165,7 @@ pub fn distributions(
 }
 
 /// Appends the distributions of an event as they stand in a stream: those of `distributions`, which says what must hold. The
-/// scratch is used again from event to event.
+/// scratch is used again from event to event. After an error nothing is appended.
 pub fn put_distributions(
     alloc: Global,
     portfolio: &Portfolio,
@@ -174,6 +180,14 @@ pub fn put_distributions(
 
     // The first refused row, before anything is appended, or want of memory.
     ensures refused { IfErr result (λ stop. ((first_refused_row rows.now ≡ Some stop) × (out.new ≡ out.old)) ⊎ (stop ≡ OutOfMemory)) }
+    ensures unchanged { OnErr result (out.new ≡ out.old) }
 {
-    put_event(alloc, portfolio, event, rows, scratch, out)
+    let whole = out.len();
+    match put_event(alloc, portfolio, event, rows, scratch, out) {
+        Ok(()) => Ok(()),
+        Err(stop) => {
+            out.truncate(whole);
+            Err(stop)
+        }
+    }
 }

@@ -1,6 +1,6 @@
 //! Where the distributions of an event go: into a list, or into the bytes of a stream.
 //! The rule: docs/STREAMS.md, "Distributions".
-ghost use Rattle.std.specs.Prelude.{◌≡◌, ◌++◌, OnOk};
+ghost use Rattle.std.specs.Prelude.{◌≡◌, ◌++◌, OnErr, OnOk};
 
 use kt_money::Bytes;
 use kt_stream::{Cdf, Reusable, put_cdf};
@@ -20,9 +20,10 @@ pub(crate) trait Exit {
     /// The pieces of a distribution.
     ghost spelled: { Cdf → List Piece };
 
-    /// Appends a distribution. An error is want of memory.
+    /// Appends a distribution. An error is want of memory, and nothing is appended then.
     fn put(&mut self, cdf: &Cdf) -> Result<(), AllocError>
-        ensures ok { OnOk result (pieces self.new ≡ pieces self.old ++ spelled cdf.now) };
+        ensures ok { OnOk result (pieces self.new ≡ pieces self.old ++ spelled cdf.now) }
+        ensures unchanged { OnErr result (pieces self.new ≡ pieces self.old) };
 }
 
 impl Exit for Vec<Cdf> {
