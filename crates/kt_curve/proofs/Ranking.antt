@@ -1,61 +1,61 @@
 -- Lists in falling order with as many values above each amount have the same losses at each rank.
 use Rattle.std.proofs.Common.{◌≡◌, ⊎_elim, ℕ, zero, suc, ◌+◌, ◌-◌, ◌*◌, ◌/◌, ◌<◌, ◌≤◌, List, [], ◌∷◌, ◌++◌, length, get_or, reverse, arith, refl, sym, ap, ◌∙◌, cond}
 use Rattle.std.specs.Prelude.{Bool, true, false, nat_le, All}
-use Rattle.std.specs.List.Sorted.{IsNonDecreasing}
+use Rattle.std.specs.List.Sorted.{IsNonDecreasing, IsPermutation}
 use Rattle.std.proofs.lemmas.Bool.{cases_lt}
 use Rattle.std.proofs.lemmas.Bool.Decides.{nat_tests}
 use Rattle.std.proofs.lemmas.List.Sums.{sum_by-cons}
-use Rattle.std.proofs.lemmas.List.Elements.{All-head, All-tail, All-nil, All-cons, All-push, All-weaker, All-from_get_or}
+use Rattle.std.proofs.lemmas.List.Elements.{All-head, All-tail, All-nil, All-cons, All-append, All-push, All-weaker, All-from_get_or}
+use Rattle.std.proofs.lemmas.List.Sorted.{IsPermutation-refl, IsPermutation-trans, IsPermutation-cons, IsPermutation-middle, All-permutation, sum_by-IsPermutation}
 use Rattle.std.proofs.lemmas.Grind.{reverse_onto}
 use Rattle.std.proofs.lemmas.Nat.{mul-le}
 use Rattle.std.proofs.Math.Nat.{mul-div-le}
 use Rattle.kt_period_cells.specs.Losses.{one_if}
-use Rattle.kt_curve.specs.Ranks.{reaching, SameRanks, Falls}
+use Rattle.kt_curve.specs.Ranks.{reaching, SameRanks, Falls, HasLosses}
 use Rattle.kt_curve.specs.Exceedance.{with_value, falling, ranked_loss, loss_between, exceedance_loss}
 
 -- ---- falling lists
 
--- one more value, which is not above the others
-falls_push : (xs : List ℕ) (y : ℕ) → Falls xs → All (λ x. y ≤ x) xs → Falls (xs ++ y ∷ [])
-falls_push [] y falls above = (All-nil _, tt)
-falls_push (x ∷ xs) y falls above =
-    (All-push (λ later. later ≤ x) xs y falls.0 (All-head (λ x. y ≤ x) x xs above), falls_push xs y falls.1 (All-tail (λ x. y ≤ x) x xs above))
+-- a value put in its place only moves
+with_moves : (y : ℕ) (xs : List ℕ) → IsPermutation (y ∷ xs) (with_value y xs)
+with_moves y [] = IsPermutation-refl (y ∷ [])
+with_moves y (x ∷ xs) = by_test (nat_le x y) (with_moves y xs)
+  where
+    by_test : (b : Bool) → IsPermutation (y ∷ xs) (with_value y xs) → IsPermutation (y ∷ x ∷ xs) (cond b (y ∷ x ∷ xs) (x ∷ with_value y xs))
+    by_test true later = IsPermutation-refl (y ∷ x ∷ xs)
+    by_test false later = IsPermutation-trans (y ∷ x ∷ xs) (x ∷ y ∷ xs) (x ∷ with_value y xs) (IsPermutation-middle (y ∷ []) x xs) (IsPermutation-cons x (y ∷ xs) (with_value y xs) later)
+
+-- falling values are the values, moved
+pub falling_moves : (xs : List ℕ) → IsPermutation xs (falling xs)
+falling_moves [] = IsPermutation-refl []
+falling_moves (x ∷ xs) = IsPermutation-trans (x ∷ xs) (x ∷ falling xs) (with_value x (falling xs)) (IsPermutation-cons x xs (falling xs) (falling_moves xs)) (with_moves x (falling xs))
+
+-- as many of the moved values reach an amount
+pub reaching_moved : (xs ys : List ℕ) → IsPermutation xs ys → (v : ℕ) → reaching v ys ≡ reaching v xs
+reaching_moved xs ys moved v = sum_by-IsPermutation (λ value. one_if (nat_le v value)) xs ys moved
+
+-- falling values, then one that is not above them, then falling ones that are not above it
+pub split_falls : (front : List ℕ) (x : ℕ) (back : List ℕ) → Falls front → Falls back → All (λ y. x ≤ y) front → All (λ y. y ≤ x) back → Falls (front ++ x ∷ back)
+split_falls [] x back falls later high low = (low, later)
+split_falls (y ∷ front) x back falls later high low =
+    let above : x ≤ y = All-head (λ z. x ≤ z) y front high in (
+      All-append (λ z. z ≤ y) front (x ∷ back) falls.0 (All-cons (λ z. z ≤ y) x back above (All-weaker (λ z. z ≤ x) (λ z. z ≤ y) (λ z less. omega arith) back low)),
+      split_falls front x back falls.1 later (All-tail (λ z. x ≤ z) y front high) low,
+    )
 
 -- a value put in its place
 falls_with : (y : ℕ) (xs : List ℕ) → Falls xs → Falls (with_value y xs)
 falls_with y [] falls = (All-nil _, tt)
 falls_with y (x ∷ xs) falls = by_test (nat_le x y) (λ e. grind (arith, nat_tests)) (λ e. grind (arith, nat_tests)) (falls_with y xs falls.1)
   where
-    below : y ≤ x → (zs : List ℕ) → All (λ later. later ≤ x) zs → All (λ later. later ≤ x) (with_value y zs)
-    below low [] all = All-cons (λ later. later ≤ x) y [] low all
-    below low (z ∷ zs) all = at_z (nat_le z y) (below low zs (All-tail (λ later. later ≤ x) z zs all))
-      where
-        at_z : (b : Bool) → All (λ later. later ≤ x) (with_value y zs) → All (λ later. later ≤ x) (cond b (y ∷ z ∷ zs) (z ∷ with_value y zs))
-        at_z true later = All-cons (λ later. later ≤ x) y (z ∷ zs) low all
-        at_z false later = All-cons (λ later. later ≤ x) z (with_value y zs) (All-head (λ later. later ≤ x) z zs all) later
-
     by_test : (b : Bool) → (b ≡ true → x ≤ y) → (b ≡ false → y ≤ x) → Falls (with_value y xs) → Falls (cond b (y ∷ x ∷ xs) (x ∷ with_value y xs))
     by_test true high low later = let more : x ≤ y = high refl in (All-cons (λ later. later ≤ y) x xs more (All-weaker (λ later. later ≤ x) (λ later. later ≤ y) (λ z less. omega arith) xs falls.0), falls)
-    by_test false high low later = (below (low refl) xs falls.0, later)
+    by_test false high low later = (All-permutation (λ later. later ≤ x) (y ∷ xs) (with_value y xs) (with_moves y xs) (All-cons (λ later. later ≤ x) y xs (low refl) falls.0), later)
 
 -- falling values fall
 pub falls_falling : (xs : List ℕ) → Falls (falling xs)
 falls_falling [] = tt
 falls_falling (x ∷ xs) = falls_with x (falling xs) (falls_falling xs)
-
--- a value put in its place is one more that may reach an amount
-reaching_with : (v y : ℕ) (xs : List ℕ) → reaching v (with_value y xs) ≡ one_if (nat_le v y) + reaching v xs
-reaching_with v y [] = sum_by-cons (λ x. one_if (nat_le v x)) y []
-reaching_with v y (x ∷ xs) = by_test (nat_le x y) (reaching_with v y xs)
-  where
-    by_test : (b : Bool) → reaching v (with_value y xs) ≡ one_if (nat_le v y) + reaching v xs → reaching v (cond b (y ∷ x ∷ xs) (x ∷ with_value y xs)) ≡ one_if (nat_le v y) + reaching v (x ∷ xs)
-    by_test true later = sum_by-cons (λ x. one_if (nat_le v x)) y (x ∷ xs)
-    by_test false later = omega (arith, later, sum_by-cons (λ x. one_if (nat_le v x)) x (with_value y xs), sum_by-cons (λ x. one_if (nat_le v x)) x xs)
-
--- as many falling values reach an amount
-pub reaching_falling : (v : ℕ) (xs : List ℕ) → reaching v (falling xs) ≡ reaching v xs
-reaching_falling v [] = refl
-reaching_falling v (x ∷ xs) = reaching_with v x (falling xs) ∙ omega (arith, reaching_falling v xs, sum_by-cons (λ x. one_if (nat_le v x)) x xs)
 
 -- ---- ranks
 
@@ -106,7 +106,7 @@ same_losses xs ys falls others same k =
 -- ranked losses are those of the values with the same ranks
 pub loss_is_ranked : (xs values : List ℕ) → Falls xs → SameRanks xs values → (k : ℕ) → get_or xs k 0 ≡ ranked_loss values k
 loss_is_ranked xs values falls same k =
-    same_losses xs (falling values) falls (falls_falling values) (λ v some. same v some ∙ sym (reaching_falling v values)) k
+    same_losses xs (falling values) falls (falls_falling values) (λ v some. same v some ∙ sym (reaching_moved values (falling values) (falling_moves values) v)) k
 
 -- a loss of a later rank is no greater
 pub falls_next : (xs : List ℕ) (k : ℕ) → Falls xs → get_or xs (suc k) 0 ≤ get_or xs k 0
@@ -130,7 +130,7 @@ rises_from (x ∷ xs) up = (All-from_get_or (λ later. x ≤ later) xs 0 (λ i i
 -- the other way round they fall
 pub falls_reverse : (xs : List ℕ) → Rises xs → Falls (reverse xs)
 falls_reverse [] rises = tt
-falls_reverse (x ∷ xs) rises = rw (reverse_onto xs x []) (falls_push (reverse xs) x (falls_reverse xs rises.1) (all_reverse xs rises.0))
+falls_reverse (x ∷ xs) rises = rw (reverse_onto xs x []) (split_falls (reverse xs) x [] (falls_reverse xs rises.1) tt (all_reverse xs rises.0) (All-nil _))
   where
     all_reverse : (ys : List ℕ) → All (λ later. x ≤ later) ys → All (λ later. x ≤ later) (reverse ys)
     all_reverse [] all = all
@@ -169,11 +169,21 @@ falls_before xs (suc k) falls = falls_at (suc k - 1) (omega arith)
     falls_at : (j : ℕ) → j ≡ k → get_or xs (suc k) 0 ≤ get_or xs j 0
     falls_at j is = rw is (falls_next xs k falls)
 
--- the loss of a return period, from ranked losses
-pub loss_from_ranked : (count period f result upper lower : ℕ) (ranked values : List ℕ) → Falls ranked → SameRanks ranked values → f ≡ period → upper ≡ get_or ranked (count / f - 1) 0 → lower ≡ get_or ranked (count / f) 0 →
+-- values with the same ranks have the same losses at each
+pub ranked_same : (xs ys : List ℕ) → SameRanks xs ys → (k : ℕ) → ranked_loss xs k ≡ ranked_loss ys k
+ranked_same xs ys same = loss_is_ranked (falling xs) ys (falls_falling xs) (λ v some. reaching_moved xs (falling xs) (falling_moves xs) v ∙ same v some)
+
+-- ---- the loss of a return period
+
+-- of its two losses the later one is no greater
+pub has_fall : (found values : List ℕ) (count period : ℕ) → HasLosses found values count period → get_or found (count / period) 0 ≤ get_or found (count / period - 1) 0
+has_fall found values count period has = rw (has.0, has.1) (falls_before (falling values) (count / period) (falls_falling values))
+
+-- the loss of a return period, from its two losses
+pub loss_from_ranked : (count period f result upper lower : ℕ) (found values : List ℕ) → HasLosses found values count period → f ≡ period → upper ≡ get_or found (count / f - 1) 0 → lower ≡ get_or found (count / f) 0 →
     result ≡ loss_between count period (count / f) upper lower → result ≡ exceedance_loss count values period
-loss_from_ranked count period f result upper lower ranked values falls same is upper_is lower_is result_is =
+loss_from_ranked count period f result upper lower found values has is upper_is lower_is result_is =
     result_is
-    ∙ ap (λ u. loss_between count period (count / f) u lower) (upper_is ∙ loss_is_ranked ranked values falls same (count / f - 1))
-    ∙ ap (λ w. loss_between count period (count / f) (ranked_loss values (count / f - 1)) w) (lower_is ∙ loss_is_ranked ranked values falls same (count / f))
-    ∙ ap (λ n. loss_between count period (count / n) (ranked_loss values (count / n - 1)) (ranked_loss values (count / n))) is
+    ∙ ap (λ u. loss_between count period (count / f) u lower) (upper_is ∙ ap (λ n. get_or found (count / n - 1) 0) is ∙ has.0)
+    ∙ ap (λ w. loss_between count period (count / f) (ranked_loss values (count / period - 1)) w) (lower_is ∙ ap (λ n. get_or found (count / n) 0) is ∙ has.1)
+    ∙ ap (λ n. loss_between count period (count / n) (ranked_loss values (count / period - 1)) (ranked_loss values (count / period))) is

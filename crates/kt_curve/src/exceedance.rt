@@ -4,20 +4,11 @@ ghost use Rattle.std.specs.Prelude.{◌≡◌, ◌+◌, ◌-◌, ◌*◌, ◌/�
 ghost use Rattle.std.specs.List.{slice_index};
 ghost use Rattle.kt_period_cells.specs.Standing.{most_total};
 ghost use Rattle.kt_curve.specs.Exceedance.{loss_between, lec_row, curve_rows, exceedance_loss};
-ghost use Rattle.kt_curve.specs.Ranks.{SameRanks, Falls, reaching};
+ghost use Rattle.kt_curve.specs.Ranks.{SameRanks, HasLosses};
 
+use crate::ranks::place_losses;
 use kt_money::{Bytes, OutOfMemory, Row};
-
-/// Sorts values so that they fall.
-pub(crate) fn rank(values: &mut [u64])
-    ensures falls { Falls values.new }
-    ensures same { (least : ℕ) → reaching least values.new ≡ reaching least values.old }
-    ensures len { length values.new ≡ length values.old }
-    ensures most { All (λ value. value ≤ most_total) values.old → All (λ value. value ≤ most_total) values.new }
-{
-    values.sort_unstable();
-    values.reverse();
-}
+use std::alloc::Global;
 
 /// The loss of a rank, counted from 0; 0 behind the last.
 fn loss_of_rank(ranked: &[u64], rank: u64) -> u64
@@ -44,14 +35,14 @@ fn between(count: u64, period: u32, rank: u64, upper: u64, lower: u64) -> u64
     lower + part as u64
 }
 
-/// The loss of a return period, of ranked losses among `count` values.
+/// The loss of a return period among `count` values, where the losses of its two ranks stand at their places.
 fn exceedance_loss(ranked: &[u64], count: u64, period: u32) -> u64
     requires some { 1 ≤ period }
     requires count { count ≤ 10 ^ 8 }
     requires within { period ≤ count }
-    requires falls { Falls ranked.now }
-    requires most { All (λ value. value ≤ most_total) ranked.now }
-    ensures value { (values : List ℕ) → SameRanks ranked.now values → result ≡ exceedance_loss count values period }
+    requires falls { slice_index ranked.now (count / period) ≤ slice_index ranked.now (count / period - 1) }
+    requires most { slice_index ranked.now (count / period - 1) ≤ most_total }
+    ensures value { (values : List ℕ) → HasLosses ranked.now values count period → result ≡ exceedance_loss count values period }
 {
     let rank = count / u64::from(period);
     let upper = loss_of_rank(ranked, rank - 1);
@@ -81,34 +72,11 @@ fn append_row(
     out.append(row.as_slice())
 }
 
-/// Appends the rows of a curve: of `count` values, of which those above 0 are ranked. An error is want of memory.
-pub(crate) fn append_curve(
-    out: &mut Bytes,
-    summary: u32,
-    column: u32,
-    count: u64,
-    ranked: &[u64],
-    returns: &[u32],
-) -> Result<(), OutOfMemory>
-    requires count { count ≤ 10 ^ 8 }
-    requires falls { Falls ranked.now }
-    requires most { All (λ value. value ≤ most_total) ranked.now }
-    requires returns { All (λ period. 1 ≤ period) returns.now }
-    ensures ok { OnOk result ((values : List ℕ) → SameRanks ranked.now values → out.new ≡ out.old ++ curve_rows summary column count values returns.now) }
-{
-    for period in returns {
-        if u64::from(*period) > count {
-            continue;
-        }
-        let loss = exceedance_loss(ranked, count, *period);
-        append_row(out, summary, column, *period, loss)?;
-    }
-    Ok(())
-}
-
-/// Appends the rows of a curve of `count` values, of which those that are not listed are 0. An error is want of memory.
+/// Appends the rows of a curve of `count` values, of which those that are not listed are 0. It leaves the values in no order. An
+/// error is want of memory.
 pub(crate) fn append_values(
     out: &mut Bytes,
+    alloc: Global,
     summary: u32,
     column: u32,
     count: u64,
@@ -120,6 +88,13 @@ pub(crate) fn append_values(
     requires returns { All (λ period. 1 ≤ period) returns.now }
     ensures ok { OnOk result ((whole : List ℕ) → SameRanks values.old whole → out.new ≡ out.old ++ curve_rows summary column count whole returns.now) }
 {
-    rank(values);
-    append_curve(out, summary, column, count, values, returns)
+    place_losses(alloc, values, count, returns)?;
+    for period in returns {
+        if u64::from(*period) > count {
+            continue;
+        }
+        let loss = exceedance_loss(values, count, *period);
+        append_row(out, summary, column, *period, loss)?;
+    }
+    Ok(())
 }

@@ -29,6 +29,7 @@ fn append_kind(
     let count = count_of(group.periods, group.samples, mean);
     append_values(
         out,
+        alloc,
         group.summary,
         column,
         count,
@@ -68,6 +69,7 @@ fn append_sample(
     let mut values = group.sample_amounts(alloc, sample)?;
     append_values(
         out,
+        alloc,
         group.summary,
         sample,
         u64::from(group.periods),

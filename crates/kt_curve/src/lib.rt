@@ -7,6 +7,7 @@ mod kinds;
 pub mod laws;
 mod lec;
 mod mean_curves;
+mod ranks;
 
 pub use average::{aal_heading, aal_text};
 pub use kt_rec::Curve;

@@ -9,7 +9,8 @@ ghost use Rattle.kt_period_cells.specs.SummaryRows.{group_entries, IsSummary};
 ghost use Rattle.kt_curve.specs.Ranks.{SameRanks};
 ghost use Rattle.kt_curve.specs.Exceedance.{curve_rows, sidx_values, ranked_loss, period_means, rank_means};
 
-use crate::exceedance::{append_values, rank};
+use crate::exceedance::append_values;
+use crate::ranks::rank;
 use kt_money::{Bytes, OutOfMemory, div_half_up};
 use kt_period_cells::SummaryCells;
 use std::alloc::Global;
@@ -58,6 +59,7 @@ fn append_means(
     let mut values = means(alloc, sums, group.samples)?;
     append_values(
         out,
+        alloc,
         group.summary,
         2,
         u64::from(group.periods),

@@ -3,10 +3,10 @@ use Rattle.std.proofs.Common.{◌≤◌, ℕ, ◌∙◌}
 use Rattle.std.proofs.lemmas.List.Sorted.{IsNonDecreasingBy-from_sort, sum_by-IsPermutation}
 use Rattle.std.specs.Prelude.{nat_le}
 use Rattle.kt_period_cells.specs.Losses.{one_if}
-use Rattle.std.proofs.lemmas.List.Sorted.{All-permutation}
+use Rattle.std.proofs.lemmas.List.Sorted.{All-permutation, IsPermutation-trans}
 use Rattle.kt_period_cells.specs.Standing.{most_total}
 use Rattle.kt_curve.proofs.Ranking.{falls_sorted}
-use Rattle.kt_curve.proofs.exceedance.rank.Goals as goal
+use Rattle.kt_curve.proofs.ranks.rank.Goals as goal
 
 pub returns-clause-falls : goal.returns-clause-falls
 returns-clause-falls c = rw c.reverse.ensures.after (falls_sorted c.sort_unstable.new.self (IsNonDecreasingBy-from_sort (λ (x : ℕ). x) c.sort_unstable.new.self c.sort_unstable.ensures.sorted))
@@ -20,3 +20,6 @@ pub returns-clause-most : goal.returns-clause-most
 returns-clause-most c = λ most.
     All-permutation (λ value. value ≤ most_total) c.sort_unstable.new.self c.reverse.new.self c.reverse.ensures.permutation
     (All-permutation (λ value. value ≤ most_total) c.args.values.now c.sort_unstable.new.self c.sort_unstable.ensures.permutation most)
+
+pub returns-clause-permutation : goal.returns-clause-permutation
+returns-clause-permutation c = IsPermutation-trans c.args.values.now c.sort_unstable.new.self c.reverse.new.self c.sort_unstable.ensures.permutation c.reverse.ensures.permutation

@@ -1,0 +1,24 @@
+-- The losses stand at the places of all ranks that are asked for.
+use Rattle.std.proofs.Common.{◌≡◌, ◌++◌, map, slice_index, ap, sym, ◌∙◌}
+use Rattle.std.proofs.lemmas.List.Elements.{All-weaker}
+use Rattle.std.proofs.lemmas.List.Sorted.{All-permutation, IsPermutation-sym}
+use Rattle.kt_curve.specs.Exceedance.{ranked_loss}
+use Rattle.kt_curve.specs.Ranks.{curve_ranks}
+use Rattle.kt_curve.proofs.Ranking.{ranked_same}
+use Rattle.kt_curve.proofs.Selecting.{all_asked}
+use Rattle.kt_curve.proofs.ranks.place_losses.Goals as goal
+
+pub returns : goal.returns
+returns c = record {
+  placed = λ whole same.
+      let values = c.args.values.now in
+      let ranks = c.in_ok-ranks.ranks.items in
+      let asked = curve_ranks c.args.count c.args.returns.now in
+      let found : c.as_slice-3.result.now ≡ map (ranked_loss values) c.as_slice-2.result.now =
+      c.as_slice-3.ensures.value ∙ c.in_ok-append_losses.ensures.ok ∙ ap (λ losses. losses ++ map (ranked_loss values) c.as_slice.result.now) c.in_ok-losses.ensures.items
+      ∙ ap (map (ranked_loss values)) (c.as_slice.ensures.value ∙ sym c.as_slice-2.ensures.value) in
+      all_asked (λ rank. slice_index c.put_losses.new.values rank ≡ ranked_loss whole rank) c.args.count c.args.returns.now
+      (All-permutation (λ rank. slice_index c.put_losses.new.values rank ≡ ranked_loss whole rank) ranks asked (IsPermutation-sym asked ranks c.in_ok-ranks.ensures.same)
+      (All-weaker (λ rank. slice_index c.put_losses.new.values rank ≡ ranked_loss values rank) (λ rank. slice_index c.put_losses.new.values rank ≡ ranked_loss whole rank) (λ rank is. is ∙ ranked_same values whole same rank) ranks
+      (rw c.as_slice-2.ensures.value at (c.put_losses.ensures values (sym c.append_losses.auto.values) found))));
+}
