@@ -1,42 +1,31 @@
--- The texts that a hand makes, and the files that they are for.
-use Rattle.std.proofs.Common.{◌≡◌, ℕ, ◌+◌, ◌*◌, ◌<◌, List, [], ◌∷◌, ◌++◌, length, arith, sym, ap, subst, ◌∙◌, get_or}
-use Rattle.std.proofs.Math.Decide.{dec_lt}
-use Rattle.std.proofs.Math.Nat.{mod-add-div, mul-add}
-use Rattle.std.specs.Prelude.{IfOk, Vec, Result, Ok, Err, ◌/◌, ◌%◌}
+-- The texts that hands have made, and the files that they are for.
+use Rattle.std.proofs.Common.{◌≡◌, ℕ, ◌+◌, ◌-◌, ◌<◌, ◌≤◌, List, [], length, map, take, drop, get_or, Option, None, Some, Result, Ok, Err, arith, sym, ap, subst, ◌∙◌, length-take-le}
+use Rattle.std.proofs.lemmas.List.{get_or-map, get_or-take, get_or-drop, length-drop}
+use Rattle.std.specs.Prelude.{All, IfOk, IfSome, Vec}
 use Rattle.std.specs.declared.alloc.Global.{Global}
-use Rattle.std.proofs.Math.Seq.{get_or-append_seam}
-use Rattle.std.proofs.lemmas.List.{get_or_append_left, get_or_default, length-append}
-use Rattle.kt_outputs.specs.Beside.{IsHand, IsWhole}
+use Rattle.kt_outputs.specs.Hands.{IsHandOf, IsTaken}
+use Rattle.kt_outputs.specs.declared.hands.MadeText.{MadeText}
 
-module _ {F : Type 0} (text : F → List ℕ) (files : List F) (first hands hand : ℕ) where
-  abbrev place : ℕ → ℕ
-  place at = first + (hand + hands * at)
+module _ {F : Type 0} (text : F → List ℕ) (files : List F) where
+  -- the text that is wanted at a place is that of the file there
+  pub wanted_at : (place : ℕ) (file : F) → place < length files → file ≡ get_or files place file → get_or (map text files) place [] ≡ text file
+  wanted_at place file within is = get_or-map text files place file [] within ∙ ap text (sym is)
 
-  -- the text behind those that are made
-  last_made : (made : List (List ℕ)) (next : F) (bytes : List ℕ) (at : ℕ) (file : F) (one : List ℕ) → place (length made) < length files → next ≡ get_or files (place (length made)) next → bytes ≡ text next
-      → at ≡ length made → file ≡ get_or files (place at) file → one ≡ get_or (made ++ bytes ∷ []) at one → one ≡ text file
-  last_made made next bytes at file one within here is last same read =
-      let own : one ≡ bytes = read ∙ ap (λ (n : ℕ). get_or (made ++ bytes ∷ []) n one) last ∙ get_or-append_seam made bytes [] one in
-      let found : file ≡ next = same ∙ ap (λ (n : ℕ). get_or files (place n) file) last ∙ get_or_default files (place (length made)) file next within ∙ sym here in
-      own ∙ is ∙ ap text (sym found)
+  -- so it is for a group of files of the list
+  pub wanted_of_group : (first count at : ℕ) (file : F) → first + count ≤ length files → at < count → file ≡ get_or files (first + at) file → get_or (map text (take count (drop first files))) at [] ≡ text file
+  wanted_of_group first count at file within below is =
+      let all : length (take count (drop first files)) ≡ count = length-take-le count (drop first files) (omega (arith, within, length-drop first files)) in
+      get_or-map text (take count (drop first files)) at file [] (omega (arith, all, below))
+      ∙ ap text (get_or-take count (drop first files) at file below ∙ get_or-drop first files at file ∙ sym is)
 
-  -- one text more is made
-  pub made_more : (made : List (List ℕ)) (next : F) (bytes : List ℕ) → place (length made) < length files → next ≡ get_or files (place (length made)) next → bytes ≡ text next → IsHand text files first hands hand made → IsHand text files first hands hand (made ++ bytes ∷ [])
-  made_more made next bytes within here is are = λ at file one below same read.
-      by_place at file one (dec_lt at (length made)) below same read
-    where
-      by_place : (at : ℕ) (file : F) (one : List ℕ) → Dec (at < length made) → at < length (made ++ bytes ∷ []) → file ≡ get_or files (place at) file → one ≡ get_or (made ++ bytes ∷ []) at one → one ≡ text file
-      by_place at file one (yes before) below same read = are at file one before same (read ∙ get_or_append_left made (bytes ∷ []) one at before)
-      by_place at file one (no not) below same read = last_made made next bytes at file one within here is (omega (arith, below, not, length-append made (bytes ∷ []))) same read
+  -- the text that was taken for a file of a group is that of the file
+  pub taken_for : {E : Type 0} (first count at : ℕ) (file : F) (taken : Result (Option (List ℕ)) E) → first + count ≤ length files → at < count → file ≡ get_or files (first + at) file → IfOk taken (IsTaken (map text (take count (drop first files))) at) → IfOk taken (λ one. IfSome one (λ bytes. bytes ≡ text file))
+  taken_for first count at file (Err lacks) within below is are = tt
+  taken_for first count at file (Ok None) within below is are = tt
+  taken_for first count at file (Ok (Some one)) within below is are = are ∙ wanted_of_group first count at file within below is
 
--- the place of its next file
-pub next_place : (hands hand made at : ℕ) → at ≡ hand + hands * made → at + hands ≡ hand + hands * (made + 1)
-next_place hands hand made at is = omega (arith, is, mul-add hands made 1)
-
--- the text that a hand has made for the file at a place
-pub text_at : {F E : Type 0} (text : F → List ℕ) (files : List F) (first count hands at : ℕ) (file : F) (made : Result (Vec (List ℕ) Global) E) → at < count → file ≡ get_or files (first + at) file
-    → IfOk made (λ texts. IsWhole count hands (at % hands) texts.items) → IfOk made (λ texts. IsHand text files first hands (at % hands) texts.items) → IfOk made (λ texts. (one : List ℕ) → one ≡ get_or texts.items (at / hands) one → one ≡ text file)
-text_at text files first count hands at file (Err lacks) within here whole are = tt
-text_at text files first count hands at file (Ok texts) within here whole are = λ one read.
-    let parts : at % hands + hands * (at / hands) ≡ at = mod-add-div at hands in
-    are (at / hands) file one (whole (at / hands) (subst (λ (n : ℕ). n < count) (sym parts) within)) (here ∙ ap (λ (n : ℕ). get_or files (first + n) file) (sym parts)) read
+  -- what hands have made of a group, which is a part of the list
+  pub hands_of_group : {E : Type 0} (first count : ℕ) (made hands : List (Result (Vec MadeText Global) E)) → hands ≡ made → All (IsHandOf (map text (take (first + count - first) (drop first files)))) made → All (IsHandOf (map text (take count (drop first files)))) hands
+  hands_of_group {E} first count made hands same are =
+      let size : first + count - first ≡ count = omega arith in
+      subst (All (IsHandOf {E = E} (map text (take count (drop first files))))) (sym same) (subst (λ (n : ℕ). All (IsHandOf {E = E} (map text (take n (drop first files)))) made) size are)

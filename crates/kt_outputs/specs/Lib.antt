@@ -5,3 +5,4 @@ pub mod Midway
 pub mod Growing
 pub mod Composing
 pub mod Beside
+pub mod Hands

@@ -44,8 +44,8 @@ fn append_pieces<O: Outputs, F, T: Texts<F>>(
     spill(outputs, name, out)
 }
 
-// Appends to a file the text that it gains.
-fn append_text<O: Outputs, F: Named, T: Texts<F>>(
+/// Appends to a file the text that it gains, a block at a time; nothing is pending before and after.
+pub(crate) fn append_text<O: Outputs, F: Named, T: Texts<F>>(
     alloc: Global,
     outputs: &mut O,
     file: &F,

@@ -1,95 +1,28 @@
 //! Appending to each file of a list the text that it gains, where several texts are made side by side.
 //! The rules: docs/REFUSALS.md, "Statuses".
-ghost use Rattle.std.specs.Prelude.{◌≡◌, ◌≤◌, ◌<◌, ◌++◌, ◌+◌, ◌*◌, ℕ, List, length, map, min, slice_index_or, IfOk};
+ghost use Rattle.std.specs.Prelude.{◌≡◌, ◌≤◌, ◌++◌, ◌+◌, ◌*◌, ℕ, All, List, drop, length, map, min, take, IfOk, IfSome};
 ghost use Rattle.kt_out.specs.Appending.{AppendsAll};
 ghost use Rattle.kt_out.specs.OutputFiles.{CountsOutput, OutputsState};
-ghost use Rattle.kt_outputs.specs.Beside.{AreHands, AreWhole, GroupMakes, IsHand, IsWhole, MadeUpTo};
+ghost use Rattle.kt_outputs.specs.Beside.{GroupMakes, MadeUpTo};
 ghost use Rattle.kt_outputs.specs.Files.{Makes, files_with};
+ghost use Rattle.kt_outputs.specs.Hands.{IsHandOf};
 ghost use Rattle.kt_outputs.specs.Names.{AreDistinct};
 ghost use Rattle.kt_outputs.specs.Texts.{text_of};
 
-use crate::calls::calls_beside;
+use crate::appending::append_text;
+use crate::hands::{Hand, take_text, texts_beside};
 use crate::named::{Named, name_of};
 use crate::texts::Texts;
 use kt_money::{Bytes, OutOfMemory};
 use kt_out::{Fault, Outputs, append_all};
-use std::alloc::{AllocError, Global};
+use std::alloc::Global;
 use std::thread::Threads;
 
-/// How many files a hand has at the most.
-const HAND: usize = 64;
+/// How many texts are made for each hand before they are appended, at the most.
+const TEXTS_OF_HAND: usize = 64;
 
 /// How many hands are busy at the most.
 const MOST_HANDS: usize = 256;
-
-/// The texts that a hand has made, where there was memory for them.
-type Hand = Result<Vec<Bytes>, OutOfMemory>;
-
-/// The text that a file gains, whole.
-fn whole_text<F, T: Texts<F>>(alloc: Global, file: &F, texts: &T) -> Result<Bytes, OutOfMemory>
-    ensures value { (start : T.Start) → T.are_of start texts.now → IfOk result (λ text. text ≡ text_of T.pieces_of start texts.now file.now) }
-{
-    let mut text = Bytes::new(alloc);
-    for piece in 0..texts.pieces(file) {
-        match texts.push(file, piece, &mut text) {
-            Ok(()) => {}
-            Err(error) => return Err(error),
-        }
-    }
-    Ok(text)
-}
-
-/// The texts of the files that a hand has of so many from a place on: every one behind the first of its own that is a multiple of the
-/// number of hands further.
-fn hand_texts<F, T: Texts<F>>(
-    alloc: Global,
-    files: &[F],
-    first: usize,
-    count: usize,
-    hands: usize,
-    hand: usize,
-    texts: &T,
-) -> Result<Vec<Bytes>, OutOfMemory>
-    requires within { first + count ≤ length files.now }
-    requires few { count ≤ 16384 }
-    requires hands { (1 ≤ hands) × (hands ≤ 256) }
-    requires hand { hand < hands }
-    ensures whole { IfOk result (λ made. IsWhole count hands hand made.items) }
-    ensures value { (start : T.Start) → T.are_of start texts.now → IfOk result (λ made. IsHand (text_of T.pieces_of start texts.now) files.now first hands hand made.items) }
-{
-    let mut made = Vec::new(alloc);
-    let mut at = hand;
-    while at < count {
-        made.push(whole_text(alloc, &files[first + at], texts)?)?;
-        at += hands;
-    }
-    Ok(made)
-}
-
-/// The texts of so many files from a place on, by hands that are busy side by side, each in a thread of its own where one can be made.
-fn hands_beside<R: Threads + Sync, F: Sync, T: Texts<F> + Sync>(
-    rt: &R,
-    alloc: Global,
-    files: &[F],
-    first: usize,
-    count: usize,
-    hands: usize,
-    texts: &T,
-) -> Result<Vec<Hand>, AllocError>
-    requires within { first + count ≤ length files.now }
-    requires few { count ≤ 16384 }
-    requires hands { (1 ≤ hands) × (hands ≤ 256) }
-    ensures count { IfOk result (λ made. length made.items ≡ hands) }
-    ensures whole { IfOk result (λ made. AreWhole count hands made.items) }
-    ensures value { IfOk result (λ made. (start : T.Start) → T.are_of start texts.now → AreHands (text_of T.pieces_of start texts.now) files.now first hands made.items) }
-{
-    calls_beside(
-        rt,
-        alloc,
-        hands,
-        &|k| { hand_texts(alloc, files, first, count, hands, k, texts) },
-    )
-}
 
 /// Appends to a file the text that was made for it.
 fn append_made<O: Outputs, F: Named>(
@@ -108,46 +41,45 @@ fn append_made<O: Outputs, F: Named>(
     }
 }
 
-/// Appends to a file the text that a hand has made for it.
-fn append_text_of<O: Outputs, F: Named>(
+/// Appends to a file the text that it gains: the one that was made for it; where no hand has made one, it is made here. An error of the
+/// hands is want of memory.
+fn append_either<O: Outputs, F: Named, T: Texts<F>>(
     alloc: Global,
     outputs: &mut O,
     file: &F,
-    hand: &Hand,
-    at: usize,
+    texts: &T,
+    made: Result<Option<Bytes>, OutOfMemory>,
 ) -> Result<(), Fault>
-    requires within { IfOk hand.now (λ made. at < length made.items) }
-    ensures moved { (text : List ℕ) → IfOk hand.now (λ made. (one : List ℕ) → one ≡ slice_index_or made.items at one → one ≡ text) → AppendsAll (O.state outputs.old).written (O.state outputs.new).written (F.name file.now) text result }
+    ensures moved { (start : T.Start) → T.are_of start texts.now → IfOk made (λ one. IfSome one (λ text. text ≡ text_of T.pieces_of start texts.now file.now)) → AppendsAll (O.state outputs.old).written (O.state outputs.new).written (F.name file.now) (text_of T.pieces_of start texts.now file.now) result }
     ensures counts { CountsOutput (O.state outputs.old).faults (O.state outputs.new).faults result }
     ensures counted { (O.state outputs.old).faults ≤ (O.state outputs.new).faults }
 {
-    match hand {
-        Ok(made) => append_made(alloc, outputs, file, &made[at]),
+    match made {
+        Ok(Some(text)) => append_made(alloc, outputs, file, &text),
+        Ok(None) => append_text(alloc, outputs, file, texts, &mut Bytes::new(alloc)),
         Err(_) => Err(Fault::OutOfMemory),
     }
 }
 
 /// Appends to so many files from a place on the texts that hands have made for them, in the order of the files.
-fn append_group<O: Outputs, F: Named>(
+fn append_group<O: Outputs, F: Named, T: Texts<F>>(
     alloc: Global,
     outputs: &mut O,
     files: &[F],
     first: usize,
     count: usize,
-    made: &[Hand],
+    texts: &T,
+    made: &mut [Hand],
 ) -> Result<(), Fault>
     requires distinct { AreDistinct (map F.name files.now) }
     requires within { first + count ≤ length files.now }
-    requires some { 1 ≤ length made.now }
-    requires whole { AreWhole count (length made.now) made.now }
-    ensures made { (begun : OutputsState) (text more : F → List ℕ) → AreHands more files.now first (length made.now) made.now → MadeUpTo F.name text more files.now first begun (O.state outputs.old) → GroupMakes F.name text more files.now (first + count) begun (O.state outputs.new) result }
+    ensures made { (start : T.Start) (begun : OutputsState) (text : F → List ℕ) → T.are_of start texts.now → All (IsHandOf (map (text_of T.pieces_of start texts.now) (take count (drop first files.now)))) made.old → MadeUpTo F.name text (text_of T.pieces_of start texts.now) files.now first begun (O.state outputs.old) → GroupMakes F.name text (text_of T.pieces_of start texts.now) files.now (first + count) begun (O.state outputs.new) result }
     ensures counts { CountsOutput (O.state outputs.old).faults (O.state outputs.new).faults result }
     ensures counted { (O.state outputs.old).faults ≤ (O.state outputs.new).faults }
 {
-    let hands = made.len();
     for at in 0..count {
-        let hand = &made[at % hands];
-        match append_text_of(alloc, outputs, &files[first + at], hand, at / hands) {
+        let text = take_text(made, at);
+        match append_either(alloc, outputs, &files[first + at], texts, text) {
             Ok(()) => {}
             Err(fault) => return Err(fault),
         }
@@ -171,14 +103,15 @@ fn files_of(left: usize, hands: usize) -> usize
     requires few { hands ≤ 256 }
     ensures value { result ≡ min left (64 * hands) }
 {
-    left.min(HAND * hands)
+    left.min(TEXTS_OF_HAND * hands)
 }
 
-/// Appends to each file of a list the text that it gains, as `append_texts` does, where the texts are made by as many hands as
-/// `workers` says, side by side, whole, each hand in a thread of its own where one can be made: of up to 64 files a hand at a time, the
-/// first file to the first hand, the next to the next. They are appended one after the other, on the calling thread. `workers` is at least 1, and the names of the files are distinct. After a refusal a front of the files has gained its
-/// text, and the next a front of it. The count of faults rises exactly where `Failed` comes; want of memory, also of a name or of a
-/// text, raises none.
+/// Appends to each file of a list the text that it gains, as `append_texts` does, where the texts are made whole, by as many hands as
+/// `workers` says, side by side, each in a thread of its own where one can be made. Of up to 64 files a hand at a time a hand that is
+/// done claims the next, the last first, so none stands idle while a file is left. The texts are appended in the order of the files,
+/// on the calling thread. `workers` is at least 1, and the names of the files are distinct. After a refusal a front of the files has
+/// gained its text, and the next a front of it. The count of faults rises exactly where `Failed` comes; want of memory, also of a name
+/// or of a text, raises none.
 pub fn append_texts_beside<R: Threads + Sync, O: Outputs, F: Named + Sync, T: Texts<F> + Sync>(
     rt: &R,
     alloc: Global,
@@ -198,10 +131,19 @@ pub fn append_texts_beside<R: Threads + Sync, O: Outputs, F: Named + Sync, T: Te
         let left = files.len() - first;
         let hands = hands_for(left, workers);
         let count = files_of(left, hands);
-        let Ok(made) = hands_beside(rt, alloc, files, first, count, hands, texts) else {
+        let group = &files[first..first + count];
+        let Ok(mut made) = texts_beside(rt, alloc, group, hands, texts) else {
             return Err(Fault::OutOfMemory);
         };
-        match append_group(alloc, outputs, files, first, count, &made) {
+        match append_group(
+            alloc,
+            outputs,
+            files,
+            first,
+            count,
+            texts,
+            made.as_mut_slice(),
+        ) {
             Ok(()) => {}
             Err(fault) => return Err(fault),
         }

@@ -5,6 +5,7 @@ mod appending;
 mod beside;
 mod calls;
 mod creating;
+mod hands;
 mod named;
 mod spill;
 mod texts;
