@@ -1,8 +1,7 @@
 -- What the units of a programme carry at many sidx.
 -- The rules: docs/FINANCIAL_MODULE.md, "Levels".
-use Rattle.std.specs.Prelude.{◌≡◌, ℕ, ◌<◌, ◌≤◌, ◌^◌, false, List, Vec, [], All, length, map, slice_index_or}
+use Rattle.std.specs.Prelude.{◌≡◌, ℕ, ◌<◌, ◌≤◌, ◌^◌, false, List, [], All, length, slice_index_or}
 use Rattle.std.specs.List.{sum}
-use Rattle.std.specs.declared.alloc.Global.{Global}
 use Rattle.kt_rules.specs.LossAlone.{looks_back}
 use Rattle.kt_fmtree.specs.Parts.{Parts, units_at}
 use Rattle.kt_fmtree.specs.Carried.{Carried, leaf_row, row_of, climbed_rows}
@@ -19,26 +18,26 @@ abbrev pub HasPlainUnits : Parts → Type 0
 HasPlainUnits parts = (level : ℕ) → level < length parts.levels → ArePlain (slice_index_or parts.levels level [])
 
 -- what is carried at one sidx, from the losses of the ids
-abbrev pub carried_at : Parts → List (Vec ℕ Global) → ℕ → Carried
+abbrev pub carried_at : Parts → List (List ℕ) → ℕ → Carried
 carried_at parts lanes k = climbed_rows parts.levels (leaf_row parts.leaves (column k lanes))
 
 -- the lanes of a level
-abbrev pub level_lanes : List (Vec (Vec ℕ Global) Global) → ℕ → List (Vec ℕ Global)
-level_lanes rows level = slice_index_or (map (λ row. row.items) rows) level []
+abbrev pub level_lanes : List (List (List ℕ)) → ℕ → List (List ℕ)
+level_lanes rows level = slice_index_or rows level []
 
 -- the lanes of a level are the losses that its units carry
-abbrev pub AreLevel : Parts → List (Vec ℕ Global) → ℕ → ℕ → List (Vec ℕ Global) → Type 0
+abbrev pub AreLevel : Parts → List (List ℕ) → ℕ → ℕ → List (List ℕ) → Type 0
 AreLevel parts lanes width level row = AreLanes width (length (units_at parts level)) (λ k. losses_of (row_of parts (column k lanes) level)) row
 
 -- the ids have a lane each, of some sidx, and their losses are not too much
-pub record AreLosses (parts : Parts) (width : ℕ) (lanes : List (Vec ℕ Global)) : Type 0 where
+pub record AreLosses (parts : Parts) (width : ℕ) (lanes : List (List ℕ)) : Type 0 where
   pub some : 0 < width
   pub count_is : length lanes ≡ length parts.ids
   pub wide : AreWide width lanes
   pub few : (k : ℕ) → k < width → sum (column k lanes) ≤ 10 ^ 16
 
 -- the lanes of each level below the top level, from those of the ids, by rules that see the losses alone
-pub record IsClimbed (parts : Parts) (lanes : List (Vec ℕ Global)) (climbed : Climbed) : Type 0 where
+pub record IsClimbed (parts : Parts) (lanes : List (List ℕ)) (climbed : Climbed) : Type 0 where
   pub losses : AreLosses parts climbed.width lanes
   pub plain : HasPlainUnits parts
   pub enough : length parts.levels ≤ length climbed.rows.items

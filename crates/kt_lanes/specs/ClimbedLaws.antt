@@ -1,8 +1,7 @@
 -- Laws of lanes that are carried up.
 -- The rules: docs/FINANCIAL_MODULE.md, "Levels".
-use Rattle.std.specs.Prelude.{◌≡◌, ◌⊎◌, ℕ, zero, suc, ◌+◌, ◌<◌, ◌≤◌, ◌^◌, false, List, [], ◌∷◌, ◌++◌, Vec, All, length, map, take, drop, slice_index, slice_index_or}
+use Rattle.std.specs.Prelude.{◌≡◌, ◌⊎◌, ℕ, zero, suc, ◌+◌, ◌<◌, ◌≤◌, ◌^◌, false, List, [], ◌∷◌, ◌++◌, All, length, map, take, drop, slice_index, slice_index_or}
 use Rattle.std.specs.List.{sum, sum_by}
-use Rattle.std.specs.declared.alloc.Global.{Global}
 use Rattle.std.proofs.Common.{inl, inr, refl, sym, ap, subst, ◌∙◌, arith}
 use Rattle.std.proofs.lemmas.Bool.{cases_lt}
 use Rattle.std.proofs.lemmas.List.{length-map, take-map, drop-map}
@@ -51,15 +50,15 @@ node_carry-loss row node plain =
 
 -- ---- a level
 
-module _ (parts : Parts) (has : HasProgramme parts) (width : ℕ) (lanes : List (Vec ℕ Global)) (losses : AreLosses parts width lanes) where
+module _ (parts : Parts) (has : HasProgramme parts) (width : ℕ) (lanes : List (List ℕ)) (losses : AreLosses parts width lanes) where
   same-length : (k : ℕ) → length (column k lanes) ≡ length has.tree.ids
-  same-length k = length-map lanes (λ (one : Vec ℕ Global). slice_index one.items k) ∙ (losses.count_is ∙ ap length has.is.ids_are)
+  same-length k = length-map lanes (λ (one : List ℕ). slice_index one k) ∙ (losses.count_is ∙ ap length has.is.ids_are)
 
   pub under-top : (level : ℕ) → level < length parts.levels → level < has.tree.top_level
   under-top level below = subst (λ n. level < n) has.is.levels_are below
 
   -- what the level below carries is not too much
-  pub can-take : (level : ℕ) → level < length parts.levels → (below : List (Vec ℕ Global)) → AreLevel parts lanes width level below → All (CanTake width below) (slice_index_or parts.levels level [])
+  pub can-take : (level : ℕ) → level < length parts.levels → (below : List (List ℕ)) → AreLevel parts lanes width level below → All (CanTake width below) (slice_index_or parts.levels level [])
   can-take level inside below are = λ j d within. one (slice_index_or (slice_index_or parts.levels level []) j d) (has.is.nodes_are level (under-top level inside) j d within) (λ k less. can-carry has.tree parts has.is (column k lanes) (same-length k) (losses.few k less) level (under-top level inside) j d within)
     where
       one : (node : Node) → IsNode has.tree (suc level) (units_at parts level) node → ((k : ℕ) → k < width → CanCarry (row_of parts (column k lanes) level) node) → CanTake width below node
@@ -73,14 +72,14 @@ module _ (parts : Parts) (has : HasProgramme parts) (width : ℕ) (lanes : List 
       }
 
   -- the lanes of the ids are those of level 0
-  pub leaves-level : (row : List (Vec ℕ Global)) (places : List ℕ) → places ≡ parts.leaves → AreLanes width (length places) (λ k. map (slice_index (column k lanes)) places) row → AreLevel parts lanes width 0 row
+  pub leaves-level : (row : List (List ℕ)) (places : List ℕ) → places ≡ parts.leaves → AreLanes width (length places) (λ k. map (slice_index (column k lanes)) places) row → AreLevel parts lanes width 0 row
   leaves-level row places places_are are =
       lanes-are width (length places) (length (units_at parts 0)) (λ k. map (slice_index (column k lanes)) places) (λ k. losses_of (leaf_row parts.leaves (column k lanes))) row are
       (ap length places_are ∙ sym (length-map parts.leaves (slice_index parts.ids)))
       (λ k less. ap (map (slice_index (column k lanes))) places_are ∙ sym (map-map (λ (carry : Carry). carry.loss) (λ place. whole_loss (slice_index (column k lanes) place)) parts.leaves))
 
   -- what the units of a level leave is the next level
-  pub next-level : HasPlainUnits parts → (level : ℕ) → level < length parts.levels → (below row : List (Vec ℕ Global)) (nodes : List Node) → nodes ≡ slice_index_or parts.levels level [] → AreLevel parts lanes width level below → AreLanes width (length nodes) (λ k. map (unit_loss (column k below)) nodes) row → AreLevel parts lanes width (level + 1) row
+  pub next-level : HasPlainUnits parts → (level : ℕ) → level < length parts.levels → (below row : List (List ℕ)) (nodes : List Node) → nodes ≡ slice_index_or parts.levels level [] → AreLevel parts lanes width level below → AreLanes width (length nodes) (λ k. map (unit_loss (column k below)) nodes) row → AreLevel parts lanes width (level + 1) row
   next-level plain level inside below row nodes nodes_are are made =
       let next : suc level ≡ level + 1 = omega arith in
       let all = slice_index_or parts.levels level [] in
@@ -97,23 +96,23 @@ module _ (parts : Parts) (has : HasProgramme parts) (width : ℕ) (lanes : List 
 -- ---- levels
 
 -- so many levels have their lanes
-pub record HasRows (parts : Parts) (lanes : List (Vec ℕ Global)) (width n : ℕ) (rows : List (Vec (Vec ℕ Global) Global)) : Type 0 where
+pub record HasRows (parts : Parts) (lanes : List (List ℕ)) (width n : ℕ) (rows : List (List (List ℕ))) : Type 0 where
   pub count_is : length rows ≡ n
   pub each : (level : ℕ) → level < n → AreLevel parts lanes width level (level_lanes rows level)
 
-row-old : (rows : List (Vec (Vec ℕ Global) Global)) (row : Vec (Vec ℕ Global) Global) (level : ℕ) → level < length rows → level_lanes (rows ++ row ∷ []) level ≡ level_lanes rows level
+row-old : (rows : List (List (List ℕ))) (row : List (List ℕ)) (level : ℕ) → level < length rows → level_lanes (rows ++ row ∷ []) level ≡ level_lanes rows level
 row-old [] row level below = absurd (omega arith)
 row-old (first ∷ rows) row zero below = refl
 row-old (first ∷ rows) row (suc level) below = row-old rows row level (omega arith)
 
-row-new : (rows : List (Vec (Vec ℕ Global) Global)) (row : Vec (Vec ℕ Global) Global) (level : ℕ) → length rows ≡ level → level_lanes (rows ++ row ∷ []) level ≡ row.items
+row-new : (rows : List (List (List ℕ))) (row : List (List ℕ)) (level : ℕ) → length rows ≡ level → level_lanes (rows ++ row ∷ []) level ≡ row
 row-new [] row zero same = refl
 row-new [] row (suc level) same = absurd (omega arith)
 row-new (first ∷ rows) row zero same = absurd (omega arith)
 row-new (first ∷ rows) row (suc level) same = row-new rows row level (omega arith)
 
 -- the first level
-pub rows-one : (parts : Parts) (lanes : List (Vec ℕ Global)) (width : ℕ) (rows more : List (Vec (Vec ℕ Global) Global)) (row : Vec (Vec ℕ Global) Global) → rows ≡ [] → more ≡ rows ++ row ∷ [] → AreLevel parts lanes width 0 row.items → HasRows parts lanes width 1 more
+pub rows-one : (parts : Parts) (lanes : List (List ℕ)) (width : ℕ) (rows more : List (List (List ℕ))) (row : List (List ℕ)) → rows ≡ [] → more ≡ rows ++ row ∷ [] → AreLevel parts lanes width 0 row → HasRows parts lanes width 1 more
 rows-one parts lanes width rows more row rows_are more_is are =
     let all : more ≡ row ∷ [] = more_is ∙ ap (λ front. front ++ row ∷ []) rows_are in
     record { count_is = ap length all; each = λ level below. by level below (ap (λ rs. level_lanes rs level) all) }
@@ -123,7 +122,7 @@ rows-one parts lanes width rows more row rows_are more_is are =
     by (suc level) below same = absurd (omega arith)
 
 -- one more level
-pub rows-more : (parts : Parts) (lanes : List (Vec ℕ Global)) (width n : ℕ) (rows more : List (Vec (Vec ℕ Global) Global)) (row : Vec (Vec ℕ Global) Global) → HasRows parts lanes width n rows → more ≡ rows ++ row ∷ [] → AreLevel parts lanes width n row.items → HasRows parts lanes width (n + 1) more
+pub rows-more : (parts : Parts) (lanes : List (List ℕ)) (width n : ℕ) (rows more : List (List (List ℕ))) (row : List (List ℕ)) → HasRows parts lanes width n rows → more ≡ rows ++ row ∷ [] → AreLevel parts lanes width n row → HasRows parts lanes width (n + 1) more
 rows-more parts lanes width n rows more row has more_is are = record {
   count_is = ap length more_is ∙ (length-more rows row ∙ ap (λ m. m + 1) has.count_is);
   each = λ level below. by level below (cases_lt level n);
@@ -133,4 +132,4 @@ rows-more parts lanes width n rows more row has more_is are = record {
     by level below (inl less) = subst (AreLevel parts lanes width level) (sym (ap (λ rs. level_lanes rs level) more_is ∙ row-old rows row level (omega (arith, has.count_is)))) (has.each level less)
     by level below (inr most) =
         let here : n ≡ level = omega arith in
-        subst (AreLevel parts lanes width level) (sym (ap (λ rs. level_lanes rs level) more_is ∙ row-new rows row level (has.count_is ∙ here))) (subst (λ m. AreLevel parts lanes width m row.items) here are)
+        subst (AreLevel parts lanes width level) (sym (ap (λ rs. level_lanes rs level) more_is ∙ row-new rows row level (has.count_is ∙ here))) (subst (λ m. AreLevel parts lanes width m row) here are)

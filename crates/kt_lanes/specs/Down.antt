@@ -18,12 +18,12 @@ placed places amounts = []
 
 -- those of lanes at one sidx
 abbrev pub placed_at : ℕ → PlacedLanes → List PlacedPart
-placed_at k parts = placed parts.places.items (column k parts.lanes.items)
+placed_at k parts = placed parts.places.items (column k parts.lanes)
 
 -- each place has a lane
 pub record ArePlaced (width : ℕ) (parts : PlacedLanes) : Type 0 where
-  pub count_is : length parts.places.items ≡ length parts.lanes.items
-  pub wide : AreWide width parts.lanes.items
+  pub count_is : length parts.places.items ≡ length parts.lanes
+  pub wide : AreWide width parts.lanes
 
 -- what the amount of a unit gives to its children, by the losses that they carry
 abbrev pub given_losses : List Node → List ℕ → PlacedPart → List PlacedPart

@@ -1,8 +1,7 @@
 -- Laws of amounts that are given down by lanes.
 -- The rule: docs/FINANCIAL_MODULE.md, "Allocation".
-use Rattle.std.specs.Prelude.{◌≡◌, ◌⊎◌, ℕ, zero, suc, ◌+◌, ◌*◌, ◌/◌, ◌<◌, ◌≤◌, Bool, true, false, cond, nat_eq, List, [], ◌∷◌, ◌++◌, Vec, All, length, map, take, drop, slice_index, slice_index_or, replicate}
+use Rattle.std.specs.Prelude.{◌≡◌, ◌⊎◌, ℕ, zero, suc, ◌+◌, ◌*◌, ◌/◌, ◌<◌, ◌≤◌, Bool, true, false, cond, nat_eq, List, [], ◌∷◌, ◌++◌, All, length, map, take, drop, slice_index, slice_index_or, replicate}
 use Rattle.std.specs.List.{AllByRecursion, flat_map, range_with_len, sum, sum_by}
-use Rattle.std.specs.declared.alloc.Global.{Global}
 use Rattle.std.proofs.Common.{inl, inr, refl, sym, ap, subst, ◌∙◌, arith}
 use Rattle.std.proofs.Math.Nat.{zero-div}
 use Rattle.std.proofs.lemmas.Bool.{cases_lt, eqb-true}
@@ -46,36 +45,36 @@ placed-in (place ∷ places) (amount ∷ amounts) (suc at) d same below = placed
 
 -- those of lanes at one sidx
 module _ (width : ℕ) (parts : PlacedLanes) (are : ArePlaced width parts) (at : ℕ) (below : at < length parts.places.items) (k : ℕ) where
-  same-count : length parts.places.items ≡ length (column k parts.lanes.items)
-  same-count = are.count_is ∙ sym (length-map parts.lanes.items (λ (one : Vec ℕ Global). slice_index one.items k))
+  same-count : length parts.places.items ≡ length (column k parts.lanes)
+  same-count = are.count_is ∙ sym (length-map parts.lanes (λ (one : List ℕ). slice_index one k))
 
   pub placed-inside : at < length (placed_at k parts)
-  placed-inside = omega (arith, below, length-placed parts.places.items (column k parts.lanes.items) same-count)
+  placed-inside = omega (arith, below, length-placed parts.places.items (column k parts.lanes) same-count)
 
-  pub placed-here : (d : PlacedPart) (lane : Vec ℕ Global) → lane ≡ slice_index_or parts.lanes.items at lane → slice_index_or (placed_at k parts) at d ≡ record { place = slice_index parts.places.items at; amount = slice_index lane.items k }
+  pub placed-here : (d : PlacedPart) (lane : List ℕ) → lane ≡ slice_index_or parts.lanes at lane → slice_index_or (placed_at k parts) at d ≡ record { place = slice_index parts.places.items at; amount = slice_index lane k }
   placed-here d lane lane_is =
-      placed-in parts.places.items (column k parts.lanes.items) at d same-count below
-      ∙ ap (λ n. record { place = slice_index parts.places.items at; amount = n }) (column-at k at parts.lanes.items lane (omega (arith, below, are.count_is)) ∙ ap (λ (one : Vec ℕ Global). slice_index one.items k) (sym lane_is))
+      placed-in parts.places.items (column k parts.lanes) at d same-count below
+      ∙ ap (λ n. record { place = slice_index parts.places.items at; amount = n }) (column-at k at parts.lanes lane (omega (arith, below, are.count_is)) ∙ ap (λ (one : List ℕ). slice_index one k) (sym lane_is))
 
   -- an amount is not above the losses of the children of its unit
-  pub backed-here : (nodes : List Node) (row : List ℕ) → AreBacked nodes row (placed_at k parts) → (lane : Vec ℕ Global) → lane ≡ slice_index_or parts.lanes.items at lane → slice_index lane.items k ≤ sum (child_losses row (node_at nodes (slice_index parts.places.items at)))
+  pub backed-here : (nodes : List Node) (row : List ℕ) → AreBacked nodes row (placed_at k parts) → (lane : List ℕ) → lane ≡ slice_index_or parts.lanes at lane → slice_index lane k ≤ sum (child_losses row (node_at nodes (slice_index parts.places.items at)))
   backed-here nodes row backed lane lane_is =
       let none : PlacedPart = record { place = 0; amount = 0 } in
       subst (λ (part : PlacedPart). part.amount ≤ sum (child_losses row (node_at nodes part.place))) (placed-here none lane lane_is)
       (All-from_recursion (λ (part : PlacedPart). part.amount ≤ sum (child_losses row (node_at nodes part.place))) (placed_at k parts) backed at none placed-inside)
 
   -- one more unit has given
-  pub gives-more : (nodes : List Node) (row : List ℕ) (lane : Vec ℕ Global) → lane ≡ slice_index_or parts.lanes.items at lane → (node : Node) → node ≡ node_at nodes (slice_index parts.places.items at) → (made more : List PlacedPart) → made ≡ flat_map (given_losses nodes row) (take at (placed_at k parts)) → more ≡ made ++ parts_from node.start (share_out (slice_index lane.items k) (child_losses row node)) → more ≡ flat_map (given_losses nodes row) (take (at + 1) (placed_at k parts))
+  pub gives-more : (nodes : List Node) (row : List ℕ) (lane : List ℕ) → lane ≡ slice_index_or parts.lanes at lane → (node : Node) → node ≡ node_at nodes (slice_index parts.places.items at) → (made more : List PlacedPart) → made ≡ flat_map (given_losses nodes row) (take at (placed_at k parts)) → more ≡ made ++ parts_from node.start (share_out (slice_index lane k) (child_losses row node)) → more ≡ flat_map (given_losses nodes row) (take (at + 1) (placed_at k parts))
   gives-more nodes row lane lane_is node node_is made more so_far more_is =
       let none : PlacedPart = record { place = 0; amount = 0 } in
       flat_map-goes (given_losses nodes row) (placed_at k parts) at none made more placed-inside so_far
       (more_is
-      ∙ (ap (λ (one : Node). made ++ parts_from one.start (share_out (slice_index lane.items k) (child_losses row one))) node_is
+      ∙ (ap (λ (one : Node). made ++ parts_from one.start (share_out (slice_index lane k) (child_losses row one))) node_is
       ∙ ap (λ part. made ++ given_losses nodes row part) (sym (placed-here none lane lane_is))))
 
 -- all of them
 pub placed-all : (width : ℕ) (parts : PlacedLanes) → ArePlaced width parts → (n : ℕ) → length parts.places.items ≤ n → (k : ℕ) → take n (placed_at k parts) ≡ placed_at k parts
-placed-all width parts are n enough k = take_all n (placed_at k parts) (omega (arith, enough, length-placed parts.places.items (column k parts.lanes.items) (are.count_is ∙ sym (length-map parts.lanes.items (λ (one : Vec ℕ Global). slice_index one.items k)))))
+placed-all width parts are n enough k = take_all n (placed_at k parts) (omega (arith, enough, length-placed parts.places.items (column k parts.lanes) (are.count_is ∙ sym (length-map parts.lanes (λ (one : List ℕ). slice_index one k)))))
 
 placed-append : (places others amounts more : List ℕ) → length places ≡ length amounts → placed (places ++ others) (amounts ++ more) ≡ placed places amounts ++ placed others more
 placed-append [] others [] more same = refl
@@ -112,14 +111,14 @@ places-all P places amounts same all = λ at d below. by places amounts same all
     by (place ∷ places) (amount ∷ amounts) same all (suc at) d below = by places amounts (omega arith) all.1 at d (omega arith)
 
 -- lanes of places side by side, behind others
-module _ (width start count : ℕ) (places others : List ℕ) (lanes more : List (Vec ℕ Global)) (same : length places ≡ length lanes) (others_are : others ≡ places ++ range_with_len start count) where
-  pub behind-count : (all : List (Vec ℕ Global)) → all ≡ lanes ++ more → length more ≡ count → length others ≡ length all
+module _ (width start count : ℕ) (places others : List ℕ) (lanes more : List (List ℕ)) (same : length places ≡ length lanes) (others_are : others ≡ places ++ range_with_len start count) where
+  pub behind-count : (all : List (List ℕ)) → all ≡ lanes ++ more → length more ≡ count → length others ≡ length all
   behind-count all all_is long =
       ap length others_are ∙ (length-append places (range_with_len start count) ∙ (omega (arith, same, long, length-range start count) ∙ sym (ap length all_is ∙ length-append lanes more)))
 
-  pub behind-placed : (all : List (Vec ℕ Global)) → all ≡ lanes ++ more → length more ≡ count → (k : ℕ) (amounts : List ℕ) → column k more ≡ amounts → placed others (column k all) ≡ placed places (column k lanes) ++ parts_from start amounts
+  pub behind-placed : (all : List (List ℕ)) → all ≡ lanes ++ more → length more ≡ count → (k : ℕ) (amounts : List ℕ) → column k more ≡ amounts → placed others (column k all) ≡ placed places (column k lanes) ++ parts_from start amounts
   behind-placed all all_is long k amounts amounts_are =
-      let f : Vec ℕ Global → ℕ = λ lane. slice_index lane.items k in
+      let f : List ℕ → ℕ = λ lane. slice_index lane k in
       ap (λ ps. placed ps (column k all)) others_are
       ∙ (ap (λ ls. placed (places ++ range_with_len start count) (column k ls)) all_is
       ∙ (ap (placed (places ++ range_with_len start count)) (map-append f lanes more)
@@ -127,10 +126,10 @@ module _ (width start count : ℕ) (places others : List ℕ) (lanes more : List
       ∙ ap (λ ps. placed places (column k lanes) ++ ps) (placed-range start count (column k more) (length-map more f ∙ long) ∙ ap (parts_from start) amounts_are))))
 
 -- both are wide
-pub wide-both : (width : ℕ) (lanes more : List (Vec ℕ Global)) → AreWide width lanes → AreWide width more → AreWide width (lanes ++ more)
+pub wide-both : (width : ℕ) (lanes more : List (List ℕ)) → AreWide width lanes → AreWide width more → AreWide width (lanes ++ more)
 wide-both width [] more one other = other
 wide-both width (lane ∷ lanes) more one other =
-    All-first (λ (each : Vec ℕ Global). length each.items ≡ width) lane (lanes ++ more) (one zero lane (omega arith)) (wide-both width lanes more (λ k d below. one (suc k) d (omega arith)) other)
+    All-first (λ (each : List ℕ). length each ≡ width) lane (lanes ++ more) (one zero lane (omega arith)) (wide-both width lanes more (λ k d below. one (suc k) d (omega arith)) other)
 
 -- ---- shares by losses
 

@@ -1,10 +1,9 @@
 -- Laws of lanes: one more lane, one more amount.
-use Rattle.std.specs.Prelude.{◌≡◌, ◌≢◌, ◌⊎◌, ℕ, zero, suc, ◌+◌, ◌-◌, ◌<◌, ◌≤◌, List, [], ◌∷◌, ◌++◌, Vec, All, length, take, drop, slice_index, slice_index_or}
+use Rattle.std.specs.Prelude.{◌≡◌, ◌≢◌, ◌⊎◌, ℕ, zero, suc, ◌+◌, ◌<◌, ◌≤◌, ◌^◌, List, [], ◌∷◌, ◌++◌, All, length, take, drop, slice_index, slice_index_or}
 use Rattle.std.specs.List.{sum}
-use Rattle.std.specs.declared.alloc.Global.{Global}
 use Rattle.std.proofs.Common.{inl, inr, slice_set, refl, sym, ap, subst, ◌∙◌, arith}
 use Rattle.std.proofs.lemmas.Bool.{cases_eq}
-use Rattle.std.proofs.lemmas.List.{get_or-set_same, get_or-set_other, length-set, map-append, take_more, take-map, drop-map, get_or-map}
+use Rattle.std.proofs.lemmas.List.{get_or-set_same, get_or-set_other, length-set, length-drop, length-take-le, map-append, take_all, take_more, take-map, drop-map, get_or-drop, get_or-map, get_or-take}
 use Rattle.std.proofs.lemmas.List.Sums.{sum_by-append, sum_by-cons, sum_by-take-le}
 use Rattle.kt_lanes.specs.Lanes.{column, AreWide, AreLanes, IsLane}
 
@@ -31,66 +30,64 @@ pub lanes-none : (width : ℕ) (amounts : ℕ → List ℕ) → ((k : ℕ) → k
 lanes-none width amounts none = record { count_is = refl; wide = λ k d below. absurd (omega arith); each = none }
 
 -- one more lane
-pub lanes-more : (width count : ℕ) (before now : ℕ → List ℕ) (amount : ℕ → ℕ) (lanes more : List (Vec ℕ Global)) (lane : Vec ℕ Global) → AreLanes width count before lanes → IsLane width amount lane.items → more ≡ lanes ++ lane ∷ [] → ((k : ℕ) → k < width → before k ++ amount k ∷ [] ≡ now k) → AreLanes width (count + 1) now more
+pub lanes-more : (width count : ℕ) (before now : ℕ → List ℕ) (amount : ℕ → ℕ) (lanes more : List (List ℕ)) (lane : List ℕ) → AreLanes width count before lanes → IsLane width amount lane → more ≡ lanes ++ lane ∷ [] → ((k : ℕ) → k < width → before k ++ amount k ∷ [] ≡ now k) → AreLanes width (count + 1) now more
 lanes-more width count before now amount lanes more lane are is more_is same = record {
   count_is = omega (arith, ap length more_is, length-more lanes lane, are.count_is);
-  wide = subst (AreWide width) (sym more_is) (All-more (λ (one : Vec ℕ Global). length one.items ≡ width) lanes lane are.wide is.wide);
+  wide = subst (AreWide width) (sym more_is) (All-more (λ (one : List ℕ). length one ≡ width) lanes lane are.wide is.wide);
   each = λ k below.
       ap (column k) more_is
-      ∙ (map-append (λ (one : Vec ℕ Global). slice_index one.items k) lanes (lane ∷ [])
-      ∙ (ap (λ front. front ++ slice_index lane.items k ∷ []) (are.each k below)
+      ∙ (map-append (λ (one : List ℕ). slice_index one k) lanes (lane ∷ [])
+      ∙ (ap (λ front. front ++ slice_index lane k ∷ []) (are.each k below)
       ∙ (ap (λ n. before k ++ n ∷ []) (is.each k below) ∙ same k below)));
 }
 
 -- the same amounts otherwise
-pub lanes-are : (width count other : ℕ) (before now : ℕ → List ℕ) (lanes : List (Vec ℕ Global)) → AreLanes width count before lanes → count ≡ other → ((k : ℕ) → k < width → before k ≡ now k) → AreLanes width other now lanes
+pub lanes-are : (width count other : ℕ) (before now : ℕ → List ℕ) (lanes : List (List ℕ)) → AreLanes width count before lanes → count ≡ other → ((k : ℕ) → k < width → before k ≡ now k) → AreLanes width other now lanes
 lanes-are width count other before now lanes are counts same = record { count_is = are.count_is ∙ counts; wide = are.wide; each = λ k below. are.each k below ∙ same k below }
 
 -- the amount of a lane in a place
-pub column-at : (k place : ℕ) (lanes : List (Vec ℕ Global)) (d : Vec ℕ Global) → place < length lanes → slice_index (column k lanes) place ≡ slice_index (slice_index_or lanes place d).items k
-column-at k place lanes d below = get_or-map (λ (one : Vec ℕ Global). slice_index one.items k) lanes place d 0 below
+pub column-at : (k place : ℕ) (lanes : List (List ℕ)) (d : List ℕ) → place < length lanes → slice_index (column k lanes) place ≡ slice_index (slice_index_or lanes place d) k
+column-at k place lanes d below = get_or-map (λ (one : List ℕ). slice_index one k) lanes place d 0 below
 
 -- those of children
-pub column-part : (k start width : ℕ) (lanes : List (Vec ℕ Global)) → column k (take width (drop start lanes)) ≡ take width (drop start (column k lanes))
+pub column-part : (k start width : ℕ) (lanes : List (List ℕ)) → column k (take width (drop start lanes)) ≡ take width (drop start (column k lanes))
 column-part k start width lanes =
-    sym (ap (take width) (drop-map (λ (one : Vec ℕ Global). slice_index one.items k) start lanes) ∙ take-map (λ (one : Vec ℕ Global). slice_index one.items k) width (drop start lanes))
+    sym (ap (take width) (drop-map (λ (one : List ℕ). slice_index one k) start lanes) ∙ take-map (λ (one : List ℕ). slice_index one k) width (drop start lanes))
 
 -- a part of lanes is as wide
-pub wide-part : (width : ℕ) (lanes : List (Vec ℕ Global)) → AreWide width lanes → (start count : ℕ) → AreWide width (take count (drop start lanes))
+pub wide-part : (width : ℕ) (lanes : List (List ℕ)) → AreWide width lanes → (start count : ℕ) → AreWide width (take count (drop start lanes))
 wide-part width lanes wide start count = taken count (drop start lanes) (dropped start lanes wide)
   where
-    dropped : (n : ℕ) (xs : List (Vec ℕ Global)) → AreWide width xs → AreWide width (drop n xs)
+    dropped : (n : ℕ) (xs : List (List ℕ)) → AreWide width xs → AreWide width (drop n xs)
     dropped zero xs all = all
     dropped (suc n) [] all = all
     dropped (suc n) (x ∷ xs) all = dropped n xs (λ k d below. all (suc k) d (omega arith))
 
-    first : (n : ℕ) (x : Vec ℕ Global) (xs : List (Vec ℕ Global)) → length x.items ≡ width → AreWide width (take n xs) → AreWide width (x ∷ take n xs)
+    first : (n : ℕ) (x : List ℕ) (xs : List (List ℕ)) → length x ≡ width → AreWide width (take n xs) → AreWide width (x ∷ take n xs)
     first n x xs here rest zero d below = here
     first n x xs here rest (suc k) d below = rest k d (omega arith)
 
-    taken : (n : ℕ) (xs : List (Vec ℕ Global)) → AreWide width xs → AreWide width (take n xs)
+    taken : (n : ℕ) (xs : List (List ℕ)) → AreWide width xs → AreWide width (take n xs)
     taken zero xs all = λ k d below. absurd (omega arith)
     taken (suc n) [] all = all
     taken (suc n) (x ∷ xs) all = first n x xs (all zero x (omega arith)) (taken n xs (λ k d below. all (suc k) d (omega arith)))
 
--- how many lanes children have
-pub taken-count : {X : Type 0} (start width : ℕ) (xs : List X) → start + width ≤ length xs → length (take (start + width - start) (drop start xs)) ≡ width
-taken-count {X = X} start width xs fits = let e : start + width - start ≡ width = omega arith in ap (λ n. length (take n (drop start xs))) e ∙ count width (drop start xs) (rest start xs fits)
-  where
-    rest : (start : ℕ) (xs : List X) → start + width ≤ length xs → width ≤ length (drop start xs)
-    rest zero xs fits = omega arith
-    rest (suc start) [] fits = omega arith
-    rest (suc start) (x ∷ xs) fits = rest start xs (omega arith)
+-- a lane among those side by side
+pub part-at : {X : Type 0} (start count : ℕ) (xs : List X) (at : ℕ) (d : X) → at < count → slice_index_or (take count (drop start xs)) at d ≡ slice_index_or xs (start + at) d
+part-at start count xs at d below = get_or-take count (drop start xs) at d below ∙ get_or-drop start xs at d
 
-    count : (n : ℕ) (xs : List X) → n ≤ length xs → length (take n xs) ≡ n
-    count zero xs fits = refl
-    count (suc n) [] fits = absurd (omega arith)
-    count (suc n) (x ∷ xs) fits = ap suc (count n xs (omega arith))
+-- how many these are
+pub part-count : {X : Type 0} (start count : ℕ) (xs : List X) → start + count ≤ length xs → length (take count (drop start xs)) ≡ count
+part-count start count xs fits = length-take-le count (drop start xs) (omega (arith, fits, length-drop start xs))
+
+-- all from the first on
+pub part-all : {X : Type 0} (xs : List X) → take (length xs) (drop 0 xs) ≡ xs
+part-all xs = take_all (length xs) xs (omega arith)
 
 -- the sum of one more lane
-pub column-sum-more : (k i : ℕ) (lanes : List (Vec ℕ Global)) (d : Vec ℕ Global) → i < length lanes → sum (column k (take (i + 1) lanes)) ≡ sum (column k (take i lanes)) + slice_index (slice_index_or lanes i d).items k
+pub column-sum-more : (k i : ℕ) (lanes : List (List ℕ)) (d : List ℕ) → i < length lanes → sum (column k (take (i + 1) lanes)) ≡ sum (column k (take i lanes)) + slice_index (slice_index_or lanes i d) k
 column-sum-more k i lanes d below =
-    let f : Vec ℕ Global → ℕ = λ one. slice_index one.items k in
+    let f : List ℕ → ℕ = λ one. slice_index one k in
     let last = slice_index_or lanes i d in
     ap (λ ls. sum (column k ls)) (take_more lanes i d below)
     ∙ (ap sum (map-append f (take i lanes) (last ∷ []))
@@ -100,9 +97,62 @@ column-sum-more k i lanes d below =
     one : (n : ℕ) → sum (n ∷ []) ≡ n
     one n = omega (arith, sum_by-cons (λ (m : ℕ). m) n [])
 
-pub column-sum-le : (k i : ℕ) (lanes : List (Vec ℕ Global)) → sum (column k (take i lanes)) ≤ sum (column k lanes)
+pub column-sum-le : (k i : ℕ) (lanes : List (List ℕ)) → sum (column k (take i lanes)) ≤ sum (column k lanes)
 column-sum-le k i lanes =
-    subst (λ ns. sum ns ≤ sum (column k lanes)) (take-map (λ (one : Vec ℕ Global). slice_index one.items k) i lanes) (sum_by-take-le (λ (n : ℕ). n) (column k lanes) i)
+    subst (λ ns. sum ns ≤ sum (column k lanes)) (take-map (λ (one : List ℕ). slice_index one k) i lanes) (sum_by-take-le (λ (n : ℕ). n) (column k lanes) i)
+
+-- ---- sums of lanes side by side
+
+module _ (width : ℕ) (lanes : List (List ℕ)) (start count : ℕ) where
+  -- the sum of the first
+  pub sums-one : 0 < count → start + count ≤ length lanes → (lane : List ℕ) → length lane ≡ width → lane ≡ slice_index_or lanes start lane → (sums : List ℕ) → sums ≡ lane → IsLane width (λ k. sum (column k (take 1 (take count (drop start lanes))))) sums
+  sums-one some within lane wide lane_is sums sums_are = record {
+    wide = ap length sums_are ∙ wide;
+    each = λ k below. ap (λ all. slice_index all k) sums_are ∙ first k count (drop start lanes) some (omega (arith, some, within, length-drop start lanes)) (inside k);
+  }
+    where
+      inside : (k : ℕ) → slice_index_or (drop start lanes) 0 lane ≡ lane
+      inside k = get_or-drop start lanes 0 lane ∙ (let e : start + 0 ≡ start = omega arith in ap (λ n. slice_index_or lanes n lane) e ∙ sym lane_is)
+
+      single : (n : ℕ) → n ≡ sum (n ∷ [])
+      single n = omega (arith, sum_by-cons (λ (m : ℕ). m) n [])
+
+      first : (k count : ℕ) (rest : List (List ℕ)) → 0 < count → 0 < length rest → slice_index_or rest 0 lane ≡ lane → slice_index lane k ≡ sum (column k (take 1 (take count rest)))
+      first k zero rest some other same = absurd (omega (arith, some))
+      first k (suc count) [] some other same = absurd (omega (arith, other))
+      first k (suc count) (one ∷ rest) some other same = ap (λ (l : List ℕ). slice_index l k) (sym same) ∙ single (slice_index one k)
+
+  module _ (within : start + count ≤ length lanes) (few : (k : ℕ) → k < width → sum (column k (take count (drop start lanes))) ≤ 10 ^ 16) (at : ℕ) (below : at < count) (lane : List ℕ) (lane_is : lane ≡ slice_index_or lanes (start + at) lane) (sums : List ℕ) (so_far : IsLane width (λ k. sum (column k (take at (take count (drop start lanes))))) sums) where
+    more : (k : ℕ) → sum (column k (take (at + 1) (take count (drop start lanes)))) ≡ sum (column k (take at (take count (drop start lanes)))) + slice_index lane k
+    more k =
+        column-sum-more k at (take count (drop start lanes)) lane (omega (arith, below, part-count start count lanes within))
+        ∙ ap (λ (one : List ℕ). sum (column k (take at (take count (drop start lanes)))) + slice_index one k) (part-at start count lanes at lane below ∙ sym lane_is)
+
+    -- the next lane fits
+    pub sums-fit : (k : ℕ) → k < width → slice_index sums k + slice_index lane k < 2 ^ 64
+    sums-fit k inside = omega (arith, so_far.each k inside, more k, column-sum-le k (at + 1) (take count (drop start lanes)), few k inside)
+
+    -- it is added
+    pub sums-more : (now : List ℕ) → IsLane (length sums) (λ k. slice_index sums k + slice_index lane k) now → IsLane width (λ k. sum (column k (take (at + 1) (take count (drop start lanes))))) now
+    sums-more now now_is = record {
+      wide = now_is.wide ∙ so_far.wide;
+      each = λ k inside. omega (arith, now_is.each k (subst (λ n. k < n) (sym so_far.wide) inside), so_far.each k inside, more k);
+    }
+
+  -- all of them
+  pub sums-end : (at : ℕ) → count ≤ at → (sums : List ℕ) → IsLane width (λ k. sum (column k (take at (take count (drop start lanes))))) sums → IsLane width (λ k. sum (column k (take count (drop start lanes)))) sums
+  sums-end at past sums are = record {
+    wide = are.wide;
+    each = λ k inside. are.each k inside ∙ ap (λ all. sum (column k all)) (take_all at (take count (drop start lanes)) (few count (drop start lanes) past));
+  }
+    where
+      few : (n : ℕ) (xs : List (List ℕ)) → n ≤ at → length (take n xs) ≤ at
+      few n xs enough = omega (arith, enough, most n xs)
+        where
+          most : (n : ℕ) (xs : List (List ℕ)) → length (take n xs) ≤ n
+          most zero xs = omega arith
+          most (suc n) [] = omega arith
+          most (suc n) (x ∷ xs) = omega (arith, most n xs)
 
 -- ---- one lane
 

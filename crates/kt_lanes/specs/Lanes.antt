@@ -1,20 +1,19 @@
 -- Lanes: the amounts of a unit sidx by sidx, and those of units at one sidx.
 -- The rules: docs/FINANCIAL_MODULE.md, "Levels".
-use Rattle.std.specs.Prelude.{◌≡◌, ℕ, ◌+◌, ◌<◌, ◌≤◌, ◌^◌, List, Vec, All, length, map, take, drop, slice_index}
+use Rattle.std.specs.Prelude.{◌≡◌, ℕ, ◌+◌, ◌<◌, ◌≤◌, ◌^◌, List, All, length, map, take, drop, slice_index}
 use Rattle.std.specs.List.{sum}
-use Rattle.std.specs.declared.alloc.Global.{Global}
 use Rattle.kt_rules.specs.LossAlone.{loss_after}
 use Rattle.kt_rules.specs.Profiles.{IsProfile}
 use Rattle.kt_rules.specs.declared.carry.Carry.{Carry}
 use Rattle.kt_fmtree.specs.declared.node.Node.{Node}
 
 -- the amounts of units at one sidx
-abbrev pub column : ℕ → List (Vec ℕ Global) → List ℕ
-column k lanes = map (λ lane. slice_index lane.items k) lanes
+abbrev pub column : ℕ → List (List ℕ) → List ℕ
+column k lanes = map (λ lane. slice_index lane k) lanes
 
 -- each lane has so many amounts
-abbrev pub AreWide : ℕ → List (Vec ℕ Global) → Type 0
-AreWide width lanes = All (λ lane. length lane.items ≡ width) lanes
+abbrev pub AreWide : ℕ → List (List ℕ) → Type 0
+AreWide width lanes = All (λ lane. length lane ≡ width) lanes
 
 -- a lane has an amount for each of so many sidx
 pub record IsLane (width : ℕ) (amount : ℕ → ℕ) (lane : List ℕ) : Type 0 where
@@ -22,7 +21,7 @@ pub record IsLane (width : ℕ) (amount : ℕ → ℕ) (lane : List ℕ) : Type 
   pub each : (k : ℕ) → k < width → slice_index lane k ≡ amount k
 
 -- so many lanes have the amounts of units for each of so many sidx
-pub record AreLanes (width count : ℕ) (amounts : ℕ → List ℕ) (lanes : List (Vec ℕ Global)) : Type 0 where
+pub record AreLanes (width count : ℕ) (amounts : ℕ → List ℕ) (lanes : List (List ℕ)) : Type 0 where
   pub count_is : length lanes ≡ count
   pub wide : AreWide width lanes
   pub each : (k : ℕ) → k < width → column k lanes ≡ amounts k
@@ -40,7 +39,7 @@ abbrev pub unit_loss : List ℕ → Node → ℕ
 unit_loss row node = loss_after node.profile node.tiv (sum (child_losses row node))
 
 -- a unit's children stand below it, their losses are not too much, and its terms are a profile
-pub record CanTake (width : ℕ) (below : List (Vec ℕ Global)) (node : Node) : Type 0 where
+pub record CanTake (width : ℕ) (below : List (List ℕ)) (node : Node) : Type 0 where
   pub within : node.start + node.width ≤ length below
   pub few : (k : ℕ) → k < width → sum (child_losses (column k below) node) ≤ 10 ^ 16
   pub profile : IsProfile node.profile

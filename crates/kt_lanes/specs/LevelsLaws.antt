@@ -1,8 +1,7 @@
 -- Laws of amounts that are given down by lanes, from a level to the next one below.
 -- The rule: docs/FINANCIAL_MODULE.md, "Allocation".
-use Rattle.std.specs.Prelude.{◌≡◌, ℕ, suc, ◌<◌, ◌≤◌, false, List, [], Vec, All, length, slice_index, slice_index_or}
+use Rattle.std.specs.Prelude.{◌≡◌, ℕ, suc, ◌<◌, ◌≤◌, false, List, [], All, length, slice_index, slice_index_or}
 use Rattle.std.specs.List.{AllByRecursion, flat_map}
-use Rattle.std.specs.declared.alloc.Global.{Global}
 use Rattle.std.proofs.Common.{sym, ap, subst, ◌∙◌, arith}
 use Rattle.std.proofs.lemmas.List.{length-map}
 use Rattle.std.proofs.lemmas.List.FromFn.{get_or-map-range_with_len}
@@ -20,7 +19,7 @@ use Rattle.kt_lanes.specs.PoliciesLaws.{carried}
 use Rattle.kt_lanes.specs.declared.climbing.Climbed.{Climbed}
 use Rattle.kt_lanes.specs.declared.down.PlacedLanes.{PlacedLanes}
 
-module _ (parts : Parts) (has : HasProgramme parts) (lanes : List (Vec ℕ Global)) (climbed : Climbed) (is_climbed : IsClimbed parts lanes climbed) where
+module _ (parts : Parts) (has : HasProgramme parts) (lanes : List (List ℕ)) (climbed : Climbed) (is_climbed : IsClimbed parts lanes climbed) where
   -- what is carried at a level
   pub row-at : (k level : ℕ) → level < length parts.levels → slice_index_or (carried_at parts lanes k).rows level [] ≡ row_of parts (column k lanes) level
   row-at k level below = get_or-map-range_with_len (row_from parts.levels (leaf_row parts.leaves (column k lanes))) 0 (length parts.levels) level level [] below (omega arith)
@@ -45,7 +44,7 @@ module _ (parts : Parts) (has : HasProgramme parts) (lanes : List (Vec ℕ Globa
     -- the places are those of nodes
     pub next-places : All (λ place. place < length (slice_index_or parts.levels next [])) amounts.places.items
     next-places =
-        places-all (λ place. place < length (slice_index_or parts.levels next [])) amounts.places.items (column 0 amounts.lanes.items) (placed.count_is ∙ sym (length-map amounts.lanes.items (λ (one : Vec ℕ Global). slice_index one.items 0)))
+        places-all (λ place. place < length (slice_index_or parts.levels next [])) amounts.places.items (column 0 amounts.lanes) (placed.count_is ∙ sym (length-map amounts.lanes (λ (one : List ℕ). slice_index one 0)))
         (nodes-places parts false level next level_is (placed_at 0 amounts) (can 0 some).can)
 
     -- the amounts are backed by what the level below carries

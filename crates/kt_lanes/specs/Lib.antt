@@ -4,6 +4,7 @@ pub mod Climbed
 pub mod ClimbedLaws
 pub mod Shares
 pub mod SharesLaws
+pub mod SideBySide
 pub mod Down
 pub mod DownLaws
 pub mod ByIdLaws

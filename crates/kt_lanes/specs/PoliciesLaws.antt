@@ -1,8 +1,7 @@
 -- Laws of policy losses by lanes, and of what the ids beneath a top have of them.
 -- The rules: docs/FINANCIAL_MODULE.md, "Policy losses", "Allocation".
-use Rattle.std.specs.Prelude.{◌≡◌, ℕ, suc, ◌-◌, ◌<◌, ◌≤◌, ◌^◌, Bool, true, false, cond, nat_eq, List, [], ◌∷◌, Vec, All, length, map, slice_index, slice_index_or}
+use Rattle.std.specs.Prelude.{◌≡◌, ℕ, suc, ◌-◌, ◌<◌, ◌≤◌, ◌^◌, Bool, true, false, cond, nat_eq, List, [], ◌∷◌, All, length, map, slice_index, slice_index_or}
 use Rattle.std.specs.List.{AllByRecursion, filter, list_any, sum, sum_by}
-use Rattle.std.specs.declared.alloc.Global.{Global}
 use Rattle.std.proofs.Common.{refl, sym, ap, subst, ◌∙◌, arith}
 use Rattle.std.proofs.lemmas.List.{length-map, get_or-map, get_or_default}
 use Rattle.kt_money.specs.Sharing.{share_out}
@@ -33,11 +32,11 @@ use Rattle.kt_lanes.specs.Policies.{top_losses, IsTopBase, IsPolicy}
 use Rattle.kt_lanes.specs.declared.climbing.Climbed.{Climbed}
 use Rattle.kt_lanes.specs.declared.down.PlacedLanes.{PlacedLanes}
 
-module _ (parts : Parts) (has : HasProgramme parts) (lanes : List (Vec ℕ Global)) (climbed : Climbed) (is_climbed : IsClimbed parts lanes climbed) where
+module _ (parts : Parts) (has : HasProgramme parts) (lanes : List (List ℕ)) (climbed : Climbed) (is_climbed : IsClimbed parts lanes climbed) where
   -- ---- what is carried
 
   pub same-length : (k : ℕ) → length (column k lanes) ≡ length parts.ids
-  same-length k = length-map lanes (λ (one : Vec ℕ Global). slice_index one.items k) ∙ is_climbed.losses.count_is
+  same-length k = length-map lanes (λ (one : List ℕ). slice_index one k) ∙ is_climbed.losses.count_is
 
   pub carries : (tree : Tree) → IsProgramme tree parts → (k : ℕ) → AreCarried tree (loss_by tree.ids (column k lanes)) parts (carried_at parts lanes k)
   carries tree is k = programme-carries tree parts is (column k lanes) (same-length k)
@@ -67,7 +66,7 @@ module _ (parts : Parts) (has : HasProgramme parts) (lanes : List (Vec ℕ Globa
     inside : node < length (slice_index_or parts.levels (length parts.levels - 1) [])
     inside = subst (λ n. node < n) tops-count below
 
-    last-below : length parts.levels - 1 < length parts.levels
+    pub last-below : length parts.levels - 1 < length parts.levels
     last-below = omega (arith, some-levels)
 
     -- there is a level below
@@ -94,7 +93,7 @@ module _ (parts : Parts) (has : HasProgramme parts) (lanes : List (Vec ℕ Globa
         subst (λ row. sum (child_losses row (node_at (slice_index_or parts.levels (length parts.levels - 1) []) node)) ≤ 10 ^ 16) ((is_climbed.rows (length parts.levels - 1) last-below).each k less)
         (few-of (top-takes no_node) k less)
       where
-        few-of : {width : ℕ} {row : List (Vec ℕ Global)} {node : Node} → CanTake width row node → (k : ℕ) → k < width → sum (child_losses (column k row) node) ≤ 10 ^ 16
+        few-of : {width : ℕ} {row : List (List ℕ)} {node : Node} → CanTake width row node → (k : ℕ) → k < width → sum (child_losses (column k row) node) ≤ 10 ^ 16
         few-of can k less = can.few k less
 
     -- they are those of the tree
@@ -160,7 +159,7 @@ module _ (parts : Parts) (has : HasProgramme parts) (lanes : List (Vec ℕ Globa
 
     module _ (layer : ℕ) (policy : List ℕ) (is_policy : IsPolicy parts lanes climbed.width node layer policy) where
       -- policy losses are not above the losses beneath
-      pub beneath-few : (places : List ℕ) → All (λ place. place < length parts.ids) places → map (slice_index parts.ids) places ≡ slice_index_or parts.beneath node [] → (losses : List (Vec ℕ Global)) → AreLanes climbed.width (length places) (λ k. map (slice_index (column k lanes)) places) losses → (k : ℕ) → k < climbed.width → (slice_index policy k ≤ sum (column k losses)) × (sum (column k losses) ≤ 10 ^ 16)
+      pub beneath-few : (places : List ℕ) → All (λ place. place < length parts.ids) places → map (slice_index parts.ids) places ≡ slice_index_or parts.beneath node [] → (losses : List (List ℕ)) → AreLanes climbed.width (length places) (λ k. map (slice_index (column k lanes)) places) losses → (k : ℕ) → k < climbed.width → (slice_index policy k ≤ sum (column k losses)) × (sum (column k losses) ≤ 10 ^ 16)
       beneath-few places within found losses are k less =
           losses-few parts (carried_at parts lanes k) (carried k less) node layer (slice_index policy k) (column k losses) (is_policy.policy_is has.tree has.is k less) (are.each k less ∙ losses-in has.tree has.is places within found k)
 
@@ -183,17 +182,17 @@ module _ (parts : Parts) (has : HasProgramme parts) (lanes : List (Vec ℕ Globa
 
       module _ (given : PlacedLanes) (given_are : (k : ℕ) → k < climbed.width → placed_at k given ≡ levels_down false parts.levels (carried_at parts lanes k).rows (length parts.levels) (record { place = node; amount = slice_index policy k } ∷ [])) where
         -- what was given has places
-        pub given-places : length given.places.items ≡ length given.lanes.items → All (λ place. place < length parts.leaves) given.places.items
+        pub given-places : length given.places.items ≡ length given.lanes → All (λ place. place < length parts.leaves) given.places.items
         given-places same =
             let first = is_climbed.losses.some in
-            places-all (λ place. place < length parts.leaves) given.places.items (column 0 given.lanes.items) (same ∙ sym (length-map given.lanes.items (λ (one : Vec ℕ Global). slice_index one.items 0)))
+            places-all (λ place. place < length parts.leaves) given.places.items (column 0 given.lanes) (same ∙ sym (length-map given.lanes (λ (one : List ℕ). slice_index one 0)))
             (leaves-places parts (carried_at parts lanes 0) (carried 0 first) false node (slice_index policy 0) below (policy-le 0 first) (placed_at 0 given) (given_are 0 first))
 
         pub given-few : (k : ℕ) → k < climbed.width → sum_by (λ part. part.amount) (placed_at k given) ≤ 10 ^ 17
         given-few k less = shared-few parts (carried_at parts lanes k) (carried k less) node (slice_index policy k) below (policy-le k less) (placed_at k given) (given_are k less)
 
         -- it is what the tree shares down
-        pub given-shared : (ids : List ℕ) → ids ≡ slice_index_or parts.beneath node [] → (shares : List (Vec ℕ Global)) → AreLanes climbed.width (length ids) (λ k. map (part_of (unit_parts (units_at parts 0) (placed_at k given))) ids) shares → (tree : Tree) → IsProgramme tree parts → AreLanes climbed.width (length (beneath tree (slice_index tree.tops node))) (λ k. shared_down tree (loss_by tree.ids (column k lanes)) (slice_index tree.tops node) layer) shares
+        pub given-shared : (ids : List ℕ) → ids ≡ slice_index_or parts.beneath node [] → (shares : List (List ℕ)) → AreLanes climbed.width (length ids) (λ k. map (part_of (unit_parts (units_at parts 0) (placed_at k given))) ids) shares → (tree : Tree) → IsProgramme tree parts → AreLanes climbed.width (length (beneath tree (slice_index tree.tops node))) (λ k. shared_down tree (loss_by tree.ids (column k lanes)) (slice_index tree.tops node) layer) shares
         given-shared ids ids_are shares are tree is =
             lanes-are climbed.width (length ids) (length (beneath tree (slice_index tree.tops node))) (λ k. map (part_of (unit_parts (units_at parts 0) (placed_at k given))) ids) (λ k. shared_down tree (loss_by tree.ids (column k lanes)) (slice_index tree.tops node) layer) shares are
             (ap length (ids_are ∙ beneath-are tree parts is node below))
@@ -202,7 +201,7 @@ module _ (parts : Parts) (has : HasProgramme parts) (lanes : List (Vec ℕ Globa
 
       -- ---- at once
 
-      pub at-once : (places : List ℕ) → All (λ place. place < length parts.ids) places → map (slice_index parts.ids) places ≡ slice_index_or parts.beneath node [] → (losses shares : List (Vec ℕ Global)) → AreLanes climbed.width (length places) (λ k. map (slice_index (column k lanes)) places) losses → AreLanes climbed.width (length losses) (λ k. share_out (slice_index policy k) (column k losses)) shares
+      pub at-once : (places : List ℕ) → All (λ place. place < length parts.ids) places → map (slice_index parts.ids) places ≡ slice_index_or parts.beneath node [] → (losses shares : List (List ℕ)) → AreLanes climbed.width (length places) (λ k. map (slice_index (column k lanes)) places) losses → AreLanes climbed.width (length losses) (λ k. share_out (slice_index policy k) (column k losses)) shares
           → (tree : Tree) → IsProgramme tree parts → AreLanes climbed.width (length (beneath tree (slice_index tree.tops node))) (λ k. shared_at_once tree (loss_by tree.ids (column k lanes)) (slice_index tree.tops node) layer) shares
       at-once places within found losses shares losses_are shares_are tree is =
           lanes-are climbed.width (length losses) (length (beneath tree (slice_index tree.tops node))) (λ k. share_out (slice_index policy k) (column k losses)) (λ k. shared_at_once tree (loss_by tree.ids (column k lanes)) (slice_index tree.tops node) layer) shares shares_are

@@ -11,32 +11,32 @@ ghost use Rattle.kt_lanes.specs.Lanes.{column, AreWide, AreLanes};
 ghost use Rattle.kt_lanes.specs.Down.{ArePlaced, placed_at};
 
 use crate::down::PlacedLanes;
-use crate::lane::{add_lane, zero_lanes};
+use crate::lanes::Lanes;
 use kt_alloc::id_at;
 use kt_fmtree::Programme;
 use std::alloc::{AllocError, Global};
 
 /// Adds a lane to that of an id, which stands in this place.
-fn add_at(ids: &[u32], found: &mut Vec<Vec<u64>>, place: usize, id: u32, lane: &[u64])
+fn add_at(ids: &[u32], found: &mut Lanes, place: usize, id: u32, lane: &[u64])
     requires rising { IsRising ids.now }
-    requires same { length found.old.items ≡ length ids.now }
-    requires wide { AreWide (length lane.now) found.old.items }
-    requires few { (k place : ℕ) → k < length lane.now → place < length ids.now → slice_index (column k found.old.items) place + slice_index lane.now k < 2 ^ 64 }
+    requires same { length found.old ≡ length ids.now }
+    requires wide { AreWide (length lane.now) found.old }
+    requires few { (k place : ℕ) → k < length lane.now → place < length ids.now → slice_index (column k found.old) place + slice_index lane.now k < 2 ^ 64 }
     requires within { place < length ids.now }
     requires here { slice_index ids.now place ≡ id }
-    ensures value { AreLanes (length lane.now) (length ids.now) (λ k. with_more ids.now (column k found.old.items) id (slice_index lane.now k)) found.new.items }
+    ensures value { AreLanes (length lane.now) (length ids.now) (λ k. with_more ids.now (column k found.old) id (slice_index lane.now k)) found.new }
 {
-    add_lane(&mut found[place], lane);
+    found.add(place, lane);
 }
 
 /// Adds a lane to that of an id, if it is among these. It is looked for in a place first: ids stand in the order of the tree
 /// mostly.
-fn add_by_id(ids: &[u32], found: &mut Vec<Vec<u64>>, near: usize, id: u32, lane: &[u64])
+pub fn add_by_id(ids: &[u32], found: &mut Lanes, near: usize, id: u32, lane: &[u64])
     requires rising { IsRising ids.now }
-    requires same { length found.old.items ≡ length ids.now }
-    requires wide { AreWide (length lane.now) found.old.items }
-    requires few { (k place : ℕ) → k < length lane.now → place < length ids.now → slice_index (column k found.old.items) place + slice_index lane.now k < 2 ^ 64 }
-    ensures value { AreLanes (length lane.now) (length ids.now) (λ k. with_more ids.now (column k found.old.items) id (slice_index lane.now k)) found.new.items }
+    requires same { length found.old ≡ length ids.now }
+    requires wide { AreWide (length lane.now) found.old }
+    requires few { (k place : ℕ) → k < length lane.now → place < length ids.now → slice_index (column k found.old) place + slice_index lane.now k < 2 ^ 64 }
+    ensures value { AreLanes (length lane.now) (length ids.now) (λ k. with_more ids.now (column k found.old) id (slice_index lane.now k)) found.new }
 {
     if near < ids.len() && ids[near] == id {
         add_at(ids, found, near, id, lane);
@@ -54,21 +54,21 @@ fn added_by_id(
     ids: &[u32],
     width: usize,
     parts: &PlacedLanes,
-) -> Result<Vec<Vec<u64>>, AllocError>
+) -> Result<Lanes, AllocError>
     requires rising { IsRising ids.now }
     requires parts { ArePlaced width parts.now }
     requires places { All (λ place. place < length programme.now.leaves) parts.now.places.items }
     requires few { (k : ℕ) → k < width → sum_by (λ part. part.amount) (placed_at k parts.now) ≤ 10 ^ 17 }
-    ensures value { IfOk result (λ found. AreLanes width (length ids.now) (λ k. map (part_of (unit_parts (units_at programme.now 0) (placed_at k parts.now))) ids.now) found.items) }
+    ensures value { IfOk result (λ found. AreLanes width (length ids.now) (λ k. map (part_of (unit_parts (units_at programme.now 0) (placed_at k parts.now))) ids.now) found) }
 {
-    let mut found = zero_lanes(alloc, ids.len(), width)?;
+    let mut found = Lanes::zeros(alloc, ids.len(), width)?;
     for (near, place) in parts.places.iter().enumerate() {
         add_by_id(
             ids,
             &mut found,
             near,
             id_at(programme, *place),
-            &parts.lanes[near],
+            parts.lanes.lane(near),
         );
     }
     Ok(found)
@@ -97,12 +97,12 @@ pub(crate) fn lanes_by_id(
     ids: &[u32],
     width: usize,
     parts: PlacedLanes,
-) -> Result<Vec<Vec<u64>>, AllocError>
+) -> Result<Lanes, AllocError>
     requires rising { IsRising ids.now }
     requires parts { ArePlaced width parts }
     requires places { All (λ place. place < length programme.now.leaves) parts.places.items }
     requires few { (k : ℕ) → k < width → sum_by (λ part. part.amount) (placed_at k parts) ≤ 10 ^ 17 }
-    ensures value { IfOk result (λ found. AreLanes width (length ids.now) (λ k. map (part_of (unit_parts (units_at programme.now 0) (placed_at k parts))) ids.now) found.items) }
+    ensures value { IfOk result (λ found. AreLanes width (length ids.now) (λ k. map (part_of (unit_parts (units_at programme.now 0) (placed_at k parts))) ids.now) found) }
 {
     if are_in_order(programme, ids, &parts.places) {
         return Ok(parts.lanes);

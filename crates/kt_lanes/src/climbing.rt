@@ -6,7 +6,9 @@ ghost use Rattle.kt_fmtree.specs.Parts.{units_at};
 ghost use Rattle.kt_lanes.specs.Lanes.{column, AreWide, AreLanes, IsLane, CanTake, child_losses, unit_loss};
 ghost use Rattle.kt_lanes.specs.Climbed.{HasPlainUnits, AreLevel, AreLosses, IsClimbed, level_lanes};
 
-use crate::lane::{apply_lane, copy_of, sums_of};
+use crate::lane::{apply_lane, sum_lanes};
+use crate::lanes::Lanes;
+use kt_alloc::zeros;
 use kt_fmtree::{Node, Programme};
 use std::alloc::{AllocError, Global};
 
@@ -16,38 +18,26 @@ pub struct Climbed {
     /// How many sidx a lane has.
     pub width: usize,
     /// Of each level the lanes of its units, in the order of the tree: the losses in cents that they carry.
-    pub rows: Vec<Vec<Vec<u64>>>,
+    pub rows: Vec<Lanes>,
 }
 
-/// The losses of the children of a unit, added sidx by sidx. An error is want of memory.
-pub(crate) fn base_lane(
-    alloc: Global,
-    node: &Node,
-    width: usize,
-    below: &[Vec<u64>],
-) -> Result<Vec<u64>, AllocError>
-    requires can { CanTake width below.now node.now }
-    requires wide { AreWide width below.now }
-    ensures value { IfOk result (λ lane. IsLane width (λ k. sum (child_losses (column k below.now) node.now)) lane.items) }
+/// Puts the losses of the children of a unit, added sidx by sidx, in the place of what a lane has.
+pub(crate) fn add_children(node: &Node, below: &Lanes, lane: &mut [u64])
+    requires can { CanTake (length lane.old) below.now node.now }
+    requires wide { AreWide (length lane.old) below.now }
+    ensures value { IsLane (length lane.old) (λ k. sum (child_losses (column k below.now) node.now)) lane.new }
 {
-    let lane = sums_of(alloc, width, &below[node.start..node.start + node.width])?;
-    Ok(lane)
+    sum_lanes(below, node.start, node.width, lane);
 }
 
-/// What a unit carries at each sidx. An error is want of memory.
-fn unit_lane(
-    alloc: Global,
-    node: &Node,
-    width: usize,
-    below: &[Vec<u64>],
-) -> Result<Vec<u64>, AllocError>
-    requires can { CanTake width below.now node.now }
-    requires wide { AreWide width below.now }
-    ensures value { IfOk result (λ lane. IsLane width (λ k. unit_loss (column k below.now) node.now) lane.items) }
+/// Puts what a unit carries at each sidx in the place of what a lane has.
+fn take_unit(node: &Node, below: &Lanes, lane: &mut [u64])
+    requires can { CanTake (length lane.old) below.now node.now }
+    requires wide { AreWide (length lane.old) below.now }
+    ensures value { IsLane (length lane.old) (λ k. unit_loss (column k below.now) node.now) lane.new }
 {
-    let mut lane = base_lane(alloc, node, width, below)?;
-    apply_lane(&node.profile, node.tiv, &mut lane);
-    Ok(lane)
+    add_children(node, below, lane);
+    apply_lane(&node.profile, node.tiv, lane);
 }
 
 /// What the units of a level carry at each sidx, from what those of the level below do. An error is want of memory.
@@ -55,15 +45,17 @@ fn unit_lanes(
     alloc: Global,
     nodes: &[Node],
     width: usize,
-    below: &[Vec<u64>],
-) -> Result<Vec<Vec<u64>>, AllocError>
+    below: &Lanes,
+) -> Result<Lanes, AllocError>
     requires can { All (CanTake width below.now) nodes.now }
     requires wide { AreWide width below.now }
-    ensures value { IfOk result (λ lanes. AreLanes width (length nodes.now) (λ k. map (unit_loss (column k below.now)) nodes.now) lanes.items) }
+    ensures value { IfOk result (λ lanes. AreLanes width (length nodes.now) (λ k. map (unit_loss (column k below.now)) nodes.now) lanes) }
 {
-    let mut lanes = Vec::with_capacity(alloc, nodes.len())?;
+    let mut lane = zeros(alloc, width)?;
+    let mut lanes = Lanes::with_room(alloc, nodes.len(), width)?;
     for node in nodes {
-        lanes.push(unit_lane(alloc, node, width, below)?)?;
+        take_unit(node, below, &mut lane);
+        lanes.push(&lane)?;
     }
     Ok(lanes)
 }
@@ -73,21 +65,21 @@ pub(crate) fn lanes_in(
     alloc: Global,
     width: usize,
     places: &[usize],
-    lanes: &[Vec<u64>],
-) -> Result<Vec<Vec<u64>>, AllocError>
+    lanes: &Lanes,
+) -> Result<Lanes, AllocError>
     requires places { All (λ place. place < length lanes.now) places.now }
     requires wide { AreWide width lanes.now }
-    ensures value { IfOk result (λ found. AreLanes width (length places.now) (λ k. map (slice_index (column k lanes.now)) places.now) found.items) }
+    ensures value { IfOk result (λ found. AreLanes width (length places.now) (λ k. map (slice_index (column k lanes.now)) places.now) found) }
 {
-    let mut found = Vec::with_capacity(alloc, places.len())?;
+    let mut found = Lanes::with_room(alloc, places.len(), width)?;
     for place in places {
-        found.push(copy_of(alloc, &lanes[*place])?)?;
+        found.push(lanes.lane(*place))?;
     }
     Ok(found)
 }
 
 /// The lanes of a level.
-pub(crate) fn lanes_at(rows: &[Vec<Vec<u64>>], level: usize) -> &[Vec<u64>]
+pub(crate) fn lanes_at(rows: &[Lanes], level: usize) -> &Lanes
     requires { level < length rows.now }
     ensures value { result.now ≡ level_lanes rows.now level }
 {
@@ -99,15 +91,15 @@ fn next_lanes(
     alloc: Global,
     programme: &Programme,
     width: usize,
-    lanes: &[Vec<u64>],
+    lanes: &Lanes,
     level: usize,
-    below: &[Vec<u64>],
-) -> Result<Vec<Vec<u64>>, AllocError>
+    below: &Lanes,
+) -> Result<Lanes, AllocError>
     requires losses { AreLosses programme.now width lanes.now }
     requires plain { HasPlainUnits programme.now }
     requires level { level < length programme.now.levels }
     requires below { AreLevel programme.now lanes.now width level below.now }
-    ensures value { IfOk result (λ row. AreLevel programme.now lanes.now width (level + 1) row.items) }
+    ensures value { IfOk result (λ row. AreLevel programme.now lanes.now width (level + 1) row) }
 {
     programme.is_of_a_tree();
     let row = unit_lanes(alloc, programme.nodes_above(level), width, below)?;
@@ -120,7 +112,7 @@ pub fn climb(
     alloc: Global,
     programme: &Programme,
     width: usize,
-    lanes: &[Vec<u64>],
+    lanes: &Lanes,
 ) -> Result<Climbed, AllocError>
     requires losses { AreLosses programme.now width lanes.now }
     requires plain { HasPlainUnits programme.now }

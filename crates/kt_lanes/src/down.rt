@@ -6,10 +6,12 @@ ghost use Rattle.kt_money.specs.Sharing.{share_out};
 ghost use Rattle.kt_alloc.specs.Placed.{levels_down, node_at, parts_from};
 ghost use Rattle.kt_lanes.specs.Lanes.{column, AreWide, CanTake, child_losses};
 ghost use Rattle.kt_lanes.specs.Climbed.{IsClimbed, carried_at};
+ghost use Rattle.kt_lanes.specs.Shares.{HasRoom};
 ghost use Rattle.kt_lanes.specs.Down.{AreBacked, ArePlaced, CanGive, given_losses, placed_at};
 
 use crate::climbing::{Climbed, lanes_at};
-use crate::shares::share_lanes;
+use crate::lanes::Lanes;
+use crate::shares::{Room, room_of, share_lanes};
 use kt_fmtree::{Node, Programme};
 use std::alloc::{AllocError, Global};
 
@@ -19,12 +21,12 @@ pub(crate) struct PlacedLanes {
     /// The places of the units, in the order of the tree.
     pub places: Vec<usize>,
     /// Their amounts in cents, sidx by sidx.
-    pub lanes: Vec<Vec<u64>>,
+    pub lanes: Lanes,
 }
 
 /// Puts places side by side behind others.
 fn push_places(start: usize, width: usize, places: &mut Vec<usize>) -> Result<(), AllocError>
-    requires { start + width < 2 ^ 63 }
+    requires { start + width < 2 ^ 64 }
     ensures value { OnOk result (places.new.items ≡ places.old.items ++ range_with_len start width) }
 {
     for at in 0..width {
@@ -35,25 +37,31 @@ fn push_places(start: usize, width: usize, places: &mut Vec<usize>) -> Result<()
 
 /// Puts what a unit gives to its children behind what others gave.
 fn push_children(
-    alloc: Global,
     node: &Node,
-    width: usize,
-    below: &[Vec<u64>],
+    below: &Lanes,
     totals: &[u64],
+    room: &mut Room,
     given: &mut PlacedLanes,
 ) -> Result<(), AllocError>
-    requires can { CanTake width below.now node.now }
-    requires wide { AreWide width below.now }
-    requires totals { length totals.now ≡ width }
-    requires backed { (k : ℕ) → k < width → slice_index totals.now k ≤ sum (child_losses (column k below.now) node.now) }
-    requires given { ArePlaced width given.old }
-    ensures given { OnOk result (ArePlaced width given.new) }
-    ensures value { OnOk result ((k : ℕ) → k < width → placed_at k given.new ≡ placed_at k given.old ++ parts_from node.now.start (share_out (slice_index totals.now k) (child_losses (column k below.now) node.now))) }
+    requires can { CanTake (length totals.now) below.now node.now }
+    requires wide { AreWide (length totals.now) below.now }
+    requires backed { (k : ℕ) → k < length totals.now → slice_index totals.now k ≤ sum (child_losses (column k below.now) node.now) }
+    requires room { HasRoom (length totals.now) room.old }
+    requires given { ArePlaced (length totals.now) given.old }
+    ensures room { HasRoom (length totals.now) room.new }
+    ensures given { OnOk result (ArePlaced (length totals.now) given.new) }
+    ensures value { OnOk result ((k : ℕ) → k < length totals.now → placed_at k given.new ≡ placed_at k given.old ++ parts_from node.now.start (share_out (slice_index totals.now k) (child_losses (column k below.now) node.now))) }
 {
-    let children = &below[node.start..node.start + node.width];
-    let mut shares = share_lanes(alloc, width, totals, children)?;
+    let _all = below.len();
+    share_lanes(
+        totals,
+        below,
+        node.start,
+        node.width,
+        room,
+        &mut given.lanes,
+    )?;
     push_places(node.start, node.width, &mut given.places)?;
-    given.lanes.append(&mut shares)?;
     Ok(())
 }
 
@@ -62,7 +70,7 @@ fn level_by_unit(
     alloc: Global,
     nodes: &[Node],
     width: usize,
-    below: &[Vec<u64>],
+    below: &Lanes,
     parts: &PlacedLanes,
 ) -> Result<PlacedLanes, AllocError>
     requires can { All (CanTake width below.now) nodes.now }
@@ -73,17 +81,17 @@ fn level_by_unit(
     ensures given { IfOk result (ArePlaced width) }
     ensures value { IfOk result (λ given. (k : ℕ) → k < width → placed_at k given ≡ flat_map (given_losses nodes.now (column k below.now)) (placed_at k parts.now)) }
 {
+    let mut room = room_of(alloc, width)?;
     let mut given = PlacedLanes {
         places: Vec::new(alloc),
-        lanes: Vec::new(alloc),
+        lanes: Lanes::new(alloc),
     };
     for (at, place) in parts.places.iter().enumerate() {
         push_children(
-            alloc,
             &nodes[*place],
-            width,
             below,
-            &parts.lanes[at],
+            parts.lanes.lane(at),
+            &mut room,
             &mut given,
         )?;
     }
@@ -121,7 +129,7 @@ fn level_down(
     alloc: Global,
     nodes: &[Node],
     width: usize,
-    below: &[Vec<u64>],
+    below: &Lanes,
     parts: PlacedLanes,
 ) -> Result<PlacedLanes, AllocError>
     requires can { All (CanTake width below.now) nodes.now }
@@ -145,7 +153,7 @@ fn level_down(
 pub(crate) fn lanes_down(
     alloc: Global,
     programme: &Programme,
-    lanes: &[Vec<u64>],
+    lanes: &Lanes,
     climbed: &Climbed,
     level: usize,
     parts: PlacedLanes,

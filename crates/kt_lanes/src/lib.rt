@@ -5,13 +5,15 @@ mod by_id;
 mod climbing;
 mod down;
 mod lane;
+mod lanes;
 mod plain;
 mod policy;
 mod quotient;
 mod shared;
 mod shares;
 
+pub use by_id::add_by_id;
 pub use climbing::{Climbed, climb};
-pub use lane::{add_lane, copy_of, zero_lanes};
+pub use lanes::Lanes;
 pub use plain::{has_plain_units, layer_looks_back};
 pub use policy::{allocate_lanes, policy_lane};

@@ -13,10 +13,12 @@ ghost use Rattle.kt_lanes.specs.Down.{ArePlaced, placed_at};
 ghost use Rattle.kt_lanes.specs.Policies.{IsPolicy, IsTopBase};
 
 use crate::by_id::lanes_by_id;
-use crate::climbing::{Climbed, base_lane, lanes_at, lanes_in};
+use crate::climbing::{Climbed, add_children, lanes_at, lanes_in};
 use crate::down::{PlacedLanes, lanes_down};
-use crate::lane::{applied_lane, copy_of};
-use crate::shares::share_lanes;
+use crate::lane::applied_lane;
+use crate::lanes::Lanes;
+use crate::shares::{room_of, share_lanes};
+use kt_alloc::zeros;
 use kt_fmtree::{Programme, places_of};
 use std::alloc::{AllocError, Global};
 
@@ -24,7 +26,7 @@ use std::alloc::{AllocError, Global};
 fn top_lane(
     alloc: Global,
     programme: &Programme,
-    lanes: &[Vec<u64>],
+    lanes: &Lanes,
     climbed: &Climbed,
     node: usize,
 ) -> Result<Vec<u64>, AllocError>
@@ -35,12 +37,8 @@ fn top_lane(
     programme.is_of_a_tree();
     let last = programme.depth() - 1;
     let nodes = programme.nodes_above(last);
-    let lane = base_lane(
-        alloc,
-        &nodes[node],
-        climbed.width,
-        lanes_at(&climbed.rows, last),
-    )?;
+    let mut lane = zeros(alloc, climbed.width)?;
+    add_children(&nodes[node], lanes_at(&climbed.rows, last), &mut lane);
     Ok(lane)
 }
 
@@ -49,7 +47,7 @@ fn top_lane(
 pub fn policy_lane(
     alloc: Global,
     programme: &Programme,
-    lanes: &[Vec<u64>],
+    lanes: &Lanes,
     climbed: &Climbed,
     node: u32,
     layer: u32,
@@ -71,21 +69,24 @@ pub fn policy_lane(
 fn shared_at_once(
     alloc: Global,
     programme: &Programme,
-    lanes: &[Vec<u64>],
+    lanes: &Lanes,
     climbed: &Climbed,
     node: u32,
     layer: u32,
     policy: &[u64],
-) -> Result<Vec<Vec<u64>>, AllocError>
+) -> Result<Lanes, AllocError>
     requires node { node < length programme.now.tops }
     requires climbed { IsClimbed programme.now lanes.now climbed.now }
     requires policy { IsPolicy programme.now lanes.now climbed.now.width node layer policy.now }
-    ensures value { IfOk result (λ shares. (tree : Tree) → IsProgramme tree programme.now → AreLanes climbed.now.width (length (beneath tree (slice_index tree.tops node))) (λ k. shared_at_once tree (loss_by tree.ids (column k lanes.now)) (slice_index tree.tops node) layer) shares.items) }
+    ensures value { IfOk result (λ shares. (tree : Tree) → IsProgramme tree programme.now → AreLanes climbed.now.width (length (beneath tree (slice_index tree.tops node))) (λ k. shared_at_once tree (loss_by tree.ids (column k lanes.now)) (slice_index tree.tops node) layer) shares) }
 {
     programme.is_of_a_tree();
     let places = places_of(alloc, programme.ids(), programme.beneath(node))?;
     let losses = lanes_in(alloc, climbed.width, &places, lanes)?;
-    let shares = share_lanes(alloc, climbed.width, policy, &losses)?;
+    let count = losses.len();
+    let mut room = room_of(alloc, climbed.width)?;
+    let mut shares = Lanes::with_room(alloc, count, climbed.width)?;
+    share_lanes(policy, &losses, 0, count, &mut room, &mut shares)?;
     Ok(shares)
 }
 
@@ -95,9 +96,9 @@ fn top_part(alloc: Global, node: usize, policy: &[u64]) -> Result<PlacedLanes, A
     ensures value { IfOk result (λ parts. (k : ℕ) → placed_at k parts ≡ record { place = node; amount = slice_index policy.now k } ∷ []) }
 {
     let mut places = Vec::with_capacity(alloc, 1)?;
-    let mut lanes = Vec::with_capacity(alloc, 1)?;
+    let mut lanes = Lanes::new(alloc);
     places.push(node)?;
-    lanes.push(copy_of(alloc, policy)?)?;
+    lanes.push(policy)?;
     Ok(PlacedLanes { places, lanes })
 }
 
@@ -105,16 +106,16 @@ fn top_part(alloc: Global, node: usize, policy: &[u64]) -> Result<PlacedLanes, A
 fn shared_down(
     alloc: Global,
     programme: &Programme,
-    lanes: &[Vec<u64>],
+    lanes: &Lanes,
     climbed: &Climbed,
     node: u32,
     layer: u32,
     policy: &[u64],
-) -> Result<Vec<Vec<u64>>, AllocError>
+) -> Result<Lanes, AllocError>
     requires node { node < length programme.now.tops }
     requires climbed { IsClimbed programme.now lanes.now climbed.now }
     requires policy { IsPolicy programme.now lanes.now climbed.now.width node layer policy.now }
-    ensures value { IfOk result (λ shares. (tree : Tree) → IsProgramme tree programme.now → AreLanes climbed.now.width (length (beneath tree (slice_index tree.tops node))) (λ k. shared_down tree (loss_by tree.ids (column k lanes.now)) (slice_index tree.tops node) layer) shares.items) }
+    ensures value { IfOk result (λ shares. (tree : Tree) → IsProgramme tree programme.now → AreLanes climbed.now.width (length (beneath tree (slice_index tree.tops node))) (λ k. shared_down tree (loss_by tree.ids (column k lanes.now)) (slice_index tree.tops node) layer) shares) }
 {
     programme.is_of_a_tree();
     let top = top_part(alloc, node as usize, policy)?;
@@ -134,18 +135,18 @@ fn shared_down(
 pub fn allocate_lanes(
     alloc: Global,
     programme: &Programme,
-    lanes: &[Vec<u64>],
+    lanes: &Lanes,
     climbed: &Climbed,
     node: u32,
     layer: u32,
     rule: u32,
     policy: &[u64],
-) -> Result<Vec<Vec<u64>>, AllocError>
+) -> Result<Lanes, AllocError>
     requires node { node < length programme.now.tops }
     requires climbed { IsClimbed programme.now lanes.now climbed.now }
     requires policy { IsPolicy programme.now lanes.now climbed.now.width node layer policy.now }
     requires rule { (rule ≡ 1) ⊎ (rule ≡ 2) }
-    ensures value { IfOk result (λ shares. (tree : Tree) → IsProgramme tree programme.now → AreLanes climbed.now.width (length (beneath tree (slice_index tree.tops node))) (λ k. allocated tree (loss_by tree.ids (column k lanes.now)) rule (slice_index tree.tops node) layer) shares.items) }
+    ensures value { IfOk result (λ shares. (tree : Tree) → IsProgramme tree programme.now → AreLanes climbed.now.width (length (beneath tree (slice_index tree.tops node))) (λ k. allocated tree (loss_by tree.ids (column k lanes.now)) rule (slice_index tree.tops node) layer) shares) }
 {
     if rule == 1 {
         let shares = shared_at_once(alloc, programme, lanes, climbed, node, layer, policy)?;

@@ -1,96 +1,149 @@
 //! Totals shared out over lanes, sidx by sidx.
 //! The rule: docs/CALCULATION.md, "Share-out".
-ghost use Rattle.std.specs.Prelude.{◌≡◌, ◌-◌, ◌≤◌, ◌<◌, ◌^◌, ℕ, [], ◌∷◌, length, IfOk, slice_index};
+ghost use Rattle.std.specs.Prelude.{◌≡◌, ◌+◌, ◌-◌, ◌≤◌, ◌<◌, ◌^◌, ℕ, length, take, drop, IfOk, OnOk, slice_index};
 ghost use Rattle.std.specs.List.{sum};
 ghost use Rattle.kt_money.specs.Sharing.{share_out, share_to};
-ghost use Rattle.kt_lanes.specs.Lanes.{column, AreWide, AreLanes, IsLane};
-ghost use Rattle.kt_lanes.specs.Shares.{CanPart};
+ghost use Rattle.kt_lanes.specs.Lanes.{column, AreWide, IsLane};
+ghost use Rattle.kt_lanes.specs.Shares.{CanPart, HasRoom};
+ghost use Rattle.kt_lanes.specs.SideBySide.{AreBehind};
 
-use crate::lane::{add_lane, copy_of, sums_of};
+use crate::lane::{add_to, sum_lanes};
+use crate::lanes::Lanes;
 use crate::quotient::part_to;
 use kt_alloc::zeros;
 use std::alloc::{AllocError, Global};
 
-/// The parts of totals in cents that fall to the first weights, sidx by sidx. An error is want of memory.
-fn parts_to(
-    alloc: Global,
-    totals: &[u64],
-    weights: &[u64],
-    upto: &[u64],
-) -> Result<Vec<u64>, AllocError>
-    requires can { CanPart totals.now weights.now upto.now }
-    ensures value { IfOk result (λ parts. IsLane (length totals.now) (λ k. share_to (slice_index totals.now k) (slice_index weights.now k) (slice_index upto.now k)) parts.items) }
-{
-    let mut parts = zeros(alloc, totals.len())?;
-    for k in 0..totals.len() {
-        parts[k] = part_to(totals[k], weights[k], upto[k]);
-    }
-    Ok(parts)
+/// Room to share totals out: amounts in cents, sidx by sidx.
+#[derive(Drop)]
+pub(crate) struct Room {
+    /// What all children have.
+    pub weights: Vec<u64>,
+    /// What the first children have.
+    pub upto: Vec<u64>,
+    /// What these were paid.
+    pub paid: Vec<u64>,
+    /// The share of a child.
+    pub share: Vec<u64>,
 }
 
-/// What is due and was not paid yet, sidx by sidx, in the place of what was paid.
-fn take_paid(due: &[u64], paid: &mut [u64])
-    requires same { length due.now ≡ length paid.old }
-    requires few { (k : ℕ) → k < length paid.old → slice_index paid.old k ≤ slice_index due.now k }
-    ensures value { IsLane (length paid.old) (λ k. slice_index due.now k - slice_index paid.old k) paid.new }
+/// Room for lanes of so many sidx. An error is want of memory.
+pub(crate) fn room_of(alloc: Global, width: usize) -> Result<Room, AllocError>
+    ensures room { IfOk result (HasRoom width) }
+{
+    let weights = zeros(alloc, width)?;
+    let upto = zeros(alloc, width)?;
+    let paid = zeros(alloc, width)?;
+    let share = zeros(alloc, width)?;
+    Ok(Room {
+        weights,
+        upto,
+        paid,
+        share,
+    })
+}
+
+/// Puts the share of a child in the place of what a lane has: the part of totals in cents that falls to the first weights without
+/// what was paid. That part is paid then.
+fn pay_share(totals: &[u64], weights: &[u64], upto: &[u64], paid: &mut [u64], share: &mut [u64])
+    requires can { CanPart totals.now weights.now upto.now }
+    requires paid_wide { length paid.old ≡ length totals.now }
+    requires share_wide { length share.old ≡ length totals.now }
+    requires few { (k : ℕ) → k < length totals.now → slice_index paid.old k ≤ share_to (slice_index totals.now k) (slice_index weights.now k) (slice_index upto.now k) }
+    ensures paid { IsLane (length totals.now) (λ k. share_to (slice_index totals.now k) (slice_index weights.now k) (slice_index upto.now k)) paid.new }
+    ensures share { IsLane (length totals.now) (λ k. share_to (slice_index totals.now k) (slice_index weights.now k) (slice_index upto.now k) - slice_index paid.old k) share.new }
+{
+    for k in 0..totals.len() {
+        let due = part_to(totals[k], weights[k], upto[k]);
+        share[k] = due - paid[k];
+        paid[k] = due;
+    }
+}
+
+/// Puts what is left of totals in cents, sidx by sidx, in the place of what was paid of them.
+fn take_paid(totals: &[u64], paid: &mut [u64])
+    requires same { length totals.now ≡ length paid.old }
+    requires few { (k : ℕ) → k < length paid.old → slice_index paid.old k ≤ slice_index totals.now k }
+    ensures value { IsLane (length paid.old) (λ k. slice_index totals.now k - slice_index paid.old k) paid.new }
 {
     for k in 0..paid.len() {
-        paid[k] = due[k] - paid[k];
+        paid[k] = totals[k] - paid[k];
     }
 }
 
-/// What is due and was not paid yet, sidx by sidx.
-fn left_to_pay(due: &[u64], paid: Vec<u64>) -> Vec<u64>
-    requires same { length due.now ≡ length paid.items }
-    requires few { (k : ℕ) → k < length paid.items → slice_index paid.items k ≤ slice_index due.now k }
-    ensures value { IsLane (length paid.items) (λ k. slice_index due.now k - slice_index paid.items k) result.items }
-{
-    let mut left = paid;
-    take_paid(due, &mut left);
-    left
-}
-
-/// The whole of totals, for an only weight. An error is want of memory.
-fn whole_lane(alloc: Global, totals: &[u64]) -> Result<Vec<Vec<u64>>, AllocError>
-    ensures value { IfOk result (λ shares. AreLanes (length totals.now) 1 (λ k. slice_index totals.now k ∷ []) shares.items) }
-{
-    let mut shares = Vec::with_capacity(alloc, 1)?;
-    shares.push(copy_of(alloc, totals)?)?;
-    Ok(shares)
-}
-
-/// Totals in cents, shared out over the lanes of children, sidx by sidx. No total is above what the children have in all, so the
-/// last child has what the others leave. An error is want of memory.
-pub(crate) fn share_lanes(
-    alloc: Global,
-    width: usize,
+/// Puts shares of totals behind others, as `share_lanes`, where there is a child.
+fn push_shares(
     totals: &[u64],
-    children: &[Vec<u64>],
-) -> Result<Vec<Vec<u64>>, AllocError>
-    requires wide { AreWide width children.now }
-    requires totals { length totals.now ≡ width }
-    requires few { (k : ℕ) → k < width → sum (column k children.now) ≤ 10 ^ 16 }
-    requires backed { (k : ℕ) → k < width → slice_index totals.now k ≤ sum (column k children.now) }
-    ensures value { IfOk result (λ shares. AreLanes width (length children.now) (λ k. share_out (slice_index totals.now k) (column k children.now)) shares.items) }
+    lanes: &Lanes,
+    start: usize,
+    count: usize,
+    weights: &mut [u64],
+    upto: &mut [u64],
+    paid: &mut [u64],
+    share: &mut [u64],
+    out: &mut Lanes,
+) -> Result<(), AllocError>
+    requires some { 0 < count }
+    requires within { start + count ≤ length lanes.now }
+    requires wide { AreWide (length totals.now) lanes.now }
+    requires weights_wide { length weights.old ≡ length totals.now }
+    requires upto_wide { length upto.old ≡ length totals.now }
+    requires paid_wide { length paid.old ≡ length totals.now }
+    requires share_wide { length share.old ≡ length totals.now }
+    requires out { AreWide (length totals.now) out.old }
+    requires few { (k : ℕ) → k < length totals.now → sum (column k (take count (drop start lanes.now))) ≤ 10 ^ 16 }
+    requires backed { (k : ℕ) → k < length totals.now → slice_index totals.now k ≤ sum (column k (take count (drop start lanes.now))) }
+    ensures value { OnOk result (AreBehind (length totals.now) count (λ k. share_out (slice_index totals.now k) (column k (take count (drop start lanes.now)))) out.old out.new) }
 {
-    if children.is_empty() {
-        return Ok(Vec::new(alloc));
-    }
-    if children.len() == 1 {
-        let shares = whole_lane(alloc, totals)?;
-        return Ok(shares);
-    }
-    let weights = sums_of(alloc, width, children)?;
-    let mut upto = zeros(alloc, width)?;
-    let mut paid = zeros(alloc, width)?;
-    let mut shares = Vec::with_capacity(alloc, children.len())?;
-    let last = children.len() - 1;
+    let _all = lanes.len();
+    sum_lanes(lanes, start, count, weights);
+    upto.fill(0);
+    paid.fill(0);
+    let last = count - 1;
     for at in 0..last {
-        add_lane(&mut upto, &children[at]);
-        let due = parts_to(alloc, totals, &weights, &upto)?;
-        shares.push(left_to_pay(&due, paid))?;
-        paid = due;
+        add_to(upto, lanes.lane(start + at));
+        pay_share(totals, weights, upto, paid, share);
+        out.push(share)?;
     }
-    shares.push(left_to_pay(totals, paid))?;
-    Ok(shares)
+    take_paid(totals, paid);
+    out.push(paid)?;
+    Ok(())
+}
+
+/// Puts totals in cents, shared out over lanes side by side, sidx by sidx, behind others. No total is above what these lanes have
+/// in all, so the last has what the others leave. An error is want of memory.
+pub(crate) fn share_lanes(
+    totals: &[u64],
+    lanes: &Lanes,
+    start: usize,
+    count: usize,
+    room: &mut Room,
+    out: &mut Lanes,
+) -> Result<(), AllocError>
+    requires within { start + count ≤ length lanes.now }
+    requires wide { AreWide (length totals.now) lanes.now }
+    requires room { HasRoom (length totals.now) room.old }
+    requires out { AreWide (length totals.now) out.old }
+    requires few { (k : ℕ) → k < length totals.now → sum (column k (take count (drop start lanes.now))) ≤ 10 ^ 16 }
+    requires backed { (k : ℕ) → k < length totals.now → slice_index totals.now k ≤ sum (column k (take count (drop start lanes.now))) }
+    ensures room { HasRoom (length totals.now) room.new }
+    ensures value { OnOk result (AreBehind (length totals.now) count (λ k. share_out (slice_index totals.now k) (column k (take count (drop start lanes.now)))) out.old out.new) }
+{
+    if count == 0 {
+        return Ok(());
+    }
+    if count == 1 {
+        out.push(totals)?;
+        return Ok(());
+    }
+    push_shares(
+        totals,
+        lanes,
+        start,
+        count,
+        &mut room.weights,
+        &mut room.upto,
+        &mut room.paid,
+        &mut room.share,
+        out,
+    )
 }

@@ -1,5 +1,5 @@
 -- What the places of ids have of a row of shares is what the ids cede.
-use Rattle.std.proofs.Common.{◌≡◌, ℕ, zero, suc, ◌+◌, ◌<◌, ◌≤◌, ◌^◌, Bool, true, false, cond, nat_eq, List, [], ◌∷◌, ◌++◌, ◌⊎◌, inl, inr, Vec, Global, replicate, length, map, slice_index, slice_index_or, slice_set, take, refl, sym, ap, subst, ◌∙◌, arith}
+use Rattle.std.proofs.Common.{◌≡◌, ℕ, zero, suc, ◌+◌, ◌<◌, ◌≤◌, ◌^◌, Bool, true, false, cond, nat_eq, List, [], ◌∷◌, ◌++◌, ◌⊎◌, inl, inr, replicate, length, map, slice_index, slice_index_or, slice_set, take, refl, sym, ap, subst, ◌∙◌, arith}
 use Rattle.std.specs.Prelude.{All, unwrap_or, Some}
 use Rattle.std.specs.Cmp.{nat_eq_equiv}
 use Rattle.std.specs.List.{AllByRecursion, IsDistinct, flat_map, filter, list_any, sum, sum_by, zip}
@@ -202,7 +202,7 @@ module _ (width : ℕ) (places shares : List ℕ) (has : HasShares width places 
 
 module _ (width : ℕ) (places : List ℕ) (table : List Shared) where
   -- no share
-  pub ceded-start : (ceded : List (Vec ℕ Global)) → AreLanes (length table) width (λ row. replicate width 0) ceded → AreCededShares width places table 0 ceded
+  pub ceded-start : (ceded : List (List ℕ)) → AreLanes (length table) width (λ row. replicate width 0) ceded → AreCededShares width places table 0 ceded
   ceded-start ceded are = record {
     count_is = are.count_is;
     wide = are.wide;
@@ -218,39 +218,39 @@ module _ (width : ℕ) (places : List ℕ) (table : List Shared) where
       none (suc n) zero = refl
       none (suc n) (suc place) = none n place
 
-  module _ (has : All (λ row. HasShares width places row.shares) table) (k : ℕ) (below : k < length places) (ceded : List (Vec ℕ Global)) (so_far : AreCededShares width places table k ceded) (place : ℕ) (place_is : place ≡ slice_index places k) (before : Vec ℕ Global) (before_is : before ≡ slice_index_or ceded place before) (lane : List ℕ) (lane_is : lane ≡ map (λ (row : Shared). slice_index row.shares k) table) where
+  module _ (has : All (λ row. HasShares width places row.shares) table) (k : ℕ) (below : k < length places) (ceded : List (List ℕ)) (so_far : AreCededShares width places table k ceded) (place : ℕ) (place_is : place ≡ slice_index places k) (before : List ℕ) (before_is : before ≡ slice_index_or ceded place before) (lane : List ℕ) (lane_is : lane ≡ map (λ (row : Shared). slice_index row.shares k) table) where
     fits-in : (row : ℕ) → row < length table → HasShares width places (row_at table row).shares
     fits-in row inside = has row no_shares inside
 
-    old : (row : ℕ) → row < length table → place < length ceded → slice_index before.items row ≡ slice_index (column row ceded) place
-    old row inside within = ap (λ (one : Vec ℕ Global). slice_index one.items row) before_is ∙ sym (column-at row place ceded before within)
+    old : (row : ℕ) → row < length table → place < length ceded → slice_index before row ≡ slice_index (column row ceded) place
+    old row inside within = ap (λ (one : List ℕ). slice_index one row) before_is ∙ sym (column-at row place ceded before within)
 
     more : (row : ℕ) → row < length table → slice_index lane row ≡ slice_index (row_at table row).shares k
     more row inside = ap (λ all. slice_index all row) lane_is ∙ get_or-map (λ (row : Shared). slice_index row.shares k) table row no_shares 0 inside
 
     module _ (within : place < length ceded) where
-      pub before-wide : length before.items ≡ length table
-      before-wide = ap (λ (one : Vec ℕ Global). length one.items) before_is ∙ so_far.wide place before within
+      pub before-wide : length before ≡ length table
+      before-wide = ap (λ (one : List ℕ). length one) before_is ∙ so_far.wide place before within
 
       -- its lane has as many rows
-      pub lane-wide : length lane ≡ length before.items
+      pub lane-wide : length lane ≡ length before
       lane-wide = ap length lane_is ∙ (length-map table (λ (row : Shared). slice_index row.shares k) ∙ sym before-wide)
 
       -- the next share fits
-      pub lane-fits : (row : ℕ) → row < length before.items → slice_index before.items row + slice_index lane row < 2 ^ 64
+      pub lane-fits : (row : ℕ) → row < length before → slice_index before row + slice_index lane row < 2 ^ 64
       lane-fits row less =
           let inside : row < length table = omega (arith, less, before-wide) in
           let fits = ceded-fits width places (row_at table row).shares (fits-in row inside) k below (column row ceded) (so_far.each row inside) in
           omega (arith, old row inside within, more row inside, ap (slice_index (column row ceded)) place_is, fits)
 
       -- with it
-      pub lane-more : (now : Vec ℕ Global) → IsLane (length before.items) (λ row. slice_index before.items row + slice_index lane row) now.items → (all : List (Vec ℕ Global)) → all ≡ slice_set ceded place now → AreCededShares width places table (k + 1) all
+      pub lane-more : (now : List ℕ) → IsLane (length before) (λ row. slice_index before row + slice_index lane row) now → (all : List (List ℕ)) → all ≡ slice_set ceded place now → AreCededShares width places table (k + 1) all
       lane-more now now_is all all_is = record {
         count_is = ap length all_is ∙ (length-set ceded place now ∙ so_far.count_is);
         wide = subst (AreWide (length table)) (sym all_is) (set-wide (length table) place ceded so_far.wide within now (now_is.wide ∙ before-wide));
         each = λ row inside.
             let set = ceded-set width places (row_at table row).shares (fits-in row inside) k below (column row ceded) (so_far.each row inside) in
-            let amount : slice_index now.items row ≡ slice_index (column row ceded) (slice_index places k) + slice_index (row_at table row).shares k =
+            let amount : slice_index now row ≡ slice_index (column row ceded) (slice_index places k) + slice_index (row_at table row).shares k =
             omega (arith, now_is.each row (omega (arith, inside, before-wide)), old row inside within, more row inside, ap (slice_index (column row ceded)) place_is) in
             subst (Holds width (shares_at places (row_at table row).shares (k + 1)))
             (sym (ap (column row) all_is
@@ -274,7 +274,7 @@ module _ (tree : Tree) (parts : Parts) (is : IsProgramme tree parts) (few : HasF
       subst (λ n. All (λ row. HasShares n places row.shares) table) (ap length (sym ids_are)) (each-row tree rule samples records (layers_of tree) table table_is (λ row. HasShares (length parts.ids) places row.shares)
       (λ row. row-fits tree parts is places are (taken_loss tree records (sidx_at (row_place row))) rule shared few (omega (arith, taken-few tree is.is records (sidx_at (row_place row)), within (sidx_at (row_place row))))))
 
-  module _ (ceded : List (Vec ℕ Global)) (held : AreCededShares (length ids) places table (length places) ceded) where
+  module _ (ceded : List (List ℕ)) (held : AreCededShares (length ids) places table (length places) ceded) where
     long : length table ≡ samples + 1
     long = table-length tree rule samples records (layers_of tree) table table_is
 

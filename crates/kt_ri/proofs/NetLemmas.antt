@@ -1,5 +1,5 @@
 -- What is left of the records of a run, record by record.
-use Rattle.std.proofs.Common.{◌≡◌, ℕ, ◌+◌, ◌-◌, ◌<◌, ◌≤◌, ◌||◌, Bool, true, false, cond, nat_eq, ℤ, List, [], ◌∷◌, Vec, Global, Option, Some, None, length, map, slice_index, refl, sym, ap, subst, ◌∙◌, arith}
+use Rattle.std.proofs.Common.{◌≡◌, ℕ, ◌+◌, ◌-◌, ◌<◌, ◌≤◌, ◌||◌, Bool, true, false, cond, nat_eq, ℤ, List, [], ◌∷◌, Option, Some, None, length, map, slice_index, refl, sym, ap, subst, ◌∙◌, arith}
 use Rattle.std.specs.Prelude.{All, unwrap_or}
 use Rattle.std.specs.List.{AllByRecursion, cons_option, filter, filter_map, list_any, sum_by}
 use Rattle.std.proofs.lemmas.List.Elements.{All-from_recursion, recursion_from_All}
@@ -28,7 +28,7 @@ use Rattle.kt_ri.specs.Reinsurance.{ceded_at, ceded_loss, net_record, net_record
 -- ---- places
 
 -- the place of an id has a lane
-pub place-inside : (ids : List ℕ) (id samples : ℕ) (ceded : List (Vec ℕ Global)) → AreRows (length ids) samples ceded → (place : Option ℕ) → IsPlaceOf ids id place → IsPlaceIn ceded place
+pub place-inside : (ids : List ℕ) (id samples : ℕ) (ceded : List (List ℕ)) → AreRows (length ids) samples ceded → (place : Option ℕ) → IsPlaceOf ids id place → IsPlaceIn ceded place
 place-inside ids id samples ceded are None is = tt
 place-inside ids id samples ceded are (Some place) is = omega (arith, is.0, are.many)
 
@@ -57,7 +57,7 @@ ceded-none tree losses rule id none = over (layers_of tree)
         )
 
 -- what stands at the place of an id is what it cedes
-module _ (tree : Tree) (parts : Parts) (is : IsProgramme tree parts) (rule samples : ℕ) (records : List LossRecord) (ceded : List (Vec ℕ Global)) (are : AreCeded parts rule samples records ceded) (id : ℕ) where
+module _ (tree : Tree) (parts : Parts) (is : IsProgramme tree parts) (rule samples : ℕ) (records : List LossRecord) (ceded : List (List ℕ)) (are : AreCeded parts rule samples records ceded) (id : ℕ) where
   ceded-at : (place : Option ℕ) → IsPlaceOf parts.ids id place → (row : ℕ) → row < samples + 1 → ceded_in ceded place row ≡ ceded_at tree rule records id (sidx_at (row_place row))
   ceded-at None none row below = sym (ceded-none tree _ rule id (subst (λ ids. list_any (nat_eq id) ids ≡ false) is.ids_are none))
   ceded-at (Some place) found row below = are tree is row place below found.0 ∙ ap (λ id. ceded_at tree rule records id (sidx_at (row_place row))) found.1
@@ -69,7 +69,7 @@ module _ (tree : Tree) (parts : Parts) (is : IsProgramme tree parts) (rule sampl
       (λ row below. ap (part_behind left (loss_of (sidx_at (row_place row)) pairs)) (ceded-at place found row below))
 
 -- a lane of what is left of losses, or of what is ceded, has its pairs
-pub lane-behind : (samples : ℕ) (pairs : List Pair) (ceded : List (Vec ℕ Global)) (place : Option ℕ) (left : Bool) (before lane : List ℕ) → IsLane (samples + 1) (λ row. loss_of (sidx_at (row_place row)) pairs) before → IsLane (length before) (λ row. part_behind left (slice_index before row) (ceded_in ceded place row)) lane → pairs_by_row (slice_index lane) (length lane) ≡ pairs_behind left ceded samples place pairs
+pub lane-behind : (samples : ℕ) (pairs : List Pair) (ceded : List (List ℕ)) (place : Option ℕ) (left : Bool) (before lane : List ℕ) → IsLane (samples + 1) (λ row. loss_of (sidx_at (row_place row)) pairs) before → IsLane (length before) (λ row. part_behind left (slice_index before row) (ceded_in ceded place row)) lane → pairs_by_row (slice_index lane) (length lane) ≡ pairs_behind left ceded samples place pairs
 lane-behind samples pairs ceded place left before lane losses behind =
     ap (pairs_by_row (slice_index lane)) (behind.wide ∙ losses.wide)
     ∙ pairs-agree (slice_index lane) (λ row. part_behind left (loss_of (sidx_at (row_place row)) pairs) (ceded_in ceded place row)) (samples + 1)

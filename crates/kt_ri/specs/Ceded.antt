@@ -1,8 +1,7 @@
 -- What the ids of a programme cede of the losses of a run, row by row.
 -- The rule: docs/FINANCIAL_MODULE.md, "Reinsurance".
-use Rattle.std.specs.Prelude.{◌≡◌, ℕ, ◌+◌, ◌-◌, ◌<◌, ◌^◌, Bool, cond, nat_eq, List, Vec, length, take, All, Option, Some, None, slice_index}
+use Rattle.std.specs.Prelude.{◌≡◌, ℕ, ◌+◌, ◌-◌, ◌<◌, ◌^◌, Bool, cond, nat_eq, List, length, take, All, Option, Some, None, slice_index}
 use Rattle.std.specs.List.{filter_map, sum_by, zip}
-use Rattle.std.specs.declared.alloc.Global.{Global}
 use Rattle.kt_stream.specs.declared.entry.LossRecord.{LossRecord}
 use Rattle.kt_stream.specs.declared.entry.Pair.{Pair}
 use Rattle.kt_lanes.specs.Lanes.{AreWide, column}
@@ -31,28 +30,28 @@ abbrev pub shares_at : List ℕ → List ℕ → ℕ → ℕ → ℕ
 shares_at places shares count place = sum_by (λ pair. cond (nat_eq pair.0 place) pair.1 0) (take count (zip places shares))
 
 -- lanes have what each place has of the first so many shares in each row of a table
-pub record AreCededShares (width : ℕ) (places : List ℕ) (table : List Shared) (count : ℕ) (ceded : List (Vec ℕ Global)) : Type 0 where
+pub record AreCededShares (width : ℕ) (places : List ℕ) (table : List Shared) (count : ℕ) (ceded : List (List ℕ)) : Type 0 where
   pub count_is : length ceded ≡ width
   pub wide : AreWide (length table) ceded
   pub each : (row : ℕ) → row < length table → Holds width (shares_at places (row_at table row).shares count) (column row ceded)
 
 -- a lane for each id, with amounts for the mean and for each sample
-pub record AreRows (width samples : ℕ) (ceded : List (Vec ℕ Global)) : Type 0 where
+pub record AreRows (width samples : ℕ) (ceded : List (List ℕ)) : Type 0 where
   pub many : length ceded ≡ width
   pub each : AreWide (samples + 1) ceded
 
 -- the amounts that the ids of a programme cede of the losses of a run
-abbrev pub AreCeded : Parts → ℕ → ℕ → List LossRecord → List (Vec ℕ Global) → Type 0
+abbrev pub AreCeded : Parts → ℕ → ℕ → List LossRecord → List (List ℕ) → Type 0
 AreCeded parts rule samples records ceded =
     (tree : Tree) → IsProgramme tree parts → (row place : ℕ) → row < samples + 1 → place < length parts.ids → slice_index (column row ceded) place ≡ ceded_at tree rule records (slice_index parts.ids place) (sidx_at (row_place row))
 
 -- what the id in a place that may be absent cedes in a row
-abbrev pub ceded_in : List (Vec ℕ Global) → Option ℕ → ℕ → ℕ
+abbrev pub ceded_in : List (List ℕ) → Option ℕ → ℕ → ℕ
 ceded_in ceded None row = 0
 ceded_in ceded (Some place) row = slice_index (column row ceded) place
 
 -- a place that may be absent has a lane
-abbrev pub IsPlaceIn : List (Vec ℕ Global) → Option ℕ → Type 0
+abbrev pub IsPlaceIn : List (List ℕ) → Option ℕ → Type 0
 IsPlaceIn ceded None = Unit {0}
 IsPlaceIn ceded (Some place) = place < length ceded
 
@@ -61,7 +60,7 @@ abbrev pub part_behind : Bool → ℕ → ℕ → ℕ
 part_behind left loss ceded = cond left (loss - ceded) ceded
 
 -- what is left of a record, or what its id cedes, row by row
-abbrev pub pairs_behind : Bool → List (Vec ℕ Global) → ℕ → Option ℕ → List Pair → List Pair
+abbrev pub pairs_behind : Bool → List (List ℕ) → ℕ → Option ℕ → List Pair → List Pair
 pairs_behind left ceded samples place pairs = pairs_by_row (λ row. part_behind left (loss_of (sidx_at (row_place row)) pairs) (ceded_in ceded place row)) (samples + 1)
 
 -- as a record: the net record, or the ceded one

@@ -6,7 +6,7 @@ ghost use Rattle.kt_runs.specs.RunLosses.{AreWithin};
 ghost use Rattle.kt_ri.specs.Ceded.{AreCeded, AreCededShares, AreRows, HasShares};
 
 use crate::ceding::CedingProgramme;
-use kt_lanes::{add_lane, zero_lanes};
+use kt_lanes::Lanes;
 use kt_runs::RunEntry;
 use kt_shares::Table;
 use std::alloc::{AllocError, Global};
@@ -18,15 +18,15 @@ fn ceded_lanes(
     rows: usize,
     places: &[usize],
     table: &Table,
-) -> Result<Vec<Vec<u64>>, AllocError>
+) -> Result<Lanes, AllocError>
     requires rows { length table.now ≡ rows }
     requires within { All (λ place. place < width) places.now }
     requires shares { All (λ row. HasShares width places.now row.shares) table.now }
-    ensures value { IfOk result (λ ceded. AreCededShares width places.now table.now (length places.now) ceded.items) }
+    ensures value { IfOk result (λ ceded. AreCededShares width places.now table.now (length places.now) ceded) }
 {
-    let mut ceded = zero_lanes(alloc, width, rows)?;
+    let mut ceded = Lanes::zeros(alloc, width, rows)?;
     for k in 0..places.len() {
-        add_lane(&mut ceded[places[k]], table.shares(k));
+        ceded.add(places[k], table.shares(k));
     }
     Ok(ceded)
 }
@@ -38,13 +38,13 @@ pub(crate) fn ceded_of<T: RunEntry>(
     samples: u32,
     rule: u32,
     records: &[T],
-) -> Result<Vec<Vec<u64>>, AllocError>
+) -> Result<Lanes, AllocError>
     requires samples { samples ≤ 1000 }
     requires rule { (rule ≡ 1) ⊎ (rule ≡ 2) }
     requires records { All (IsLoss samples) (map T.entry_of records.now) }
     requires within { AreWithin (map T.entry_of records.now) }
-    ensures rows { IfOk result (λ ceded. AreRows (length stage.now.ids) samples ceded.items) }
-    ensures value { IfOk result (λ ceded. AreCeded stage.now rule samples (map T.entry_of records.now) ceded.items) }
+    ensures rows { IfOk result (λ ceded. AreRows (length stage.now.ids) samples ceded) }
+    ensures value { IfOk result (λ ceded. AreCeded stage.now rule samples (map T.entry_of records.now) ceded) }
 {
     stage.is_ceding();
     let table = stage.table(alloc, samples, rule, records)?;

@@ -12,6 +12,7 @@ ghost use Rattle.kt_ri.specs.Ceded.{AreCeded, AreRows, IsPlaceIn, ceded_in, pair
 
 use crate::ceding::CedingProgramme;
 use crate::places::place_of;
+use kt_lanes::Lanes;
 use kt_runs::RunEntry;
 use kt_shares::{lane_pairs, losses_of, push_record};
 use kt_stream::{LossRecord, Pairs, Records};
@@ -48,19 +49,19 @@ fn take_none(losses: &mut [u64], left: bool)
 }
 
 /// What is left of losses of an id whose place may be absent, or what it cedes, in the place of the losses.
-pub(crate) fn take_behind(losses: &mut [u64], ceded: &[Vec<u64>], place: Option<usize>, left: bool)
+pub(crate) fn take_behind(losses: &mut [u64], ceded: &Lanes, place: Option<usize>, left: bool)
     requires place { IsPlaceIn ceded.now place }
     requires wide { AreWide (length losses.old) ceded.now }
     ensures value { IsLane (length losses.old) (λ row. part_behind left (slice_index losses.old row) (ceded_in ceded.now place row)) losses.new }
 {
     match place {
-        Some(place) => take_ceded(losses, &ceded[place], left),
+        Some(place) => take_ceded(losses, ceded.lane(place), left),
         None => take_none(losses, left),
     }
 }
 
 /// What is left of losses of an id whose place may be absent, or what it cedes.
-fn left_behind(losses: Vec<u64>, ceded: &[Vec<u64>], place: Option<usize>, left: bool) -> Vec<u64>
+fn left_behind(losses: Vec<u64>, ceded: &Lanes, place: Option<usize>, left: bool) -> Vec<u64>
     requires place { IsPlaceIn ceded.now place }
     requires wide { AreWide (length losses.items) ceded.now }
     ensures value { IsLane (length losses.items) (λ row. part_behind left (slice_index losses.items row) (ceded_in ceded.now place row)) result.items }
@@ -74,7 +75,7 @@ fn left_behind(losses: Vec<u64>, ceded: &[Vec<u64>], place: Option<usize>, left:
 fn pairs_behind(
     alloc: Global,
     samples: u32,
-    ceded: &[Vec<u64>],
+    ceded: &Lanes,
     place: Option<usize>,
     entry: &LossRecord,
     left: bool,
@@ -97,7 +98,7 @@ fn push_behind(
     alloc: Global,
     stage: &CedingProgramme,
     samples: u32,
-    ceded: &[Vec<u64>],
+    ceded: &Lanes,
     entry: &LossRecord,
     left: bool,
     made: &mut Vec<LossRecord>,
@@ -120,7 +121,7 @@ pub(crate) fn records_behind<T: RunEntry>(
     alloc: Global,
     stage: &CedingProgramme,
     samples: u32,
-    ceded: &[Vec<u64>],
+    ceded: &Lanes,
     records: &[T],
     left: bool,
 ) -> Result<Records<LossRecord>, AllocError>

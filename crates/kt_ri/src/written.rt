@@ -18,6 +18,7 @@ use crate::net::take_behind;
 use crate::places::place_of;
 use crate::reinsured::ceding_for;
 use kt_alloc::zeros;
+use kt_lanes::Lanes;
 use kt_money::Bytes;
 use kt_runs::RunEntry;
 use kt_shares::{pair_room, put_lane, take_losses};
@@ -30,7 +31,7 @@ use std::alloc::{AllocError, Global};
 fn put_left(
     stage: &CedingProgramme,
     samples: u32,
-    ceded: &[Vec<u64>],
+    ceded: &Lanes,
     entry: &LossRecord,
     lane: &mut [u64],
     room: &mut [u8],
@@ -62,7 +63,7 @@ fn put_behind<T: RunEntry>(
     alloc: Global,
     stage: &CedingProgramme,
     samples: u32,
-    ceded: &[Vec<u64>],
+    ceded: &Lanes,
     records: &[T],
     out: &mut Bytes,
 ) -> Result<(), AllocError>

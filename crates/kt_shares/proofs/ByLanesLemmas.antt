@@ -1,5 +1,5 @@
 -- What layers have at all sidx of a run, by lanes.
-use Rattle.std.proofs.Common.{◌≡◌, ℕ, ◌<◌, List, [], ◌∷◌, ◌++◌, Vec, Global, length, slice_index, sym, ap, subst, ◌∙◌, arith}
+use Rattle.std.proofs.Common.{◌≡◌, ℕ, ◌<◌, List, [], ◌∷◌, ◌++◌, length, slice_index, sym, ap, subst, ◌∙◌, arith}
 use Rattle.std.proofs.lemmas.List.{map-append}
 use Rattle.kt_tree.specs.Tree.{Tree, policy_loss}
 use Rattle.kt_fmtree.specs.Carried.{loss_by}
@@ -15,9 +15,9 @@ use Rattle.kt_shares.specs.declared.by_lanes.LayerLanes.{LayerLanes}
 use Rattle.kt_shares.specs.declared.layers.TopLayer.{TopLayer}
 use Rattle.kt_shares.proofs.RowLemmas.{row-more, top-is}
 
-module _ (parts : Parts) (lanes : List (Vec ℕ Global)) (width rule : ℕ) where
+module _ (parts : Parts) (lanes : List (List ℕ)) (width rule : ℕ) where
   -- no layer has nothing
-  pub layers-start : (made : LayerLanes) → made.shares.items ≡ [] → made.policies.items ≡ [] → AreLayers parts lanes width rule [] made
+  pub layers-start : (made : LayerLanes) → made.shares ≡ [] → made.policies ≡ [] → AreLayers parts lanes width rule [] made
   layers-start made shares_are policies_are = record {
     shares_wide = subst (AreWide width) (sym shares_are) (λ k d below. absurd (omega arith));
     policies_wide = subst (AreWide width) (sym policies_are) (λ k d below. absurd (omega arith));
@@ -25,15 +25,15 @@ module _ (parts : Parts) (lanes : List (Vec ℕ Global)) (width rule : ℕ) wher
   }
 
   -- one more layer
-  pub layers-more : (one : TopLayer) → IsTopLayer parts one → (policy : Vec ℕ Global) → IsPolicy parts lanes width one.node one.layer policy.items → (made : List (Vec ℕ Global)) → AreWide width made → ((tree : Tree) → IsProgramme tree parts → (k : ℕ) → k < width → column k made ≡ shares tree (loss_by tree.ids (column k lanes)) rule one.top one.layer)
-      → (layers : List TopLayer) (before now : LayerLanes) → now.shares.items ≡ before.shares.items ++ made → now.policies.items ≡ before.policies.items ++ policy ∷ [] → AreLayers parts lanes width rule layers before → AreLayers parts lanes width rule (layers ++ one ∷ []) now
+  pub layers-more : (one : TopLayer) → IsTopLayer parts one → (policy : List ℕ) → IsPolicy parts lanes width one.node one.layer policy → (made : List (List ℕ)) → AreWide width made → ((tree : Tree) → IsProgramme tree parts → (k : ℕ) → k < width → column k made ≡ shares tree (loss_by tree.ids (column k lanes)) rule one.top one.layer)
+      → (layers : List TopLayer) (before now : LayerLanes) → now.shares ≡ before.shares ++ made → now.policies ≡ before.policies ++ policy ∷ [] → AreLayers parts lanes width rule layers before → AreLayers parts lanes width rule (layers ++ one ∷ []) now
   layers-more one within policy is_policy made wide made_are layers before now shares_are policies_are so_far = record {
-    shares_wide = subst (AreWide width) (sym shares_are) (wide-both width before.shares.items made so_far.shares_wide wide);
-    policies_wide = subst (AreWide width) (sym policies_are) (All-more (λ (lane : Vec ℕ Global). length lane.items ≡ width) before.policies.items policy so_far.policies_wide is_policy.wide);
+    shares_wide = subst (AreWide width) (sym shares_are) (wide-both width before.shares made so_far.shares_wide wide);
+    policies_wide = subst (AreWide width) (sym policies_are) (All-more (λ (lane : List ℕ). length lane ≡ width) before.policies policy so_far.policies_wide is_policy.wide);
     rows = λ tree is k below.
         let losses = loss_by tree.ids (column k lanes) in
-        row-more tree losses rule layers one (column k before.shares.items) (column k before.policies.items) (column k made) (column k now.shares.items) (column k now.policies.items) (slice_index policy.items k) (so_far.rows tree is k below) (made_are tree is k below)
+        row-more tree losses rule layers one (column k before.shares) (column k before.policies) (column k made) (column k now.shares) (column k now.policies) (slice_index policy k) (so_far.rows tree is k below) (made_are tree is k below)
         (is_policy.policy_is tree is k below ∙ ap (λ top. policy_loss tree losses top one.layer) (top-is tree parts is one within))
-        (ap (column k) shares_are ∙ map-append (λ (lane : Vec ℕ Global). slice_index lane.items k) before.shares.items made)
-        (ap (column k) policies_are ∙ map-append (λ (lane : Vec ℕ Global). slice_index lane.items k) before.policies.items (policy ∷ []));
+        (ap (column k) shares_are ∙ map-append (λ (lane : List ℕ). slice_index lane k) before.shares made)
+        (ap (column k) policies_are ∙ map-append (λ (lane : List ℕ). slice_index lane k) before.policies (policy ∷ []));
   }

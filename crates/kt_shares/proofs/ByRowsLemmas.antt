@@ -7,7 +7,7 @@ use Rattle.kt_fmtree.specs.Carried.{loss_by}
 use Rattle.kt_fmtree.specs.Parts.{Parts, HasProgramme, IsProgramme}
 use Rattle.kt_lanes.specs.Lanes.{AreLanes, AreWide, column}
 use Rattle.kt_lanes.specs.LaneLaws.{lanes-are, lanes-more, lanes-none, length-more}
-use Rattle.kt_shares.specs.ByLanes.{AreLayers, AreRows, row_in}
+use Rattle.kt_shares.specs.ByLanes.{AreLayers, AreLong, AreRows, amounts_at, row_in}
 use Rattle.kt_shares.specs.Layers.{key_of}
 use Rattle.kt_shares.specs.Row.{HasRow}
 use Rattle.kt_shares.specs.declared.by_lanes.LayerLanes.{LayerLanes}
@@ -18,27 +18,27 @@ use Rattle.kt_shares.proofs.RowLemmas.{shares-long}
 -- ---- rows as lanes
 
 -- a row is as long as all
-row-wide : (count : ℕ) (rows : List (Vec ℕ Global)) → AreWide count rows → (k : ℕ) → k < length rows → length (row_in rows k) ≡ count
+row-wide : (count : ℕ) (rows : List (Vec ℕ Global)) → AreLong count rows → (k : ℕ) → k < length rows → length (row_in rows k) ≡ count
 row-wide count [] wide k below = absurd (omega arith)
 row-wide count (row ∷ rows) wide zero below = wide zero row (omega arith)
 row-wide count (row ∷ rows) wide (suc k) below = row-wide count rows (λ j d inside. wide (suc j) d (omega arith)) k (omega arith)
 
 -- and all are where each is
-wide-rows : (count : ℕ) (rows : List (Vec ℕ Global)) → ((k : ℕ) → k < length rows → length (row_in rows k) ≡ count) → AreWide count rows
+wide-rows : (count : ℕ) (rows : List (Vec ℕ Global)) → ((k : ℕ) → k < length rows → length (row_in rows k) ≡ count) → AreLong count rows
 wide-rows count rows each = λ k d below. ap length (sym (get_or-map (λ (row : Vec ℕ Global). row.items) rows k d [] below)) ∙ each k below
 
 -- what rows have at a place
-column-in : (rows : List (Vec ℕ Global)) (k place : ℕ) → k < length rows → slice_index (column place rows) k ≡ slice_index (row_in rows k) place
+column-in : (rows : List (Vec ℕ Global)) (k place : ℕ) → k < length rows → slice_index (amounts_at place rows) k ≡ slice_index (row_in rows k) place
 column-in [] k place below = absurd (omega arith)
 column-in (row ∷ rows) zero place below = refl
 column-in (row ∷ rows) (suc k) place below = column-in rows k place (omega arith)
 
-module _ (count : ℕ) (rows : List (Vec ℕ Global)) (wide : AreWide count rows) where
+module _ (count : ℕ) (rows : List (Vec ℕ Global)) (wide : AreLong count rows) where
   pub turned-start : AreLanes (length rows) 0 (λ k. take 0 (row_in rows k)) []
   turned-start = lanes-none (length rows) (λ k. take 0 (row_in rows k)) (λ k below. refl)
 
   -- one more lane
-  pub turned-more : (place : ℕ) → place < count → (lanes more : List (Vec ℕ Global)) (lane : Vec ℕ Global) → AreLanes (length rows) place (λ k. take place (row_in rows k)) lanes → lane.items ≡ column place rows → more ≡ lanes ++ lane ∷ [] → AreLanes (length rows) (place + 1) (λ k. take (place + 1) (row_in rows k)) more
+  pub turned-more : (place : ℕ) → place < count → (lanes more : List (List ℕ)) (lane : List ℕ) → AreLanes (length rows) place (λ k. take place (row_in rows k)) lanes → lane ≡ amounts_at place rows → more ≡ lanes ++ lane ∷ [] → AreLanes (length rows) (place + 1) (λ k. take (place + 1) (row_in rows k)) more
   turned-more place below lanes more lane so_far lane_is more_is =
       lanes-more (length rows) place (λ k. take place (row_in rows k)) (λ k. take (place + 1) (row_in rows k)) (λ k. slice_index (row_in rows k) place) lanes more lane so_far
       (record {
@@ -47,7 +47,7 @@ module _ (count : ℕ) (rows : List (Vec ℕ Global)) (wide : AreWide count rows
       }) more_is (λ k inside. sym (take_more (row_in rows k) place 0 (omega (arith, below, row-wide count rows wide k inside))))
 
   -- all lanes
-  pub turned-end : (lanes : List (Vec ℕ Global)) → AreLanes (length rows) count (λ k. take count (row_in rows k)) lanes → AreLanes (length rows) count (row_in rows) lanes
+  pub turned-end : (lanes : List (List ℕ)) → AreLanes (length rows) count (λ k. take count (row_in rows k)) lanes → AreLanes (length rows) count (row_in rows) lanes
   turned-end lanes are = lanes-are (length rows) count count (λ k. take count (row_in rows k)) (row_in rows) lanes are refl (λ k inside. take_all count (row_in rows k) (omega (arith, row-wide count rows wide k inside)))
 
 -- ---- rows, one after the other
@@ -63,7 +63,7 @@ row-new [] row (suc k) same = absurd (omega arith)
 row-new (first ∷ rows) row zero same = absurd (omega arith)
 row-new (first ∷ rows) row (suc k) same = row-new rows row k (omega arith)
 
-module _ (parts : Parts) (lanes : List (Vec ℕ Global)) (rule : ℕ) (layers : List TopLayer) where
+module _ (parts : Parts) (lanes : List (List ℕ)) (rule : ℕ) (layers : List TopLayer) where
   pub rows-start : (rows : LayerRows) → rows.shares.items ≡ [] → rows.policies.items ≡ [] → AreRows parts lanes rule layers 0 rows
   rows-start rows shares_are policies_are = record { shares_many = ap length shares_are; policies_many = ap length policies_are; rows = λ tree is k below. absurd (omega arith) }
 
@@ -93,7 +93,7 @@ module _ (parts : Parts) (lanes : List (Vec ℕ Global)) (rule : ℕ) (layers : 
 
   module _ (width : ℕ) (some : 0 < width) (rows : LayerRows) (are : AreRows parts lanes rule layers width rows) where
     -- each row has as many shares as the first
-    pub shares-wide : HasProgramme parts → AreWide (length (row_in rows.shares.items 0)) rows.shares.items
+    pub shares-wide : HasProgramme parts → AreLong (length (row_in rows.shares.items 0)) rows.shares.items
     shares-wide has = wide-rows (length (row_in rows.shares.items 0)) rows.shares.items (λ k below.
         let inside : k < width = omega (arith, below, are.shares_many) in
         ap length (are.rows has.tree has.is k inside).shares_are
@@ -101,7 +101,7 @@ module _ (parts : Parts) (lanes : List (Vec ℕ Global)) (rule : ℕ) (layers : 
         ∙ ap length (sym (are.rows has.tree has.is 0 some).shares_are)))
 
     -- and a policy loss for each layer
-    pub policies-wide : HasProgramme parts → AreWide (length layers) rows.policies.items
+    pub policies-wide : HasProgramme parts → AreLong (length layers) rows.policies.items
     policies-wide has = wide-rows (length layers) rows.policies.items (λ k below.
         let inside : k < width = omega (arith, below, are.policies_many) in
         ap length (are.rows has.tree has.is k inside).policies_are
@@ -109,10 +109,10 @@ module _ (parts : Parts) (lanes : List (Vec ℕ Global)) (rule : ℕ) (layers : 
         ∙ length-map layers key_of))
 
     -- as lanes they have what the layers have
-    pub rows-turned : (shares_count policies_count : ℕ) (made : LayerLanes) → AreLanes (length rows.shares.items) shares_count (row_in rows.shares.items) made.shares.items → AreLanes (length rows.policies.items) policies_count (row_in rows.policies.items) made.policies.items → AreLayers parts lanes width rule layers made
+    pub rows-turned : (shares_count policies_count : ℕ) (made : LayerLanes) → AreLanes (length rows.shares.items) shares_count (row_in rows.shares.items) made.shares → AreLanes (length rows.policies.items) policies_count (row_in rows.policies.items) made.policies → AreLayers parts lanes width rule layers made
     rows-turned shares_count policies_count made shares policies = record {
-      shares_wide = subst (λ n. AreWide n made.shares.items) are.shares_many shares.wide;
-      policies_wide = subst (λ n. AreWide n made.policies.items) are.policies_many policies.wide;
+      shares_wide = subst (λ n. AreWide n made.shares) are.shares_many shares.wide;
+      policies_wide = subst (λ n. AreWide n made.policies) are.policies_many policies.wide;
       rows = λ tree is k below. record {
         shares_are = shares.each k (omega (arith, below, are.shares_many)) ∙ (are.rows tree is k below).shares_are;
         policies_are = policies.each k (omega (arith, below, are.policies_many)) ∙ (are.rows tree is k below).policies_are;

@@ -1,5 +1,5 @@
 -- The losses of a run by the places of their ids.
-use Rattle.std.proofs.Common.{◌≡◌, ℕ, ◌+◌, ◌<◌, ◌≤◌, ◌^◌, ◌||◌, Bool, true, false, cond, nat_eq, ℤ, List, [], ◌∷◌, Vec, Global, length, map, take, replicate, slice_index, slice_index_or, refl, sym, ap, subst, ◌∙◌, arith}
+use Rattle.std.proofs.Common.{◌≡◌, ℕ, ◌+◌, ◌<◌, ◌≤◌, ◌^◌, ◌||◌, Bool, true, false, cond, nat_eq, ℤ, List, [], ◌∷◌, length, map, take, replicate, slice_index, slice_index_or, refl, sym, ap, subst, ◌∙◌, arith}
 use Rattle.std.specs.Cmp.{nat_eq_equiv}
 use Rattle.std.specs.List.{list_any, sum}
 use Rattle.std.proofs.Math.Path.{fun_ext}
@@ -22,18 +22,23 @@ use Rattle.kt_shares.specs.Table.{row_place}
 use Rattle.kt_shares.specs.Taken.{AreIdLanes}
 
 -- no records have no loss
-pub ids-start : (ids : List ℕ) (samples : ℕ) (lanes : List (Vec ℕ Global)) → AreLanes (samples + 1) (length ids) (λ row. replicate (length ids) 0) lanes → AreIdLanes ids samples [] lanes
+pub ids-start : (ids : List ℕ) (samples : ℕ) (lanes : List (List ℕ)) → AreLanes (samples + 1) (length ids) (λ row. replicate (length ids) 0) lanes → AreIdLanes ids samples [] lanes
 ids-start ids samples lanes are = record { count_is = are.count_is; wide = are.wide; each = λ row below. are.each row below ∙ none (sidx_at (row_place row)) ids }
   where
     none : (sidx : ℤ) (ids : List ℕ) → replicate (length ids) 0 ≡ map (id_loss [] sidx) ids
     none sidx [] = refl
     none sidx (id ∷ ids) = ap (λ rest. 0 ∷ rest) (none sidx ids)
 
+-- what a record has is not more than all
+pub ids-most : (records : List LossRecord) (i : ℕ) (d entry : LossRecord) → i < length records → entry ≡ slice_index_or records i d → (sidx : ℤ) → AreWithin records → loss_of sidx entry.pairs ≤ 10000000000000000
+ids-most records i d entry below is sidx within =
+    omega (arith, ap (λ (one : LossRecord). loss_of sidx one.pairs) is, get_or-le-sum_by (λ (one : LossRecord). loss_of sidx one.pairs) records i d below, within sidx)
+
 -- what an id has is not more than all
 id-le : (records : List LossRecord) (sidx : ℤ) (id : ℕ) → id_loss records sidx id ≤ run_loss sidx records
 id-le records sidx id = sum_by-below (λ (entry : LossRecord). cond (nat_eq entry.id id) (loss_of sidx entry.pairs) 0) (λ (entry : LossRecord). loss_of sidx entry.pairs) records (λ entry. cond-le (nat_eq entry.id id) (loss_of sidx entry.pairs))
 
-module _ (ids : List ℕ) (samples : ℕ) (records : List LossRecord) (i : ℕ) (d entry : LossRecord) (below : i < length records) (is : entry ≡ slice_index_or records i d) (lanes : List (Vec ℕ Global)) (so_far : AreIdLanes ids samples (take i records) lanes) where
+module _ (ids : List ℕ) (samples : ℕ) (records : List LossRecord) (i : ℕ) (d entry : LossRecord) (below : i < length records) (is : entry ≡ slice_index_or records i d) (lanes : List (List ℕ)) (so_far : AreIdLanes ids samples (take i records) lanes) where
   -- the next record fits
   pub ids-fit : AreWithin records → (row place : ℕ) → row < samples + 1 → place < length ids → slice_index (column row lanes) place + loss_of (sidx_at (row_place row)) entry.pairs < 2 ^ 64
   ids-fit within row place inside here =
@@ -50,7 +55,7 @@ module _ (ids : List ℕ) (samples : ℕ) (records : List LossRecord) (i : ℕ) 
       )
 
   -- with it, its id has more
-  pub ids-more : (more : List (Vec ℕ Global)) → AreLanes (samples + 1) (length ids) (λ row. with_more ids (column row lanes) entry.id (loss_of (sidx_at (row_place row)) entry.pairs)) more → AreIdLanes ids samples (take (i + 1) records) more
+  pub ids-more : (more : List (List ℕ)) → AreLanes (samples + 1) (length ids) (λ row. with_more ids (column row lanes) entry.id (loss_of (sidx_at (row_place row)) entry.pairs)) more → AreIdLanes ids samples (take (i + 1) records) more
   ids-more more are = record {
     count_is = are.count_is;
     wide = are.wide;
@@ -71,7 +76,7 @@ module _ (ids : List ℕ) (samples : ℕ) (records : List LossRecord) (i : ℕ) 
           ∙ ap (λ rest. id_loss (take (i + 1) records) sidx id ∷ rest) (each sidx ids)
 
 -- all records
-pub ids-end : (ids : List ℕ) (samples : ℕ) (records : List LossRecord) (i : ℕ) (lanes : List (Vec ℕ Global)) → length records ≤ i → AreIdLanes ids samples (take i records) lanes → AreIdLanes ids samples records lanes
+pub ids-end : (ids : List ℕ) (samples : ℕ) (records : List LossRecord) (i : ℕ) (lanes : List (List ℕ)) → length records ≤ i → AreIdLanes ids samples (take i records) lanes → AreIdLanes ids samples records lanes
 ids-end ids samples records i lanes past are = subst (λ (all : List LossRecord). AreIdLanes ids samples all lanes) (take_all i records past) are
 
 -- ---- losses by id
@@ -85,7 +90,7 @@ loss_by-map loss (first ∷ ids) id = ap (λ b. cond b (loss first) (loss_by ids
     by true is rest = ap loss (sym (eqb-true id first is))
     by false is rest = rest
 
-module _ (tree : Tree) (parts : Parts) (is : IsProgramme tree parts) (samples : ℕ) (records : List LossRecord) (lanes : List (Vec ℕ Global)) (are : AreIdLanes parts.ids samples records lanes) where
+module _ (tree : Tree) (parts : Parts) (is : IsProgramme tree parts) (samples : ℕ) (records : List LossRecord) (lanes : List (List ℕ)) (are : AreIdLanes parts.ids samples records lanes) where
   -- they are what the tree takes
   pub taken-by : (row : ℕ) → row < samples + 1 → loss_by tree.ids (column row lanes) ≡ taken_loss tree records (sidx_at (row_place row))
   taken-by row below =

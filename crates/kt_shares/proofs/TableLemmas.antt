@@ -1,5 +1,5 @@
 -- The rows of a table, and the lanes that it keeps of them.
-use Rattle.std.proofs.Common.{◌≡◌, ℕ, zero, suc, ◌+◌, ◌-◌, ◌*◌, ◌<◌, ◌≤◌, ◌^◌, List, [], ◌∷◌, Vec, Global, length, map, slice_index, slice_index_or, refl, sym, ap, subst, ◌∙◌, arith, add-one}
+use Rattle.std.proofs.Common.{◌≡◌, ℕ, zero, suc, ◌+◌, ◌-◌, ◌*◌, ◌<◌, ◌≤◌, ◌^◌, List, [], ◌∷◌, length, map, slice_index, slice_index_or, refl, sym, ap, subst, ◌∙◌, arith, add-one}
 use Rattle.std.specs.List.{All, AllByRecursion, range_with_len, sum_by}
 use Rattle.std.proofs.lemmas.List.{get_or-map, length-map}
 use Rattle.std.proofs.lemmas.List.FromFn.{fill_by_all, get_or-map-range_with_len, length-map-range_with_len}
@@ -36,16 +36,16 @@ rows-agree f g n same = each f g (range_with_len 0 n) (each-range (λ row. f row
     each f g (row ∷ rows) same = ap (λ y. y ∷ map f rows) same.0 ∙ ap (λ ys. g row ∷ ys) (each f g rows same.1)
 
 -- lanes of what layers have of the losses of a run are its rows
-pub table-are : (tree : Tree) (parts : Parts) → IsProgramme tree parts → (samples : ℕ) (records : List LossRecord) (lanes : List (Vec ℕ Global)) → AreIdLanes parts.ids samples records lanes → (rule : ℕ) (layers : List TopLayer) (made : LayerLanes) → AreLayers parts lanes (samples + 1) rule layers made → map (lane_row made.shares.items made.policies.items) (range_with_len 0 (samples + 1)) ≡ table_for tree rule samples records (map key_of layers)
+pub table-are : (tree : Tree) (parts : Parts) → IsProgramme tree parts → (samples : ℕ) (records : List LossRecord) (lanes : List (List ℕ)) → AreIdLanes parts.ids samples records lanes → (rule : ℕ) (layers : List TopLayer) (made : LayerLanes) → AreLayers parts lanes (samples + 1) rule layers made → map (lane_row made.shares made.policies) (range_with_len 0 (samples + 1)) ≡ table_for tree rule samples records (map key_of layers)
 table-are tree parts is samples records lanes are rule layers made made_are =
-    rows-agree (lane_row made.shares.items made.policies.items) (λ row. row_for tree (taken_loss tree records (sidx_at (row_place row))) rule (map key_of layers)) (samples + 1)
+    rows-agree (lane_row made.shares made.policies) (λ row. row_for tree (taken_loss tree records (sidx_at (row_place row))) rule (map key_of layers)) (samples + 1)
     (λ row below.
-    whole-row tree is.is _ rule layers (column row made.shares.items) (column row made.policies.items) (made_are.rows tree is row below)
+    whole-row tree is.is _ rule layers (column row made.shares) (column row made.policies) (made_are.rows tree is row below)
     ∙ ap (λ losses. row_for tree losses rule (map key_of layers)) (taken-by tree parts is samples records lanes are row below))
 
 -- ---- the lanes of a table
 
-module _ (shares policies : List (Vec ℕ Global)) (rows : ℕ) (some : 1 ≤ rows) where
+module _ (shares policies : List (List ℕ)) (rows : ℕ) (some : 1 ≤ rows) where
   abbrev table : List Shared
   table = map (lane_row shares policies) (range_with_len 0 rows)
 
@@ -61,26 +61,26 @@ module _ (shares policies : List (Vec ℕ Global)) (rows : ℕ) (some : 1 ≤ ro
 
   -- a share in a place has a lane
   pub shares-inside : (place : ℕ) → All (λ row. place < length row.shares) table → place < length shares
-  shares-inside place all = omega (arith, at-first (λ row. place < length row.shares) all, length-map shares (λ (lane : Vec ℕ Global). slice_index lane.items 0))
+  shares-inside place all = omega (arith, at-first (λ row. place < length row.shares) all, length-map shares (λ (lane : List ℕ). slice_index lane 0))
 
   -- and so has a policy loss
   pub policies-inside : (place : ℕ) → All (HasAmounts place) table → place < length policies
-  policies-inside place all = omega (arith, (at-first (HasAmounts place) all).policy, length-map policies (λ (lane : Vec ℕ Global). slice_index lane.items 0))
+  policies-inside place all = omega (arith, (at-first (HasAmounts place) all).policy, length-map policies (λ (lane : List ℕ). slice_index lane 0))
 
   -- a lane has the amounts of all rows
-  lane-are : (lanes : List (Vec ℕ Global)) → AreWide rows lanes → (amount : Shared → ℕ) (place : ℕ) → place < length lanes → ((row : ℕ) → amount (lane_row shares policies row) ≡ slice_index (column row lanes) place) → (lane : Vec ℕ Global) → lane ≡ slice_index_or lanes place lane → lane.items ≡ map amount table
+  lane-are : (lanes : List (List ℕ)) → AreWide rows lanes → (amount : Shared → ℕ) (place : ℕ) → place < length lanes → ((row : ℕ) → amount (lane_row shares policies row) ≡ slice_index (column row lanes) place) → (lane : List ℕ) → lane ≡ slice_index_or lanes place lane → lane ≡ map amount table
   lane-are lanes wide amount place inside same lane is =
-      fill_by_all (λ row. amount (lane_row shares policies row)) lane.items rows 0 (ap (λ (one : Vec ℕ Global). length one.items) is ∙ wide place lane inside)
-      (λ row below. ap (λ (one : Vec ℕ Global). slice_index one.items row) is ∙ (sym (column-at row place lanes lane inside) ∙ sym (same row)))
+      fill_by_all (λ row. amount (lane_row shares policies row)) lane rows 0 (ap (λ (one : List ℕ). length one) is ∙ wide place lane inside)
+      (λ row below. ap (λ (one : List ℕ). slice_index one row) is ∙ (sym (column-at row place lanes lane inside) ∙ sym (same row)))
       ∙ sym (map-map amount (lane_row shares policies) (range_with_len 0 rows))
 
-  pub shares-are : AreWide rows shares → (place : ℕ) → place < length shares → (lane : Vec ℕ Global) → lane ≡ slice_index_or shares place lane → lane.items ≡ map (λ row. slice_index row.shares place) table
+  pub shares-are : AreWide rows shares → (place : ℕ) → place < length shares → (lane : List ℕ) → lane ≡ slice_index_or shares place lane → lane ≡ map (λ row. slice_index row.shares place) table
   shares-are wide place inside = lane-are shares wide (λ row. slice_index row.shares place) place inside (λ row. refl)
 
-  pub policies-are : AreWide rows policies → (place : ℕ) → place < length policies → (lane : Vec ℕ Global) → lane ≡ slice_index_or policies place lane → lane.items ≡ map (λ row. slice_index row.policies place) table
+  pub policies-are : AreWide rows policies → (place : ℕ) → place < length policies → (lane : List ℕ) → lane ≡ slice_index_or policies place lane → lane ≡ map (λ row. slice_index row.policies place) table
   policies-are wide place inside = lane-are policies wide (λ row. slice_index row.policies place) place inside (λ row. refl)
 
-  pub totals-are : AreWide rows policies → (place : ℕ) → place < length policies → (lane : Vec ℕ Global) → lane ≡ slice_index_or policies place lane → lane.items ≡ map (λ row. slice_index row.totals place) table
+  pub totals-are : AreWide rows policies → (place : ℕ) → place < length policies → (lane : List ℕ) → lane ≡ slice_index_or policies place lane → lane ≡ map (λ row. slice_index row.totals place) table
   totals-are wide place inside = lane-are policies wide (λ row. slice_index row.totals place) place inside (λ row. refl)
 
 -- ---- amounts of all rows

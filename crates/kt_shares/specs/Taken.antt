@@ -1,7 +1,6 @@
 -- The losses of a run by the places of their ids.
 -- The rule: docs/FINANCIAL_MODULE.md, "Insured losses".
-use Rattle.std.specs.Prelude.{ℕ, ◌+◌, List, Vec, length, map}
-use Rattle.std.specs.declared.alloc.Global.{Global}
+use Rattle.std.specs.Prelude.{ℕ, ◌+◌, List, length, map}
 use Rattle.kt_stream.specs.declared.entry.LossRecord.{LossRecord}
 use Rattle.kt_runs.specs.Sidx.{sidx_at}
 use Rattle.kt_lanes.specs.Lanes.{AreLanes}
@@ -9,5 +8,5 @@ use Rattle.kt_shares.specs.Shares.{id_loss}
 use Rattle.kt_shares.specs.Table.{row_place}
 
 -- ids have a lane each, with the losses of records row by row
-abbrev pub AreIdLanes : List ℕ → ℕ → List LossRecord → List (Vec ℕ Global) → Type 0
+abbrev pub AreIdLanes : List ℕ → ℕ → List LossRecord → List (List ℕ) → Type 0
 AreIdLanes ids samples records lanes = AreLanes (samples + 1) (length ids) (λ row. map (id_loss records (sidx_at (row_place row))) ids) lanes

@@ -15,16 +15,16 @@ ghost use Rattle.kt_shares.specs.ByLanes.{AreLayers, IsPlainLayer};
 
 use crate::layers::TopLayer;
 use kt_fmtree::Programme;
-use kt_lanes::{Climbed, allocate_lanes, copy_of, layer_looks_back, policy_lane};
+use kt_lanes::{Climbed, Lanes, allocate_lanes, layer_looks_back, policy_lane};
 use std::alloc::{AllocError, Global};
 
 /// What layers have, sidx by sidx.
 #[derive(Drop)]
 pub(crate) struct LayerLanes {
     /// The lanes of the shares of all layers in cents, one behind the other.
-    pub shares: Vec<Vec<u64>>,
+    pub shares: Lanes,
     /// The lane of the policy losses of each layer in cents.
-    pub policies: Vec<Vec<u64>>,
+    pub policies: Lanes,
 }
 
 /// Whether the rules of layers see the losses alone.
@@ -41,12 +41,12 @@ pub(crate) fn are_plain(programme: &Programme, layers: &[TopLayer]) -> bool
 }
 
 /// A lane that stays whole.
-fn whole(alloc: Global, policies: &[u64]) -> Result<Vec<Vec<u64>>, AllocError>
-    ensures wide { IfOk result (λ made. AreWide (length policies.now) made.items) }
-    ensures value { IfOk result (λ made. (k : ℕ) → column k made.items ≡ slice_index policies.now k ∷ []) }
+fn whole(alloc: Global, policies: &[u64]) -> Result<Lanes, AllocError>
+    ensures wide { IfOk result (AreWide (length policies.now)) }
+    ensures value { IfOk result (λ made. (k : ℕ) → column k made ≡ slice_index policies.now k ∷ []) }
 {
-    let mut made = Vec::with_capacity(alloc, 1)?;
-    made.push(copy_of(alloc, policies)?)?;
+    let mut made = Lanes::new(alloc);
+    made.push(policies)?;
     Ok(made)
 }
 
@@ -54,18 +54,18 @@ fn whole(alloc: Global, policies: &[u64]) -> Result<Vec<Vec<u64>>, AllocError>
 fn shares_of(
     alloc: Global,
     programme: &Programme,
-    lanes: &[Vec<u64>],
+    lanes: &Lanes,
     climbed: &Climbed,
     rule: u32,
     one: TopLayer,
     policies: &[u64],
-) -> Result<Vec<Vec<u64>>, AllocError>
+) -> Result<Lanes, AllocError>
     requires rule { rule ≤ 2 }
     requires layer { IsTopLayer programme.now one }
     requires climbed { IsClimbed programme.now lanes.now climbed.now }
     requires policies { IsPolicy programme.now lanes.now climbed.now.width one.node one.layer policies.now }
-    ensures wide { IfOk result (λ made. AreWide climbed.now.width made.items) }
-    ensures value { IfOk result (λ made. (tree : Tree) → IsProgramme tree programme.now → (k : ℕ) → k < climbed.now.width → column k made.items ≡ shares tree (loss_by tree.ids (column k lanes.now)) rule one.top one.layer) }
+    ensures wide { IfOk result (AreWide climbed.now.width) }
+    ensures value { IfOk result (λ made. (tree : Tree) → IsProgramme tree programme.now → (k : ℕ) → k < climbed.now.width → column k made ≡ shares tree (loss_by tree.ids (column k lanes.now)) rule one.top one.layer) }
 {
     programme.is_of_a_tree();
     if rule == 0 {
@@ -82,7 +82,7 @@ fn shares_of(
 fn push_layer(
     alloc: Global,
     programme: &Programme,
-    lanes: &[Vec<u64>],
+    lanes: &Lanes,
     climbed: &Climbed,
     rule: u32,
     one: TopLayer,
@@ -92,12 +92,14 @@ fn push_layer(
     requires layer { IsTopLayer programme.now one }
     requires plain { IsPlainLayer programme.now one }
     requires climbed { IsClimbed programme.now lanes.now climbed.now }
+    requires shares_wide { AreWide climbed.now.width made.old.shares }
+    requires policies_wide { AreWide climbed.now.width made.old.policies }
     ensures value { OnOk result ((before : List TopLayer) → AreLayers programme.now lanes.now climbed.now.width rule before made.old → AreLayers programme.now lanes.now climbed.now.width rule (before ++ one ∷ []) made.new) }
 {
     let policies = policy_lane(alloc, programme, lanes, climbed, one.node, one.layer)?;
-    let mut shares = shares_of(alloc, programme, lanes, climbed, rule, one, &policies)?;
-    made.shares.append(&mut shares)?;
-    made.policies.push(policies)?;
+    let shares = shares_of(alloc, programme, lanes, climbed, rule, one, &policies)?;
+    made.shares.append(climbed.width, &shares)?;
+    made.policies.push(&policies)?;
     Ok(())
 }
 
@@ -105,7 +107,7 @@ fn push_layer(
 pub(crate) fn layer_lanes(
     alloc: Global,
     programme: &Programme,
-    lanes: &[Vec<u64>],
+    lanes: &Lanes,
     climbed: &Climbed,
     rule: u32,
     layers: &[TopLayer],
@@ -117,8 +119,8 @@ pub(crate) fn layer_lanes(
     ensures value { IfOk result (λ made. AreLayers programme.now lanes.now climbed.now.width rule layers.now made) }
 {
     let mut made = LayerLanes {
-        shares: Vec::new(alloc),
-        policies: Vec::new(alloc),
+        shares: Lanes::new(alloc),
+        policies: Lanes::new(alloc),
     };
     for one in layers {
         push_layer(alloc, programme, lanes, climbed, rule, *one, &mut made)?;

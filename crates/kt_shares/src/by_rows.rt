@@ -3,14 +3,16 @@
 ghost use Rattle.std.specs.Prelude.{◌≡◌, ◌+◌, ◌≤◌, ◌<◌, ◌∷◌, [], ℕ, List, Vec, length, map, All, IfOk, OnOk, slice_index_or};
 ghost use Rattle.std.specs.List.{AllByRecursion};
 ghost use Rattle.kt_lanes.specs.Climbed.{AreLosses};
-ghost use Rattle.kt_lanes.specs.Lanes.{AreLanes, AreWide, column};
+ghost use Rattle.kt_lanes.specs.Lanes.{AreLanes, column};
 ghost use Rattle.kt_shares.specs.Layers.{IsTopLayer};
-ghost use Rattle.kt_shares.specs.ByLanes.{AreLayers, AreRows, row_in};
+ghost use Rattle.kt_shares.specs.ByLanes.{AreLayers, AreLong, AreRows, amounts_at, row_in};
 
 use crate::by_lanes::LayerLanes;
 use crate::layers::TopLayer;
 use crate::row::row_of;
+use kt_alloc::zeros;
 use kt_fmtree::Programme;
+use kt_lanes::Lanes;
 use std::alloc::{AllocError, Global};
 
 /// What layers have, row by row.
@@ -23,25 +25,38 @@ pub(crate) struct LayerRows {
 }
 
 /// What lanes have at a place. An error is want of memory.
-fn column_of(alloc: Global, lanes: &[Vec<u64>], at: usize) -> Result<Vec<u64>, AllocError>
-    requires { All (λ lane. at < length lane.items) lanes.now }
+fn column_of(alloc: Global, lanes: &Lanes, at: usize) -> Result<Vec<u64>, AllocError>
+    requires { All (λ lane. at < length lane) lanes.now }
     ensures value { IfOk result (λ amounts. amounts.items ≡ column at lanes.now) }
 {
     let mut amounts = Vec::with_capacity(alloc, lanes.len())?;
-    for lane in lanes {
-        amounts.push(lane[at])?;
+    for place in 0..lanes.len() {
+        amounts.push(lanes.lane(place)[at])?;
     }
     Ok(amounts)
 }
 
-/// The lanes that rows have, each of so many amounts. An error is want of memory.
-fn turned(alloc: Global, count: usize, rows: &[Vec<u64>]) -> Result<Vec<Vec<u64>>, AllocError>
-    requires wide { AreWide count rows.now }
-    ensures value { IfOk result (λ lanes. AreLanes (length rows.now) count (row_in rows.now) lanes.items) }
+/// Puts what rows have at a place in the place of what a lane has.
+fn take_amounts(rows: &[Vec<u64>], at: usize, lane: &mut [u64])
+    requires rows { All (λ row. at < length row.items) rows.now }
+    requires lane { length lane.old ≡ length rows.now }
+    ensures value { lane.new ≡ amounts_at at rows.now }
 {
-    let mut lanes = Vec::with_capacity(alloc, count)?;
+    for place in 0..rows.len() {
+        lane[place] = rows[place][at];
+    }
+}
+
+/// The lanes that rows have, each of so many amounts. An error is want of memory.
+fn turned(alloc: Global, count: usize, rows: &[Vec<u64>]) -> Result<Lanes, AllocError>
+    requires wide { AreLong count rows.now }
+    ensures value { IfOk result (λ lanes. AreLanes (length rows.now) count (row_in rows.now) lanes) }
+{
+    let mut lane = zeros(alloc, rows.len())?;
+    let mut lanes = Lanes::with_room(alloc, count, rows.len())?;
     for place in 0..count {
-        lanes.push(column_of(alloc, rows, place)?)?;
+        take_amounts(rows, place, &mut lane);
+        lanes.push(&lane)?;
     }
     Ok(lanes)
 }
@@ -51,7 +66,7 @@ fn push_row(
     alloc: Global,
     programme: &Programme,
     width: usize,
-    lanes: &[Vec<u64>],
+    lanes: &Lanes,
     rule: u32,
     layers: &[TopLayer],
     at: usize,
@@ -76,7 +91,7 @@ fn rows_of(
     alloc: Global,
     programme: &Programme,
     width: usize,
-    lanes: &[Vec<u64>],
+    lanes: &Lanes,
     rule: u32,
     layers: &[TopLayer],
 ) -> Result<LayerRows, AllocError>
@@ -108,7 +123,7 @@ pub(crate) fn lanes_by_rows(
     alloc: Global,
     programme: &Programme,
     width: usize,
-    lanes: &[Vec<u64>],
+    lanes: &Lanes,
     rule: u32,
     layers: &[TopLayer],
 ) -> Result<LayerLanes, AllocError>

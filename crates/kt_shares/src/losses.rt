@@ -13,7 +13,7 @@ ghost use Rattle.kt_shares.specs.Shares.{ids_of};
 ghost use Rattle.kt_shares.specs.Table.{row_place};
 ghost use Rattle.kt_shares.specs.Taken.{AreIdLanes};
 
-use kt_lanes::zero_lanes;
+use kt_lanes::{Lanes, add_by_id};
 use kt_runs::{RunEntry, place_of, zeros};
 use kt_stream::{LossRecord, Pair};
 use std::alloc::{AllocError, Global};
@@ -75,50 +75,28 @@ pub fn ids_of<T: RunEntry>(alloc: Global, records: &[T]) -> Result<Vec<u32>, All
     Ok(ids)
 }
 
-/// Adds the losses of a record to a lane.
-fn add_record(lane: &mut Vec<u64>, samples: u32, entry: &LossRecord)
-    requires samples { samples ≤ 1000 }
-    requires wide { length lane.old.items ≡ samples + 1 }
-    requires entry { IsLoss samples entry.now }
-    requires few { (row : ℕ) → row < samples + 1 → slice_index lane.old.items row + loss_of (sidx_at (row_place row)) entry.now.pairs < 2 ^ 64 }
-    ensures value { IsLane (samples + 1) (λ row. slice_index lane.old.items row + loss_of (sidx_at (row_place row)) entry.now.pairs) lane.new.items }
-{
-    add_losses(lane, samples, entry.pairs.as_slice());
-}
-
-/// Adds the losses of a record to the lane of its id, which stands in this place.
-fn add_at(ids: &[u32], lanes: &mut Vec<Vec<u64>>, samples: u32, place: usize, entry: &LossRecord)
-    requires samples { samples ≤ 1000 }
-    requires rising { IsRising ids.now }
-    requires same { length lanes.old.items ≡ length ids.now }
-    requires wide { AreWide (samples + 1) lanes.old.items }
-    requires entry { IsLoss samples entry.now }
-    requires few { (row place : ℕ) → row < samples + 1 → place < length ids.now → slice_index (column row lanes.old.items) place + loss_of (sidx_at (row_place row)) entry.now.pairs < 2 ^ 64 }
-    requires within { place < length ids.now }
-    requires here { slice_index ids.now place ≡ entry.now.id }
-    ensures value { AreLanes (samples + 1) (length ids.now) (λ row. with_more ids.now (column row lanes.old.items) entry.now.id (loss_of (sidx_at (row_place row)) entry.now.pairs)) lanes.new.items }
-{
-    add_record(&mut lanes[place], samples, entry);
-}
-
 /// Adds the losses of a record to the lane of its id, if that is among these. It is looked for in a place first: records stand by
-/// rising id mostly.
-fn add_by_id(ids: &[u32], lanes: &mut Vec<Vec<u64>>, samples: u32, near: usize, entry: &LossRecord)
+/// rising id mostly. The losses are put into a lane of their own before.
+fn add_record(
+    ids: &[u32],
+    lanes: &mut Lanes,
+    samples: u32,
+    near: usize,
+    entry: &LossRecord,
+    lane: &mut [u64],
+)
     requires samples { samples ≤ 1000 }
     requires rising { IsRising ids.now }
-    requires same { length lanes.old.items ≡ length ids.now }
-    requires wide { AreWide (samples + 1) lanes.old.items }
+    requires same { length lanes.old ≡ length ids.now }
+    requires wide { AreWide (samples + 1) lanes.old }
     requires entry { IsLoss samples entry.now }
-    requires few { (row place : ℕ) → row < samples + 1 → place < length ids.now → slice_index (column row lanes.old.items) place + loss_of (sidx_at (row_place row)) entry.now.pairs < 2 ^ 64 }
-    ensures value { AreLanes (samples + 1) (length ids.now) (λ row. with_more ids.now (column row lanes.old.items) entry.now.id (loss_of (sidx_at (row_place row)) entry.now.pairs)) lanes.new.items }
+    requires lane { length lane.old ≡ samples + 1 }
+    requires most { (sidx : ℤ) → loss_of sidx entry.now.pairs ≤ 10000000000000000 }
+    requires few { (row place : ℕ) → row < samples + 1 → place < length ids.now → slice_index (column row lanes.old) place + loss_of (sidx_at (row_place row)) entry.now.pairs < 2 ^ 64 }
+    ensures value { AreLanes (samples + 1) (length ids.now) (λ row. with_more ids.now (column row lanes.old) entry.now.id (loss_of (sidx_at (row_place row)) entry.now.pairs)) lanes.new }
 {
-    if near < ids.len() && ids[near] == entry.id {
-        add_at(ids, lanes, samples, near, entry);
-        return;
-    }
-    if let Ok(place) = ids.binary_search(&entry.id) {
-        add_at(ids, lanes, samples, place, entry);
-    }
+    take_losses(lane, samples, entry.pairs.as_slice());
+    add_by_id(ids, lanes, near, entry.id, lane);
 }
 
 /// The lanes of rising ids, with the losses of the records that have these ids. An error is want of memory.
@@ -127,16 +105,18 @@ pub(crate) fn id_lanes<T: RunEntry>(
     ids: &[u32],
     samples: u32,
     records: &[T],
-) -> Result<Vec<Vec<u64>>, AllocError>
+) -> Result<Lanes, AllocError>
     requires samples { samples ≤ 1000 }
     requires rising { IsRising ids.now }
     requires records { All (IsLoss samples) (map T.entry_of records.now) }
     requires within { AreWithin (map T.entry_of records.now) }
-    ensures value { IfOk result (λ lanes. AreIdLanes ids.now samples (map T.entry_of records.now) lanes.items) }
+    ensures value { IfOk result (λ lanes. AreIdLanes ids.now samples (map T.entry_of records.now) lanes) }
 {
-    let mut lanes = zero_lanes(alloc, ids.len(), samples as usize + 1)?;
+    let width = samples as usize + 1;
+    let mut lanes = Lanes::zeros(alloc, ids.len(), width)?;
+    let mut lane = zeros(alloc, width)?;
     for (near, held) in records.iter().enumerate() {
-        add_by_id(ids, &mut lanes, samples, near, held.entry());
+        add_record(ids, &mut lanes, samples, near, held.entry(), &mut lane);
     }
     Ok(lanes)
 }

@@ -19,7 +19,7 @@ use crate::losses::id_lanes;
 use crate::pairs::lane_pairs;
 use crate::written::{pair_room, put_lane};
 use kt_fmtree::Programme;
-use kt_lanes::{climb, has_plain_units};
+use kt_lanes::{Lanes, climb, has_plain_units};
 use kt_money::Bytes;
 use kt_runs::RunEntry;
 use kt_stream::Pairs;
@@ -32,8 +32,8 @@ use std::marker::Model;
 #[derive(Drop)]
 pub struct Table {
     rows: usize,
-    shares: Vec<Vec<u64>>,
-    policies: Vec<Vec<u64>>,
+    shares: Lanes,
+    policies: Lanes,
 }
 
 impl Model for Table {
@@ -70,7 +70,7 @@ impl Table {
         ensures most { length self.now ≤ 1001 }
     {
         let _rows = self.rows;
-        &self.shares[place]
+        self.shares.lane(place)
     }
 
     /// The pairs of the shares in a place, where these are above 0. An error is want of memory.
@@ -117,7 +117,7 @@ impl Table {
         ensures most { length self.now ≤ 1001 }
     {
         let _rows = self.rows;
-        &self.policies[place]
+        self.policies.lane(place)
     }
 
     /// The policy losses of a layer at the samples in cents, added. Its shares add to the same.
@@ -136,7 +136,7 @@ fn lanes_of(
     alloc: Global,
     programme: &Programme,
     width: usize,
-    lanes: &[Vec<u64>],
+    lanes: &Lanes,
     rule: u32,
     layers: &[TopLayer],
 ) -> Result<LayerLanes, AllocError>

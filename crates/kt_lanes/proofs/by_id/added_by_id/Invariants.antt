@@ -7,4 +7,4 @@ use Rattle.kt_lanes.specs.Down.{placed_at}
 use Rattle.kt_lanes.proofs.by_id.added_by_id.Given as goal
 
 abbrev pub invariant-loop-near : goal.invariant-loop-near
-invariant-loop-near l = AreLanes l.width (length l.ids) (λ k. map (part_of (unit_parts (units_at l.programme 0) (take l.near (placed_at k l.parts)))) l.ids) l.found.items
+invariant-loop-near l = AreLanes l.width (length l.ids) (λ k. map (part_of (unit_parts (units_at l.programme 0) (take l.near (placed_at k l.parts)))) l.ids) l.found

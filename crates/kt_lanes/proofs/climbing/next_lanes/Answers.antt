@@ -11,5 +11,5 @@ unit_lanes-requires-clause-can c =
 
 pub returns : goal.returns
 returns c = record {
-  value = next-level c.args.programme.now c.is_of_a_tree.ensures.kept c.args.width c.args.lanes.now c.requires.losses c.requires.plain c.args.level c.requires.level c.args.below.now c.in_ok-row.row.items c.nodes_above.result.now c.nodes_above.ensures.value c.requires.below c.in_ok-row.ensures.value;
+  value = next-level c.args.programme.now c.is_of_a_tree.ensures.kept c.args.width c.args.lanes.now c.requires.losses c.requires.plain c.args.level c.requires.level c.args.below.now c.in_ok-row.row c.nodes_above.result.now c.nodes_above.ensures.value c.requires.below c.in_ok-row.ensures.value;
 }

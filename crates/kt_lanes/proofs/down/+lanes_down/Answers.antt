@@ -1,4 +1,4 @@
-use Rattle.std.proofs.Common.{◌≡◌, ◌-◌, ◌<◌, ◌∙◌, suc, ℕ, List, Vec, Global, [], length, slice_index_or, sym, ap, subst, arith}
+use Rattle.std.proofs.Common.{◌≡◌, ◌-◌, ◌<◌, ◌∙◌, suc, ℕ, List, [], length, slice_index_or, sym, ap, subst, arith}
 use Rattle.std.specs.List.{All, flat_map}
 use Rattle.kt_fmtree.specs.declared.node.Node.{Node}
 use Rattle.kt_lanes.specs.Lanes.{CanTake, column}
@@ -10,7 +10,7 @@ use Rattle.kt_lanes.proofs.down.+lanes_down.Goals as goal
 pub lanes_at-below-requires : goal.lanes_at-below-requires
 lanes_at-below-requires t c =
     let next : c.args.level ≡ suc (c.args.level - 1) = omega (arith, c.if-level-eq0.false) in
-    subst (λ (rows : List (Vec (Vec ℕ Global) Global)). c.args.level - 1 < length rows) (sym c.deref.ensures.value)
+    subst (λ (rows : List (List (List ℕ))). c.args.level - 1 < length rows) (sym c.deref.ensures.value)
     (next-row c.args.programme.now c.is_of_a_tree.ensures.kept c.args.lanes.now c.args.climbed.now c.requires.climbed c.args.level (c.args.level - 1) next c.args.parts c.requires.parts c.requires.can)
 
 pub level_down-requires-clause-can : goal.level_down-requires-clause-can
@@ -20,9 +20,9 @@ level_down-requires-clause-can t c =
     let has = c.is_of_a_tree.ensures.kept in
     let lanes = c.args.lanes.now in
     let climbed = c.args.climbed.now in
-    let below = c.lanes_at-below.ensures.value ∙ ap (λ (rows : List (Vec (Vec ℕ Global) Global)). level_lanes rows (c.args.level - 1)) c.deref.ensures.value in
+    let below = c.lanes_at-below.ensures.value ∙ ap (λ (rows : List (List (List ℕ))). level_lanes rows (c.args.level - 1)) c.deref.ensures.value in
     subst (λ (nodes : List Node). All (CanTake climbed.width c.lanes_at-below.result.now) nodes) (sym c.nodes_above.ensures.value)
-    (subst (λ (row : List (Vec ℕ Global)). All (CanTake climbed.width row) (slice_index_or parts.levels (c.args.level - 1) [])) (sym below)
+    (subst (λ (row : List (List ℕ)). All (CanTake climbed.width row) (slice_index_or parts.levels (c.args.level - 1) [])) (sym below)
     (next-takes parts has lanes climbed c.requires.climbed c.args.level (c.args.level - 1) next c.args.parts c.requires.parts c.requires.can))
 
 pub level_down-requires-clause-places : goal.level_down-requires-clause-places
@@ -38,9 +38,9 @@ level_down-requires-clause-backed t c = λ k less.
     let has = c.is_of_a_tree.ensures.kept in
     let lanes = c.args.lanes.now in
     let climbed = c.args.climbed.now in
-    let below = c.lanes_at-below.ensures.value ∙ ap (λ (rows : List (Vec (Vec ℕ Global) Global)). level_lanes rows (c.args.level - 1)) c.deref.ensures.value in
+    let below = c.lanes_at-below.ensures.value ∙ ap (λ (rows : List (List (List ℕ))). level_lanes rows (c.args.level - 1)) c.deref.ensures.value in
     subst (λ (nodes : List Node). AreBacked nodes (column k c.lanes_at-below.result.now) (placed_at k c.args.parts)) (sym c.nodes_above.ensures.value)
-    (subst (λ (row : List (Vec ℕ Global)). AreBacked (slice_index_or parts.levels (c.args.level - 1) []) (column k row) (placed_at k c.args.parts)) (sym below)
+    (subst (λ (row : List (List ℕ)). AreBacked (slice_index_or parts.levels (c.args.level - 1) []) (column k row) (placed_at k c.args.parts)) (sym below)
     (next-backs parts has lanes climbed c.requires.climbed c.args.level (c.args.level - 1) next c.args.parts c.requires.parts c.requires.can k less))
 
 pub lanes_down-requires : goal.lanes_down-requires
@@ -50,12 +50,12 @@ lanes_down-requires t c =
     let has = c.is_of_a_tree.ensures.kept in
     let lanes = c.args.lanes.now in
     let climbed = c.args.climbed.now in
-    let below = c.lanes_at-below.ensures.value ∙ ap (λ (rows : List (Vec (Vec ℕ Global) Global)). level_lanes rows (c.args.level - 1)) c.deref.ensures.value in
+    let below = c.lanes_at-below.ensures.value ∙ ap (λ (rows : List (List (List ℕ))). level_lanes rows (c.args.level - 1)) c.deref.ensures.value in
     let given : (k : ℕ) → k < climbed.width → placed_at k c.in_ok-given.given ≡ flat_map (given_losses (slice_index_or parts.levels (c.args.level - 1) []) (column k (level_lanes climbed.rows.items (c.args.level - 1)))) (placed_at k c.args.parts) =
     λ k less.
     c.in_ok-given.ensures.value k less
     ∙ (ap (λ (nodes : List Node). flat_map (given_losses nodes (column k c.lanes_at-below.result.now)) (placed_at k c.args.parts)) c.nodes_above.ensures.value
-    ∙ ap (λ (row : List (Vec ℕ Global)). flat_map (given_losses (slice_index_or parts.levels (c.args.level - 1) []) (column k row)) (placed_at k c.args.parts)) below) in
+    ∙ ap (λ (row : List (List ℕ)). flat_map (given_losses (slice_index_or parts.levels (c.args.level - 1) []) (column k row)) (placed_at k c.args.parts)) below) in
     (omega (arith, c.decreases, next), (c.requires.climbed, (c.in_ok-given.ensures.given, gives-next parts has lanes climbed c.requires.climbed c.args.level (c.args.level - 1) next c.args.parts c.requires.parts c.requires.can c.in_ok-given.given given)))
 
 pub returns-clause-value : goal.returns-clause-value
@@ -65,10 +65,10 @@ returns-clause-value t c = λ k less.
     let has = c.is_of_a_tree.ensures.kept in
     let lanes = c.args.lanes.now in
     let climbed = c.args.climbed.now in
-    let below = c.lanes_at-below.ensures.value ∙ ap (λ (rows : List (Vec (Vec ℕ Global) Global)). level_lanes rows (c.args.level - 1)) c.deref.ensures.value in
+    let below = c.lanes_at-below.ensures.value ∙ ap (λ (rows : List (List (List ℕ))). level_lanes rows (c.args.level - 1)) c.deref.ensures.value in
     let given : (k : ℕ) → k < climbed.width → placed_at k c.in_ok-given.given ≡ flat_map (given_losses (slice_index_or parts.levels (c.args.level - 1) []) (column k (level_lanes climbed.rows.items (c.args.level - 1)))) (placed_at k c.args.parts) =
     λ k less.
     c.in_ok-given.ensures.value k less
     ∙ (ap (λ (nodes : List Node). flat_map (given_losses nodes (column k c.lanes_at-below.result.now)) (placed_at k c.args.parts)) c.nodes_above.ensures.value
-    ∙ ap (λ (row : List (Vec ℕ Global)). flat_map (given_losses (slice_index_or parts.levels (c.args.level - 1) []) (column k row)) (placed_at k c.args.parts)) below) in
+    ∙ ap (λ (row : List (List ℕ)). flat_map (given_losses (slice_index_or parts.levels (c.args.level - 1) []) (column k row)) (placed_at k c.args.parts)) below) in
     given-on parts has lanes climbed c.requires.climbed c.args.level (c.args.level - 1) next c.args.parts c.requires.parts c.requires.can c.in_ok-given.given given k less (placed_at k c.in_ok-last.last) (c.in_ok-last.ensures.value k less)

@@ -1,4 +1,4 @@
-use Rattle.std.proofs.Common.{◌≡◌, ◌∙◌, ℕ, Vec, Global, length, map, slice_index, slice_index_or, ap, subst, arith}
+use Rattle.std.proofs.Common.{◌≡◌, ◌∙◌, ℕ, List, length, map, slice_index, slice_index_or, ap, subst, arith}
 use Rattle.std.specs.List.{All}
 use Rattle.std.proofs.lemmas.List.{length-map}
 use Rattle.kt_alloc.specs.Placed.{no_node, node_at}
@@ -18,10 +18,10 @@ returns-then-are_single-clause-value c = λ k less.
     let nodes = c.args.nodes.now in
     let below = c.args.below.now in
     let places = c.args.parts.places.items in
-    let amounts = column k c.args.parts.lanes.items in
+    let amounts = column k c.args.parts.lanes in
     let single : All (λ place. (node_at nodes place).width ≡ 1) places = subst (All (λ place. (node_at nodes place).width ≡ 1)) c.deref.ensures.value (c.are_single.ensures.single c.if-are_single.true) in
     let singles : All (IsSingle nodes (column k below)) places = λ i d inside.
     let can = c.requires.can (slice_index_or places i d) no_node (c.requires.places i d inside) in
-    record { one = single i d inside; within = omega (arith, can.within, single i d inside, length-map below (λ (lane : Vec ℕ Global). slice_index lane.items k)) } in
+    record { one = single i d inside; within = omega (arith, can.within, single i d inside, length-map below (λ (lane : List ℕ). slice_index lane k)) } in
     ap (λ starts. placed starts amounts) (c.in_ok-places.ensures.value ∙ ap (map (λ place. (node_at nodes place).start)) c.deref-then-are_single.ensures.value)
     ∙ singles-given nodes (column k below) places amounts singles (c.requires.backed k less)

@@ -43,4 +43,4 @@ returns c =
     c.in_ok-parts.ensures.value k less
     ∙ (ap (λ n. levels_down false c.args.programme.now.levels (carried_at c.args.programme.now c.args.lanes.now k).rows n (placed_at k c.in_ok-top.top)) c.depth.ensures.value
     ∙ ap (levels_down false c.args.programme.now.levels (carried_at c.args.programme.now c.args.lanes.now k).rows (length c.args.programme.now.levels)) (c.in_ok-top.ensures.value k)) in
-    record { value = given-shared c.args.programme.now c.is_of_a_tree.ensures.kept c.args.lanes.now c.args.climbed.now c.requires.climbed c.args.node c.requires.node c.args.layer c.args.policy.now c.requires.policy c.in_ok-parts.parts given c.beneath.result.now c.beneath.ensures.value c.in_ok-shares.shares.items c.in_ok-shares.ensures.value }
+    record { value = given-shared c.args.programme.now c.is_of_a_tree.ensures.kept c.args.lanes.now c.args.climbed.now c.requires.climbed c.args.node c.requires.node c.args.layer c.args.policy.now c.requires.policy c.in_ok-parts.parts given c.beneath.result.now c.beneath.ensures.value c.in_ok-shares.shares c.in_ok-shares.ensures.value }

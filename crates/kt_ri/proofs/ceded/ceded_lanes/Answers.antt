@@ -1,37 +1,37 @@
-use Rattle.std.proofs.Common.{◌<◌, length, refl, slice_index_or, arith}
-use Rattle.std.proofs.lemmas.List.{get_or_read}
-use Rattle.kt_ri.proofs.CededLemmas.{lane-fits, lane-more, lane-wide}
+use Rattle.std.proofs.Common.{◌<◌, ◌+◌, ◌∙◌, [], length, refl, slice_index, slice_index_or, sym, subst, arith}
+use Rattle.std.proofs.lemmas.List.{get_or_default}
+use Rattle.kt_lanes.specs.Lanes.{AreWide, IsLane}
+use Rattle.kt_ri.proofs.CededLemmas.{before-wide, lane-fits, lane-more, lane-wide}
 use Rattle.kt_ri.proofs.ceded.ceded_lanes.Goals as goal
 
-pub index_mut-requires : goal.index_mut-requires
-index_mut-requires c = omega (arith, c.requires.within c.loop-k.k 0 c.loop-k-test.true, c.loop-k.invariant.count_is, c.loop-k.ceded.ok)
+pub add-requires-clause-place : goal.add-requires-clause-place
+add-requires-clause-place c = omega (arith, c.requires.within c.loop-k.k 0 c.loop-k-test.true, c.loop-k.invariant.count_is)
 
-pub add_lane-requires-clause-same : goal.add_lane-requires-clause-same
-add_lane-requires-clause-same c =
+pub add-requires-clause-wide : goal.add-requires-clause-wide
+add-requires-clause-wide c =
     let k = c.loop-k.k in
     let place = slice_index_or c.args.places.now k 0 in
-    let ceded = c.loop-k.ceded.items in
+    let ceded = c.loop-k.ceded in
     let inside : place < length ceded = omega (arith, c.requires.within k 0 c.loop-k-test.true, c.loop-k.invariant.count_is) in
-    let before = c.index_mut.result.now in
-    let read = get_or_read ceded place before inside c.index_mut.ensures.value before in
-    lane-wide c.args.width c.args.places.now c.args.table.now c.requires.shares k c.loop-k-test.true ceded c.loop-k.invariant place refl before read c.shares.result.now c.shares.ensures.value inside
+    let before = slice_index_or ceded place [] in
+    subst (λ n. AreWide n ceded) (sym (lane-wide c.args.width c.args.places.now c.args.table.now c.requires.shares k c.loop-k-test.true ceded c.loop-k.invariant place refl before (get_or_default ceded place [] before inside) c.shares.result.now c.shares.ensures.value inside ∙ before-wide c.args.width c.args.places.now c.args.table.now c.requires.shares k c.loop-k-test.true ceded c.loop-k.invariant place refl before (get_or_default ceded place [] before inside) c.shares.result.now c.shares.ensures.value inside)) c.loop-k.invariant.wide
 
-pub add_lane-requires-clause-few : goal.add_lane-requires-clause-few
-add_lane-requires-clause-few c =
+pub add-requires-clause-few : goal.add-requires-clause-few
+add-requires-clause-few c =
     let k = c.loop-k.k in
     let place = slice_index_or c.args.places.now k 0 in
-    let ceded = c.loop-k.ceded.items in
+    let ceded = c.loop-k.ceded in
     let inside : place < length ceded = omega (arith, c.requires.within k 0 c.loop-k-test.true, c.loop-k.invariant.count_is) in
-    let before = c.index_mut.result.now in
-    let read = get_or_read ceded place before inside c.index_mut.ensures.value before in
-    lane-fits c.args.width c.args.places.now c.args.table.now c.requires.shares k c.loop-k-test.true ceded c.loop-k.invariant place refl before read c.shares.result.now c.shares.ensures.value inside
+    let before = slice_index_or ceded place [] in
+    λ row less. lane-fits c.args.width c.args.places.now c.args.table.now c.requires.shares k c.loop-k-test.true ceded c.loop-k.invariant place refl before (get_or_default ceded place [] before inside) c.shares.result.now c.shares.ensures.value inside row (subst (λ n. row < n) (lane-wide c.args.width c.args.places.now c.args.table.now c.requires.shares k c.loop-k-test.true ceded c.loop-k.invariant place refl before (get_or_default ceded place [] before inside) c.shares.result.now c.shares.ensures.value inside) less)
 
 pub loop-k-preserved : goal.loop-k-preserved
 loop-k-preserved c =
     let k = c.loop-k.k in
     let place = slice_index_or c.args.places.now k 0 in
-    let ceded = c.loop-k.ceded.items in
+    let ceded = c.loop-k.ceded in
     let inside : place < length ceded = omega (arith, c.requires.within k 0 c.loop-k-test.true, c.loop-k.invariant.count_is) in
-    let before = c.index_mut.result.now in
-    let read = get_or_read ceded place before inside c.index_mut.ensures.value before in
-    lane-more c.args.width c.args.places.now c.args.table.now c.requires.shares k c.loop-k-test.true ceded c.loop-k.invariant place refl before read c.shares.result.now c.shares.ensures.value inside c.add_lane.new.lane c.add_lane.ensures.value _ refl
+    let before = slice_index_or ceded place [] in
+    let added = c.add.ensures.value in
+    lane-more c.args.width c.args.places.now c.args.table.now c.requires.shares k c.loop-k-test.true ceded c.loop-k.invariant place refl before (get_or_default ceded place [] before inside) c.shares.result.now c.shares.ensures.value inside added.lane
+    (subst (λ n. IsLane n (λ row. slice_index before row + slice_index c.shares.result.now row) added.lane) (lane-wide c.args.width c.args.places.now c.args.table.now c.requires.shares k c.loop-k-test.true ceded c.loop-k.invariant place refl before (get_or_default ceded place [] before inside) c.shares.result.now c.shares.ensures.value inside) added.lane_is) c.add.new.self added.now_is

@@ -21,8 +21,8 @@ ceded_lanes-requires-clause-shares g c =
 pub returns-clause-rows : goal.returns-clause-rows
 returns-clause-rows g c =
     let kept = c.is_ceding.ensures.tree in
-    run-rows kept.tree c.args.stage.now kept.is c.is_ceding.ensures.few c.ids.result.now c.ids.ensures.value c.places.result.now c.places.ensures.places c.args.rule c.args.samples c.requires.rule (map g.T.RunEntry.entry_of c.args.records.now) c.requires.within c.in_ok-table.table (c.in_ok-table.ensures.value kept.tree kept.is) c.in_ok-ceded.ceded.items c.in_ok-ceded.ensures.value
+    run-rows kept.tree c.args.stage.now kept.is c.is_ceding.ensures.few c.ids.result.now c.ids.ensures.value c.places.result.now c.places.ensures.places c.args.rule c.args.samples c.requires.rule (map g.T.RunEntry.entry_of c.args.records.now) c.requires.within c.in_ok-table.table (c.in_ok-table.ensures.value kept.tree kept.is) c.in_ok-ceded.ceded c.in_ok-ceded.ensures.value
 
 pub returns-clause-value : goal.returns-clause-value
 returns-clause-value g c = λ tree is.
-    run-ceded tree c.args.stage.now is c.is_ceding.ensures.few c.ids.result.now c.ids.ensures.value c.places.result.now c.places.ensures.places c.args.rule c.args.samples c.requires.rule (map g.T.RunEntry.entry_of c.args.records.now) c.requires.within c.in_ok-table.table (c.in_ok-table.ensures.value tree is) c.in_ok-ceded.ceded.items c.in_ok-ceded.ensures.value
+    run-ceded tree c.args.stage.now is c.is_ceding.ensures.few c.ids.result.now c.ids.ensures.value c.places.result.now c.places.ensures.places c.args.rule c.args.samples c.requires.rule (map g.T.RunEntry.entry_of c.args.records.now) c.requires.within c.in_ok-table.table (c.in_ok-table.ensures.value tree is) c.in_ok-ceded.ceded c.in_ok-ceded.ensures.value

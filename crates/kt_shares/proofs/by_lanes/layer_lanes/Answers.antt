@@ -8,7 +8,7 @@ use Rattle.kt_shares.proofs.ByLanesLemmas.{layers-start}
 use Rattle.kt_shares.proofs.by_lanes.layer_lanes.Goals as goal
 
 pub loop-one-init : goal.loop-one-init
-loop-one-init c = layers-start c.args.programme.now c.args.lanes.now c.args.climbed.now.width c.args.rule _ c.new.ensures.items c.new-2.ensures.items
+loop-one-init c = layers-start c.args.programme.now c.args.lanes.now c.args.climbed.now.width c.args.rule _ c.new.ensures.value c.new-2.ensures.value
 
 pub push_layer-requires-clause-layer : goal.push_layer-requires-clause-layer
 push_layer-requires-clause-layer c = All-from_recursion (IsTopLayer c.args.programme.now) c.args.layers.now c.requires.layers c.loop-one.one-index _ c.loop-one-test.true

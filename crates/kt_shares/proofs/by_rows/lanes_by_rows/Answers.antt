@@ -1,6 +1,6 @@
 use Rattle.std.proofs.Common.{◌∙◌, List, Vec, Global, ℕ, length, ap, sym, subst, arith}
-use Rattle.kt_lanes.specs.Lanes.{AreLanes, AreWide}
-use Rattle.kt_shares.specs.ByLanes.{row_in}
+use Rattle.kt_lanes.specs.Lanes.{AreLanes}
+use Rattle.kt_shares.specs.ByLanes.{AreLong, row_in}
 use Rattle.kt_shares.proofs.ByRowsLemmas.{policies-wide, rows-turned, shares-wide}
 use Rattle.kt_shares.proofs.by_rows.lanes_by_rows.Goals as goal
 
@@ -12,20 +12,20 @@ turned-requires c =
     let same = c.first_len.ensures.value ∙ ap (λ rows. length (row_in rows 0)) c.deref.ensures.value in
     record {
       wide =
-          subst (λ n. AreWide n c.deref-2.result.now) (sym same)
-          (subst (AreWide _) (sym c.deref-2.ensures.value) (shares-wide c.args.programme.now c.args.lanes.now c.args.rule c.args.layers.now c.args.width c.requires.lanes.some c.in_ok-rows.rows c.in_ok-rows.ensures.value c.is_of_a_tree.ensures.kept));
+          subst (λ n. AreLong n c.deref-2.result.now) (sym same)
+          (subst (AreLong _) (sym c.deref-2.ensures.value) (shares-wide c.args.programme.now c.args.lanes.now c.args.rule c.args.layers.now c.args.width c.requires.lanes.some c.in_ok-rows.rows c.in_ok-rows.ensures.value c.is_of_a_tree.ensures.kept));
     }
 
 pub turned-requires-2 : goal.turned-requires-2
 turned-requires-2 c = record {
   wide =
-      subst (AreWide _) (sym c.deref-3.ensures.value) (policies-wide c.args.programme.now c.args.lanes.now c.args.rule c.args.layers.now c.args.width c.requires.lanes.some c.in_ok-rows.rows c.in_ok-rows.ensures.value c.is_of_a_tree.ensures.kept);
+      subst (AreLong _) (sym c.deref-3.ensures.value) (policies-wide c.args.programme.now c.args.lanes.now c.args.rule c.args.layers.now c.args.width c.requires.lanes.some c.in_ok-rows.rows c.in_ok-rows.ensures.value c.is_of_a_tree.ensures.kept);
 }
 
 pub returns : goal.returns
 returns c =
-    let shares = c.in_ok-shares.shares.items in
-    let policies = c.in_ok-policies.policies.items in
+    let shares = c.in_ok-shares.shares in
+    let policies = c.in_ok-policies.policies in
     record {
       value =
           rows-turned c.args.programme.now c.args.lanes.now c.args.rule c.args.layers.now c.args.width c.requires.lanes.some c.in_ok-rows.rows c.in_ok-rows.ensures.value _ _ _

@@ -1,4 +1,4 @@
-use Rattle.std.proofs.Common.{◌∙◌, List, Vec, Global, ℕ, length, slice_index, ap, subst, arith}
+use Rattle.std.proofs.Common.{◌∙◌, List, ℕ, length, slice_index, ap, subst, arith}
 use Rattle.std.specs.List.{sum}
 use Rattle.std.proofs.lemmas.List.{length-map}
 use Rattle.kt_fmtree.specs.Carried.{AreCarried, loss_by}
@@ -10,7 +10,7 @@ column_of-requires c = λ k d below. let wide = c.requires.lanes.wide k d below 
 
 pub carry-requires-clause-losses : goal.carry-requires-clause-losses
 carry-requires-clause-losses c =
-    ap length (c.deref.ensures.value ∙ c.in_ok-losses.ensures.value) ∙ (length-map c.args.lanes.now (λ (lane : Vec ℕ Global). slice_index lane.items c.args.at) ∙ c.requires.lanes.count_is)
+    ap length (c.deref.ensures.value ∙ c.in_ok-losses.ensures.value) ∙ (length-map c.args.lanes.now (λ (lane : List ℕ). slice_index lane c.args.at) ∙ c.requires.lanes.count_is)
 
 pub carry-requires-clause-few : goal.carry-requires-clause-few
 carry-requires-clause-few c = omega (arith, ap sum (c.deref.ensures.value ∙ c.in_ok-losses.ensures.value), c.requires.lanes.few c.args.at c.requires.at)

@@ -1,22 +1,30 @@
-use Rattle.std.proofs.Common.{◌≡◌, List, Vec, Global, ℕ, length, take, sym, subst, arith}
+use Rattle.std.proofs.Common.{◌≡◌, ◌∙◌, Vec, Global, ℕ, length, slice_index, take, ap, sym, subst, arith, rules, vec_len}
+use Rattle.std.specs.Vec.{with_items}
+use Rattle.std.proofs.lemmas.List.{length-map, with_items_is}
 use Rattle.kt_lanes.specs.Lanes.{AreLanes}
 use Rattle.kt_shares.specs.ByLanes.{row_in}
-use Rattle.kt_shares.proofs.ByRowsLemmas.{turned-end, turned-more, turned-start}
+use Rattle.kt_shares.proofs.ByRowsLemmas.{turned-end, turned-more}
 use Rattle.kt_shares.proofs.by_rows.turned.Goals as goal
-
-pub loop-place-init : goal.loop-place-init
-loop-place-init c = subst (λ (lanes : List (Vec ℕ Global)). AreLanes (length c.args.rows.now) 0 (λ k. take 0 (row_in c.args.rows.now k)) lanes) (sym c.in_ok-lanes.ensures.items) (turned-start c.args.count c.args.rows.now c.requires.wide)
-
-pub column_of-requires : goal.column_of-requires
-column_of-requires c = λ k d below. let wide = c.requires.wide k d below in omega (arith, wide, c.loop-place-test.true)
 
 pub loop-place-preserved : goal.loop-place-preserved
 loop-place-preserved c =
-    turned-more c.args.count c.args.rows.now c.requires.wide c.loop-place.place c.loop-place-test.true c.loop-place.lanes.items c.push.new.self.items c.in_ok-column_of.field-0 c.loop-place.invariant c.in_ok-column_of.ensures.value c.in_ok-push.ensures.items
+    let rows = c.args.rows.now in
+    let place = c.loop-place.place in
+    let room = c.loop-place.lane in
+    let taken = c.take_amounts.new.lane in
+    let all : vec_len room ≡ length room.items = search rules in
+    let long : length taken ≡ length rows = ap length c.take_amounts.ensures.value ∙ length-map rows (λ (row : Vec ℕ Global). slice_index row.items place) in
+    let kept : (with_items room taken).items ≡ taken = with_items_is room taken (long ∙ (sym c.loop-place.invariant.lane ∙ sym all)) in
+    record {
+      lane = ap length kept ∙ long;
+      lanes =
+          turned-more c.args.count rows c.requires.wide place c.loop-place-test.true c.loop-place.lanes c.push.new.self c.deref.result.now c.loop-place.invariant.lanes
+          (c.deref.ensures.value ∙ (kept ∙ c.take_amounts.ensures.value)) c.in_ok-push.ensures.ok;
+    }
 
 pub returns : goal.returns
 returns c =
     let end : c.loop-place.place ≡ c.args.count = omega (arith, c.loop-place-test.false, c.loop-place.auto.place-end) in
     record {
-      value = turned-end c.args.count c.args.rows.now c.requires.wide c.loop-place.lanes.items (subst (λ n. AreLanes (length c.args.rows.now) n (λ k. take n (row_in c.args.rows.now k)) c.loop-place.lanes.items) end c.loop-place.invariant);
+      value = turned-end c.args.count c.args.rows.now c.requires.wide c.loop-place.lanes (subst (λ n. AreLanes (length c.args.rows.now) n (λ k. take n (row_in c.args.rows.now k)) c.loop-place.lanes) end c.loop-place.invariant.lanes);
     }

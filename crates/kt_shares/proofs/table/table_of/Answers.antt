@@ -1,4 +1,4 @@
-use Rattle.std.proofs.Common.{List, Vec, Global, ℕ, map, sym, subst}
+use Rattle.std.proofs.Common.{List, ℕ, map, subst}
 use Rattle.kt_shares.specs.Taken.{AreIdLanes}
 use Rattle.kt_shares.proofs.IdLemmas.{ids-losses}
 use Rattle.kt_shares.proofs.TableLemmas.{table-are}
@@ -9,16 +9,14 @@ lanes_of-requires-clause-lanes g c =
     let records = map g.T.RunEntry.entry_of c.args.records.now in
     let parts = c.args.programme.now in
     let kept = c.is_of_a_tree.ensures.kept in
-    let by_ids = subst (λ (ids : List ℕ). AreIdLanes ids c.args.samples records c.in_ok-lanes.lanes.items) c.ids.ensures.value c.in_ok-lanes.ensures.value in
-    let are = subst (λ (lanes : List (Vec ℕ Global)). AreIdLanes parts.ids c.args.samples records lanes) (sym c.deref.ensures.value) by_ids in
-    ids-losses kept.tree parts kept.is c.args.samples records c.deref.result.now are c.requires.within
+    let by_ids = subst (λ (ids : List ℕ). AreIdLanes ids c.args.samples records c.in_ok-lanes.lanes) c.ids.ensures.value c.in_ok-lanes.ensures.value in
+    ids-losses kept.tree parts kept.is c.args.samples records c.in_ok-lanes.lanes by_ids c.requires.within
 
 pub returns : goal.returns
 returns g c = record {
   value = λ tree is.
       let records = map g.T.RunEntry.entry_of c.args.records.now in
       let parts = c.args.programme.now in
-      let by_ids = subst (λ (ids : List ℕ). AreIdLanes ids c.args.samples records c.in_ok-lanes.lanes.items) c.ids.ensures.value c.in_ok-lanes.ensures.value in
-      let are = subst (λ (lanes : List (Vec ℕ Global)). AreIdLanes parts.ids c.args.samples records lanes) (sym c.deref.ensures.value) by_ids in
-      table-are tree parts is c.args.samples records c.deref.result.now are c.args.rule c.args.layers.now c.in_ok-made.made c.in_ok-made.ensures.value;
+      let by_ids = subst (λ (ids : List ℕ). AreIdLanes ids c.args.samples records c.in_ok-lanes.lanes) c.ids.ensures.value c.in_ok-lanes.ensures.value in
+      table-are tree parts is c.args.samples records c.in_ok-lanes.lanes by_ids c.args.rule c.args.layers.now c.in_ok-made.made c.in_ok-made.ensures.value;
 }

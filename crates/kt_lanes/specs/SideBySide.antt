@@ -1,0 +1,21 @@
+-- Lanes that stand one behind the other in one list.
+-- The rules: docs/FINANCIAL_MODULE.md, "Levels".
+use Rattle.std.specs.Prelude.{◌≡◌, ℕ, zero, suc, ◌+◌, List, [], ◌∷◌, ◌++◌, length, take, drop, slice_index, slice_index_or, slice_set}
+use Rattle.kt_lanes.specs.Lanes.{AreLanes, IsLane}
+
+-- the first so many lanes of a list, each of so many amounts
+abbrev pub cut : ℕ → ℕ → List ℕ → List (List ℕ)
+cut width zero amounts = []
+cut width (suc count) amounts = take width amounts ∷ cut width count (drop width amounts)
+
+-- the amounts of a lane were added to those of the one in a place
+pub record IsAdded (place : ℕ) (more : List ℕ) (before now : List (List ℕ)) : Type 0 where
+  pub lane : List ℕ
+  pub lane_is : IsLane (length more) (λ k. slice_index (slice_index_or before place []) k + slice_index more k) lane
+  pub now_is : now ≡ slice_set before place lane
+
+-- lanes of so many amounts of units stand behind others
+pub record AreBehind (width count : ℕ) (amounts : ℕ → List ℕ) (before now : List (List ℕ)) : Type 0 where
+  pub more : List (List ℕ)
+  pub more_are : AreLanes width count amounts more
+  pub now_is : now ≡ before ++ more

@@ -1,0 +1,144 @@
+//! Lanes side by side: what each unit has sidx by sidx, one unit behind the other.
+//! The rules: docs/FINANCIAL_MODULE.md, "Levels".
+ghost use Rattle.std.specs.Prelude.{◌≡◌, ℕ, ◌+◌, ◌*◌, ◌<◌, ◌^◌, [], ◌∷◌, ◌++◌, length, replicate, slice_index, slice_index_or, IfOk, OnErr, OnOk};
+ghost use Rattle.kt_lanes.specs.Lanes.{AreLanes, AreWide};
+ghost use Rattle.kt_lanes.specs.SideBySide.{IsAdded};
+
+use crate::lane::add_to;
+use kt_alloc::zeros;
+use std::alloc::{AllocError, Global};
+use std::marker::Model;
+
+/// The amounts of units in cents, a lane each: what a unit has sidx by sidx. All lanes are as wide. Contracts see the list of the
+/// lanes; kept are the amounts of all, one lane behind the other.
+#[derive(Drop)]
+pub struct Lanes {
+    width: usize,
+    count: usize,
+    amounts: Vec<u64>,
+}
+
+impl Model for Lanes {
+    ghost use Rattle.std.specs.Prelude.{◌≡◌, ◌*◌, ℕ, List, length};
+    ghost use Rattle.kt_lanes.specs.SideBySide.{cut};
+
+    ghost Value = { List (List ℕ) };
+
+    ghost view = { λ kept. cut kept.width kept.count kept.amounts.items };
+
+    ghost invariant = { λ kept. length kept.amounts.items ≡ kept.width * kept.count };
+}
+
+/// How many amounts so many lanes have, or want of memory.
+fn size_of(count: usize, width: usize) -> Result<usize, AllocError>
+    ensures value { IfOk result (λ size. size ≡ width * count) }
+{
+    match width.checked_mul(count) {
+        Some(size) => Ok(size),
+        None => Err(AllocError),
+    }
+}
+
+impl Lanes {
+    /// No lanes.
+    pub fn new(alloc: Global) -> Lanes
+        ensures value { result ≡ [] }
+    {
+        Lanes {
+            width: 0,
+            count: 0,
+            amounts: Vec::new(alloc),
+        }
+    }
+
+    /// No lanes, with room for so many of a width. An error is want of memory.
+    pub fn with_room(alloc: Global, count: usize, width: usize) -> Result<Lanes, AllocError>
+        ensures value { IfOk result (λ lanes. lanes ≡ []) }
+    {
+        let size = size_of(count, width)?;
+        let amounts = Vec::with_capacity(alloc, size)?;
+        Ok(Lanes {
+            width,
+            count: 0,
+            amounts,
+        })
+    }
+
+    /// So many lanes of a width without an amount. An error is want of memory.
+    pub fn zeros(alloc: Global, count: usize, width: usize) -> Result<Lanes, AllocError>
+        ensures value { IfOk result (λ lanes. AreLanes width count (λ k. replicate count 0) lanes) }
+    {
+        let size = size_of(count, width)?;
+        let amounts = zeros(alloc, size)?;
+        Ok(Lanes {
+            width,
+            count,
+            amounts,
+        })
+    }
+
+    /// How many lanes there are.
+    pub fn len(&self) -> usize
+        ensures value { result ≡ length self.now }
+    {
+        self.count
+    }
+
+    /// The lane in a place.
+    pub fn lane(&self, place: usize) -> &[u64]
+        requires place { place < length self.now }
+        ensures value { result.now ≡ slice_index_or self.now place result.now }
+    {
+        let start = self.width * place;
+        &self.amounts[start..start + self.width]
+    }
+
+    /// Puts a lane behind the others. An error is want of memory, and nothing changes then.
+    pub fn push(&mut self, lane: &[u64]) -> Result<(), AllocError>
+        requires wide { AreWide (length lane.now) self.old }
+        ensures ok { OnOk result (self.new ≡ self.old ++ lane.now ∷ []) }
+        ensures unchanged { OnErr result (self.new ≡ self.old) }
+    {
+        let count = more_of(self.count, 1)?;
+        self.amounts.extend_from_slice(lane)?;
+        self.width = lane.len();
+        self.count = count;
+        Ok(())
+    }
+
+    /// Puts lanes of the same width behind the others. An error is want of memory, and nothing changes then.
+    pub fn append(&mut self, width: usize, more: &Lanes) -> Result<(), AllocError>
+        requires wide { AreWide width self.old }
+        requires more { AreWide width more.now }
+        ensures ok { OnOk result (self.new ≡ self.old ++ more.now) }
+        ensures unchanged { OnErr result (self.new ≡ self.old) }
+    {
+        let count = more_of(self.count, more.count)?;
+        self.amounts.extend_from_slice(&more.amounts)?;
+        self.width = width;
+        self.count = count;
+        Ok(())
+    }
+
+    /// Adds the amounts of a lane in cents to those of the lane in a place.
+    pub fn add(&mut self, place: usize, more: &[u64])
+        requires place { place < length self.old }
+        requires wide { AreWide (length more.now) self.old }
+        requires few { (k : ℕ) → k < length more.now → slice_index (slice_index_or self.old place []) k + slice_index more.now k < 2 ^ 64 }
+        ensures value { IsAdded place more.now self.old self.new }
+    {
+        let start = self.width * place;
+        let end = start + self.width;
+        add_to(&mut self.amounts[start..end], more);
+    }
+}
+
+/// The sum of two numbers of lanes, or want of memory.
+fn more_of(count: usize, more: usize) -> Result<usize, AllocError>
+    ensures value { IfOk result (λ all. all ≡ count + more) }
+{
+    match count.checked_add(more) {
+        Some(all) => Ok(all),
+        None => Err(AllocError),
+    }
+}
