@@ -15,7 +15,6 @@ ghost use Rattle.kt_loop.specs.Running.{stream_uses};
 use crate::stops::load_stop;
 use kt_ends::{Refusal, ToolStop};
 use kt_load::foot_rows;
-use kt_loop::laws::what_is_read_can_be_taken;
 use kt_loop::{Stage, run_stage};
 use kt_model::{ModelStop, Scratch, put_distributions};
 use kt_money::Bytes;
@@ -62,14 +61,9 @@ struct Distributions<'a> {
     scratch: Scratch,
 }
 
-impl<'a, I: Inputs> Stage<Head, EventId, I> for Distributions<'a> {
+impl<'a, I: Inputs> Stage<EventId, I> for Distributions<'a> {
     ghost use Rattle.std.specs.Prelude.{◌≡◌};
-    ghost use Rattle.kt_stream.specs.EventIds.{event_form, event_shape};
-    ghost use Rattle.kt_stream.specs.Header.{IsHead};
-    ghost use Rattle.kt_stream.specs.Pairs.{IsId};
-    ghost use Rattle.kt_stream.specs.Reader.{IsPlaced};
-    ghost use Rattle.kt_stream.specs.declared.event_id.EventId.{EventId};
-    ghost use Rattle.kt_stream.specs.declared.kind.StreamKind.TheVariants.{Events};
+    ghost use Rattle.kt_stream.specs.EventIds.{event_shape};
     ghost use Rattle.kt_front.specs.ModelOutcome.{ModelTables, model_calculation};
     ghost use Rattle.kt_front.specs.ModelStage.{IsModelReady, HoldsFootprint};
 
@@ -81,11 +75,7 @@ impl<'a, I: Inputs> Stage<Head, EventId, I> for Distributions<'a> {
 
     ghost is_ready = { λ _ stage inputs. IsModelReady stage.portfolio.now (I.state inputs).held };
 
-    ghost accepts = { IsHead Events };
-
     ghost shape = { λ _. event_shape };
-
-    ghost is_good = { IsPlaced EventId event_form (λ shape samples entry. IsId entry.event) };
 
     ghost inputs = { λ _ inputs. I.state inputs };
 
@@ -133,7 +123,6 @@ pub fn write_distributions<I: Inputs, S: Source, K: Sink>(
     // The output files are none of its objects.
     ensures { (outputs : OutputsState) → ToolEnds (stream_uses true) (λ files bytes. model_outcome files portfolio.now.rows bytes) (world (I.state inputs.old) outputs (S.state source.old) (K.state sink.old)) (world (I.state inputs.new) outputs (S.state source.new) (K.state sink.new)) (end_status result) }
 {
-    what_is_read_can_be_taken::<EventId>();
     let mut reader = EventReader::new(alloc);
     let mut stage = Distributions {
         alloc,

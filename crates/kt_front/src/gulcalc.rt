@@ -9,7 +9,7 @@ ghost use Rattle.kt_loop.specs.Running.{stream_uses};
 
 use kt_ends::ToolStop;
 use kt_gul::put_ground_up;
-use kt_loop::laws::{runs_give_their_text, what_is_read_can_be_taken};
+use kt_loop::laws::runs_give_their_text;
 use kt_loop::{RunStage, run_by_run};
 use kt_money::Bytes;
 use kt_out::{Sink, Source};
@@ -26,13 +26,9 @@ struct GroundUp<'a> {
     cut: bool,
 }
 
-impl<'a> RunStage<Head, Cdf, ()> for GroundUp<'a> {
+impl<'a> RunStage<Cdf, ()> for GroundUp<'a> {
     ghost use Rattle.std.specs.Prelude.{◌≡◌, ◌≤◌, length, true};
-    ghost use Rattle.kt_stream.specs.Bins.{IsCdf, cdf_form, cdf_shape};
-    ghost use Rattle.kt_stream.specs.Header.{IsHead};
-    ghost use Rattle.kt_stream.specs.Reader.{IsPlaced};
-    ghost use Rattle.kt_stream.specs.declared.entry.Cdf.{Cdf};
-    ghost use Rattle.kt_stream.specs.declared.kind.StreamKind.TheVariants as kind;
+    ghost use Rattle.kt_stream.specs.Bins.{cdf_shape};
     ghost use Rattle.kt_keys.specs.Refusals.{is_loaded};
     ghost use Rattle.kt_rec.specs.declared.table.Table.TheVariants as table;
     ghost use Rattle.kt_front.specs.GulOutcome.{GulMade, made_runs};
@@ -45,11 +41,7 @@ impl<'a> RunStage<Head, Cdf, ()> for GroundUp<'a> {
 
     ghost is_ready = { λ _ _ stage _. (1 ≤ stage.samples) × (stage.samples ≤ 1000) × (is_loaded stage.portfolio.now.need 0 table.Random ≡ true) };
 
-    ghost accepts = { IsHead kind.Cdf };
-
     ghost shape = { λ stage. cdf_shape (length stage.portfolio.now.rows.damage_bin_dict) };
-
-    ghost is_good = { IsPlaced Cdf cdf_form (λ shape samples cdf. IsCdf shape.bins cdf) };
 
     ghost inputs = { λ others _. others };
 
@@ -122,7 +114,6 @@ pub fn write_ground_up<S: Source, K: Sink>(
     portfolio.keeps_damage();
     runs_give_their_text::<Head, Cdf, (u32, bool)>();
     runs_give_their_text::<Head, Cdf, ((u32, bool), Portfolio)>();
-    what_is_read_can_be_taken::<Cdf>();
     let mut reader = CdfReader::new(alloc, bin_count(portfolio));
     let stage = GroundUp {
         alloc,

@@ -18,7 +18,7 @@ use Rattle.kt_stream.specs.declared.kind.Shape.{Shape}
 use Rattle.kt_stream.specs.declared.kind.StreamKind.{StreamKind}
 use Rattle.kt_stream.specs.declared.stop.StreamStop.{StreamStop}
 use Rattle.kt_stream.specs.Growth.{GrowsTo}
-use Rattle.kt_stream.specs.Reader.{AdvancesOne, AdvancesToRest, AdvancesToStop, Reading, Represents, Ends, held, held_by, refused, stream_from}
+use Rattle.kt_stream.specs.Reader.{Reading, Represents, Ends, held, held_by, refused, stream_from}
 use Rattle.kt_stream.specs.Stream.{Form, Stream, stream_of, fault_of, fault_at}
 use Rattle.kt_ends.specs.Ending.{Counted, IsFront, GainedFront}
 use Rattle.kt_ends.specs.Outcome.{Outcome}
@@ -32,10 +32,11 @@ use Rattle.kt_ends.specs.declared.tool_stop.ToolStop.{ToolStop}
 use Rattle.kt_ends.specs.declared.tool_stop.ToolStop.TheVariants as stop
 use Rattle.kt_loop.specs.InputFile.{IsSized, file_bytes, left_from}
 use Rattle.kt_loop.specs.Outcome.{gives}
-use Rattle.kt_loop.specs.RecordStreams.{contents_of}
+use Rattle.kt_loop.specs.Reading.{ReadsAll}
+use Rattle.kt_loop.specs.RecordStreams.{contents_of, records_text}
 use Rattle.kt_loop.specs.Settling.{IsEnd}
-use Rattle.kt_kat.specs.Copied.{Agrees, Copies, CopiesRecords, HasGained, IsCopied, Opens, OpensFile, ReadsAll, StopsIn, Written, copied_text}
-use Rattle.kt_kat.specs.Joining.{differs, file_status, heading_of, joined, joined_by, records_text}
+use Rattle.kt_kat.specs.Copied.{Agrees, Copies, CopiesRecords, HasGained, IsCopied, Opens, OpensFile, StopsIn, Written, copied_text}
+use Rattle.kt_kat.specs.Joining.{differs, file_status, heading_of, joined, joined_by}
 use Rattle.kt_kat.specs.Stops.{unread_stop}
 use Rattle.kt_kat.proofs.Copying.{piece_is, taken_on}
 use Rattle.kt_kat.proofs.Ending.{counted_none}
@@ -76,63 +77,6 @@ none_by (Some why) entries = refl
 
 no_head_held : {E : Type 0} (form : Form E) (r : Reading E) → r.head ≡ None → held form r ≡ []
 no_head_held form r none = ap (λ (head : Option Head). held_by r.stop head (stream_from form r []).entries) none ∙ none_by r.stop (stream_from form r []).entries
-
--- ---- the records that a reader reads
-
--- these records were read of those that were still to be read
-pub record HasPassed {E : Type 0} (form : Form E) (old now : Reading E) : Type 0 where
-  pub done : List (Placed E)
-  pub shape : now.shape ≡ old.shape
-  pub head : now.head ≡ old.head
-  pub left : held form old ≡ done ++ held form now
-  pub passed : now.passed ≡ old.passed ++ records_text form done
-  pub stands : (bytes : List ℕ) (taken : List (Placed E)) → Represents E form bytes taken old → Represents E form bytes (taken ++ done) now
-
-module _ {E : Type 0} (form : Form E) (old : Reading E) where
-  pub passed_none : HasPassed form old old
-  passed_none = record { done = []; shape = refl; head = refl; left = refl; passed = sym (append-nil old.passed); stands = λ bytes taken stands. subst (λ (read : List (Placed E)). Represents E form bytes read old) (sym (append-nil taken)) stands }
-
-  module _ (now new : Reading E) (had : HasPassed form old now) where
-    pub passed_one : {Good : Shape → ℕ → E → Type 0} → AdvancesOne E form Good now new → HasPassed form old new
-    passed_one one =
-        let row : List (Placed E) = new.row ∷ [] in
-        record {
-          done = had.done ++ row;
-          shape = one.shape ∙ had.shape;
-          head = one.head ∙ had.head;
-          left = had.left ∙ ap (λ (later : List (Placed E)). had.done ++ later) one.first ∙ sym (append_assoc had.done row (held form new));
-          passed = one.passed ∙ ap (λ (xs : List ℕ). xs ++ form.bytes new.row.entry) had.passed ∙ append_assoc old.passed (records_text form had.done) (form.bytes new.row.entry)
-              ∙ ap (λ (xs : List ℕ). old.passed ++ xs) (ap (λ (xs : List ℕ). records_text form had.done ++ xs) (sym (append-nil (form.bytes new.row.entry))) ∙ sym (flat_map-append (λ (placed : Placed E). form.bytes placed.entry) had.done row));
-          stands = λ bytes taken stands. subst (λ (read : List (Placed E)). Represents E form bytes read new) (append_assoc taken had.done row) (one.stands bytes (taken ++ had.done) (had.stands bytes taken stands));
-        }
-
-    -- none is left
-    all_done : held form now ≡ [] → had.done ≡ held form old
-    all_done none = sym (had.left ∙ ap (λ (later : List (Placed E)). had.done ++ later) none ∙ append-nil had.done)
-
-    pub passed_rest : AdvancesToRest E form now new → ReadsAll form old None new
-    passed_rest rest =
-        let all = all_done rest.none in
-        record {
-          shape = rest.shape ∙ had.shape;
-          head = rest.head ∙ had.head;
-          passed = rest.passed ∙ had.passed ∙ ap (λ (read : List (Placed E)). old.passed ++ records_text form read) all;
-          stands = λ bytes taken stands. subst (λ (read : List (Placed E)). Represents E form bytes (taken ++ read) new) all (rest.stands bytes (taken ++ had.done) (had.stands bytes taken stands));
-          rests = rest.rests;
-          refuses = tt;
-        }
-
-    pub passed_stop : (why : StreamStop) → AdvancesToStop E form now why new → ReadsAll form old (Some why) new
-    passed_stop why ended =
-        let all = all_done ended.none in
-        record {
-          shape = ended.shape ∙ had.shape;
-          head = ended.head ∙ had.head;
-          passed = ended.passed ∙ had.passed ∙ ap (λ (read : List (Placed E)). old.passed ++ records_text form read) all;
-          stands = λ bytes taken stands. subst (λ (read : List (Placed E)). Represents E form bytes (taken ++ read) new) all (ended.stands bytes (taken ++ had.done) (had.stands bytes taken stands));
-          rests = ended.rests;
-          refuses = λ bytes taken stands more. ended.refuses bytes (taken ++ had.done) (had.stands bytes taken stands) more ∙ ap (λ (read : List (Placed E)). refused new.head (taken ++ read) why) all;
-        }
 
 -- ---- what a file gives
 
@@ -269,7 +213,7 @@ module _ {E : Type 0} (form : Form E) (shape : Shape) (first : Option Head) (num
       records_refused : (why : StreamStop) → ReadsAll form old (Some why) new → (more : List ℕ) → made (fed ++ more) ≡ gives (status.Refused (File number why)) (text old.head (taken ++ held form old))
       records_refused why reads more =
           let all : of_bytes (fed ++ more) ≡ refused old.head (taken ++ held form old) why = subst (λ (s : Shape). stream_of form s (fed ++ more) ≡ refused old.head (taken ++ held form old) why) (reads.shape ∙ opened.told)
-          (reads.refuses fed taken opened.stands more ∙ ap (λ (head : Option Head). refused head (taken ++ held form old) why) reads.head) in
+          (reads.by fed taken opened.stands more ∙ ap (λ (head : Option Head). refused head (taken ++ held form old) why) reads.head) in
           ap (λ (s : Stream E). joined_by form shape.kind first number s.head s.entries (fault_at (length (fed ++ more)) s.end)) all ∙ joined_is old.head (taken ++ held form old) (Some why) opened.agrees
 
       pub records_copied : (result : Result (Unit {0}) ToolStop) → CopiesRecords form number old sink sink_now new result → Copies form shape first number fed new before sink_now.taken result

@@ -7,16 +7,17 @@ use Rattle.kt_stream.specs.declared.kind.Head.{Head}
 use Rattle.kt_stream.specs.declared.kind.Shape.{Shape}
 use Rattle.kt_stream.specs.declared.kind.StreamKind.{StreamKind}
 use Rattle.kt_stream.specs.declared.stop.StreamStop.{StreamStop}
-use Rattle.kt_stream.specs.Reader.{Reading, Represents, IsRested, held, refused}
+use Rattle.kt_stream.specs.Reader.{Reading, Represents, held}
 use Rattle.kt_stream.specs.Stream.{Form, stream_of}
 use Rattle.kt_ends.specs.Stops.{stop_status}
 use Rattle.kt_ends.specs.declared.status.Refusal.{Refusal}
 use Rattle.kt_ends.specs.declared.status.Refusal.TheVariants.{File, HeaderDiffers}
 use Rattle.kt_ends.specs.declared.tool_stop.ToolStop.{ToolStop}
 use Rattle.kt_ends.specs.declared.tool_stop.ToolStop.TheVariants as stop
-use Rattle.kt_loop.specs.RecordStreams.{contents_of}
+use Rattle.kt_loop.specs.Reading.{ReadsAll}
+use Rattle.kt_loop.specs.RecordStreams.{contents_of, records_text}
 use Rattle.kt_loop.specs.Settling.{IsEnd}
-use Rattle.kt_kat.specs.Joining.{differs, heading_of, records_text, joined}
+use Rattle.kt_kat.specs.Joining.{differs, heading_of, joined}
 
 -- what is written of a file with these records: its header where it is the first, and the records
 abbrev pub copied_text : {E : Type 0} → Form E → StreamKind → Option Head → Option Head → List (Placed E) → List ℕ
@@ -68,20 +69,6 @@ abbrev pub OpensFile : {T : Type 0} → StreamKind → Option Head → ℕ → B
 OpensFile kind first number false (Some head) before after end = Opens kind first number head before after end
 OpensFile kind first number was head before after (Ok done) = after ≡ before
 OpensFile kind first number was head before after (Err why) = ⊥
-
--- what refuses the stream behind its records, if anything does
-abbrev pub RefusesBy : {E : Type 0} → Form E → Reading E → Option StreamStop → Reading E → Type 0
-RefusesBy form old None new = Unit {0}
-RefusesBy form old (Some why) new = (bytes : List ℕ) (taken : List (Placed _)) → Represents _ form bytes taken old → (more : List ℕ) → stream_of form new.shape (bytes ++ more) ≡ refused new.head (taken ++ held form old) why
-
--- all records were read that were still to be read
-pub record ReadsAll {E : Type 0} (form : Form E) (old : Reading E) (why : Option StreamStop) (new : Reading E) : Type 0 where
-  pub shape : new.shape ≡ old.shape
-  pub head : new.head ≡ old.head
-  pub passed : new.passed ≡ old.passed ++ records_text form (held form old)
-  pub stands : (bytes : List ℕ) (taken : List (Placed E)) → Represents E form bytes taken old → Represents E form bytes (taken ++ held form old) new
-  pub rests : IsRested E form new
-  pub refuses : RefusesBy form old why new
 
 -- the stream is refused behind its records, which are written
 pub record StopsBehind {E : Type 0} (form : Form E) (number : ℕ) (old : Reading E) (before after : SinkState) (refusal : Refusal) (new : Reading E) : Type 0 where

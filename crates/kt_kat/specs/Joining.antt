@@ -1,7 +1,6 @@
 -- One stream of the streams in several files.
 -- The rules: docs/COMMANDS.md, "kat".
 use Rattle.std.specs.Prelude.{ℕ, Bool, false, List, [], ◌++◌, Option, Some, None, not, ◌==◌, ◌&&◌, if◌then◌else◌}
-use Rattle.std.specs.List.{flat_map}
 use Rattle.kt_stream.specs.declared.entry.Placed.{Placed}
 use Rattle.kt_stream.specs.declared.kind.Head.{Head}
 use Rattle.kt_stream.specs.declared.kind.Shape.{Shape}
@@ -15,7 +14,7 @@ use Rattle.kt_ends.specs.declared.status.Status.{Status}
 use Rattle.kt_ends.specs.declared.status.Status.TheVariants.{Done, Refused}
 use Rattle.kt_loop.specs.Contents.{Contents}
 use Rattle.kt_loop.specs.Outcome.{gives}
-use Rattle.kt_loop.specs.RecordStreams.{contents_of}
+use Rattle.kt_loop.specs.RecordStreams.{contents_of, records_text}
 use Rattle.kt_kat.specs.Files.{file_by_file}
 
 -- two headers are the same
@@ -31,10 +30,6 @@ differs (Some first) head = not (same_head first head)
 abbrev pub heading_of : StreamKind → Option Head → Head → List ℕ
 heading_of kind None head = header_bytes kind head
 heading_of kind (Some first) head = []
-
--- the bytes of records
-abbrev pub records_text : {E : Type 0} → Form E → List (Placed E) → List ℕ
-records_text form entries = flat_map (λ placed. form.bytes placed.entry) entries
 
 -- the status of the file of this number, by the first fault of its stream, if any
 abbrev pub file_status : ℕ → Option StreamStop → Status

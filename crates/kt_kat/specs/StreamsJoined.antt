@@ -18,10 +18,10 @@ use Rattle.kt_ends.specs.declared.status.Status.TheVariants.{Done, Refused}
 use Rattle.kt_loop.specs.Contents.{Contents}
 use Rattle.kt_loop.specs.EventStreams.{ReadsBack, bytes_joined, contents_read, whole_contents}
 use Rattle.kt_loop.specs.Outcome.{gives}
-use Rattle.kt_loop.specs.RecordStreams.{contents_of}
+use Rattle.kt_loop.specs.RecordStreams.{contents_of, records_text}
 use Rattle.kt_kat.specs.FileKinds.{kind_of_files}
 use Rattle.kt_kat.specs.Files.{and_files, file_by_file, file_limit, files_of, found_file, one_then}
-use Rattle.kt_kat.specs.Joining.{joined, joined_files, or_head, records_text, same_head}
+use Rattle.kt_kat.specs.Joining.{joined, joined_files, or_head, same_head}
 use Rattle.kt_kat.specs.Outcome.{by_files, kat_outcome, together}
 use Rattle.kt_kat.specs.StreamFiles.{AreStreamFiles, IsStreamFile}
 

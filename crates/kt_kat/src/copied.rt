@@ -1,15 +1,16 @@
 //! The header and the records of a file that is a stream, written as they stand in it.
 //! The rules: docs/COMMANDS.md, "kat".
-ghost use Rattle.std.specs.Prelude.{◌≡◌, [], IfOk};
-ghost use Rattle.kt_kat.specs.Copied.{Written, Opens, ReadsAll, CopiesRecords};
+ghost use Rattle.std.specs.Prelude.{◌≡◌, []};
+ghost use Rattle.kt_kat.specs.Copied.{Written, Opens, CopiesRecords};
 ghost use Rattle.kt_kat.specs.Joining.{same_head};
 
 use crate::stops::file_stop;
 use kt_ends::{Refusal, ToolStop, write_stop};
+use kt_loop::read_records;
 use kt_money::Bytes;
 use kt_out::{Sink, write_all};
-use kt_stream::{Entry, Head, Next, RecordReader, StreamKind, StreamStop, put_head};
-use std::alloc::{AllocError, Global};
+use kt_stream::{Entry, Head, RecordReader, StreamKind, put_head};
+use std::alloc::Global;
 
 /// Writes a text.
 fn write<K: Sink>(sink: &mut K, text: &[u8]) -> Result<(), ToolStop>
@@ -48,19 +49,6 @@ pub(crate) fn open<K: Sink>(
         Ok(())
     } else {
         Err(ToolStop::Refused(Refusal::HeaderDiffers { file: number }))
-    }
-}
-
-/// Reads all whole records: what refuses the stream behind them, if anything does.
-fn read_records<E: Entry>(reader: &mut RecordReader<E>) -> Result<Option<StreamStop>, AllocError>
-    ensures { IfOk result (λ why. ReadsAll E.form reader.old why reader.new) }
-{
-    'records: loop {
-        match reader.advance()? {
-            Next::Record => {}
-            Next::Rest => return Ok(None),
-            Next::Stop(stop) => return Ok(Some(stop)),
-        }
     }
 }
 

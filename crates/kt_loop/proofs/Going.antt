@@ -3,7 +3,10 @@ use Rattle.std.proofs.Common.{◌≡◌, ℕ, ◌+◌, ◌≤◌, ◌<◌, ◌^�
 use Rattle.std.specs.Prelude.{IfSome}
 use Rattle.std.proofs.lemmas.List.{append_cancel_right, take-append-drop, take_at, length-take-le, length-append}
 use Rattle.kt_out.specs.Reading.{Gives, GivesKnown, SourceState}
-use Rattle.kt_stream.specs.declared.entry.Placed.{Placed}
+use Rattle.kt_stream.specs.declared.kind.Head.{Head}
+use Rattle.kt_stream.specs.declared.kind.Shape.{Shape}
+use Rattle.kt_stream.specs.Reader.{Reading}
+use Rattle.kt_stream.specs.Stream.{Form, fault_of}
 use Rattle.kt_stream.specs.declared.stop.StreamStop.{StreamStop}
 use Rattle.kt_stream.specs.declared.stop.StreamStop.TheVariants.{Cut}
 use Rattle.kt_ends.specs.Hiding.{HidesNone, IsUnrefused}
@@ -16,7 +19,8 @@ use Rattle.kt_loop.specs.Calculation.{Calculation, Course, started, course_of}
 use Rattle.kt_loop.specs.Contents.{Contents, Grows, IsOpenEnd, refused}
 use Rattle.kt_loop.specs.Given.{Given, GivenFront}
 use Rattle.kt_loop.specs.Outcome.{ended_by, outcome}
-use Rattle.kt_loop.specs.Reading.{GoesOn}
+use Rattle.kt_loop.specs.Reading.{GoesOn, StandsBehind}
+use Rattle.kt_loop.specs.RecordStreams.{course_over}
 use Rattle.kt_loop.specs.Settling.{IsSettled, Settles}
 use Rattle.kt_loop.specs.Steps.{Stands, Refuses, Comes}
 use Rattle.kt_loop.proofs.Giving.{given_none, given_front, front_longer}
@@ -69,33 +73,32 @@ pub nothing_left : (left next : Option (List ℕ)) (fed : List ℕ) → IfSome l
 nothing_left None next fed all = tt
 nothing_left (Some bytes) next fed all = all.1
 
--- What was read of the stream after so many turns, and where the calculation came by it, whatever the reader stands for.
-pub record Going {T H E S : Type 0} (calculation : Calculation H E S Refusal) (represents : (List ℕ → Contents H E) → List ℕ → List (Placed E) → T → Type 0) (fresh : (List ℕ → Contents H E) → Type 0) (stood stands : S → Type 0) (left left_now taken taken_now : Option (List ℕ)) (reader : T) (out : List ℕ) (turns : ℕ) : Type 0 where
+-- What was read of the stream after so many turns, and where the calculation came by it.
+pub record Going {E S : Type 0} (calculation : Calculation Head E S Refusal) (form : Form E) (shape : Shape) (stood stands : S → Type 0) (left left_now taken taken_now : Option (List ℕ)) (reader : Reading E) (out : List ℕ) (turns : ℕ) : Type 0 where
   pub fed : List ℕ
-  pub represented : (contents : List ℕ → Contents H E) → fresh contents → represents contents fed (contents fed).entries reader
+  pub behind : StandsBehind E form shape fed reader
   pub read : HasRead left left_now fed
   pub turned : turns ≤ length fed
   pub within : length fed ≤ 2 ^ 40
-  pub unrefused : (contents : List ℕ → Contents H E) → fresh contents → (fed ≡ []) ⊎ IsOpenEnd (contents fed).fault
-  pub course : (contents : List ℕ → Contents H E) (start : S) → fresh contents → stood start → Stands stands taken taken_now out (course_of calculation start (contents fed).head (contents fed).entries)
+  pub unrefused : (fed ≡ []) ⊎ IsOpenEnd (fault_of form shape fed)
+  pub course : (start : S) → stood start → Stands stands taken taken_now out (course_over calculation form shape start fed)
 
-module _ {T H E S : Type 0} (calculation : Calculation H E S Refusal) (represents : (List ℕ → Contents H E) → List ℕ → List (Placed E) → T → Type 0) (fresh : (List ℕ → Contents H E) → Type 0) (stood stands : S → Type 0) (left left_now taken taken_now : Option (List ℕ)) (reader : T) (out : List ℕ) where
-  pub going_first : ((contents : List ℕ → Contents H E) → fresh contents → represents contents [] (contents []).entries reader)
-      → ((contents : List ℕ → Contents H E) (start : S) → fresh contents → stood start → Stands stands taken taken_now out (course_of calculation start (contents []).head (contents []).entries)) → Going calculation represents fresh stood stands left left taken taken_now reader out 0
-  going_first represented course = record { fed = []; represented = represented; read = read_none left; turned = omega arith; within = omega arith; unrefused = λ contents is_so. inl refl; course = course }
+module _ {E S : Type 0} (calculation : Calculation Head E S Refusal) (form : Form E) (shape : Shape) (stood stands : S → Type 0) (left left_now taken taken_now : Option (List ℕ)) (reader : Reading E) (out : List ℕ) where
+  pub going_first : StandsBehind E form shape [] reader → ((start : S) → stood start → Stands stands taken taken_now out (course_over calculation form shape start [])) → Going calculation form shape stood stands left left taken taken_now reader out 0
+  going_first behind course = record { fed = []; behind = behind; read = read_none left; turned = omega arith; within = omega arith; unrefused = inl refl; course = course }
 
-  pub going_more : (stands_next : S → Type 0) (left_next taken_next : Option (List ℕ)) (next : T) (out_next : List ℕ) (turns : ℕ) (room filled piece : List ℕ) (n : ℕ)
-      → (going : Going calculation represents fresh stood stands left left_now taken taken_now reader out turns) → GivesKnown left_now left_next room filled n → piece ≡ take n filled → 0 < n → n ≤ length filled
-      → ((contents : List ℕ → Contents H E) → fresh contents → GoesOn contents (represents contents) (going.fed ++ piece) (contents (going.fed ++ piece)).entries next) → (first : List ℕ → Contents H E) → fresh first
-      → ((contents : List ℕ → Contents H E) (start : S) → fresh contents → stood start → Stands stands_next taken taken_next out_next (course_of calculation start (contents (going.fed ++ piece)).head (contents (going.fed ++ piece)).entries))
-      → Going calculation represents fresh stood stands_next left left_next taken taken_next next out_next (turns + 1)
-  going_more stands_next left_next taken_next next out_next turns room filled piece n going gives is some fits on first is_fresh course = record {
+  pub going_more : (stands_next : S → Type 0) (left_next taken_next : Option (List ℕ)) (next : Reading E) (out_next : List ℕ) (turns : ℕ) (room filled piece : List ℕ) (n : ℕ)
+      → (going : Going calculation form shape stood stands left left_now taken taken_now reader out turns) → GivesKnown left_now left_next room filled n → piece ≡ take n filled → 0 < n → n ≤ length filled
+      → StandsBehind E form shape (going.fed ++ piece) next × GoesOn form shape (going.fed ++ piece)
+      → ((start : S) → stood start → Stands stands_next taken taken_next out_next (course_over calculation form shape start (going.fed ++ piece)))
+      → Going calculation form shape stood stands_next left left_next taken taken_next next out_next (turns + 1)
+  going_more stands_next left_next taken_next next out_next turns room filled piece n going gives is some fits on course = record {
     fed = going.fed ++ piece;
-    represented = λ contents is_so. (on contents is_so).stands;
+    behind = on.0;
     read = read_more left left_now left_next going.fed room filled piece n going.read gives is;
     turned = omega (arith, going.turned, length-append going.fed piece, ap length is, length-take-le n filled fits);
-    within = (on first is_fresh).within;
-    unrefused = λ contents is_so. inr (on contents is_so).unrefused;
+    within = on.1.within;
+    unrefused = inr on.1.unrefused;
     course = course;
   }
 

@@ -1,14 +1,11 @@
 -- Courses over a stream of which more was read.
-use Rattle.std.proofs.Common.{◌≡◌, ℕ, Bool, true, false, List, [], ◌∷◌, ◌++◌, Option, Some, None, Result, Ok, Err, refl, sym, ap, ◌∙◌, subst}
+use Rattle.std.proofs.Common.{◌≡◌, ℕ, Bool, true, false, List, [], ◌++◌, Option, Some, None, Result, Ok, Err, refl, sym, ap, ◌∙◌}
 use Rattle.std.specs.Prelude.{is_some, IfOk}
-use Rattle.std.specs.List.{AllByRecursion}
 use Rattle.kt_stream.specs.declared.entry.Placed.{Placed}
 use Rattle.kt_ends.specs.declared.status.Refusal.{Refusal}
 use Rattle.kt_loop.specs.Calculation.{Calculation, Course, started, opened, took_all, course_of}
 use Rattle.kt_loop.specs.Carrying.{carried, header_if}
 use Rattle.kt_loop.specs.Contents.{Contents, Grows}
-use Rattle.kt_stream.specs.declared.stop.StreamStop.{StreamStop}
-use Rattle.kt_loop.specs.Reading.{AreGood, IsRead, RestsBy}
 use Rattle.kt_loop.specs.Courses.{took_joined, took_longer}
 use Rattle.kt_loop.proofs.Taking.{stays_refused}
 
@@ -60,29 +57,16 @@ pub header_was : {H : Type 0} (head head_now : Option H) → ((known : H) → he
 header_was None head_now stays = refl
 header_was (Some known) head_now stays = stays known refl
 
-later_good : {E : Type 0} (is_good : Placed E → Type 0) (taken held : List (Placed E)) → AllByRecursion is_good (taken ++ held) → AllByRecursion is_good held
-later_good is_good [] held good = good
-later_good is_good (placed ∷ taken) held good = later_good is_good taken held good.1
-
--- what is held is good where all that was read is
-pub held_good : {H E : Type 0} (accepts : H → Type 0) (is_good : H → Placed E → Type 0) (header : Option H) (taken held : List (Placed E)) → AreGood accepts is_good header (taken ++ held) → AreGood accepts is_good header held
-held_good accepts is_good None taken held good = tt
-held_good accepts is_good (Some head) taken held good = (good.0, later_good (is_good head) taken held good.1)
-
-pub read_good : {H E : Type 0} (accepts : H → Type 0) (is_good : H → Placed E → Type 0) (contents : Contents H E) (taken held : List (Placed E)) (header : Option H) → IsRead contents taken header held → AreGood accepts is_good contents.head contents.entries → AreGood accepts is_good header held
-read_good accepts is_good contents taken held header read good =
-    held_good accepts is_good header taken held (subst (λ (head : Option _). AreGood accepts is_good head (taken ++ held)) (sym read.head) (subst (λ (entries : List (Placed _)). AreGood accepts is_good contents.head entries) read.records good))
-
 -- ---- what a turn brings
 
 module _ {H E S : Type 0} (calculation : Calculation H E S Refusal) (start : S) where
   -- carrying on after a piece is the course over what was read by then
-  pub turned : (before now : Contents H E) (header header_now : Option H) (held held_now : List (Placed E)) (was : Bool) → IsRead before before.entries header held → IsRead now before.entries header_now held_now → Grows before now → was ≡ is_some header
+  pub turned : (before now : Contents H E) (header header_now : Option H) (held_now : List (Placed E)) (was : Bool) → header ≡ before.head → header_now ≡ now.head → now.entries ≡ before.entries ++ held_now → Grows before now → was ≡ is_some header
       → carried calculation was header_now (course_of calculation start before.head before.entries) held_now ≡ course_of calculation start now.head now.entries
-  turned before now header header_now held held_now was read read_now grows is =
-      ap (λ (w : Bool). carried calculation w header_now (course_of calculation start before.head before.entries) held_now) (is ∙ ap (λ (head : Option H). is_some head) read.head)
-      ∙ ap (λ (head : Option H). carried calculation (is_some before.head) head (course_of calculation start before.head before.entries) held_now) read_now.head
-      ∙ course_carried calculation start before.head now.head before.entries now.entries held_now (record { head_stays = grows.head; headless = grows.headless; records = read_now.records })
+  turned before now header header_now held_now was head head_now records grows is =
+      ap (λ (w : Bool). carried calculation w header_now (course_of calculation start before.head before.entries) held_now) (is ∙ ap (λ (known : Option H). is_some known) head)
+      ∙ ap (λ (known : Option H). carried calculation (is_some before.head) known (course_of calculation start before.head before.entries) held_now) head_now
+      ∙ course_carried calculation start before.head now.head before.entries now.entries held_now (record { head_stays = grows.head; headless = grows.headless; records = records })
 
   abbrev no_header : Option H
   no_header = None
@@ -91,10 +75,10 @@ module _ {H E S : Type 0} (calculation : Calculation H E S Refusal) (start : S) 
   no_head known is = cc
 
   -- and so it is where the header is there before the first byte
-  pub begun : (now : Contents H E) (header_now : Option H) (held_now : List (Placed E)) → IsRead now [] header_now held_now → carried calculation false header_now (started start) held_now ≡ course_of calculation start now.head now.entries
-  begun now header_now held_now read_now =
-      ap (λ (head : Option H). carried calculation false head (started start) held_now) read_now.head
-      ∙ course_carried calculation start None now.head [] now.entries held_now (record { head_stays = λ known is. absurd (no_head known is); headless = λ none. refl; records = read_now.records })
+  pub begun : (now : Contents H E) (header_now : Option H) (held_now : List (Placed E)) → header_now ≡ now.head → now.entries ≡ held_now → carried calculation false header_now (started start) held_now ≡ course_of calculation start now.head now.entries
+  begun now header_now held_now head_now records =
+      ap (λ (head : Option H). carried calculation false head (started start) held_now) head_now
+      ∙ course_carried calculation start None now.head [] now.entries held_now (record { head_stays = λ known is. absurd (no_head known is); headless = λ none. refl; records = records })
 
   -- the text grows with what is read
   pub text_grows : (before now : Contents H E) → Grows before now
@@ -108,20 +92,7 @@ module _ {H E S : Type 0} (calculation : Calculation H E S Refusal) (start : S) 
   refusal_stays before now why grows refused =
       course_refused calculation start before.head now.head before.entries now.entries grows.entries.0 why (record { head_stays = grows.head; headless = grows.headless; records = grows.entries.1 }) refused
 
--- the reader stands for what it was given, whether the stream is refused or not
-pub rest_stands : {T H E : Type 0} (contents : List ℕ → Contents H E) (represents : List ℕ → List (Placed E) → T → Type 0) (stop : Option StreamStop) (fed : List ℕ) (taken : List (Placed E)) (new : T) → RestsBy contents represents stop fed taken new → represents fed taken new
-rest_stands contents represents None fed taken new feeds = feeds.stands
-rest_stands contents represents (Some stop) fed taken new feeds = feeds.stands
-
 -- what follows from a value follows where there is one
 pub map_ok : {A B : Type 0} (result : Result A B) (P Q : A → Type 0) → ((value : A) → P value → Q value) → IfOk result P → IfOk result Q
 map_ok (Ok value) P Q each holds = each value holds
 map_ok (Err why) P Q each holds = tt
-
--- a header that was read before is read still
-pub header_stays : {H E : Type 0} (before now : Contents H E) (header header_now : Option H) (taken taken_now held held_now : List (Placed E)) → IsRead before taken header held → IsRead now taken_now header_now held_now → Grows before now → (known : H) → header ≡ Some known → header_now ≡ Some known
-header_stays before now header header_now taken taken_now held held_now read read_now grows known is = read_now.head ∙ grows.head known (sym read.head ∙ is)
-
--- a header that was read can be taken
-pub head_good : {H E : Type 0} (accepts : H → Type 0) (is_good : H → Placed E → Type 0) (header : Option H) (entries : List (Placed E)) (head : H) → AreGood accepts is_good header entries → header ≡ Some head → accepts head
-head_good accepts is_good header entries head good is = let told : AreGood accepts is_good (Some head) entries = subst (λ (h : Option _). AreGood accepts is_good h entries) is good in told.0

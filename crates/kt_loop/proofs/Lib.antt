@@ -9,6 +9,5 @@ pub mod Rows
 pub mod Joining
 pub mod RunStepping
 pub mod RecordReading
-pub mod RecordsGood
 pub mod RunLists
 mod FileReading

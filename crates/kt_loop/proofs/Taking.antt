@@ -1,16 +1,12 @@
 -- Taking the records that a reader reads, one after the other.
-use Rattle.std.proofs.Common.{◌≡◌, ℕ, Bool, false, List, [], ◌∷◌, ◌++◌, Option, Some, Result, Err, refl, sym, ap, ◌∙◌, append_assoc, subst, append-nil}
-use Rattle.std.specs.List.{AllByRecursion}
+use Rattle.std.proofs.Common.{◌≡◌, ℕ, Bool, false, List, [], ◌∷◌, Option, Some, Result, Err, refl, sym, ap, ◌∙◌, subst}
 use Rattle.kt_stream.specs.declared.entry.Placed.{Placed}
-use Rattle.kt_stream.specs.declared.stop.StreamStop.{StreamStop}
 use Rattle.kt_ends.specs.declared.status.Refusal.{Refusal}
 use Rattle.kt_ends.specs.declared.tool_stop.ToolStop.{ToolStop}
 use Rattle.kt_ends.specs.declared.tool_stop.ToolStop.TheVariants as stop
 use Rattle.kt_loop.specs.Calculation.{Calculation, Course, opened, took, took_all}
 use Rattle.kt_loop.specs.Carrying.{carried}
-use Rattle.kt_loop.specs.Contents.{Contents}
 use Rattle.kt_loop.specs.Given.{GivenFront}
-use Rattle.kt_loop.specs.Reading.{RestsBy}
 use Rattle.kt_loop.specs.Steps.{Stands, Refuses, Comes}
 use Rattle.kt_loop.specs.Courses.{took_refused, took_longer}
 use Rattle.kt_loop.proofs.Giving.{given_front, front_longer}
@@ -61,33 +57,6 @@ module _ {H E S : Type 0} (calculation : Calculation H E S Refusal) (head : H) w
   carried_front stands before now pending whole held going =
       let longer = took_longer calculation head going.course held in
       subst (λ (course : Course S Refusal). GivenFront before now course.text) (sym going.same) (front_longer before now going.course.text _ longer.0 (given_front before now pending going.course.text going.standing.given) longer.1)
-
--- what was taken of the records that were still to be read
-pub record HasTaken {T H E : Type 0} (represents : (List ℕ → Contents H E) → List ℕ → List (Placed E) → T → Type 0) (old now : T) (held held_now : List (Placed E)) : Type 0 where
-  pub front : List (Placed E)
-  pub split : held ≡ front ++ held_now
-  pub stands : (contents : List ℕ → Contents H E) (fed : List ℕ) (taken : List (Placed E)) → represents contents fed taken old → represents contents fed (taken ++ front) now
-
-module _ {T H E : Type 0} (represents : (List ℕ → Contents H E) → List ℕ → List (Placed E) → T → Type 0) where
-  pub taken_none : (old : T) (held : List (Placed E)) → HasTaken represents old old held held
-  taken_none old held = record { front = []; split = refl; stands = λ contents fed taken stood. subst (λ (xs : List (Placed E)). represents contents fed xs old) (sym (append-nil taken)) stood }
-
-  pub taken_more : (old now next : T) (held held_now later : List (Placed E)) (placed : Placed E) → HasTaken represents old now held held_now → held_now ≡ placed ∷ later → ((contents : List ℕ → Contents H E) (fed : List ℕ) (taken : List (Placed E)) → represents contents fed taken now → represents contents fed (taken ++ placed ∷ []) next) → HasTaken represents old next held later
-  taken_more old now next held held_now later placed has first takes = record {
-    front = has.front ++ placed ∷ [];
-    split = has.split ∙ ap (λ (xs : List (Placed E)). has.front ++ xs) first ∙ sym (append_assoc has.front (placed ∷ []) later);
-    stands = λ contents fed taken stood. subst (λ (xs : List (Placed E)). represents contents fed xs next) (append_assoc taken has.front (placed ∷ [])) (takes contents fed (taken ++ has.front) (has.stands contents fed taken stood));
-  }
-
-  -- no record is left, and what refuses the bytes behind all of them
-  pub taken_all : (old now next : T) (stop : Option StreamStop) (held held_now : List (Placed E)) → HasTaken represents old now held held_now → held_now ≡ [] → ((contents : List ℕ → Contents H E) (fed : List ℕ) (taken : List (Placed E)) → represents contents fed taken now → RestsBy contents (represents contents) stop fed taken next)
-      → (contents : List ℕ → Contents H E) (fed : List ℕ) (taken : List (Placed E)) → represents contents fed taken old → RestsBy contents (represents contents) stop fed (taken ++ held) next
-  taken_all old now next stop held held_now has none feeds contents fed taken stood =
-      let whole : held ≡ has.front = has.split ∙ ap (λ (xs : List (Placed E)). has.front ++ xs) none ∙ append-nil has.front in
-      subst (λ (xs : List (Placed E)). RestsBy contents (represents contents) stop fed (taken ++ xs) next) (sym whole) (feeds contents fed (taken ++ has.front) (has.stands contents fed taken stood))
-
-pub first_good : {E : Type 0} (is_good : Placed E → Type 0) (held later : List (Placed E)) (placed : Placed E) → AllByRecursion is_good held → held ≡ placed ∷ later → is_good placed × AllByRecursion is_good later
-first_good is_good held later placed good first = subst (AllByRecursion is_good) first good
 
 -- ---- behind the header
 

@@ -1,41 +1,36 @@
 //! Carrying a calculation on with the records that a reader reads.
 //! The rules: docs/STREAMS.md, "Tools over streams".
-ghost use Rattle.std.specs.Prelude.{◌≡◌, ℕ, true, false, List, [], ◌∷◌, ◌++◌, Option, Some, None, IfOk, OnOk};
-ghost use Rattle.std.specs.List.{AllByRecursion};
+ghost use Rattle.std.specs.Prelude.{◌≡◌, ℕ, List, Option, Some, None, IfOk, OnOk};
 ghost use Rattle.kt_out.specs.InputFiles.{InputsState};
-ghost use Rattle.kt_stream.specs.Reader.{IsRested, held};
-ghost use Rattle.kt_stream.specs.declared.entry.Placed.{Placed};
-ghost use Rattle.kt_stream.specs.declared.kind.Head.{Head};
+ghost use Rattle.kt_stream.specs.Header.{IsHead};
+ghost use Rattle.kt_stream.specs.Reader.{IsPlaced, held};
 ghost use Rattle.kt_ends.specs.declared.status.Refusal.{Refusal};
 ghost use Rattle.kt_loop.specs.Calculation.{Course, opened, took, took_all};
 ghost use Rattle.kt_loop.specs.Carrying.{carried, header_if};
-ghost use Rattle.kt_loop.specs.Contents.{Contents};
 ghost use Rattle.kt_loop.specs.Counts.{Counts};
-ghost use Rattle.kt_loop.specs.Reading.{AreGood, RestsBy};
-ghost use Rattle.kt_loop.specs.RecordStreams.{StandsFor};
+ghost use Rattle.kt_loop.specs.Reading.{ReadsAll};
 ghost use Rattle.kt_loop.specs.Steps.{Stands, Comes};
 
-use crate::record_reader::advance_reader;
+use crate::record_reader::read_records;
 use crate::spill::spill;
 use crate::stage::Stage;
 use kt_ends::ToolStop;
 use kt_money::Bytes;
 use kt_out::Sink;
 use kt_stream::{Entry, Head, Next, Placed, RecordReader, StreamStop};
-use std::alloc::AllocError;
 
 /// Where so many bytes are pending they are written, so that the memory is bounded whatever the stream.
 const SPILL: usize = 65_536;
 
 /// Opens a stage.
-fn open_stage<H, E, W, T: Stage<H, E, W>, K: Sink>(
+fn open_stage<E: Entry, W, T: Stage<E, W>, K: Sink>(
     stage: &mut T,
     beside: &mut W,
-    head: H,
+    head: Head,
     sink: &K,
     out: &mut Bytes,
 ) -> Result<(), ToolStop>
-    requires accepted { T.accepts head }
+    requires header { IsHead (T.shape stage.old).kind head }
     requires ready { T.is_ready None stage.old beside.old }
 
     ensures course { (before : Option (List ℕ)) (course : Course T.State Refusal) → Stands (λ state. T.is_at state stage.old beside.old) before (K.state sink.now).taken out.old course → Comes (λ state. T.is_at state stage.new beside.new) before (K.state sink.now).taken out.new (opened T.calculation head course) result }
@@ -47,16 +42,16 @@ fn open_stage<H, E, W, T: Stage<H, E, W>, K: Sink>(
 }
 
 /// Takes one record, and writes what is pending where that is much.
-fn take_one<H, E, W, T: Stage<H, E, W>, K: Sink>(
+fn take_one<E: Entry, W, T: Stage<E, W>, K: Sink>(
     stage: &mut T,
     beside: &mut W,
-    head: H,
+    head: Head,
     placed: &Placed<E>,
     sink: &mut K,
     out: &mut Bytes,
 ) -> Result<(), ToolStop>
-    requires accepted { T.accepts head }
-    requires good { T.is_good (T.shape stage.old) head placed.now }
+    requires header { IsHead (T.shape stage.old).kind head }
+    requires good { IsPlaced E E.form E.IsGood (T.shape stage.old) head placed.now }
     requires ready { T.is_ready (Some head) stage.old beside.old }
 
     ensures course { (before : Option (List ℕ)) (course : Course T.State Refusal) → Stands (λ state. T.is_at state stage.old beside.old) before (K.state sink.old).taken out.old course → Comes (λ state. T.is_at state stage.new beside.new) before (K.state sink.new).taken out.new (took T.calculation head course placed.now) result }
@@ -74,7 +69,7 @@ fn take_one<H, E, W, T: Stage<H, E, W>, K: Sink>(
 }
 
 /// Takes all records that are still to be read, one after the other: what refuses the stream behind them, if anything does.
-fn take_held<E: Entry, W, T: Stage<Head, E, W>, K: Sink>(
+fn take_held<E: Entry, W, T: Stage<E, W>, K: Sink>(
     reader: &mut RecordReader<E>,
     stage: &mut T,
     beside: &mut W,
@@ -82,20 +77,19 @@ fn take_held<E: Entry, W, T: Stage<Head, E, W>, K: Sink>(
     sink: &mut K,
     out: &mut Bytes,
 ) -> Result<Option<StreamStop>, ToolStop>
-    requires accepted { T.accepts head }
-    requires good { AllByRecursion (T.is_good (T.shape stage.old) head) (held E.form reader.old) }
+    requires header { IsHead (T.shape stage.old).kind head }
+    requires told { reader.old.shape ≡ T.shape stage.old }
+    requires known { reader.old.head ≡ Some head }
     requires ready { T.is_ready (Some head) stage.old beside.old }
 
     ensures course { (before : Option (List ℕ)) (course : Course T.State Refusal) → Stands (λ state. T.is_at state stage.old beside.old) before (K.state sink.old).taken out.old course → Comes (λ state. T.is_at state stage.new beside.new) before (K.state sink.new).taken out.new (took_all T.calculation head course (held E.form reader.old)) result }
-    ensures taken { IfOk result (λ stop. (contents : List ℕ → Contents Head E) (fed : List ℕ) (taken : List (Placed E)) → StandsFor E E.form contents fed taken reader.old → RestsBy contents (StandsFor E E.form contents) stop fed (taken ++ held E.form reader.old) reader.new) }
-    ensures rests { OnOk result (IsRested E E.form reader.new) }
-    ensures header { OnOk result (reader.new.head ≡ reader.old.head) }
+    ensures read { IfOk result (λ stop. ReadsAll E.form reader.old stop reader.new) }
     ensures ready { OnOk result (T.is_ready (Some head) stage.new beside.new) }
     ensures shape { T.shape stage.new ≡ T.shape stage.old }
     ensures counted { (others : InputsState) → Counts (T.inputs others beside.old) (T.inputs others beside.new) (K.state sink.old).faults (K.state sink.new).faults result }
 {
     'records: loop {
-        let next = match advance_reader(reader) {
+        let next = match reader.advance() {
             Ok(next) => next,
             Err(_) => return Err(ToolStop::NoMemory),
         };
@@ -111,24 +105,9 @@ fn take_held<E: Entry, W, T: Stage<Head, E, W>, K: Sink>(
     }
 }
 
-/// What refuses the stream, if anything does, where no record is still to be read.
-fn stop_at_rest<E: Entry>(reader: &mut RecordReader<E>) -> Result<Option<StreamStop>, AllocError>
-    requires none { held E.form reader.old ≡ [] }
-
-    ensures taken { IfOk result (λ stop. (contents : List ℕ → Contents Head E) (fed : List ℕ) (taken : List (Placed E)) → StandsFor E E.form contents fed taken reader.old → RestsBy contents (StandsFor E E.form contents) stop fed taken reader.new) }
-    ensures rests { OnOk result (IsRested E E.form reader.new) }
-    ensures header { OnOk result (reader.new.head ≡ reader.old.head) }
-{
-    match advance_reader(reader)? {
-        Next::Record => unreachable!(),
-        Next::Rest => Ok(None),
-        Next::Stop(stop) => Ok(Some(stop)),
-    }
-}
-
 /// Carries on with all that the reader reads: opens the stage where the header is there and was not before, and takes
 /// the records. Answers what refuses the stream behind them, if anything does.
-pub(crate) fn carry_on<E: Entry, W, T: Stage<Head, E, W>, K: Sink>(
+pub(crate) fn carry_on<E: Entry, W, T: Stage<E, W>, K: Sink>(
     was_open: bool,
     reader: &mut RecordReader<E>,
     stage: &mut T,
@@ -136,18 +115,17 @@ pub(crate) fn carry_on<E: Entry, W, T: Stage<Head, E, W>, K: Sink>(
     sink: &mut K,
     out: &mut Bytes,
 ) -> Result<Option<StreamStop>, ToolStop>
-    requires good { AreGood T.accepts (T.is_good (T.shape stage.old)) reader.old.head (held E.form reader.old) }
+    requires told { reader.old.shape ≡ T.shape stage.old }
     requires ready { T.is_ready (header_if was_open reader.old.head) stage.old beside.old }
 
     ensures course { (before : Option (List ℕ)) (course : Course T.State Refusal) → Stands (λ state. T.is_at state stage.old beside.old) before (K.state sink.old).taken out.old course → Comes (λ state. T.is_at state stage.new beside.new) before (K.state sink.new).taken out.new (carried T.calculation was_open reader.old.head course (held E.form reader.old)) result }
-    ensures taken { IfOk result (λ stop. (contents : List ℕ → Contents Head E) (fed : List ℕ) (taken : List (Placed E)) → StandsFor E E.form contents fed taken reader.old → RestsBy contents (StandsFor E E.form contents) stop fed (taken ++ held E.form reader.old) reader.new) }
-    ensures rests { OnOk result (IsRested E E.form reader.new) }
+    ensures read { IfOk result (λ stop. ReadsAll E.form reader.old stop reader.new) }
     ensures ready { OnOk result (T.is_ready reader.new.head stage.new beside.new) }
     ensures shape { T.shape stage.new ≡ T.shape stage.old }
     ensures counted { (others : InputsState) → Counts (T.inputs others beside.old) (T.inputs others beside.new) (K.state sink.old).faults (K.state sink.new).faults result }
 {
     let Some(head) = reader.head() else {
-        return match stop_at_rest(reader) {
+        return match read_records(reader) {
             Ok(stop) => Ok(stop),
             Err(_) => Err(ToolStop::NoMemory),
         };

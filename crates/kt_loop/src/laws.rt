@@ -15,14 +15,6 @@ ghost use Rattle.kt_loop.specs.EventRuns.{IsTaken, event_text, whole_outcome};
 ghost use Rattle.kt_stream.specs.Grammar.{placed_from};
 ghost use Rattle.kt_stream.specs.Stream.{Form};
 ghost use Rattle.kt_ends.specs.declared.status.Status.TheVariants.{Done};
-ghost use Rattle.kt_stream.specs.declared.kind.Head.{Head};
-ghost use Rattle.kt_stream.specs.Header.{IsHead};
-ghost use Rattle.kt_stream.specs.Reader.{Reading, IsPlaced};
-ghost use Rattle.kt_loop.specs.Reading.{AreGood};
-ghost use Rattle.kt_loop.specs.RecordStreams.{StandsFor};
-
-use kt_stream::Entry;
-use kt_stream::laws::what_is_read_fits;
 
 /// A calculation by record refuses nothing: its outcome is the heading and then the rows of each record, with the
 /// stream's own fault.
@@ -46,13 +38,6 @@ pub fn joined_records_give_one_after_the_other<E>()
 pub fn events_give_one_after_the_other<E>()
     ensures { (key : E → RunKey) (refuses : List (Placed E) → Placed E → Option Refusal) (closes : List E → List ℕ) (form : Form E) (opening : List ℕ) (of : ℕ → List E) (events : List ℕ) (at : ℕ) → IsDistinct nat_eq events → AllByRecursion (IsTaken key refuses of) events → whole_outcome key refuses closes opening (placed_from form at (flat_map of events)) ≡ gives Done (opening ++ flat_map (λ event. event_text closes (of event)) events) }
 {}
-
-/// Whatever a reader of records reads is in its ranges: what a stage needs to take it.
-pub fn what_is_read_can_be_taken<E: Entry>()
-    ensures { (contents : List ℕ → Contents Head E) (fed : List ℕ) (taken : List (Placed E)) (reading : Reading E) → StandsFor E E.form contents fed taken reading → (bytes : List ℕ) → AreGood (IsHead reading.shape.kind) (IsPlaced E E.form E.IsGood reading.shape) (contents bytes).head (contents bytes).entries }
-{
-    what_is_read_fits::<E>();
-}
 
 /// The runs of a list of records, one after the other, are these records; each has a record, in each run each record goes
 /// on the one before it, and the first of a run does not go on the run before.

@@ -17,6 +17,7 @@ mod turn;
 pub use block::{BLOCK, begin_block, zeros};
 pub use by_run::{RunStage, run_by_run};
 pub use file::read_piece;
+pub use record_reader::read_records;
 pub use run::run_stage;
 pub use run_key::{RunKey, RunRecord};
 pub use stage::Stage;

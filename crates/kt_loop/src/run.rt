@@ -7,30 +7,27 @@ ghost use Rattle.kt_out.specs.OutputFiles.{OutputsState};
 ghost use Rattle.kt_out.specs.Reading.{Reads, SourceState};
 ghost use Rattle.kt_out.specs.Writing.{SinkState};
 ghost use Rattle.kt_stream.specs.Reader.{Represents};
-ghost use Rattle.kt_stream.specs.declared.kind.Head.{Head};
 ghost use Rattle.kt_ends.specs.Ending.{AtEnd, Counted};
 ghost use Rattle.kt_ends.specs.Hiding.{HidesNone};
 ghost use Rattle.kt_ends.specs.Outcome.{Outcome};
 ghost use Rattle.kt_ends.specs.World.{world};
 ghost use Rattle.kt_ends.specs.Stops.{end_status, stop_status};
 ghost use Rattle.kt_ends.specs.declared.tool_stop.ToolStop.TheVariants.{ReadFault};
-ghost use Rattle.kt_loop.specs.Contents.{Contents};
 ghost use Rattle.kt_loop.specs.Counts.{CountsRead, StopCounts};
 ghost use Rattle.kt_loop.specs.Outcome.{outcome};
-ghost use Rattle.kt_loop.specs.Reading.{ReadsGood};
-ghost use Rattle.kt_loop.specs.RecordStreams.{StandsFor};
+ghost use Rattle.kt_loop.specs.RecordStreams.{contents_of};
 ghost use Rattle.kt_loop.specs.Running.{EndsRun};
 ghost use Rattle.kt_loop.specs.Settling.{Settles, StopSettles, IsEnd};
 
 use crate::block::begin_block;
-use crate::record_reader::{what_is_held_was_read, what_is_read_stays};
+use crate::record_reader::what_is_read_stays;
 use crate::spill::spill;
 use crate::stage::Stage;
 use crate::turn::{begin, finish, turn};
 use kt_ends::{Refusal, ToolStop};
 use kt_money::Bytes;
 use kt_out::{Failed, Sink, Source};
-use kt_stream::{Entry, Head, RecordReader};
+use kt_stream::{Entry, RecordReader};
 use std::alloc::Global;
 
 /// More turns than a stream has bytes: each turn but the last reads one at the least.
@@ -48,7 +45,7 @@ fn read_behind<S: Source>(source: &mut S, block: &mut [u8], kept: usize) -> Resu
 }
 
 /// Reads the stream to its end, to a refusal or to a fault.
-fn read_all<E: Entry, W, T: Stage<Head, E, W>, S: Source, K: Sink>(
+fn read_all<E: Entry, W, T: Stage<E, W>, S: Source, K: Sink>(
     alloc: Global,
     reader: &mut RecordReader<E>,
     stage: &mut T,
@@ -58,17 +55,16 @@ fn read_all<E: Entry, W, T: Stage<Head, E, W>, S: Source, K: Sink>(
     out: &mut Bytes,
 ) -> Result<(), ToolStop>
     requires fresh { Represents E E.form [] [] reader.old }
-    requires good { ReadsGood (StandsFor E E.form) T.accepts (T.is_good (T.shape stage.old)) [] reader.old }
+    requires told { reader.old.shape ≡ T.shape stage.old }
     requires ready { T.is_ready None stage.old beside.old }
     requires empty { out.old ≡ [] }
 
-    ensures settled { (contents : List ℕ → Contents Head E) (start : T.State) → StandsFor E E.form contents [] [] reader.old → T.is_at start stage.old beside.old → IfSome (S.state source.old).left (λ bytes. Settles (outcome T.calculation start (contents bytes)) (K.state sink.old).taken (K.state sink.new).taken out.new result) }
+    ensures settled { (start : T.State) → T.is_at start stage.old beside.old → IfSome (S.state source.old).left (λ bytes. Settles (outcome T.calculation start (contents_of E.form (T.shape stage.old) bytes)) (K.state sink.old).taken (K.state sink.new).taken out.new result) }
     ensures counted { (others : InputsState) → CountsRead (T.inputs others beside.old) (T.inputs others beside.new) (S.state source.old).faults (S.state source.new).faults (K.state sink.old).faults (K.state sink.new).faults result }
     ensures at_end { AtEnd (S.state source.old).left (S.state source.new).left (end_status result) }
-    ensures hides_none { (contents : List ℕ → Contents Head E) (start : T.State) → StandsFor E E.form contents [] [] reader.old → T.is_at start stage.old beside.old → HidesNone (λ bytes. outcome T.calculation start (contents bytes)) (S.state source.old) (S.state source.new) (end_status result) }
+    ensures hides_none { (start : T.State) → T.is_at start stage.old beside.old → HidesNone (λ bytes. outcome T.calculation start (contents_of E.form (T.shape stage.old) bytes)) (S.state source.old) (S.state source.new) (end_status result) }
 {
     what_is_read_stays::<E>();
-    what_is_held_was_read::<E>();
     let mut block = Vec::new(alloc);
     if let Err(why) = begin(reader, stage, beside, sink, out) {
         return Err(why);
@@ -114,7 +110,7 @@ fn settle<K: Sink>(stop: ToolStop, sink: &mut K, out: &mut Bytes) -> ToolStop
 /// Reads a stream to its end and carries out the calculation of a stage over it: writes what the stage writes at the
 /// header, at each record and at the end, in blocks. A refusal of the stage or of the stream ends it, with all text
 /// before it written.
-pub fn run_stage<E: Entry, W, T: Stage<Head, E, W>, S: Source, K: Sink>(
+pub fn run_stage<E: Entry, W, T: Stage<E, W>, S: Source, K: Sink>(
     alloc: Global,
     reader: &mut RecordReader<E>,
     stage: &mut T,
@@ -123,10 +119,10 @@ pub fn run_stage<E: Entry, W, T: Stage<Head, E, W>, S: Source, K: Sink>(
     sink: &mut K,
 ) -> Result<(), ToolStop>
     requires fresh { Represents E E.form [] [] reader.old }
-    requires good { ReadsGood (StandsFor E E.form) T.accepts (T.is_good (T.shape stage.old)) [] reader.old }
+    requires told { reader.old.shape ≡ T.shape stage.old }
     requires ready { T.is_ready None stage.old beside.old }
 
-    ensures ended { (asks : Bool) (made : FileMap → List ℕ → Outcome) (others : InputsState) (outputs : OutputsState) (contents : List ℕ → Contents Head E) → StandsFor E E.form contents [] [] reader.old → EndsRun T.calculation contents (λ state. T.is_at state stage.old beside.old) asks made (world (T.inputs others beside.old) outputs (S.state source.old) (K.state sink.old)) (world (T.inputs others beside.new) outputs (S.state source.new) (K.state sink.new)) (end_status result) }
+    ensures ended { (asks : Bool) (made : FileMap → List ℕ → Outcome) (others : InputsState) (outputs : OutputsState) → EndsRun T.calculation (contents_of E.form (T.shape stage.old)) (λ state. T.is_at state stage.old beside.old) asks made (world (T.inputs others beside.old) outputs (S.state source.old) (K.state sink.old)) (world (T.inputs others beside.new) outputs (S.state source.new) (K.state sink.new)) (end_status result) }
 {
     let mut out = Bytes::new(alloc);
     match read_all(alloc, reader, stage, beside, source, sink, &mut out) {

@@ -7,7 +7,6 @@ use Rattle.kt_losses.specs.Judged.{LossTable, is_known, judged_behind, judged_op
 use Rattle.kt_losses.specs.Standing.{AreKnown}
 use Rattle.kt_loop.specs.ByRun.{by_run, outcome_by_run}
 use Rattle.kt_loop.specs.Outcome.{outcome}
-use Rattle.kt_loop.specs.Reading.{AreGood}
 use Rattle.kt_loop.specs.Runs.{bare, loss_key}
 use Rattle.kt_loop.specs.Steps.{StepsOn}
 use Rattle.kt_rec.specs.Rows.{Rows}
@@ -36,24 +35,15 @@ pub known_more : (items : Bool) (rows : Rows) (run : List (Placed LossRecord)) (
 known_more items rows [] placed are is = (is, tt)
 known_more items rows (first ∷ run) placed are is = (are.0, known_more items rows run placed are.1 is)
 
--- good records have losses that a stream takes
-pub good_run : (head : Head) (run : List (Placed LossRecord)) → AllByRecursion (IsPlaced LossRecord loss_form (λ shape samples entry. IsLoss samples entry) (loss_shape stream.Gul) head) run → AllByRecursion (λ placed. IsLoss head.samples placed.entry) run
-good_run head [] good = tt
-good_run head (placed ∷ run) good = (good.0.good, good_run head run good.1)
+-- a header of a stream of losses of either kind is one of ground-up losses
+pub loss_head : (items : Bool) (head : Head) → IsHead (losses_kind items) head → IsHead stream.Gul head
+loss_head true head is = is
+loss_head false head is = is
 
--- a record of a stream of losses of either kind
-abbrev pub IsGoodLoss : Bool → Head → Placed LossRecord → Type 0
-IsGoodLoss items = IsPlaced LossRecord loss_form (λ shape samples entry. IsLoss samples entry) (loss_shape (losses_kind items))
-
--- what is good in a stream of losses of either kind is good in one of ground-up losses
-pub good_losses : (items : Bool) (head : Option Head) (entries : List (Placed LossRecord)) → AreGood (IsHead (losses_kind items)) (IsGoodLoss items) head entries → AreGood (IsHead stream.Gul) (IsGoodLoss true) head entries
-good_losses true head entries good = good
-good_losses false None entries good = tt
-good_losses false (Some head) entries good = (good.0, each entries good.1)
-  where
-    each : (entries : List (Placed LossRecord)) → AllByRecursion (IsGoodLoss false head) entries → AllByRecursion (IsGoodLoss true head) entries
-    each [] good = tt
-    each (placed ∷ entries) good = (record { good = good.0.good; within = good.0.within }, each entries good.1)
+-- records of a stream of losses have losses that it takes
+pub good_run : (items : Bool) (head : Head) (run : List (Placed LossRecord)) → AllByRecursion (IsPlaced LossRecord loss_form (λ shape samples entry. IsLoss samples entry) (loss_shape (losses_kind items)) head) run → AllByRecursion (λ placed. IsLoss head.samples placed.entry) run
+good_run items head [] good = tt
+good_run items head (placed ∷ run) good = (good.0.good, good_run items head run good.1)
 
 -- what a tool makes it makes by its table alone
 same_opening : {T : Type 0} → (table : T → LossTable) (made : T × PortfolioRows) (head : Head) (found : Option CheckRefusal) (entries : List (Placed LossRecord)) (fault : Option StreamStop) → outcome_by_run loss_key (judged_runs table) head (judged_opening table made head found).text (judged_opening table made head found).next entries fault ≡ outcome_by_run loss_key (judged_runs (λ (one : LossTable). one)) head (judged_opening (λ (one : LossTable). one) (table made.0, made.1) head found).text (judged_opening (λ (one : LossTable). one) (table made.0, made.1) head found).next entries fault

@@ -12,7 +12,7 @@ use kt_checks::CheckStop;
 use kt_ends::{Refusal, ToolStop};
 use kt_index::ByKey;
 use kt_load::file_name;
-use kt_loop::laws::{runs_give_their_text, what_is_read_can_be_taken};
+use kt_loop::laws::runs_give_their_text;
 use kt_loop::{RunStage, run_by_run};
 use kt_money::Bytes;
 use kt_out::{Sink, Source};
@@ -67,16 +67,12 @@ struct JudgedLosses<'a, T> {
     tool: T,
 }
 
-impl<'a, T: LossTool> RunStage<Head, LossRecord, ()> for JudgedLosses<'a, T> {
+impl<'a, T: LossTool> RunStage<LossRecord, ()> for JudgedLosses<'a, T> {
     ghost use Rattle.std.specs.Prelude.{◌≡◌, ℕ};
-    ghost use Rattle.kt_losses.specs.Judged.{is_known, judged_runs};
+    ghost use Rattle.kt_losses.specs.Judged.{is_known, judged_runs, losses_kind};
     ghost use Rattle.kt_losses.specs.Known.{has_id};
     ghost use Rattle.kt_losses.specs.Standing.{AreKnown, HoldsSums};
-    ghost use Rattle.kt_stream.specs.Header.{IsHead};
-    ghost use Rattle.kt_stream.specs.Losses.{IsLoss, loss_form, loss_shape};
-    ghost use Rattle.kt_stream.specs.Reader.{IsPlaced};
-    ghost use Rattle.kt_stream.specs.declared.entry.LossRecord.{LossRecord};
-    ghost use Rattle.kt_stream.specs.declared.kind.StreamKind.TheVariants.{Gul};
+    ghost use Rattle.kt_stream.specs.Losses.{loss_shape};
     ghost use Rattle.kt_tables.specs.Portfolio.{PortfolioRows};
 
     ghost Kept = { T × PortfolioRows };
@@ -87,11 +83,7 @@ impl<'a, T: LossTool> RunStage<Head, LossRecord, ()> for JudgedLosses<'a, T> {
 
     ghost is_ready = { λ header run stage _. HoldsSums header run stage.sums.items × (((id : ℕ) → has_id stage.ids.now id ≡ is_known (T.table stage.tool).items stage.portfolio.now.rows id) × (T.serves stage.portfolio.now stage.tool × AreKnown (T.table stage.tool).items stage.portfolio.now.rows run)) };
 
-    ghost accepts = { IsHead Gul };
-
-    ghost shape = { λ _. loss_shape Gul };
-
-    ghost is_good = { IsPlaced LossRecord loss_form (λ shape samples entry. IsLoss samples entry) };
+    ghost shape = { λ stage. loss_shape (losses_kind (T.table stage.tool).items) };
 
     ghost inputs = { λ others _. others };
 
@@ -149,7 +141,6 @@ pub(crate) fn write_losses<T: LossTool + Drop, S: Source, K: Sink>(
     ensures { StreamToolEnds (stream_uses true) (λ _ bytes. judged_outcome (T.table tool) portfolio.now bytes) (S.state source.old) (S.state source.new) (K.state sink.old) (K.state sink.new) result }
 {
     runs_give_their_text::<Head, LossRecord, (T, Portfolio)>();
-    what_is_read_can_be_taken::<LossRecord>();
     keep_memory(alloc);
     let ids = match known_ids(alloc, tool.of_items(), portfolio.tables()) {
         Ok(ids) => ids,

@@ -10,7 +10,7 @@ use crate::judging::losses_kind;
 use crate::known::known_ids;
 use crate::summing::{LastLoss, SummarySet, SummedLosses};
 use kt_ends::ToolStop;
-use kt_loop::laws::{runs_give_their_text, what_is_read_can_be_taken};
+use kt_loop::laws::runs_give_their_text;
 use kt_loop::run_stage;
 use kt_out::{Sink, Source};
 use kt_rec::Perspective;
@@ -42,7 +42,6 @@ pub fn write_summaries<S: Source, K: Sink>(
     ensures { StreamToolEnds (stream_uses true) (λ _ bytes. judged_outcome (summary_table items set) portfolio.now bytes) (S.state source.old) (S.state source.new) (K.state sink.old) (K.state sink.new) result }
 {
     runs_give_their_text::<Head, LossRecord, (SummarySet, Portfolio)>();
-    what_is_read_can_be_taken::<LossRecord>();
     let ids = match known_ids(alloc, items, portfolio.tables()) {
         Ok(ids) => ids,
         Err(_) => return Err(ToolStop::NoMemory),

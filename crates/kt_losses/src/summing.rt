@@ -118,19 +118,16 @@ fn close(
     Ok(())
 }
 
-impl<'a> Stage<Head, LossRecord, ()> for SummedLosses<'a> {
+impl<'a> Stage<LossRecord, ()> for SummedLosses<'a> {
     ghost use Rattle.std.specs.Prelude.{◌≡◌, ℕ};
     ghost use Rattle.kt_loop.specs.ByRun.{OpenRun, by_run};
     ghost use Rattle.kt_loop.specs.Runs.{loss_key};
-    ghost use Rattle.kt_losses.specs.Judged.{is_known, judged_runs};
+    ghost use Rattle.kt_losses.specs.Judged.{is_known, judged_runs, losses_kind};
     ghost use Rattle.kt_losses.specs.Known.{has_id};
     ghost use Rattle.kt_losses.specs.Summed.{IsReadyAt, StandsAt, table_of_set};
     ghost use Rattle.kt_losses.specs.declared.summing.SummarySet.{SummarySet};
-    ghost use Rattle.kt_stream.specs.Header.{IsHead};
-    ghost use Rattle.kt_stream.specs.Losses.{IsLoss, loss_form, loss_shape};
-    ghost use Rattle.kt_stream.specs.Reader.{IsPlaced};
+    ghost use Rattle.kt_stream.specs.Losses.{loss_shape};
     ghost use Rattle.kt_stream.specs.declared.entry.LossRecord.{LossRecord};
-    ghost use Rattle.kt_stream.specs.declared.kind.StreamKind.TheVariants.{Gul};
     ghost use Rattle.kt_tables.specs.Portfolio.{PortfolioRows};
 
     ghost State = { OpenRun (SummarySet × PortfolioRows) LossRecord };
@@ -141,11 +138,7 @@ impl<'a> Stage<Head, LossRecord, ()> for SummedLosses<'a> {
 
     ghost is_ready = { λ header it _. IsReadyAt header it.last it.summaries × ((id : ℕ) → has_id it.ids.now id ≡ is_known it.of.items it.portfolio.now.rows id) };
 
-    ghost accepts = { IsHead Gul };
-
-    ghost shape = { λ _. loss_shape Gul };
-
-    ghost is_good = { IsPlaced LossRecord loss_form (λ shape samples entry. IsLoss samples entry) };
+    ghost shape = { λ it. loss_shape (losses_kind it.of.items) };
 
     ghost inputs = { λ others _. others };
 

@@ -7,7 +7,7 @@ ghost use Rattle.kt_periods.specs.EventLossTable.{elt_outcome};
 
 use kt_elt::{elt_heading, elt_text};
 use kt_ends::ToolStop;
-use kt_loop::laws::{records_give_their_rows, what_is_read_can_be_taken};
+use kt_loop::laws::records_give_their_rows;
 use kt_loop::{Stage, run_stage};
 use kt_money::Bytes;
 use kt_out::{Sink, Source};
@@ -20,13 +20,9 @@ struct EventLosses {
     heading: bool,
 }
 
-impl Stage<Head, SummaryRecord, ()> for EventLosses {
+impl Stage<SummaryRecord, ()> for EventLosses {
     ghost use Rattle.std.specs.Prelude.{◌≡◌, Bool};
-    ghost use Rattle.kt_stream.specs.Header.{IsHead};
-    ghost use Rattle.kt_stream.specs.Reader.{IsPlaced};
-    ghost use Rattle.kt_stream.specs.Summary.{IsSummary, summary_form, summary_shape};
-    ghost use Rattle.kt_stream.specs.declared.entry.SummaryRecord.{SummaryRecord};
-    ghost use Rattle.kt_stream.specs.declared.kind.StreamKind.TheVariants.{Summary};
+    ghost use Rattle.kt_stream.specs.Summary.{summary_shape};
     ghost use Rattle.kt_periods.specs.EventLossTable.{elt_calculation};
 
     ghost State = { Bool };
@@ -37,11 +33,7 @@ impl Stage<Head, SummaryRecord, ()> for EventLosses {
 
     ghost is_ready = { λ _ _ _. Unit {0} };
 
-    ghost accepts = { IsHead Summary };
-
     ghost shape = { λ _. summary_shape };
-
-    ghost is_good = { IsPlaced SummaryRecord summary_form (λ shape samples entry. IsSummary samples entry) };
 
     ghost inputs = { λ others _. others };
 
@@ -78,7 +70,6 @@ pub fn write_event_losses<S: Source, K: Sink>(
     ensures { StreamToolEnds (stream_uses false) (λ _ bytes. elt_outcome heading bytes) (S.state source.old) (S.state source.new) (K.state sink.old) (K.state sink.new) result }
 {
     records_give_their_rows::<Head, SummaryRecord, bool>();
-    what_is_read_can_be_taken::<SummaryRecord>();
     let mut reader = SummaryReader::new(alloc);
     let mut stage = EventLosses { heading };
     run_stage(alloc, &mut reader, &mut stage, &mut (), source, sink)

@@ -7,7 +7,7 @@ ghost use Rattle.kt_periods.specs.PeriodLossTable.{plt_outcome};
 
 use kt_elt::{plt_heading, plt_record_text};
 use kt_ends::ToolStop;
-use kt_loop::laws::{records_give_their_rows, what_is_read_can_be_taken};
+use kt_loop::laws::records_give_their_rows;
 use kt_loop::{Stage, run_stage};
 use kt_money::Bytes;
 use kt_out::{Sink, Source};
@@ -22,13 +22,9 @@ struct PeriodRows<'a> {
     portfolio: &'a Portfolio,
 }
 
-impl<'a> Stage<Head, SummaryRecord, ()> for PeriodRows<'a> {
+impl<'a> Stage<SummaryRecord, ()> for PeriodRows<'a> {
     ghost use Rattle.std.specs.Prelude.{◌≡◌};
-    ghost use Rattle.kt_stream.specs.Header.{IsHead};
-    ghost use Rattle.kt_stream.specs.Reader.{IsPlaced};
-    ghost use Rattle.kt_stream.specs.Summary.{IsSummary, summary_form, summary_shape};
-    ghost use Rattle.kt_stream.specs.declared.entry.SummaryRecord.{SummaryRecord};
-    ghost use Rattle.kt_stream.specs.declared.kind.StreamKind.TheVariants.{Summary};
+    ghost use Rattle.kt_stream.specs.Summary.{summary_shape};
     ghost use Rattle.kt_periods.specs.PeriodLossTable.{HeadingAndPortfolio, plt_calculation};
 
     ghost State = { HeadingAndPortfolio };
@@ -39,11 +35,7 @@ impl<'a> Stage<Head, SummaryRecord, ()> for PeriodRows<'a> {
 
     ghost is_ready = { λ _ _ _. Unit {0} };
 
-    ghost accepts = { IsHead Summary };
-
     ghost shape = { λ _. summary_shape };
-
-    ghost is_good = { IsPlaced SummaryRecord summary_form (λ shape samples entry. IsSummary samples entry) };
 
     ghost inputs = { λ others _. others };
 
@@ -83,7 +75,6 @@ pub fn write_period_losses<S: Source, K: Sink>(
     ensures { StreamToolEnds (stream_uses true) (λ _ bytes. plt_outcome heading portfolio.now bytes) (S.state source.old) (S.state source.new) (K.state sink.old) (K.state sink.new) result }
 {
     records_give_their_rows::<Head, SummaryRecord, (bool, Portfolio)>();
-    what_is_read_can_be_taken::<SummaryRecord>();
     let mut reader = SummaryReader::new(alloc);
     let mut stage = PeriodRows { heading, portfolio };
     run_stage(alloc, &mut reader, &mut stage, &mut (), source, sink)

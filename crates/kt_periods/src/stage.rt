@@ -22,14 +22,10 @@ pub(crate) struct PeriodLosses<'a> {
     pub(crate) cells: Option<Cells>,
 }
 
-impl<'a> Stage<Head, SummaryRecord, ()> for PeriodLosses<'a> {
+impl<'a> Stage<SummaryRecord, ()> for PeriodLosses<'a> {
     ghost use Rattle.kt_periods.specs.PeriodTables.{PeriodSums, period_calculation};
     ghost use Rattle.kt_periods.specs.Standing.{StandsAt, IsReady};
-    ghost use Rattle.kt_stream.specs.Header.{IsHead};
-    ghost use Rattle.kt_stream.specs.Reader.{IsPlaced};
-    ghost use Rattle.kt_stream.specs.Summary.{IsSummary, summary_form, summary_shape};
-    ghost use Rattle.kt_stream.specs.declared.entry.SummaryRecord.{SummaryRecord};
-    ghost use Rattle.kt_stream.specs.declared.kind.StreamKind.TheVariants.{Summary};
+    ghost use Rattle.kt_stream.specs.Summary.{summary_shape};
 
     ghost State = { PeriodSums };
 
@@ -39,11 +35,7 @@ impl<'a> Stage<Head, SummaryRecord, ()> for PeriodLosses<'a> {
 
     ghost is_ready = { λ seen stage _. IsReady seen stage.portfolio.now stage.cells };
 
-    ghost accepts = { IsHead Summary };
-
     ghost shape = { λ _. summary_shape };
-
-    ghost is_good = { IsPlaced SummaryRecord summary_form (λ shape samples entry. IsSummary samples entry) };
 
     ghost inputs = { λ others _. others };
 

@@ -10,11 +10,10 @@ ghost use Rattle.kt_rec.specs.declared.table.Table.TheVariants as table;
 use crate::stage::PeriodLosses;
 use crate::table::PeriodTable;
 use kt_ends::ToolStop;
-use kt_loop::laws::what_is_read_can_be_taken;
 use kt_loop::run_stage;
 use kt_out::{Sink, Source};
 use kt_rec::Curve;
-use kt_stream::{SummaryReader, SummaryRecord};
+use kt_stream::SummaryReader;
 use kt_tables::Portfolio;
 use std::alloc::Global;
 
@@ -29,7 +28,6 @@ fn write_table<S: Source, K: Sink>(
     requires loaded { is_loaded portfolio.now.need 0 table.Occurrence ≡ true }
     ensures { StreamToolEnds (stream_uses true) (λ _ bytes. period_outcome kind portfolio.now.rows bytes) (S.state source.old) (S.state source.new) (K.state sink.old) (K.state sink.new) result }
 {
-    what_is_read_can_be_taken::<SummaryRecord>();
     let mut reader = SummaryReader::new(alloc);
     let mut stage = PeriodLosses {
         alloc,

@@ -1,17 +1,14 @@
-use Rattle.std.proofs.Common.{◌∙◌, subst, sym, Option, Some, None, Err}
-use Rattle.std.specs.List.{AllByRecursion}
+use Rattle.std.proofs.Common.{◌∙◌, subst, sym, Option, Err}
+use Rattle.kt_stream.specs.Header.{IsHead}
 use Rattle.kt_stream.specs.declared.entry.Placed.{Placed}
 use Rattle.kt_stream.specs.declared.kind.Shape.{Shape}
-use Rattle.kt_stream.specs.declared.reader.Next.{Next}
 use Rattle.kt_stream.specs.declared.stop.StreamStop.{StreamStop}
 use Rattle.kt_loop.specs.Calculation.{took}
 use Rattle.kt_loop.specs.Steps.{Stands, Comes}
-use Rattle.kt_loop.specs.Reading.{Advances}
+use Rattle.kt_loop.proofs.RecordReading.{passed_one, passed_rest, passed_stop, placed_on}
 use Rattle.kt_loop.proofs.Settling.{stopped_as}
 use Rattle.kt_loop.proofs.Stepping.{counts_as, counts_behind, no_inputs}
-use Rattle.kt_loop.proofs.Taking.{carried_more, carried_until, carried_all, carried_front, taken_more, taken_all, first_good}
-use Rattle.kt_loop.specs.RecordStreams.{StandsFor}
-use Rattle.kt_stream.specs.Reader.{held}
+use Rattle.kt_loop.proofs.Taking.{carried_more, carried_until, carried_all, carried_front}
 use Rattle.kt_loop.proofs.carry.take_held.Goals as goal
 
 pub returns-in-Err-clause-course : goal.returns-in-Err-clause-course
@@ -20,9 +17,17 @@ returns-in-Err-clause-course g c before course standing =
 
 -- ---- a record
 
+pub take_one-requires-clause-header : goal.take_one-requires-clause-header
+take_one-requires-clause-header g c = subst (λ (shape : Shape). IsHead shape.kind c.args.head) (sym c.records.invariant.shape) c.requires.header
+
+pub take_one-requires-clause-good : goal.take_one-requires-clause-good
+take_one-requires-clause-good g c =
+    let had = c.records.invariant in
+    placed_on g.E.Entry.form g.E.Entry.IsGood _ c.args.head c.records.reader c.advance.new.self _ (rw c.in-Record.is at c.in-Ok.ensures.value) (had.read.shape ∙ c.requires.told ∙ sym had.shape) (had.read.head ∙ c.requires.known) c.record.ensures.value
+
 pub returns-in-Err-take_one-clause-course : goal.returns-in-Err-take_one-clause-course
 returns-in-Err-take_one-clause-course g c before course standing =
-    let reads = subst (λ (next : Next). Advances g.E.Entry.form c.records.reader c.advance_reader.new.reader next) c.in-Record.is c.in-Ok.ensures in
+    let reads = rw c.in-Record.is at c.in-Ok.ensures.value in
     let going = c.records.invariant.course before course standing in
     stopped_as (Unit {0}) (Option StreamStop) (λ state. g.T.Stage.is_at state c.take_one.new.stage c.take_one.new.beside) before _ c.take_one.new.out _ c.in-Err-take_one.stop
     (carried_until g.T.Stage.calculation c.args.head _ (λ state. g.T.Stage.is_at state c.take_one.new.stage c.take_one.new.beside) before _ _ _ c.take_one.new.out _ _ _ _ going reads.first (Unit {0}) c.in-Err-take_one.stop
@@ -35,13 +40,11 @@ returns-in-Err-take_one-clause-counted g c others =
 
 pub records-preserved : goal.records-preserved
 records-preserved g c =
-    let reads = subst (λ (next : Next). Advances g.E.Entry.form c.records.reader c.advance_reader.new.reader next) c.in-Record.is c.in-Ok.ensures in
+    let reads = rw c.in-Record.is at c.in-Ok.ensures.value in
     record {
-      good = subst (λ (shape : Shape). AllByRecursion (g.T.Stage.is_good shape c.args.head) (held g.E.Entry.form c.advance_reader.new.reader)) (sym c.take_one.ensures.shape) (first_good (g.T.Stage.is_good (g.T.Stage.shape c.records.stage) c.args.head) _ _ _ c.records.invariant.good reads.first).1;
+      read = passed_one g.E.Entry.form c.args.reader.now c.records.reader c.advance.new.self c.records.invariant.read reads;
       ready = c.in_default.ensures.ready;
       shape = c.take_one.ensures.shape ∙ c.records.invariant.shape;
-      header = reads.header ∙ c.records.invariant.header;
-      taken = taken_more (StandsFor g.row.E.Denot g.E.Entry.form) _ _ _ _ _ _ _ c.records.invariant.taken reads.first reads.stands;
       course = λ before course standing.
           let going = c.records.invariant.course before course standing in
           carried_more g.T.Stage.calculation c.args.head _ (λ state. g.T.Stage.is_at state c.take_one.new.stage c.take_one.new.beside) before _ _ _ c.take_one.new.out _ _ _ _ going reads.first
@@ -55,20 +58,16 @@ records-preserved g c =
 
 pub returns-in-Rest-clause-course : goal.returns-in-Rest-clause-course
 returns-in-Rest-clause-course g c before course standing =
-    let reads = subst (λ (next : Next). Advances g.E.Entry.form c.records.reader c.advance_reader.new.reader next) c.in-Rest.is c.in-Ok.ensures in
+    let reads = rw c.in-Rest.is at c.in-Ok.ensures.value in
     carried_all g.T.Stage.calculation c.args.head (λ state. g.T.Stage.is_at state c.records.stage c.records.beside) before _ c.records.out _ _ (c.records.invariant.course before course standing) reads.none
 
 pub returns-in-Stop-clause-course : goal.returns-in-Stop-clause-course
 returns-in-Stop-clause-course g c before course standing =
-    let reads = subst (λ (next : Next). Advances g.E.Entry.form c.records.reader c.advance_reader.new.reader next) c.in-Stop.is c.in-Ok.ensures in
+    let reads = rw c.in-Stop.is at c.in-Ok.ensures.value in
     carried_all g.T.Stage.calculation c.args.head (λ state. g.T.Stage.is_at state c.records.stage c.records.beside) before _ c.records.out _ _ (c.records.invariant.course before course standing) reads.none
 
-pub returns-in-Rest-clause-taken : goal.returns-in-Rest-clause-taken
-returns-in-Rest-clause-taken g c =
-    let reads = subst (λ (next : Next). Advances g.E.Entry.form c.records.reader c.advance_reader.new.reader next) c.in-Rest.is c.in-Ok.ensures in
-    taken_all (StandsFor g.row.E.Denot g.E.Entry.form) c.args.reader.now c.records.reader c.advance_reader.new.reader None _ _ c.records.invariant.taken reads.none reads.ends
+pub returns-in-Rest-clause-read : goal.returns-in-Rest-clause-read
+returns-in-Rest-clause-read g c = passed_rest g.E.Entry.form c.args.reader.now c.records.reader c.advance.new.self c.records.invariant.read (rw c.in-Rest.is at c.in-Ok.ensures.value)
 
-pub returns-in-Stop-clause-taken : goal.returns-in-Stop-clause-taken
-returns-in-Stop-clause-taken g c =
-    let reads = subst (λ (next : Next). Advances g.E.Entry.form c.records.reader c.advance_reader.new.reader next) c.in-Stop.is c.in-Ok.ensures in
-    taken_all (StandsFor g.row.E.Denot g.E.Entry.form) c.args.reader.now c.records.reader c.advance_reader.new.reader (Some c.in-Stop.stop) _ _ c.records.invariant.taken reads.none reads.ends
+pub returns-in-Stop-clause-read : goal.returns-in-Stop-clause-read
+returns-in-Stop-clause-read g c = passed_stop g.E.Entry.form c.args.reader.now c.records.reader c.advance.new.self c.records.invariant.read c.in-Stop.stop (rw c.in-Stop.is at c.in-Ok.ensures.value)

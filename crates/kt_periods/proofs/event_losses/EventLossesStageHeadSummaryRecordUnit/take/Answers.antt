@@ -1,5 +1,0 @@
-use Rattle.kt_elt.specs.Fitting.{fits_rows}
-use Rattle.kt_periods.proofs.event_losses.EventLossesStageHeadSummaryRecordUnit.take.Goals as goal
-
-pub elt_text-requires : goal.elt_text-requires
-elt_text-requires c = fits_rows c.args.head.samples c.args.placed.now.entry c.requires.accepted.0 c.requires.accepted.1 c.requires.good.good
