@@ -9,6 +9,9 @@ ghost use Rattle.kt_curve.specs.Ranks.{SameRanks, HasLosses, Falls, reaching, cu
 use kt_money::OutOfMemory;
 use std::alloc::Global;
 
+/// So many values are sorted in less time than it takes to look for the losses of some ranks alone.
+const FEW: usize = 200;
+
 /// Sorts values so that they fall.
 pub(crate) fn rank(values: &mut [u64])
     ensures falls { Falls values.new }
@@ -101,6 +104,10 @@ pub(crate) fn place_losses(
     requires returns { All (λ period. 1 ≤ period) returns.now }
     ensures placed { OnOk result ((whole : List ℕ) → SameRanks values.old whole → All (λ period. period ≤ count → HasLosses values.new whole count period) returns.now) }
 {
+    if values.len() <= FEW {
+        rank(values);
+        return Ok(());
+    }
     let ranks = ranks_of(alloc, count, returns)?;
     let mut losses = Vec::with_capacity(alloc, ranks.len())?;
     append_losses(&mut losses, values, 0, ranks.as_slice())?;

@@ -1,10 +1,10 @@
 -- The losses stand at the places of all ranks that are asked for.
-use Rattle.std.proofs.Common.{◌≡◌, ◌++◌, map, slice_index, ap, sym, ◌∙◌}
+use Rattle.std.proofs.Common.{get_or, ◌-◌, ◌/◌, ◌≡◌, ◌++◌, map, slice_index, ap, sym, ◌∙◌}
 use Rattle.std.proofs.lemmas.List.Elements.{All-weaker}
 use Rattle.std.proofs.lemmas.List.Sorted.{All-permutation, IsPermutation-sym}
 use Rattle.kt_curve.specs.Exceedance.{ranked_loss}
 use Rattle.kt_curve.specs.Ranks.{curve_ranks}
-use Rattle.kt_curve.proofs.Ranking.{ranked_same}
+use Rattle.kt_curve.proofs.Ranking.{loss_is_ranked, ranked_same}
 use Rattle.kt_curve.proofs.Selecting.{all_asked}
 use Rattle.kt_curve.proofs.ranks.place_losses.Goals as goal
 
@@ -21,4 +21,12 @@ returns c = record {
       (All-permutation (λ rank. slice_index c.put_losses.new.values rank ≡ ranked_loss whole rank) ranks asked (IsPermutation-sym asked ranks c.in_ok-ranks.ensures.same)
       (All-weaker (λ rank. slice_index c.put_losses.new.values rank ≡ ranked_loss values rank) (λ rank. slice_index c.put_losses.new.values rank ≡ ranked_loss whole rank) (λ rank is. is ∙ ranked_same values whole same rank) ranks
       (rw c.as_slice-2.ensures.value at (c.put_losses.ensures values (sym c.append_losses.auto.values) found))));
+}
+
+pub returns-then-values-le-FEW : goal.returns-then-values-le-FEW
+returns-then-values-le-FEW c = record {
+  placed = λ whole same k d inside low.
+      let rank_is = loss_is_ranked c.rank.new.values whole c.rank.ensures.falls (λ least some. c.rank.ensures.same least ∙ same least some) in
+      let period = get_or c.args.returns.now k d in
+      (rank_is (c.args.count / period - 1), rank_is (c.args.count / period));
 }
