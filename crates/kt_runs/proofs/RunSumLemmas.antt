@@ -54,14 +54,6 @@ behind_last [] k above = refl
 behind_last (number ∷ numbers) zero above = absurd (omega arith)
 behind_last (number ∷ numbers) (suc k) above = behind_last numbers k (omega arith)
 
--- sums that are 0 are sums of a run
-pub zeros_are : (samples : ℕ) (sums : List ℕ) → Holds (samples + 3) (λ k. 0) sums → AreSums samples sums
-zeros_are samples sums zeros = record { width_is = zeros.width_is; few = λ k. by k (cases_lt k (length sums)) }
-  where
-    by : (k : ℕ) → (k < length sums) ⊎ (length sums ≤ k) → slice_index sums k ≤ 10000000000000000
-    by k (inl below) = omega (arith, zeros.each k (omega (arith, zeros.width_is)))
-    by k (inr above) = omega (arith, behind_last sums k above)
-
 -- a sum that is set is within the limit where all were and its value is
 pub set_few : (sums : List ℕ) (place value : ℕ) → ((k : ℕ) → slice_index sums k ≤ 10000000000000000) → place < length sums → value ≤ 10000000000000000 → (k : ℕ) → slice_index (slice_set sums place value) k ≤ 10000000000000000
 set_few sums place value few below most k = by (cases_eq k place)

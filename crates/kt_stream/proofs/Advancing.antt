@@ -137,21 +137,6 @@ advances_wrong form shape h row other passed start pending m lawful is =
     let same = kept_wrong (form.unit shape h.samples (take room pending) start) _ m is (lawful.steady shape h.samples (take room pending) more start) in
     ap (with_head h) (records_wrong form shape h.samples (take room pending ++ more) start m same)))
 
--- a reader was stopped before
-pub stopped_before : {E : Type 0} (form : Form E) (shape : Shape) (head : Option Head) (row : Placed E) (passed : List ℕ) (stop : StreamStop) (start : ℕ) (pending : List ℕ) → IsRefusal stop
-    → AdvancesToStop E form (stopped shape head row passed stop start pending) stop (stopped shape head row passed stop start pending)
-stopped_before {E} form shape head row passed stop start pending kind = record {
-  shape = refl;
-  head = refl;
-  none = refl;
-  passed = refl;
-  stopped = refl;
-  kind = kind;
-  rests = tt;
-  stands = λ bytes taken rep. rep;
-  refuses = λ bytes taken rep more. rep.onward more ∙ ap (λ (es : List (Placed E)). refused head es stop) (append-nil taken);
-}
-
 -- ---- no whole record is left
 
 -- a record is short
@@ -252,11 +237,6 @@ advances_row Good form shape head row other passed start pending (next.Stop by) 
 }
 
 -- ---- the end of the stream
-
--- the bytes of a reader that was stopped are refused
-pub stopped_ends : {E : Type 0} (form : Form E) (shape : Shape) (head : Option Head) (row : Placed E) (passed : List ℕ) (stop : StreamStop) (start : ℕ) (pending : List ℕ) → Ends E form (stopped shape head row passed stop start pending) (Some stop)
-stopped_ends {E} form shape head row passed stop start pending = λ bytes taken rep.
-    ap (λ (xs : List ℕ). fault_at (length bytes) (stream_of form shape xs).end) (sym (append-nil bytes)) ∙ ap (λ (s : Stream E). fault_at (length bytes) s.end) (rep.onward [])
 
 -- the bytes of a reader that goes on are cut off where it is inside a header or a record
 pub open_ends : {E : Type 0} (form : Form E) (shape : Shape) (head : Option Head) (row : Placed E) (passed : List ℕ) (start : ℕ) (pending : List ℕ) (fault : Option StreamStop) → IsDry E form (running shape head row passed start pending)

@@ -143,10 +143,6 @@ pub record BinsGo (n : ℕ) (bytes : List ℕ) (at : ℕ) (bins : List Bin) (bef
   pub low : before ≤ 1002001000000
   pub onward : bins_in n 0 bytes at ≡ in_front bins (bins_in left before (drop used bytes) (at + used))
 
--- before the first bin
-pub bins_begin : (n : ℕ) (bytes : List ℕ) (at : ℕ) (bins : List Bin) (left : ℕ) → bins ≡ [] → left ≡ n → BinsGo n bytes at bins 0 0 left
-bins_begin n bytes at bins left none all = record { within = omega arith; low = omega arith; onward = rw (none, add-zero at, all) (sym (front_none (bins_in n 0 bytes at))) }
-
 -- one bin more
 pub bin_more : (n : ℕ) (bytes : List ℕ) (at : ℕ) (bins now : List Bin) (before used left step : ℕ) (b : Bin) → BinsGo n bytes at bins before used left → left ≡ suc step → bin_in step before (drop used bytes) (at + used) ≡ Got b → now ≡ bins ++ b ∷ []
     → BinsGo n bytes at now b.prob_to (used + 12) step

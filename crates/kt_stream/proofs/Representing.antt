@@ -89,11 +89,6 @@ extends_by {E} form old piece new shape onward faced place = λ bytes taken rep.
       place = rw (length-append bytes piece) (place (length bytes) rep.place);
     }
 
--- a reader that was stopped stands for all longer bytes
-pub stopped_extends : {E : Type 0} (form : Form E) (shape : Shape) (head : Option Head) (row : Placed E) (before passed : List ℕ) (stop : StreamStop) (start : ℕ) (pending piece : List ℕ) → Extends E form (stopped shape head row before stop start pending) piece (stopped shape head row passed stop start pending)
-stopped_extends form shape head row before passed stop start pending piece =
-    extends_by form (stopped shape head row before stop start pending) piece (stopped shape head row passed stop start pending) refl (λ more. refl) (faces form shape head row passed (Some stop) start pending tt) (λ n at-place. tt)
-
 -- what is pending and the piece behind it, in a block
 pub filled_is : (pending block : List ℕ) (upto : ℕ) → IsFilled pending block upto → take upto block ≡ pending ++ piece_in pending block upto
 filled_is pending block upto filled =
@@ -147,13 +142,6 @@ header_extends {E} form shape h row before passed start pending piece now now-is
     ∙ ap (λ (n : ℕ). within_room n (reads_on form shape (Some h) (start + size)) (drop size now ++ more)) left)
     (faces form shape (Some h) row passed None (start + size) (drop size now) tt)
     (λ n at-place. omega (arith, length-drop size now, opens.long, longer start pending piece now now-is n at-place))
-
--- a refusal of a header speaks of the stream
-pub header_refuses : (fault : HeaderFault) → IsRefusal (header_stop fault)
-header_refuses header.NotProfile = tt
-header_refuses (header.WrongStream found) = tt
-header_refuses (header.BadSamples found) = tt
-header_refuses (header.BadSet found) = tt
 
 header_ends : {E : Type 0} (form : Form E) (shape : Shape) (fault : HeaderFault) (start : ℕ) (bytes more : List ℕ) → header_in shape.kind bytes ≡ Wrong fault → reads_on form shape None start (bytes ++ more) ≡ refused None [] (header_stop fault)
 unfolding reads_on
@@ -224,7 +212,3 @@ first_good Gul = tt
 first_good Loss = tt
 first_good Summary = tt
 first_good Events = (refl, refl)
-
--- and it is a reader
-pub fresh_reader : {E : Type 0} (shape : Shape) (row : Placed E) (passed : List ℕ) → IsReader E (running shape (first_head shape.kind) row passed 0 [])
-fresh_reader shape row passed = record { head = first_good shape.kind; stop = tt; start = omega arith; waits = first_waits shape.kind shape.bins }

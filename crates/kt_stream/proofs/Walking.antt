@@ -51,7 +51,3 @@ records_wrong form shape samples bytes at m is = rw is refl
 pub records_short : {E : Type 0} (form : Form E) (shape : Shape) (samples : ℕ) (bytes : List ℕ) (at : ℕ) → form.unit shape samples bytes at ≡ Short → records_in form shape samples bytes at ≡ record { entries = []; end = at_border bytes }
 unfolding walk
 records_short form shape samples bytes at is = rw is refl
-
--- records in front of others
-pub entries_behind : {E : Type 0} (front back : List (Placed E)) (w : Walk E) → with_entries front (with_entries back w) ≡ with_entries (front ++ back) w
-entries_behind {E} front back w = ap (λ (es : List (Placed E)). record { entries = es; end = w.end }) (sym (append_assoc front back w.entries))

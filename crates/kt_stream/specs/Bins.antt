@@ -98,7 +98,3 @@ cdf_form = record { unit = λ shape samples bytes at. cdf_in shape.bins bytes at
 -- what a reader of a stream of distributions is told
 abbrev pub cdf_shape : ℕ → Shape
 cdf_shape bins = record { kind = kind.Cdf; bins = bins }
-
--- a stream of distributions of at most so many bins as it is read
-abbrev pub cdf_stream : ℕ → List ℕ → Stream Cdf
-cdf_stream bins bytes = stream_of cdf_form (cdf_shape bins) bytes

@@ -53,10 +53,6 @@ IsLossKind kind = ⊥
 abbrev pub loss_shape : StreamKind → Shape
 loss_shape kind = record { kind = kind; bins = 0 }
 
--- a stream of losses of one of the two kinds as it is read
-abbrev pub loss_stream : StreamKind → List ℕ → Stream LossRecord
-loss_stream kind bytes = stream_of loss_form (loss_shape kind) bytes
-
 -- a record of a stream with so many samples
 pub record IsLoss (samples : ℕ) (entry : LossRecord) : Type 0 where
   pub event : IsId entry.event

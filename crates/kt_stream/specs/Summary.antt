@@ -51,10 +51,6 @@ summary_form = record { unit = λ shape samples bytes at. summary_in samples byt
 abbrev pub summary_shape : Shape
 summary_shape = record { kind = Summary; bins = 0 }
 
--- a summary stream as it is read
-abbrev pub summary_stream : List ℕ → Stream SummaryRecord
-summary_stream bytes = stream_of summary_form summary_shape bytes
-
 -- a record of a stream with so many samples
 pub record IsSummary (samples : ℕ) (entry : SummaryRecord) : Type 0 where
   pub event : IsId entry.event
