@@ -12,9 +12,10 @@ ghost use Rattle.kt_ri.specs.Ceded.{AreCeded, AreRows, IsPlaceIn, ceded_in, pair
 
 use crate::ceding::CedingProgramme;
 use crate::places::place_of;
+use kt_alloc::zeros;
 use kt_lanes::Lanes;
 use kt_runs::RunEntry;
-use kt_shares::{lane_pairs, losses_of, push_record};
+use kt_shares::{lane_pairs, push_record, take_losses};
 use kt_stream::{LossRecord, Pairs, Records};
 use std::alloc::{AllocError, Global};
 
@@ -60,18 +61,7 @@ pub(crate) fn take_behind(losses: &mut [u64], ceded: &Lanes, place: Option<usize
     }
 }
 
-/// What is left of losses of an id whose place may be absent, or what it cedes.
-fn left_behind(losses: Vec<u64>, ceded: &Lanes, place: Option<usize>, left: bool) -> Vec<u64>
-    requires place { IsPlaceIn ceded.now place }
-    requires wide { AreWide (length losses.items) ceded.now }
-    ensures value { IsLane (length losses.items) (λ row. part_behind left (slice_index losses.items row) (ceded_in ceded.now place row)) result.items }
-{
-    let mut behind = losses;
-    take_behind(&mut behind, ceded, place, left);
-    behind
-}
-
-/// What is left of a record, or what its id cedes, row by row.
+/// What is left of a record, or what its id cedes, row by row; the lane takes it first.
 fn pairs_behind(
     alloc: Global,
     samples: u32,
@@ -79,21 +69,24 @@ fn pairs_behind(
     place: Option<usize>,
     entry: &LossRecord,
     left: bool,
+    lane: &mut [u64],
 ) -> Result<Pairs, AllocError>
     requires samples { samples ≤ 1000 }
     requires place { IsPlaceIn ceded.now place }
     requires wide { AreWide (samples + 1) ceded.now }
     requires entry { IsLoss samples entry.now }
     requires few { (sidx : ℤ) → loss_of sidx entry.now.pairs ≤ 10000000000000000 }
+    requires lane { length lane.old ≡ samples + 1 }
+    ensures lane { length lane.new ≡ length lane.old }
     ensures value { IfOk result (λ pairs. pairs ≡ pairs_behind left ceded.now samples place entry.now.pairs) }
 {
-    let losses = losses_of(alloc, samples, entry.pairs.as_slice())?;
-    let behind = left_behind(losses, ceded, place, left);
-    let pairs = lane_pairs(alloc, &behind)?;
+    take_losses(lane, samples, entry.pairs.as_slice());
+    take_behind(lane, ceded, place, left);
+    let pairs = lane_pairs(alloc, lane)?;
     Ok(pairs)
 }
 
-/// Appends what is left of a record, or what its id cedes, where that is something.
+/// Appends what is left of a record, or what its id cedes, where that is something; the lane takes it first.
 fn push_behind(
     alloc: Global,
     stage: &CedingProgramme,
@@ -101,17 +94,20 @@ fn push_behind(
     ceded: &Lanes,
     entry: &LossRecord,
     left: bool,
+    lane: &mut [u64],
     made: &mut Vec<LossRecord>,
 ) -> Result<(), AllocError>
     requires samples { samples ≤ 1000 }
     requires rows { AreRows (length stage.now.ids) samples ceded.now }
     requires entry { IsLoss samples entry.now }
     requires few { (sidx : ℤ) → loss_of sidx entry.now.pairs ≤ 10000000000000000 }
+    requires lane { length lane.old ≡ samples + 1 }
+    ensures lane { length lane.new ≡ length lane.old }
     ensures ok { OnOk result ((tree : Tree) (rule : ℕ) (records : List LossRecord) → IsProgramme tree stage.now → AreCeded stage.now rule samples records ceded.now → made.new.items ≡ made.old.items ++ cons_option (record_behind left tree rule samples records entry.now) []) }
 {
     stage.is_ceding();
     let place = place_of(stage.ids(), entry.id);
-    let pairs = pairs_behind(alloc, samples, ceded, place, entry, left)?;
+    let pairs = pairs_behind(alloc, samples, ceded, place, entry, left, lane)?;
     push_record(made, entry.event, entry.id, pairs)?;
     Ok(())
 }
@@ -132,8 +128,18 @@ pub(crate) fn records_behind<T: RunEntry>(
     ensures value { IfOk result (λ made. (tree : Tree) (rule : ℕ) → IsProgramme tree stage.now → AreCeded stage.now rule samples (map T.entry_of records.now) ceded.now → made ≡ records_behind left tree rule samples (map T.entry_of records.now)) }
 {
     let mut made = Vec::with_capacity(alloc, records.len())?;
+    let mut lane = zeros(alloc, samples as usize + 1)?;
     for held in records {
-        push_behind(alloc, stage, samples, ceded, held.entry(), left, &mut made)?;
+        push_behind(
+            alloc,
+            stage,
+            samples,
+            ceded,
+            held.entry(),
+            left,
+            &mut lane,
+            &mut made,
+        )?;
     }
     Ok(Records::from_vec(made))
 }
