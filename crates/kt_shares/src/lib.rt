@@ -12,7 +12,7 @@ mod table;
 mod written;
 
 pub use layers::{TopLayer, top_layers};
-pub use losses::{ids_of, losses_of, take_losses};
+pub use losses::{ids_of, take_losses};
 pub use pairs::{lane_pairs, push_record};
 pub use table::{Table, table_of};
 pub use written::{pair_room, put_lane};

@@ -52,18 +52,6 @@ pub fn take_losses(lane: &mut [u64], samples: u32, pairs: &[Pair])
     add_losses(lane, samples, pairs);
 }
 
-/// The losses of pairs in cents, row by row. An error is want of memory.
-pub fn losses_of(alloc: Global, samples: u32, pairs: &[Pair]) -> Result<Vec<u64>, AllocError>
-    requires samples { samples ≤ 1000 }
-    requires pairs { AllByRecursion (IsPair samples) pairs.now }
-    requires few { (sidx : ℤ) → loss_of sidx pairs.now ≤ 10000000000000000 }
-    ensures value { IfOk result (λ losses. IsLane (samples + 1) (λ row. loss_of (sidx_at (row_place row)) pairs.now) losses.items) }
-{
-    let mut losses = zeros(alloc, samples as usize + 1)?;
-    add_losses(&mut losses, samples, pairs);
-    Ok(losses)
-}
-
 /// The ids of records, in their order. An error is want of memory.
 pub fn ids_of<T: RunEntry>(alloc: Global, records: &[T]) -> Result<Vec<u32>, AllocError>
     ensures value { IfOk result (λ ids. ids.items ≡ ids_of (map T.entry_of records.now)) }
