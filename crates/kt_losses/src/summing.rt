@@ -1,6 +1,6 @@
 //! The stage that makes the summaries of a stream of losses: judges each record, and adds it to the sums of its summary.
 //! The rules: docs/STREAMS.md, "Tools over losses"; docs/COMMANDS.md, "summarycalc".
-ghost use Rattle.std.specs.Prelude.{◌≡◌, ◌++◌, ◌∷◌, [], ◌≤◌, nat_eq, nat_lt, ◌&&◌, List, IfErr, OnOk};
+ghost use Rattle.std.specs.Prelude.{◌≡◌, ◌++◌, ◌∷◌, [], ◌≤◌, nat_eq, nat_lt, ◌&&◌, List, IfErr, OnErr, OnOk};
 ghost use Rattle.std.specs.List.{flat_map};
 ghost use Rattle.kt_ends.specs.declared.tool_stop.ToolStop.TheVariants.{NoMemory};
 ghost use Rattle.kt_loop.specs.Counts.{Consults};
@@ -97,7 +97,7 @@ fn judge(
     Ok(())
 }
 
-/// Closes the open run, if there is one: appends its summaries. An error is want of memory.
+/// Closes the open run, if there is one: appends its summaries. An error is want of memory, and nothing is appended then.
 fn close(
     last: &mut LastLoss,
     summaries: &mut RunSummaries<'_>,
@@ -109,6 +109,7 @@ fn close(
     ensures closed { OnOk result ((portfolio : PortfolioRows) (of : SummarySet) (run : List (Placed LossRecord)) → StandsAt portfolio of run last.old summaries.old → (out.new ≡ out.old ++ flat_map summary_bytes (run_summaries (perspective_of of.items) portfolio.rows portfolio.need.rule of.set (bare run))) × StandsAt portfolio of [] last.new summaries.new) }
     ensures ready { OnOk result (IsReady head.samples summaries.new) }
     ensures memory { IfErr result (λ why. why ≡ NoMemory) }
+    ensures unchanged { OnErr result (out.new ≡ out.old) }
 {
     if !last.is_open {
         return Ok(());
