@@ -1,4 +1,4 @@
-use Rattle.std.proofs.Common.{◌≡◌, true, [], refl, sym, ap, subst, ◌∙◌}
+use Rattle.std.proofs.Common.{true, [], refl, sym, ap, ◌∙◌}
 use Rattle.kt_loop.specs.Runs.{loss_key}
 use Rattle.kt_losses.specs.Judged.{judged_outcome, judged_runs, loss_contents, losses_kind}
 use Rattle.kt_stream.specs.Losses.{loss_shape}
