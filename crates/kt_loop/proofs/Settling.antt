@@ -16,13 +16,6 @@ use Rattle.kt_loop.specs.Settling.{IsSettled, Settles}
 use Rattle.kt_loop.specs.Steps.{EndsWith, Stands, Comes}
 use Rattle.kt_loop.proofs.Giving.{given_more, given_front, front_longer}
 
--- a stop is the same whatever else could have been answered
-pub stopped_as : {S : Type 0} (T U : Type 0) (stands : S → Type 0) (before now : Option (List ℕ)) (pending : List ℕ) (course : Course S Refusal) (why : ToolStop) → Comes {T = T} stands before now pending course (Err why) → Comes {T = U} stands before now pending course (Err why)
-stopped_as T U stands before now pending course (stop.Refused why) comes = comes
-stopped_as T U stands before now pending course stop.ReadFault comes = comes
-stopped_as T U stands before now pending course stop.WriteFault comes = comes
-stopped_as T U stands before now pending course stop.NoMemory comes = comes
-
 -- an outcome of which the status and the output are known
 pub settled_as : (made wanted : Outcome) (before now : Option (List ℕ)) (pending : List ℕ) (end : Status) → made ≡ wanted → wanted.status ≡ end → Given before now pending wanted.output → IsSettled made before now pending end
 settled_as made wanted before now pending end is status given = record { status = ap (λ (o : Outcome). o.status) is ∙ status; given = subst (λ (o : Outcome). Given before now pending o.output) (sym is) given }

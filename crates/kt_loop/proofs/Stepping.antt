@@ -7,7 +7,7 @@ use Rattle.kt_ends.specs.declared.status.Refusal.TheVariants as refusal
 use Rattle.kt_ends.specs.declared.tool_stop.ToolStop.{ToolStop}
 use Rattle.kt_ends.specs.declared.tool_stop.ToolStop.TheVariants as stop
 use Rattle.kt_loop.specs.Calculation.{Step, Calculation, Course, behind, opened_from, opened, took_from, took}
-use Rattle.kt_loop.specs.Counts.{Consults, CountsWrite, InputsCounted, SinkCounted, Counts, CountsRead}
+use Rattle.kt_loop.specs.Counts.{Consults, CountsWrite, Counts, CountsRead}
 use Rattle.kt_loop.specs.Given.{Given, GivenFront, Spills}
 use Rattle.kt_loop.specs.Steps.{StepsBy, Stands, Comes}
 use Rattle.kt_loop.proofs.Giving.{given_more, given_front, front_longer}
@@ -48,32 +48,22 @@ spilled T stands before now next pending pending_now faults faults_now course (E
 
 -- ---- counts
 
-inputs_consulted : (T : Type 0) (before after : InputsState) (result : Result T ToolStop) → Consults before after result → InputsCounted before after result
-inputs_consulted T before after (Ok done) by = by
-inputs_consulted T before after (Err (stop.Refused (refusal.Missing name))) by = absurd by
-inputs_consulted T before after (Err (stop.Refused why)) by = by
-inputs_consulted T before after (Err stop.ReadFault) by = by
-inputs_consulted T before after (Err stop.WriteFault) by = absurd by
-inputs_consulted T before after (Err stop.NoMemory) by = by
-
-sink_rests : (T : Type 0) (before after : InputsState) (faults : ℕ) (result : Result T ToolStop) → Consults before after result → SinkCounted faults faults result
-sink_rests T before after faults (Ok done) by = refl
-sink_rests T before after faults (Err (stop.Refused why)) by = refl
-sink_rests T before after faults (Err stop.ReadFault) by = refl
-sink_rests T before after faults (Err stop.WriteFault) by = absurd by
-sink_rests T before after faults (Err stop.NoMemory) by = refl
-
 -- a call of a stage counts nothing of the sink
 pub counts_call : (T : Type 0) (before after : InputsState) (faults : ℕ) (result : Result T ToolStop) → Consults before after result → Counts before after faults faults result
-counts_call T before after faults result by = record { of_inputs = inputs_consulted T before after result by; of_sink = sink_rests T before after faults result by }
+counts_call T before after faults (Ok done) by = (by, refl)
+counts_call T before after faults (Err (stop.Refused (refusal.Missing name))) by = by
+counts_call T before after faults (Err (stop.Refused why)) by = (by, refl)
+counts_call T before after faults (Err stop.ReadFault) by = (by, refl)
+counts_call T before after faults (Err stop.WriteFault) by = absurd by
+counts_call T before after faults (Err stop.NoMemory) by = (by, refl)
 
 -- writing counts nothing of the input files
 pub counts_write : (T : Type 0) (before after : InputsState) (faults faults_now : ℕ) (result : Result T ToolStop) → after ≡ before → CountsWrite faults faults_now result → Counts before after faults faults_now result
-counts_write T before after faults faults_now (Ok done) same by = record { of_inputs = same; of_sink = by }
+counts_write T before after faults faults_now (Ok done) same by = (same, by)
 counts_write T before after faults faults_now (Err (stop.Refused why)) same by = absurd by
 counts_write T before after faults faults_now (Err stop.ReadFault) same by = absurd by
-counts_write T before after faults faults_now (Err stop.WriteFault) same by = record { of_inputs = same; of_sink = by }
-counts_write T before after faults faults_now (Err stop.NoMemory) same by = record { of_inputs = same; of_sink = by }
+counts_write T before after faults faults_now (Err stop.WriteFault) same by = (same, by)
+counts_write T before after faults faults_now (Err stop.NoMemory) same by = (same, by)
 
 -- calls behind others that counted nothing
 pub counts_behind : (T : Type 0) (before between after : InputsState) (faults faults_between faults_now : ℕ) (result : Result T ToolStop) → (between ≡ before) → (faults_between ≡ faults) → Counts between after faults_between faults_now result → Counts before after faults faults_now result
@@ -84,28 +74,11 @@ counts_behind T before between after faults faults_between faults_now result sam
 abbrev pub no_inputs : InputsState
 no_inputs = record { held = None; faults = 0; misses = 0 }
 
--- what a stop counted is the same whatever else could have been answered
-inputs_as : (T U : Type 0) (before after : InputsState) (why : ToolStop) → InputsCounted {T = T} before after (Err why) → InputsCounted {T = U} before after (Err why)
-inputs_as T U before after (stop.Refused (refusal.Missing name)) by = absurd by
-inputs_as T U before after (stop.Refused why) by = by
-inputs_as T U before after stop.ReadFault by = by
-inputs_as T U before after stop.WriteFault by = by
-inputs_as T U before after stop.NoMemory by = by
-
-sink_as : (T U : Type 0) (before after : ℕ) (why : ToolStop) → SinkCounted {T = T} before after (Err why) → SinkCounted {T = U} before after (Err why)
-sink_as T U before after (stop.Refused why) by = by
-sink_as T U before after stop.ReadFault by = by
-sink_as T U before after stop.WriteFault by = by
-sink_as T U before after stop.NoMemory by = by
-
-pub counts_as : (T U : Type 0) (before after : InputsState) (faults faults_now : ℕ) (why : ToolStop) → Counts {T = T} before after faults faults_now (Err why) → Counts {T = U} before after faults faults_now (Err why)
-counts_as T U before after faults faults_now why by = record { of_inputs = inputs_as T U before after why by.of_inputs; of_sink = sink_as T U faults faults_now why by.of_sink }
-
 -- what calls counted that read nothing of the source
 pub counts_read : (T : Type 0) (before after : InputsState) (reads reads_now faults faults_now : ℕ) (result : Result T ToolStop) → Counts before after faults faults_now result → reads_now ≡ reads → CountsRead before after reads reads_now faults faults_now result
-counts_read T before after reads reads_now faults faults_now (Ok done) by same = (by.of_inputs, same, by.of_sink)
-counts_read T before after reads reads_now faults faults_now (Err (stop.Refused (refusal.Missing name))) by same = absurd by.of_inputs
-counts_read T before after reads reads_now faults faults_now (Err (stop.Refused why)) by same = (by.of_inputs, same, by.of_sink)
-counts_read T before after reads reads_now faults faults_now (Err stop.ReadFault) by same = (inl (by.of_inputs, same), by.of_sink)
-counts_read T before after reads reads_now faults faults_now (Err stop.WriteFault) by same = (by.of_inputs, same, by.of_sink)
-counts_read T before after reads reads_now faults faults_now (Err stop.NoMemory) by same = (by.of_inputs, same, by.of_sink)
+counts_read T before after reads reads_now faults faults_now (Ok done) by same = (by.0, same, by.1)
+counts_read T before after reads reads_now faults faults_now (Err (stop.Refused (refusal.Missing name))) by same = by
+counts_read T before after reads reads_now faults faults_now (Err (stop.Refused why)) by same = (by.0, same, by.1)
+counts_read T before after reads reads_now faults faults_now (Err stop.ReadFault) by same = (inl (by.0, same), by.1)
+counts_read T before after reads reads_now faults faults_now (Err stop.WriteFault) by same = (by.0, same, by.1)
+counts_read T before after reads reads_now faults faults_now (Err stop.NoMemory) by same = (by.0, same, by.1)

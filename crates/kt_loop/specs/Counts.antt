@@ -24,27 +24,18 @@ CountsWrite before after (Err stop.ReadFault) = ⊥
 CountsWrite before after (Err stop.WriteFault) = Rose before after
 CountsWrite before after (Err stop.NoMemory) = after ≡ before
 
--- the same for calls that write too: of the input files
-abbrev pub InputsCounted : {T : Type 0} → InputsState → InputsState → Result T ToolStop → Type 0
-InputsCounted before after (Ok done) = after ≡ before
-InputsCounted before after (Err (stop.Refused (refusal.Missing name))) = ⊥
-InputsCounted before after (Err (stop.Refused other)) = after ≡ before
-InputsCounted before after (Err stop.ReadFault) = CountsFault before after
-InputsCounted before after (Err stop.WriteFault) = after ≡ before
-InputsCounted before after (Err stop.NoMemory) = after ≡ before
+-- the same of both for calls that write too, by a stop
+abbrev pub CountsStop : InputsState → InputsState → ℕ → ℕ → ToolStop → Type 0
+CountsStop inputs inputs_now faults faults_now (stop.Refused (refusal.Missing name)) = ⊥
+CountsStop inputs inputs_now faults faults_now (stop.Refused other) = (inputs_now ≡ inputs) × (faults_now ≡ faults)
+CountsStop inputs inputs_now faults faults_now stop.ReadFault = CountsFault inputs inputs_now × (faults_now ≡ faults)
+CountsStop inputs inputs_now faults faults_now stop.WriteFault = (inputs_now ≡ inputs) × Rose faults faults_now
+CountsStop inputs inputs_now faults faults_now stop.NoMemory = (inputs_now ≡ inputs) × (faults_now ≡ faults)
 
--- of the sink
-abbrev pub SinkCounted : {T : Type 0} → ℕ → ℕ → Result T ToolStop → Type 0
-SinkCounted before after (Ok done) = after ≡ before
-SinkCounted before after (Err (stop.Refused why)) = after ≡ before
-SinkCounted before after (Err stop.ReadFault) = after ≡ before
-SinkCounted before after (Err stop.WriteFault) = Rose before after
-SinkCounted before after (Err stop.NoMemory) = after ≡ before
-
--- of both
-pub record Counts {T : Type 0} (inputs inputs_now : InputsState) (faults faults_now : ℕ) (result : Result T ToolStop) : Type 0 where
-  pub of_inputs : InputsCounted inputs inputs_now result
-  pub of_sink : SinkCounted faults faults_now result
+-- and by an answer
+abbrev pub Counts : {T : Type 0} → InputsState → InputsState → ℕ → ℕ → Result T ToolStop → Type 0
+Counts inputs inputs_now faults faults_now (Ok done) = (inputs_now ≡ inputs) × (faults_now ≡ faults)
+Counts inputs inputs_now faults faults_now (Err why) = CountsStop inputs inputs_now faults faults_now why
 
 -- what reading leaves of the source's count of faults, beside the input files and the sink
 abbrev pub CountsRead : {T : Type 0} → InputsState → InputsState → ℕ → ℕ → ℕ → ℕ → Result T ToolStop → Type 0

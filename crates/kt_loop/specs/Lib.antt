@@ -3,6 +3,7 @@ pub mod Contents
 pub mod ByRecord
 pub mod Given
 pub mod Counts
+pub mod Answering
 pub mod Steps
 pub mod Reading
 pub mod Carrying

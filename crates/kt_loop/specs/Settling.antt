@@ -1,12 +1,12 @@
 -- How the loop ends, before what is pending is written.
 -- The rules: docs/STREAMS.md, "Tools over streams".
-use Rattle.std.specs.Prelude.{◌≡◌, List, ℕ, Option, IfSome, Result, Ok, Err}
+use Rattle.std.specs.Prelude.{◌≡◌, List, ℕ, Option, IfSome, Result, Err}
 use Rattle.kt_ends.specs.Ending.{Verdict, Gained}
 use Rattle.kt_ends.specs.Outcome.{Outcome}
 use Rattle.kt_ends.specs.declared.status.Status.{Status}
 use Rattle.kt_ends.specs.declared.status.Status.TheVariants.{Done, Refused}
 use Rattle.kt_ends.specs.declared.tool_stop.ToolStop.{ToolStop}
-use Rattle.kt_ends.specs.declared.tool_stop.ToolStop.TheVariants as stop
+use Rattle.kt_loop.specs.Answering.{ByAnswer}
 use Rattle.kt_loop.specs.Given.{Given, GivenFront}
 
 -- the outcome has this status, and all its output is given or pending
@@ -16,11 +16,7 @@ pub record IsSettled (outcome : Outcome) (before now : Option (List ℕ)) (pendi
 
 -- the loop ended as the outcome says; after a fault or for want of memory some front of its output is given
 abbrev pub Settles : {T : Type 0} → Outcome → Option (List ℕ) → Option (List ℕ) → List ℕ → Result T ToolStop → Type 0
-Settles outcome before now pending (Ok done) = IsSettled outcome before now pending Done
-Settles outcome before now pending (Err (stop.Refused refusal)) = IsSettled outcome before now pending (Refused refusal)
-Settles outcome before now pending (Err stop.ReadFault) = GivenFront before now outcome.output
-Settles outcome before now pending (Err stop.WriteFault) = GivenFront before now outcome.output
-Settles outcome before now pending (Err stop.NoMemory) = GivenFront before now outcome.output
+Settles outcome before now pending answer = ByAnswer answer (IsSettled outcome before now pending Done) (λ why. IsSettled outcome before now pending (Refused why)) (GivenFront before now outcome.output)
 
 -- the same of a stop
 abbrev pub StopSettles : Outcome → Option (List ℕ) → Option (List ℕ) → List ℕ → ToolStop → Type 0

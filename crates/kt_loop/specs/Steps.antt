@@ -3,7 +3,7 @@
 use Rattle.std.specs.Prelude.{◌≡◌, List, ◌++◌, ℕ, Option, Result, Ok, Err}
 use Rattle.kt_ends.specs.declared.status.Refusal.{Refusal}
 use Rattle.kt_ends.specs.declared.tool_stop.ToolStop.{ToolStop}
-use Rattle.kt_ends.specs.declared.tool_stop.ToolStop.TheVariants as stop
+use Rattle.kt_loop.specs.Answering.{ByAnswer}
 use Rattle.kt_loop.specs.Calculation.{Step, Course}
 use Rattle.kt_loop.specs.Given.{Given, GivenFront}
 
@@ -21,19 +21,11 @@ pub record StepsToRefusal {S R : Type 0} (step : Step S R) (refusal : R) (text t
 
 -- the answer of a stage is that of the step; nothing is said of a fault or of want of memory
 abbrev pub StepsBy : {S T : Type 0} → Step S Refusal → (S → Type 0) → List ℕ → List ℕ → Result T ToolStop → Type 0
-StepsBy step stands text text_now (Ok done) = StepsOn step stands text text_now
-StepsBy step stands text text_now (Err (stop.Refused refusal)) = StepsToRefusal step refusal text text_now
-StepsBy step stands text text_now (Err stop.ReadFault) = Unit {0}
-StepsBy step stands text text_now (Err stop.WriteFault) = Unit {0}
-StepsBy step stands text text_now (Err stop.NoMemory) = Unit {0}
+StepsBy step stands text text_now answer = ByAnswer answer (StepsOn step stands text text_now) (λ why. StepsToRefusal step why text text_now) (Unit {0})
 
 -- the text of the end is appended, and nothing is refused
 abbrev pub EndsWith : {T : Type 0} → List ℕ → List ℕ → List ℕ → Result T ToolStop → Type 0
-EndsWith end text text_now (Ok done) = text_now ≡ text ++ end
-EndsWith end text text_now (Err (stop.Refused refusal)) = ⊥
-EndsWith end text text_now (Err stop.ReadFault) = Unit {0}
-EndsWith end text text_now (Err stop.WriteFault) = Unit {0}
-EndsWith end text text_now (Err stop.NoMemory) = Unit {0}
+EndsWith end text text_now answer = ByAnswer answer (text_now ≡ text ++ end) (λ why. ⊥) (Unit {0})
 
 -- the calculation came so far: the stage stands at the state, and all text is given or pending
 pub record Stands {S R : Type 0} (stands : S → Type 0) (before now : Option (List ℕ)) (pending : List ℕ) (course : Course S R) : Type 0 where
@@ -49,8 +41,4 @@ pub record Refuses {S R : Type 0} (before now : Option (List ℕ)) (pending : Li
 
 -- calls come to the end of a course, or to its refusal; after a fault or for want of memory some front of its text is given
 abbrev pub Comes : {S T : Type 0} → (S → Type 0) → Option (List ℕ) → Option (List ℕ) → List ℕ → Course S Refusal → Result T ToolStop → Type 0
-Comes stands before now pending course (Ok done) = Stands stands before now pending course
-Comes stands before now pending course (Err (stop.Refused refusal)) = Refuses before now pending course refusal
-Comes stands before now pending course (Err stop.ReadFault) = GivenFront before now course.text
-Comes stands before now pending course (Err stop.WriteFault) = GivenFront before now course.text
-Comes stands before now pending course (Err stop.NoMemory) = GivenFront before now course.text
+Comes stands before now pending course answer = ByAnswer answer (Stands stands before now pending course) (λ why. Refuses before now pending course why) (GivenFront before now course.text)

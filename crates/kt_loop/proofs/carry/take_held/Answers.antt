@@ -6,8 +6,7 @@ use Rattle.kt_stream.specs.declared.stop.StreamStop.{StreamStop}
 use Rattle.kt_loop.specs.Calculation.{took}
 use Rattle.kt_loop.specs.Steps.{Stands, Comes}
 use Rattle.kt_loop.proofs.RecordReading.{passed_one, passed_rest, passed_stop, placed_on}
-use Rattle.kt_loop.proofs.Settling.{stopped_as}
-use Rattle.kt_loop.proofs.Stepping.{counts_as, counts_behind, no_inputs}
+use Rattle.kt_loop.proofs.Stepping.{counts_behind, no_inputs}
 use Rattle.kt_loop.proofs.Taking.{carried_more, carried_until, carried_all, carried_front}
 use Rattle.kt_loop.proofs.carry.take_held.Goals as goal
 
@@ -29,14 +28,13 @@ pub returns-in-Err-take_one-clause-course : goal.returns-in-Err-take_one-clause-
 returns-in-Err-take_one-clause-course g c before course standing =
     let reads = rw c.in-Record.is at c.in-Ok.ensures.value in
     let going = c.records.invariant.course before course standing in
-    stopped_as (Unit {0}) (Option StreamStop) (λ state. g.T.Stage.is_at state c.take_one.new.stage c.take_one.new.beside) before _ c.take_one.new.out _ c.in-Err-take_one.stop
-    (carried_until g.T.Stage.calculation c.args.head _ (λ state. g.T.Stage.is_at state c.take_one.new.stage c.take_one.new.beside) before _ _ _ c.take_one.new.out _ _ _ _ going reads.first (Unit {0}) c.in-Err-take_one.stop
+    carried_until g.T.Stage.calculation c.args.head _ (λ state. g.T.Stage.is_at state c.take_one.new.stage c.take_one.new.beside) before _ _ _ c.take_one.new.out _ _ _ _ going reads.first (Unit {0}) c.in-Err-take_one.stop
     (subst (λ (placed : Placed g.row.E.Denot). Comes {T = Unit {0}} (λ state. g.T.Stage.is_at state c.take_one.new.stage c.take_one.new.beside) before (g.K.Sink.state c.take_one.new.sink).taken c.take_one.new.out (took g.T.Stage.calculation c.args.head going.course placed) (Err c.in-Err-take_one.stop)) c.record.ensures.value
-    (c.in-Err-take_one.ensures.course before going.course going.standing)))
+    (c.in-Err-take_one.ensures.course before going.course going.standing))
 
 pub returns-in-Err-take_one-clause-counted : goal.returns-in-Err-take_one-clause-counted
 returns-in-Err-take_one-clause-counted g c others =
-    counts_as (Unit {0}) (Option StreamStop) _ _ _ _ c.in-Err-take_one.stop (counts_behind (Unit {0}) _ _ _ _ _ _ (Err c.in-Err-take_one.stop) (c.records.invariant.inputs others) c.records.invariant.faults (c.in-Err-take_one.ensures.counted others))
+    counts_behind (Unit {0}) _ _ _ _ _ _ (Err c.in-Err-take_one.stop) (c.records.invariant.inputs others) c.records.invariant.faults (c.in-Err-take_one.ensures.counted others)
 
 pub records-preserved : goal.records-preserved
 records-preserved g c =
@@ -50,8 +48,8 @@ records-preserved g c =
           carried_more g.T.Stage.calculation c.args.head _ (λ state. g.T.Stage.is_at state c.take_one.new.stage c.take_one.new.beside) before _ _ _ c.take_one.new.out _ _ _ _ going reads.first
           (subst (λ (placed : Placed g.row.E.Denot). Stands (λ state. g.T.Stage.is_at state c.take_one.new.stage c.take_one.new.beside) before (g.K.Sink.state c.take_one.new.sink).taken c.take_one.new.out (took g.T.Stage.calculation c.args.head going.course placed)) c.record.ensures.value
           (c.in_default.ensures.course before going.course going.standing));
-      inputs = λ others. ◌∙◌ {a = g.T.Stage.inputs others c.take_one.new.beside} (c.in_default.ensures.counted others).of_inputs (c.records.invariant.inputs others);
-      faults = ◌∙◌ {a = (g.K.Sink.state c.take_one.new.sink).faults} (c.in_default.ensures.counted no_inputs).of_sink c.records.invariant.faults;
+      inputs = λ others. ◌∙◌ {a = g.T.Stage.inputs others c.take_one.new.beside} (c.in_default.ensures.counted others).0 (c.records.invariant.inputs others);
+      faults = ◌∙◌ {a = (g.K.Sink.state c.take_one.new.sink).faults} (c.in_default.ensures.counted no_inputs).1 c.records.invariant.faults;
     }
 
 -- ---- no record is left

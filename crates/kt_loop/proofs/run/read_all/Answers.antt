@@ -4,6 +4,7 @@ use Rattle.kt_out.specs.Counts.{Rose}
 use Rattle.kt_out.specs.Reading.{GivesKnown}
 use Rattle.kt_stream.specs.declared.stop.StreamStop.{StreamStop}
 use Rattle.kt_loop.specs.Reading.{IsJudged, StandsBehind}
+use Rattle.kt_stream.specs.declared.kind.Shape.{Shape}
 use Rattle.kt_ends.specs.Hiding.{none_failed}
 use Rattle.kt_ends.specs.Stops.{end_status, stop_status}
 use Rattle.kt_loop.specs.Outcome.{outcome}
@@ -12,7 +13,7 @@ use Rattle.std.proofs.lemmas.List.{length-drop}
 use Rattle.kt_loop.specs.Blocks.{block_filled, filled_block, piece_read}
 use Rattle.kt_loop.proofs.Going.{HasRead, hides_nothing, read_none, fed_of, read_more, read_all, going_first, going_more, stopped, faulted, stream_refused, ended_so, standing_first}
 use Rattle.kt_loop.proofs.RecordReading.{stood_by}
-use Rattle.kt_loop.proofs.Stepping.{counts_behind, counts_as, counts_read, no_inputs}
+use Rattle.kt_loop.proofs.Stepping.{counts_behind, counts_read, no_inputs}
 use Rattle.kt_loop.specs.RecordStreams.{contents_of}
 use Rattle.kt_loop.proofs.run.read_all.Goals as goal
 
@@ -31,9 +32,9 @@ turns-init g c = record {
   rests = c.in_default.ensures.rests;
   ready = c.in_default.ensures.ready;
   shape = c.begin.ensures.shape;
-  inputs = λ others. (c.in_default.ensures.counted others).of_inputs;
+  inputs = λ others. (c.in_default.ensures.counted others).0;
   reads = refl;
-  faults = (c.in_default.ensures.counted no_inputs).of_sink;
+  faults = (c.in_default.ensures.counted no_inputs).1;
 }
 
 pub returns-in-Err-read_behind-clause-settled : goal.returns-in-Err-read_behind-clause-settled
@@ -68,7 +69,7 @@ returns-in-Err-turn-clause-settled g c start at =
 pub returns-in-Err-turn-clause-counted : goal.returns-in-Err-turn-clause-counted
 returns-in-Err-turn-clause-counted g c others =
     counts_read (Unit {0}) _ _ _ _ _ _ (Err c.in-Err-turn.why)
-    (counts_behind (Unit {0}) _ _ _ _ _ _ (Err c.in-Err-turn.why) (c.turns.invariant.inputs others) c.turns.invariant.faults (counts_as (Option StreamStop) (Unit {0}) _ _ _ _ c.in-Err-turn.why (c.in-Err-turn.ensures.counted others)))
+    (counts_behind (Unit {0}) _ _ _ _ _ _ (Err c.in-Err-turn.why) (c.turns.invariant.inputs others) c.turns.invariant.faults (c.in-Err-turn.ensures.counted others))
     (c.in-Ok.ensures.moved.counted ∙ c.turns.invariant.reads)
 
 pub returns-in-Some-clause-settled : goal.returns-in-Some-clause-settled
@@ -87,7 +88,7 @@ returns-in-Some-clause-settled g c start at =
 
 pub returns-in-Some-clause-counted : goal.returns-in-Some-clause-counted
 returns-in-Some-clause-counted g c others =
-    ((c.in-Ok-turn.ensures.counted others).of_inputs ∙ c.turns.invariant.inputs others, c.in-Ok.ensures.moved.counted ∙ c.turns.invariant.reads, (c.in-Ok-turn.ensures.counted others).of_sink ∙ c.turns.invariant.faults)
+    ((c.in-Ok-turn.ensures.counted others).0 ∙ c.turns.invariant.inputs others, c.in-Ok.ensures.moved.counted ∙ c.turns.invariant.reads, (c.in-Ok-turn.ensures.counted others).1 ∙ c.turns.invariant.faults)
 
 pub turns-preserved : goal.turns-preserved
 turns-preserved g c =
@@ -106,9 +107,9 @@ turns-preserved g c =
       rests = c.in-Ok-turn.ensures.rests;
       ready = c.in-Ok-turn.ensures.ready;
       shape = c.turn.ensures.shape ∙ c.turns.invariant.shape;
-      inputs = λ others. (c.in-Ok-turn.ensures.counted others).of_inputs ∙ c.turns.invariant.inputs others;
+      inputs = λ others. (c.in-Ok-turn.ensures.counted others).0 ∙ c.turns.invariant.inputs others;
       reads = c.in-Ok.ensures.moved.counted ∙ c.turns.invariant.reads;
-      faults = (c.in-Ok-turn.ensures.counted no_inputs).of_sink ∙ c.turns.invariant.faults;
+      faults = (c.in-Ok-turn.ensures.counted no_inputs).1 ∙ c.turns.invariant.faults;
     }
 
 pub finish-requires-clause-told : goal.finish-requires-clause-told

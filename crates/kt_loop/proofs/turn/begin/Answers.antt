@@ -7,8 +7,6 @@ use Rattle.kt_loop.specs.RecordStreams.{contents_of}
 use Rattle.kt_loop.specs.Steps.{Stands, Comes}
 use Rattle.kt_loop.proofs.Growing.{begun}
 use Rattle.kt_loop.proofs.RecordReading.{behind_all, head_is, records_are}
-use Rattle.kt_loop.proofs.Settling.{stopped_as}
-use Rattle.kt_loop.proofs.Stepping.{counts_as}
 use Rattle.kt_loop.proofs.turn.begin.Goals as goal
 
 pub returns-in-Ok-clause-stands : goal.returns-in-Ok-clause-stands
@@ -29,12 +27,11 @@ returns-in-Err-clause-course g c before start standing =
     let reader = c.args.reader.now in
     let shape = g.T.Stage.shape c.args.stage.now in
     let fresh : StandsFor g.row.E.Denot g.E.Entry.form shape [] [] reader = record { told = c.requires.told; represents = c.requires.fresh } in
-    stopped_as (Option StreamStop) (Unit {0}) (λ state. g.T.Stage.is_at state c.carry_on.new.stage c.carry_on.new.beside) before _ c.carry_on.new.out _ c.in-Err.why
-    (subst (λ (course : Course g.T.Stage.State Refusal). Comes {T = Option StreamStop} (λ state. g.T.Stage.is_at state c.carry_on.new.stage c.carry_on.new.beside) before (g.K.Sink.state c.carry_on.new.sink).taken c.carry_on.new.out course (Err c.in-Err.why))
-    (begun g.T.Stage.calculation start (contents_of g.E.Entry.form shape []) _ _ (head_is g.E.Entry.form shape [] [] reader fresh) (records_are g.E.Entry.form shape [] [] reader fresh)) (c.in-Err.ensures.course before _ standing))
+    subst (λ (course : Course g.T.Stage.State Refusal). Comes {T = Option StreamStop} (λ state. g.T.Stage.is_at state c.carry_on.new.stage c.carry_on.new.beside) before (g.K.Sink.state c.carry_on.new.sink).taken c.carry_on.new.out course (Err c.in-Err.why))
+    (begun g.T.Stage.calculation start (contents_of g.E.Entry.form shape []) _ _ (head_is g.E.Entry.form shape [] [] reader fresh) (records_are g.E.Entry.form shape [] [] reader fresh)) (c.in-Err.ensures.course before _ standing)
 
 pub returns-in-Ok-clause-counted : goal.returns-in-Ok-clause-counted
-returns-in-Ok-clause-counted g c others = record { of_inputs = (c.in-Ok.ensures.counted others).of_inputs; of_sink = (c.in-Ok.ensures.counted others).of_sink }
+returns-in-Ok-clause-counted g c others = c.in-Ok.ensures.counted others
 
 pub returns-in-Err-clause-counted : goal.returns-in-Err-clause-counted
-returns-in-Err-clause-counted g c others = counts_as (Option StreamStop) (Unit {0}) _ _ _ _ c.in-Err.why (c.in-Err.ensures.counted others)
+returns-in-Err-clause-counted g c others = c.in-Err.ensures.counted others
