@@ -13,7 +13,7 @@ pub mod PairsLoop
 pub mod Room
 pub mod Representing
 pub mod Advancing
-pub mod Fitting
+pub mod Headless
 pub mod Growing
 pub mod Spelling
 pub mod Writing

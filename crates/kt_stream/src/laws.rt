@@ -1,24 +1,13 @@
 //! What reading a stream and its grammar have to do with each other: theorems, as functions with an empty body.
 //! The rules: docs/STREAMS.md, "Headers", "Records" and "Readers".
-ghost use Rattle.std.specs.Prelude.{◌≡◌, Some, None, List, [], ◌++◌, ℕ};
-ghost use Rattle.std.specs.List.{AllByRecursion};
+ghost use Rattle.std.specs.Prelude.{◌≡◌, None, List, [], ◌++◌, ℕ};
 ghost use Rattle.kt_stream.specs.declared.kind.Head.{Head};
 ghost use Rattle.kt_stream.specs.declared.kind.Shape.{Shape};
-ghost use Rattle.kt_stream.specs.Header.{IsHead};
 ghost use Rattle.kt_stream.specs.Grammar.{Spells, IsSpelled, spelled, entries_of};
 ghost use Rattle.kt_stream.specs.Growth.{GrowsTo};
-ghost use Rattle.kt_stream.specs.Reader.{IsPlaced};
 ghost use Rattle.kt_stream.specs.Stream.{stream_of, fault_of, AreBytes};
 
 use crate::unit::Entry;
-
-/// The header and the records that are read of any bytes are in their ranges and within 2^40 bytes, also where
-/// the bytes are cut off or refused behind them.
-pub fn what_is_read_fits<E: Entry>()
-    ensures { (shape : Shape) (bytes : List ℕ) (head : Head) → (stream_of E.form shape bytes).head ≡ Some head → IsHead shape.kind head × AllByRecursion (IsPlaced E E.form E.IsGood shape head) (stream_of E.form shape bytes).entries }
-{
-    E::laws();
-}
 
 /// What was read stays with more bytes behind: the header, the records, and a refusal.
 pub fn what_is_read_stays<E: Entry>()

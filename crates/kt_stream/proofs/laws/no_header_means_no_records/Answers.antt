@@ -1,4 +1,4 @@
-use Rattle.kt_stream.proofs.Fitting.{stream_headless}
+use Rattle.kt_stream.proofs.Headless.{stream_headless}
 use Rattle.kt_stream.proofs.laws.no_header_means_no_records.Goals as goal
 
 pub returns : goal.returns
