@@ -5,7 +5,7 @@ use Rattle.kt_money.specs.NumberText.{count_text, money_text}
 use Rattle.kt_stream.specs.declared.stop.RecordCause.{RecordCause}
 use Rattle.kt_stream.specs.declared.stop.RecordCause.TheVariants as record_cause
 use Rattle.kt_stream.specs.declared.stop.StreamStop.{StreamStop}
-use Rattle.kt_stream.specs.declared.stop.StreamStop.TheVariants.{NotProfile, WrongStream, BadSamples, BadSet, BadRecord, Cut, TooLong, OutOfMemory}
+use Rattle.kt_stream.specs.declared.stop.StreamStop.TheVariants.{NotProfile, WrongStream, BadSamples, BadSet, BadRecord, Cut, TooLong}
 use Rattle.kt_words.specs.declared.stop.WordCause.{WordCause}
 use Rattle.kt_words.specs.declared.stop.WordCause.TheVariants.{Missing, UnknownTool, UnknownOption, Repeated, NeedsValue, BadValue, Unexpected, NotTogether, BadPart}
 use Rattle.kt_cells.specs.declared.stop.Cause.{Cause}
@@ -55,7 +55,6 @@ stream_text (BadSet found) = codes "bad set " ++ count_text found
 stream_text (BadRecord byte why) = place_text byte (record_text why)
 stream_text (Cut byte) = place_text byte (codes "cut")
 stream_text TooLong = codes "too long"
-stream_text OutOfMemory = []
 
 -- what is wrong with a row or a field of a table
 abbrev pub field_text : Cause → List ℕ

@@ -78,7 +78,6 @@ fn push_stream_text(out: &mut Bytes, stop: StreamStop) -> Result<(), OutOfMemory
         StreamStop::BadRecord { byte, cause } => push_place(out, byte, record_words(cause)),
         StreamStop::Cut { byte } => push_place(out, byte, b"cut"),
         StreamStop::TooLong => out.append(b"too long"),
-        StreamStop::OutOfMemory => Ok(()),
     }
 }
 

@@ -12,7 +12,7 @@ use Rattle.kt_stream.specs.declared.reader.Next.TheVariants as next
 use Rattle.kt_stream.specs.declared.stop.StreamStop.{StreamStop}
 use Rattle.kt_stream.specs.declared.stop.StreamStop.TheVariants.{TooLong}
 use Rattle.kt_stream.specs.Header.{IsHead, header_in}
-use Rattle.kt_stream.specs.Stop.{IsRefusal, record_stop}
+use Rattle.kt_stream.specs.Stop.{record_stop}
 use Rattle.kt_stream.specs.Stream.{Form, Stream, End, Refused, after, reads_on, overlong, too_long, within_room, with_head, stream_of, stream_limit, fault_at, AreBytes, IsLawful}
 use Rattle.kt_stream.specs.Reader.{Reading, refused, goes_on, held, rest_end, Represents, IsDry, HoldsNone, IsPlaced, AdvancesOne, EndsOpen, AdvancesToRest, AdvancesToStop, Advances, Ends}
 use Rattle.kt_stream.proofs.Cases.{some_is, kept_got, kept_wrong}
@@ -106,9 +106,9 @@ none_held form shape None row passed start pending none = refl
 none_held form shape (Some h) row passed start pending none = none
 
 -- a reader that goes on is refused
-pub advances_stop : {E : Type 0} (form : Form E) (shape : Shape) (head : Option Head) (row other : Placed E) (passed : List ℕ) (start : ℕ) (pending : List ℕ) (stop : StreamStop) → IsRefusal stop
+pub advances_stop : {E : Type 0} (form : Form E) (shape : Shape) (head : Option Head) (row other : Placed E) (passed : List ℕ) (start : ℕ) (pending : List ℕ) (stop : StreamStop)
     → ((more : List ℕ) → goes_on form shape head start (pending ++ more) ≡ refused head [] stop) → AdvancesToStop E form (running shape head row passed start pending) stop (stopped shape head other passed stop start pending)
-advances_stop {E} form shape head row other passed start pending stop kind onward =
+advances_stop {E} form shape head row other passed start pending stop onward =
     let empty = none_held form shape head row passed start pending (ap (λ (s : Stream E). s.entries) (onward [])) in
     record {
       shape = refl;
@@ -116,7 +116,6 @@ advances_stop {E} form shape head row other passed start pending stop kind onwar
       none = empty;
       passed = refl;
       stopped = refl;
-      kind = kind;
       rests = tt;
       stands = λ bytes taken rep. record {
         head = rep.head;
@@ -133,7 +132,7 @@ pub advances_wrong : {E : Type 0} {Good : Shape → ℕ → E → Type 0} (form 
 unfolding reads_on
 advances_wrong form shape h row other passed start pending m lawful is =
     let room = stream_limit - start in
-    advances_stop form shape (Some h) row other passed start pending (record_stop m) tt (λ more. room_stops room (reads_on form shape (Some h) start) pending more (Some h) [] (record_stop m) (λ more.
+    advances_stop form shape (Some h) row other passed start pending (record_stop m) (λ more. room_stops room (reads_on form shape (Some h) start) pending more (Some h) [] (record_stop m) (λ more.
     let same = kept_wrong (form.unit shape h.samples (take room pending) start) _ m is (lawful.steady shape h.samples (take room pending) more start) in
     ap (with_head h) (records_wrong form shape h.samples (take room pending ++ more) start m same)))
 
@@ -161,7 +160,7 @@ pub too_long_stop : {E : Type 0} (form : Form E) (shape : Shape) (head : Option 
 too_long_stop {E} form shape head row passed start pending none beyond =
     let room = stream_limit - start in
     let read = reads_on form shape head start in
-    advances_stop form shape head row row passed start pending TooLong tt (λ more.
+    advances_stop form shape head row row passed start pending TooLong (λ more.
     room_beyond room read (pending ++ more) (omega (arith, length-append pending more))
     ∙ ap (λ (xs : List ℕ). overlong (read xs)) (take-append-le room pending more (omega arith))
     ∙ ap overlong none
@@ -230,7 +229,6 @@ advances_row Good form shape head row other passed start pending (next.Stop by) 
   none = ended.none;
   passed = ended.passed;
   stopped = ended.stopped;
-  kind = ended.kind;
   rests = ended.rests;
   stands = λ bytes taken rep. ended.stands bytes taken (other_row form shape head row other passed start pending bytes taken rep);
   refuses = λ bytes taken rep. ended.refuses bytes taken (other_row form shape head row other passed start pending bytes taken rep);

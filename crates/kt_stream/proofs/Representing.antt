@@ -14,7 +14,7 @@ use Rattle.kt_stream.specs.declared.read.HeaderFault.TheVariants as header
 use Rattle.kt_stream.specs.declared.read.Read.TheVariants.{Got, Short, Wrong}
 use Rattle.kt_stream.specs.declared.stop.StreamStop.{StreamStop}
 use Rattle.kt_stream.specs.Header.{IsHead, first_head, header_in, header_size}
-use Rattle.kt_stream.specs.Stop.{IsRefusal, header_stop}
+use Rattle.kt_stream.specs.Stop.{header_stop}
 use Rattle.kt_stream.specs.Stream.{Form, Stream, Walk, Whole, walk, records_in, after, reads_on, overlong, within_room, stream_of, stream_limit}
 use Rattle.kt_stream.specs.Reader.{Reading, refused, goes_on, stream_from, held, rest_end, IsAt, Represents, IsDry, WaitsBy, IsReader, Extends, IsFilled, piece_in}
 use Rattle.kt_stream.proofs.Cases.{kept_got, kept_wrong}

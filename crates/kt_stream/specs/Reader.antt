@@ -9,7 +9,6 @@ use Rattle.kt_stream.specs.declared.reader.Next.{Next}
 use Rattle.kt_stream.specs.declared.reader.Next.TheVariants as next
 use Rattle.kt_stream.specs.declared.stop.StreamStop.{StreamStop}
 use Rattle.kt_stream.specs.Header.{IsHead, header_in}
-use Rattle.kt_stream.specs.Stop.{IsRefusal}
 use Rattle.kt_stream.specs.Stream.{Form, End, Partial, Refused, Stream, after, reads_on, within_room, stream_of, stream_limit, fault_of, at_border}
 
 -- What a reader of records of one kind holds.
@@ -107,7 +106,6 @@ WaitsBy (Some stop) head shape start pending = Unit {0}
 -- What holds of a reader whatever it was given.
 pub record IsReader (E : Type 0) (r : Reading E) : Type 0 where
   pub head : IfSome r.head (λ head. IsHead r.shape.kind head)
-  pub stop : IfSome r.stop IsRefusal
   pub start : r.start ≤ stream_limit
   pub waits : WaitsBy r.stop r.head r.shape r.start r.pending
 
@@ -164,7 +162,6 @@ pub record AdvancesToStop (E : Type 0) (form : Form E) (old : Reading E) (stop :
   pub none : held form old ≡ []
   pub passed : new.passed ≡ old.passed
   pub stopped : new.stop ≡ Some stop
-  pub kind : IsRefusal stop
   pub rests : IsRested E form new
   pub stands : (bytes : List ℕ) (taken : List (Placed E)) → Represents E form bytes taken old → Represents E form bytes taken new
   pub refuses : (bytes : List ℕ) (taken : List (Placed E)) → Represents E form bytes taken old → (more : List ℕ) → stream_of form new.shape (bytes ++ more) ≡ refused new.head taken stop
@@ -182,4 +179,4 @@ Ends E form r fault = (bytes : List ℕ) (taken : List (Placed E)) → Represent
 -- What finishing answers: Ok where the bytes have no fault, and else their first one.
 abbrev pub Finishes : (E : Type 0) → Form E → Reading E → Result (Unit {0}) StreamStop → Type 0
 Finishes E form r (Ok done) = Ends E form r None
-Finishes E form r (Err stop) = (IsRefusal stop) × Ends E form r (Some stop)
+Finishes E form r (Err stop) = Ends E form r (Some stop)

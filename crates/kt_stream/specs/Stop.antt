@@ -4,7 +4,7 @@ use Rattle.kt_stream.specs.declared.read.HeaderFault.{HeaderFault}
 use Rattle.kt_stream.specs.declared.read.HeaderFault.TheVariants as header
 use Rattle.kt_stream.specs.declared.read.Misfit.{Misfit}
 use Rattle.kt_stream.specs.declared.stop.StreamStop.{StreamStop}
-use Rattle.kt_stream.specs.declared.stop.StreamStop.TheVariants.{NotProfile, WrongStream, BadSamples, BadSet, BadRecord, OutOfMemory}
+use Rattle.kt_stream.specs.declared.stop.StreamStop.TheVariants.{NotProfile, WrongStream, BadSamples, BadSet, BadRecord}
 
 -- a wrong field of the header
 abbrev pub header_stop : HeaderFault → StreamStop
@@ -16,8 +16,3 @@ header_stop (header.BadSet found) = BadSet found
 -- a wrong field of a record
 abbrev pub record_stop : Misfit → StreamStop
 record_stop misfit = BadRecord misfit.at misfit.cause
-
--- a stop that speaks of the stream, and not of memory
-abbrev pub IsRefusal : StreamStop → Type 0
-IsRefusal OutOfMemory = ⊥
-IsRefusal stop = Unit {0}

@@ -1,7 +1,6 @@
 //! A reader of the records of a stream, which is fed pieces of any size.
 //! The rules: docs/STREAMS.md, "Readers".
 ghost use Rattle.std.specs.Prelude.{◌≡◌, ◌+◌, ◌-◌, ◌≤◌, ◌<◌, [], ◌∷◌, ◌++◌, None, Some, length, take, drop, IfOk, OnOk, OnErr, IfSome, IfNone};
-ghost use Rattle.kt_stream.specs.Stop.{IsRefusal};
 ghost use Rattle.kt_stream.specs.Stream.{AreBytes, fault_at, stream_limit};
 ghost use Rattle.kt_stream.specs.Reader.{rest_end};
 
@@ -32,7 +31,6 @@ pub enum Next {
 /// How bytes that end here are cut off: inside a header, or inside a record.
 fn cut_at(head: Option<Head>, pending: &[u8], byte: u64) -> Option<StreamStop>
     ensures value { result ≡ fault_at byte (rest_end head pending.now) }
-    ensures kind { IfSome result IsRefusal }
 {
     if head.is_some() && pending.is_empty() {
         None

@@ -1,11 +1,9 @@
 //! Why a stream is refused.
 //! The rules: docs/STREAMS.md, "What is refused".
 ghost use Rattle.std.specs.Prelude.{◌≡◌};
-ghost use Rattle.kt_stream.specs.declared.stop.StreamStop.TheVariants.{OutOfMemory};
 ghost use Rattle.kt_stream.specs.Stop.{header_stop, record_stop};
 
 use crate::read::{HeaderFault, Misfit};
-use std::alloc::AllocError;
 
 /// What is wrong with a field of a record.
 #[derive(Clone, Copy)]
@@ -64,16 +62,6 @@ pub enum StreamStop {
     },
     /// More than 2^40 bytes came.
     TooLong,
-    /// No memory was there; nothing is said of the stream.
-    OutOfMemory,
-}
-
-impl From<AllocError> for StreamStop {
-    ghost from_gives = { λ _ stop. stop ≡ OutOfMemory };
-
-    fn from(_: AllocError) -> StreamStop {
-        StreamStop::OutOfMemory
-    }
 }
 
 /// How a wrong field of the header is refused.

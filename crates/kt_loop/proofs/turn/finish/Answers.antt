@@ -19,7 +19,7 @@ returns-clause-counted g c beside = counts_call (Unit {0}) _ _ _ c.end.result (c
 pub returns-in-Err-clause-course : goal.returns-in-Err-clause-course
 returns-in-Err-clause-course g c shape fed before start stands standing =
     let form = g.E.Entry.form in
-    settled_fault g.T.Stage.calculation start (contents_of form shape fed) _ before _ _ standing c.in-Err.stop (ap (λ (told : Shape). fault_of form told fed) (sym stands.told) ∙ c.in-Err.ensures.exact.1 fed _ stands.represents)
+    settled_fault g.T.Stage.calculation start (contents_of form shape fed) _ before _ _ standing c.in-Err.stop (ap (λ (told : Shape). fault_of form told fed) (sym stands.told) ∙ c.in-Err.ensures.exact fed _ stands.represents)
 
 pub returns-in_default-head-clause-course : goal.returns-in_default-head-clause-course
 returns-in_default-head-clause-course g c shape fed before start stands standing =

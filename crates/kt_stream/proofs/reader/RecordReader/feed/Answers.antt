@@ -20,7 +20,7 @@ invariant_of-self-in-Got g c =
     let is : header_in r.shape.kind (take (stream_limit - r.start) (take c.args.upto c.args.block.now.items)) ≡ Got c.in-Got.head = sym (rw (c.within_limit.ensures.value, c.as_slice.ensures.value, c.swap.ensures.x_after) at c.in-Got.ensures) in
     let opens = header_opens r.shape.kind c.in-Got.head r.start (take c.args.upto c.args.block.now.items) c.self.invariant.3.start is in
     let long : header_size r.shape.kind ≤ c.args.upto = omega (arith, opens.long, length-take-le c.args.upto c.args.block.now.items c.requires.within) in
-    rw (c.header_length-self-inside.ensures, c.in_default.is, c.swap.ensures.x_after) (omega arith, long, c.requires.within, record { head = opens.good; stop = tt; start = opens.within; waits = tt })
+    rw (c.header_length-self-inside.ensures, c.in_default.is, c.swap.ensures.x_after) (omega arith, long, c.requires.within, record { head = opens.good; start = opens.within; waits = tt })
 
 pub returns-in-Short-clause-fed : goal.returns-in-Short-clause-fed
 returns-in-Short-clause-fed g c =

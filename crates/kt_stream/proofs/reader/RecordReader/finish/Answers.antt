@@ -15,4 +15,4 @@ returns-in-Some-cut_at g c =
     let r = c.self.inside in
     let dry = rw (← c.self.view_is, c.in_default.is) at c.requires in
     let fault = rw (c.as_slice.ensures.value, take_rest) at c.in-Some-cut_at.ensures.value in
-    record { exact = (c.in-Some-cut_at.ensures.kind, rw (← c.self.view_is, c.in_default.is) (open_ends g.E.Entry.form r.shape r.head r.row _ r.start (drop r.used (take r.end r.block.items)) (Some c.in-Some-cut_at.stop) dry fault)) }
+    record { exact = rw (← c.self.view_is, c.in_default.is) (open_ends g.E.Entry.form r.shape r.head r.row _ r.start (drop r.used (take r.end r.block.items)) (Some c.in-Some-cut_at.stop) dry fault) }
