@@ -34,10 +34,9 @@ mark_is kind word e = elim (cases_Bool (eqb (word / 256) 6619136)) [
 -- the values of the fields of a header
 abbrev values_of : StreamKind → Head → List ℕ
 values_of Cdf head = mark_of Cdf ∷ []
-values_of Gul head = mark_of Gul ∷ head.samples ∷ []
-values_of Loss head = mark_of Loss ∷ head.samples ∷ []
 values_of Summary head = mark_of Summary ∷ head.samples ∷ head.set ∷ []
 values_of Events head = []
+values_of kind head = mark_of kind ∷ head.samples ∷ []
 
 -- the values of a header that was read
 record ValuesRead (kind : StreamKind) (values : List ℕ) : Type 0 where
@@ -51,18 +50,6 @@ values_read : (kind : StreamKind) (values : List ℕ) → AreJudged (header_fiel
 values_read Cdf [] judged = absurd judged
 values_read Cdf (mark ∷ []) judged = record { good = (refl, refl); are = mark_alone Cdf mark [] judged.0 }
 values_read Cdf (mark ∷ other ∷ values) judged = absurd judged.1
-values_read Gul [] judged = absurd judged
-values_read Gul (mark ∷ []) judged = absurd judged.1
-values_read Gul (mark ∷ samples ∷ []) judged =
-    let bounds = between_bounds 1 1000 (BadSamples samples) samples judged.1.0 in
-    record { good = (bounds.0, bounds.1, refl); are = mark_alone Gul mark (samples ∷ []) judged.0 }
-values_read Gul (mark ∷ samples ∷ other ∷ values) judged = absurd judged.1.1
-values_read Loss [] judged = absurd judged
-values_read Loss (mark ∷ []) judged = absurd judged.1
-values_read Loss (mark ∷ samples ∷ []) judged =
-    let bounds = between_bounds 1 1000 (BadSamples samples) samples judged.1.0 in
-    record { good = (bounds.0, bounds.1, refl); are = mark_alone Loss mark (samples ∷ []) judged.0 }
-values_read Loss (mark ∷ samples ∷ other ∷ values) judged = absurd judged.1.1
 values_read Events [] judged = record { good = (refl, refl); are = refl }
 values_read Events (other ∷ values) judged = absurd judged
 values_read Summary [] judged = absurd judged
@@ -73,22 +60,24 @@ values_read Summary (mark ∷ samples ∷ set ∷ []) judged =
     let sets = between_bounds 1 9 (BadSet set) set judged.1.1.0 in
     record { good = (bounds.0, bounds.1, sets.0, sets.1); are = mark_alone Summary mark (samples ∷ set ∷ []) judged.0 }
 values_read Summary (mark ∷ samples ∷ set ∷ other ∷ values) judged = absurd judged.1.1.1
+values_read kind [] judged = absurd judged
+values_read kind (mark ∷ []) judged = absurd judged.1
+values_read kind (mark ∷ samples ∷ []) judged =
+    let bounds = between_bounds 1 1000 (BadSamples samples) samples judged.1.0 in
+    record { good = (bounds.0, bounds.1, refl); are = mark_alone kind mark (samples ∷ []) judged.0 }
+values_read kind (mark ∷ samples ∷ other ∷ values) judged = absurd judged.1.1
 
 all_wide : (kind : StreamKind) → AreWide (header_fields kind)
 all_wide Cdf = (inl refl, tt)
-all_wide Gul = (inl refl, (inl refl, tt))
-all_wide Loss = (inl refl, (inl refl, tt))
 all_wide Summary = (inl refl, (inl refl, (inl refl, tt)))
 all_wide Events = tt
+all_wide kind = (inl refl, (inl refl, tt))
 
 -- a header is written as its fields are
 values_bytes : (kind : StreamKind) (head : Head) (rest : List ℕ) → fields_then (header_fields kind) (values_of kind head) rest ≡ header_bytes kind head ++ rest
-values_bytes Cdf head rest = refl
-values_bytes Gul head rest = refl
-values_bytes Loss head rest = refl
-values_bytes Events head rest = refl
 values_bytes Summary head rest =
     ap (λ (xs : List ℕ). little_bytes 4 (mark_of Summary) ++ xs) (sym (append_assoc (little_bytes 4 head.samples) (little_bytes 4 head.set) rest))
+values_bytes kind head rest = refl
 
 -- what is known of a header that was read
 pub record HeaderRead (kind : StreamKind) (bytes : List ℕ) (head : Head) : Type 0 where
@@ -115,32 +104,27 @@ header_got kind bytes head e =
 -- a stream has at most 1,000 samples
 pub few_samples : (kind : StreamKind) (head : Head) → IsHead kind head → head.samples ≤ 1000
 few_samples Cdf head is = omega (arith, is.0)
-few_samples Gul head is = is.1
-few_samples Loss head is = is.1
-few_samples Summary head is = is.1
 few_samples Events head is = omega (arith, is.0)
+few_samples kind head is = is.1
 
 values_judged : (kind : StreamKind) (head : Head) → IsHead kind head → AreJudged (header_fields kind) [] 0 (values_of kind head)
 values_judged Cdf head is = (refl, tt)
-values_judged Gul head is = (refl, (between_none 1 1000 (BadSamples head.samples) head.samples is.0 is.1, tt))
-values_judged Loss head is = (refl, (between_none 1 1000 (BadSamples head.samples) head.samples is.0 is.1, tt))
 values_judged Events head is = tt
 values_judged Summary head is =
     (refl, (between_none 1 1000 (BadSamples head.samples) head.samples is.0 is.1, (between_none 1 9 (BadSet head.set) head.set is.2 is.3, tt)))
+values_judged kind head is = (refl, (between_none 1 1000 (BadSamples head.samples) head.samples is.0 is.1, tt))
 
 values_small : (kind : StreamKind) (head : Head) → IsHead kind head → AreSmall (header_fields kind) (values_of kind head)
 values_small Cdf head is = (omega arith, tt)
-values_small Gul head is = (omega arith, (omega (arith, is.1), tt))
-values_small Loss head is = (omega arith, (omega (arith, is.1), tt))
 values_small Events head is = tt
 values_small Summary head is = (omega arith, (omega (arith, is.1), (omega (arith, is.3), tt)))
+values_small kind head is = (omega arith, (omega (arith, is.1), tt))
 
 head_back : (kind : StreamKind) (head : Head) → IsHead kind head → head_of (values_of kind head) ≡ head
-head_back Cdf head is = ap (λ (n : ℕ). record { samples = n; set = 0 }) (sym is.0) ∙ ap (λ (n : ℕ). record { samples = head.samples; set = n }) (sym is.1)
 head_back Gul head is = ap (λ (set : ℕ). record { samples = head.samples; set = set }) (sym is.2)
 head_back Loss head is = ap (λ (set : ℕ). record { samples = head.samples; set = set }) (sym is.2)
 head_back Summary head is = refl
-head_back Events head is = ap (λ (n : ℕ). record { samples = n; set = 0 }) (sym is.0) ∙ ap (λ (n : ℕ). record { samples = head.samples; set = n }) (sym is.1)
+head_back kind head is = ap (λ (n : ℕ). record { samples = n; set = 0 }) (sym is.0) ∙ ap (λ (n : ℕ). record { samples = head.samples; set = n }) (sym is.1)
 
 -- a header is read back
 pub header_back : (kind : StreamKind) (head : Head) (rest : List ℕ) → IsHead kind head → header_in kind (header_bytes kind head ++ rest) ≡ Got head
@@ -150,7 +134,4 @@ header_back kind head rest is =
 -- the bytes of a header
 pub header_length : (kind : StreamKind) (head : Head) → length (header_bytes kind head) ≡ header_size kind
 header_length Cdf head = refl
-header_length Gul head = refl
-header_length Loss head = refl
-header_length Summary head = refl
-header_length Events head = refl
+header_length kind head = refl

@@ -1,7 +1,5 @@
 -- How records of losses are read and written.
-use Rattle.std.proofs.Common.{◌≡◌, ℕ, ◌+◌, ◌≤◌, List, [], ◌∷◌, ◌++◌, length, drop, refl, ap, arith, inl}
-use Rattle.std.proofs.lemmas.List.{length-append}
-use Rattle.byteorder.specs.Endian.{little_bytes}
+use Rattle.std.proofs.Common.{◌≡◌, ℕ, ◌+◌, List, [], ◌∷◌, length, drop, refl, ap, arith, inl}
 use Rattle.kt_stream.specs.declared.entry.LossRecord.{LossRecord}
 use Rattle.kt_stream.specs.declared.entry.Pair.{Pair}
 use Rattle.kt_stream.specs.declared.kind.Shape.{Shape}
@@ -10,13 +8,13 @@ use Rattle.kt_stream.specs.declared.read.Misfit.{Misfit}
 use Rattle.kt_stream.specs.declared.read.Read.TheVariants.{Got}
 use Rattle.kt_stream.specs.declared.stop.RecordCause.TheVariants.{Id}
 use Rattle.kt_stream.specs.Read.{fields_in, AreJudged}
-use Rattle.kt_stream.specs.Pairs.{misfit, pairs_in, ArePairs, pairs_bytes}
+use Rattle.kt_stream.specs.Pairs.{misfit, pairs_in, ArePairs}
 use Rattle.kt_stream.specs.Losses.{loss_fields, loss_record, loss_front, loss_front_in, loss_in, loss_bytes, loss_form, IsLoss}
 use Rattle.kt_stream.specs.Stream.{IsLawful}
 use Rattle.kt_stream.proofs.Cases.{got_is, bind_got}
 use Rattle.kt_stream.proofs.Fields.{between_bounds, between_none}
-use Rattle.kt_stream.proofs.PairsRead.{pairs_size, pairs_length}
-use Rattle.kt_stream.proofs.PairKinds.{PairKind, kind_back, kind_lawful}
+use Rattle.kt_stream.proofs.PairsRead.{pairs_size}
+use Rattle.kt_stream.proofs.PairKinds.{PairKind, kind_size, kind_lawful}
 
 -- the values in front of the pairs
 abbrev values_of : LossRecord → List ℕ
@@ -57,27 +55,17 @@ loss_kind = record {
   nothing = λ samples at. refl;
 }
 
--- the bytes of a record
-pub loss_length : (entry : LossRecord) → length (loss_bytes entry) ≡ 8 + pairs_size entry.pairs
-unfolding loss_bytes
-loss_length entry =
-    let pairs = pairs_bytes entry.pairs in
-    omega (arith, length-append (little_bytes 4 entry.event) (little_bytes 4 entry.id ++ pairs), length-append (little_bytes 4 entry.id) pairs, pairs_length entry.pairs)
-
--- a record of losses is read back
-pub loss_back : (samples : ℕ) (entry : LossRecord) (rest : List ℕ) (at : ℕ) → samples ≤ 1000 → IsLoss samples entry → loss_in samples (loss_bytes entry ++ rest) at ≡ Got entry
-unfolding loss_in
-loss_back samples entry rest at few is = kind_back loss_fields loss_record loss_bytes loss_kind samples entry rest at few is
-
 -- how records of losses are read and written
 pub loss_lawful : IsLawful LossRecord loss_form (λ (shape : Shape) samples entry. IsLoss samples entry)
 unfolding loss_in
 loss_lawful = kind_lawful loss_fields loss_record loss_bytes loss_kind
 
--- a record whose fields and pairs were read
-pub loss_whole : (samples : ℕ) (bytes : List ℕ) (at : ℕ) (front : LossFront) (pairs : List Pair) → loss_front_in bytes at ≡ Got front → pairs_in (samples + 4) samples 0 (drop 8 bytes) (at + 8) ≡ Got pairs
-    → loss_in samples bytes at ≡ Got (record { event = front.event; id = front.id; pairs = pairs })
-unfolding loss_in
-loss_whole samples bytes at front pairs e p =
+-- a record whose fields and pairs were read, and its bytes
+pub loss_whole : (samples : ℕ) (bytes : List ℕ) (at : ℕ) (front : LossFront) (pairs : List Pair) (entry : LossRecord) → entry ≡ record { event = front.event; id = front.id; pairs = pairs } → loss_front_in bytes at ≡ Got front
+    → pairs_in (samples + 4) samples 0 (drop 8 bytes) (at + 8) ≡ Got pairs → (loss_in samples bytes at ≡ Got entry) × (length (loss_bytes entry) ≡ 8 + pairs_size entry.pairs)
+unfolding loss_in loss_kind
+loss_whole samples bytes at front pairs entry is e p =
     let first = bind_got (fields_in loss_fields [] bytes at) (λ values. Got (loss_front values)) front e in
-    rw (first.1, p) (ap (λ (f : LossFront). Got (record { event = f.event; id = f.id; pairs = pairs })) (got_is {W = Misfit} (loss_front first.0) front first.2))
+    let whole : loss_in samples bytes at ≡ Got entry =
+    rw (first.1, p, is) (ap (λ (f : LossFront). Got (record { event = f.event; id = f.id; pairs = pairs })) (got_is {W = Misfit} (loss_front first.0) front first.2)) in
+    (whole, kind_size loss_fields loss_record loss_bytes loss_kind samples at bytes entry whole)

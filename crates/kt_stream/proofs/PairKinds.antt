@@ -62,8 +62,16 @@ kind_read {E} {Good} fields make bytes kind samples at from entry e =
     let read = pair_record_got fields make samples from at entry e in
     subst (KindRead E fields bytes Good samples from) {x = make read.values read.pairs} read.is (made_read fields make bytes kind samples at from entry read)
 
+-- the bytes of a record that was read
+pub kind_size : {E : Type 0} {Good : ℕ → E → Type 0} (fields : List (Field Misfit)) (make : List ℕ → List Pair → E) (bytes : E → List ℕ) (kind : PairKind E fields make bytes Good) (samples at : ℕ) (from : List ℕ) (entry : E)
+    → pair_record fields make samples from at ≡ Got entry → length (bytes entry) ≡ width_of fields + pairs_size (kind.pairs_of entry)
+kind_size {E} fields make bytes kind samples at from entry e =
+    let read = pair_record_got fields make samples from at entry e in
+    subst (λ (made : E). length (bytes made) ≡ width_of fields + pairs_size (kind.pairs_of made)) {x = make read.values read.pairs} read.is
+    (kind_length fields bytes kind at (make read.values read.pairs) (rw (kind.parts at read.values read.pairs read.judged).0 read.judged))
+
 -- a record is read back
-pub kind_back : {E : Type 0} {Good : ℕ → E → Type 0} (fields : List (Field Misfit)) (make : List ℕ → List Pair → E) (bytes : E → List ℕ) (kind : PairKind E fields make bytes Good) (samples : ℕ) (entry : E) (rest : List ℕ) (at : ℕ) → samples ≤ 1000 → Good samples entry
+kind_back : {E : Type 0} {Good : ℕ → E → Type 0} (fields : List (Field Misfit)) (make : List ℕ → List Pair → E) (bytes : E → List ℕ) (kind : PairKind E fields make bytes Good) (samples : ℕ) (entry : E) (rest : List ℕ) (at : ℕ) → samples ≤ 1000 → Good samples entry
     → pair_record fields make samples (bytes entry ++ rest) at ≡ Got entry
 kind_back fields make bytes kind samples entry rest at few good =
     ap (λ (xs : List ℕ). pair_record fields make samples (xs ++ rest) at) (sym (kind.written entry))

@@ -8,15 +8,14 @@ use Rattle.kt_stream.specs.declared.entry.Placed.{Placed}
 use Rattle.kt_stream.specs.declared.kind.Head.{Head}
 use Rattle.kt_stream.specs.declared.kind.Shape.{Shape}
 use Rattle.kt_stream.specs.declared.kind.StreamKind.{StreamKind}
-use Rattle.kt_stream.specs.declared.kind.StreamKind.TheVariants.{Cdf, Gul, Loss, Summary, Events}
+use Rattle.kt_stream.specs.declared.kind.StreamKind.TheVariants.{Cdf, Events}
 use Rattle.kt_stream.specs.declared.read.HeaderFault.{HeaderFault}
-use Rattle.kt_stream.specs.declared.read.HeaderFault.TheVariants as header
 use Rattle.kt_stream.specs.declared.read.Read.TheVariants.{Got, Short, Wrong}
 use Rattle.kt_stream.specs.declared.stop.StreamStop.{StreamStop}
 use Rattle.kt_stream.specs.Header.{IsHead, first_head, header_in, header_size}
 use Rattle.kt_stream.specs.Stop.{header_stop}
 use Rattle.kt_stream.specs.Stream.{Form, Stream, Walk, Whole, walk, records_in, after, reads_on, overlong, within_room, stream_of, stream_limit}
-use Rattle.kt_stream.specs.Reader.{Reading, refused, goes_on, stream_from, held, rest_end, IsAt, Represents, IsDry, WaitsBy, IsReader, Extends, IsFilled, piece_in}
+use Rattle.kt_stream.specs.Reader.{Reading, refused, goes_on, stream_from, held, rest_end, IsAt, Represents, IsDry, WaitsBy, Extends, IsFilled, piece_in}
 use Rattle.kt_stream.proofs.Cases.{kept_got, kept_wrong}
 use Rattle.kt_stream.proofs.Heading.{header_kept, header_got}
 use Rattle.kt_stream.proofs.Room.{room_within, room_beyond, room_length, room_steps, room_stops}
@@ -163,18 +162,12 @@ wrong_extends form shape fault row before passed start pending piece now now-is 
 first_onward : {E : Type 0} (form : Form E) (kind : StreamKind) (bins : ℕ) (more : List ℕ) → stream_of form (record { kind = kind; bins = bins }) more ≡ goes_on form (record { kind = kind; bins = bins }) (first_head kind) 0 more
 unfolding within_room reads_on
 first_onward form Cdf bins more = refl
-first_onward form Gul bins more = refl
-first_onward form Loss bins more = refl
-first_onward form Summary bins more = refl
-first_onward form Events bins more = refl
+first_onward form kind bins more = refl
 
 -- what is pending is too short for a header, where there is one to be read
 first_waits : (kind : StreamKind) (bins : ℕ) → WaitsBy None (first_head kind) (record { kind = kind; bins = bins }) 0 []
-first_waits Cdf bins = refl
-first_waits Gul bins = refl
-first_waits Loss bins = refl
-first_waits Summary bins = refl
 first_waits Events bins = tt
+first_waits kind bins = refl
 
 -- no record stands in no bytes
 no_record : {E : Type 0} (form : Form E) (shape : Shape) → form.unit shape 0 [] 0 ≡ Short → records_in form shape 0 [] 0 ≡ record { entries = []; end = Whole }
@@ -184,11 +177,8 @@ no_record form shape short = rw short refl
 first_rests : {E : Type 0} (form : Form E) (kind : StreamKind) (bins : ℕ) → ((shape : Shape) (samples at : ℕ) → form.unit shape samples [] at ≡ Short)
     → reads_on form (record { kind = kind; bins = bins }) (first_head kind) 0 [] ≡ record { head = first_head kind; entries = []; end = rest_end (first_head kind) [] }
 unfolding reads_on
-first_rests form Cdf bins nothing = refl
-first_rests form Gul bins nothing = refl
-first_rests form Loss bins nothing = refl
-first_rests form Summary bins nothing = refl
 first_rests {E} form Events bins nothing = ap (λ (w : Walk E). record { head = first_head Events; entries = w.entries; end = w.end }) (no_record form (record { kind = Events; bins = bins }) (nothing (record { kind = Events; bins = bins }) 0 0))
+first_rests form kind bins nothing = refl
 
 -- a reader that was given nothing
 pub fresh : {E : Type 0} (form : Form E) (shape : Shape) (row : Placed E) (passed : List ℕ) → Represents E form [] [] (running shape (first_head shape.kind) row passed 0 [])
@@ -207,8 +197,5 @@ pub fresh_dry : {E : Type 0} (form : Form E) (shape : Shape) (row : Placed E) (p
 fresh_dry form shape row passed nothing = record { within = omega arith; rests = first_rests form shape.kind shape.bins nothing }
 
 first_good : (kind : StreamKind) → IfSome (first_head kind) (λ head. IsHead kind head)
-first_good Cdf = tt
-first_good Gul = tt
-first_good Loss = tt
-first_good Summary = tt
 first_good Events = (refl, refl)
+first_good kind = tt

@@ -1,7 +1,5 @@
 -- How summary records are read and written.
-use Rattle.std.proofs.Common.{◌≡◌, ℕ, ◌+◌, ◌≤◌, List, [], ◌∷◌, ◌++◌, length, drop, refl, ap, arith, inl, inr}
-use Rattle.std.proofs.lemmas.List.{length-append}
-use Rattle.byteorder.specs.Endian.{little_bytes}
+use Rattle.std.proofs.Common.{◌≡◌, ℕ, ◌+◌, List, [], ◌∷◌, length, drop, refl, ap, arith, inl, inr}
 use Rattle.kt_stream.specs.declared.entry.Pair.{Pair}
 use Rattle.kt_stream.specs.declared.entry.SummaryRecord.{SummaryRecord}
 use Rattle.kt_stream.specs.declared.kind.Shape.{Shape}
@@ -10,13 +8,13 @@ use Rattle.kt_stream.specs.declared.read.Read.TheVariants.{Got}
 use Rattle.kt_stream.specs.declared.stop.RecordCause.TheVariants.{Id, Exposure}
 use Rattle.kt_stream.specs.declared.summary.SummaryFront.{SummaryFront}
 use Rattle.kt_stream.specs.Read.{fields_in, AreJudged}
-use Rattle.kt_stream.specs.Pairs.{misfit, pairs_in, ArePairs, pairs_bytes}
+use Rattle.kt_stream.specs.Pairs.{misfit, pairs_in, ArePairs}
 use Rattle.kt_stream.specs.Summary.{summary_fields, summary_record, front_of, front_in, summary_in, summary_bytes, summary_form, IsSummary}
 use Rattle.kt_stream.specs.Stream.{IsLawful}
 use Rattle.kt_stream.proofs.Cases.{got_is, bind_got}
 use Rattle.kt_stream.proofs.Fields.{between_bounds, between_none}
-use Rattle.kt_stream.proofs.PairsRead.{pairs_size, pairs_length}
-use Rattle.kt_stream.proofs.PairKinds.{PairKind, kind_back, kind_lawful}
+use Rattle.kt_stream.proofs.PairsRead.{pairs_size}
+use Rattle.kt_stream.proofs.PairKinds.{PairKind, kind_size, kind_lawful}
 
 -- the values in front of the pairs
 abbrev values_of : SummaryRecord → List ℕ
@@ -66,33 +64,17 @@ summary_kind = record {
   nothing = λ samples at. refl;
 }
 
--- the bytes of a record
-pub summary_length : (entry : SummaryRecord) → length (summary_bytes entry) ≡ 16 + pairs_size entry.pairs
-unfolding summary_bytes
-summary_length entry =
-    let pairs = pairs_bytes entry.pairs in
-    omega (
-      arith,
-      length-append (little_bytes 4 entry.event) (little_bytes 4 entry.summary ++ (little_bytes 8 entry.exposure ++ pairs)),
-      length-append (little_bytes 4 entry.summary) (little_bytes 8 entry.exposure ++ pairs),
-      length-append (little_bytes 8 entry.exposure) pairs,
-      pairs_length entry.pairs,
-    )
-
--- a summary record is read back
-pub summary_back : (samples : ℕ) (entry : SummaryRecord) (rest : List ℕ) (at : ℕ) → samples ≤ 1000 → IsSummary samples entry → summary_in samples (summary_bytes entry ++ rest) at ≡ Got entry
-unfolding summary_in
-summary_back samples entry rest at few is = kind_back summary_fields summary_record summary_bytes summary_kind samples entry rest at few is
-
 -- how summary records are read and written
 pub summary_lawful : IsLawful SummaryRecord summary_form (λ (shape : Shape) samples entry. IsSummary samples entry)
 unfolding summary_in
 summary_lawful = kind_lawful summary_fields summary_record summary_bytes summary_kind
 
--- a record whose fields and pairs were read
-pub summary_whole : (samples : ℕ) (bytes : List ℕ) (at : ℕ) (front : SummaryFront) (pairs : List Pair) → front_in bytes at ≡ Got front → pairs_in (samples + 4) samples 0 (drop 16 bytes) (at + 16) ≡ Got pairs
-    → summary_in samples bytes at ≡ Got (record { event = front.event; summary = front.summary; exposure = front.exposure; pairs = pairs })
-unfolding summary_in
-summary_whole samples bytes at front pairs e p =
+-- a record whose fields and pairs were read, and its bytes
+pub summary_whole : (samples : ℕ) (bytes : List ℕ) (at : ℕ) (front : SummaryFront) (pairs : List Pair) (entry : SummaryRecord) → entry ≡ record { event = front.event; summary = front.summary; exposure = front.exposure; pairs = pairs } → front_in bytes at ≡ Got front
+    → pairs_in (samples + 4) samples 0 (drop 16 bytes) (at + 16) ≡ Got pairs → (summary_in samples bytes at ≡ Got entry) × (length (summary_bytes entry) ≡ 16 + pairs_size entry.pairs)
+unfolding summary_in summary_kind
+summary_whole samples bytes at front pairs entry is e p =
     let first = bind_got (fields_in summary_fields [] bytes at) (λ values. Got (front_of values)) front e in
-    rw (first.1, p) (ap (λ (f : SummaryFront). Got (record { event = f.event; summary = f.summary; exposure = f.exposure; pairs = pairs })) (got_is {W = Misfit} (front_of first.0) front first.2))
+    let whole : summary_in samples bytes at ≡ Got entry =
+    rw (first.1, p, is) (ap (λ (f : SummaryFront). Got (record { event = f.event; summary = f.summary; exposure = f.exposure; pairs = pairs })) (got_is {W = Misfit} (front_of first.0) front first.2)) in
+    (whole, kind_size summary_fields summary_record summary_bytes summary_kind samples at bytes entry whole)

@@ -1,8 +1,8 @@
-use Rattle.std.proofs.Common.{◌+◌, drop, sym, length-drop, arith}
+use Rattle.std.proofs.Common.{◌+◌, drop, refl, sym, length-drop, arith}
 use Rattle.std.proofs.lemmas.List.{take_rest}
 use Rattle.kt_stream.specs.declared.entry.LossRecord.{LossRecord}
 use Rattle.kt_stream.proofs.PairsRead.{pairs_got}
-use Rattle.kt_stream.proofs.LossRecords.{loss_whole, loss_length}
+use Rattle.kt_stream.proofs.LossRecords.{loss_whole}
 use Rattle.kt_stream.proofs.loss.LossRecordEntry.read_into.Goals as goal
 
 pub overflow_add-result : goal.overflow_add-result
@@ -15,6 +15,6 @@ overflow_add-result c =
 pub returns-in-Got-2 : goal.returns-in-Got-2
 returns-in-Got-2 c =
     let read = rw (take_rest, c.in-Got-2.is) at c.in_ok-read_pairs.ensures in
-    let whole = loss_whole c.args.samples c.args.bytes.now c.args.at c.in-Got.front c.read_pairs.new.list (sym c.in-Got.ensures) read.0 in
     let entry : LossRecord = record { event = c.in-Got.front.event; id = c.in-Got.front.id; pairs = c.read_pairs.new.list } in
-    record { value = (whole, omega (arith, read.1, loss_length entry)) }
+    let whole = loss_whole c.args.samples c.args.bytes.now c.args.at c.in-Got.front c.read_pairs.new.list entry refl (sym c.in-Got.ensures) read.0 in
+    record { value = (whole.0, omega (arith, read.1, whole.1)) }
