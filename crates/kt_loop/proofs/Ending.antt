@@ -30,9 +30,6 @@ use Rattle.kt_loop.specs.Settling.{IsSettled, Settles, IsEnd}
 abbrev some_list : List ℕ → Option (List ℕ)
 some_list xs = Some xs
 
-abbrev unit_ok : Result (Unit {0}) ToolStop
-unit_ok = Ok tt
-
 -- ---- what is known of something
 
 pub map_some : {A : Type 0} (known : Option A) (P Q : A → Type 0) → ((x : A) → P x → Q x) → IfSome known P → IfSome known Q
@@ -56,8 +53,7 @@ module _ (made : Outcome) (before mid now : Option (List ℕ)) (pending pending_
       → IsEnd made before now (stop_status why)
   unwritten_end T faults faults_now end (stop.Refused why) settled spills counts = absurd counts
   unwritten_end T faults faults_now end stop.ReadFault settled spills counts = absurd counts
-  unwritten_end T faults faults_now end stop.WriteFault settled spills counts = record { verdict = tt; output = spills before made.output settled.given }
-  unwritten_end T faults faults_now end stop.NoMemory settled spills counts = record { verdict = tt; output = spills before made.output settled.given }
+  unwritten_end T faults faults_now end other settled spills counts = record { verdict = tt; output = spills before made.output settled.given }
 
   -- the stream was read to its end
   pub done_end : (faults faults_now : ℕ) (result : Result (Unit {0}) ToolStop) → IsSettled made before mid pending status.Done → ((before : Option (List ℕ)) (text : List ℕ) → Given before mid pending text → Spills before now pending_now text result) → OnOk result (pending_now ≡ [])
@@ -72,9 +68,7 @@ module _ (made : Outcome) (before mid now : Option (List ℕ)) (pending pending_
 -- it stopped otherwise
 pub stopped_end : (T : Type 0) (made : Outcome) (before now : Option (List ℕ)) (pending : List ℕ) (why : ToolStop) → ((refused : Refusal) → why ≡ stop.Refused refused → ⊥) → Settles {T = T} made before now pending (Err why) → IsEnd made before now (stop_status why)
 stopped_end T made before now pending (stop.Refused why) other settles = absurd (other why refl)
-stopped_end T made before now pending stop.ReadFault other settles = record { verdict = tt; output = settles }
-stopped_end T made before now pending stop.WriteFault other settles = record { verdict = tt; output = settles }
-stopped_end T made before now pending stop.NoMemory other settles = record { verdict = tt; output = settles }
+stopped_end T made before now pending why other settles = record { verdict = tt; output = settles }
 
 -- ---- the counts
 
@@ -103,10 +97,9 @@ module _ (inputs inputs_now : InputsState) (outputs : OutputsState) (source sour
 
   -- writing behind calls that counted nothing
   pub counted_writing : (T : Type 0) (why : ToolStop) → (inputs_now ≡ inputs) × (source_now.faults ≡ source.faults) × (sink_mid.faults ≡ sink.faults) → CountsWrite {T = T} sink_mid.faults sink_now.faults (Err why) → Counted at_first at_last (stop_status why)
-  counted_writing T (stop.Refused why) none counts = absurd counts
-  counted_writing T stop.ReadFault none counts = absurd counts
   counted_writing T stop.WriteFault none counts = write_counted none.0 none.1 (subst (λ (n : ℕ). Rose n sink_now.faults) none.2 counts)
   counted_writing T stop.NoMemory none counts = none_counted none.0 none.1 (counts ∙ none.2)
+  counted_writing T other none counts = absurd counts
 
   pub counted_done : (result : Result (Unit {0}) ToolStop) → (inputs_now ≡ inputs) × (source_now.faults ≡ source.faults) × (sink_mid.faults ≡ sink.faults) → CountsWrite sink_mid.faults sink_now.faults result → Counted at_first at_last (end_status result)
   counted_done (Ok done) none counts = none_counted none.0 none.1 (counts ∙ none.2)
@@ -137,12 +130,9 @@ fault_kept inputs inputs_now reads reads_now faults faults_now (inr fault, same)
 
 -- no call changes what the input files hold
 pub files_kept : (T : Type 0) (inputs inputs_now : InputsState) (reads reads_now faults faults_now : ℕ) (result : Result T ToolStop) → CountsRead inputs inputs_now reads reads_now faults faults_now result → inputs_now.held ≡ inputs.held
-files_kept T inputs inputs_now reads reads_now faults faults_now (Ok done) counts = ap (λ (state : InputsState). state.held) counts.0
 files_kept T inputs inputs_now reads reads_now faults faults_now (Err (stop.Refused (refusal.Missing name))) counts = absurd counts
-files_kept T inputs inputs_now reads reads_now faults faults_now (Err (stop.Refused why)) counts = ap (λ (state : InputsState). state.held) counts.0
 files_kept T inputs inputs_now reads reads_now faults faults_now (Err stop.ReadFault) counts = fault_kept inputs inputs_now reads reads_now faults faults_now counts
-files_kept T inputs inputs_now reads reads_now faults faults_now (Err stop.WriteFault) counts = ap (λ (state : InputsState). state.held) counts.0
-files_kept T inputs inputs_now reads reads_now faults faults_now (Err stop.NoMemory) counts = ap (λ (state : InputsState). state.held) counts.0
+files_kept T inputs inputs_now reads reads_now faults faults_now result counts = ap (λ (state : InputsState). state.held) counts.0
 
 -- ---- the end as a whole
 
@@ -160,9 +150,7 @@ files_as_before None end = tt
 files_as_before (Some files) status.Done = λ name. refl
 files_as_before (Some files) (status.Words why) = λ name. refl
 files_as_before (Some files) (status.Refused why) = λ name. refl
-files_as_before (Some files) status.ReadFault = none_partly files
-files_as_before (Some files) status.WriteFault = none_partly files
-files_as_before (Some files) status.NoMemory = none_partly files
+files_as_before (Some files) end = none_partly files
 
 abbrev used : Bool
 used = true
@@ -203,17 +191,13 @@ module _ {H E S : Type 0} (calculation : Calculation H E S Refusal) (contents : 
 pub hidden_stop : (hidden : List ℕ → Outcome) (inputs inputs_now : InputsState) (source source_now : SourceState) (faults faults_now : ℕ) (why answer : ToolStop) → StopCounts inputs inputs_now source.faults source_now.faults faults faults_now why
     → (why ≡ stop.ReadFault → answer ≡ stop.ReadFault) → HidesNone hidden source source_now (stop_status why) → HidesNone hidden source source_now (stop_status answer)
 hidden_stop hidden inputs inputs_now source source_now faults faults_now (stop.Refused (refusal.Missing name)) answer counts same hides = absurd counts
-hidden_stop hidden inputs inputs_now source source_now faults faults_now (stop.Refused why) answer counts same hides = none_failed hidden source source_now (stop_status answer) counts.1
 hidden_stop hidden inputs inputs_now source source_now faults faults_now stop.ReadFault answer counts same hides = subst (λ (one : ToolStop). HidesNone hidden source source_now (stop_status one)) (sym (same refl)) hides
-hidden_stop hidden inputs inputs_now source source_now faults faults_now stop.WriteFault answer counts same hides = none_failed hidden source source_now (stop_status answer) counts.1
-hidden_stop hidden inputs inputs_now source source_now faults faults_now stop.NoMemory answer counts same hides = none_failed hidden source source_now (stop_status answer) counts.1
+hidden_stop hidden inputs inputs_now source source_now faults faults_now why answer counts same hides = none_failed hidden source source_now (stop_status answer) counts.1
 
 -- a run that did not end with Done promises nothing of the rest of the source
 pub stop_at_end : (left now : Option (List ℕ)) (why : ToolStop) → AtEnd left now (stop_status why)
 stop_at_end left now (stop.Refused why) = tt
-stop_at_end left now stop.ReadFault = tt
-stop_at_end left now stop.WriteFault = tt
-stop_at_end left now stop.NoMemory = tt
+stop_at_end left now other = tt
 
 pub done_at_end : (left now : Option (List ℕ)) (result : Result (Unit {0}) ToolStop) → AtEnd left now status.Done → AtEnd left now (end_status result)
 done_at_end left now (Ok done) at_end = at_end

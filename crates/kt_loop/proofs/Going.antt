@@ -113,9 +113,7 @@ module _ {H E S : Type 0} (calculation : Calculation H E S Refusal) (contents : 
     stopped_later : (V : Type 0) (stands : S → Type 0) (pending fed rest : List ℕ) (why : ToolStop) → Comes {T = V} stands taken now pending (course_at start fed) (Err why) → Comes {T = V} stands taken now pending (course_at start (fed ++ rest)) (Err why)
     stopped_later V stands pending fed rest (stop.Refused why) comes =
         subst (λ (course : Course S Refusal). Refuses taken now pending course why) (sym (refusal_stays calculation start (contents fed) (contents (fed ++ rest)) why (grows fed rest) comes.reached)) comes
-    stopped_later V stands pending fed rest stop.ReadFault comes = let longer = text_grows calculation start (contents fed) (contents (fed ++ rest)) (grows fed rest) in front_longer taken now (course_at start fed).text _ longer.0 comes longer.1
-    stopped_later V stands pending fed rest stop.WriteFault comes = let longer = text_grows calculation start (contents fed) (contents (fed ++ rest)) (grows fed rest) in front_longer taken now (course_at start fed).text _ longer.0 comes longer.1
-    stopped_later V stands pending fed rest stop.NoMemory comes = let longer = text_grows calculation start (contents fed) (contents (fed ++ rest)) (grows fed rest) in front_longer taken now (course_at start fed).text _ longer.0 comes longer.1
+    stopped_later V stands pending fed rest other comes = let longer = text_grows calculation start (contents fed) (contents (fed ++ rest)) (grows fed rest) in front_longer taken now (course_at start fed).text _ longer.0 comes longer.1
 
     -- a stop
     pub stopped : (V U : Type 0) (stands : S → Type 0) (left : Option (List ℕ)) (pending fed : List ℕ) (why : ToolStop) → HasFed left fed → Comes {T = V} stands taken now pending (course_at start fed) (Err why) → IfSome left (λ bytes. Settles {T = U} (outcome calculation start (contents bytes)) taken now pending (Err why))

@@ -23,18 +23,14 @@ module _ {H E P : Type 0} (key : E → RunKey) (runs : RunCalculation H E P Refu
       → StepsBy (record { text = step.text; next = opened_run run step.next }) (λ (next : OpenRun P E). stands next.kept × (items ≡ next.run)) text text_now result
   opened_step stands items run text text_now step (Ok done) same by = record { next = record { kept = by.next; run = run }; reached = ap (opened_run run) by.reached; state = (by.state, same); wrote = by.wrote }
   opened_step stands items run text text_now step (Err (stop.Refused why)) same by = record { reached = ap (opened_run run) by.reached; wrote = by.wrote }
-  opened_step stands items run text text_now step (Err stop.ReadFault) same by = tt
-  opened_step stands items run text text_now step (Err stop.WriteFault) same by = tt
-  opened_step stands items run text text_now step (Err stop.NoMemory) same by = tt
+  opened_step stands items run text text_now step (Err other) same by = tt
 
   module _ (kept : P) (placed : Placed E) (stands : OpenRun P E → Type 0) (result : Result (Unit {0}) ToolStop) where
     -- what a step that writes nothing does behind a text that was written
     behind_text : (text text_now closed : List ℕ) (next : Result (OpenRun P E) Refusal) (answer : Result (Unit {0}) ToolStop) → text_now ≡ text ++ closed → StepsBy (unwritten next) stands [] [] answer → StepsBy (record { text = closed; next = next }) stands text text_now answer
     behind_text text text_now closed next (Ok done) wrote by = record { next = by.next; reached = by.reached; state = by.state; wrote = wrote }
     behind_text text text_now closed next (Err (stop.Refused why)) wrote by = record { reached = by.reached; wrote = wrote }
-    behind_text text text_now closed next (Err stop.ReadFault) wrote by = tt
-    behind_text text text_now closed next (Err stop.WriteFault) wrote by = tt
-    behind_text text text_now closed next (Err stop.NoMemory) wrote by = tt
+    behind_text text text_now closed next (Err other) wrote by = tt
 
     abbrev TakesAt : List ℕ → List ℕ → List (Placed E) → Bool → Type 0
     TakesAt text text_now run joined = StepsBy (takes_run runs head (record { kept = kept; run = run }) placed joined) stands text text_now result

@@ -51,9 +51,7 @@ module _ {H E S : Type 0} (calculation : Calculation H E S Refusal) (start : S) 
   -- by a stop
   pub settled_by : (T U : Type 0) (stands : S → Type 0) (before now : Option (List ℕ)) (pending : List ℕ) (why : ToolStop) → Comes {T = T} stands before now pending course_here (Err why) → Settles {T = U} (outcome calculation start contents) before now pending (Err why)
   settled_by T U stands before now pending (stop.Refused why) comes = settled_as _ (gives (Refused why) course_here.text) before now pending (Refused why) (outcome_refused why comes.reached) refl comes.given
-  settled_by T U stands before now pending stop.ReadFault comes = output_front before now comes
-  settled_by T U stands before now pending stop.WriteFault comes = output_front before now comes
-  settled_by T U stands before now pending stop.NoMemory comes = output_front before now comes
+  settled_by T U stands before now pending other comes = output_front before now comes
 
   module _ (stands : S → Type 0) (before now : Option (List ℕ)) (pending : List ℕ) (standing : Stands stands before now pending course_here) where
     -- by a fault of the stream
@@ -73,6 +71,4 @@ module _ {H E S : Type 0} (calculation : Calculation H E S Refusal) (start : S) 
         settled_as _ (gives Done (course_here.text ++ calculation.ends head standing.at)) before now pending_now Done (outcome_ended standing.at None (Some head) standing.reached sound is) refl
         (given_more before now pending pending_now course_here.text (calculation.ends head standing.at) standing.given (ends standing.at standing.state))
     settled_end T head pending_now (Err (stop.Refused why)) sound is ends = absurd (ends standing.at standing.state)
-    settled_end T head pending_now (Err stop.ReadFault) sound is ends = output_front before now (given_front before now pending course_here.text standing.given)
-    settled_end T head pending_now (Err stop.WriteFault) sound is ends = output_front before now (given_front before now pending course_here.text standing.given)
-    settled_end T head pending_now (Err stop.NoMemory) sound is ends = output_front before now (given_front before now pending course_here.text standing.given)
+    settled_end T head pending_now (Err other) sound is ends = output_front before now (given_front before now pending course_here.text standing.given)

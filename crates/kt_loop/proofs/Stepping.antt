@@ -20,9 +20,7 @@ module _ {S : Type 0} (T : Type 0) (stands : S → Type 0) (before now : Option 
   pub came : (pending pending_now text : List ℕ) (step : Step S Refusal) (result : Result T ToolStop) → Given before now pending text → StepsBy step stands pending pending_now result → Comes stands before now pending_now (behind text step) result
   came pending pending_now text step (Ok done) given by = record { at = by.next; reached = by.reached; state = by.state; given = given_more before now pending pending_now text step.text given by.wrote }
   came pending pending_now text step (Err (stop.Refused why)) given by = record { reached = by.reached; given = given_more before now pending pending_now text step.text given by.wrote }
-  came pending pending_now text step (Err stop.ReadFault) given by = front_behind pending text step.text given
-  came pending pending_now text step (Err stop.WriteFault) given by = front_behind pending text step.text given
-  came pending pending_now text step (Err stop.NoMemory) given by = front_behind pending text step.text given
+  came pending pending_now text step (Err other) given by = front_behind pending text step.text given
 
   module _ {H E : Type 0} (calculation : Calculation H E S Refusal) (head : H) (stood : S → Type 0) (pending pending_now : List ℕ) (course : Course S Refusal) (result : Result T ToolStop) (standing : Stands stood before now pending course) where
     -- by that at the header
@@ -42,9 +40,7 @@ pub spilled : {S : Type 0} (T : Type 0) (stands : S → Type 0) (before now next
     → Stands stands before now pending course → ((before : Option (List ℕ)) (text : List ℕ) → Given before now pending text → Spills before next pending_now text result) → CountsWrite faults faults_now result → Comes stands before next pending_now course result
 spilled T stands before now next pending pending_now faults faults_now course (Ok done) standing wrote counted = record { at = standing.at; reached = standing.reached; state = standing.state; given = wrote before course.text standing.given }
 spilled T stands before now next pending pending_now faults faults_now course (Err (stop.Refused why)) standing wrote counted = absurd counted
-spilled T stands before now next pending pending_now faults faults_now course (Err stop.ReadFault) standing wrote counted = wrote before course.text standing.given
-spilled T stands before now next pending pending_now faults faults_now course (Err stop.WriteFault) standing wrote counted = wrote before course.text standing.given
-spilled T stands before now next pending pending_now faults faults_now course (Err stop.NoMemory) standing wrote counted = wrote before course.text standing.given
+spilled T stands before now next pending pending_now faults faults_now course (Err other) standing wrote counted = wrote before course.text standing.given
 
 -- ---- counts
 
@@ -52,18 +48,15 @@ spilled T stands before now next pending pending_now faults faults_now course (E
 pub counts_call : (T : Type 0) (before after : InputsState) (faults : ℕ) (result : Result T ToolStop) → Consults before after result → Counts before after faults faults result
 counts_call T before after faults (Ok done) by = (by, refl)
 counts_call T before after faults (Err (stop.Refused (refusal.Missing name))) by = by
-counts_call T before after faults (Err (stop.Refused why)) by = (by, refl)
-counts_call T before after faults (Err stop.ReadFault) by = (by, refl)
 counts_call T before after faults (Err stop.WriteFault) by = absurd by
-counts_call T before after faults (Err stop.NoMemory) by = (by, refl)
+counts_call T before after faults (Err other) by = (by, refl)
 
 -- writing counts nothing of the input files
 pub counts_write : (T : Type 0) (before after : InputsState) (faults faults_now : ℕ) (result : Result T ToolStop) → after ≡ before → CountsWrite faults faults_now result → Counts before after faults faults_now result
 counts_write T before after faults faults_now (Ok done) same by = (same, by)
 counts_write T before after faults faults_now (Err (stop.Refused why)) same by = absurd by
 counts_write T before after faults faults_now (Err stop.ReadFault) same by = absurd by
-counts_write T before after faults faults_now (Err stop.WriteFault) same by = (same, by)
-counts_write T before after faults faults_now (Err stop.NoMemory) same by = (same, by)
+counts_write T before after faults faults_now (Err other) same by = (same, by)
 
 -- calls behind others that counted nothing
 pub counts_behind : (T : Type 0) (before between after : InputsState) (faults faults_between faults_now : ℕ) (result : Result T ToolStop) → (between ≡ before) → (faults_between ≡ faults) → Counts between after faults_between faults_now result → Counts before after faults faults_now result
@@ -76,9 +69,6 @@ no_inputs = record { held = None; faults = 0; misses = 0 }
 
 -- what calls counted that read nothing of the source
 pub counts_read : (T : Type 0) (before after : InputsState) (reads reads_now faults faults_now : ℕ) (result : Result T ToolStop) → Counts before after faults faults_now result → reads_now ≡ reads → CountsRead before after reads reads_now faults faults_now result
-counts_read T before after reads reads_now faults faults_now (Ok done) by same = (by.0, same, by.1)
 counts_read T before after reads reads_now faults faults_now (Err (stop.Refused (refusal.Missing name))) by same = by
-counts_read T before after reads reads_now faults faults_now (Err (stop.Refused why)) by same = (by.0, same, by.1)
 counts_read T before after reads reads_now faults faults_now (Err stop.ReadFault) by same = (inl (by.0, same), by.1)
-counts_read T before after reads reads_now faults faults_now (Err stop.WriteFault) by same = (by.0, same, by.1)
-counts_read T before after reads reads_now faults faults_now (Err stop.NoMemory) by same = (by.0, same, by.1)
+counts_read T before after reads reads_now faults faults_now result by same = (by.0, same, by.1)

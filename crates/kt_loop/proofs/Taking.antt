@@ -23,9 +23,7 @@ module _ {H E S : Type 0} (calculation : Calculation H E S Refusal) (head : H) w
       → Comes {T = T} stands before now pending course (Err why) → Comes {T = T} stands before now pending (took_all calculation head course xs) (Err why)
   stopped_later T stands before now pending course (stop.Refused why) xs comes =
       subst (λ (later : Course S Refusal). Refuses before now pending later why) (sym (stays_refused course why xs comes.reached)) comes
-  stopped_later T stands before now pending course stop.ReadFault xs comes = let longer = took_longer calculation head course xs in front_longer before now course.text _ longer.0 comes longer.1
-  stopped_later T stands before now pending course stop.WriteFault xs comes = let longer = took_longer calculation head course xs in front_longer before now course.text _ longer.0 comes longer.1
-  stopped_later T stands before now pending course stop.NoMemory xs comes = let longer = took_longer calculation head course xs in front_longer before now course.text _ longer.0 comes longer.1
+  stopped_later T stands before now pending course other xs comes = let longer = took_longer calculation head course xs in front_longer before now course.text _ longer.0 comes longer.1
 
   -- the course came to another one, from which these records are left to take
   pub record IsCarried (stands : S → Type 0) (before now : Option (List ℕ)) (pending : List ℕ) (whole : Course S Refusal) (held : List (Placed E)) : Type 0 where

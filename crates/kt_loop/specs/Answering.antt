@@ -8,9 +8,7 @@ use Rattle.kt_ends.specs.declared.tool_stop.ToolStop.TheVariants as stop
 -- what holds of a stop: of a refusal, and of a fault or want of memory
 abbrev pub ByStop : ToolStop → (Refusal → Type 0) → Type 0 → Type 0
 ByStop (stop.Refused why) refused faulted = refused why
-ByStop stop.ReadFault refused faulted = faulted
-ByStop stop.WriteFault refused faulted = faulted
-ByStop stop.NoMemory refused faulted = faulted
+ByStop other refused faulted = faulted
 
 -- what holds of an answer: of a value, of a refusal, and of a fault or want of memory
 abbrev pub ByAnswer : {T : Type 0} → Result T ToolStop → Type 0 → (Refusal → Type 0) → Type 0 → Type 0

@@ -1,8 +1,7 @@
-use Rattle.std.proofs.Common.{◌∙◌, subst, sym, Option, Err}
+use Rattle.std.proofs.Common.{◌∙◌, subst, sym, Err}
 use Rattle.kt_stream.specs.Header.{IsHead}
 use Rattle.kt_stream.specs.declared.entry.Placed.{Placed}
 use Rattle.kt_stream.specs.declared.kind.Shape.{Shape}
-use Rattle.kt_stream.specs.declared.stop.StreamStop.{StreamStop}
 use Rattle.kt_loop.specs.Calculation.{took}
 use Rattle.kt_loop.specs.Steps.{Stands, Comes}
 use Rattle.kt_loop.proofs.RecordReading.{passed_one, passed_rest, passed_stop, placed_on}

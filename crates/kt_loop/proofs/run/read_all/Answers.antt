@@ -4,7 +4,6 @@ use Rattle.kt_out.specs.Counts.{Rose}
 use Rattle.kt_out.specs.Reading.{GivesKnown}
 use Rattle.kt_stream.specs.declared.stop.StreamStop.{StreamStop}
 use Rattle.kt_loop.specs.Reading.{IsJudged, StandsBehind}
-use Rattle.kt_stream.specs.declared.kind.Shape.{Shape}
 use Rattle.kt_ends.specs.Hiding.{none_failed}
 use Rattle.kt_ends.specs.Stops.{end_status, stop_status}
 use Rattle.kt_loop.specs.Outcome.{outcome}
