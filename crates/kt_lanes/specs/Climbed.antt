@@ -1,6 +1,6 @@
 -- What the units of a programme carry at many sidx.
 -- The rules: docs/FINANCIAL_MODULE.md, "Levels".
-use Rattle.std.specs.Prelude.{◌≡◌, ℕ, ◌<◌, ◌≤◌, ◌^◌, false, List, [], All, length, slice_index_or}
+use Rattle.std.specs.Prelude.{◌≡◌, ℕ, zero, suc, ◌+◌, ◌<◌, ◌≤◌, ◌^◌, false, List, [], All, length, slice_index_or}
 use Rattle.std.specs.List.{sum}
 use Rattle.kt_rules.specs.LossAlone.{looks_back}
 use Rattle.kt_fmtree.specs.Parts.{Parts, units_at}
@@ -8,6 +8,9 @@ use Rattle.kt_fmtree.specs.Carried.{Carried, leaf_row, row_of, climbed_rows}
 use Rattle.kt_fmtree.specs.declared.node.Node.{Node}
 use Rattle.kt_lanes.specs.Lanes.{column, AreWide, AreLanes, losses_of}
 use Rattle.kt_lanes.specs.declared.climbing.Climbed.{Climbed}
+use Rattle.kt_lanes.specs.declared.climbing.Leaves.{Leaves}
+use Rattle.kt_lanes.specs.declared.climbing.Leaves.TheVariants as leaves
+use Rattle.kt_lanes.specs.declared.climbing.Levels.{Levels}
 
 -- the rules of units see the losses alone
 abbrev pub ArePlain : List Node → Type 0
@@ -21,9 +24,15 @@ HasPlainUnits parts = (level : ℕ) → level < length parts.levels → ArePlain
 abbrev pub carried_at : Parts → List (List ℕ) → ℕ → Carried
 carried_at parts lanes k = climbed_rows parts.levels (leaf_row parts.leaves (column k lanes))
 
--- the lanes of a level
-abbrev pub level_lanes : List (List (List ℕ)) → ℕ → List (List ℕ)
-level_lanes rows level = slice_index_or rows level []
+-- the lanes of level 0, where those of the ids are these
+abbrev pub leaf_lanes : List (List ℕ) → Leaves → List (List ℕ)
+leaf_lanes lanes leaves.Ids = lanes
+leaf_lanes lanes (leaves.Own own) = own
+
+-- the lanes of a level, where those of the ids are these
+abbrev pub level_lanes : List (List ℕ) → Levels → ℕ → List (List ℕ)
+level_lanes lanes levels zero = leaf_lanes lanes levels.leaves
+level_lanes lanes levels (suc level) = slice_index_or levels.rows.items level []
 
 -- the lanes of a level are the losses that its units carry
 abbrev pub AreLevel : Parts → List (List ℕ) → ℕ → ℕ → List (List ℕ) → Type 0
@@ -40,5 +49,5 @@ pub record AreLosses (parts : Parts) (width : ℕ) (lanes : List (List ℕ)) : T
 pub record IsClimbed (parts : Parts) (lanes : List (List ℕ)) (climbed : Climbed) : Type 0 where
   pub losses : AreLosses parts climbed.width lanes
   pub plain : HasPlainUnits parts
-  pub enough : length parts.levels ≤ length climbed.rows.items
-  pub rows : (level : ℕ) → level < length parts.levels → AreLevel parts lanes climbed.width level (level_lanes climbed.rows.items level)
+  pub enough : length parts.levels ≤ length climbed.levels.rows.items + 1
+  pub rows : (level : ℕ) → level < length parts.levels → AreLevel parts lanes climbed.width level (level_lanes lanes climbed.levels level)

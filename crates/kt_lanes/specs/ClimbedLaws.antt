@@ -1,10 +1,11 @@
 -- Laws of lanes that are carried up.
 -- The rules: docs/FINANCIAL_MODULE.md, "Levels".
 use Rattle.std.specs.Prelude.{◌≡◌, ◌⊎◌, ℕ, zero, suc, ◌+◌, ◌<◌, ◌≤◌, ◌^◌, false, List, [], ◌∷◌, ◌++◌, All, length, map, take, drop, slice_index, slice_index_or}
-use Rattle.std.specs.List.{sum, sum_by}
+use Rattle.std.specs.List.{range_with_len, sum, sum_by}
 use Rattle.std.proofs.Common.{inl, inr, refl, sym, ap, subst, ◌∙◌, arith}
 use Rattle.std.proofs.lemmas.Bool.{cases_lt}
 use Rattle.std.proofs.lemmas.List.{length-map, take-map, drop-map}
+use Rattle.std.proofs.lemmas.List.FromFn.{fill_by_all, length-range_with_len}
 use Rattle.std.proofs.lemmas.List.Sums.{sum_by-cons, sum-map}
 use Rattle.kt_rules.specs.Amounts.{total}
 use Rattle.kt_rules.specs.LossAlone.{looks_back, loss_after, loss-alone}
@@ -16,9 +17,10 @@ use Rattle.kt_fmtree.specs.Parts.{Parts, IsNode, HasProgramme, units_at}
 use Rattle.kt_fmtree.specs.Carried.{added, child_sum, node_carry, leaf_row, row_of, CanCarry}
 use Rattle.kt_fmtree.specs.CarriedLaws.{can-carry, map-agree, map-map}
 use Rattle.kt_fmtree.specs.declared.node.Node.{Node}
-use Rattle.kt_lanes.specs.Lanes.{column, AreLanes, losses_of, child_losses, unit_loss, CanTake}
+use Rattle.kt_lanes.specs.Lanes.{column, AreLanes, AreWide, losses_of, child_losses, unit_loss, CanTake}
 use Rattle.kt_lanes.specs.LaneLaws.{lanes-are, length-more}
-use Rattle.kt_lanes.specs.Climbed.{HasPlainUnits, AreLevel, AreLosses, level_lanes}
+use Rattle.kt_lanes.specs.Climbed.{HasPlainUnits, AreLevel, AreLosses, leaf_lanes, level_lanes}
+use Rattle.kt_lanes.specs.declared.climbing.Levels.{Levels}
 
 -- ---- losses of children
 
@@ -47,6 +49,21 @@ child_losses-le row node =
 pub node_carry-loss : (row : List Carry) (node : Node) → looks_back node.profile.rule ≡ false → (node_carry row node).loss ≡ unit_loss (losses_of row) node
 node_carry-loss row node plain =
     loss-alone node.profile plain node.tiv (child_sum row node) ∙ ap (loss_after node.profile node.tiv) (child_sum-loss row node)
+
+-- ---- lanes in all places
+
+-- what stands in each place, from the first on
+pub all-in-turn : (xs : List ℕ) → map (slice_index xs) (range_with_len 0 (length xs)) ≡ xs
+all-in-turn xs = sym (fill_by_all (slice_index xs) xs (length xs) 0 refl (λ k below. refl))
+
+pub lanes-in-turn : (width : ℕ) (places : List ℕ) (lanes : List (List ℕ)) → AreWide width lanes → places ≡ range_with_len 0 (length lanes) → AreLanes width (length places) (λ k. map (slice_index (column k lanes)) places) lanes
+lanes-in-turn width places lanes wide places_are = record {
+  count_is = sym (ap length places_are ∙ length-range_with_len 0 (length lanes));
+  wide = wide;
+  each = λ k below.
+      sym (ap (map (slice_index (column k lanes))) (places_are ∙ ap (range_with_len 0) (sym (length-map lanes (λ (one : List ℕ). slice_index one k))))
+      ∙ all-in-turn (column k lanes));
+}
 
 -- ---- a level
 
@@ -96,40 +113,41 @@ module _ (parts : Parts) (has : HasProgramme parts) (width : ℕ) (lanes : List 
 -- ---- levels
 
 -- so many levels have their lanes
-pub record HasRows (parts : Parts) (lanes : List (List ℕ)) (width n : ℕ) (rows : List (List (List ℕ))) : Type 0 where
-  pub count_is : length rows ≡ n
-  pub each : (level : ℕ) → level < n → AreLevel parts lanes width level (level_lanes rows level)
+pub record HasLevels (parts : Parts) (lanes : List (List ℕ)) (width n : ℕ) (levels : Levels) : Type 0 where
+  pub count_is : length levels.rows.items + 1 ≡ n
+  pub each : (level : ℕ) → level < n → AreLevel parts lanes width level (level_lanes lanes levels level)
 
-row-old : (rows : List (List (List ℕ))) (row : List (List ℕ)) (level : ℕ) → level < length rows → level_lanes (rows ++ row ∷ []) level ≡ level_lanes rows level
+row-old : (rows : List (List (List ℕ))) (row : List (List ℕ)) (level : ℕ) → level < length rows → slice_index_or (rows ++ row ∷ []) level [] ≡ slice_index_or rows level []
 row-old [] row level below = absurd (omega arith)
 row-old (first ∷ rows) row zero below = refl
 row-old (first ∷ rows) row (suc level) below = row-old rows row level (omega arith)
 
-row-new : (rows : List (List (List ℕ))) (row : List (List ℕ)) (level : ℕ) → length rows ≡ level → level_lanes (rows ++ row ∷ []) level ≡ row
+row-new : (rows : List (List (List ℕ))) (row : List (List ℕ)) (level : ℕ) → length rows ≡ level → slice_index_or (rows ++ row ∷ []) level [] ≡ row
 row-new [] row zero same = refl
 row-new [] row (suc level) same = absurd (omega arith)
 row-new (first ∷ rows) row zero same = absurd (omega arith)
 row-new (first ∷ rows) row (suc level) same = row-new rows row level (omega arith)
 
 -- the first level
-pub rows-one : (parts : Parts) (lanes : List (List ℕ)) (width : ℕ) (rows more : List (List (List ℕ))) (row : List (List ℕ)) → rows ≡ [] → more ≡ rows ++ row ∷ [] → AreLevel parts lanes width 0 row → HasRows parts lanes width 1 more
-rows-one parts lanes width rows more row rows_are more_is are =
-    let all : more ≡ row ∷ [] = more_is ∙ ap (λ front. front ++ row ∷ []) rows_are in
-    record { count_is = ap length all; each = λ level below. by level below (ap (λ rs. level_lanes rs level) all) }
+pub levels-one : (parts : Parts) (lanes : List (List ℕ)) (width : ℕ) (levels : Levels) → levels.rows.items ≡ [] → AreLevel parts lanes width 0 (leaf_lanes lanes levels.leaves) → HasLevels parts lanes width 1 levels
+levels-one parts lanes width levels none are = record { count_is = omega (arith, ap length none); each = by }
   where
-    by : (level : ℕ) → level < 1 → level_lanes more level ≡ level_lanes (row ∷ []) level → AreLevel parts lanes width level (level_lanes more level)
-    by zero below same = subst (AreLevel parts lanes width 0) (sym same) are
-    by (suc level) below same = absurd (omega arith)
+    by : (level : ℕ) → level < 1 → AreLevel parts lanes width level (level_lanes lanes levels level)
+    by zero below = are
+    by (suc level) below = absurd (omega arith)
 
 -- one more level
-pub rows-more : (parts : Parts) (lanes : List (List ℕ)) (width n : ℕ) (rows more : List (List (List ℕ))) (row : List (List ℕ)) → HasRows parts lanes width n rows → more ≡ rows ++ row ∷ [] → AreLevel parts lanes width n row → HasRows parts lanes width (n + 1) more
-rows-more parts lanes width n rows more row has more_is are = record {
-  count_is = ap length more_is ∙ (length-more rows row ∙ ap (λ m. m + 1) has.count_is);
+pub levels-more : (parts : Parts) (lanes : List (List ℕ)) (width n : ℕ) (levels more : Levels) (row : List (List ℕ)) → HasLevels parts lanes width n levels → more.leaves ≡ levels.leaves → more.rows.items ≡ levels.rows.items ++ row ∷ [] → AreLevel parts lanes width n row → HasLevels parts lanes width (n + 1) more
+levels-more parts lanes width n levels more row has leaves_are rows_are are = record {
+  count_is = omega (arith, ap length rows_are, length-more levels.rows.items row, has.count_is);
   each = λ level below. by level below (cases_lt level n);
 }
   where
-    by : (level : ℕ) → level < n + 1 → (level < n) ⊎ (n ≤ level) → AreLevel parts lanes width level (level_lanes more level)
-    by level below (inl less) = subst (AreLevel parts lanes width level) (sym (ap (λ rs. level_lanes rs level) more_is ∙ row-old rows row level (omega (arith, has.count_is)))) (has.each level less)
-    by level below (inr most) =
-        let here : n ≡ level = omega arith in
-        subst (AreLevel parts lanes width level) (sym (ap (λ rs. level_lanes rs level) more_is ∙ row-new rows row level (has.count_is ∙ here))) (subst (λ m. AreLevel parts lanes width m row) here are)
+    by : (level : ℕ) → level < n + 1 → (level < n) ⊎ (n ≤ level) → AreLevel parts lanes width level (level_lanes lanes more level)
+    by zero below (inl less) = subst (AreLevel parts lanes width 0) (sym (ap (leaf_lanes lanes) leaves_are)) (has.each 0 less)
+    by zero below (inr most) = absurd (omega (arith, has.count_is))
+    by (suc level) below (inl less) =
+        subst (AreLevel parts lanes width (suc level)) (sym (ap (λ rows. slice_index_or rows level []) rows_are ∙ row-old levels.rows.items row level (omega (arith, has.count_is)))) (has.each (suc level) less)
+    by (suc level) below (inr most) =
+        let here : n ≡ suc level = omega arith in
+        subst (AreLevel parts lanes width (suc level)) (sym (ap (λ rows. slice_index_or rows level []) rows_are ∙ row-new levels.rows.items row level (omega (arith, has.count_is, here)))) (subst (λ m. AreLevel parts lanes width m row) here are)

@@ -34,12 +34,12 @@ module _ (parts : Parts) (has : HasProgramme parts) (lanes : List (List ℕ)) (c
     pub next-below : next < length parts.levels
     next-below = omega (arith, within)
 
-    pub next-row : next < length climbed.rows.items
+    pub next-row : next ≤ length climbed.levels.rows.items
     next-row = omega (arith, next-below, is_climbed.enough)
 
     -- what the level below carries is not too much
-    pub next-takes : All (CanTake climbed.width (level_lanes climbed.rows.items next)) (slice_index_or parts.levels next [])
-    next-takes = can-take parts has climbed.width lanes is_climbed.losses next next-below (level_lanes climbed.rows.items next) (is_climbed.rows next next-below)
+    pub next-takes : All (CanTake climbed.width (level_lanes lanes climbed.levels next)) (slice_index_or parts.levels next [])
+    next-takes = can-take parts has climbed.width lanes is_climbed.losses next next-below (level_lanes lanes climbed.levels next) (is_climbed.rows next next-below)
 
     -- the places are those of nodes
     pub next-places : All (λ place. place < length (slice_index_or parts.levels next [])) amounts.places.items
@@ -48,10 +48,10 @@ module _ (parts : Parts) (has : HasProgramme parts) (lanes : List (List ℕ)) (c
         (nodes-places parts false level next level_is (placed_at 0 amounts) (can 0 some).can)
 
     -- the amounts are backed by what the level below carries
-    pub next-backs : (k : ℕ) → k < climbed.width → AreBacked (slice_index_or parts.levels next []) (column k (level_lanes climbed.rows.items next)) (placed_at k amounts)
+    pub next-backs : (k : ℕ) → k < climbed.width → AreBacked (slice_index_or parts.levels next []) (column k (level_lanes lanes climbed.levels next)) (placed_at k amounts)
     next-backs k less = subst (λ row. AreBacked (slice_index_or parts.levels next []) row (placed_at k amounts)) (sym ((is_climbed.rows next next-below).each k less)) ((can k less).backed next level_is)
 
-    module _ (given : PlacedLanes) (given_are : (k : ℕ) → k < climbed.width → placed_at k given ≡ flat_map (given_losses (slice_index_or parts.levels next []) (column k (level_lanes climbed.rows.items next))) (placed_at k amounts)) where
+    module _ (given : PlacedLanes) (given_are : (k : ℕ) → k < climbed.width → placed_at k given ≡ flat_map (given_losses (slice_index_or parts.levels next []) (column k (level_lanes lanes climbed.levels next))) (placed_at k amounts)) where
       by-losses : (k : ℕ) → k < climbed.width → placed_at k given ≡ flat_map (given_losses (slice_index_or parts.levels next []) (losses_of (row_of parts (column k lanes) next))) (placed_at k amounts)
       by-losses k less = given_are k less ∙ ap (λ row. flat_map (given_losses (slice_index_or parts.levels next []) row) (placed_at k amounts)) ((is_climbed.rows next next-below).each k less)
 

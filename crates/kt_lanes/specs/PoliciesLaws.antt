@@ -70,19 +70,19 @@ module _ (parts : Parts) (has : HasProgramme parts) (lanes : List (List ℕ)) (c
     last-below = omega (arith, some-levels)
 
     -- there is a level below
-    pub last-row : length parts.levels - 1 < length climbed.rows.items
+    pub last-row : length parts.levels - 1 ≤ length climbed.levels.rows.items
     last-row = omega (arith, last-below, is_climbed.enough)
 
     -- what it carries is not too much for a top
-    pub top-takes : (d : Node) → CanTake climbed.width (level_lanes climbed.rows.items (length parts.levels - 1)) (slice_index_or (slice_index_or parts.levels (length parts.levels - 1) []) node d)
-    top-takes d = can-take parts has climbed.width lanes is_climbed.losses (length parts.levels - 1) last-below (level_lanes climbed.rows.items (length parts.levels - 1)) (is_climbed.rows (length parts.levels - 1) last-below) node d inside
+    pub top-takes : (d : Node) → CanTake climbed.width (level_lanes lanes climbed.levels (length parts.levels - 1)) (slice_index_or (slice_index_or parts.levels (length parts.levels - 1) []) node d)
+    top-takes d = can-take parts has climbed.width lanes is_climbed.losses (length parts.levels - 1) last-below (level_lanes lanes climbed.levels (length parts.levels - 1)) (is_climbed.rows (length parts.levels - 1) last-below) node d inside
 
     -- a top in its place
     pub same-top : (d : Node) → slice_index_or (slice_index_or parts.levels (length parts.levels - 1) []) node d ≡ node_at (slice_index_or parts.levels (length parts.levels - 1) []) node
     same-top d = get_or_default (slice_index_or parts.levels (length parts.levels - 1) []) node d no_node inside
 
     -- the losses that come to it
-    pub top-base : (lane : List ℕ) → IsLane climbed.width (λ k. sum (child_losses (column k (level_lanes climbed.rows.items (length parts.levels - 1))) (node_at (slice_index_or parts.levels (length parts.levels - 1) []) node))) lane → IsTopBase parts lanes climbed.width node lane
+    pub top-base : (lane : List ℕ) → IsLane climbed.width (λ k. sum (child_losses (column k (level_lanes lanes climbed.levels (length parts.levels - 1))) (node_at (slice_index_or parts.levels (length parts.levels - 1) []) node))) lane → IsTopBase parts lanes climbed.width node lane
     top-base lane is = record {
       wide = is.wide;
       each = λ k less. is.each k less ∙ ap (λ row. sum (child_losses row (node_at (slice_index_or parts.levels (length parts.levels - 1) []) node))) ((is_climbed.rows (length parts.levels - 1) last-below).each k less);

@@ -1,10 +1,10 @@
 //! Lanes carried up a programme, level by level.
 //! The rules: docs/FINANCIAL_MODULE.md, "Levels".
-ghost use Rattle.std.specs.Prelude.{◌≡◌, ◌+◌, ◌≤◌, ◌<◌, ◌^◌, ℕ, [], length, map, All, IfOk, slice_index, slice_index_or};
-ghost use Rattle.std.specs.List.{sum};
+ghost use Rattle.std.specs.Prelude.{◌≡◌, ◌+◌, ◌≤◌, ◌<◌, ◌^◌, ℕ, [], true, length, map, All, IfOk, slice_index, slice_index_or};
+ghost use Rattle.std.specs.List.{range_with_len, sum};
 ghost use Rattle.kt_fmtree.specs.Parts.{units_at};
 ghost use Rattle.kt_lanes.specs.Lanes.{column, AreWide, AreLanes, IsLane, CanTake, child_losses, unit_loss};
-ghost use Rattle.kt_lanes.specs.Climbed.{HasPlainUnits, AreLevel, AreLosses, IsClimbed, level_lanes};
+ghost use Rattle.kt_lanes.specs.Climbed.{HasPlainUnits, AreLevel, AreLosses, IsClimbed, leaf_lanes, level_lanes};
 
 use crate::lane::{apply_lane, sum_lanes};
 use crate::lanes::Lanes;
@@ -12,13 +12,32 @@ use kt_alloc::zeros;
 use kt_fmtree::{Node, Programme};
 use std::alloc::{AllocError, Global};
 
-/// The lanes of the units of each level below the top level of a programme, level by level from the ids up.
+/// The lanes of level 0.
+#[derive(Drop)]
+pub enum Leaves {
+    /// Those of the ids by rising number, as they stand.
+    Ids,
+    /// Lanes of its own.
+    Own(Lanes),
+}
+
+/// Of each level below the top level of a programme the lanes of its units, in the order of the tree: the losses in cents that they
+/// carry.
+#[derive(Drop)]
+pub struct Levels {
+    /// Those of level 0.
+    pub leaves: Leaves,
+    /// Those of the levels above it, from level 1 up.
+    pub rows: Vec<Lanes>,
+}
+
+/// The lanes of the units of a programme, carried up from those of the ids.
 #[derive(Drop)]
 pub struct Climbed {
     /// How many sidx a lane has.
     pub width: usize,
-    /// Of each level the lanes of its units, in the order of the tree: the losses in cents that they carry.
-    pub rows: Vec<Lanes>,
+    /// The lanes of each level below the top level.
+    pub levels: Levels,
 }
 
 /// Puts the losses of the children of a unit, added sidx by sidx, in the place of what a lane has.
@@ -78,12 +97,58 @@ pub(crate) fn lanes_in(
     Ok(found)
 }
 
-/// The lanes of a level.
-pub(crate) fn lanes_at(rows: &[Lanes], level: usize) -> &Lanes
-    requires { level < length rows.now }
-    ensures value { result.now ≡ level_lanes rows.now level }
+/// Whether places are so many, from 0 up.
+fn are_in_turn(places: &[usize], count: usize) -> bool
+    ensures value { result ≡ true → places.now ≡ range_with_len 0 count }
 {
-    &rows[level]
+    if places.len() != count {
+        return false;
+    }
+    for at in 0..places.len() {
+        if places[at] != at {
+            return false;
+        }
+    }
+    true
+}
+
+/// The lanes of level 0: those of the ids in its places. An error is want of memory.
+fn leaves_of(
+    alloc: Global,
+    width: usize,
+    places: &[usize],
+    lanes: &Lanes,
+) -> Result<Leaves, AllocError>
+    requires places { All (λ place. place < length lanes.now) places.now }
+    requires wide { AreWide width lanes.now }
+    ensures value { IfOk result (λ leaves. AreLanes width (length places.now) (λ k. map (slice_index (column k lanes.now)) places.now) (leaf_lanes lanes.now leaves)) }
+{
+    if are_in_turn(places, lanes.len()) {
+        return Ok(Leaves::Ids);
+    }
+    let own = lanes_in(alloc, width, places, lanes)?;
+    Ok(Leaves::Own(own))
+}
+
+/// The lanes of level 0, where those of the ids are these.
+fn leaf_lanes<'a>(lanes: &'a Lanes, leaves: &'a Leaves) -> &'a Lanes
+    ensures value { result.now ≡ leaf_lanes lanes.now leaves.now }
+{
+    match leaves {
+        Leaves::Ids => lanes,
+        Leaves::Own(own) => own,
+    }
+}
+
+/// The lanes of a level, where those of the ids are these.
+pub(crate) fn lanes_at<'a>(lanes: &'a Lanes, levels: &'a Levels, level: usize) -> &'a Lanes
+    requires { level ≤ length levels.now.rows.items }
+    ensures value { result.now ≡ level_lanes lanes.now levels.now level }
+{
+    if level == 0 {
+        return leaf_lanes(lanes, &levels.leaves);
+    }
+    &levels.rows[level - 1]
 }
 
 /// The lanes of the next level.
@@ -120,9 +185,9 @@ pub fn climb(
     ensures value { IfOk result (IsClimbed programme.now lanes.now) }
 {
     programme.is_of_a_tree();
-    let leaves = lanes_in(alloc, width, programme.leaves(), lanes)?;
-    let mut rows = Vec::with_capacity(alloc, programme.depth())?;
-    rows.push(leaves)?;
+    let leaves = leaves_of(alloc, width, programme.leaves(), lanes)?;
+    let rows = Vec::with_capacity(alloc, programme.depth())?;
+    let mut levels = Levels { leaves, rows };
     for level in 1..programme.depth() {
         let row = next_lanes(
             alloc,
@@ -130,9 +195,9 @@ pub fn climb(
             width,
             lanes,
             level - 1,
-            lanes_at(&rows, level - 1),
+            lanes_at(lanes, &levels, level - 1),
         )?;
-        rows.push(row)?;
+        levels.rows.push(row)?;
     }
-    Ok(Climbed { width, rows })
+    Ok(Climbed { width, levels })
 }

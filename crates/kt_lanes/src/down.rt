@@ -169,7 +169,7 @@ pub(crate) fn lanes_down(
     }
     programme.is_of_a_tree();
     let next = level - 1;
-    let below = lanes_at(&climbed.rows, next);
+    let below = lanes_at(lanes, &climbed.levels, next);
     let given = level_down(
         alloc,
         programme.nodes_above(next),

@@ -38,7 +38,8 @@ fn top_lane(
     let last = programme.depth() - 1;
     let nodes = programme.nodes_above(last);
     let mut lane = zeros(alloc, climbed.width)?;
-    add_children(&nodes[node], lanes_at(&climbed.rows, last), &mut lane);
+    let below = lanes_at(lanes, &climbed.levels, last);
+    add_children(&nodes[node], below, &mut lane);
     Ok(lane)
 }
 

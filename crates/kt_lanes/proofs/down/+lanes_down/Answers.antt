@@ -10,8 +10,7 @@ use Rattle.kt_lanes.proofs.down.+lanes_down.Goals as goal
 pub lanes_at-below-requires : goal.lanes_at-below-requires
 lanes_at-below-requires t c =
     let next : c.args.level ≡ suc (c.args.level - 1) = omega (arith, c.if-level-eq0.false) in
-    subst (λ (rows : List (List (List ℕ))). c.args.level - 1 < length rows) (sym c.deref.ensures.value)
-    (next-row c.args.programme.now c.is_of_a_tree.ensures.kept c.args.lanes.now c.args.climbed.now c.requires.climbed c.args.level (c.args.level - 1) next c.args.parts c.requires.parts c.requires.can)
+    next-row c.args.programme.now c.is_of_a_tree.ensures.kept c.args.lanes.now c.args.climbed.now c.requires.climbed c.args.level (c.args.level - 1) next c.args.parts c.requires.parts c.requires.can
 
 pub level_down-requires-clause-can : goal.level_down-requires-clause-can
 level_down-requires-clause-can t c =
@@ -20,7 +19,7 @@ level_down-requires-clause-can t c =
     let has = c.is_of_a_tree.ensures.kept in
     let lanes = c.args.lanes.now in
     let climbed = c.args.climbed.now in
-    let below = c.lanes_at-below.ensures.value ∙ ap (λ (rows : List (List (List ℕ))). level_lanes rows (c.args.level - 1)) c.deref.ensures.value in
+    let below = c.lanes_at-below.ensures.value in
     subst (λ (nodes : List Node). All (CanTake climbed.width c.lanes_at-below.result.now) nodes) (sym c.nodes_above.ensures.value)
     (subst (λ (row : List (List ℕ)). All (CanTake climbed.width row) (slice_index_or parts.levels (c.args.level - 1) [])) (sym below)
     (next-takes parts has lanes climbed c.requires.climbed c.args.level (c.args.level - 1) next c.args.parts c.requires.parts c.requires.can))
@@ -38,7 +37,7 @@ level_down-requires-clause-backed t c = λ k less.
     let has = c.is_of_a_tree.ensures.kept in
     let lanes = c.args.lanes.now in
     let climbed = c.args.climbed.now in
-    let below = c.lanes_at-below.ensures.value ∙ ap (λ (rows : List (List (List ℕ))). level_lanes rows (c.args.level - 1)) c.deref.ensures.value in
+    let below = c.lanes_at-below.ensures.value in
     subst (λ (nodes : List Node). AreBacked nodes (column k c.lanes_at-below.result.now) (placed_at k c.args.parts)) (sym c.nodes_above.ensures.value)
     (subst (λ (row : List (List ℕ)). AreBacked (slice_index_or parts.levels (c.args.level - 1) []) (column k row) (placed_at k c.args.parts)) (sym below)
     (next-backs parts has lanes climbed c.requires.climbed c.args.level (c.args.level - 1) next c.args.parts c.requires.parts c.requires.can k less))
@@ -50,8 +49,8 @@ lanes_down-requires t c =
     let has = c.is_of_a_tree.ensures.kept in
     let lanes = c.args.lanes.now in
     let climbed = c.args.climbed.now in
-    let below = c.lanes_at-below.ensures.value ∙ ap (λ (rows : List (List (List ℕ))). level_lanes rows (c.args.level - 1)) c.deref.ensures.value in
-    let given : (k : ℕ) → k < climbed.width → placed_at k c.in_ok-given.given ≡ flat_map (given_losses (slice_index_or parts.levels (c.args.level - 1) []) (column k (level_lanes climbed.rows.items (c.args.level - 1)))) (placed_at k c.args.parts) =
+    let below = c.lanes_at-below.ensures.value in
+    let given : (k : ℕ) → k < climbed.width → placed_at k c.in_ok-given.given ≡ flat_map (given_losses (slice_index_or parts.levels (c.args.level - 1) []) (column k (level_lanes lanes climbed.levels (c.args.level - 1)))) (placed_at k c.args.parts) =
     λ k less.
     c.in_ok-given.ensures.value k less
     ∙ (ap (λ (nodes : List Node). flat_map (given_losses nodes (column k c.lanes_at-below.result.now)) (placed_at k c.args.parts)) c.nodes_above.ensures.value
@@ -65,8 +64,8 @@ returns-clause-value t c = λ k less.
     let has = c.is_of_a_tree.ensures.kept in
     let lanes = c.args.lanes.now in
     let climbed = c.args.climbed.now in
-    let below = c.lanes_at-below.ensures.value ∙ ap (λ (rows : List (List (List ℕ))). level_lanes rows (c.args.level - 1)) c.deref.ensures.value in
-    let given : (k : ℕ) → k < climbed.width → placed_at k c.in_ok-given.given ≡ flat_map (given_losses (slice_index_or parts.levels (c.args.level - 1) []) (column k (level_lanes climbed.rows.items (c.args.level - 1)))) (placed_at k c.args.parts) =
+    let below = c.lanes_at-below.ensures.value in
+    let given : (k : ℕ) → k < climbed.width → placed_at k c.in_ok-given.given ≡ flat_map (given_losses (slice_index_or parts.levels (c.args.level - 1) []) (column k (level_lanes lanes climbed.levels (c.args.level - 1)))) (placed_at k c.args.parts) =
     λ k less.
     c.in_ok-given.ensures.value k less
     ∙ (ap (λ (nodes : List Node). flat_map (given_losses nodes (column k c.lanes_at-below.result.now)) (placed_at k c.args.parts)) c.nodes_above.ensures.value
