@@ -11,7 +11,7 @@ ghost use Rattle.kt_lanes.specs.Down.{AreBacked, ArePlaced, CanGive, given_losse
 
 use crate::climbing::{Climbed, lanes_at};
 use crate::lanes::Lanes;
-use crate::shares::{Room, room_of, share_lanes};
+use crate::shares::{Room, share_lanes};
 use kt_fmtree::{Node, Programme};
 use std::alloc::{AllocError, Global};
 
@@ -65,33 +65,47 @@ fn push_children(
     Ok(())
 }
 
+/// How many children units in places have, or so many if they have more.
+fn count_of(nodes: &[Node], places: &[usize], most: usize) -> usize
+    requires places { All (λ place. place < length nodes.now) places.now }
+    ensures most { result ≤ most }
+{
+    let mut count: usize = 0;
+    for place in places {
+        count = count.saturating_add(nodes[*place].width);
+    }
+    count.min(most)
+}
+
 /// What amounts of the units of a level give to those of the level below, unit by unit. An error is want of memory.
 fn level_by_unit(
     alloc: Global,
     nodes: &[Node],
     width: usize,
     below: &Lanes,
+    room: &mut Room,
     parts: &PlacedLanes,
 ) -> Result<PlacedLanes, AllocError>
     requires can { All (CanTake width below.now) nodes.now }
     requires wide { AreWide width below.now }
+    requires room { HasRoom width room.old }
     requires parts { ArePlaced width parts.now }
     requires places { All (λ place. place < length nodes.now) parts.now.places.items }
     requires backed { (k : ℕ) → k < width → AreBacked nodes.now (column k below.now) (placed_at k parts.now) }
+    ensures room { OnOk result (HasRoom width room.new) }
     ensures given { IfOk result (ArePlaced width) }
     ensures value { IfOk result (λ given. (k : ℕ) → k < width → placed_at k given ≡ flat_map (given_losses nodes.now (column k below.now)) (placed_at k parts.now)) }
 {
-    let mut room = room_of(alloc, width)?;
-    let mut given = PlacedLanes {
-        places: Vec::new(alloc),
-        lanes: Lanes::new(alloc),
-    };
+    let count = count_of(nodes, &parts.places, below.len());
+    let places = Vec::with_capacity(alloc, count)?;
+    let lanes = Lanes::with_room(alloc, count, width)?;
+    let mut given = PlacedLanes { places, lanes };
     for (at, place) in parts.places.iter().enumerate() {
         push_children(
             &nodes[*place],
             below,
             parts.lanes.lane(at),
-            &mut room,
+            room,
             &mut given,
         )?;
     }
@@ -130,13 +144,16 @@ fn level_down(
     nodes: &[Node],
     width: usize,
     below: &Lanes,
+    room: &mut Room,
     parts: PlacedLanes,
 ) -> Result<PlacedLanes, AllocError>
     requires can { All (CanTake width below.now) nodes.now }
     requires wide { AreWide width below.now }
+    requires room { HasRoom width room.old }
     requires parts { ArePlaced width parts }
     requires places { All (λ place. place < length nodes.now) parts.places.items }
     requires backed { (k : ℕ) → k < width → AreBacked nodes.now (column k below.now) (placed_at k parts) }
+    ensures room { OnOk result (HasRoom width room.new) }
     ensures given { IfOk result (ArePlaced width) }
     ensures value { IfOk result (λ given. (k : ℕ) → k < width → placed_at k given ≡ flat_map (given_losses nodes.now (column k below.now)) (placed_at k parts)) }
 {
@@ -145,7 +162,7 @@ fn level_down(
         let lanes = parts.lanes;
         return Ok(PlacedLanes { places, lanes });
     }
-    let given = level_by_unit(alloc, nodes, width, below, &parts)?;
+    let given = level_by_unit(alloc, nodes, width, below, room, &parts)?;
     Ok(given)
 }
 
@@ -156,11 +173,14 @@ pub(crate) fn lanes_down(
     lanes: &Lanes,
     climbed: &Climbed,
     level: usize,
+    room: &mut Room,
     parts: PlacedLanes,
 ) -> Result<PlacedLanes, AllocError>
     requires climbed { IsClimbed programme.now lanes.now climbed.now }
+    requires room { HasRoom climbed.now.width room.old }
     requires parts { ArePlaced climbed.now.width parts }
     requires can { (k : ℕ) → k < climbed.now.width → CanGive programme.now (column k lanes.now) level (placed_at k parts) }
+    ensures room { OnOk result (HasRoom climbed.now.width room.new) }
     ensures parts { IfOk result (ArePlaced climbed.now.width) }
     ensures value { IfOk result (λ given. (k : ℕ) → k < climbed.now.width → placed_at k given ≡ levels_down false programme.now.levels (carried_at programme.now lanes.now k).rows level (placed_at k parts)) }
 {
@@ -175,8 +195,9 @@ pub(crate) fn lanes_down(
         programme.nodes_above(next),
         climbed.width,
         below,
+        room,
         parts,
     )?;
-    let last = lanes_down(alloc, programme, lanes, climbed, next, given)?;
+    let last = lanes_down(alloc, programme, lanes, climbed, next, room, given)?;
     Ok(last)
 }

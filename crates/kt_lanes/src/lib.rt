@@ -17,3 +17,4 @@ pub use climbing::{Climbed, climb};
 pub use lanes::Lanes;
 pub use plain::{has_plain_units, layer_looks_back};
 pub use policy::{allocate_lanes, policy_lane};
+pub use shares::{Room, room_of};

@@ -1,6 +1,6 @@
 //! Policy losses by lanes, and what the ids beneath a top have of them.
 //! The rules: docs/FINANCIAL_MODULE.md, "Policy losses", "Allocation".
-ghost use Rattle.std.specs.Prelude.{◌≡◌, ◌⊎◌, ◌<◌, ◌≤◌, ◌^◌, ℕ, [], ◌∷◌, nat_eq, true, false, length, slice_index, slice_index_or, IfOk};
+ghost use Rattle.std.specs.Prelude.{◌≡◌, ◌⊎◌, ◌<◌, ◌≤◌, ◌^◌, ℕ, [], ◌∷◌, nat_eq, true, false, length, slice_index, slice_index_or, IfOk, OnOk};
 ghost use Rattle.std.specs.List.{list_any};
 ghost use Rattle.kt_rules.specs.LossAlone.{looks_back};
 ghost use Rattle.kt_tree.specs.Tree.{Tree, beneath, policy_loss};
@@ -11,13 +11,14 @@ ghost use Rattle.kt_lanes.specs.Lanes.{column, AreLanes, IsLane};
 ghost use Rattle.kt_lanes.specs.Climbed.{IsClimbed};
 ghost use Rattle.kt_lanes.specs.Down.{ArePlaced, placed_at};
 ghost use Rattle.kt_lanes.specs.Policies.{IsPolicy, IsTopBase};
+ghost use Rattle.kt_lanes.specs.Shares.{HasRoom};
 
 use crate::by_id::lanes_by_id;
 use crate::climbing::{Climbed, add_children, lanes_at, lanes_in};
 use crate::down::{PlacedLanes, lanes_down};
 use crate::lane::applied_lane;
 use crate::lanes::Lanes;
-use crate::shares::{room_of, share_lanes};
+use crate::shares::{Room, share_lanes};
 use kt_alloc::zeros;
 use kt_fmtree::{Programme, places_of};
 use std::alloc::{AllocError, Global};
@@ -74,20 +75,22 @@ fn shared_at_once(
     climbed: &Climbed,
     node: u32,
     layer: u32,
+    room: &mut Room,
     policy: &[u64],
 ) -> Result<Lanes, AllocError>
     requires node { node < length programme.now.tops }
     requires climbed { IsClimbed programme.now lanes.now climbed.now }
     requires policy { IsPolicy programme.now lanes.now climbed.now.width node layer policy.now }
+    requires room { HasRoom climbed.now.width room.old }
+    ensures room { OnOk result (HasRoom climbed.now.width room.new) }
     ensures value { IfOk result (λ shares. (tree : Tree) → IsProgramme tree programme.now → AreLanes climbed.now.width (length (beneath tree (slice_index tree.tops node))) (λ k. shared_at_once tree (loss_by tree.ids (column k lanes.now)) (slice_index tree.tops node) layer) shares) }
 {
     programme.is_of_a_tree();
     let places = places_of(alloc, programme.ids(), programme.beneath(node))?;
     let losses = lanes_in(alloc, climbed.width, &places, lanes)?;
     let count = losses.len();
-    let mut room = room_of(alloc, climbed.width)?;
     let mut shares = Lanes::with_room(alloc, count, climbed.width)?;
-    share_lanes(policy, &losses, 0, count, &mut room, &mut shares)?;
+    share_lanes(policy, &losses, 0, count, room, &mut shares)?;
     Ok(shares)
 }
 
@@ -111,16 +114,27 @@ fn shared_down(
     climbed: &Climbed,
     node: u32,
     layer: u32,
+    room: &mut Room,
     policy: &[u64],
 ) -> Result<Lanes, AllocError>
     requires node { node < length programme.now.tops }
     requires climbed { IsClimbed programme.now lanes.now climbed.now }
     requires policy { IsPolicy programme.now lanes.now climbed.now.width node layer policy.now }
+    requires room { HasRoom climbed.now.width room.old }
+    ensures room { OnOk result (HasRoom climbed.now.width room.new) }
     ensures value { IfOk result (λ shares. (tree : Tree) → IsProgramme tree programme.now → AreLanes climbed.now.width (length (beneath tree (slice_index tree.tops node))) (λ k. shared_down tree (loss_by tree.ids (column k lanes.now)) (slice_index tree.tops node) layer) shares) }
 {
     programme.is_of_a_tree();
     let top = top_part(alloc, node as usize, policy)?;
-    let parts = lanes_down(alloc, programme, lanes, climbed, programme.depth(), top)?;
+    let parts = lanes_down(
+        alloc,
+        programme,
+        lanes,
+        climbed,
+        programme.depth(),
+        room,
+        top,
+    )?;
     let shares = lanes_by_id(
         alloc,
         programme,
@@ -141,18 +155,21 @@ pub fn allocate_lanes(
     node: u32,
     layer: u32,
     rule: u32,
+    room: &mut Room,
     policy: &[u64],
 ) -> Result<Lanes, AllocError>
     requires node { node < length programme.now.tops }
     requires climbed { IsClimbed programme.now lanes.now climbed.now }
     requires policy { IsPolicy programme.now lanes.now climbed.now.width node layer policy.now }
     requires rule { (rule ≡ 1) ⊎ (rule ≡ 2) }
+    requires room { HasRoom climbed.now.width room.old }
+    ensures room { OnOk result (HasRoom climbed.now.width room.new) }
     ensures value { IfOk result (λ shares. (tree : Tree) → IsProgramme tree programme.now → AreLanes climbed.now.width (length (beneath tree (slice_index tree.tops node))) (λ k. allocated tree (loss_by tree.ids (column k lanes.now)) rule (slice_index tree.tops node) layer) shares) }
 {
     if rule == 1 {
-        let shares = shared_at_once(alloc, programme, lanes, climbed, node, layer, policy)?;
+        let shares = shared_at_once(alloc, programme, lanes, climbed, node, layer, room, policy)?;
         return Ok(shares);
     }
-    let shares = shared_down(alloc, programme, lanes, climbed, node, layer, policy)?;
+    let shares = shared_down(alloc, programme, lanes, climbed, node, layer, room, policy)?;
     Ok(shares)
 }

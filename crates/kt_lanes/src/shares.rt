@@ -15,7 +15,7 @@ use std::alloc::{AllocError, Global};
 
 /// Room to share totals out: amounts in cents, sidx by sidx.
 #[derive(Drop)]
-pub(crate) struct Room {
+pub struct Room {
     /// What all children have.
     pub weights: Vec<u64>,
     /// What the first children have.
@@ -27,7 +27,7 @@ pub(crate) struct Room {
 }
 
 /// Room for lanes of so many sidx. An error is want of memory.
-pub(crate) fn room_of(alloc: Global, width: usize) -> Result<Room, AllocError>
+pub fn room_of(alloc: Global, width: usize) -> Result<Room, AllocError>
     ensures room { IfOk result (HasRoom width) }
 {
     let weights = zeros(alloc, width)?;

@@ -8,6 +8,7 @@ ghost use Rattle.kt_fmtree.specs.Parts.{IsProgramme};
 ghost use Rattle.kt_lanes.specs.Lanes.{AreWide, column};
 ghost use Rattle.kt_lanes.specs.Climbed.{IsClimbed};
 ghost use Rattle.kt_lanes.specs.Policies.{IsPolicy};
+ghost use Rattle.kt_lanes.specs.Shares.{HasRoom};
 ghost use Rattle.kt_shares.specs.declared.layers.TopLayer.{TopLayer};
 ghost use Rattle.kt_shares.specs.Layers.{IsTopLayer};
 ghost use Rattle.kt_shares.specs.Shares.{shares};
@@ -15,7 +16,7 @@ ghost use Rattle.kt_shares.specs.ByLanes.{AreLayers, IsPlainLayer};
 
 use crate::layers::TopLayer;
 use kt_fmtree::Programme;
-use kt_lanes::{Climbed, Lanes, allocate_lanes, layer_looks_back, policy_lane};
+use kt_lanes::{Climbed, Lanes, Room, allocate_lanes, layer_looks_back, policy_lane, room_of};
 use std::alloc::{AllocError, Global};
 
 /// What layers have, sidx by sidx.
@@ -58,12 +59,15 @@ fn shares_of(
     climbed: &Climbed,
     rule: u32,
     one: TopLayer,
+    room: &mut Room,
     policies: &[u64],
 ) -> Result<Lanes, AllocError>
     requires rule { rule ≤ 2 }
     requires layer { IsTopLayer programme.now one }
     requires climbed { IsClimbed programme.now lanes.now climbed.now }
     requires policies { IsPolicy programme.now lanes.now climbed.now.width one.node one.layer policies.now }
+    requires room { HasRoom climbed.now.width room.old }
+    ensures room { OnOk result (HasRoom climbed.now.width room.new) }
     ensures wide { IfOk result (AreWide climbed.now.width) }
     ensures value { IfOk result (λ made. (tree : Tree) → IsProgramme tree programme.now → (k : ℕ) → k < climbed.now.width → column k made ≡ shares tree (loss_by tree.ids (column k lanes.now)) rule one.top one.layer) }
 {
@@ -73,7 +77,7 @@ fn shares_of(
         return Ok(made);
     }
     let made = allocate_lanes(
-        alloc, programme, lanes, climbed, one.node, one.layer, rule, policies,
+        alloc, programme, lanes, climbed, one.node, one.layer, rule, room, policies,
     )?;
     Ok(made)
 }
@@ -86,6 +90,7 @@ fn push_layer(
     climbed: &Climbed,
     rule: u32,
     one: TopLayer,
+    room: &mut Room,
     made: &mut LayerLanes,
 ) -> Result<(), AllocError>
     requires rule { rule ≤ 2 }
@@ -94,10 +99,12 @@ fn push_layer(
     requires climbed { IsClimbed programme.now lanes.now climbed.now }
     requires shares_wide { AreWide climbed.now.width made.old.shares }
     requires policies_wide { AreWide climbed.now.width made.old.policies }
+    requires room { HasRoom climbed.now.width room.old }
+    ensures room { OnOk result (HasRoom climbed.now.width room.new) }
     ensures value { OnOk result ((before : List TopLayer) → AreLayers programme.now lanes.now climbed.now.width rule before made.old → AreLayers programme.now lanes.now climbed.now.width rule (before ++ one ∷ []) made.new) }
 {
     let policies = policy_lane(alloc, programme, lanes, climbed, one.node, one.layer)?;
-    let shares = shares_of(alloc, programme, lanes, climbed, rule, one, &policies)?;
+    let shares = shares_of(alloc, programme, lanes, climbed, rule, one, room, &policies)?;
     made.shares.append(climbed.width, &shares)?;
     made.policies.push(&policies)?;
     Ok(())
@@ -118,12 +125,15 @@ pub(crate) fn layer_lanes(
     requires climbed { IsClimbed programme.now lanes.now climbed.now }
     ensures value { IfOk result (λ made. AreLayers programme.now lanes.now climbed.now.width rule layers.now made) }
 {
+    let mut room = room_of(alloc, climbed.width)?;
     let mut made = LayerLanes {
         shares: Lanes::new(alloc),
         policies: Lanes::new(alloc),
     };
     for one in layers {
-        push_layer(alloc, programme, lanes, climbed, rule, *one, &mut made)?;
+        push_layer(
+            alloc, programme, lanes, climbed, rule, *one, &mut room, &mut made,
+        )?;
     }
     Ok(made)
 }

@@ -55,7 +55,7 @@ lanes_down-requires t c =
     c.in_ok-given.ensures.value k less
     ∙ (ap (λ (nodes : List Node). flat_map (given_losses nodes (column k c.lanes_at-below.result.now)) (placed_at k c.args.parts)) c.nodes_above.ensures.value
     ∙ ap (λ (row : List (List ℕ)). flat_map (given_losses (slice_index_or parts.levels (c.args.level - 1) []) (column k row)) (placed_at k c.args.parts)) below) in
-    (omega (arith, c.decreases, next), (c.requires.climbed, (c.in_ok-given.ensures.given, gives-next parts has lanes climbed c.requires.climbed c.args.level (c.args.level - 1) next c.args.parts c.requires.parts c.requires.can c.in_ok-given.given given)))
+    (omega (arith, c.decreases, next), (c.requires.climbed, (c.in_ok-given.ensures.room, (c.in_ok-given.ensures.given, gives-next parts has lanes climbed c.requires.climbed c.args.level (c.args.level - 1) next c.args.parts c.requires.parts c.requires.can c.in_ok-given.given given))))
 
 pub returns-clause-value : goal.returns-clause-value
 returns-clause-value t c = λ k less.

@@ -17,7 +17,7 @@ pub share_lanes-requires-clause-wide : goal.share_lanes-requires-clause-wide
 share_lanes-requires-clause-wide c = subst (λ n. AreWide n c.in_ok-losses.losses) (sym c.requires.policy.wide) c.in_ok-losses.ensures.value.wide
 
 pub share_lanes-requires-clause-room : goal.share_lanes-requires-clause-room
-share_lanes-requires-clause-room c = subst (λ n. HasRoom n c.in_ok-room.room) (sym c.requires.policy.wide) c.in_ok-room.ensures.room
+share_lanes-requires-clause-room c = subst (λ n. HasRoom n c.args.room.now) (sym c.requires.policy.wide) c.requires.room
 
 pub share_lanes-requires-clause-out : goal.share_lanes-requires-clause-out
 share_lanes-requires-clause-out c = subst (AreWide (length c.args.policy.now)) (sym c.in_ok-shares.ensures.value) (λ k d below. absurd (omega arith))
@@ -48,8 +48,11 @@ share_lanes-requires-clause-backed c =
     let long : length c.args.policy.now ≡ width = c.requires.policy.wide in
     λ k less. subst (λ (each : List (List ℕ)). slice_index c.args.policy.now k ≤ sum (column k each)) (sym all) (few k (subst (λ n. k < n) long less)).0
 
-pub returns : goal.returns
-returns c =
+pub returns-clause-room : goal.returns-clause-room
+returns-clause-room c = subst (λ n. HasRoom n c.share_lanes.new.room) c.requires.policy.wide c.share_lanes.ensures.room
+
+pub returns-clause-value : goal.returns-clause-value
+returns-clause-value c =
     let width = c.args.climbed.now.width in
     let places = c.in_ok-places.places.items in
     let lanes = c.in_ok-losses.losses in
@@ -62,8 +65,5 @@ returns c =
     let shares = subst (λ (each : List (List ℕ)). AreLanes (length c.args.policy.now) (length lanes) (λ k. share_out (slice_index c.args.policy.now k) (column k each)) c.share_lanes.new.out) all
     (subst (λ n. AreLanes (length c.args.policy.now) n (λ k. share_out (slice_index c.args.policy.now k) (column k (take c.len-count.result (drop 0 lanes)))) c.share_lanes.new.out) c.len-count.ensures.value
     (subst (AreLanes (length c.args.policy.now) c.len-count.result (λ k. share_out (slice_index c.args.policy.now k) (column k (take c.len-count.result (drop 0 lanes))))) (sym now) behind.more_are)) in
-    record {
-      value =
-          at-once c.args.programme.now c.is_of_a_tree.ensures.kept c.args.lanes.now c.args.climbed.now c.requires.climbed c.args.node c.requires.node c.args.layer c.args.policy.now c.requires.policy places within found lanes c.share_lanes.new.out losses
-          (subst (λ n. AreLanes n (length lanes) (λ k. share_out (slice_index c.args.policy.now k) (column k lanes)) c.share_lanes.new.out) c.requires.policy.wide shares);
-    }
+    at-once c.args.programme.now c.is_of_a_tree.ensures.kept c.args.lanes.now c.args.climbed.now c.requires.climbed c.args.node c.requires.node c.args.layer c.args.policy.now c.requires.policy places within found lanes c.share_lanes.new.out losses
+    (subst (λ n. AreLanes n (length lanes) (λ k. share_out (slice_index c.args.policy.now k) (column k lanes)) c.share_lanes.new.out) c.requires.policy.wide shares)

@@ -36,11 +36,11 @@ lanes_by_id-requires-clause-few c =
     ∙ ap (levels_down false c.args.programme.now.levels (carried_at c.args.programme.now c.args.lanes.now k).rows (length c.args.programme.now.levels)) (c.in_ok-top.ensures.value k)) in
     given-few c.args.programme.now c.is_of_a_tree.ensures.kept c.args.lanes.now c.args.climbed.now c.requires.climbed c.args.node c.requires.node c.args.layer c.args.policy.now c.requires.policy c.in_ok-parts.parts given
 
-pub returns : goal.returns
-returns c =
+pub returns-clause-value : goal.returns-clause-value
+returns-clause-value c =
     let given : (k : ℕ) → k < c.args.climbed.now.width → placed_at k c.in_ok-parts.parts ≡ levels_down false c.args.programme.now.levels (carried_at c.args.programme.now c.args.lanes.now k).rows (length c.args.programme.now.levels) (record { place = c.args.node; amount = slice_index c.args.policy.now k } ∷ []) =
     λ k less.
     c.in_ok-parts.ensures.value k less
     ∙ (ap (λ n. levels_down false c.args.programme.now.levels (carried_at c.args.programme.now c.args.lanes.now k).rows n (placed_at k c.in_ok-top.top)) c.depth.ensures.value
     ∙ ap (levels_down false c.args.programme.now.levels (carried_at c.args.programme.now c.args.lanes.now k).rows (length c.args.programme.now.levels)) (c.in_ok-top.ensures.value k)) in
-    record { value = given-shared c.args.programme.now c.is_of_a_tree.ensures.kept c.args.lanes.now c.args.climbed.now c.requires.climbed c.args.node c.requires.node c.args.layer c.args.policy.now c.requires.policy c.in_ok-parts.parts given c.beneath.result.now c.beneath.ensures.value c.in_ok-shares.shares c.in_ok-shares.ensures.value }
+    given-shared c.args.programme.now c.is_of_a_tree.ensures.kept c.args.lanes.now c.args.climbed.now c.requires.climbed c.args.node c.requires.node c.args.layer c.args.policy.now c.requires.policy c.in_ok-parts.parts given c.beneath.result.now c.beneath.ensures.value c.in_ok-shares.shares c.in_ok-shares.ensures.value

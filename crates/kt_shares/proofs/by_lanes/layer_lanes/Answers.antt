@@ -8,7 +8,10 @@ use Rattle.kt_shares.proofs.ByLanesLemmas.{layers-start}
 use Rattle.kt_shares.proofs.by_lanes.layer_lanes.Goals as goal
 
 pub loop-one-init : goal.loop-one-init
-loop-one-init c = layers-start c.args.programme.now c.args.lanes.now c.args.climbed.now.width c.args.rule _ c.new.ensures.value c.new-2.ensures.value
+loop-one-init c = record {
+  room = c.in_ok-room.ensures.room;
+  layers = layers-start c.args.programme.now c.args.lanes.now c.args.climbed.now.width c.args.rule _ c.new.ensures.value c.new-2.ensures.value;
+}
 
 pub push_layer-requires-clause-layer : goal.push_layer-requires-clause-layer
 push_layer-requires-clause-layer c = All-from_recursion (IsTopLayer c.args.programme.now) c.args.layers.now c.requires.layers c.loop-one.one-index _ c.loop-one-test.true
@@ -21,12 +24,16 @@ loop-one-preserved c =
     let none : TopLayer = record { node = 0; top = 0; layer = 0 } in
     let i = c.loop-one.one-index in
     let layers = c.args.layers.now in
-    subst (λ (front : List TopLayer). AreLayers c.args.programme.now c.args.lanes.now c.args.climbed.now.width c.args.rule front c.push_layer.new.made) (sym (take_more layers i none c.loop-one-test.true))
-    (c.in_ok-push_layer.ensures.value (take i layers) c.loop-one.invariant)
+    record {
+      room = c.in_ok-push_layer.ensures.room;
+      layers =
+          subst (λ (front : List TopLayer). AreLayers c.args.programme.now c.args.lanes.now c.args.climbed.now.width c.args.rule front c.push_layer.new.made) (sym (take_more layers i none c.loop-one-test.true))
+          (c.in_ok-push_layer.ensures.value (take i layers) c.loop-one.invariant.layers);
+    }
 
 pub returns : goal.returns
 returns c = record {
   value =
       subst (λ (front : List TopLayer). AreLayers c.args.programme.now c.args.lanes.now c.args.climbed.now.width c.args.rule front c.loop-one.made)
-      (take_all c.loop-one.one-index c.args.layers.now (omega (arith, c.loop-one-test.false))) c.loop-one.invariant;
+      (take_all c.loop-one.one-index c.args.layers.now (omega (arith, c.loop-one-test.false))) c.loop-one.invariant.layers;
 }

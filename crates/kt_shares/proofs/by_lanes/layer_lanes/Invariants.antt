@@ -1,6 +1,10 @@
 use Rattle.std.proofs.Common.{take}
+use Rattle.kt_lanes.specs.Shares.{HasRoom}
 use Rattle.kt_shares.specs.ByLanes.{AreLayers}
 use Rattle.kt_shares.proofs.by_lanes.layer_lanes.Given as goal
 
 abbrev pub invariant-loop-one : goal.invariant-loop-one
-invariant-loop-one l = AreLayers l.programme l.lanes l.climbed.width l.rule (take l.one-index l.layers) l.made
+invariant-loop-one l = record {
+  room : HasRoom l.climbed.width l.room;
+  layers : AreLayers l.programme l.lanes l.climbed.width l.rule (take l.one-index l.layers) l.made;
+}
