@@ -36,7 +36,7 @@ fn float_of(n: u64) -> f64 {
 /// A number from 0 to 2^51, to the nearest whole number; of any other, some number. Where 2^52 is added to it, the whole number
 /// stands in its lowest 52 bits.
 #[inline]
-fn nearest_whole(x: f64) -> u64 {
+pub(crate) fn nearest_whole(x: f64) -> u64 {
     let lifted = x + 4_503_599_627_370_496.0;
     if lifted >= 4_503_599_627_370_496.0 {
         lifted.to_bits() & 0x000f_ffff_ffff_ffff

@@ -9,7 +9,7 @@ ghost use Rattle.kt_lanes.specs.SideBySide.{AreBehind};
 
 use crate::lane::{add_to, sum_lanes};
 use crate::lanes::Lanes;
-use crate::quotient::part_to;
+use crate::parts::find_parts;
 use kt_alloc::zeros;
 use std::alloc::{AllocError, Global};
 
@@ -42,6 +42,20 @@ pub fn room_of(alloc: Global, width: usize) -> Result<Room, AllocError>
     })
 }
 
+/// Puts what parts have beyond what was paid of them in their place. They are paid then.
+fn pay_parts(paid: &mut [u64], parts: &mut [u64])
+    requires same { length paid.old ≡ length parts.old }
+    requires few { (k : ℕ) → k < length parts.old → slice_index paid.old k ≤ slice_index parts.old k }
+    ensures paid { IsLane (length parts.old) (λ k. slice_index parts.old k) paid.new }
+    ensures share { IsLane (length parts.old) (λ k. slice_index parts.old k - slice_index paid.old k) parts.new }
+{
+    for k in 0..parts.len() {
+        let due = parts[k];
+        parts[k] = due - paid[k];
+        paid[k] = due;
+    }
+}
+
 /// Puts the share of a child in the place of what a lane has: the part of totals in cents that falls to the first weights without
 /// what was paid. That part is paid then.
 fn pay_share(totals: &[u64], weights: &[u64], upto: &[u64], paid: &mut [u64], share: &mut [u64])
@@ -52,11 +66,8 @@ fn pay_share(totals: &[u64], weights: &[u64], upto: &[u64], paid: &mut [u64], sh
     ensures paid { IsLane (length totals.now) (λ k. share_to (slice_index totals.now k) (slice_index weights.now k) (slice_index upto.now k)) paid.new }
     ensures share { IsLane (length totals.now) (λ k. share_to (slice_index totals.now k) (slice_index weights.now k) (slice_index upto.now k) - slice_index paid.old k) share.new }
 {
-    for k in 0..totals.len() {
-        let due = part_to(totals[k], weights[k], upto[k]);
-        share[k] = due - paid[k];
-        paid[k] = due;
-    }
+    find_parts(totals, weights, upto, share);
+    pay_parts(paid, share);
 }
 
 /// Puts what is left of totals in cents, sidx by sidx, in the place of what was paid of them.
