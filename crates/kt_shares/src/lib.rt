@@ -15,4 +15,4 @@ pub use layers::{TopLayer, top_layers};
 pub use losses::{ids_of, take_losses};
 pub use pairs::{lane_pairs, push_record};
 pub use table::{Table, table_of};
-pub use written::{pair_room, put_lane};
+pub use written::put_lane;

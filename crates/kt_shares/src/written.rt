@@ -1,61 +1,32 @@
 //! Records of lanes as they stand in a stream.
 //! The rule: docs/STREAMS.md, "Records".
-ghost use Rattle.std.specs.Prelude.{◌≡◌, ◌+◌, ◌*◌, ◌≤◌, ◌<◌, ◌++◌, [], length, slice_index, take, IfOk, OnErr, OnOk};
+ghost use Rattle.std.specs.Prelude.{◌≡◌, ◌+◌, ◌*◌, ◌≤◌, ◌<◌, ◌++◌, [], length, slice_index, OnErr, OnOk};
 ghost use Rattle.std.specs.List.{cons_option, flat_map};
 ghost use Rattle.kt_stream.specs.Losses.{loss_bytes};
-ghost use Rattle.kt_stream.specs.Pairs.{pairs_bytes};
+ghost use Rattle.kt_pairs.specs.Room.{AreEnded};
 ghost use Rattle.kt_shares.specs.Shares.{record_with};
 ghost use Rattle.kt_shares.specs.Table.{pairs_by_row};
 
 use crate::pairs::pair_at;
 use kt_money::Bytes;
-use kt_stream::{END, loss_front, write_pair};
-use std::alloc::{AllocError, Global};
-
-/// The length of a pair in bytes.
-const PAIR: usize = 12;
-
-/// Room for the pairs of a lane of so many losses, at most 1,001, and the end pair. An error is want of memory.
-pub fn pair_room(alloc: Global, rows: usize) -> Result<Vec<u8>, AllocError>
-    requires { rows ≤ 1001 }
-    ensures room { IfOk result (λ room. length room.items ≡ 12 * rows + 12) }
-{
-    let room = vec![in alloc; 0; PAIR * rows + PAIR]?;
-    Ok(room)
-}
-
-/// 1 for a loss above 0, else 0.
-#[inline]
-fn one_if(loss: u64) -> usize
-    ensures some { 0 < loss → result ≡ 1 }
-    ensures none { loss ≡ 0 → result ≡ 0 }
-    ensures few { result ≤ 1 }
-{
-    usize::from(loss > 0)
-}
+use kt_pairs::{append_record, end_pairs, keep_pair};
+use kt_stream::loss_front;
+use std::alloc::AllocError;
 
 /// Writes the pairs of a lane of losses in cents, where they are above 0, and the end pair behind them, and gives how many bytes
 /// these are: 0 where there is no pair. The first is that of the mean, and behind it stand those of the samples, at most 1,000.
-fn write_lane(bytes: &mut [u8], lane: &[u64]) -> usize
+fn write_lane(room: &mut [u8], lane: &[u64]) -> usize
     requires few { length lane.now ≤ 1001 }
-    requires room { 12 * length lane.now + 12 ≤ length bytes.old }
-    ensures none { result ≡ 0 → pairs_by_row (slice_index lane.now) (length lane.now) ≡ [] }
-    ensures some { 0 < result → 0 < length (pairs_by_row (slice_index lane.now) (length lane.now)) }
-    ensures bytes { 0 < result → take result bytes.new ≡ pairs_bytes (pairs_by_row (slice_index lane.now) (length lane.now)) }
-    ensures within { result ≤ length bytes.old }
-    ensures room { length bytes.new ≡ length bytes.old }
+    requires room { 12 * length lane.now + 12 ≤ length room.old }
+    ensures value { AreEnded (pairs_by_row (slice_index lane.now) (length lane.now)) result room.new }
+    ensures within { result ≤ length room.new }
+    ensures room { length room.new ≡ length room.old }
 {
     let mut used = 0;
     for row in 0..lane.len() {
-        let loss = lane[row];
-        write_pair(bytes, PAIR * used, &pair_at(row as u32, loss));
-        used += one_if(loss);
+        used = keep_pair(room, used, &pair_at(row as u32, lane[row]));
     }
-    if used == 0 {
-        return 0;
-    }
-    write_pair(bytes, PAIR * used, &END);
-    PAIR * (used + 1)
+    end_pairs(room, used)
 }
 
 /// Appends the record of an event and an id with the pairs of a lane of losses in cents, where one is above 0, as it stands in a
@@ -77,11 +48,6 @@ pub fn put_lane(
     if used == 0 {
         return Ok(());
     }
-    let whole = out.len();
-    out.append(&loss_front(event, id))?;
-    if let Err(stop) = out.append(&room[..used]) {
-        out.truncate(whole);
-        return Err(stop);
-    }
+    append_record(out, &loss_front(event, id), &room[..used])?;
     Ok(())
 }

@@ -21,7 +21,8 @@ use Rattle.kt_tables.specs.Lookups.{exposure_of}
 use Rattle.kt_tables.specs.Portfolio.{PortfolioRows}
 use Rattle.kt_tables.specs.SetRows.{AreFound, SetRows, summary_at}
 use Rattle.kt_stream.specs.Losses.{IsLoss}
-use Rattle.kt_sum.specs.Adding.{IsSpan, pairs_upto}
+use Rattle.kt_pairs.specs.Sums.{pairs_upto}
+use Rattle.kt_sum.specs.Adding.{IsSpan}
 use Rattle.kt_sum.specs.RunSummaries.{IsReadyRow, IsSumOf, IsThere, IsZeroRow, record_of}
 use Rattle.kt_sum.specs.Summaries.{found_summaries, is_summary, members, record_with, sidx_range, summaries_by, summary_of_run}
 use Rattle.kt_sum.specs.declared.summary_sums.SummarySums.{SummarySums}

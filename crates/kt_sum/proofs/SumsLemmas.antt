@@ -1,34 +1,19 @@
 -- The sums of summaries: their records as bytes, and how they are made 0.
-use Rattle.std.proofs.Common.{◌≡◌, ℕ, zero, suc, ◌+◌, ◌<◌, List, [], ◌∷◌, ◌++◌, Option, None, Some, length, take, slice_index, slice_index_or, refl, sym, ap, arith, ◌∙◌, add-one}
+use Rattle.std.proofs.Common.{◌≡◌, ℕ, zero, suc, ◌+◌, ◌<◌, List, [], ◌∷◌, ◌++◌, Option, None, Some, length, take, slice_index, slice_index_or, refl, sym, ap, arith, ◌∙◌, append-nil}
 use Rattle.std.specs.List.{cons_option, filter_map, flat_map, range_with_len}
 use Rattle.std.proofs.lemmas.List.{take_more}
 use Rattle.std.proofs.lemmas.List.Elements.{filter_map-append}
 use Rattle.std.proofs.lemmas.Grind.{flat_map-append}
+use Rattle.kt_pairs.specs.Room.{AreEnded}
 use Rattle.kt_runs.specs.Adding.{Holds}
 use Rattle.kt_runs.specs.Sidx.{pair_of, sidx_at}
+use Rattle.kt_stream.specs.Pairs.{pairs_bytes}
 use Rattle.kt_stream.specs.Summary.{summary_bytes}
 use Rattle.kt_stream.specs.declared.entry.Pair.{Pair}
 use Rattle.kt_stream.specs.declared.entry.SummaryRecord.{SummaryRecord}
 use Rattle.kt_sum.specs.RunSummaries.{record_of}
-use Rattle.kt_sum.specs.Adding.{pairs_upto}
 use Rattle.kt_sum.specs.Summaries.{record_with}
 use Rattle.kt_sum.specs.declared.summary_sums.SummarySums.{SummarySums}
-
--- one more number of a range
-range_more : (a n : ℕ) → range_with_len a (n + 1) ≡ range_with_len a n ++ (a + n) ∷ []
-range_more a n = ap (range_with_len a) (add-one n) ∙ from a n
-  where
-    from : (a n : ℕ) → range_with_len a (suc n) ≡ range_with_len a n ++ (a + n) ∷ []
-    from a zero = ap (λ x. x ∷ []) (omega arith)
-    from a (suc n) = ap (λ xs. a ∷ xs) (from (a + 1) n ∙ ap (λ x. range_with_len (a + 1) n ++ x ∷ []) (omega arith))
-
--- what is made of one more number
-number_more : {A : Type 0} (f : ℕ → Option A) (n : ℕ) → filter_map f (range_with_len 0 (n + 1)) ≡ filter_map f (range_with_len 0 n) ++ cons_option (f n) []
-number_more f n = ap (filter_map f) (range_more 0 n ∙ ap (λ x. range_with_len 0 n ++ x ∷ []) (omega arith)) ∙ filter_map-append f (range_with_len 0 n) (n ∷ [])
-
--- the pairs of one more sum
-pub pairs_more : (least : ℕ) (sums : List ℕ) (n : ℕ) → pairs_upto least sums (n + 1) ≡ pairs_upto least sums n ++ cons_option (pair_of (sidx_at (least + n)) (slice_index sums n)) []
-pairs_more least sums n = number_more (λ k. pair_of (sidx_at (least + k)) (slice_index sums k)) n
 
 -- sums that are 0 have no pairs
 no_pairs : (least : ℕ) (sums : List ℕ) (a n : ℕ) → ((k : ℕ) → k < a + n → slice_index sums k ≡ 0) → filter_map (λ k. pair_of (sidx_at (least + k)) (slice_index sums k)) (range_with_len a n) ≡ []
@@ -65,3 +50,8 @@ made_more f rows i row one before now below row_is before_is one_is now_is =
 -- their bytes
 pub text_more : (f : SummarySums → Option SummaryRecord) (rows : List SummarySums) (i : ℕ) (d : SummarySums) → i < length rows → flat_map summary_bytes (filter_map f (take (i + 1) rows)) ≡ flat_map summary_bytes (filter_map f (take i rows)) ++ flat_map summary_bytes (cons_option (f (slice_index_or rows i d)) [])
 text_more f rows i d below = ap (flat_map summary_bytes) (records_more f rows i d below) ∙ flat_map-append summary_bytes (filter_map f (take i rows)) (cons_option (f (slice_index_or rows i d)) [])
+
+-- no bytes are those of no record, and with those of the fields in front they are those of the record
+pub put_record : (event summary worth : ℕ) (pairs : List Pair) (used : ℕ) (room out now : List ℕ) (front : List ℕ) → AreEnded pairs used room → ((pairs : List Pair) → summary_bytes (record { event = event; summary = summary; exposure = worth; pairs = pairs }) ≡ front ++ pairs_bytes pairs) → 0 < used → now ≡ out ++ (front ++ take used room) → now ≡ out ++ flat_map summary_bytes (cons_option (record_with event summary worth pairs) [])
+put_record event summary worth [] used room out now front ended fronts some now_is = absurd (omega (arith, ended.some some))
+put_record event summary worth (pair ∷ pairs) used room out now front ended fronts some now_is = now_is ∙ ap (λ text. out ++ text) (ap (λ text. front ++ text) (ended.bytes_are some) ∙ (sym (fronts (pair ∷ pairs)) ∙ sym (append-nil _)))

@@ -1,6 +1,6 @@
 -- The sums of a run in each summary of a set, record by record.
 -- The rule: docs/CALCULATION.md, "Summaries".
-use Rattle.std.specs.Prelude.{◌≡◌, ℕ, ◌+◌, true, false, nat_eq, List, length, map, All, Option, Some}
+use Rattle.std.specs.Prelude.{◌≡◌, ℕ, ◌+◌, ◌*◌, true, false, nat_eq, List, length, map, All, Option, Some}
 use Rattle.std.specs.List.{filter_map, list_any}
 use Rattle.kt_rec.specs.Rising.{IsRising}
 use Rattle.kt_rec.specs.declared.perspective.Perspective.{Perspective}
@@ -14,7 +14,7 @@ use Rattle.kt_stream.specs.declared.entry.SummaryRecord.{SummaryRecord}
 use Rattle.kt_tables.specs.Lookups.{exposure_of, summary_in}
 use Rattle.kt_tables.specs.Portfolio.{PortfolioRows}
 use Rattle.kt_tables.specs.SetRows.{AreFound, summary_at}
-use Rattle.kt_sum.specs.Adding.{pairs_upto}
+use Rattle.kt_pairs.specs.Sums.{pairs_upto}
 use Rattle.kt_sum.specs.Summaries.{members, record_with}
 use Rattle.kt_sum.specs.declared.run_summaries.RunSummaries.{RunSummaries}
 use Rattle.kt_sum.specs.declared.set_run.SetRun.{SetRun}
@@ -59,6 +59,7 @@ pub record IsReady (samples : ℕ) (it : RunSummaries) : Type 0 where
   pub are : AreSummaries it
   pub rows_are : map (λ row. row.summary) it.rows.items ≡ it.summaries.items
   pub rows : All (IsReadyRow (samples + 3)) it.rows.items
+  pub room : length it.room.items ≡ 12 * (samples + 3) + 12
   pub totals : AreSums samples it.totals.items
 
 -- the summaries are those of a set of a portfolio

@@ -8,7 +8,6 @@ mod run_summaries;
 mod set_run;
 mod span;
 mod summary_sums;
-mod sums;
 
 pub use run::summarise;
 pub use run_summaries::RunSummaries;

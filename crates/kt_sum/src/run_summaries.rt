@@ -16,6 +16,7 @@ use crate::set_run::SetRun;
 use crate::span::Span;
 use crate::summary_sums::{FIRST, SummarySums, clear_rows, no_sums, put_rows};
 use kt_money::Bytes;
+use kt_pairs::pair_room;
 use kt_rec::Perspective;
 use kt_runs::{add_to_run, clear_run, no_run_sums};
 use kt_stream::LossRecord;
@@ -35,6 +36,8 @@ pub struct RunSummaries<'a> {
     summaries: Vec<u32>,
     /// The sums of each, in the same order.
     rows: Vec<SummarySums>,
+    /// Room for the pairs of a record.
+    room: Vec<u8>,
     /// The place of the sums to which the last record was added.
     near: usize,
     /// The sums of all records of the run, a place for each sidx of a stream from -2 up.
@@ -63,6 +66,7 @@ impl<'a> RunSummaries<'a> {
             found,
             summaries,
             rows: Vec::new(alloc),
+            room: Vec::new(alloc),
             near: 0,
             totals: Vec::new(alloc),
         })
@@ -75,6 +79,7 @@ impl<'a> RunSummaries<'a> {
         ensures holds { OnOk result ((portfolio : PortfolioRows) (perspective : Perspective) (set : ℕ) → AreOf portfolio perspective set self.old → HoldsRun portfolio perspective set samples [] self.new) }
     {
         self.rows = no_sums(self.alloc, samples as usize + 3, &self.summaries)?;
+        self.room = pair_room(self.alloc, samples as usize + 3)?;
         self.totals = no_run_sums(self.alloc, samples)?;
         Ok(())
     }
@@ -123,7 +128,7 @@ impl<'a> RunSummaries<'a> {
             set: self.set,
             event,
         };
-        put_rows(self.alloc, &run, &self.rows, out)?;
+        put_rows(&run, &self.rows, &mut self.room, out)?;
         clear_rows(&mut self.rows);
         clear_run(&mut self.totals, samples);
         Ok(())

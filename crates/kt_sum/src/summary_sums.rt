@@ -10,10 +10,10 @@ ghost use Rattle.kt_runs.specs.Sidx.{sidx_at};
 ghost use Rattle.kt_sum.specs.RunSummaries.{IsIdle, IsReadyRow, IsZeroRow, exposure_in, record_of, records_of};
 
 use crate::set_run::SetRun;
-use crate::sums::pairs_of;
 use kt_money::Bytes;
+use kt_pairs::{append_record, pairs_of, summary_front, write_pairs};
 use kt_runs::{add_pairs, zeros};
-use kt_stream::{Pair, SummaryRecord, put_summary};
+use kt_stream::{Pair, SummaryRecord};
 use std::alloc::{AllocError, Global};
 
 /// The place of sidx -2, the least of a stream.
@@ -93,22 +93,34 @@ pub(crate) fn record_of(
     }))
 }
 
-/// Appends the record of sums, which begin at sidx -2, where one is above 0. An error is want of memory, and nothing is appended then.
+/// Appends the record of sums, which begin at sidx -2, where one is above 0; the room takes its pairs first. An error is want of memory,
+/// and nothing is appended then.
 fn put_row(
-    alloc: Global,
     run: &SetRun<'_>,
     row: &SummarySums,
+    room: &mut [u8],
     out: &mut Bytes,
 ) -> Result<(), AllocError>
     requires idle { IsIdle row.now }
     requires within { 2147483646 + length row.now.sums.items ≤ 2 ^ 32 }
+    requires room { 12 * length row.now.sums.items + 12 ≤ length room.old }
+    ensures room { length room.new ≡ length room.old }
     ensures ok { OnOk result (out.new ≡ out.old ++ flat_map summary_bytes (records_of run.now 2147483646 (row.now ∷ []))) }
     ensures unchanged { OnErr result (out.new ≡ out.old) }
 {
-    match record_of(alloc, run, FIRST, row)? {
-        Some(entry) => put_summary(out, &entry),
-        None => Ok(()),
+    if !row.is_used {
+        return Ok(());
     }
+    let used = write_pairs(room, &row.sums, FIRST);
+    if used == 0 {
+        return Ok(());
+    }
+    let exposure = run
+        .portfolio
+        .exposure(run.perspective, run.set, row.summary);
+    let front = summary_front(run.event, row.summary, exposure);
+    append_record(out, &front, &room[..used])?;
+    Ok(())
 }
 
 /// Makes the sums 0.
@@ -125,19 +137,21 @@ fn clear(row: &mut SummarySums)
 
 /// Appends the records of the sums of summaries, as `put_row` does. An error is want of memory, and nothing is appended then.
 pub(crate) fn put_rows(
-    alloc: Global,
     run: &SetRun<'_>,
     rows: &[SummarySums],
+    room: &mut [u8],
     out: &mut Bytes,
 ) -> Result<(), AllocError>
     requires idle { All IsIdle rows.now }
     requires within { All (λ row. 2147483646 + length row.sums.items ≤ 2 ^ 32) rows.now }
+    requires room { All (λ row. 12 * length row.sums.items + 12 ≤ length room.old) rows.now }
+    ensures room { length room.new ≡ length room.old }
     ensures ok { OnOk result (out.new ≡ out.old ++ flat_map summary_bytes (records_of run.now 2147483646 rows.now)) }
     ensures unchanged { OnErr result (out.new ≡ out.old) }
 {
     let whole = out.len();
     for row in rows {
-        if let Err(stop) = put_row(alloc, run, row, out) {
+        if let Err(stop) = put_row(run, row, room, out) {
             out.truncate(whole);
             return Err(stop);
         }

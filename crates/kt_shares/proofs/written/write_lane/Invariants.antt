@@ -1,10 +1,12 @@
--- The bytes so far are those of the pairs of the rows so far.
-use Rattle.std.proofs.Common.{◌≡◌, length, slice_index}
-use Rattle.kt_shares.proofs.WrittenLemmas.{IsWritten}
+-- The pairs of the rows so far are in the room.
+use Rattle.std.proofs.Common.{◌≡◌, ◌*◌, ◌≤◌, length, slice_index}
+use Rattle.kt_pairs.specs.Room.{AreIn}
+use Rattle.kt_shares.specs.Table.{pairs_by_row}
 use Rattle.kt_shares.proofs.written.write_lane.Given as goal
 
 abbrev pub invariant-loop-row : goal.invariant-loop-row
 invariant-loop-row l = record {
-  room : length l.bytes ≡ length l.fn.bytes;
-  written : IsWritten (slice_index l.lane) l.row l.used l.bytes;
+  room : length l.room ≡ length l.fn.room;
+  few : l.used ≤ 12 * l.row;
+  are : AreIn (pairs_by_row (slice_index l.lane) l.row) l.used l.room;
 }

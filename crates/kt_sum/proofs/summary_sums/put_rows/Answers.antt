@@ -13,13 +13,17 @@ loop-row-preserved c =
     let rows = c.args.rows.now in
     let i = c.loop-row.row-index in
     let item = c.row-item.result in
-    c.in_default.ensures.ok
-    ∙ (ap (λ (out : List ℕ). out ++ flat_map summary_bytes (cons_option (f item) [])) c.loop-row.invariant
-    ∙ (append_assoc c.args.out.now (flat_map summary_bytes (filter_map f (take i rows))) (flat_map summary_bytes (cons_option (f item) []))
-    ∙ (ap (λ (row : SummarySums). c.args.out.now ++ (flat_map summary_bytes (filter_map f (take i rows)) ++ flat_map summary_bytes (cons_option (f row) []))) c.row-item.is
-    ∙ ap (λ (text : List ℕ). c.args.out.now ++ text) (sym (text_more f rows i item c.loop-row-test.true)))))
+    record {
+      room = c.put_row.ensures.room ∙ c.loop-row.invariant.room;
+      text =
+          c.in_default.ensures.ok
+          ∙ (ap (λ (out : List ℕ). out ++ flat_map summary_bytes (cons_option (f item) [])) c.loop-row.invariant.text
+          ∙ (append_assoc c.args.out.now (flat_map summary_bytes (filter_map f (take i rows))) (flat_map summary_bytes (cons_option (f item) []))
+          ∙ (ap (λ (row : SummarySums). c.args.out.now ++ (flat_map summary_bytes (filter_map f (take i rows)) ++ flat_map summary_bytes (cons_option (f row) []))) c.row-item.is
+          ∙ ap (λ (text : List ℕ). c.args.out.now ++ text) (sym (text_more f rows i item c.loop-row-test.true)))));
+    }
 
 pub returns-clause-ok : goal.returns-clause-ok
 returns-clause-ok c =
     let f = record_of c.args.run.now.event (exposure_in c.args.run.now) 2147483646 in
-    c.loop-row.invariant ∙ ap (λ (rows : List SummarySums). c.args.out.now ++ flat_map summary_bytes (filter_map f rows)) (take_all c.loop-row.row-index c.args.rows.now c.loop-row-test.false)
+    c.loop-row.invariant.text ∙ ap (λ (rows : List SummarySums). c.args.out.now ++ flat_map summary_bytes (filter_map f rows)) (take_all c.loop-row.row-index c.args.rows.now c.loop-row-test.false)

@@ -25,6 +25,7 @@ returns-clause-ready c = λ done.
       are = record { rising = c.requires.ready.are.rising; there = c.requires.ready.are.there };
       rows_are = ap (λ (rows : List SummarySums). map (λ row. row.summary) rows) rows_are ∙ (c.add_entry-self.ensures.rows ∙ c.deref.ensures.value);
       rows = subst (λ (rows : List SummarySums). All (IsReadyRow (samples + 3)) rows) (sym rows_are) c.add_entry-self.ensures.ready;
+      room = c.requires.ready.room;
       totals = subst (AreSums samples) (sym totals_are) (c.add_to_run.ensures.sums c.if-not-add_to_run.false);
     }
 

@@ -1,4 +1,4 @@
-use Rattle.std.proofs.Common.{◌≡◌, ◌∙◌, ◌+◌, ◌++◌, ℕ, List, [], map, ap, subst, sym}
+use Rattle.std.proofs.Common.{◌≡◌, ◌∙◌, ◌+◌, ◌++◌, ℕ, List, [], length, map, ap, subst, sym}
 use Rattle.std.specs.Prelude.{All}
 use Rattle.std.specs.List.{filter_map, flat_map}
 use Rattle.std.proofs.lemmas.List.{with_items_is}
@@ -21,9 +21,10 @@ returns c =
     let event = c.args.event in
     let rows = it.rows.items in
     let now = c.clear_rows.new.rows in
-    let before_are : c.deref_mut.result.now ≡ rows = c.deref_mut.ensures.value in
-    let rows_are = with_items_is it.rows now (c.clear_rows.auto.rows ∙ c.deref_mut.ensures.len) in
-    let totals_are = with_items_is it.totals c.clear_run.new.sums (c.clear_run.auto.sums ∙ c.deref_mut-2.ensures.len) in
+    let before_are : c.deref_mut-2.result.now ≡ rows = c.deref_mut-2.ensures.value in
+    let rows_are = with_items_is it.rows now (c.clear_rows.auto.rows ∙ c.deref_mut-2.ensures.len) in
+    let room_are = with_items_is it.room c.put_rows.new.room (c.put_rows.ensures.room ∙ c.deref_mut.ensures.len) in
+    let totals_are = with_items_is it.totals c.clear_run.new.sums (c.clear_run.auto.sums ∙ c.deref_mut-3.ensures.len) in
     let ready = c.requires.ready in
     let zeros = c.clear_rows.ensures.zeros (samples + 3) (subst (λ (rows : List SummarySums). All (IsReadyRow (samples + 3)) rows) (sym before_are) ready.rows) in
     record {
@@ -31,6 +32,7 @@ returns c =
         are = record { rising = ready.are.rising; there = ready.are.there };
         rows_are = ap (λ (rows : List SummarySums). map (λ row. row.summary) rows) rows_are ∙ (c.clear_rows.ensures.summaries ∙ (ap (λ (rows : List SummarySums). map (λ row. row.summary) rows) before_are ∙ ready.rows_are));
         rows = subst (λ (rows : List SummarySums). All (IsReadyRow (samples + 3)) rows) (sym rows_are) (λ k d below. zero_ready (samples + 3) _ (zeros k d below));
+        room = ap (λ (room : List ℕ). length room) room_are ∙ (c.put_rows.ensures.room ∙ (ap (λ (room : List ℕ). length room) c.deref_mut.ensures.value ∙ ready.room));
         totals = subst (AreSums samples) (sym totals_are) c.clear_run.ensures.sums;
       };
       text = λ portfolio perspective set records holds event_is.

@@ -1,0 +1,3 @@
+pub mod Room
+pub mod Sums
+pub mod Examples
