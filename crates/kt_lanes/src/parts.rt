@@ -39,10 +39,8 @@ fn likely_part(total: u64, weights: u64, upto: u64) -> u64
     ensures none { weights ≡ 0 → result ≡ 0 }
     ensures few { result < 2 ^ 32 }
 {
-    if weights == 0 {
-        return 0;
-    }
-    whole_below(float_of(total) * float_of(upto) / float_of(weights))
+    let part = whole_below(float_of(total) * float_of(upto) / float_of(weights));
+    if weights == 0 { 0 } else { part }
 }
 
 /// Whether a number is the part of a total that falls to the first weights; where the weights have more than 32 bits, it is not said.

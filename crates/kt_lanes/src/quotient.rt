@@ -1,6 +1,7 @@
 //! The part of a total that falls to the first of weights.
 //! The rule: docs/CALCULATION.md, "Share-out".
-ghost use Rattle.std.specs.Prelude.{◌≡◌, ◌≤◌, ◌<◌, ◌/◌, ◌^◌, IsTrue};
+ghost use Rattle.std.specs.Prelude.{◌≡◌, ◌≤◌, ◌<◌, ◌/◌, ◌^◌, IsTrue, false};
+ghost use Rattle.std.specs.Float.Ieee.{is_nan};
 ghost use Rattle.kt_money.specs.Sharing.{share_to};
 
 /// Whether a guess is `a / b`.
@@ -33,16 +34,22 @@ fn float_of(n: u64) -> f64 {
     (n & 0x001f_ffff_ffff_ffff) as f64
 }
 
+/// 2^52, from which on a float has no part below one.
+const LIFT: f64 = 4_503_599_627_370_496.0;
+
+/// The greater of a number and 2^52, which is a number whatever is given.
+#[inline]
+fn at_least_lift(x: f64) -> f64
+    ensures number { is_nan result ≡ false }
+{
+    if x >= LIFT { x } else { LIFT }
+}
+
 /// A number from 0 to 2^51, to the nearest whole number; of any other, some number. Where 2^52 is added to it, the whole number
-/// stands in its lowest 52 bits.
+/// stands in its lowest 52 bits. Nothing branches.
 #[inline]
 pub(crate) fn nearest_whole(x: f64) -> u64 {
-    let lifted = x + 4_503_599_627_370_496.0;
-    if lifted >= 4_503_599_627_370_496.0 {
-        lifted.to_bits() & 0x000f_ffff_ffff_ffff
-    } else {
-        0
-    }
+    at_least_lift(x + LIFT).to_bits() & 0x000f_ffff_ffff_ffff
 }
 
 /// What the part of a total is likely to be, from numbers that are rounded: one less than the whole number that is nearest to
