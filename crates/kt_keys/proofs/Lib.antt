@@ -1,3 +1,4 @@
+pub mod DistinctLemmas
 pub mod FirstRowLemmas
 pub mod RisingLemmas
 pub mod RefusalLemmas
