@@ -1,14 +1,17 @@
 -- How far a row is written as a record, and records as lines.
 use Rattle.std.proofs.lemmas.Bool.Decides.{nat_tests}
-use Rattle.std.proofs.Common.{◌≡◌, ℕ, ◌+◌, ◌<◌, ◌≤◌, List, [], ◌∷◌, ◌++◌, length, drop, get_or, refl, sym, ap, ◌∙◌, arith, append_assoc, zero, suc, add-one}
+use borrow.Rule.Slice.PartMut.{mid_of, put_mid}
+use Rattle.std.proofs.Common.{◌≡◌, ℕ, ◌+◌, ◌-◌, ◌<◌, ◌≤◌, List, [], ◌∷◌, ◌++◌, length, drop, get_or, take, refl, sym, ap, ◌∙◌, arith, append_assoc, zero, suc, add-one}
 use Rattle.std.specs.Prelude.{Result, Ok, Err, Option, None, Some, ◌==◌, false}
-use Rattle.std.proofs.lemmas.List.{append-nil, drop_all, drop_more}
+use Rattle.std.proofs.lemmas.List.{append-nil, drop_all, drop_more, drop-append-le, drop-drop, drop_at, length-drop, length-take-le}
 use Rattle.byteorder.specs.Endian.{little_bytes}
 use Rattle.kt_cells.specs.Kinds.{width}
 use Rattle.kt_cells.specs.Records.{record_bytes}
 use Rattle.kt_cells.specs.Taking.{HasMore}
 use Rattle.kt_cells.specs.declared.kind.Kind.{Kind}
-use Rattle.kt_cells.specs.Lines.{line_with, rows_lines, lines_behind, lines_with, line, line_rest, fields_behind, separator}
+use Rattle.kt_money.specs.NumberText.{count_text}
+use Rattle.kt_cells.specs.Texts.{row_texts}
+use Rattle.kt_cells.specs.Lines.{front_text, line_with, rows_lines, lines_behind, lines_with, line, line_rest, fields_behind, separator}
 use Rattle.kt_cells.specs.Reading.{and_then, behind}
 use Rattle.kt_cells.specs.declared.stop.TableStop.{TableStop}
 use Rattle.kt_cells.proofs.ReadingLemmas.{behind-nil}
@@ -84,3 +87,24 @@ pub line_rest-end : (column : ℕ) → line_rest column [] ≡ 10 ∷ []
 unfolding line fields_behind
 line_rest-end zero = refl
 line_rest-end (suc column) = refl
+
+-- a piece of 21 bytes that is put in front of a place, and what stands behind that place
+pub piece_put : (end size : ℕ) (text piece new : List ℕ) → 21 ≤ end → end ≤ length text → size ≤ 21 → length new ≡ length (mid_of (end - 21) (end - (end - 21)) text) → new ≡ piece → drop (end - size) (put_mid (end - 21) (end - (end - 21)) text new) ≡ drop (21 - size) piece ++ drop end text
+piece_put end size text piece new room inside short wide is =
+    let start = end - 21 in
+    let left = 21 - size in
+    let post = drop (end - start) (drop start text) in
+    let at : length (take start text) ≡ start = length-take-le start text (omega arith) in
+    let whole : length piece ≡ 21 = sym (ap length is) ∙ (wide ∙ (length-take-le (end - start) (drop start text) (omega (arith, length-drop start text)) ∙ omega arith)) in
+    rw is (
+    ap (λ n. drop n (take start text ++ (piece ++ post))) (omega arith)
+    ∙ (sym (drop-drop left start (take start text ++ (piece ++ post)))
+    ∙ (ap (drop left) (drop_at (take start text) (piece ++ post) start at)
+    ∙ (drop-append-le left piece post (omega (arith, whole))
+    ∙ ap (λ rest. drop left piece ++ rest) (drop-drop (end - start) start text ∙ ap (λ n. drop n text) (omega arith)))))
+    )
+
+-- a line stands behind its front
+pub line_with-front : (before : Option ℕ) (kinds : List Kind) (row : List ℕ) (after : List ℕ) → front_text before ++ (line (row_texts 0 kinds row) ++ after) ≡ line_with before kinds row ++ after
+line_with-front None kinds row after = refl
+line_with-front (Some count) kinds row after = append_assoc (count_text count) (44 ∷ []) (line (row_texts 0 kinds row) ++ after) ∙ sym (append_assoc (count_text count) (44 ∷ line (row_texts 0 kinds row)) after)

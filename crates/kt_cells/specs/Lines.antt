@@ -1,10 +1,11 @@
 -- Lines of text: fields with commas between them and a line feed behind them.
-use Rattle.std.specs.Prelude.{◌≡◌, ℕ, zero, suc, ◌+◌, ◌*◌, ◌≤◌, Option, None, Some, List, [], ◌∷◌, ◌++◌, ◌==◌, drop, length, if◌then◌else◌}
+use Rattle.std.specs.Prelude.{◌≡◌, ℕ, zero, suc, ◌+◌, ◌-◌, ◌*◌, ◌≤◌, Option, None, Some, List, [], ◌∷◌, ◌++◌, ◌==◌, drop, length, if◌then◌else◌}
 use Rattle.kt_money.specs.NumberText.{count_text}
 use Rattle.kt_cells.specs.Kinds.{under}
 use Rattle.kt_cells.specs.Reading.{rule_after}
 use Rattle.kt_cells.specs.Texts.{row_texts}
 use Rattle.kt_cells.specs.declared.kind.Kind.{Kind}
+use Rattle.kt_cells.specs.declared.lines.Front.{Front}
 
 -- the fields behind the first, each with a comma in front, and the line feed
 unfoldable pub fields_behind : List (List ℕ) → List ℕ
@@ -44,6 +45,16 @@ line_with (Some count) kinds row = count_text count ++ 44 ∷ line (row_texts 0 
 abbrev pub lines_with : Option ℕ → List Kind → List (List ℕ) → List ℕ
 lines_with None kinds rows = rows_lines kinds rows
 lines_with (Some count) kinds rows = lines_behind count kinds rows
+
+-- what stands in front of each line: a count as its first field, where there is one
+abbrev pub front_text : Option ℕ → List ℕ
+front_text None = []
+front_text (Some count) = count_text count ++ 44 ∷ []
+
+-- a front ends with this text
+pub record IsFront (before : Option ℕ) (front : Front) : Type 0 where
+  pub short : front.size ≤ 21
+  pub is : drop (21 - front.size) front.text ≡ front_text before
 
 -- the kinds of a row, a term by the rule before it
 unfoldable pub units_under : ℕ → List Kind → List ℕ → List Kind

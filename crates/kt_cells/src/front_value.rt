@@ -42,11 +42,11 @@ fn front_number(kind: Kind, text: &[u8]) -> Option<FrontNumber>
     ensures field { IfSome result (λ number. IsField text.now number.size) }
     ensures value { IfSome result (λ number. number_in (decimals kind) (take number.size text.now) ≡ Ok number.value) }
 {
-    match kind {
-        Kind::Tiv | Kind::Amount | Kind::Term(_) => front_amount(text, 2),
-        Kind::Ppm => front_amount(text, 6),
-        _ => front_count(text),
+    let scale = kind.decimals();
+    if scale > 0 {
+        return front_amount(text, scale);
     }
+    front_count(text)
 }
 
 /// A field at the front of a text.
@@ -58,17 +58,19 @@ pub(crate) struct FrontField<'a> {
     pub(crate) rest: &'a [u8],
 }
 
-// The field at the front of a text, if plain digits write its value.
+/// The field at the front of a text, if plain digits write its value.
 #[inline(always)]
-fn plain_field(kind: Kind, text: &[u8], is_last: bool) -> Option<FrontField<'_>>
+pub(crate) fn plain_field(kind: Kind, text: &[u8], is_last: bool) -> Option<FrontField<'_>>
     ensures field { IfSome result (λ field. ReadsField kind is_last text.now field.rest.now field.value) }
     ensures shorter { IfSome result (λ field. length field.rest.now ≤ length text.now) }
 {
     let number = front_number(kind, text)?;
     let rest = behind_field(&text[number.size..], is_last)?;
-    match kind.in_range(number.value) {
-        Ok(value) => Some(FrontField { value, rest }),
-        Err(_) => None,
+    let value = number.value;
+    if kind.holds(value) {
+        Some(FrontField { value, rest })
+    } else {
+        None
     }
 }
 

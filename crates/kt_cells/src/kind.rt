@@ -1,5 +1,6 @@
 //! The kinds of columns: their widths in a file, and the values that they may have.
-ghost use Rattle.std.specs.Prelude.{◌≡◌};
+ghost use Rattle.std.specs.Prelude.{◌≡◌, ◌≢◌, ◌<◌, ◌⊎◌, true, false, Ok, Err};
+ghost use Rattle.kt_cells.specs.Texts.{decimals};
 ghost use Rattle.kt_cells.specs.Kinds.{width, under, is_ppm, is_rule, lowest, highest, in_range, within, known_rule};
 
 use crate::stop::Cause;
@@ -75,6 +76,18 @@ impl Kind {
         }
     }
 
+    /// How many decimals the text of a value may have: 2 for an amount, 6 for parts per million, none for any other.
+    pub(crate) fn decimals(self) -> usize
+        ensures value { result ≡ decimals self }
+        ensures scale { 0 < result → (result ≡ 2) ⊎ (result ≡ 6) }
+    {
+        match self {
+            Kind::Tiv | Kind::Amount | Kind::Term(_) => 2,
+            Kind::Ppm => 6,
+            _ => 0,
+        }
+    }
+
     /// The kind under a calculation rule: a term is an amount or parts per million.
     #[inline(always)]
     pub fn under(self, rule: u64) -> Kind
@@ -96,6 +109,19 @@ impl Kind {
         match self {
             Kind::Rule => checked_rule(value),
             _ => checked(self.lowest(), self.highest(), value),
+        }
+    }
+
+    /// Whether the value is one of the kind.
+    #[tactic(auto, unfolding(crate::specs::Kinds::in_range))]
+    #[inline(always)]
+    pub(crate) fn holds(self, value: u64) -> bool
+        ensures held { result ≡ true → in_range self value ≡ Ok value }
+        ensures out { result ≡ false → in_range self value ≢ Ok value }
+    {
+        match self {
+            Kind::Rule => is_known_rule(value),
+            _ => is_within(self.lowest(), self.highest(), value),
         }
     }
 
@@ -140,15 +166,35 @@ fn term_under(term: Term, rule: u64) -> Kind
     }
 }
 
+// Whether a value is a calculation rule.
+fn is_known_rule(value: u64) -> bool
+    ensures known { result ≡ true → known_rule value ≡ Ok value }
+    ensures unknown { result ≡ false → known_rule value ≡ Err Cause.Rule }
+{
+    (1 <= value && value <= 26) || value == 100
+}
+
 // The value, if it is a calculation rule.
 fn checked_rule(value: u64) -> Result<u64, Cause>
     ensures { result ≡ known_rule value }
 {
-    if (1 <= value && value <= 26) || value == 100 {
+    if is_known_rule(value) {
         Ok(value)
     } else {
         Err(Cause::Rule)
     }
+}
+
+// Whether a value lies from `least` to `most`.
+#[inline(always)]
+fn is_within(least: u64, most: u64, value: u64) -> bool
+    ensures held { result ≡ true → within least most value ≡ Ok value }
+    ensures out { result ≡ false → within least most value ≢ Ok value }
+{
+    if value < least || most < value {
+        return false;
+    }
+    true
 }
 
 /// The value, if it lies from `least` to `most`.

@@ -1,6 +1,6 @@
 //! Rows as lines of text.
-ghost use Rattle.std.specs.Prelude.{◌≡◌, ◌+◌, ◌*◌, ◌<◌, ◌≤◌, ◌++◌, ℕ, List, length, take, drop, min};
-ghost use Rattle.kt_cells.specs.Lines.{LineFrom, line, line_with, lines_with, separator, units_under};
+ghost use Rattle.std.specs.Prelude.{◌≡◌, ◌+◌, ◌-◌, ◌*◌, ◌<◌, ◌≤◌, ◌++◌, ℕ, List, Option, length, take, drop, min};
+ghost use Rattle.kt_cells.specs.Lines.{IsFront, LineFrom, line, line_with, lines_with, units_under};
 ghost use Rattle.kt_cells.specs.declared.kind.Kind.{Kind};
 ghost use Rattle.kt_cells.specs.Texts.{row_texts, value_text};
 ghost use Rattle.kt_cells.specs.declared.lines.TheConstants.{LINE_BYTES, ROWS};
@@ -161,10 +161,54 @@ fn write_line<const N: usize>(
     }
 }
 
-// Writes a row as a line that ends at `end`, behind a count as its first field where there is one, and returns where it starts.
+/// So many bytes have room for a count of 64 bits and a comma.
+const FRONT_BYTES: usize = 21;
+
+/// What stands in front of each line, the same for all: a count as its first field, or nothing.
+#[derive(Clone, Copy)]
+pub(crate) struct Front {
+    /// It ends with this text.
+    text: [u8; FRONT_BYTES],
+    /// How many bytes it has.
+    size: usize,
+}
+
+/// What stands in front of lines: a count as the first field of each, where there is one.
+pub(crate) fn front_of(before: Option<u64>) -> Front
+    ensures { IsFront before result }
+{
+    let mut text = [0; FRONT_BYTES];
+    match before {
+        None => Front { text, size: 0 },
+        Some(count) => {
+            let last = FRONT_BYTES - 1;
+            text[last] = b',';
+            let start = write_digits(count, &mut text, last);
+            Front {
+                text,
+                size: FRONT_BYTES - start,
+            }
+        }
+    }
+}
+
+// Writes what stands in front of a line so that it ends at `end`, and returns where it starts. Some bytes before it are written too.
+#[inline(always)]
+fn write_front(front: &Front, text: &mut [u8; LINE_BYTES], end: usize) -> usize
+    requires room { 21 ≤ end }
+    requires within { end ≤ LINE_BYTES }
+    requires short { front.now.size ≤ 21 }
+    ensures start { result + front.now.size ≡ end }
+    ensures written { drop result text.new ≡ drop (21 - front.now.size) front.now.text ++ drop end text.old }
+{
+    text[end - FRONT_BYTES..end].copy_from_slice(&front.text);
+    end - front.size
+}
+
+// Writes a row as a line that ends at `end`, behind what stands in front of it, and returns where it starts.
 #[inline(always)]
 fn write_line_with<const N: usize>(
-    before: Option<u64>,
+    front: &Front,
     kinds: &[Kind; N],
     values: &[u64; N],
     text: &mut [u8; LINE_BYTES],
@@ -172,27 +216,25 @@ fn write_line_with<const N: usize>(
 ) -> usize
     requires size { N < 100 }
     requires some { 0 < N }
+    requires short { front.now.size ≤ 21 }
     requires room { N * 24 + 22 ≤ end }
     requires within { end ≤ LINE_BYTES }
     ensures start { result ≤ end }
     ensures short { end ≤ result + (N * 24 + 22) }
-    ensures written { drop result text.new ≡ line_with before kinds.now values.now ++ drop end text.old }
+    ensures written { (before : Option ℕ) → IsFront before front.now → drop result text.new ≡ line_with before kinds.now values.now ++ drop end text.old }
 {
     let start = write_line(kinds, values, text, end);
-    match before {
-        None => start,
-        Some(count) => {
-            text[start - 1] = b',';
-            write_digits(count, text, start - 1)
-        }
+    if front.size == 0 {
+        return start;
     }
+    write_front(front, text, start)
 }
 
-/// Writes so many rows as lines that end with the buffer, from the last to the first, each behind a count as its first field where
-/// there is one, and returns where they start.
+/// Writes so many rows as lines that end with the buffer, from the last to the first, each behind what stands in front of it, and
+/// returns where they start.
 #[inline(always)]
 pub(crate) fn write_lines<const N: usize>(
-    before: Option<u64>,
+    front: &Front,
     kinds: &[Kind; N],
     rows: &[[u64; N]; ROWS],
     count: usize,
@@ -200,16 +242,17 @@ pub(crate) fn write_lines<const N: usize>(
 ) -> usize
     requires size { N < 100 }
     requires some { 0 < N }
+    requires short { front.now.size ≤ 21 }
     requires count { count ≤ ROWS }
     requires room { count * (N * 24 + 22) ≤ LINE_BYTES }
     ensures start { result ≤ LINE_BYTES }
-    ensures written { drop result text.new ≡ lines_with before kinds.now (take count rows.now) }
+    ensures written { (before : Option ℕ) → IsFront before front.now → drop result text.new ≡ lines_with before kinds.now (take count rows.now) }
 {
     let mut at = LINE_BYTES;
     let mut row = count;
     while row > 0 {
         row -= 1;
-        at = write_line_with(before, kinds, &rows[row], text, at);
+        at = write_line_with(front, kinds, &rows[row], text, at);
     }
     at
 }

@@ -3,7 +3,7 @@ ghost use Rattle.std.specs.Prelude.{◌≡◌, ◌<◌, ◌≤◌, ◌+◌, ◌+
 ghost use Rattle.kt_cells.specs.Fronts.{PlainRead};
 ghost use Rattle.kt_cells.specs.Taking.{HasRow};
 
-use crate::front_value::front_field;
+use crate::front_value::{front_field, plain_field};
 use crate::kind::Kind;
 use crate::reader::rule_after;
 use kt_text::{fields_stay_fields, first_field};
@@ -18,7 +18,7 @@ struct RowFront<'a> {
     rest: &'a [u8],
 }
 
-// Reads the field of one more column, whose value is not below `least`.
+// Reads the field of one more column, if plain digits write its value and it is not below `least`.
 #[inline(always)]
 fn with_field<'a, const N: usize>(
     front: RowFront<'a>,
@@ -35,7 +35,7 @@ fn with_field<'a, const N: usize>(
     fields_stay_fields();
     let kind = kinds[column];
     let is_last = column + 1 == N;
-    let field = front_field(kind.under(front.rule), front.rest, is_last)?;
+    let field = plain_field(kind.under(front.rule), front.rest, is_last)?;
     if field.value < least {
         return None;
     }
@@ -46,7 +46,9 @@ fn with_field<'a, const N: usize>(
     })
 }
 
-// The next row of a text with few columns. Each table has its own copy of this code, in which its kinds are known.
+// The next row of a text with few columns, if plain digits write its values. Each table has its own copy of this code, in which its
+// kinds are known: the compiler drops `inline(always)` with no message where a function would grow very large, so that all that is
+// copied has to stay small.
 #[inline(always)]
 fn short_row<'a, const N: usize>(
     text: &'a [u8],
@@ -81,8 +83,8 @@ fn short_row<'a, const N: usize>(
     Some(fifth.rest)
 }
 
-// The next row of a text with any number of columns.
-#[inline(always)]
+// The next row of a text with any number of columns, whatever writes its values.
+#[inline(never)]
 fn long_row<'a, const N: usize>(
     text: &'a [u8],
     kinds: &[Kind; N],
@@ -112,6 +114,25 @@ fn long_row<'a, const N: usize>(
     Some(rest)
 }
 
+// The same, of copies: what a function that is called could hold is known no longer where the row is read without it.
+#[inline(always)]
+fn any_row<'a, const N: usize>(
+    kinds: [Kind; N],
+    text: &'a [u8],
+    floor: u64,
+    values: &mut [u64; N],
+) -> Option<&'a [u8]>
+    requires size { N < 100 }
+    requires some { 0 < N }
+    ensures row { IfSome result (λ rest. (more : List ℕ) → HasRow kinds.entry floor (text.now ++ more) values.new (rest.now ++ more)) }
+    ensures shorter { IfSome result (λ rest. length rest.now < length text.now) }
+{
+    let mut found = *values;
+    let rest = long_row(text, &kinds, floor, &mut found)?;
+    *values = found;
+    Some(rest)
+}
+
 /// Reads the values of the next row of a text, if its fields stand there without quotes and each has a value that is none of
 /// its refusals, and gives the text from the end of its line on: all other rows are for the reader of records. The row is the
 /// same whatever follows the text.
@@ -128,8 +149,9 @@ pub(crate) fn plain_row<'a, const N: usize>(
     ensures shorter { IfSome result (λ rest. length rest.now < length text.now) }
 {
     if N <= SHORT {
-        short_row(text, kinds, floor, values)
-    } else {
-        long_row(text, kinds, floor, values)
+        if let Some(rest) = short_row(text, kinds, floor, values) {
+            return Some(rest);
+        }
     }
+    any_row(*kinds, text, floor, values)
 }

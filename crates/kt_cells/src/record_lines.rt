@@ -8,7 +8,7 @@ ghost use Rattle.kt_cells.specs.Taking.{HasMore};
 ghost use Rattle.kt_cells.specs.declared.lines.TheConstants.{LINE_BYTES, ROWS};
 
 use crate::kind::Kind;
-use crate::lines::{LINE_BYTES, ROWS, rows_at_once, write_lines};
+use crate::lines::{LINE_BYTES, ROWS, front_of, rows_at_once, write_lines};
 use crate::records::{next_record, record_width};
 use crate::stop::TableStop;
 use kt_money::Bytes;
@@ -78,6 +78,7 @@ pub fn push_record_lines<const N: usize>(
     ensures kept { IfErr result (λ _. HasMore out.old out.new) }
 {
     let width = record_width(kinds);
+    let front = front_of(before);
     let mut rows = [[0; N]; ROWS];
     let mut text = [0; LINE_BYTES];
     let mut rest = bytes;
@@ -86,7 +87,7 @@ pub fn push_record_lines<const N: usize>(
         let read = next_records(kinds, first, row, width, rest, &mut rows)?;
         rest = read.rest;
         row += read.count as u64;
-        let start = write_lines(before, kinds, &rows, read.count, &mut text);
+        let start = write_lines(&front, kinds, &rows, read.count, &mut text);
         out.append(&text[start..])?;
     }
     Ok(())

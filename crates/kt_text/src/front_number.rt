@@ -43,7 +43,7 @@ pub fn front_count(text: &[u8]) -> Option<FrontNumber>
 
 /// The amount, in units of 10^-`scale`, that digits at the front of a text write, with at most as many decimals as the
 /// scale has. What stands behind them may still belong to their field.
-#[inline(always)]
+#[inline(never)]
 pub fn front_amount(text: &[u8], scale: usize) -> Option<FrontNumber>
     requires { (scale ≡ 2) ⊎ (scale ≡ 6) }
     ensures within { IfSome result (λ number. number.size ≤ length text.now) }

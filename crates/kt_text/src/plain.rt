@@ -143,7 +143,7 @@ fn behind_comma(text: &[u8]) -> Option<&[u8]>
 }
 
 // A text that begins with the end of a line.
-#[inline(always)]
+#[inline]
 #[tactic(auto, using(crate::proofs::PlainRowLemmas::plain_fields))]
 fn at_line_end(text: &[u8]) -> Option<&[u8]>
     ensures stands { IfSome result (λ rest. (start : List ℕ) (fields : List (List ℕ)) → EndsField start fields text.now → StandsBehind true start fields rest.now) }

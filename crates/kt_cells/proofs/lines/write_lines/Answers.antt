@@ -12,7 +12,7 @@ loop-row-init g c =
       within = omega arith;
       room = c.requires.room;
       inside = omega arith;
-      written = drop_all 2400 c.args.text.now (omega (arith, c.told-text)) ∙ rw none (sym (lines_with-none c.args.before c.args.kinds.now));
+      written = λ before is. drop_all 2400 c.args.text.now (omega (arith, c.told-text)) ∙ rw none (sym (lines_with-none before c.args.kinds.now));
     }
 
 pub loop-row-preserved : goal.loop-row-preserved
@@ -27,7 +27,8 @@ loop-row-preserved g c =
       within = omega (arith, c.loop-row.invariant.within);
       room = omega (arith, wide, c.loop-row.invariant.room, c.write_line_with-at.ensures.short);
       inside = omega (arith, c.loop-row.invariant.inside, c.write_line_with-at.ensures.start);
-      written = c.write_line_with-at.ensures.written
-          ∙ ap (λ lines. line_with c.args.before c.args.kinds.now (get_or c.args.rows.now row []) ++ lines) c.loop-row.invariant.written
-          ∙ sym (ap (lines_with c.args.before c.args.kinds.now) split ∙ rw (one, next) (lines_with-row c.args.before c.args.kinds.now _ _));
+      written = λ before is.
+          c.write_line_with-at.ensures.written before is
+          ∙ ap (λ lines. line_with before c.args.kinds.now (get_or c.args.rows.now row []) ++ lines) (c.loop-row.invariant.written before is)
+          ∙ sym (ap (lines_with before c.args.kinds.now) split ∙ rw (one, next) (lines_with-row before c.args.kinds.now _ _));
     }

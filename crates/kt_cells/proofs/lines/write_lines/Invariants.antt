@@ -1,5 +1,5 @@
-use Rattle.std.proofs.Common.{◌≡◌, ◌+◌, ◌*◌, ◌≤◌, drop, take}
-use Rattle.kt_cells.specs.Lines.{lines_with}
+use Rattle.std.proofs.Common.{◌≡◌, ℕ, ◌+◌, ◌*◌, ◌≤◌, drop, take, Option}
+use Rattle.kt_cells.specs.Lines.{IsFront, lines_with}
 use Rattle.kt_cells.proofs.lines.write_lines.Given as goal
 
 abbrev pub invariant-loop-row : goal.invariant-loop-row
@@ -7,7 +7,7 @@ invariant-loop-row g l = record {
   within : l.row ≤ l.count;
   room : l.row * (g.row.N * 24 + 22) ≤ l.at;
   inside : l.at ≤ 2400;
-  written : drop l.at l.text ≡ lines_with l.before l.kinds (drop l.row (take l.count l.rows));
+  written : (before : Option ℕ) → IsFront before l.front → drop l.at l.text ≡ lines_with before l.kinds (drop l.row (take l.count l.rows));
 }
 
 abbrev pub decreases-loop-row : goal.decreases-loop-row

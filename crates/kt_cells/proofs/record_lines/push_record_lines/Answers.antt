@@ -13,7 +13,7 @@ pub loop-rest-preserved : goal.loop-rest-preserved
 loop-rest-preserved g c =
     let start = c.write_lines-start.result in
     let text = c.write_lines-start.new.text in
-    let lines = take_all (2400 - start) (drop start text) (omega (arith, length-drop start text)) ∙ c.write_lines-start.ensures.written in
+    let lines = take_all (2400 - start) (drop start text) (omega (arith, length-drop start text)) ∙ c.write_lines-start.ensures.written c.args.before c.front_of-front.ensures in
     let written = rw lines at c.in_ok-append.ensures.ok in record {
       within = omega (arith, c.loop-rest.invariant.within, c.in_ok-read.ensures.shorter);
       text = c.loop-rest.invariant.text ∙ ap (lines_put c.args.before c.args.kinds.now c.loop-rest.out) c.in_ok-read.ensures.next ∙ rw written (lines-more c.args.before c.args.kinds.now c.loop-rest.out (take c.in_ok-read.read.count c.next_records.new.rows) _);

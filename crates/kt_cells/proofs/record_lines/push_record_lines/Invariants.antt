@@ -7,7 +7,7 @@ use Rattle.kt_cells.proofs.record_lines.push_record_lines.Given as goal
 abbrev pub invariant-loop-rest : goal.invariant-loop-rest
 invariant-loop-rest g l = record {
   within : l.row + length l.rest ≤ length l.bytes;
-  text : lines_put l.before l.kinds l.fn.out (record_rows l.first l.kinds l.bytes) ≡ lines_put l.before l.kinds l.out (records_behind l.row l.first l.kinds l.rest);
+  text : lines_put l.fn.before l.kinds l.fn.out (record_rows l.first l.kinds l.bytes) ≡ lines_put l.fn.before l.kinds l.out (records_behind l.row l.first l.kinds l.rest);
   kept : HasMore l.fn.out l.out;
 }
 
