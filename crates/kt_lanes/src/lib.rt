@@ -6,6 +6,7 @@ mod climbing;
 mod down;
 mod lane;
 mod lanes;
+mod likely;
 mod parts;
 mod plain;
 mod policy;

@@ -1,14 +1,12 @@
 //! The parts of totals that fall to the first of weights, a lane at a time.
 //! The rule: docs/CALCULATION.md, "Share-out".
-ghost use Rattle.std.specs.Prelude.{◌≡◌, ◌≤◌, ◌<◌, ◌-◌, ◌*◌, ◌^◌, true, length, slice_index, IsTrue};
+ghost use Rattle.std.specs.Prelude.{◌≡◌, ◌≤◌, ◌<◌, ◌*◌, ◌^◌, false, length, slice_index};
 ghost use Rattle.kt_money.specs.Sharing.{share_to};
 ghost use Rattle.kt_lanes.specs.Lanes.{IsLane};
 ghost use Rattle.kt_lanes.specs.Shares.{CanPart};
 
-use crate::quotient::{nearest_whole, part_to};
-
-/// How many numbers of 32 bits there are.
-const NARROW: u64 = 4_294_967_296;
+use crate::likely::{AT_ONCE, NARROW, likely_parts};
+use crate::quotient::part_to;
 
 /// The product of two numbers of 32 bits; of others, some number.
 #[inline]
@@ -18,62 +16,67 @@ fn narrow_product(a: u64, b: u64) -> u64
     (a % NARROW).wrapping_mul(b % NARROW)
 }
 
-/// A number of 32 bits as it is; of any other, some number.
+/// A number above 0 as it is, and 1 for 0.
 #[inline]
-fn float_of(n: u64) -> f64 {
-    f64::from((n % NARROW) as u32)
-}
-
-/// The whole number below a number from 0 to 2^32, but for one that is as good as whole; of any other, some number: it is one less than
-/// that nearest to somewhat more than a half above.
-#[inline]
-fn whole_below(x: f64) -> u64
-    ensures few { result < 2 ^ 32 }
+fn at_least_one(n: u64) -> u64
+    ensures one { n ≡ 0 → result ≡ 1 }
+    ensures same { 0 < n → result ≡ n }
 {
-    nearest_whole(x + 0.500_01).wrapping_sub(1) % NARROW
+    if n == 0 { 1 } else { n }
 }
 
-/// What the part of a total is likely to be, where the weights have at most 32 bits.
+/// 1 for what is so, and 0 for what is not.
 #[inline]
-fn likely_part(total: u64, weights: u64, upto: u64) -> u64
-    ensures none { weights ≡ 0 → result ≡ 0 }
-    ensures few { result < 2 ^ 32 }
+fn bit_of(is_so: bool) -> u64
+    ensures none { result ≡ 0 → is_so ≡ false }
 {
-    let part = whole_below(float_of(total) * float_of(upto) / float_of(weights));
-    if weights == 0 { 0 } else { part }
+    if is_so { 1 } else { 0 }
 }
 
-/// Whether a number is the part of a total that falls to the first weights; where the weights have more than 32 bits, it is not said.
-/// Where there are no weights, the number is 0.
+/// 0 only where a number is the part of a total that falls to the first weights; where the weights or the number have more than 32 bits,
+/// it is not said.
 #[inline]
-fn is_part(total: u64, weights: u64, upto: u64, part: u64) -> bool
+fn wrong_bits(total: u64, weights: u64, upto: u64, part: u64) -> u64
     requires most { total ≤ weights }
     requires within { upto ≤ weights }
-    requires few { part < 2 ^ 32 }
-    requires none { weights ≡ 0 → part ≡ 0 }
-    ensures value { IsTrue result → part ≡ share_to total weights upto }
+    ensures value { result ≡ 0 → part ≡ share_to total weights upto }
 {
+    let divisor = at_least_one(weights);
     let product = narrow_product(total, upto);
-    let whole = narrow_product(part, weights);
-    let is_near = (whole <= product) & (product.wrapping_sub(whole) < weights);
-    (weights == 0) | ((weights < NARROW) & is_near)
+    let whole = narrow_product(part, divisor);
+    let is_far = (product < whole) | (divisor <= product.wrapping_sub(whole));
+    ((weights | part) / NARROW) | bit_of(is_far)
 }
 
-/// Puts the likely parts of totals that fall to the first weights in the place of what a lane has, and answers whether all of them are
-/// right. Nothing branches, so that several are made at once.
-fn guess_parts(totals: &[u64], weights: &[u64], upto: &[u64], parts: &mut [u64]) -> bool
+/// 0 only where all that a lane has are the parts of totals that fall to the first weights. Nothing branches, so that several are tested
+/// at once.
+fn wrong_among(totals: &[u64], weights: &[u64], upto: &[u64], parts: &[u64]) -> u64
+    requires can { CanPart totals.now weights.now upto.now }
+    requires wide { length parts.now ≡ length totals.now }
+    ensures value { result ≡ 0 → IsLane (length totals.now) (λ k. share_to (slice_index totals.now k) (slice_index weights.now k) (slice_index upto.now k)) parts.now }
+{
+    let mut wrong = 0;
+    for k in 0..totals.len() {
+        wrong |= wrong_bits(totals[k], weights[k], upto[k], parts[k]);
+    }
+    wrong
+}
+
+/// Puts what the parts of totals in cents are likely to be in the place of what a lane has, several at once; those that are left are
+/// divided.
+fn guess_parts(totals: &[u64], weights: &[u64], upto: &[u64], parts: &mut [u64])
     requires can { CanPart totals.now weights.now upto.now }
     requires wide { length parts.old ≡ length totals.now }
-    ensures value { result ≡ true → IsLane (length totals.now) (λ k. share_to (slice_index totals.now k) (slice_index weights.now k) (slice_index upto.now k)) parts.new }
     ensures wide { length parts.new ≡ length parts.old }
 {
-    let mut are_right = true;
-    for k in 0..totals.len() {
-        let part = likely_part(totals[k], weights[k], upto[k]);
-        are_right &= is_part(totals[k], weights[k], upto[k], part);
-        parts[k] = part;
+    let mut at = 0;
+    while at + AT_ONCE <= totals.len() {
+        likely_parts(totals, weights, upto, at).copy_to_slice(&mut parts[at..]);
+        at += AT_ONCE;
     }
-    are_right
+    for k in at..totals.len() {
+        parts[k] = part_to(totals[k], weights[k], upto[k]);
+    }
 }
 
 /// Puts the parts of totals in cents that fall to the first weights in the place of what a lane has, one by one.
@@ -93,7 +96,8 @@ pub(crate) fn find_parts(totals: &[u64], weights: &[u64], upto: &[u64], parts: &
     requires wide { length parts.old ≡ length totals.now }
     ensures value { IsLane (length totals.now) (λ k. share_to (slice_index totals.now k) (slice_index weights.now k) (slice_index upto.now k)) parts.new }
 {
-    if !guess_parts(totals, weights, upto, parts) {
+    guess_parts(totals, weights, upto, parts);
+    if wrong_among(totals, weights, upto, parts) != 0 {
         divide_parts(totals, weights, upto, parts);
     }
 }

@@ -35,7 +35,7 @@ fn float_of(n: u64) -> f64 {
 }
 
 /// 2^52, from which on a float has no part below one.
-const LIFT: f64 = 4_503_599_627_370_496.0;
+pub(crate) const LIFT: f64 = 4_503_599_627_370_496.0;
 
 /// The greater of a number and 2^52, which is a number whatever is given.
 #[inline]
@@ -48,7 +48,7 @@ fn at_least_lift(x: f64) -> f64
 /// A number from 0 to 2^51, to the nearest whole number; of any other, some number. Where 2^52 is added to it, the whole number
 /// stands in its lowest 52 bits. Nothing branches.
 #[inline]
-pub(crate) fn nearest_whole(x: f64) -> u64 {
+fn nearest_whole(x: f64) -> u64 {
     at_least_lift(x + LIFT).to_bits() & 0x000f_ffff_ffff_ffff
 }
 

@@ -1,11 +1,11 @@
--- Where all parts so far are right, they are those of the totals.
-use Rattle.std.proofs.Common.{◌≡◌, true, length, slice_index}
-use Rattle.kt_money.specs.Sharing.{share_to}
-use Rattle.kt_lanes.specs.LaneLaws.{IsWritten}
+use Rattle.std.proofs.Common.{◌≡◌, ◌≤◌, ◌-◌, length}
 use Rattle.kt_lanes.proofs.parts.guess_parts.Given as goal
 
+abbrev pub invariant-loop-at : goal.invariant-loop-at
+invariant-loop-at l = record { wide : length l.parts ≡ length l.totals; within : l.at ≤ length l.totals }
+
+abbrev pub decreases-loop-at : goal.decreases-loop-at
+decreases-loop-at l = length l.totals - l.at
+
 abbrev pub invariant-loop-k : goal.invariant-loop-k
-invariant-loop-k l = record {
-  wide : length l.parts ≡ length l.totals;
-  done : l.are_right ≡ true → IsWritten (length l.totals) l.k (λ j. share_to (slice_index l.totals j) (slice_index l.weights j) (slice_index l.upto j)) (slice_index l.fn.parts) l.parts;
-}
+invariant-loop-k l = length l.parts ≡ length l.totals
