@@ -29,7 +29,7 @@ module _ {K : Type 0} {same : K → K → Bool} (laws : IsEquivalence same) wher
           here ∙ (sym (twice (same key first) _) ∙ ap (λ b. same key first || (b || list_any (same key) keys)) (sym alike))
       by false is here later = ap (λ b. same key first || b) later
 
-  held : (keys : List K) (key : K) → list_any (same key) (dedup same keys) ≡ list_any (same key) keys
+  pub held : (keys : List K) (key : K) → list_any (same key) (dedup same keys) ≡ list_any (same key) keys
   held [] key = refl
   held (first ∷ keys) key = held_from keys first key
 

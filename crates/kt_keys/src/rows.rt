@@ -49,14 +49,34 @@ pub(crate) fn first_repeated<K: Copy + Ord + Hash + Drop>(
     Ok(None)
 }
 
-/// The keys of a list as a set. The error is want of memory.
-pub fn set_of<K: Copy + Eq + Hash + Drop>(
+/// A copy of keys. The error is want of memory.
+fn copy_of<K: Copy + Drop>(alloc: Global, keys: &[K]) -> Result<Vec<K>, AllocError>
+    ensures value { IfOk result (λ copy. copy.items ≡ keys.now) }
+{
+    keys.iter().copied().collect(alloc)
+}
+
+/// The keys of a list as a set, each of them put in. The error is want of memory.
+fn each_in_set<K: Copy + Eq + Hash + Drop>(
     alloc: Global,
     keys: &[K],
 ) -> Result<HashSet<K>, AllocError>
     ensures value { IfOk result (IsFromIterResult K.eq keys.now) }
 {
     keys.iter().copied().collect(alloc)
+}
+
+/// The keys of a list as a set. Those that follow one another are put in once. The error is want of memory.
+pub fn set_of<K: Copy + Eq + Hash + Drop>(
+    alloc: Global,
+    keys: &[K],
+) -> Result<HashSet<K>, AllocError>
+    ensures value { IfOk result (IsFromIterResult K.eq keys.now) }
+{
+    let mut once = copy_of(alloc, keys)?;
+    once.dedup();
+    let set = each_in_set(alloc, once.as_slice())?;
+    Ok(set)
 }
 
 /// The first row, counted from 1, whose key is not in the set.
@@ -164,13 +184,6 @@ pub fn pair_set(alloc: Global, pairs: &[(u32, u32)]) -> Result<HashSet<(u32, u32
     ensures value { IfOk result (IsFromIterResult same_pair pairs.now) }
 {
     set_of(alloc, pairs)
-}
-
-/// A copy of keys. The error is want of memory.
-fn copy_of<K: Copy + Drop>(alloc: Global, keys: &[K]) -> Result<Vec<K>, AllocError>
-    ensures value { IfOk result (λ copy. copy.items ≡ keys.now) }
-{
-    keys.iter().copied().collect(alloc)
 }
 
 /// How many keys a list has, where those that are equal count once. They are put in order and left once each, which takes a fraction

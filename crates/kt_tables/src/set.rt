@@ -5,9 +5,18 @@ ghost use Rattle.kt_rec.specs.Rising.{IsRising};
 ghost use Rattle.kt_tables.specs.SetRows.{AreFound, summary_at};
 
 use crate::summaries::{UnitSummary, first_summary};
-use kt_index::{keep_once, pair_key, rows_of};
+use kt_index::{keep_once, pair_key, rows_near};
 use std::alloc::{AllocError, Global};
 use std::marker::Model;
+
+/// The place in which the row of an id stands where the ids of rows rise by one, as they mostly do.
+#[inline]
+fn likely_place(rows: &[UnitSummary], id: u32) -> usize {
+    match rows.first() {
+        Some(row) => id.wrapping_sub(row.unit) as usize,
+        None => 0,
+    }
+}
 
 /// The summaries of the ids of a perspective in one set. Contracts see the summary of an id, where it has one.
 #[derive(Drop)]
@@ -33,7 +42,8 @@ impl<'a> SetSummaries<'a> {
     pub fn of(&self, id: u32) -> Option<u32>
         ensures value { (find : ℕ → Option ℕ) → AreFound find self.now → result ≡ find id }
     {
-        first_summary(rows_of(self.rows, pair_key(self.set, id)))
+        let mut near = likely_place(self.rows, id);
+        first_summary(rows_near(self.rows, pair_key(self.set, id), &mut near))
     }
 
     /// The summaries that ids have, by rising number. An error is want of memory.
