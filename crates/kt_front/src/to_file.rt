@@ -32,9 +32,10 @@ fn table_file<const N: usize, S: Source>(
 {
     let mut out = Bytes::new(alloc);
     push_header_part(&mut out, schema.header, schema.number, extra)?;
-    let kinds = &schema.kinds;
-    let mut records = Records { kinds, out };
-    match read_rows(alloc, source, kinds, false, &mut records) {
+    // The sink holds a copy, so that the kinds by which rows are read stay known.
+    let kinds = schema.kinds;
+    let mut records = Records { kinds: &kinds, out };
+    match read_rows(alloc, source, &schema.kinds, false, &mut records) {
         Ok(()) => Ok(records.out),
         Err(stop) => Err(stop),
     }
