@@ -13,6 +13,7 @@ use Rattle.kt_stream.specs.Read.{number_of, Field, field, fields_in}
 use Rattle.kt_stream.proofs.Cases.{got_is, bind_got}
 use Rattle.kt_stream.proofs.Fields.{field_got}
 use Rattle.kt_stream.proofs.PairsRead.{pair_got, order_fits}
+use Rattle.kt_stream.proofs.Sidx.{sample_place}
 
 -- nothing in front of values
 pub front_none : {A : Type 0} (r : Read (List A) Misfit) → in_front [] r ≡ r
@@ -109,6 +110,14 @@ next_step samples bytes pairs least used p first next =
     let read = pair_got samples least (drop used bytes) 0 p (next.read 0) in
     let order = order_fits samples least (drop used bytes) 0 p read next.other in
     (omega (arith, read.long, length-drop used bytes, first.within), order.0, order.1)
+
+-- the same, where no sidx below 1 may come
+pub sample_step : (samples : ℕ) (bytes : List ℕ) (pairs : List Pair) (least used : ℕ) (p : RawPair) → samples ≤ 1000 → 3 ≤ least → AreFirst samples bytes pairs least used → IsNext samples least (drop used bytes) p
+    → (least ≤ p.word + 2) × (p.word ≤ samples) × (order_of p.word ≡ p.word + 2)
+sample_step samples bytes pairs least used p few behind first next =
+    let step = next_step samples bytes pairs least used p first next in
+    let place = sample_place least p.word behind step.1 (omega (arith, step.2)) in
+    (omega (arith, step.1, place), omega (arith, step.2, place), place)
 
 -- one pair more
 pub first_more : (samples : ℕ) (bytes : List ℕ) (pairs now : List Pair) (least used : ℕ) (p : RawPair) → AreFirst samples bytes pairs least used → IsNext samples least (drop used bytes) p → now ≡ pairs ++ signed p ∷ []

@@ -27,6 +27,14 @@ near_word word near = elim (cases_lt word (2 ^ 32)) [
     beyond : 2 ^ 32 ≤ word → word ≤ 1002
     beyond more = rw (le-ltb word (2 ^ 32) more) at near
 
+-- a word that has its place from that of sidx 1 on is the sidx
+pub sample_place : (least word : ℕ) → 3 ≤ least → least ≤ order_of word → order_of word ≤ 1002 → order_of word ≡ word + 2
+sample_place least word behind least-is near = elim (near_word word near) [
+  | inl up ↦ up.1
+  | inr (inl two) ↦ absurd (omega (arith, two.1))
+  | inr (inr one) ↦ absurd (omega (arith, one.1))
+]
+
 -- a sidx stands two below its place
 pub signed_place : (word : ℕ) → order_of word ≤ 1002 → cast_signed w32 word +ℤ pos 2 ≡ pos (order_of word)
 signed_place word near = elim (near_word word near) [

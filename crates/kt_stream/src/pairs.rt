@@ -112,6 +112,18 @@ fn is_sound(samples: u32, least: u32, word: u32, loss: u64) -> bool
     word != 0 && least <= place && place <= samples + 2 && 1 <= loss && loss <= LOSS_LIMIT
 }
 
+/// The same where no sidx below `after` may come, and that is 1 at least: the end pair and the sidx below 0 are refused with those that
+/// are no sample's.
+#[inline]
+fn is_sound_behind(samples: u32, after: u32, word: u32, loss: u64) -> bool
+    requires samples { samples ≤ 1000 }
+    requires after { 1 ≤ after }
+    ensures sound { IsTrue result → (at : ℕ) → SoundPair samples (after + 2) word loss at }
+    ensures unsound { result ≡ false → (at : ℕ) → SoundPair samples (after + 2) word loss at → ⊥ }
+{
+    after <= word && word <= samples && 1 <= loss && loss <= LOSS_LIMIT
+}
+
 /// The pair at the front of the bytes, field by field.
 #[tactic(auto, unfolding(crate::specs::Pairs::pair_in))]
 fn judged_pair(samples: u32, least: u32, bytes: &[u8], at: u64) -> Read<RawPair, Misfit>
@@ -166,6 +178,24 @@ fn next_pair(samples: u32, least: u32, bytes: &[u8]) -> Option<RawPair>
     }
 }
 
+/// The same of bytes that are long enough, where no sidx below `after` may come, and that is 1 at least.
+#[inline]
+fn pair_behind(samples: u32, after: u32, bytes: &[u8]) -> Option<RawPair>
+    requires samples { samples ≤ 1000 }
+    requires after { 1 ≤ after }
+    requires long { 12 ≤ length bytes.now }
+    ensures next { IfSome result (IsNext samples (after + 2) bytes.now) }
+    ensures none { IfNone result (HasNoNext samples (after + 2) bytes.now) }
+{
+    let word = u32_of(bytes);
+    let loss = u64_of(&bytes[4..]);
+    if is_sound_behind(samples, after, word, loss) {
+        Some(RawPair { word, loss })
+    } else {
+        None
+    }
+}
+
 /// The sound pairs at the front of some bytes.
 #[derive(Drop)]
 struct FirstPairs {
@@ -177,8 +207,43 @@ struct FirstPairs {
     used: usize,
 }
 
+/// The place of sidx 1.
+const FIRST_SAMPLE: u32 = 3;
+
+/// The sound pairs at the front of the bytes, up to the first pair that is none, or the end pair, where these were found and no sidx
+/// below 1 may come behind them. Almost all pairs of a stream are read by this loop, so it asks no more of each than its
+/// place leaves open.
+#[inline(always)]
+fn pairs_behind(samples: u32, bytes: &[u8], found: FirstPairs) -> FirstPairs
+    requires samples { samples ≤ 1000 }
+    requires least { 3 ≤ found.least }
+    requires first { AreFirst samples bytes.now found.pairs.items found.least found.used }
+    requires room { samples + 3 ≤ vec_capacity found.pairs }
+    ensures first { AreFirst samples bytes.now result.pairs.items result.least result.used }
+    ensures last { HasNoNext samples result.least (drop result.used bytes.now) }
+{
+    let end = bytes.len().saturating_sub(PAIR - 1);
+    let mut pairs = found.pairs;
+    let mut after = found.least - 2;
+    let mut used = found.used;
+    while used < end {
+        let Some(pair) = pair_behind(samples, after, &bytes[used..]) else {
+            break;
+        };
+        pairs.push_reserved(signed_pair(pair));
+        after = pair.word + 1;
+        used += PAIR;
+    }
+    FirstPairs {
+        pairs,
+        least: after + 2,
+        used,
+    }
+}
+
 /// The sound pairs at the front of the bytes, up to the first pair that is none, or the end pair. They are put into
-/// a vector that is empty and has room for them.
+/// a vector that is empty and has room for them. It stands apart, so that its loops have the registers to themselves.
+#[inline(never)]
 fn first_pairs(samples: u32, bytes: &[u8], empty: Vec<Pair>) -> FirstPairs
     requires samples { samples ≤ 1000 }
     requires empty { empty.items ≡ [] }
@@ -189,12 +254,15 @@ fn first_pairs(samples: u32, bytes: &[u8], empty: Vec<Pair>) -> FirstPairs
     let mut pairs = empty;
     let mut least = 0;
     let mut used = 0;
-    while let Some(pair) = next_pair(samples, least, &bytes[used..]) {
+    while least < FIRST_SAMPLE {
+        let Some(pair) = next_pair(samples, least, &bytes[used..]) else {
+            return FirstPairs { pairs, least, used };
+        };
         pairs.push_reserved(signed_pair(pair));
         least = order(pair.word) + 1;
         used += PAIR;
     }
-    FirstPairs { pairs, least, used }
+    pairs_behind(samples, bytes, FirstPairs { pairs, least, used })
 }
 
 /// Reads the pairs up to the end pair at the front of the bytes, which stand at a byte of the stream, into a list: how
