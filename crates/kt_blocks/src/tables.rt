@@ -91,12 +91,12 @@ fn judge<const N: usize>(
 ) -> Result<(), TableStop>
     requires size { N < 100 }
     requires some { 0 < N }
-    ensures ok { OnOk result (IsJudged schema.now.kinds (body_of schema.now.header bytes.now) (body_rows schema.now.header schema.now.number least most 1 schema.now.kinds bytes.now)) }
+    ensures ok { OnOk result (IsJudged schema.now.kinds.now (body_of schema.now.header bytes.now) (body_rows schema.now.header schema.now.number least most 1 schema.now.kinds.now bytes.now)) }
 
-    ensures refused { IfErr result (Tells (body_rows schema.now.header schema.now.number least most 1 schema.now.kinds bytes.now)) }
+    ensures refused { IfErr result (Tells (body_rows schema.now.header schema.now.number least most 1 schema.now.kinds.now bytes.now)) }
 {
     let _extra = extra(schema.header, schema.number, least, most, bytes)?;
-    read_records(&schema.kinds, 1, body(schema.header, bytes), &mut Judged)
+    read_records(schema.kinds, 1, body(schema.header, bytes), &mut Judged)
 }
 
 // Judges the file of a table and writes its text. Each table has its own copy of this code, in which its kinds are known.
@@ -113,11 +113,11 @@ fn write_lines<const N: usize, K: Sink>(
 ) -> Result<(), TextStop>
     requires size { N < 100 }
     requires some { 0 < N }
-    requires columns { length schema.now.kinds ≡ N }
+    requires columns { length schema.now.kinds.now ≡ N }
     requires wide { 0 < width }
-    requires width { width ≡ record_width schema.now.kinds }
-    requires kinds { kinds_of table ≡ schema.now.kinds }
-    requires rows { bin_rows table bytes.now ≡ body_rows schema.now.header schema.now.number least most 1 schema.now.kinds bytes.now }
+    requires width { width ≡ record_width schema.now.kinds.now }
+    requires kinds { kinds_of table ≡ schema.now.kinds.now }
+    requires rows { bin_rows table bytes.now ≡ body_rows schema.now.header schema.now.number least most 1 schema.now.kinds.now bytes.now }
     ensures { WritesText (bin_csv table bytes.now) (K.state sink.old) (K.state sink.new) result }
 {
     if let Err(stop) = judge(schema, least, most, bytes) {
@@ -128,7 +128,7 @@ fn write_lines<const N: usize, K: Sink>(
         Err(stop) => return Err(TextStop::Refused(stop)),
     };
     let lines = Lines {
-        kinds: &schema.kinds,
+        kinds: schema.kinds,
         width,
         records: body(schema.header, bytes),
     };

@@ -46,8 +46,8 @@ fn with_field<'a, const N: usize>(
     })
 }
 
-// The next row of a text with few columns, if plain digits write its values. Each table has its own copy of this code, in which its
-// kinds are known: the compiler drops `inline(always)` with no message where a function would grow very large, so that all that is
+// The next row of a text with few columns, if plain digits write its values. Where the kinds are a constant, as those of each table are,
+// this code is copied for them, and they are known in it: the compiler drops `inline(always)` with no message where a function would grow very large, so that all that is
 // copied has to stay small.
 #[inline(always)]
 fn short_row<'a, const N: usize>(
@@ -114,21 +114,21 @@ fn long_row<'a, const N: usize>(
     Some(rest)
 }
 
-// The same, of copies: what a function that is called could hold is known no longer where the row is read without it.
+// The same, into a copy of the values: what a function that is called could hold is known no longer where the row is read without it.
 #[inline(always)]
 fn any_row<'a, const N: usize>(
-    kinds: [Kind; N],
     text: &'a [u8],
+    kinds: &[Kind; N],
     floor: u64,
     values: &mut [u64; N],
 ) -> Option<&'a [u8]>
     requires size { N < 100 }
     requires some { 0 < N }
-    ensures row { IfSome result (λ rest. (more : List ℕ) → HasRow kinds.entry floor (text.now ++ more) values.new (rest.now ++ more)) }
+    ensures row { IfSome result (λ rest. (more : List ℕ) → HasRow kinds.now floor (text.now ++ more) values.new (rest.now ++ more)) }
     ensures shorter { IfSome result (λ rest. length rest.now < length text.now) }
 {
     let mut found = *values;
-    let rest = long_row(text, &kinds, floor, &mut found)?;
+    let rest = long_row(text, kinds, floor, &mut found)?;
     *values = found;
     Some(rest)
 }
@@ -153,5 +153,5 @@ pub(crate) fn plain_row<'a, const N: usize>(
             return Some(rest);
         }
     }
-    any_row(*kinds, text, floor, values)
+    any_row(text, kinds, floor, values)
 }

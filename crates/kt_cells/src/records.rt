@@ -125,8 +125,8 @@ pub fn read_records<const N: usize, S: RowSink<N>>(
     requires some { 0 < N }
     requires first { first < 100 }
     requires takes { (row : List ℕ) → IsRow 0 kinds.now row → FitsBytes kinds.now row → S.takes row }
-    requires fresh { S.takes_to sink.old [] sink.old }
-    ensures value { OnOk result (HandsOver (λ rows. S.takes_to sink.old rows sink.new) (record_rows first kinds.now bytes.now)) }
+    requires fresh { S.takes_to kinds.now sink.old [] sink.old }
+    ensures value { OnOk result (HandsOver (λ rows. S.takes_to kinds.now sink.old rows sink.new) (record_rows first kinds.now bytes.now)) }
     ensures ranges { OnOk result ((rows : List (List ℕ)) → record_rows first kinds.now bytes.now ≡ Ok rows → AreRows kinds.now rows) }
     ensures count { OnOk result ((rows : List (List ℕ)) → record_rows first kinds.now bytes.now ≡ Ok rows → length rows ≡ record_count kinds.now bytes.now) }
 
@@ -139,7 +139,7 @@ pub fn read_records<const N: usize, S: RowSink<N>>(
     while !rest.is_empty() {
         rest = next_record(kinds, first, row, width, rest, &mut values)?;
         row += 1;
-        sink.take(&values)?;
+        sink.take(kinds, &values)?;
     }
     Ok(())
 }

@@ -42,18 +42,17 @@ pub fn read_front<'a, const N: usize, S: RowSink<N>>(
     requires some { 0 < N }
     requires room { start.count + length start.rest.now < 2 ^ 64 }
     requires takes { (row : List ℕ) → IsRow 0 kinds.now row → FitsBytes kinds.now row → S.takes row }
-    ensures value { IfOk result (λ front. (more : List ℕ) → HandsFront (TakesMore S.takes_to sink.old sink.new) (table_rows text_value ordered 1 kinds.now start.entry.floor (start.entry.count + 1) (csv_records (start.entry.rest.now ++ more))) (table_rows text_value ordered 1 kinds.now front.floor (front.count + 1) (csv_records (front.rest.now ++ more)))) }
+    ensures value { IfOk result (λ front. (more : List ℕ) → HandsFront (TakesMore (S.takes_to kinds.now) sink.old sink.new) (table_rows text_value ordered 1 kinds.now start.entry.floor (start.entry.count + 1) (csv_records (start.entry.rest.now ++ more))) (table_rows text_value ordered 1 kinds.now front.floor (front.count + 1) (csv_records (front.rest.now ++ more)))) }
     ensures within { IfOk result (λ front. front.count + length front.rest.now ≤ start.entry.count + length start.entry.rest.now) }
 {
     let mut count = start.count;
     let mut floor = start.floor;
     let mut rest = start.rest;
-    let columns = *kinds;
     let mut values = [0; N];
-    while let Some(behind) = plain_row(rest, &columns, floor, &mut values) {
+    while let Some(behind) = plain_row(rest, kinds, floor, &mut values) {
         count += 1;
         floor = floor_after(ordered, &values);
-        sink.take(&values)?;
+        sink.take(kinds, &values)?;
         rest = behind;
     }
     Ok(TextFront { count, floor, rest })
@@ -75,7 +74,7 @@ fn read_rows_left<const N: usize, S: RowSink<N>>(
     requires stands { StandsBetween reader.old }
     requires room { before + bytes_left reader.old < 2 ^ 64 }
     requires takes { (row : List ℕ) → IsRow 0 kinds.now row → FitsBytes kinds.now row → S.takes row }
-    ensures value { OnOk result (HandsOver (TakesMore S.takes_to sink.old sink.new) (table_rows text_value ordered 1 kinds.now least (before + 1) (records_left reader.old))) }
+    ensures value { OnOk result (HandsOver (TakesMore (S.takes_to kinds.now) sink.old sink.new) (table_rows text_value ordered 1 kinds.now least (before + 1) (records_left reader.old))) }
 
     ensures refused { IfErr result (Tells (table_rows text_value ordered 1 kinds.now least (before + 1) (records_left reader.old))) }
 {
@@ -92,7 +91,7 @@ fn read_rows_left<const N: usize, S: RowSink<N>>(
         }
         let values = read_record(fields, kinds, count, floor)?;
         floor = floor_after(ordered, &values);
-        sink.take(&values)?;
+        sink.take(kinds, &values)?;
     }
     Ok(())
 }
@@ -110,7 +109,7 @@ pub fn read_behind<const N: usize, S: RowSink<N>>(
     requires some { 0 < N }
     requires room { front.count + length front.rest.now < 2 ^ 64 }
     requires takes { (row : List ℕ) → IsRow 0 kinds.now row → FitsBytes kinds.now row → S.takes row }
-    ensures value { OnOk result (HandsOver (TakesMore S.takes_to sink.old sink.new) (table_rows text_value ordered 1 kinds.now front.entry.floor (front.entry.count + 1) (csv_records front.entry.rest.now))) }
+    ensures value { OnOk result (HandsOver (TakesMore (S.takes_to kinds.now) sink.old sink.new) (table_rows text_value ordered 1 kinds.now front.entry.floor (front.entry.count + 1) (csv_records front.entry.rest.now))) }
 
     ensures refused { IfErr result (Tells (table_rows text_value ordered 1 kinds.now front.entry.floor (front.entry.count + 1) (csv_records front.entry.rest.now))) }
 {
@@ -132,8 +131,8 @@ pub fn read_behind_heading<const N: usize, S: RowSink<N>>(
     requires size { N < 100 }
     requires some { 0 < N }
     requires takes { (row : List ℕ) → IsRow 0 kinds.now row → FitsBytes kinds.now row → S.takes row }
-    requires fresh { S.takes_to sink.old [] sink.old }
-    ensures value { OnOk result (HandsOver (λ rows. S.takes_to sink.old rows sink.new) (table_rows text_value ordered 1 kinds.now 0 1 (csv_rows text.now))) }
+    requires fresh { S.takes_to kinds.now sink.old [] sink.old }
+    ensures value { OnOk result (HandsOver (λ rows. S.takes_to kinds.now sink.old rows sink.new) (table_rows text_value ordered 1 kinds.now 0 1 (csv_rows text.now))) }
 
     ensures refused { IfErr result (Tells (table_rows text_value ordered 1 kinds.now 0 1 (csv_rows text.now))) }
 {
@@ -160,8 +159,8 @@ pub fn read_text<const N: usize, S: RowSink<N>>(
     requires size { N < 100 }
     requires some { 0 < N }
     requires takes { (row : List ℕ) → IsRow 0 kinds.now row → FitsBytes kinds.now row → S.takes row }
-    requires fresh { S.takes_to sink.old [] sink.old }
-    ensures value { OnOk result (HandsOver (λ rows. S.takes_to sink.old rows sink.new) (text_rows ordered kinds.now text.now)) }
+    requires fresh { S.takes_to kinds.now sink.old [] sink.old }
+    ensures value { OnOk result (HandsOver (λ rows. S.takes_to kinds.now sink.old rows sink.new) (text_rows ordered kinds.now text.now)) }
     ensures ranges { OnOk result ((rows : List (List ℕ)) → text_rows ordered kinds.now text.now ≡ Ok rows → AreRows kinds.now rows × AreInOrder ordered 0 rows) }
 
     ensures refused { IfErr result (Tells (text_rows ordered kinds.now text.now)) }

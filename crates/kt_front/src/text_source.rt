@@ -99,7 +99,7 @@ fn read_plain<const N: usize, S: Source, K: RowSink<N>>(
     requires few { length kept.old.items + most < 2 ^ 64 }
     requires takes { (row : List ℕ) → IsRow 0 kinds.now row → FitsBytes kinds.now row → K.takes row }
     ensures room { length block.new ≡ length block.old }
-    ensures front { IfOk result (λ front. ReadsFront K.takes_to kinds.now ordered (S.state source.old) (S.state source.new) sink.old sink.new kept.old.items kept.new.items front.count front.floor most front.left) }
+    ensures front { IfOk result (λ front. ReadsFront (K.takes_to kinds.now) kinds.now ordered (S.state source.old) (S.state source.new) sink.old sink.new kept.old.items kept.new.items front.count front.floor most front.left) }
 
     ensures stopped { IfErr result (λ stop. ReadsUpTo most (S.state source.old) (S.state source.new) (Err stop)) }
 {
@@ -148,8 +148,8 @@ fn read_records<const N: usize, S: Source, K: RowSink<N>>(
     requires few { length kept.items + most < 2 ^ 64 }
     requires limit { most ≤ 1073741824 }
     requires takes { (row : List ℕ) → IsRow 0 kinds.now row → FitsBytes kinds.now row → K.takes row }
-    requires fresh { K.takes_to sink.old [] sink.old }
-    ensures { ReadsText most (λ rows. K.takes_to sink.old rows sink.new) (λ more. table_rows text_value ordered 1 kinds.now 0 1 (csv_records (kept.items ++ more))) (S.state source.old) (S.state source.new) result }
+    requires fresh { K.takes_to kinds.now sink.old [] sink.old }
+    ensures { ReadsText most (λ rows. K.takes_to kinds.now sink.old rows sink.new) (λ more. table_rows text_value ordered 1 kinds.now 0 1 (csv_records (kept.items ++ more))) (S.state source.old) (S.state source.new) result }
 {
     let mut text = kept;
     let front = match read_plain(alloc, source, block, &mut text, most, kinds, ordered, sink) {
@@ -184,8 +184,8 @@ fn read_whole_text<const N: usize, S: Source, K: RowSink<N>>(
     requires room { 0 < length block.old }
     requires limit { most ≤ 1073741824 }
     requires takes { (row : List ℕ) → IsRow 0 kinds.now row → FitsBytes kinds.now row → K.takes row }
-    requires fresh { K.takes_to sink.old [] sink.old }
-    ensures { ReadsText most (λ rows. K.takes_to sink.old rows sink.new) (λ more. table_rows text_value ordered 1 kinds.now 0 1 (csv_rows (front.items ++ more))) (S.state source.old) (S.state source.new) result }
+    requires fresh { K.takes_to kinds.now sink.old [] sink.old }
+    ensures { ReadsText most (λ rows. K.takes_to kinds.now sink.old rows sink.new) (λ more. table_rows text_value ordered 1 kinds.now 0 1 (csv_rows (front.items ++ more))) (S.state source.old) (S.state source.new) result }
 {
     let mut text = front;
     if let Err(stop) = read_on(alloc, source, block, &mut text, most) {
@@ -208,8 +208,8 @@ pub(crate) fn read_rows<const N: usize, S: Source, K: RowSink<N>>(
     requires size { N < 100 }
     requires some { 0 < N }
     requires takes { (row : List ℕ) → IsRow 0 kinds.now row → FitsBytes kinds.now row → K.takes row }
-    requires fresh { K.takes_to sink.old [] sink.old }
-    ensures { ReadsText source_limit (λ rows. K.takes_to sink.old rows sink.new) (text_rows ordered kinds.now) (S.state source.old) (S.state source.new) result }
+    requires fresh { K.takes_to kinds.now sink.old [] sink.old }
+    ensures { ReadsText source_limit (λ rows. K.takes_to kinds.now sink.old rows sink.new) (text_rows ordered kinds.now) (S.state source.old) (S.state source.new) result }
 {
     let mut block = zeros(alloc, BLOCK)?;
     let mut text = Vec::new(alloc);

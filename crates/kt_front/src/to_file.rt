@@ -27,15 +27,13 @@ fn table_file<const N: usize, S: Source>(
 ) -> Result<Bytes, ToolStop>
     requires size { N < 100 }
     requires some { 0 < N }
-    requires schema { (text : List ℕ) → csv_bin table extra text ≡ and_then (text_rows false schema.now.kinds text) (λ rows. Ok (file_bytes schema.now.header schema.now.number extra schema.now.kinds rows)) }
+    requires schema { (text : List ℕ) → csv_bin table extra text ≡ and_then (text_rows false schema.now.kinds.now text) (λ rows. Ok (file_bytes schema.now.header schema.now.number extra schema.now.kinds.now rows)) }
     ensures { MakesOf (csv_bin table extra) (S.state source.old) (S.state source.new) result }
 {
     let mut out = Bytes::new(alloc);
     push_header_part(&mut out, schema.header, schema.number, extra)?;
-    // The sink holds a copy, so that the kinds by which rows are read stay known.
-    let kinds = schema.kinds;
-    let mut records = Records { kinds: &kinds, out };
-    match read_rows(alloc, source, &schema.kinds, false, &mut records) {
+    let mut records = Records { out };
+    match read_rows(alloc, source, schema.kinds, false, &mut records) {
         Ok(()) => Ok(records.out),
         Err(stop) => Err(stop),
     }
@@ -48,7 +46,7 @@ fn footprint_file<S: Source>(alloc: Global, source: &mut S) -> Result<Bytes, Too
     let mut out = Bytes::new(alloc);
     push_header(&mut out, FOOTPRINT.number, 0)?;
     let mut records = FootprintRecords { out };
-    match read_rows(alloc, source, &FOOTPRINT.kinds, true, &mut records) {
+    match read_rows(alloc, source, FOOTPRINT.kinds, true, &mut records) {
         Ok(()) => Ok(records.out),
         Err(stop) => Err(stop),
     }
@@ -59,7 +57,7 @@ fn index_file<S: Source>(alloc: Global, source: &mut S) -> Result<Bytes, ToolSto
     ensures { (extra : ℕ) → MakesOf (csv_bin FootprintIdx extra) (S.state source.old) (S.state source.new) result }
 {
     let mut records = IndexRecords::new(alloc);
-    match read_rows(alloc, source, &FOOTPRINT.kinds, true, &mut records) {
+    match read_rows(alloc, source, FOOTPRINT.kinds, true, &mut records) {
         Ok(()) => {
             let file = records.finish()?;
             Ok(file)

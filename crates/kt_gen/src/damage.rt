@@ -37,7 +37,7 @@ impl Groups for IntensityGroups {
         let total = 10_000 * vulnerability;
         push_rows(
             out,
-            &VULNERABILITY.kinds,
+            VULNERABILITY.kinds,
             &[
                 [
                     vulnerability,
@@ -102,7 +102,7 @@ impl Groups for DamageBinGroups {
         let from = 100_000 * bin.saturating_sub(2);
         push_rows(
             out,
-            &DAMAGE_BIN_DICT.kinds,
+            DAMAGE_BIN_DICT.kinds,
             &[[bin, from, 100_000 * (bin - 1), from + 50_000, 1]],
         )
     }
@@ -123,7 +123,7 @@ pub(crate) fn damage_bins_file(alloc: Global) -> Result<Bytes, AllocError>
     ensures { IfOk result (λ file. file ≡ bin DamageBinDict 0 damage_bin_rows) }
 {
     let mut out = begin(alloc, Table::DamageBinDict, 0)?;
-    let kinds = &DAMAGE_BIN_DICT.kinds;
+    let kinds = DAMAGE_BIN_DICT.kinds;
     push_rows(&mut out, kinds, &[[1, 0, 0, 0, 1]])?;
     put_plain_groups(&DamageBinGroups, 2, 10, &mut out)?;
     push_rows(&mut out, kinds, &[[12, 1_000_000, 1_000_000, 1_000_000, 1]])?;

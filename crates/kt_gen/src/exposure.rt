@@ -37,7 +37,7 @@ impl Groups for EventGroups {
     ghost before = { λ _ _. 0 };
 
     fn put(&self, number: u32, _draws: &mut Draws, out: &mut Bytes) -> Result<(), AllocError> {
-        push_rows(out, &EVENTS.kinds, &[[u64::from(number)]])
+        push_rows(out, EVENTS.kinds, &[[u64::from(number)]])
     }
 }
 
@@ -62,7 +62,7 @@ impl Groups for ItemGroups {
         let coverage = u64::from(coverage_of(number));
         let earlier = item - 1;
         let row = [item, coverage, 1 + earlier % 50, 1 + earlier % 3, coverage];
-        push_rows(out, &ITEMS.kinds, &[row])
+        push_rows(out, ITEMS.kinds, &[row])
     }
 }
 
@@ -84,7 +84,7 @@ impl Groups for CoverageGroups {
 
     fn put(&self, number: u32, draws: &mut Draws, out: &mut Bytes) -> Result<(), AllocError> {
         let tiv = 10_000_000 + u64::from(draws.next(90_000_000));
-        push_rows(out, &COVERAGES.kinds, &[[u64::from(number), tiv]])
+        push_rows(out, COVERAGES.kinds, &[[u64::from(number), tiv]])
     }
 }
 

@@ -39,11 +39,7 @@ impl Groups for ItemProgrammeGroups {
 
     fn put(&self, number: u32, _draws: &mut Draws, out: &mut Bytes) -> Result<(), AllocError> {
         let coverage = u64::from(coverage_of(number));
-        push_rows(
-            out,
-            &FM_PROGRAMME.kinds,
-            &[[u64::from(number), 1, coverage]],
-        )
+        push_rows(out, FM_PROGRAMME.kinds, &[[u64::from(number), 1, coverage]])
     }
 }
 
@@ -65,7 +61,7 @@ impl Groups for CoverageProgrammeGroups {
 
     fn put(&self, number: u32, _draws: &mut Draws, out: &mut Bytes) -> Result<(), AllocError> {
         let top = u64::from(top_of(number));
-        push_rows(out, &FM_PROGRAMME.kinds, &[[u64::from(number), 2, top]])
+        push_rows(out, FM_PROGRAMME.kinds, &[[u64::from(number), 2, top]])
     }
 }
 
@@ -86,7 +82,7 @@ impl Groups for CoverageTermsGroups {
     ghost before = { λ _ _. 0 };
 
     fn put(&self, number: u32, _draws: &mut Draws, out: &mut Bytes) -> Result<(), AllocError> {
-        push_rows(out, &FM_POLICYTC.kinds, &[[1, 1, u64::from(number), 1]])
+        push_rows(out, FM_POLICYTC.kinds, &[[1, 1, u64::from(number), 1]])
     }
 }
 
@@ -107,7 +103,7 @@ impl Groups for TopTermsGroups {
 
     fn put(&self, number: u32, _draws: &mut Draws, out: &mut Bytes) -> Result<(), AllocError> {
         let top = u64::from(number);
-        push_rows(out, &FM_POLICYTC.kinds, &[[1, 2, top, 2], [2, 2, top, 3]])
+        push_rows(out, FM_POLICYTC.kinds, &[[1, 2, top, 2], [2, 2, top, 3]])
     }
 }
 
@@ -131,7 +127,7 @@ impl Groups for OutputGroups {
         let earlier = 2 * (item - 1);
         push_rows(
             out,
-            &FM_XREF.kinds,
+            FM_XREF.kinds,
             &[[earlier + 1, item, 1], [earlier + 2, item, 2]],
         )
     }
@@ -169,7 +165,7 @@ pub(crate) fn fm_profile_file(alloc: Global) -> Result<Bytes, AllocError>
     let mut out = begin(alloc, Table::FmProfile, 0)?;
     push_rows(
         &mut out,
-        &FM_PROFILE.kinds,
+        FM_PROFILE.kinds,
         &[
             [1, 12, 100_000, 0, 0, 0, 0, 0, 0, 0],
             [2, 2, 0, 0, 0, 0, 50_000_000, 1_000_000, 0, 0],

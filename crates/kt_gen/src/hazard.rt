@@ -99,7 +99,7 @@ impl Groups for IndexGroups {
         let event = u64::from(number);
         push_rows(
             out,
-            &FOOTPRINT_IDX.kinds,
+            FOOTPRINT_IDX.kinds,
             &[[event, 16 + (event - 1) * 240, 240]],
         )
     }
@@ -125,7 +125,7 @@ impl Groups for RandomGroups {
     ghost before = { λ numbers number. numbers.before + (number - 1) };
 
     fn put(&self, _number: u32, draws: &mut Draws, out: &mut Bytes) -> Result<(), AllocError> {
-        push_rows(out, &RANDOM.kinds, &[[u64::from(draws.next(1_000_000))]])
+        push_rows(out, RANDOM.kinds, &[[u64::from(draws.next(1_000_000))]])
     }
 }
 

@@ -51,7 +51,7 @@ impl Groups for OccurrenceGroups {
     fn put(&self, number: u32, draws: &mut Draws, out: &mut Bytes) -> Result<(), AllocError> {
         let first = occurrence(number, draws);
         let second = occurrence(number, draws);
-        push_rows(out, &OCCURRENCE.kinds, &[first, second])
+        push_rows(out, OCCURRENCE.kinds, &[first, second])
     }
 }
 
@@ -80,7 +80,7 @@ pub(crate) fn return_periods_file(alloc: Global) -> Result<Bytes, AllocError>
     let mut out = begin(alloc, Table::ReturnPeriods, 0)?;
     push_rows(
         &mut out,
-        &RETURN_PERIODS.kinds,
+        RETURN_PERIODS.kinds,
         &[[1000], [500], [250], [100], [50], [10]],
     )?;
     Ok(out)

@@ -29,7 +29,7 @@ impl Groups for StageProgrammeGroups {
     ghost before = { λ _ _. 0 };
 
     fn put(&self, number: u32, _draws: &mut Draws, out: &mut Bytes) -> Result<(), AllocError> {
-        push_rows(out, &FM_PROGRAMME.kinds, &[[u64::from(number), 1, 1]])
+        push_rows(out, FM_PROGRAMME.kinds, &[[u64::from(number), 1, 1]])
     }
 }
 
@@ -50,7 +50,7 @@ pub(crate) fn stage_policytc_file(alloc: Global) -> Result<Bytes, AllocError>
     ensures { IfOk result (λ file. file ≡ bin FmPolicytc 0 stage_policytc_rows) }
 {
     let mut out = begin(alloc, Table::FmPolicytc, 0)?;
-    push_rows(&mut out, &FM_POLICYTC.kinds, &[[1, 1, 1, 1]])?;
+    push_rows(&mut out, FM_POLICYTC.kinds, &[[1, 1, 1, 1]])?;
     Ok(out)
 }
 
@@ -62,7 +62,7 @@ pub(crate) fn stage_profile_file(alloc: Global) -> Result<Bytes, AllocError>
     let mut out = begin(alloc, Table::FmProfile, 0)?;
     push_rows(
         &mut out,
-        &FM_PROFILE.kinds,
+        FM_PROFILE.kinds,
         &[[1, 2, 0, 0, 0, 100_000_000, 1_000_000_000, 750_000, 0, 0]],
     )?;
     Ok(out)

@@ -23,7 +23,7 @@ fn push_summaries(out: &mut Bytes, number: u32, item: u32) -> Result<(), AllocEr
     let summary = 1 + (u64::from(item) - 1) % 4;
     push_rows(
         out,
-        &GUL_SUMMARY_XREF.kinds,
+        GUL_SUMMARY_XREF.kinds,
         &[[number, 1, 1], [number, summary, 2]],
     )
 }

@@ -48,7 +48,7 @@ pub fn footprint_to_csv(
 // Appends the lines of all events of the index. The error is want of memory.
 fn push_events(out: &mut Bytes, index: &[FootprintIdx], records: &[u8]) -> Result<(), TableStop>
     requires records { (rows : List (List ℕ)) × AreRecords records.now rows × All (HasRecords (length rows)) index.now }
-    ensures ok { OnOk result ((rows : List (List ℕ)) → AreRecords records.now rows → out.new ≡ out.old ++ rows_lines FOOTPRINT.kinds (indexed_rows rows index.now)) }
+    ensures ok { OnOk result ((rows : List (List ℕ)) → AreRecords records.now rows → out.new ≡ out.old ++ rows_lines (kinds_of Footprint) (indexed_rows rows index.now)) }
     ensures memory { IfErr result (λ stop. stop ≡ TableStop.OutOfMemory) }
 {
     for entry in index {
@@ -63,7 +63,7 @@ fn push_events(out: &mut Bytes, index: &[FootprintIdx], records: &[u8]) -> Resul
 // Appends the lines of the records of an event. The error is want of memory.
 fn push_event(out: &mut Bytes, entry: &FootprintIdx, records: &[u8]) -> Result<(), TableStop>
     requires records { (rows : List (List ℕ)) × AreRecords records.now rows × HasRecords (length rows) entry.now }
-    ensures ok { OnOk result ((rows : List (List ℕ)) → AreRecords records.now rows → out.new ≡ out.old ++ rows_lines FOOTPRINT.kinds (entry_rows rows entry.now)) }
+    ensures ok { OnOk result ((rows : List (List ℕ)) → AreRecords records.now rows → out.new ≡ out.old ++ rows_lines (kinds_of Footprint) (entry_rows rows entry.now)) }
     ensures memory { IfErr result (λ stop. stop ≡ TableStop.OutOfMemory) }
 {
     slices_give_slices();

@@ -6,7 +6,7 @@ ghost use Rattle.kt_rec.specs.declared.table.Table.TheVariants.{FootprintIdx};
 ghost use Rattle.kt_schema.specs.Index.{index_row, index_behind};
 ghost use Rattle.kt_schema.specs.Tables.{kinds_of};
 
-use kt_cells::RowSink;
+use kt_cells::{Kind, RowSink};
 use kt_money::Bytes;
 use std::alloc::{AllocError, Global};
 
@@ -64,10 +64,10 @@ impl RowSink<4> for IndexRecords {
     ghost takes = { λ _. ⊤ };
 
     // Whatever rows follow, the index goes on as that of all rows does.
-    ghost takes_to = { λ start rows now. (more : List (List ℕ)) → now.out ++ records_bytes (kinds_of FootprintIdx) (index_behind now.last more) ≡ start.out ++ records_bytes (kinds_of FootprintIdx) (index_behind start.last (rows ++ more)) };
+    ghost takes_to = { λ _ start rows now. (more : List (List ℕ)) → now.out ++ records_bytes (kinds_of FootprintIdx) (index_behind now.last more) ≡ start.out ++ records_bytes (kinds_of FootprintIdx) (index_behind start.last (rows ++ more)) };
 
     #[inline(always)]
-    fn take(&mut self, row: &[u64; 4]) -> Result<(), AllocError> {
+    fn take(&mut self, _kinds: &[Kind; 4], row: &[u64; 4]) -> Result<(), AllocError> {
         let event = row[0];
         match self.last {
             None => {

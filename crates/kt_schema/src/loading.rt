@@ -9,7 +9,7 @@ ghost use Rattle.kt_schema.specs.Loading.{HasRowsOf, Loads, loaded_rows};
 use crate::schema::*;
 use crate::to_csv::{MOST_PERIODS, extra, read_file};
 use crate::typed_row::TypedRow;
-use kt_cells::{RowSink, TableStop};
+use kt_cells::{Kind, RowSink, TableStop};
 use kt_rec::{Table, TableId, Tables};
 use std::alloc::{AllocError, Global};
 
@@ -22,10 +22,10 @@ struct TypedRows<T> {
 impl<const N: usize, T: TypedRow<N>> RowSink<N> for TypedRows<T> {
     ghost takes = { FitsBytes T.kinds };
 
-    ghost takes_to = { λ start rows list. map T.values list.rows.items ≡ map T.values start.rows.items ++ rows };
+    ghost takes_to = { λ _ start rows list. map T.values list.rows.items ≡ map T.values start.rows.items ++ rows };
 
     #[inline(always)]
-    fn take(&mut self, row: &[u64; N]) -> Result<(), AllocError> {
+    fn take(&mut self, _kinds: &[Kind; N], row: &[u64; N]) -> Result<(), AllocError> {
         self.rows.push(T::from_values(row))?;
         Ok(())
     }
@@ -44,11 +44,11 @@ fn load_counted<const N: usize, T: TypedRow<N>>(
 ) -> Result<u32, TableStop>
     requires size { N < 100 }
     requires some { 0 < N }
-    requires kinds { T.kinds ≡ schema.now.kinds }
-    ensures value { IfOk result (λ extra. body_rows schema.now.header schema.now.number least most 1 schema.now.kinds bytes.now ≡ Ok (extra, map T.values list.new.items)) }
-    ensures ranges { OnOk result (AreRows schema.now.kinds (map T.values list.new.items)) }
+    requires kinds { T.kinds ≡ schema.now.kinds.now }
+    ensures value { IfOk result (λ extra. body_rows schema.now.header schema.now.number least most 1 schema.now.kinds.now bytes.now ≡ Ok (extra, map T.values list.new.items)) }
+    ensures ranges { OnOk result (AreRows schema.now.kinds.now (map T.values list.new.items)) }
 
-    ensures refused { IfErr result (Tells (body_rows schema.now.header schema.now.number least most 1 schema.now.kinds bytes.now)) }
+    ensures refused { IfErr result (Tells (body_rows schema.now.header schema.now.number least most 1 schema.now.kinds.now bytes.now)) }
 
     ensures unchanged { OnErr result (list.new ≡ list.old) }
 {
@@ -70,10 +70,10 @@ fn load<const N: usize, T: TypedRow<N>>(
 ) -> Result<(), TableStop>
     requires size { N < 100 }
     requires some { 0 < N }
-    requires kinds { T.kinds ≡ schema.now.kinds }
-    ensures ok { OnOk result (HasRowsOf (body_rows schema.now.header schema.now.number 0 0 1 schema.now.kinds bytes.now) schema.now.kinds (map T.values list.new.items)) }
+    requires kinds { T.kinds ≡ schema.now.kinds.now }
+    ensures ok { OnOk result (HasRowsOf (body_rows schema.now.header schema.now.number 0 0 1 schema.now.kinds.now bytes.now) schema.now.kinds.now (map T.values list.new.items)) }
 
-    ensures refused { IfErr result (Tells (body_rows schema.now.header schema.now.number 0 0 1 schema.now.kinds bytes.now)) }
+    ensures refused { IfErr result (Tells (body_rows schema.now.header schema.now.number 0 0 1 schema.now.kinds.now bytes.now)) }
 
     ensures unchanged { OnErr result (list.new ≡ list.old) }
 {

@@ -9,25 +9,22 @@ use kt_cells::{Kind, RowSink, push_record};
 use kt_money::Bytes;
 use std::alloc::AllocError;
 
-/// Records with columns of these kinds, which stand behind what is in `out`.
+/// Records with columns of the kinds by which the rows are read, which stand behind what is in `out`.
 #[derive(Drop)]
-pub struct Records<'a, const N: usize> {
-    /// The kinds.
-    pub kinds: &'a [Kind; N],
+pub struct Records {
     /// The header of the file, and the records behind it.
     pub out: Bytes,
 }
 
-impl<'a, const N: usize> RowSink<N> for Records<'a, N> {
+impl<const N: usize> RowSink<N> for Records {
     ghost use Rattle.std.specs.Prelude.{⊤};
 
     ghost takes = { λ _. ⊤ };
 
-    ghost takes_to = { λ start rows now. (now.kinds.now ≡ start.kinds.now) × (now.out ≡ start.out ++ records_bytes start.kinds.now rows) };
+    ghost takes_to = { λ kinds start rows now. now.out ≡ start.out ++ records_bytes kinds rows };
 
     #[inline(always)]
-    fn take(&mut self, row: &[u64; N]) -> Result<(), AllocError> {
-        let kinds = self.kinds;
+    fn take(&mut self, kinds: &[Kind; N], row: &[u64; N]) -> Result<(), AllocError> {
         push_record(&mut self.out, kinds, row)?;
         Ok(())
     }
@@ -57,10 +54,10 @@ impl RowSink<4> for FootprintRecords {
 
     ghost takes = { FitsBytes (kinds_of Footprint) };
 
-    ghost takes_to = { λ start rows now. now.out ≡ start.out ++ records_bytes (drop 1 (kinds_of Footprint)) (map (drop 1) rows) };
+    ghost takes_to = { λ _ start rows now. now.out ≡ start.out ++ records_bytes (drop 1 (kinds_of Footprint)) (map (drop 1) rows) };
 
     #[inline(always)]
-    fn take(&mut self, row: &[u64; 4]) -> Result<(), AllocError> {
+    fn take(&mut self, _kinds: &[Kind; 4], row: &[u64; 4]) -> Result<(), AllocError> {
         let [_event, areaperil, intensity, prob] = *row;
         let record = footprint_record(areaperil as u32, intensity as u32, prob as u32);
         self.out.append(&record)?;
@@ -77,10 +74,10 @@ impl<const N: usize> RowSink<N> for Judged {
 
     ghost takes = { λ _. ⊤ };
 
-    ghost takes_to = { λ _ _ _. ⊤ };
+    ghost takes_to = { λ _ _ _ _. ⊤ };
 
     #[inline(always)]
-    fn take(&mut self, _row: &[u64; N]) -> Result<(), AllocError> {
+    fn take(&mut self, _kinds: &[Kind; N], _row: &[u64; N]) -> Result<(), AllocError> {
         Ok(())
     }
 }

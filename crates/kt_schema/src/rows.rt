@@ -18,14 +18,9 @@ pub fn schema_rows<const N: usize>(
     grid: &Grid<N>,
 ) -> Result<Values<N>, TableStop>
     requires { N < 100 }
-    ensures value { IfOk result (λ values. table_rows text_value (schema.now.number == 4) 1 schema.now.kinds 0 1 grid.now ≡ Ok values) }
+    ensures value { IfOk result (λ values. table_rows text_value (schema.now.number == 4) 1 schema.now.kinds.now 0 1 grid.now ≡ Ok values) }
 
-    ensures refused { IfErr result (Tells (table_rows text_value (schema.now.number == 4) 1 schema.now.kinds 0 1 grid.now)) }
+    ensures refused { IfErr result (Tells (table_rows text_value (schema.now.number == 4) 1 schema.now.kinds.now 0 1 grid.now)) }
 {
-    read_grid(
-        alloc,
-        grid,
-        &schema.kinds,
-        schema.number == FOOTPRINT.number,
-    )
+    read_grid(alloc, grid, schema.kinds, schema.number == FOOTPRINT.number)
 }

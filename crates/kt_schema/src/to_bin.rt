@@ -3,7 +3,9 @@ ghost use Rattle.std.specs.Prelude.{◌≡◌, ◌<◌, ◌++◌, false, true, m
 ghost use Rattle.kt_cells.specs.Texts.{text_rows};
 ghost use Rattle.kt_cells.specs.Reading.{and_then};
 ghost use Rattle.kt_cells.specs.Stops.{Tells};
+ghost use Rattle.kt_rec.specs.declared.table.Table.TheVariants.{Footprint};
 ghost use Rattle.kt_schema.specs.Conversions.{csv_bin, file_bytes, footprint_bytes, index_bytes, header_part};
+ghost use Rattle.kt_schema.specs.Tables.{kinds_of};
 
 use crate::index::IndexRecords;
 use crate::record_sinks::{FootprintRecords, Records};
@@ -40,16 +42,15 @@ fn converted<const N: usize>(
 ) -> Result<Bytes, TableStop>
     requires size { N < 100 }
     requires some { 0 < N }
-    requires schema { csv_bin table extra text.now ≡ and_then (text_rows false schema.now.kinds text.now) (λ rows. Ok (file_bytes schema.now.header schema.now.number extra schema.now.kinds rows)) }
+    requires schema { csv_bin table extra text.now ≡ and_then (text_rows false schema.now.kinds.now text.now) (λ rows. Ok (file_bytes schema.now.header schema.now.number extra schema.now.kinds.now rows)) }
     ensures value { IfOk result (λ bytes. csv_bin table extra text.now ≡ Ok bytes) }
 
     ensures refused { IfErr result (Tells (csv_bin table extra text.now)) }
 {
     let mut out = Bytes::new(alloc);
     push_header_part(&mut out, schema.header, schema.number, extra)?;
-    let kinds = &schema.kinds;
-    let mut records = Records { kinds, out };
-    read_text(alloc, text, kinds, false, &mut records)?;
+    let mut records = Records { out };
+    read_text(alloc, text, schema.kinds, false, &mut records)?;
     Ok(records.out)
 }
 
@@ -89,25 +90,25 @@ pub fn csv_to_bin(alloc: Global, table: Table, extra: u32, text: &[u8]) -> Resul
 
 // The footprint file, whose records leave the event out.
 fn footprint(alloc: Global, text: &[u8]) -> Result<Bytes, TableStop>
-    ensures value { IfOk result (λ bytes. and_then (text_rows true FOOTPRINT.kinds text.now) (λ rows. Ok (footprint_bytes rows)) ≡ Ok bytes) }
+    ensures value { IfOk result (λ bytes. and_then (text_rows true (kinds_of Footprint) text.now) (λ rows. Ok (footprint_bytes rows)) ≡ Ok bytes) }
 
-    ensures refused { IfErr result (Tells (and_then (text_rows true FOOTPRINT.kinds text.now) (λ rows. Ok (footprint_bytes rows)))) }
+    ensures refused { IfErr result (Tells (and_then (text_rows true (kinds_of Footprint) text.now) (λ rows. Ok (footprint_bytes rows)))) }
 {
     let mut out = Bytes::new(alloc);
     push_header(&mut out, FOOTPRINT.number, 0)?;
     let mut records = FootprintRecords { out };
-    read_text(alloc, text, &FOOTPRINT.kinds, true, &mut records)?;
+    read_text(alloc, text, FOOTPRINT.kinds, true, &mut records)?;
     Ok(records.out)
 }
 
 // The index of a footprint file.
 fn footprint_index(alloc: Global, text: &[u8]) -> Result<Bytes, TableStop>
-    ensures value { IfOk result (λ bytes. and_then (text_rows true FOOTPRINT.kinds text.now) (λ rows. Ok (index_bytes rows)) ≡ Ok bytes) }
+    ensures value { IfOk result (λ bytes. and_then (text_rows true (kinds_of Footprint) text.now) (λ rows. Ok (index_bytes rows)) ≡ Ok bytes) }
 
-    ensures refused { IfErr result (Tells (and_then (text_rows true FOOTPRINT.kinds text.now) (λ rows. Ok (index_bytes rows)))) }
+    ensures refused { IfErr result (Tells (and_then (text_rows true (kinds_of Footprint) text.now) (λ rows. Ok (index_bytes rows)))) }
 {
     let mut records = IndexRecords::new(alloc);
-    read_text(alloc, text, &FOOTPRINT.kinds, true, &mut records)?;
+    read_text(alloc, text, FOOTPRINT.kinds, true, &mut records)?;
     let out = records.finish()?;
     Ok(out)
 }

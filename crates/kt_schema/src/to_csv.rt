@@ -54,14 +54,14 @@ pub(crate) fn read_file<const N: usize, S: RowSink<N>>(
 ) -> Result<u32, TableStop>
     requires size { N < 100 }
     requires some { 0 < N }
-    requires takes { (row : List ℕ) → IsRow 0 schema.now.kinds row → FitsBytes schema.now.kinds row → S.takes row }
-    requires fresh { S.takes_to sink.old [] sink.old }
-    ensures value { IfOk result (HandsFile (λ rows. S.takes_to sink.old rows sink.new) schema.now.kinds (body_rows schema.now.header schema.now.number least most 1 schema.now.kinds bytes.now)) }
+    requires takes { (row : List ℕ) → IsRow 0 schema.now.kinds.now row → FitsBytes schema.now.kinds.now row → S.takes row }
+    requires fresh { S.takes_to schema.now.kinds.now sink.old [] sink.old }
+    ensures value { IfOk result (HandsFile (λ rows. S.takes_to schema.now.kinds.now sink.old rows sink.new) schema.now.kinds.now (body_rows schema.now.header schema.now.number least most 1 schema.now.kinds.now bytes.now)) }
 
-    ensures refused { IfErr result (Tells (body_rows schema.now.header schema.now.number least most 1 schema.now.kinds bytes.now)) }
+    ensures refused { IfErr result (Tells (body_rows schema.now.header schema.now.number least most 1 schema.now.kinds.now bytes.now)) }
 {
     let extra = extra(schema.header, schema.number, least, most, bytes)?;
-    read_records(&schema.kinds, 1, body(schema.header, bytes), sink)?;
+    read_records(schema.kinds, 1, body(schema.header, bytes), sink)?;
     Ok(extra)
 }
 
@@ -77,8 +77,8 @@ fn converted<const N: usize>(
 ) -> Result<Bytes, TableStop>
     requires size { N < 100 }
     requires some { 0 < N }
-    requires kinds { kinds_of table ≡ schema.now.kinds }
-    requires rows { bin_rows table bytes.now ≡ body_rows schema.now.header schema.now.number least most 1 schema.now.kinds bytes.now }
+    requires kinds { kinds_of table ≡ schema.now.kinds.now }
+    requires rows { bin_rows table bytes.now ≡ body_rows schema.now.header schema.now.number least most 1 schema.now.kinds.now bytes.now }
     ensures value { IfOk result (λ text. bin_csv table bytes.now ≡ Ok text) }
 
     ensures refused { IfErr result (Tells (bin_csv table bytes.now)) }
@@ -86,7 +86,7 @@ fn converted<const N: usize>(
     let _extra = extra(schema.header, schema.number, least, most, bytes)?;
     let mut out = Bytes::new(alloc);
     out.append(heading(table))?;
-    push_record_lines(&mut out, None, &schema.kinds, 1, body(schema.header, bytes))?;
+    push_record_lines(&mut out, None, schema.kinds, 1, body(schema.header, bytes))?;
     Ok(out)
 }
 

@@ -18,7 +18,7 @@ returns-in_err-rest-clause-refused g c =
 pub take-requires : goal.take-requires
 take-requires g c =
     let range = c.in_ok-rest.ensures.range in
-    (omega (arith, c.requires.size), (c.requires.size, c.requires.takes _ range (IsRow-fits 0 _ _ range)))
+    (omega (arith, c.requires.size), (omega (arith, c.requires.size), (c.requires.size, c.requires.takes _ range (IsRow-fits 0 _ _ range))))
 
 pub loop-rest-preserved : goal.loop-rest-preserved
 loop-rest-preserved g c =

@@ -6,7 +6,7 @@ use Rattle.kt_cells.proofs.records.read_records.Given as goal
 abbrev pub invariant-loop-rest : goal.invariant-loop-rest
 invariant-loop-rest g l = record {
   within : l.row + length l.rest ≤ length l.bytes;
-  front : HandsFront (λ rows. g.S.RowSink.takes_to l.fn.sink rows l.sink) (record_rows l.first l.kinds l.bytes) (records_behind l.row l.first l.kinds l.rest);
+  front : HandsFront (λ rows. g.S.RowSink.takes_to l.kinds l.fn.sink rows l.sink) (record_rows l.first l.kinds l.bytes) (records_behind l.row l.first l.kinds l.rest);
 }
 
 abbrev pub decreases-loop-rest : goal.decreases-loop-rest

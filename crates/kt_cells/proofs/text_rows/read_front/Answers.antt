@@ -7,7 +7,7 @@ use Rattle.kt_cells.proofs.text_rows.read_front.Goals as goal
 pub take-requires : goal.take-requires
 take-requires g c =
     let row = c.in-Some.ensures.row [] in
-    (omega (arith, c.requires.size), (c.requires.size, row-taken c.args.kinds.now _ _ _ _ c.requires.takes row.width (row.read 1)))
+    (omega (arith, c.requires.size), (omega (arith, c.requires.size), (c.requires.size, row-taken c.args.kinds.now _ _ _ _ c.requires.takes row.width (row.read 1))))
 
 pub loop-behind-preserved : goal.loop-behind-preserved
 loop-behind-preserved g c =

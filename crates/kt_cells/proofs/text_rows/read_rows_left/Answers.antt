@@ -22,7 +22,7 @@ returns-in_err-values-clause-refused g c =
     rw (p.1, p.2) (Tells-refused _ _ (front-stops c.loop-count.invariant.front _ (rw taken.first (table_rows-stops text_value c.args.ordered 1 c.args.kinds.now c.loop-count.floor (c.loop-count.count + 1) _ _ _ width c.in_err-values.ensures))))
 
 pub take-requires : goal.take-requires
-take-requires g c = (omega (arith, c.requires.size), (c.requires.size, row-taken c.args.kinds.now _ _ _ _ c.requires.takes (sym c.len.ensures ∙ c.if-len.false ∙ sym c.told-kinds) c.in_ok-values.ensures))
+take-requires g c = (omega (arith, c.requires.size), (omega (arith, c.requires.size), (c.requires.size, row-taken c.args.kinds.now _ _ _ _ c.requires.takes (sym c.len.ensures ∙ c.if-len.false ∙ sym c.told-kinds) c.in_ok-values.ensures)))
 
 pub loop-count-preserved : goal.loop-count-preserved
 loop-count-preserved g c =

@@ -10,7 +10,7 @@ returns-in_default-clause-ranges g c = ranges-given c.args.ordered c.args.kinds.
 pub returns-clause-value : goal.returns-clause-value
 unfolding text_rows
 returns-clause-value g c =
-    all-over g.S.RowSink.takes_to _ _ _ _ _ c.read_behind.result (rw (append-nil c.in-Some.rest.now, append-nil c.in_ok-front.front.rest.now, ← c.in-Some.ensures.rows) at (c.in_ok-front.ensures.value [])) c.read_behind.ensures.value c.requires.fresh
+    all-over (g.S.RowSink.takes_to c.args.kinds.now) _ _ _ _ _ c.read_behind.result (rw (append-nil c.in-Some.rest.now, append-nil c.in_ok-front.front.rest.now, ← c.in-Some.ensures.rows) at (c.in_ok-front.ensures.value [])) c.read_behind.ensures.value c.requires.fresh
 
 pub returns-clause-ranges : goal.returns-clause-ranges
 returns-clause-ranges g c = ranges-given c.args.ordered c.args.kinds.now c.args.text.now c.read_behind.result (omega (arith, c.told-kinds, c.requires.some))
