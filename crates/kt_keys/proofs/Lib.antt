@@ -1,4 +1,5 @@
 pub mod DistinctLemmas
 pub mod FirstRowLemmas
+pub mod RepeatedLemmas
 pub mod RisingLemmas
 pub mod RefusalLemmas

@@ -29,15 +29,32 @@ fn rises<K: Copy + Ord + Drop>(keys: &[K]) -> bool
     true
 }
 
+/// A copy of keys. The error is want of memory.
+fn copy_of<K: Copy + Drop>(alloc: Global, keys: &[K]) -> Result<Vec<K>, AllocError>
+    ensures value { IfOk result (λ copy. copy.items ≡ keys.now) }
+{
+    keys.iter().copied().collect(alloc)
+}
+
+/// Whether no key is equal to another: put in order, each is above the one before it. Where the rows come in a few parts that rise,
+/// as in most tables whose keys do not, that takes a fraction of the time of a set. The error is want of memory.
+fn are_distinct<K: Copy + Ord + Drop>(alloc: Global, keys: &[K]) -> Result<bool, AllocError>
+    ensures value { IfOk result (λ distinct. distinct ≡ true → repeated_at K.eq keys.now ≡ None) }
+{
+    let mut ordered = copy_of(alloc, keys)?;
+    ordered.sort()?;
+    Ok(rises(ordered.as_slice()))
+}
+
 /// The first row, counted from 1, whose key stands in an earlier row. Keys that rise, as they do in most tables, are seen in
-/// one pass and take no memory.
+/// one pass and take no memory, and a set is made only where some key is repeated.
 pub(crate) fn first_repeated<K: Copy + Ord + Hash + Drop>(
     alloc: Global,
     keys: &[K],
 ) -> Result<Option<u64>, AllocError>
     ensures value { IfOk result (λ row. row ≡ repeated_at K.eq keys.now) }
 {
-    if rises(keys) {
+    if rises(keys) || are_distinct(alloc, keys)? {
         return Ok(None);
     }
     let mut seen: HashSet<K> = HashSet::new(alloc);
@@ -47,13 +64,6 @@ pub(crate) fn first_repeated<K: Copy + Ord + Hash + Drop>(
         }
     }
     Ok(None)
-}
-
-/// A copy of keys. The error is want of memory.
-fn copy_of<K: Copy + Drop>(alloc: Global, keys: &[K]) -> Result<Vec<K>, AllocError>
-    ensures value { IfOk result (λ copy. copy.items ≡ keys.now) }
-{
-    keys.iter().copied().collect(alloc)
 }
 
 /// The keys of a list as a set, each of them put in. The error is want of memory.
