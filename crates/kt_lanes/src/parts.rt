@@ -44,7 +44,8 @@ fn wrong_bits(total: u64, weights: u64, upto: u64, part: u64) -> u64
     let divisor = at_least_one(weights);
     let product = narrow_product(total, upto);
     let whole = narrow_product(part, divisor);
-    let is_far = (product < whole) | (divisor <= product.wrapping_sub(whole));
+    // Where the product is below the whole, the difference wraps, and is above all numbers of 32 bits.
+    let is_far = divisor <= product.wrapping_sub(whole);
     ((weights | part) / NARROW) | bit_of(is_far)
 }
 

@@ -110,6 +110,37 @@ fn push_layer(
     Ok(())
 }
 
+/// How many lanes the shares of layers have: one where the losses of a layer stay whole, else one for each id beneath its top.
+fn share_count(programme: &Programme, rule: u32, layers: &[TopLayer]) -> usize
+    requires layers { AllByRecursion (IsTopLayer programme.now) layers.now }
+{
+    if rule == 0 {
+        return layers.len();
+    }
+    let mut count: usize = 0;
+    for one in layers {
+        count = count.saturating_add(programme.beneath(one.node).len());
+    }
+    count
+}
+
+/// No layers, with room for what so many have. An error is want of memory.
+fn no_layers(
+    alloc: Global,
+    programme: &Programme,
+    width: usize,
+    rule: u32,
+    layers: &[TopLayer],
+) -> Result<LayerLanes, AllocError>
+    requires layers { AllByRecursion (IsTopLayer programme.now) layers.now }
+    ensures shares { IfOk result (λ made. made.shares ≡ []) }
+    ensures policies { IfOk result (λ made. made.policies ≡ []) }
+{
+    let shares = Lanes::with_room(alloc, share_count(programme, rule, layers), width)?;
+    let policies = Lanes::with_room(alloc, layers.len(), width)?;
+    Ok(LayerLanes { shares, policies })
+}
+
 /// What layers have. An error is want of memory.
 pub(crate) fn layer_lanes(
     alloc: Global,
@@ -126,10 +157,7 @@ pub(crate) fn layer_lanes(
     ensures value { IfOk result (λ made. AreLayers programme.now lanes.now climbed.now.width rule layers.now made) }
 {
     let mut room = room_of(alloc, climbed.width)?;
-    let mut made = LayerLanes {
-        shares: Lanes::new(alloc),
-        policies: Lanes::new(alloc),
-    };
+    let mut made = no_layers(alloc, programme, climbed.width, rule, layers)?;
     for one in layers {
         push_layer(
             alloc, programme, lanes, climbed, rule, *one, &mut room, &mut made,

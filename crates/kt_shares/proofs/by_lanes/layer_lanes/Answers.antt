@@ -10,7 +10,7 @@ use Rattle.kt_shares.proofs.by_lanes.layer_lanes.Goals as goal
 pub loop-one-init : goal.loop-one-init
 loop-one-init c = record {
   room = c.in_ok-room.ensures.room;
-  layers = layers-start c.args.programme.now c.args.lanes.now c.args.climbed.now.width c.args.rule _ c.new.ensures.value c.new-2.ensures.value;
+  layers = layers-start c.args.programme.now c.args.lanes.now c.args.climbed.now.width c.args.rule _ c.in_ok-made.ensures.shares c.in_ok-made.ensures.policies;
 }
 
 pub push_layer-requires-clause-layer : goal.push_layer-requires-clause-layer
