@@ -1,9 +1,8 @@
 -- The bytes of a file are written block by block.
-use Rattle.std.proofs.Common.{◌≡◌, ℕ, ◌+◌, ◌≤◌, List, ◌++◌, length, take, drop, Option, Some, None, Err, refl, sym, ap, ◌∙◌, append_assoc, append-nil, subst}
-use Rattle.std.specs.Prelude.{IfSome, IsSomeAnd}
-use Rattle.std.proofs.lemmas.List.{take-append-drop, take_at, take_all, length-take-le}
+use Rattle.std.proofs.Common.{◌≡◌, ℕ, ◌+◌, List, ◌++◌, take, drop, Option, Some, None, Err, sym, ap, ◌∙◌, append_assoc, subst}
+use Rattle.std.specs.Prelude.{IfSome}
+use Rattle.std.proofs.lemmas.List.{take-append-drop, take_at, length-take-le}
 use Rattle.std.proofs.Math.Seq.{take-add}
-use Rattle.kt_out.specs.NamedFiles.{FileMap}
 use Rattle.kt_out.specs.Reading.{Gives, GivesKnown}
 use Rattle.kt_out.specs.Writing.{SinkState, Gains, GainsFront, WritesAll}
 use Rattle.kt_out.specs.declared.fault.Fault.{Fault}
@@ -11,7 +10,7 @@ use Rattle.kt_out.specs.declared.fault.Fault.TheVariants.{Failed, OutOfMemory}
 use Rattle.kt_ends.specs.Ending.{GainedFront}
 use Rattle.kt_ends.specs.Stops.{fault_stop, stop_status}
 use Rattle.kt_ends.specs.declared.status.Status.TheVariants.{Done, ReadFault, NoMemory}
-use Rattle.kt_loop.specs.InputFile.{IsSized, file_bytes, left_from}
+use Rattle.kt_loop.specs.InputFile.{left_from}
 use Rattle.kt_loop.specs.Outcome.{gives}
 use Rattle.kt_loop.specs.Settling.{IsEnd}
 use Rattle.kt_kat.specs.Stops.{unread_stop}
@@ -23,14 +22,6 @@ HasCopied left at before now = IfSome left (λ bytes. IfSome before (λ taken. n
 -- some front of the file is written
 abbrev pub CopiedFront : Option (List ℕ) → Option (List ℕ) → Option (List ℕ) → Type 0
 CopiedFront left before now = IfSome left (λ bytes. IfSome before (λ taken. GainedFront bytes taken now))
-
-copied_nothing : (bytes : List ℕ) (before : Option (List ℕ)) → IfSome before (λ taken. before ≡ Some (taken ++ take 0 bytes))
-copied_nothing bytes None = tt
-copied_nothing bytes (Some taken) = ap (λ (xs : List ℕ). Some xs) (sym (append-nil taken))
-
-pub copied_first : (left before : Option (List ℕ)) → HasCopied left 0 before before
-copied_first None before = tt
-copied_first (Some bytes) before = copied_nothing bytes before
 
 -- bytes up to a place, and so many behind it
 pub taken_on : (at n : ℕ) (bytes : List ℕ) → take at bytes ++ take n (drop at bytes) ≡ take (at + n) bytes
@@ -113,14 +104,3 @@ wrote_front T before after piece OutOfMemory wrote = wrote.front
 pub copied_until : (T : Type 0) (before : Option (List ℕ)) (mid now : SinkState) (next : Option (List ℕ)) (room filled piece : List ℕ) (at n : ℕ) (left : Option (List ℕ)) (fault : Fault) → HasCopied left at before mid.taken → GivesKnown (left_from left at) next room filled n → piece ≡ take n filled → WritesAll {T = T} mid now piece (Err fault) → IfSome left (λ bytes. IsEnd (gives Done bytes) before now.taken (stop_status (fault_stop fault)))
 copied_until T before mid now next room filled piece at n left fault had reads is wrote =
     write_failed fault left before now.taken (copied_some before mid.taken now.taken next room filled piece at n left had reads is (wrote_front T mid now piece fault wrote))
-
-whole_copied : (bytes : List ℕ) (at : ℕ) (before now : Option (List ℕ)) → length bytes ≤ at → IfSome before (λ taken. now ≡ Some (taken ++ take at bytes)) → IfSome before (λ taken. now ≡ Some (taken ++ bytes))
-whole_copied bytes at before now all had = subst (λ (xs : List ℕ). IfSome before (λ taken. now ≡ Some (taken ++ xs))) (take_all at bytes all) had
-
-all_copied : (left : Option (List ℕ)) (size at : ℕ) (before now : Option (List ℕ)) → IsSomeAnd left (λ bytes. size ≡ length bytes) → size ≤ at → HasCopied left at before now → IfSome left (λ bytes. IsEnd (gives Done bytes) before now Done)
-all_copied None size at before now sized end had = tt
-all_copied (Some bytes) size at before now sized end had = record { verdict = refl; output = whole_copied bytes at before now (subst (λ (n : ℕ). n ≤ at) sized end) had }
-
-pub copied_all : (held : Option FileMap) (name : List ℕ) (size at : ℕ) (before now : Option (List ℕ)) → IsSized held name size → size ≤ at → HasCopied (file_bytes held name) at before now → IfSome (file_bytes held name) (λ bytes. IsEnd (gives Done bytes) before now Done)
-copied_all None name size at before now sized end had = tt
-copied_all (Some files) name size at before now sized end had = all_copied (files name) size at before now sized end had

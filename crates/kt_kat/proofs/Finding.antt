@@ -3,14 +3,12 @@ use Rattle.std.proofs.Common.{◌≡◌, ℕ, ◌+◌, List, [], ◌∷◌, ◌+
 use Rattle.std.specs.Prelude.{IfSome, map}
 use Rattle.std.specs.List.{slice_get}
 use Rattle.std.proofs.lemmas.Option.{slice_get_within, unwrap_or-slice_get}
-use Rattle.kt_out.specs.InputFiles.{InputsState}
 use Rattle.kt_out.specs.NamedFiles.{FileMap}
 use Rattle.kt_ends.specs.declared.status.Refusal.{Refusal}
-use Rattle.kt_ends.specs.declared.status.Refusal.TheVariants as refusal
 use Rattle.kt_ends.specs.declared.tool_stop.ToolStop.{ToolStop}
 use Rattle.kt_ends.specs.declared.tool_stop.ToolStop.TheVariants as stop
 use Rattle.kt_kat.specs.Files.{found_file, and_files, files_of}
-use Rattle.kt_kat.specs.Found.{IsFound, AreFound, TellsRefusal, Looked}
+use Rattle.kt_kat.specs.Found.{IsFound, AreFound, TellsRefusal}
 
 -- the word at a place, and the words behind it
 pub word_at : (words : List (List ℕ)) (n : ℕ) (word : List ℕ) → slice_get words n ≡ Some word → drop n words ≡ word ∷ drop (n + 1) words
@@ -77,14 +75,3 @@ all_found (Some files) names later sizes none so = whole (subst (λ (rest : List
     whole so = record { contents = so.front ++ []; found = so.is; sized = so.sized ∙ ap (map length) (sym (append-nil so.front)) }
 
 -- ---- counts
-
--- a stop counted the same whatever else could have been answered, behind calls that counted nothing
-pub looked_on : (T U : Type 0) (first before after : InputsState) (why : ToolStop) → before ≡ first → Looked {T = T} before after (Err why) → Looked {T = U} first after (Err why)
-looked_on T U first before after why same looked = subst (λ (state : InputsState). Looked {T = U} state after (Err why)) same (stop_as why looked)
-  where
-    stop_as : (why : ToolStop) → Looked {T = T} before after (Err why) → Looked {T = U} before after (Err why)
-    stop_as (stop.Refused (refusal.Missing name)) looked = looked
-    stop_as (stop.Refused why) looked = looked
-    stop_as stop.ReadFault looked = looked
-    stop_as stop.WriteFault looked = absurd looked
-    stop_as stop.NoMemory looked = looked

@@ -149,14 +149,6 @@ module _ {S : Type 0} (made : S → ℕ → List ℕ → Outcome) (next : S → 
   abbrev pub AreJoined : (S → Type 0) → Option FileMap → S → List (List ℕ) → List (List ℕ) → ℕ → Option (List ℕ) → Option (List ℕ) → Type 0
   AreJoined stands held start names later number before now = IfSome held (λ files. (whole : List (List ℕ)) → files_of names files ≡ Ok whole → Joined stands files start whole later number before now)
 
-  nothing_gained : (before : Option (List ℕ)) → IfSome before (λ taken. before ≡ Some (taken ++ []))
-  nothing_gained None = tt
-  nothing_gained (Some taken) = ap (λ (xs : List ℕ). Some xs) (sym (append-nil taken))
-
-  pub joined_first : (stands : S → Type 0) (held : Option FileMap) (start : S) (names : List (List ℕ)) (before : Option (List ℕ)) → stands start → AreJoined stands held start names names 1 before before
-  joined_first stands None start names before at = tt
-  joined_first stands (Some files) start names before at = λ whole found. record { state = start; at = at; rest = whole; found = found; text = []; is = refl; gained = nothing_gained before }
-
   module _ (stands stands_now : S → Type 0) (files : FileMap) (start : S) (whole : List (List ℕ)) (name : List ℕ) (later : List (List ℕ)) (number : ℕ) (before mid now : Option (List ℕ)) (so : Joined stands files start whole (name ∷ later) number before mid) where
     one : NextFile files name later so.rest
     one = next_file files name later so.rest so.found

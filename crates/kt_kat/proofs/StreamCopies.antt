@@ -1,45 +1,38 @@
 -- What is written of a file that is a stream, piece by piece, is what it gives.
-use Rattle.std.proofs.Common.{◌≡◌, ℕ, Bool, true, false, List, [], ◌++◌, take, drop, Option, Some, None, Result, Ok, Err, refl, sym, ap, ◌∙◌, append_assoc, append-nil, ◌+◌, ◌≤◌, length, subst, inl}
-use Rattle.std.specs.Prelude.{IfSome, IsSomeAnd, if◌then◌else◌}
+use Rattle.std.proofs.Common.{◌≡◌, ℕ, Bool, true, false, List, [], ◌++◌, take, drop, Option, Some, None, Result, Ok, Err, refl, sym, ap, ◌∙◌, append_assoc, append-nil, ◌+◌, length, subst}
+use Rattle.std.specs.Prelude.{IfSome, if◌then◌else◌}
 use Rattle.std.specs.Option.{is_some}
 use Rattle.std.proofs.lemmas.Grind.{flat_map-append}
 use Rattle.std.proofs.lemmas.Bool.{false≢true}
-use Rattle.std.proofs.lemmas.List.{take-append-drop, take_all}
-use Rattle.kt_out.specs.InputFiles.{InputsState}
-use Rattle.kt_out.specs.NamedFiles.{FileMap}
-use Rattle.kt_out.specs.OutputFiles.{OutputsState}
-use Rattle.kt_out.specs.Reading.{GivesKnown, SourceState}
+use Rattle.std.proofs.lemmas.List.{take-append-drop}
+use Rattle.kt_out.specs.Reading.{GivesKnown}
 use Rattle.kt_out.specs.Writing.{SinkState, Gains, GainsFront}
 use Rattle.kt_out.specs.declared.fault.Fault.{Fault}
 use Rattle.kt_out.specs.declared.fault.Fault.TheVariants.{Failed, OutOfMemory}
 use Rattle.kt_stream.specs.declared.entry.Placed.{Placed}
 use Rattle.kt_stream.specs.declared.kind.Head.{Head}
 use Rattle.kt_stream.specs.declared.kind.Shape.{Shape}
-use Rattle.kt_stream.specs.declared.kind.StreamKind.{StreamKind}
 use Rattle.kt_stream.specs.declared.stop.StreamStop.{StreamStop}
 use Rattle.kt_stream.specs.Growth.{GrowsTo}
-use Rattle.kt_stream.specs.Reader.{Reading, Represents, Ends, held, held_by, refused, stream_from}
+use Rattle.kt_stream.specs.Reader.{Reading, Represents, held, held_by, refused, stream_from}
 use Rattle.kt_stream.specs.Stream.{Form, Stream, stream_of, fault_of, fault_at}
-use Rattle.kt_ends.specs.Ending.{Counted, IsFront, GainedFront}
+use Rattle.kt_ends.specs.Ending.{IsFront, GainedFront}
 use Rattle.kt_ends.specs.Outcome.{Outcome}
-use Rattle.kt_ends.specs.Stops.{end_status, stop_status}
-use Rattle.kt_ends.specs.World.{world}
-use Rattle.kt_ends.specs.declared.status.Refusal.{Refusal}
+use Rattle.kt_ends.specs.Stops.{stop_status}
 use Rattle.kt_ends.specs.declared.status.Refusal.TheVariants.{File, HeaderDiffers}
 use Rattle.kt_ends.specs.declared.status.Status.{Status}
 use Rattle.kt_ends.specs.declared.status.Status.TheVariants as status
 use Rattle.kt_ends.specs.declared.tool_stop.ToolStop.{ToolStop}
 use Rattle.kt_ends.specs.declared.tool_stop.ToolStop.TheVariants as stop
-use Rattle.kt_loop.specs.InputFile.{IsSized, file_bytes, left_from}
+use Rattle.kt_loop.specs.InputFile.{left_from}
 use Rattle.kt_loop.specs.Outcome.{gives}
 use Rattle.kt_loop.specs.Reading.{ReadsAll}
 use Rattle.kt_loop.specs.RecordStreams.{contents_of, records_text}
 use Rattle.kt_loop.specs.Settling.{IsEnd}
-use Rattle.kt_kat.specs.Copied.{Agrees, Copies, CopiesRecords, HasGained, IsCopied, Opens, OpensFile, StopsIn, Written, copied_text}
+use Rattle.kt_kat.specs.Copied.{Agrees, Copies, CopiesRecords, HasGained, IsCopied, Opens, OpensFile, StopsIn, copied_text}
 use Rattle.kt_kat.specs.Joining.{differs, file_status, heading_of, joined, joined_by}
 use Rattle.kt_kat.specs.Stops.{unread_stop}
 use Rattle.kt_kat.proofs.Copying.{piece_is, taken_on}
-use Rattle.kt_kat.proofs.Ending.{counted_none}
 
 -- ---- what the sink has gained
 
@@ -230,34 +223,6 @@ module _ {E : Type 0} (form : Form E) (shape : Shape) (first : Option Head) (num
       records_copied (Err stop.WriteFault) copies = λ more. record { verdict = tt; output = part_gained before sink.taken sink_now.taken _ _ (made (fed ++ more)).output opened.written copies.front (piece_front more) }
       records_copied (Err stop.NoMemory) copies = λ more. record { verdict = tt; output = part_gained before sink.taken sink_now.taken _ _ (made (fed ++ more)).output opened.written copies.front (piece_front more) }
 
-  -- ---- the whole file
-
-  -- before its first byte
-  pub copied_none : (r : Reading E) (before : Option (List ℕ)) → r.shape ≡ shape → r.head ≡ None → Represents E form [] [] r → IsCopied form shape first [] r before before
-  copied_none r before told none stands =
-      let head : (of_bytes []).head ≡ None = sym (subst (λ (s : Shape). r.head ≡ (stream_of form s []).head) told stands.head) ∙ none in
-      let entries : [] ≡ (of_bytes []).entries = sym (no_head_held form r none) ∙ subst (λ (s : Shape). held form r ≡ (stream_of form s []).entries) told stands.records in
-      record {
-        told = told;
-        stands = subst (λ (taken : List (Placed E)). Represents E form [] taken r) entries stands;
-        agrees = subst (Agrees first) (sym head) tt;
-        written = subst (λ (h : Option Head). HasGained before before (text h (of_bytes []).entries)) (sym head) (gained_none before);
-      }
-    where
-      gained_none : (before : Option (List ℕ)) → HasGained before before []
-      gained_none None = tt
-      gained_none (Some taken) = ap (λ (xs : List ℕ). Some xs) (sym (append-nil taken))
-
-  -- behind its last byte
-  pub file_ends : (bytes : List ℕ) (r : Reading E) (before now : Option (List ℕ)) (fault : Option StreamStop) → IsCopied form shape first bytes r before now → Ends E form r fault → IsEnd (made bytes) before now (file_status number fault)
-  file_ends bytes r before now fault copied ends =
-      let fault-is : fault_of form shape bytes ≡ fault = subst (λ (s : Shape). fault_of form s bytes ≡ fault) copied.told (ends bytes (of_bytes bytes).entries copied.stands) in
-      subst (λ (o : Outcome). IsEnd o before now (file_status number fault)) (sym (ap (joined_by form shape.kind first number (of_bytes bytes).head (of_bytes bytes).entries) fault-is ∙ joined_is (of_bytes bytes).head (of_bytes bytes).entries fault copied.agrees)) (by_fault fault)
-    where
-      by_fault : (why : Option StreamStop) → IsEnd (gives (file_status number why) (text (of_bytes bytes).head (of_bytes bytes).entries)) before now (file_status number why)
-      by_fault None = record { verdict = refl; output = copied.written }
-      by_fault (Some why) = record { verdict = refl; output = copied.written }
-
 -- ---- a file whose bytes may be known
 
 module _ {E : Type 0} (form : Form E) (shape : Shape) (first : Option Head) (number : ℕ) (before now : Option (List ℕ)) where
@@ -266,11 +231,6 @@ module _ {E : Type 0} (form : Form E) (shape : Shape) (first : Option Head) (num
 
   abbrev pub EndsFile : Option (List ℕ) → Status → Type 0
   EndsFile left end = IfSome left (λ bytes. IsEnd (joined form shape.kind first number (contents_of form shape bytes)) before now end)
-
-  -- before its first byte
-  pub file_first : (left : Option (List ℕ)) (r : Reading E) → r.shape ≡ shape → r.head ≡ None → Represents E form [] [] r → IsCopiedTo left 0 r before
-  file_first None r told none stands = tt
-  file_first (Some bytes) r told none stands = copied_none form shape first number r before told none stands
 
   -- a piece of it
   pub file_copies : (left next : Option (List ℕ)) (at n : ℕ) (room filled piece : List ℕ) (old new : Reading E) (mid : Option (List ℕ)) (result : Result (Unit {0}) ToolStop) → IsCopiedTo left at old mid → GivesKnown (left_from left at) next room filled n → piece ≡ take n filled
@@ -287,53 +247,3 @@ module _ {E : Type 0} (form : Form E) (shape : Shape) (first : Option Head) (num
   pub file_unread : ((bytes more : List ℕ) → GrowsTo E (stream_of form shape bytes) (stream_of form shape (bytes ++ more))) → (fault : Fault) (left : Option (List ℕ)) (at : ℕ) (r : Reading E) → IsCopiedTo left at r now → EndsFile left (stop_status (unread_stop fault))
   file_unread grows fault None at r copied = tt
   file_unread grows fault (Some bytes) at r copied = file_stops (Some bytes) at (unread_stop fault) (stops_unread form shape first number grows fault (take at bytes) r before now copied)
-
-  -- behind its last byte
-  whole_copied : (left : Option (List ℕ)) (size at : ℕ) (r : Reading E) → IsSomeAnd left (λ bytes. size ≡ length bytes) → size ≤ at → IsCopiedTo left at r now → IfSome left (λ bytes. IsCopied form shape first bytes r before now)
-  whole_copied None size at r sized end copied = tt
-  whole_copied (Some bytes) size at r sized end copied = subst (λ (fed : List ℕ). IsCopied form shape first fed r before now) (take_all at bytes (subst (λ (n : ℕ). n ≤ at) sized end)) copied
-
-  pub file_copied : (held : Option FileMap) (name : List ℕ) (size at : ℕ) (r : Reading E) → IsSized held name size → size ≤ at → IsCopiedTo (file_bytes held name) at r now → IfSome (file_bytes held name) (λ bytes. IsCopied form shape first bytes r before now)
-  file_copied None name size at r sized end copied = tt
-  file_copied (Some files) name size at r sized end copied = whole_copied (files name) size at r sized end copied
-
-  pub file_done : (left : Option (List ℕ)) (r : Reading E) (fault : Option StreamStop) → IfSome left (λ bytes. IsCopied form shape first bytes r before now) → Ends E form r fault → EndsFile left (file_status number fault)
-  file_done None r fault copied ends = tt
-  file_done (Some bytes) r fault copied ends = file_ends form shape first number bytes r before now fault copied ends
-
-  pub file_head : (left : Option (List ℕ)) (r : Reading E) → IfSome left (λ bytes. IsCopied form shape first bytes r before now) → IfSome left (λ bytes. r.head ≡ (stream_of form shape bytes).head)
-  file_head None r copied = tt
-  file_head (Some bytes) r copied = subst (λ (s : Shape). r.head ≡ (stream_of form s bytes).head) copied.told copied.stands.head
-
--- ---- counts
-
-module _ (inputs : InputsState) (outputs : OutputsState) (source : SourceState) (mid now : SinkState) where
-  written_counts : (text : List ℕ) (result : Result (Unit {0}) ToolStop) → Written mid now text result → Counted (world inputs outputs source mid) (world inputs outputs source now) (end_status result)
-  written_counts text (Ok done) wrote = counted_none inputs inputs outputs source mid now refl wrote.counted
-  written_counts text (Err (stop.Refused why)) wrote = absurd wrote
-  written_counts text (Err stop.ReadFault) wrote = absurd wrote
-  written_counts text (Err stop.WriteFault) wrote = record { rose = inl (wrote.counted, refl); reads = record { inputs = refl; source = refl }; misses = refl }
-  written_counts text (Err stop.NoMemory) wrote = counted_none inputs inputs outputs source mid now refl wrote.counted
-
-  open_counts : (kind : StreamKind) (first : Option Head) (number : ℕ) (head : Head) (result : Result (Unit {0}) ToolStop) → Opens kind first number head mid now result → Counted (world inputs outputs source mid) (world inputs outputs source now) (end_status result)
-  open_counts kind first number head (Ok done) opens = written_counts (heading_of kind first head) (Ok done) opens.1
-  open_counts kind first number head (Err (stop.Refused why)) opens =
-      subst (λ (refusal : Refusal). Counted (world inputs outputs source mid) (world inputs outputs source now) (status.Refused refusal)) (sym opens.1) (counted_none inputs inputs outputs source mid now refl (ap (λ (s : SinkState). s.faults) opens.2))
-  open_counts kind first number head (Err stop.ReadFault) opens = absurd opens.1
-  open_counts kind first number head (Err stop.WriteFault) opens = written_counts (heading_of kind first head) (Err stop.WriteFault) opens.1
-  open_counts kind first number head (Err stop.NoMemory) opens = written_counts (heading_of kind first head) (Err stop.NoMemory) opens.1
-
-  pub file_open_counts : (kind : StreamKind) (first : Option Head) (number : ℕ) (was : Bool) (head : Option Head) (result : Result (Unit {0}) ToolStop) → OpensFile kind first number was head mid now result → Counted (world inputs outputs source mid) (world inputs outputs source now) (end_status result)
-  file_open_counts kind first number false (Some head) result opens = open_counts kind first number head result opens
-  file_open_counts kind first number false None (Ok done) opens = counted_none inputs inputs outputs source mid now refl (ap (λ (s : SinkState). s.faults) opens)
-  file_open_counts kind first number false None (Err why) opens = absurd opens
-  file_open_counts kind first number true head (Ok done) opens = counted_none inputs inputs outputs source mid now refl (ap (λ (s : SinkState). s.faults) opens)
-  file_open_counts kind first number true head (Err why) opens = absurd opens
-
-  pub records_counts : {E : Type 0} (form : Form E) (number : ℕ) (old new : Reading E) (result : Result (Unit {0}) ToolStop) → CopiesRecords form number old mid now new result → Counted (world inputs outputs source mid) (world inputs outputs source now) (end_status result)
-  records_counts form number old new (Ok done) copies = written_counts (records_text form (held form old)) (Ok done) copies.1
-  records_counts form number old new (Err (stop.Refused why)) copies =
-      subst (λ (refusal : Refusal). Counted (world inputs outputs source mid) (world inputs outputs source now) (status.Refused refusal)) (sym copies.refusal-is) (counted_none inputs inputs outputs source mid now refl copies.written.counted)
-  records_counts form number old new (Err stop.ReadFault) copies = absurd copies
-  records_counts form number old new (Err stop.WriteFault) copies = written_counts (records_text form (held form old)) (Err stop.WriteFault) copies
-  records_counts form number old new (Err stop.NoMemory) copies = written_counts (records_text form (held form old)) (Err stop.NoMemory) copies

@@ -5,8 +5,6 @@ use Rattle.kt_out.specs.Writing.{SinkState, Gains, GainsFront, WritesAll}
 use Rattle.kt_out.specs.declared.fault.Fault.{Fault}
 use Rattle.kt_out.specs.declared.fault.Fault.TheVariants.{Failed, OutOfMemory}
 use Rattle.kt_ends.specs.Ending.{GainedFront}
-use Rattle.kt_ends.specs.Stops.{fault_stop}
-use Rattle.kt_loop.specs.Counts.{CountsWrite}
 use Rattle.kt_loop.specs.Given.{IsGiven, Given, GivenFront}
 
 abbrev some_list : List ℕ → Option (List ℕ)
@@ -59,11 +57,6 @@ module _ (taken pending text : List ℕ) (old now : Option (List ℕ)) (given : 
     gained = gained_behind (take gained.length_taken pending) gained.gained;
   }
 
--- all that was pending is written
-pub given_all : (before old now : Option (List ℕ)) (pending text : List ℕ) → Given before old pending text → Gains old now pending → Given before now [] text
-given_all None old now pending text given gained = tt
-given_all (Some taken) old now pending text given gained = all_given taken pending text old now given gained
-
 given_some : (before old now : Option (List ℕ)) (pending text : List ℕ) → Given before old pending text → GainsFront old now pending → GivenFront before now text
 given_some None old now pending text given gained = tt
 given_some (Some taken) old now pending text given gained = front_given taken pending text old now given gained
@@ -72,8 +65,3 @@ given_some (Some taken) old now pending text given gained = front_given taken pe
 pub given_until : (T : Type 0) (before : Option (List ℕ)) (old new : SinkState) (pending text : List ℕ) (fault : Fault) → Given before old.taken pending text → WritesAll {T = T} old new pending (Err fault) → GivenFront before new.taken text
 given_until T before old new pending text Failed given wrote = given_some before old.taken new.taken pending text given wrote.front
 given_until T before old new pending text OutOfMemory given wrote = given_some before old.taken new.taken pending text given wrote.front
-
--- and the sink counted exactly what is answered
-pub counted_until : (T U : Type 0) (old new : SinkState) (pending : List ℕ) (fault : Fault) → WritesAll {T = T} old new pending (Err fault) → CountsWrite {T = U} old.faults new.faults (Err (fault_stop fault))
-counted_until T U old new pending Failed wrote = wrote.counted
-counted_until T U old new pending OutOfMemory wrote = wrote.counted

@@ -1,5 +1,5 @@
 -- Reading all records of a stream that are whole, and what is known of the bytes by it.
-use Rattle.std.proofs.Common.{◌≡◌, ℕ, List, [], ◌∷◌, ◌++◌, length, Option, Some, None, refl, sym, ap, ◌∙◌, subst, append_assoc, append-nil}
+use Rattle.std.proofs.Common.{◌≡◌, ℕ, List, [], ◌∷◌, ◌++◌, length, Option, Some, None, sym, ap, ◌∙◌, subst, append_assoc, append-nil}
 use Rattle.std.proofs.lemmas.Grind.{flat_map-append}
 use Rattle.kt_stream.specs.declared.entry.Placed.{Placed}
 use Rattle.kt_stream.specs.declared.kind.Head.{Head}
@@ -22,9 +22,6 @@ module _ {E : Type 0} (form : Form E) where
     pub left : held form old ≡ done ++ held form now
     pub passed : now.passed ≡ old.passed ++ records_text form done
     pub stands : (fed : List ℕ) (taken : List (Placed E)) → Represents E form fed taken old → Represents E form fed (taken ++ done) now
-
-  pub passed_none : (old : Reading E) → HasPassed old old
-  passed_none old = record { done = []; shape = refl; head = refl; left = refl; passed = sym (append-nil old.passed); stands = λ fed taken stands. subst (λ (read : List (Placed E)). Represents E form fed read old) (sym (append-nil taken)) stands }
 
   module _ (old now new : Reading E) (had : HasPassed old now) where
     pub passed_one : {Good : Shape → ℕ → E → Type 0} → AdvancesOne E form Good now new → HasPassed old new

@@ -1,5 +1,5 @@
 -- Taking the records that a reader reads, one after the other.
-use Rattle.std.proofs.Common.{◌≡◌, ℕ, Bool, false, List, [], ◌∷◌, Option, Some, Result, Err, refl, sym, ap, ◌∙◌, subst}
+use Rattle.std.proofs.Common.{◌≡◌, ℕ, Bool, false, List, [], ◌∷◌, Option, Some, Result, Err, sym, ap, ◌∙◌, subst}
 use Rattle.kt_stream.specs.declared.entry.Placed.{Placed}
 use Rattle.kt_ends.specs.declared.status.Refusal.{Refusal}
 use Rattle.kt_ends.specs.declared.tool_stop.ToolStop.{ToolStop}
@@ -30,9 +30,6 @@ module _ {H E S : Type 0} (calculation : Calculation H E S Refusal) (head : H) w
     pub course : Course S Refusal
     pub standing : Stands stands before now pending course
     pub same : whole ≡ took_all calculation head course held
-
-  pub carried_none : (stands : S → Type 0) (before now : Option (List ℕ)) (pending : List ℕ) (course : Course S Refusal) (held : List (Placed E)) → Stands stands before now pending course → IsCarried stands before now pending (took_all calculation head course held) held
-  carried_none stands before now pending course held standing = record { course = course; standing = standing; same = refl }
 
   module _ (stood stands : S → Type 0) (before now next : Option (List ℕ)) (pending pending_now : List ℕ) (whole : Course S Refusal) (held later : List (Placed E)) (placed : Placed E) (going : IsCarried stood before now pending whole held) (first : held ≡ placed ∷ later) where
     taken_first : whole ≡ took_all calculation head (took calculation head going.course placed) later
