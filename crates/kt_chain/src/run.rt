@@ -30,6 +30,7 @@ use kt_ends::{ToolStop, write_stop};
 use kt_event::Plan;
 use kt_files::laws::names_are_distinct;
 use kt_files::{Endings, Headings, OutputFile, output_files};
+use kt_loop::keep_memory;
 use kt_out::{Fault, Gate, Inputs, Outputs};
 use kt_outputs::{append_texts, append_texts_beside, create_files};
 use kt_tables::Portfolio;
@@ -126,6 +127,7 @@ pub fn run_chain<R: Threads + Sync, G: Gate + Sync, I: Inputs, O: Outputs>(
     ensures ends { (source : SourceState) (sink : SinkState) → ToolEnds chain_uses (λ files _. chain_outcome (run_input options.now.terms portfolio.now.rows files)) (world (I.state inputs.old) (O.state outputs.old) source sink) (world (I.state inputs.new) (O.state outputs.new) source sink) (end_status result) }
     ensures stop { IfErr result IsRunStop }
 {
+    keep_memory(alloc);
     let plan = Plan::new(alloc, portfolio, options.terms)?;
     let files = output_files(alloc, portfolio, options.terms.last)?;
     let run = Run {

@@ -13,7 +13,7 @@ use kt_ends::{Refusal, ToolStop};
 use kt_index::ByKey;
 use kt_load::file_name;
 use kt_loop::laws::runs_give_their_text;
-use kt_loop::{RunStage, run_by_run};
+use kt_loop::{RunStage, keep_memory, run_by_run};
 use kt_money::Bytes;
 use kt_out::{Sink, Source};
 use kt_runs::{add_to_run, clear_run, no_run_sums};
@@ -23,9 +23,6 @@ use std::alloc::Global;
 
 /// The place of the id in a record, in bytes.
 pub(crate) const ID_PLACE: u64 = 4;
-
-/// More bytes than most runs need.
-const RUN_MEMORY: usize = 4_194_304;
 
 /// The kind of the stream.
 pub(crate) fn losses_kind(items: bool) -> StreamKind
@@ -49,12 +46,6 @@ pub(crate) fn check_stop(alloc: Global, stop: CheckStop) -> ToolStop
         },
         CheckStop::OutOfMemory => ToolStop::NoMemory,
     }
-}
-
-/// Takes a block of memory and gives it back. Where the allocator would give the memory of each run back to the system and ask for
-/// it anew, it keeps as much from then on. Nothing else depends on it, so it may fail.
-fn keep_memory(alloc: Global) {
-    let _ = Vec::<u8>::with_capacity(alloc, RUN_MEMORY);
 }
 
 /// A tool over the losses of a portfolio, with the sums of the run that is open.
