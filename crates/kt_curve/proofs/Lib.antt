@@ -9,3 +9,4 @@ pub mod Periods
 pub mod Means
 pub mod Exceedances
 pub mod SetTexts
+pub mod Gathered

@@ -8,6 +8,7 @@ ghost use Rattle.kt_curve.specs.Exceedance.{full_rows, wheat_rows, curve_rows, s
 
 use crate::average::count_of;
 use crate::exceedance::append_values;
+use crate::sample_amounts::SampleAmounts;
 use kt_money::{Bytes, OutOfMemory};
 use kt_period_cells::SummaryCells;
 use std::alloc::Global;
@@ -58,15 +59,18 @@ fn append_sample(
     out: &mut Bytes,
     alloc: Global,
     group: &SummaryCells<'_>,
+    samples: &mut SampleAmounts<'_>,
     sample: u32,
     returns: &[u32],
 ) -> Result<(), OutOfMemory>
     requires group { IsSummary group.now }
+    requires samples { samples.old ≡ group.now }
     requires sample { 1 ≤ sample }
     requires returns { All (λ period. 1 ≤ period) returns.now }
     ensures ok { OnOk result (out.new ≡ out.old ++ curve_rows group.now.summary sample group.now.periods (sidx_values group.now.perspective group.now.set group.now.periods (amount_at group.now.maxima (group_entries group.now)) group.now.summary (pos sample)) returns.now) }
+    ensures samples { samples.new ≡ samples.old }
 {
-    let mut values = group.sample_amounts(alloc, sample)?;
+    let mut values = samples.take(alloc, sample)?;
     append_values(
         out,
         alloc,
@@ -89,8 +93,9 @@ pub(crate) fn append_wheat(
     requires returns { All (λ period. 1 ≤ period) returns.now }
     ensures ok { OnOk result (out.new ≡ out.old ++ wheat_rows group.now.perspective group.now.set group.now.periods group.now.samples (amount_at group.now.maxima (group_entries group.now)) returns.now group.now.summary) }
 {
+    let mut samples = SampleAmounts::of(alloc, group);
     for sample in 1..group.samples + 1 {
-        append_sample(out, alloc, group, sample, returns)?;
+        append_sample(out, alloc, group, &mut samples, sample, returns)?;
     }
     Ok(())
 }

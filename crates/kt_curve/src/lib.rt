@@ -8,6 +8,7 @@ pub mod laws;
 mod lec;
 mod mean_curves;
 mod ranks;
+mod sample_amounts;
 
 pub use average::{aal_heading, aal_text};
 pub use kt_rec::Curve;

@@ -11,6 +11,7 @@ ghost use Rattle.kt_curve.specs.Exceedance.{curve_rows, sidx_values, ranked_loss
 
 use crate::exceedance::append_values;
 use crate::ranks::rank;
+use crate::sample_amounts::SampleAmounts;
 use kt_money::{Bytes, OutOfMemory, div_half_up};
 use kt_period_cells::SummaryCells;
 use std::alloc::Global;
@@ -123,8 +124,9 @@ fn add_samples(
     ensures most { OnOk result ((place : ℕ) → slice_index sums.new place ≤ group.now.samples * most_total) }
     ensures sums { OnOk result ((place : ℕ) → slice_index sums.new place ≡ sum_by (λ sidx. ranked_loss (sidx_values group.now.perspective group.now.set group.now.periods (amount_at group.now.maxima (group_entries group.now)) group.now.summary sidx) place) (sample_sidx group.now.samples)) }
 {
+    let mut samples = SampleAmounts::of(alloc, group);
     for sample in 1..group.samples + 1 {
-        let mut values = group.sample_amounts(alloc, sample)?;
+        let mut values = samples.take(alloc, sample)?;
         add_ranked(sums, values.as_mut_slice());
     }
     Ok(())

@@ -15,6 +15,7 @@ pub mod Parts
 pub mod SetEntries
 pub mod SetRows
 pub mod RowAmounts
+pub mod ListsOfSamples
 pub mod RoomLemmas
 pub mod SameLosses
 pub mod RaisedRows

@@ -1,8 +1,9 @@
 -- The totals or the maxima of cells.
 -- The rules: docs/CALCULATION.md, "Kinds of exceedance curves".
-use Rattle.std.specs.Prelude.{Bool, false, ◌&&◌, nat_eq, ℕ, ℤ, pos, negsuc, List, map, Option, Some, if◌then◌else◌}
+use Rattle.std.specs.Prelude.{◌≡◌, ◌<◌, ◌-◌, Bool, false, ◌&&◌, nat_eq, ℕ, ℤ, pos, negsuc, List, [], length, map, slice_index_or, Option, Some, Vec, if◌then◌else◌}
 use Rattle.std.specs.List.{filter}
 use Rattle.std.specs.Ordering.{int_eq}
+use Rattle.std.specs.declared.alloc.Global.{Global}
 use Rattle.kt_rec.specs.declared.perspective.CellKey.{CellKey}
 use Rattle.kt_period_cells.specs.declared.cell.Cell.{Cell}
 use Rattle.kt_period_cells.specs.Sets.{is_mean, same_bool}
@@ -32,3 +33,11 @@ sample_of (negsuc n) = 0
 -- whether an entry is of a sample, and of a period
 abbrev pub of_period : ℕ → CellKey × Cell → Bool
 of_period period entry = same_bool (is_mean entry.0.sidx) false && nat_eq period entry.0.period
+
+-- the items of the list in a place
+abbrev pub items_at : List (Vec ℕ Global) → ℕ → List ℕ
+items_at lists k = slice_index_or (map (λ one. one.items) lists) k []
+
+-- lists of the amounts of samples: the first has those of the last sample, and each other those of the sample before
+abbrev pub AreSamplesDown : Bool → List (CellKey × Cell) → ℕ → List (Vec ℕ Global) → Type 0
+AreSamplesDown maxima entries last lists = (k : ℕ) → k < length lists → items_at lists k ≡ amounts_of maxima (of_sample (last - k)) entries

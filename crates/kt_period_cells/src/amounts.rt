@@ -1,8 +1,8 @@
 //! The totals or the maxima of a summary's cells.
 //! The rules: docs/CALCULATION.md, "Kinds of exceedance curves".
-ghost use Rattle.std.specs.Prelude.{◌≡◌, ◌≤◌, ◌+◌, ◌*◌, ◌<◌, ◌^◌, ◌++◌, ℕ, map, sum, length, slice_index, All, IfOk, OnOk};
+ghost use Rattle.std.specs.Prelude.{◌≡◌, ◌≤◌, ◌+◌, ◌-◌, ◌*◌, ◌<◌, ◌^◌, ◌++◌, ℕ, [], map, sum, length, slice_index, All, IfOk, OnOk};
 ghost use Rattle.kt_period_cells.specs.Sets.{of_kind};
-ghost use Rattle.kt_period_cells.specs.Amounts.{amounts_of, of_period, of_sample};
+ghost use Rattle.kt_period_cells.specs.Amounts.{AreSamplesDown, amounts_of, items_at, of_period, of_sample};
 ghost use Rattle.kt_period_cells.specs.SummaryRows.{AreRising, ArePeriods, IsSummary, entries_in, row_at, group_entries};
 
 use crate::group::{SummaryCells, SummaryRow};
@@ -46,6 +46,38 @@ fn push_sample(
         None => {}
     }
     Ok(())
+}
+
+/// Appends the amounts of samples of the row at a place, each to a list of its own: that of the last to the first list, and that of the
+/// sample before to each other. An error is want of memory.
+fn push_samples(
+    lists: &mut [Vec<u64>],
+    rows: &[Row],
+    place: &SummaryRow,
+    last: u32,
+    maxima: bool,
+) -> Result<(), OutOfMemory>
+    requires rising { AreRising rows.now }
+    requires count { length lists.old ≤ last }
+    ensures many { length lists.new ≡ length lists.old }
+    ensures ok { OnOk result ((k : ℕ) → k < length lists.old → items_at lists.new k ≡ items_at lists.old k ++ amounts_of maxima (of_sample (last - k)) (entries_in (row_at rows.now place.now.row))) }
+{
+    for k in 0..lists.len() {
+        push_sample(&mut lists[k], rows, place, last - k as u32, maxima)?;
+    }
+    Ok(())
+}
+
+/// So many empty lists, each with this room. An error is want of memory.
+fn empty_lists(alloc: Global, count: u32, room: usize) -> Result<Vec<Vec<u64>>, OutOfMemory>
+    ensures many { IfOk result (λ lists. length lists.items ≡ count) }
+    ensures empty { IfOk result (λ lists. (k : ℕ) → items_at lists.items k ≡ []) }
+{
+    let mut lists = Vec::with_capacity(alloc, count as usize)?;
+    for _list in 0..count {
+        lists.push(Vec::with_capacity(alloc, room)?)?;
+    }
+    Ok(lists)
 }
 
 /// The sum of amounts.
@@ -94,17 +126,24 @@ impl SummaryCells<'_> {
         Ok(found)
     }
 
-    /// The amounts of one sample. An error is want of memory.
-    pub fn sample_amounts(&self, alloc: Global, sample: u32) -> Result<Vec<u64>, OutOfMemory>
+    /// The amounts of so many samples, from the last of them down: all of them in one pass over the rows, in which their cells stand side
+    /// by side. An error is want of memory.
+    pub fn samples_down(
+        &self,
+        alloc: Global,
+        last: u32,
+        count: u32,
+    ) -> Result<Vec<Vec<u64>>, OutOfMemory>
         requires group { IsSummary self.now }
-        requires sample { 1 ≤ sample }
-        ensures { IfOk result (λ found. found.items ≡ amounts_of self.now.maxima (of_sample sample) (group_entries self.now)) }
+        requires count { count ≤ last }
+        ensures many { IfOk result (λ lists. length lists.items ≡ count) }
+        ensures each { IfOk result (λ lists. AreSamplesDown self.now.maxima (group_entries self.now) last lists.items) }
     {
-        let mut found = Vec::with_capacity(alloc, self.places.len())?;
+        let mut lists = empty_lists(alloc, count, self.places.len())?;
         for place in self.places {
-            push_sample(&mut found, self.rows, place, sample, self.maxima)?;
+            push_samples(&mut lists, self.rows, place, last, self.maxima)?;
         }
-        Ok(found)
+        Ok(lists)
     }
 
     /// Adds the samples of each period to sums that are 0, one for each period. Each sum of a period is below 2^128. An error is

@@ -8,4 +8,7 @@ use Rattle.kt_curve.specs.Exceedance.{curve_rows, sidx_values}
 use Rattle.kt_curve.proofs.kinds.append_wheat.Given as goal
 
 abbrev pub invariant-loop-sample : goal.invariant-loop-sample
-invariant-loop-sample l = l.out ≡ l.fn.out ++ flat_map (λ sample. curve_rows l.group.summary sample l.group.periods (sidx_values l.group.perspective l.group.set l.group.periods (amount_at l.group.maxima (group_entries l.group)) l.group.summary (pos sample)) l.returns) (range_with_len 1 (l.sample - 1))
+invariant-loop-sample l = record {
+  same : l.samples ≡ l.group;
+  rows : l.out ≡ l.fn.out ++ flat_map (λ sample. curve_rows l.group.summary sample l.group.periods (sidx_values l.group.perspective l.group.set l.group.periods (amount_at l.group.maxima (group_entries l.group)) l.group.summary (pos sample)) l.returns) (range_with_len 1 (l.sample - 1));
+}

@@ -10,6 +10,7 @@ use Rattle.kt_curve.proofs.mean_curves.add_samples.Given as goal
 
 abbrev pub invariant-loop-sample : goal.invariant-loop-sample
 invariant-loop-sample l = record {
+  same : l.samples ≡ l.group;
   len : length l.sums ≡ l.group.periods;
   most : (place : ℕ) → slice_index l.sums place ≤ (l.sample - 1) * most_total;
   sums : (place : ℕ) →
