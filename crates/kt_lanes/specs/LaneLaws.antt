@@ -104,11 +104,11 @@ column-sum-le k i lanes =
 -- ---- sums of lanes side by side
 
 module _ (width : ℕ) (lanes : List (List ℕ)) (start count : ℕ) where
-  -- the sum of the first
-  pub sums-one : 0 < count → start + count ≤ length lanes → (lane : List ℕ) → length lane ≡ width → lane ≡ slice_index_or lanes start lane → (sums : List ℕ) → sums ≡ lane → IsLane width (λ k. sum (column k (take 1 (take count (drop start lanes))))) sums
-  sums-one some within lane wide lane_is sums sums_are = record {
-    wide = ap length sums_are ∙ wide;
-    each = λ k below. ap (λ all. slice_index all k) sums_are ∙ first k count (drop start lanes) some (omega (arith, some, within, length-drop start lanes)) (inside k);
+  -- the first has its own amounts
+  pub first-lane : AreWide width lanes → 0 < count → start + count ≤ length lanes → (lane : List ℕ) → lane ≡ slice_index_or lanes start lane → IsLane width (λ k. sum (column k (take 1 (take count (drop start lanes))))) lane
+  first-lane wide some within lane lane_is = record {
+    wide = ap (λ (one : List ℕ). length one) lane_is ∙ wide start lane (omega (arith, some, within));
+    each = λ k below. first k count (drop start lanes) some (omega (arith, some, within, length-drop start lanes)) (inside k);
   }
     where
       inside : (k : ℕ) → slice_index_or (drop start lanes) 0 lane ≡ lane

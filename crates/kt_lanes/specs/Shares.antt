@@ -14,11 +14,23 @@ pub record CanPart (totals weights upto : List ℕ) : Type 0 where
   pub few : (k : ℕ) → k < length totals → slice_index weights k ≤ 10 ^ 16
   pub within : (k : ℕ) → k < length totals → slice_index upto k ≤ slice_index weights k
 
--- how far totals are shared out over the lanes of children
-pub record AreSharing (width : ℕ) (totals : List ℕ) (children : List (List ℕ)) (at : ℕ) (upto paid : List ℕ) (shares : List (List ℕ)) : Type 0 where
-  pub upto_is : IsLane width (λ k. sum (column k (take at children))) upto
-  pub paid_is : IsLane width (λ k. share_to (slice_index totals k) (sum (column k children)) (sum (column k (take at children)))) paid
-  pub shares_are : AreLanes width at (λ k. take at (share_out (slice_index totals k) (column k children))) shares
+-- totals can be shared out over the lanes of children
+pub record CanShare (totals : List ℕ) (children : List (List ℕ)) : Type 0 where
+  pub wide : AreWide (length totals) children
+  pub few : (k : ℕ) → k < length totals → sum (column k children) ≤ 10 ^ 16
+  pub backed : (k : ℕ) → k < length totals → slice_index totals k ≤ sum (column k children)
+
+-- how far totals are shared out over the lanes of children: what the first of them were paid, and their shares
+pub record AreSharing (totals : List ℕ) (children : List (List ℕ)) (at : ℕ) (paid : List ℕ) (shares : List (List ℕ)) : Type 0 where
+  pub paid_is : IsLane (length totals) (λ k. share_to (slice_index totals k) (sum (column k children)) (sum (column k (take at children)))) paid
+  pub shares_are : AreLanes (length totals) at (λ k. take at (share_out (slice_index totals k) (column k children))) shares
+
+-- the same, where shares stand behind others
+pub record AreSharingBehind (totals : List ℕ) (children : List (List ℕ)) (at : ℕ) (paid : List ℕ) (before now : List (List ℕ)) : Type 0 where
+  pub shares : List (List ℕ)
+  pub sharing : AreSharing totals children at paid shares
+  pub now_is : now ≡ before ++ shares
+  pub wide : AreWide (length totals) now
 
 -- room for lanes of some width
 pub record HasRoom (width : ℕ) (room : Room) : Type 0 where
@@ -26,10 +38,3 @@ pub record HasRoom (width : ℕ) (room : Room) : Type 0 where
   pub upto : length room.upto.items ≡ width
   pub paid : length room.paid.items ≡ width
   pub share : length room.share.items ≡ width
-
--- the same, where shares stand behind others
-pub record AreSharingBehind (width : ℕ) (totals : List ℕ) (children : List (List ℕ)) (at : ℕ) (upto paid : List ℕ) (before now : List (List ℕ)) : Type 0 where
-  pub shares : List (List ℕ)
-  pub sharing : AreSharing width totals children at upto paid shares
-  pub now_is : now ≡ before ++ shares
-  pub wide : AreWide width now

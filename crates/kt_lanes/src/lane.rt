@@ -20,7 +20,19 @@ pub(crate) fn add_to(lane: &mut [u64], more: &[u64])
     }
 }
 
-/// Puts the amounts of lanes side by side, added sidx by sidx, in the place of what a lane has.
+/// Puts the amounts of two lanes in cents, added sidx by sidx, in the place of what a third has.
+fn add_both(first: &[u64], second: &[u64], sums: &mut [u64])
+    requires first_wide { length first.now ≡ length sums.old }
+    requires second_wide { length second.now ≡ length sums.old }
+    requires few { (k : ℕ) → k < length sums.old → slice_index first.now k + slice_index second.now k < 2 ^ 64 }
+    ensures value { IsLane (length sums.old) (λ k. slice_index first.now k + slice_index second.now k) sums.new }
+{
+    for k in 0..sums.len() {
+        sums[k] = first[k] + second[k];
+    }
+}
+
+/// Puts the amounts of lanes side by side, added sidx by sidx, in the place of what a lane has. The first two are added at once.
 pub(crate) fn sum_lanes(lanes: &Lanes, start: usize, count: usize, sums: &mut [u64])
     requires within { start + count ≤ length lanes.now }
     requires wide { AreWide (length sums.old) lanes.now }
@@ -31,9 +43,14 @@ pub(crate) fn sum_lanes(lanes: &Lanes, start: usize, count: usize, sums: &mut [u
         sums.fill(0);
         return;
     }
-    sums.copy_from_slice(lanes.lane(start));
+    let first = lanes.lane(start);
+    if count == 1 {
+        sums.copy_from_slice(first);
+        return;
+    }
     let _all = lanes.len();
-    for at in 1..count {
+    add_both(first, lanes.lane(start + 1), sums);
+    for at in 2..count {
         add_to(sums, lanes.lane(start + at));
     }
 }

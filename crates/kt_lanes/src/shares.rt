@@ -4,7 +4,7 @@ ghost use Rattle.std.specs.Prelude.{◌≡◌, ◌+◌, ◌-◌, ◌≤◌, ◌<
 ghost use Rattle.std.specs.List.{sum};
 ghost use Rattle.kt_money.specs.Sharing.{share_out, share_to};
 ghost use Rattle.kt_lanes.specs.Lanes.{column, AreWide, IsLane};
-ghost use Rattle.kt_lanes.specs.Shares.{CanPart, HasRoom};
+ghost use Rattle.kt_lanes.specs.Shares.{CanPart, CanShare, HasRoom};
 ghost use Rattle.kt_lanes.specs.SideBySide.{AreBehind};
 
 use crate::lane::{add_to, sum_lanes};
@@ -81,7 +81,18 @@ fn take_paid(totals: &[u64], paid: &mut [u64])
     }
 }
 
-/// Puts shares of totals behind others, as `share_lanes`, where there is a child.
+/// Puts the lane of the first child in the place of what a lane has, where others stand between it and the last.
+fn begin_upto(first: &[u64], count: usize, upto: &mut [u64])
+    requires same { length first.now ≡ length upto.old }
+    ensures value { 2 < count → upto.new ≡ first.now }
+{
+    if 2 < count {
+        upto.copy_from_slice(first);
+    }
+}
+
+/// Puts shares of totals behind others, as `share_lanes`, where there are two children or more. The share of the first is its part:
+/// nothing was paid before.
 fn push_shares(
     totals: &[u64],
     lanes: &Lanes,
@@ -93,7 +104,7 @@ fn push_shares(
     share: &mut [u64],
     out: &mut Lanes,
 ) -> Result<(), AllocError>
-    requires some { 0 < count }
+    requires some { 1 < count }
     requires within { start + count ≤ length lanes.now }
     requires wide { AreWide (length totals.now) lanes.now }
     requires weights_wide { length weights.old ≡ length totals.now }
@@ -101,16 +112,17 @@ fn push_shares(
     requires paid_wide { length paid.old ≡ length totals.now }
     requires share_wide { length share.old ≡ length totals.now }
     requires out { AreWide (length totals.now) out.old }
-    requires few { (k : ℕ) → k < length totals.now → sum (column k (take count (drop start lanes.now))) ≤ 10 ^ 16 }
-    requires backed { (k : ℕ) → k < length totals.now → slice_index totals.now k ≤ sum (column k (take count (drop start lanes.now))) }
+    requires can { CanShare totals.now (take count (drop start lanes.now)) }
     ensures value { OnOk result (AreBehind (length totals.now) count (λ k. share_out (slice_index totals.now k) (column k (take count (drop start lanes.now)))) out.old out.new) }
 {
     let _all = lanes.len();
     sum_lanes(lanes, start, count, weights);
-    upto.fill(0);
-    paid.fill(0);
+    let first = lanes.lane(start);
+    find_parts(totals, weights, first, paid);
+    out.push(paid)?;
+    begin_upto(first, count, upto);
     let last = count - 1;
-    for at in 0..last {
+    for at in 1..last {
         add_to(upto, lanes.lane(start + at));
         pay_share(totals, weights, upto, paid, share);
         out.push(share)?;

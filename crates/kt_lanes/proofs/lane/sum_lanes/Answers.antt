@@ -1,17 +1,67 @@
-use Rattle.std.proofs.Common.{◌≡◌, ◌<◌, ◌∙◌, length, ap, sym, arith}
-use Rattle.kt_lanes.specs.LaneLaws.{sums-end, sums-fit, sums-more, sums-one}
+use Rattle.std.proofs.Common.{◌≤◌, ◌<◌, ◌+◌, ℕ, List, drop, length, slice_index, sym, subst, take, arith}
+use Rattle.std.specs.List.{sum}
+use Rattle.kt_lanes.specs.Lanes.{column, IsLane}
+use Rattle.kt_lanes.specs.LaneLaws.{first-lane, sums-end, sums-fit, sums-more}
 use Rattle.kt_lanes.proofs.lane.sum_lanes.Goals as goal
+
+pub copy_from_slice-requires : goal.copy_from_slice-requires
+copy_from_slice-requires c =
+    let width = length c.args.sums.now in
+    let lanes = c.args.lanes.now in
+    let start = c.args.start in
+    let count = c.args.count in
+    let first = c.lane-first.result.now in
+    let some : 0 < count = omega (arith, c.if-count-eq0.false) in
+    let first_is = first-lane width lanes start count c.requires.wide some c.requires.within first c.lane-first.ensures.value in
+    sym first_is.wide
+
+pub returns-then-count-eq1 : goal.returns-then-count-eq1
+returns-then-count-eq1 c =
+    let width = length c.args.sums.now in
+    let lanes = c.args.lanes.now in
+    let start = c.args.start in
+    let count = c.args.count in
+    let first = c.lane-first.result.now in
+    let some : 0 < count = omega (arith, c.if-count-eq0.false) in
+    let first_is = first-lane width lanes start count c.requires.wide some c.requires.within first c.lane-first.ensures.value in
+    let one : count ≤ 1 = omega (arith, c.if-count-eq1.true) in
+    record {
+      value =
+          sums-end width lanes start count 1 one c.copy_from_slice.new.self
+          (subst (λ (lane : List ℕ). IsLane width (λ k. sum (column k (take 1 (take count (drop start lanes))))) lane) (sym c.copy_from_slice.ensures.after) first_is);
+    }
+
+pub overflow_add-start : goal.overflow_add-start
+overflow_add-start c = record { fits = omega (arith, c.len-all.ensures.value, c.requires.within, c.if-count-eq0.false, c.if-count-eq1.false) }
+
+pub add_both-requires-clause-few : goal.add_both-requires-clause-few
+add_both-requires-clause-few c =
+    let width = length c.args.sums.now in
+    let lanes = c.args.lanes.now in
+    let start = c.args.start in
+    let count = c.args.count in
+    let first = c.lane-first.result.now in
+    let some : 0 < count = omega (arith, c.if-count-eq0.false) in
+    let first_is = first-lane width lanes start count c.requires.wide some c.requires.within first c.lane-first.ensures.value in
+    let more : 1 < count = omega (arith, c.if-count-eq0.false, c.if-count-eq1.false) in
+    λ k below. sums-fit width lanes start count c.requires.within c.requires.few 1 more c.lane.result.now c.lane.ensures.value first first_is k below
 
 pub loop-at-init : goal.loop-at-init
 loop-at-init c =
+    let width = length c.args.sums.now in
     let lanes = c.args.lanes.now in
-    let lane = c.lane.result.now in
-    let some : 0 < c.args.count = omega (arith, c.if-count-eq0.false) in
-    let same : length c.args.sums.now ≡ length lane = sym (ap length c.lane.ensures.value ∙ c.requires.wide c.args.start lane (omega (arith, some, c.requires.within))) in
-    sums-one (length c.args.sums.now) lanes c.args.start c.args.count some c.requires.within lane (sym same) c.lane.ensures.value c.copy_from_slice.new.self c.copy_from_slice.ensures.after
+    let start = c.args.start in
+    let count = c.args.count in
+    let first = c.lane-first.result.now in
+    let some : 0 < count = omega (arith, c.if-count-eq0.false) in
+    let first_is = first-lane width lanes start count c.requires.wide some c.requires.within first c.lane-first.ensures.value in
+    let more : 1 < count = omega (arith, c.if-count-eq0.false, c.if-count-eq1.false) in
+    let second = c.lane.result.now in
+    sums-more width lanes start count c.requires.within c.requires.few 1 more second c.lane.ensures.value first first_is c.add_both.new.sums
+    (subst (λ n. IsLane n (λ k. slice_index first k + slice_index second k) c.add_both.new.sums) (sym first_is.wide) c.add_both.ensures.value)
 
-pub overflow_add-start : goal.overflow_add-start
-overflow_add-start c = record { fits = omega (arith, c.ranges.start.fits, c.requires.within, c.loop-at-test.true) }
+pub overflow_add-start-in-loop-at : goal.overflow_add-start-in-loop-at
+overflow_add-start-in-loop-at c = record { fits = omega (arith, c.len-all.ensures.value, c.requires.within, c.loop-at-test.true) }
 
 pub add_to-requires-clause-few : goal.add_to-requires-clause-few
 add_to-requires-clause-few c =
