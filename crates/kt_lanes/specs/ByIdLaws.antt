@@ -15,7 +15,7 @@ use Rattle.kt_alloc.specs.IdLaws.{no-parts, next-part, part-fits, with-found}
 use Rattle.kt_alloc.specs.Placed.{unit_parts}
 use Rattle.kt_alloc.specs.declared.part.PlacedPart.{PlacedPart}
 use Rattle.kt_lanes.specs.Lanes.{column, AreWide, AreLanes}
-use Rattle.kt_lanes.specs.SideBySide.{IsAdded}
+use Rattle.kt_lanes.specs.SideBySide.{HasMore}
 use Rattle.kt_lanes.specs.LaneLaws.{column-at}
 use Rattle.kt_lanes.specs.Down.{ArePlaced, placed, placed_at}
 use Rattle.kt_lanes.specs.DownLaws.{placed-here, placed-inside}
@@ -36,21 +36,21 @@ module _ (width place : ℕ) (lanes : List (List ℕ)) (wide : AreWide width lan
 
 -- ---- more for one id
 
-module _ (place : ℕ) (found : List (List ℕ)) (lane : List ℕ) (wide : AreWide (length lane) found) (inside : place < length found) where
+module _ (place width : ℕ) (found : List (List ℕ)) (amount : ℕ → ℕ) (wide : AreWide width found) (inside : place < length found) where
   -- what is added in a place fits
-  pub found-fits : ((k : ℕ) → k < length lane → slice_index (column k found) place + slice_index lane k < 2 ^ 64) → (k : ℕ) → k < length lane → slice_index (slice_index_or found place []) k + slice_index lane k < 2 ^ 64
+  pub found-fits : ((k : ℕ) → k < width → slice_index (column k found) place + amount k < 2 ^ 64) → (k : ℕ) → k < width → slice_index (slice_index_or found place []) k + amount k < 2 ^ 64
   found-fits few k below = omega (arith, column-at k place found [] inside, few k below)
 
   -- an id that is found has more
-  pub more-found : (ids : List ℕ) → IsRising ids → (id : ℕ) → length found ≡ length ids → slice_index ids place ≡ id → (now : List (List ℕ)) → IsAdded place lane found now → AreLanes (length lane) (length ids) (λ k. with_more ids (column k found) id (slice_index lane k)) now
+  pub more-found : (ids : List ℕ) → IsRising ids → (id : ℕ) → length found ≡ length ids → slice_index ids place ≡ id → (now : List (List ℕ)) → HasMore place width amount found now → AreLanes width (length ids) (λ k. with_more ids (column k found) id (amount k)) now
   more-found ids rises id same here now added = record {
     count_is = ap length added.now_is ∙ (length-set found place added.lane ∙ same);
-    wide = subst (AreWide (length lane)) (sym added.now_is) (set-wide (length lane) place found wide inside added.lane added.lane_is.wide);
+    wide = subst (AreWide width) (sym added.now_is) (set-wide width place found wide inside added.lane added.lane_is.wide);
     each = λ k less.
         ap (column k) added.now_is
-        ∙ (set-column (length lane) place found wide inside added.lane k
-        ∙ (ap (slice_set (column k found) place) (added.lane_is.each k less ∙ ap (λ n. n + slice_index lane k) (sym (column-at k place found [] inside)))
-        ∙ with-found ids (column k found) id (slice_index lane k) place rises (length-map found (λ (one : List ℕ). slice_index one k) ∙ same) (subst (λ n. place < n) same inside) here));
+        ∙ (set-column width place found wide inside added.lane k
+        ∙ (ap (slice_set (column k found) place) (added.lane_is.each k less ∙ ap (λ n. n + amount k) (sym (column-at k place found [] inside)))
+        ∙ with-found ids (column k found) id (amount k) place rises (length-map found (λ (one : List ℕ). slice_index one k) ∙ same) (subst (λ n. place < n) same inside) here));
   }
 
 -- ---- lanes of parts, one after the other

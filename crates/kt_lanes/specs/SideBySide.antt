@@ -8,11 +8,15 @@ abbrev pub cut : ℕ → ℕ → List ℕ → List (List ℕ)
 cut width zero amounts = []
 cut width (suc count) amounts = take width amounts ∷ cut width count (drop width amounts)
 
--- the amounts of a lane were added to those of the one in a place
-pub record IsAdded (place : ℕ) (more : List ℕ) (before now : List (List ℕ)) : Type 0 where
+-- amounts for so many sidx were added to those of the lane in a place
+pub record HasMore (place width : ℕ) (amount : ℕ → ℕ) (before now : List (List ℕ)) : Type 0 where
   pub lane : List ℕ
-  pub lane_is : IsLane (length more) (λ k. slice_index (slice_index_or before place []) k + slice_index more k) lane
+  pub lane_is : IsLane width (λ k. slice_index (slice_index_or before place []) k + amount k) lane
   pub now_is : now ≡ slice_set before place lane
+
+-- the amounts of a lane were added to those of the one in a place
+abbrev pub IsAdded : ℕ → List ℕ → List (List ℕ) → List (List ℕ) → Type 0
+IsAdded place more = HasMore place (length more) (slice_index more)
 
 -- lanes of so many amounts of units stand behind others
 pub record AreBehind (width count : ℕ) (amounts : ℕ → List ℕ) (before now : List (List ℕ)) : Type 0 where

@@ -2,9 +2,9 @@
 //! The rules: docs/FINANCIAL_MODULE.md, "Levels".
 ghost use Rattle.std.specs.Prelude.{◌≡◌, ℕ, ◌+◌, ◌*◌, ◌<◌, ◌^◌, [], ◌∷◌, ◌++◌, length, replicate, slice_index, slice_index_or, IfOk, OnErr, OnOk};
 ghost use Rattle.kt_lanes.specs.Lanes.{AreLanes, AreWide};
-ghost use Rattle.kt_lanes.specs.SideBySide.{IsAdded};
+ghost use Rattle.kt_lanes.specs.SideBySide.{HasMore, IsAdded};
 
-use crate::lane::add_to;
+use crate::amounts::{Amounts, OneLane};
 use kt_alloc::zeros;
 use std::alloc::{AllocError, Global};
 use std::marker::Model;
@@ -127,9 +127,20 @@ impl Lanes {
         requires few { (k : ℕ) → k < length more.now → slice_index (slice_index_or self.old place []) k + slice_index more.now k < 2 ^ 64 }
         ensures value { IsAdded place more.now self.old self.new }
     {
+        self.add_amounts(place, &OneLane { lane: more });
+    }
+
+    /// Adds amounts in cents to those of the lane in a place, where they stand.
+    pub fn add_amounts<A: Amounts>(&mut self, place: usize, more: &A)
+        requires place { place < length self.old }
+        requires good { A.IsGood more.now }
+        requires wide { AreWide (A.width more.now) self.old }
+        requires few { (k : ℕ) → k < A.width more.now → slice_index (slice_index_or self.old place []) k + A.amount more.now k < 2 ^ 64 }
+        ensures value { HasMore place (A.width more.now) (A.amount more.now) self.old self.new }
+    {
         let start = self.width * place;
         let end = start + self.width;
-        add_to(&mut self.amounts[start..end], more);
+        more.add_to(&mut self.amounts[start..end]);
     }
 }
 

@@ -1,6 +1,7 @@
 //! The losses of a programme at many sidx at once: each unit has a lane, its losses sidx by sidx.
 #![tactic(auto)]
 
+mod amounts;
 mod by_id;
 mod climbing;
 mod down;
@@ -14,7 +15,8 @@ mod quotient;
 mod shared;
 mod shares;
 
-pub use by_id::add_by_id;
+pub use amounts::Amounts;
+pub use by_id::{add_amounts_by_id, add_by_id};
 pub use climbing::{Climbed, climb};
 pub use lanes::Lanes;
 pub use plain::{has_plain_units, layer_looks_back};

@@ -29,11 +29,6 @@ ids-start ids samples lanes are = record { count_is = are.count_is; wide = are.w
     none sidx [] = refl
     none sidx (id ∷ ids) = ap (λ rest. 0 ∷ rest) (none sidx ids)
 
--- what a record has is not more than all
-pub ids-most : (records : List LossRecord) (i : ℕ) (d entry : LossRecord) → i < length records → entry ≡ slice_index_or records i d → (sidx : ℤ) → AreWithin records → loss_of sidx entry.pairs ≤ 10000000000000000
-ids-most records i d entry below is sidx within =
-    omega (arith, ap (λ (one : LossRecord). loss_of sidx one.pairs) is, get_or-le-sum_by (λ (one : LossRecord). loss_of sidx one.pairs) records i d below, within sidx)
-
 -- what an id has is not more than all
 id-le : (records : List LossRecord) (sidx : ℤ) (id : ℕ) → id_loss records sidx id ≤ run_loss sidx records
 id-le records sidx id = sum_by-below (λ (entry : LossRecord). cond (nat_eq entry.id id) (loss_of sidx entry.pairs) 0) (λ (entry : LossRecord). loss_of sidx entry.pairs) records (λ entry. cond-le (nat_eq entry.id id) (loss_of sidx entry.pairs))

@@ -13,8 +13,8 @@ ghost use Rattle.kt_shares.specs.Shares.{ids_of};
 ghost use Rattle.kt_shares.specs.Table.{row_place};
 ghost use Rattle.kt_shares.specs.Taken.{AreIdLanes};
 
-use kt_lanes::{Lanes, add_by_id};
-use kt_runs::{RunEntry, place_of, zeros};
+use kt_lanes::{Amounts, Lanes, add_amounts_by_id};
+use kt_runs::{RunEntry, place_of};
 use kt_stream::{LossRecord, Pair};
 use std::alloc::{AllocError, Global};
 
@@ -63,28 +63,47 @@ pub fn ids_of<T: RunEntry>(alloc: Global, records: &[T]) -> Result<Vec<u32>, All
     Ok(ids)
 }
 
-/// Adds the losses of a record to the lane of its id, if that is among these. It is looked for in a place first: records stand by
-/// rising id mostly. The losses are put into a lane of their own before.
-fn add_record(
-    ids: &[u32],
-    lanes: &mut Lanes,
+/// The losses of the pairs of a record, row by row.
+#[derive(Clone, Copy)]
+struct PairLosses<'a> {
+    /// The number of samples.
     samples: u32,
-    near: usize,
-    entry: &LossRecord,
-    lane: &mut [u64],
-)
+    /// The pairs.
+    pairs: &'a [Pair],
+}
+
+impl<'a> Amounts for PairLosses<'a> {
+    ghost use Rattle.std.specs.Prelude.{◌+◌, ◌≤◌};
+    ghost use Rattle.std.specs.List.{AllByRecursion};
+    ghost use Rattle.kt_stream.specs.Pairs.{IsPair};
+    ghost use Rattle.kt_runs.specs.RunLosses.{loss_of};
+    ghost use Rattle.kt_runs.specs.Sidx.{sidx_at};
+    ghost use Rattle.kt_shares.specs.Table.{row_place};
+
+    ghost IsGood = { λ losses. (losses.samples ≤ 1000) × AllByRecursion (IsPair losses.samples) losses.pairs.now };
+
+    ghost width = { λ losses. losses.samples + 1 };
+
+    ghost amount = { λ losses row. loss_of (sidx_at (row_place row)) losses.pairs.now };
+
+    fn add_to(&self, lane: &mut [u64]) {
+        add_losses(lane, self.samples, self.pairs);
+    }
+}
+
+/// Adds the losses of a record to the lane of its id, where they stand, if that is among these. It is looked for in a place first:
+/// records stand by rising id mostly.
+fn add_record(ids: &[u32], lanes: &mut Lanes, samples: u32, near: usize, entry: &LossRecord)
     requires samples { samples ≤ 1000 }
     requires rising { IsRising ids.now }
     requires same { length lanes.old ≡ length ids.now }
     requires wide { AreWide (samples + 1) lanes.old }
     requires entry { IsLoss samples entry.now }
-    requires lane { length lane.old ≡ samples + 1 }
-    requires most { (sidx : ℤ) → loss_of sidx entry.now.pairs ≤ 10000000000000000 }
     requires few { (row place : ℕ) → row < samples + 1 → place < length ids.now → slice_index (column row lanes.old) place + loss_of (sidx_at (row_place row)) entry.now.pairs < 2 ^ 64 }
     ensures value { AreLanes (samples + 1) (length ids.now) (λ row. with_more ids.now (column row lanes.old) entry.now.id (loss_of (sidx_at (row_place row)) entry.now.pairs)) lanes.new }
 {
-    take_losses(lane, samples, entry.pairs.as_slice());
-    add_by_id(ids, lanes, near, entry.id, lane);
+    let pairs = entry.pairs.as_slice();
+    add_amounts_by_id(ids, lanes, near, entry.id, &PairLosses { samples, pairs });
 }
 
 /// The lanes of rising ids, with the losses of the records that have these ids. An error is want of memory.
@@ -102,9 +121,8 @@ pub(crate) fn id_lanes<T: RunEntry>(
 {
     let width = samples as usize + 1;
     let mut lanes = Lanes::zeros(alloc, ids.len(), width)?;
-    let mut lane = zeros(alloc, width)?;
     for (near, held) in records.iter().enumerate() {
-        add_record(ids, &mut lanes, samples, near, held.entry(), &mut lane);
+        add_record(ids, &mut lanes, samples, near, held.entry());
     }
     Ok(lanes)
 }

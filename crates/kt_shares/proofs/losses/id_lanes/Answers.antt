@@ -1,15 +1,12 @@
-use Rattle.std.proofs.Common.{◌≤◌, ◌<◌, length, map, sym, subst, ap, ◌∙◌, ◌≡◌, rules, vec_len, arith}
-use Rattle.std.proofs.lemmas.List.{length-map, with_items_is}
+use Rattle.std.proofs.Common.{◌≤◌, ◌<◌, length, map, sym, subst, arith}
+use Rattle.std.proofs.lemmas.List.{length-map}
 use Rattle.kt_runs.specs.HeldLaws.{entry_at}
 use Rattle.kt_stream.specs.Losses.{IsLoss}
-use Rattle.kt_shares.proofs.IdLemmas.{ids-end, ids-fit, ids-more, ids-most, ids-start}
+use Rattle.kt_shares.proofs.IdLemmas.{ids-end, ids-fit, ids-more, ids-start}
 use Rattle.kt_shares.proofs.losses.id_lanes.Goals as goal
 
 pub loop-near-init : goal.loop-near-init
-loop-near-init g c = record {
-  lane = c.in_ok-lane.ensures.value.width_is;
-  lanes = ids-start c.args.ids.now c.args.samples c.in_ok-lanes.lanes c.in_ok-lanes.ensures.value;
-}
+loop-near-init g c = ids-start c.args.ids.now c.args.samples c.in_ok-lanes.lanes c.in_ok-lanes.ensures.value
 
 pub add_record-requires-clause-entry : goal.add_record-requires-clause-entry
 add_record-requires-clause-entry g c =
@@ -29,17 +26,7 @@ add_record-requires-clause-few g c =
     let i = c.loop-near.near in
     let below : i < length records = omega (arith, c.loop-near-test.true, length-map c.args.records.now entry_of) in
     let is = entry_at entry_of c.args.records.now i c.index-records-near.result entry c.loop-near-test.true c.index-records-near.is c.entry.ensures entry in
-    ids-fit c.args.ids.now c.args.samples records i entry entry below is c.loop-near.lanes c.loop-near.invariant.lanes c.requires.within
-
-pub add_record-requires-clause-most : goal.add_record-requires-clause-most
-add_record-requires-clause-most g c =
-    let entry_of = g.T.RunEntry.entry_of in
-    let records = map entry_of c.args.records.now in
-    let entry = c.entry.result.now in
-    let i = c.loop-near.near in
-    let below : i < length records = omega (arith, c.loop-near-test.true, length-map c.args.records.now entry_of) in
-    let is = entry_at entry_of c.args.records.now i c.index-records-near.result entry c.loop-near-test.true c.index-records-near.is c.entry.ensures entry in
-    λ sidx. ids-most records i entry entry below is sidx c.requires.within
+    ids-fit c.args.ids.now c.args.samples records i entry entry below is c.loop-near.lanes c.loop-near.invariant c.requires.within
 
 pub loop-near-preserved : goal.loop-near-preserved
 loop-near-preserved g c =
@@ -49,15 +36,10 @@ loop-near-preserved g c =
     let i = c.loop-near.near in
     let below : i < length records = omega (arith, c.loop-near-test.true, length-map c.args.records.now entry_of) in
     let is = entry_at entry_of c.args.records.now i c.index-records-near.result entry c.loop-near-test.true c.index-records-near.is c.entry.ensures entry in
-    let room : vec_len c.loop-near.lane ≡ length c.loop-near.lane.items = search rules in
-    record {
-      lane = ap length (with_items_is c.loop-near.lane c.add_record.new.lane (c.add_record.auto.lane ∙ (ap length c.deref_mut.ensures.value ∙ sym room))) ∙ (c.add_record.auto.lane ∙ (ap length c.deref_mut.ensures.value ∙ c.loop-near.invariant.lane));
-      lanes =
-          ids-more c.args.ids.now c.args.samples records i entry entry below is c.loop-near.lanes c.loop-near.invariant.lanes c.add_record.new.lanes c.add_record.ensures.value;
-    }
+    ids-more c.args.ids.now c.args.samples records i entry entry below is c.loop-near.lanes c.loop-near.invariant c.add_record.new.lanes c.add_record.ensures.value
 
 pub returns : goal.returns
 returns g c =
     let records = map g.T.RunEntry.entry_of c.args.records.now in
     let past : length records ≤ c.loop-near.near = omega (arith, c.loop-near-test.false, length-map c.args.records.now g.T.RunEntry.entry_of) in
-    record { value = ids-end c.args.ids.now c.args.samples records c.loop-near.near c.loop-near.lanes past c.loop-near.invariant.lanes }
+    record { value = ids-end c.args.ids.now c.args.samples records c.loop-near.near c.loop-near.lanes past c.loop-near.invariant }
