@@ -5,6 +5,7 @@ pub mod ClimbedLaws
 pub mod Shares
 pub mod SharesLaws
 pub mod SideBySide
+pub mod Groups
 pub mod Down
 pub mod DownLaws
 pub mod ByIdLaws

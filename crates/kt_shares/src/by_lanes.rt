@@ -16,14 +16,16 @@ ghost use Rattle.kt_shares.specs.ByLanes.{AreLayers, IsPlainLayer};
 
 use crate::layers::TopLayer;
 use kt_fmtree::Programme;
-use kt_lanes::{Climbed, Lanes, Room, allocate_lanes, layer_looks_back, policy_lane, room_of};
+use kt_lanes::{
+    Climbed, LaneGroups, Lanes, Room, allocate_lanes, layer_looks_back, policy_lane, room_of,
+};
 use std::alloc::{AllocError, Global};
 
 /// What layers have, sidx by sidx.
 #[derive(Drop)]
 pub(crate) struct LayerLanes {
-    /// The lanes of the shares of all layers in cents, one behind the other.
-    pub shares: Lanes,
+    /// The lanes of the shares of all layers in cents, layer by layer.
+    pub shares: LaneGroups,
     /// The lane of the policy losses of each layer in cents.
     pub policies: Lanes,
 }
@@ -105,39 +107,18 @@ fn push_layer(
 {
     let policies = policy_lane(alloc, programme, lanes, climbed, one.node, one.layer)?;
     let shares = shares_of(alloc, programme, lanes, climbed, rule, one, room, &policies)?;
-    made.shares.append(climbed.width, &shares)?;
+    made.shares.push(shares)?;
     made.policies.push(&policies)?;
     Ok(())
 }
 
-/// How many lanes the shares of layers have: one where the losses of a layer stay whole, else one for each id beneath its top.
-fn share_count(programme: &Programme, rule: u32, layers: &[TopLayer]) -> usize
-    requires layers { AllByRecursion (IsTopLayer programme.now) layers.now }
-{
-    if rule == 0 {
-        return layers.len();
-    }
-    let mut count: usize = 0;
-    for one in layers {
-        count = count.saturating_add(programme.beneath(one.node).len());
-    }
-    count
-}
-
 /// No layers, with room for what so many have. An error is want of memory.
-fn no_layers(
-    alloc: Global,
-    programme: &Programme,
-    width: usize,
-    rule: u32,
-    layers: &[TopLayer],
-) -> Result<LayerLanes, AllocError>
-    requires layers { AllByRecursion (IsTopLayer programme.now) layers.now }
+fn no_layers(alloc: Global, count: usize, width: usize) -> Result<LayerLanes, AllocError>
     ensures shares { IfOk result (λ made. made.shares ≡ []) }
     ensures policies { IfOk result (λ made. made.policies ≡ []) }
 {
-    let shares = Lanes::with_room(alloc, share_count(programme, rule, layers), width)?;
-    let policies = Lanes::with_room(alloc, layers.len(), width)?;
+    let shares = LaneGroups::with_room(alloc, count)?;
+    let policies = Lanes::with_room(alloc, count, width)?;
     Ok(LayerLanes { shares, policies })
 }
 
@@ -157,7 +138,7 @@ pub(crate) fn layer_lanes(
     ensures value { IfOk result (λ made. AreLayers programme.now lanes.now climbed.now.width rule layers.now made) }
 {
     let mut room = room_of(alloc, climbed.width)?;
-    let mut made = no_layers(alloc, programme, climbed.width, rule, layers)?;
+    let mut made = no_layers(alloc, layers.len(), climbed.width)?;
     for one in layers {
         push_layer(
             alloc, programme, lanes, climbed, rule, *one, &mut room, &mut made,

@@ -12,7 +12,7 @@ use crate::layers::TopLayer;
 use crate::row::row_of;
 use kt_alloc::zeros;
 use kt_fmtree::Programme;
-use kt_lanes::Lanes;
+use kt_lanes::{LaneGroups, Lanes};
 use std::alloc::{AllocError, Global};
 
 /// What layers have, row by row.
@@ -136,5 +136,8 @@ pub(crate) fn lanes_by_rows(
     let rows = rows_of(alloc, programme, width, lanes, rule, layers)?;
     let shares = turned(alloc, first_len(&rows.shares), &rows.shares)?;
     let policies = turned(alloc, layers.len(), &rows.policies)?;
-    Ok(LayerLanes { shares, policies })
+    Ok(LayerLanes {
+        shares: LaneGroups::of(alloc, shares)?,
+        policies,
+    })
 }

@@ -19,7 +19,7 @@ use crate::losses::id_lanes;
 use crate::pairs::lane_pairs;
 use crate::written::put_lane;
 use kt_fmtree::Programme;
-use kt_lanes::{Lanes, climb, has_plain_units};
+use kt_lanes::{LaneGroups, Lanes, climb, has_plain_units};
 use kt_money::Bytes;
 use kt_pairs::pair_room;
 use kt_runs::RunEntry;
@@ -33,7 +33,7 @@ use std::marker::Model;
 #[derive(Drop)]
 pub struct Table {
     rows: usize,
-    shares: Lanes,
+    shares: LaneGroups,
     policies: Lanes,
 }
 
