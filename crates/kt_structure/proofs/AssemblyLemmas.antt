@@ -1,14 +1,12 @@
 -- The lists that are made from a plan are those of the tree of the tables.
-use Rattle.std.proofs.Common.{◌≡◌, ℕ, zero, suc, ◌^◌, ◌<◌, ◌≤◌, true, List, [], ◌∷◌, length, map, get_or, refl, ap, sym, subst, ◌∙◌, nat_eq, Option, arith}
-use Rattle.std.specs.Prelude.{option_map}
+use Rattle.std.proofs.Common.{◌≡◌, ℕ, zero, suc, ◌^◌, ◌<◌, ◌≤◌, true, List, [], ◌∷◌, length, map, get_or, refl, ap, sym, subst, ◌∙◌, nat_eq, arith}
 use Rattle.std.proofs.Math.Path.{fun_ext}
-use Rattle.std.specs.List.{All, AllByRecursion, filter, filter_map, list_any}
+use Rattle.std.specs.List.{All, AllByRecursion, filter, list_any}
 use Rattle.kt_rec.specs.Rows.{Rows}
 use Rattle.kt_keys.specs.Keys.{policytc_of}
-use Rattle.kt_keys.specs.Climbing.{climbed}
 use Rattle.kt_tree.specs.Sums.{each_then, each_member, each_flat_map}
 use Rattle.kt_rec.specs.Rising.{IsRising}
-use Rattle.kt_tree.specs.Tree.{Tree, is_unit, beneath}
+use Rattle.kt_tree.specs.Tree.{Tree, beneath}
 use Rattle.kt_tree.specs.Programme.{layers_in, or_first}
 use Rattle.kt_fmtree.specs.Parts.{Parts, IsNode, IsProgramme, nodes_at, units_at}
 use Rattle.kt_structure.specs.Plan.{found_terms, found_tiv, link_key, linked, layer_link, kids, build_levels, build_leaves, Finds}
@@ -18,7 +16,7 @@ use Rattle.kt_structure.specs.declared.links.Link.{Link}
 use Rattle.kt_fmtree.specs.declared.node.Node.{Node}
 use Rattle.kt_structure.specs.declared.plan.Plan.{Plan}
 use Rattle.kt_structure.proofs.PlanLemmas.{units_from, units_from-leaves, units_from-top, units_from-next, units_from-small, build_levels-length, build_levels-at, nodes_from-units, levels-are}
-use Rattle.kt_structure.proofs.FindLemmas.{linked-are, fits-agg, beneath-found}
+use Rattle.kt_structure.proofs.FindLemmas.{linked-are, fits-agg}
 
 module _ (tree : Tree) (plan : Plan) (finds : Finds tree plan) (tops : List ℕ) (small : AllByRecursion (λ unit. unit < 2 ^ 32) tops) where
   -- the ids beneath the tops are those of the tree
@@ -74,14 +72,8 @@ map-each P f g same (id ∷ ids) all = ap (λ y. y ∷ map f ids) (same id all.0
 pub layers-found : (rows : Rows) (stage : ℕ) → IsReady rows stage → (links : List Link) → ((key : ℕ) → filter (λ row. nat_eq (link_key row) key) links ≡ filter (λ row. nat_eq (link_key row) key) (map layer_link (policytc_of rows stage))) → (level top : ℕ) → top < 2 ^ 32 → or_first (linked links level top) ≡ layers_in (policytc_of rows stage) level top
 layers-found rows stage ready links kept level top fits = ap or_first (linked-are layer_link links (policytc_of rows stage) kept (fits-agg (policytc_of rows stage) ready.policytc) level top fits)
 
--- the ids that are linked to each top are those that come to it
-pub all-beneath : (climb : ℕ → Option ℕ) (links : List Link) (ids tops : List ℕ) → IsRising ids → ((key : ℕ) → filter (λ row. nat_eq (link_key row) key) links ≡ filter (λ row. nat_eq (link_key row) key) (filter_map (λ id. option_map (λ unit. record { level = 0; unit = unit; child = id }) (climb id)) ids)) → map (λ top. linked links 0 top) tops ≡ map (λ top. filter (λ id. is_unit top (climb id)) ids) tops
-all-beneath climb links ids [] rises kept = refl
-all-beneath climb links ids (top ∷ tops) rises kept =
-    ap (λ y. y ∷ map (λ t. linked links 0 t) tops) (beneath-found climb links ids rises kept top) ∙ ap (λ ys. filter (λ id. is_unit top (climb id)) ids ∷ ys) (all-beneath climb links ids tops rises kept)
-
 -- the lists that are made of what fits a tree are its lists
-module _ (tree : Tree) (kept : Kept) (links : List Link) (ids tops : List ℕ) (fits : Fits tree kept links ids tops) (plan : Plan) (links_are : plan.links.now ≡ links) (terms_are : found_terms plan.terms.now ≡ kept.terms) (tivs_are : (level unit : ℕ) → found_tiv plan level unit ≡ kept.tiv level unit) where
+module _ (tree : Tree) (kept : Kept) (links ends : List Link) (ids tops : List ℕ) (fits : Fits tree kept links ends ids tops) (plan : Plan) (links_are : plan.links.now ≡ links) (terms_are : found_terms plan.terms.now ≡ kept.terms) (tivs_are : (level unit : ℕ) → found_tiv plan level unit ≡ kept.tiv level unit) where
   plan-finds : Finds tree plan
   plan-finds = record {
     is = fits.is;
@@ -105,7 +97,7 @@ module _ (tree : Tree) (kept : Kept) (links : List Link) (ids tops : List ℕ) (
       → parts.levels ≡ build_levels plan kept.top_level tops
       → parts.layers ≡ map kept.layers tops
       → parts.terms ≡ map (λ top. map (λ layer. kept.terms layer kept.top_level top) (kept.layers top)) tops
-      → parts.beneath ≡ map (λ top. filter (λ id. is_unit top (climbed kept.next kept.top_level 1 id)) ids) tops
+      → parts.beneath ≡ map (linked ends 0) tops
       → IsProgramme tree parts
   programme-fits parts ids_same tops_same within leaves levels layers terms below =
       assembled tree plan plan-finds tops fits.tops_fit parts

@@ -17,14 +17,13 @@ use Rattle.kt_keys.specs.Units.{top_level}
 use Rattle.kt_index.specs.Exposure.{IsTotalOf, summary_covers}
 use Rattle.kt_checks.specs.TableChecks.{tiv_of}
 use Rattle.kt_keys.specs.Climbing.{next_unit}
-use Rattle.kt_rec.specs.Rising.{rising, IsRising, rising-member, rising-rises, rising-unique}
+use Rattle.kt_rec.specs.Rising.{rising}
 use Rattle.kt_tree.specs.Tree.{is_unit}
-use Rattle.kt_fmtree.specs.RisingLaws.{rising-filter}
 use Rattle.kt_tree.specs.Programme.{terms_or_none, with_id, profile_with, terms_in, covered_ids, has_coverage, tiv_beneath}
 use Rattle.kt_structure.proofs.CoverageLemmas.{found-beneath}
 use Rattle.kt_structure.specs.Coverages.{rows_for, own_pair}
 use Rattle.kt_structure.specs.Ready.{IsReady}
-use Rattle.kt_structure.specs.Plan.{link_key, linked, found_terms, AreTerms}
+use Rattle.kt_structure.specs.Plan.{link_key, link_to, linked, found_terms, AreTerms}
 use Rattle.kt_structure.specs.declared.links.Link.{Link}
 use Rattle.kt_structure.specs.declared.terms.Terms.{Terms}
 
@@ -92,37 +91,33 @@ terms-found policytc profiles terms are layer level unit =
 
 -- ---- what lies beneath a top
 
--- rising ids are themselves, rising
-rising-same : (ids : List ℕ) → IsRising ids → rising ids ≡ ids
-rising-same ids rises = rising-unique (rising ids) ids (rising-rises ids) rises (rising-member ids)
+module _ (climb : ℕ → Option ℕ) (top : ℕ) where
+  -- the links of ids to what they come to
+  abbrev links_of : List ℕ → List Link
+  links_of ids = filter_map (λ id. option_map (link_to 0 id) (climb id)) ids
 
-top-rows : (climb : ℕ → Option ℕ) (top : ℕ) (ids : List ℕ) → map (λ row. row.child) (filter (λ row. nat_eq (link_key row) (0 * 2 ^ 32 + top)) (filter_map (λ id. option_map (λ unit. record { level = 0; unit = unit; child = id }) (climb id)) ids)) ≡ filter (λ id. is_unit top (climb id)) ids
-top-rows climb top [] = refl
-top-rows climb top (id ∷ ids) = by (climb id) (top-rows climb top ids)
-  where
-    bare : (n : ℕ) → 0 * 2 ^ 32 + n ≡ n
-    bare n = omega arith
+  -- whether a link is to the top
+  abbrev is_to : Link → Bool
+  is_to row = nat_eq (link_key row) (0 * 2 ^ 32 + top)
 
-    later : List Link
-    later = filter_map (λ other. option_map (λ unit. record { level = 0; unit = unit; child = other }) (climb other)) ids
+  -- the ids that are linked to the top are those that come to it, in their order
+  pub ends-of : (ids : List ℕ) → map (λ row. row.child) (filter (λ row. nat_eq (link_key row) (0 * 2 ^ 32 + top)) (filter_map (λ id. option_map (link_to 0 id) (climb id)) ids)) ≡ filter (λ id. is_unit top (climb id)) ids
+  ends-of [] = refl
+  ends-of (id ∷ ids) = by (climb id) (ends-of ids)
+    where
+      bare : (n : ℕ) → 0 * 2 ^ 32 + n ≡ n
+      bare n = omega arith
 
-    by : (found : Option ℕ) → map (λ row. row.child) (filter (λ row. nat_eq (link_key row) (0 * 2 ^ 32 + top)) (filter_map (λ other. option_map (λ unit. record { level = 0; unit = unit; child = other }) (climb other)) ids)) ≡ filter (λ other. is_unit top (climb other)) ids
-        → map (λ row. row.child) (filter (λ row. nat_eq (link_key row) (0 * 2 ^ 32 + top)) (cons_option (option_map (λ unit. record { level = 0; unit = unit; child = id }) found) (filter_map (λ other. option_map (λ unit. record { level = 0; unit = unit; child = other }) (climb other)) ids)))
-        ≡ cond (is_unit top found) (id ∷ filter (λ other. is_unit top (climb other)) ids) (filter (λ other. is_unit top (climb other)) ids)
-    by None rest = rest
-    by (Some unit) rest = step (nat_eq unit top) (ap (λ n. nat_eq n (0 * 2 ^ 32 + top)) (bare unit) ∙ ap (nat_eq unit) (bare top)) rest
-      where
-        step : (b : Bool) → nat_eq (0 * 2 ^ 32 + unit) (0 * 2 ^ 32 + top) ≡ b → map (λ row. row.child) (filter (λ row. nat_eq (link_key row) (0 * 2 ^ 32 + top)) (filter_map (λ other. option_map (λ u. record { level = 0; unit = u; child = other }) (climb other)) ids)) ≡ filter (λ other. is_unit top (climb other)) ids
-            → map (λ row. row.child) (cond (nat_eq (0 * 2 ^ 32 + unit) (0 * 2 ^ 32 + top)) (record { level = 0; unit = unit; child = id } ∷ filter (λ row. nat_eq (link_key row) (0 * 2 ^ 32 + top)) (filter_map (λ other. option_map (λ u. record { level = 0; unit = u; child = other }) (climb other)) ids)) (filter (λ row. nat_eq (link_key row) (0 * 2 ^ 32 + top)) (filter_map (λ other. option_map (λ u. record { level = 0; unit = u; child = other }) (climb other)) ids)))
-            ≡ cond b (id ∷ filter (λ other. is_unit top (climb other)) ids) (filter (λ other. is_unit top (climb other)) ids)
-        step true is rest = ap (λ b. map (λ row. row.child) (cond b (record { level = 0; unit = unit; child = id } ∷ filter (λ row. nat_eq (link_key row) (0 * 2 ^ 32 + top)) (filter_map (λ other. option_map (λ u. record { level = 0; unit = u; child = other }) (climb other)) ids)) (filter (λ row. nat_eq (link_key row) (0 * 2 ^ 32 + top)) (filter_map (λ other. option_map (λ u. record { level = 0; unit = u; child = other }) (climb other)) ids)))) is ∙ ap (λ others. id ∷ others) rest
-        step false is rest = ap (λ b. map (λ row. row.child) (cond b (record { level = 0; unit = unit; child = id } ∷ filter (λ row. nat_eq (link_key row) (0 * 2 ^ 32 + top)) (filter_map (λ other. option_map (λ u. record { level = 0; unit = u; child = other }) (climb other)) ids)) (filter (λ row. nat_eq (link_key row) (0 * 2 ^ 32 + top)) (filter_map (λ other. option_map (λ u. record { level = 0; unit = u; child = other }) (climb other)) ids)))) is ∙ rest
+      step : (b : Bool) (unit : ℕ) → map (λ row. row.child) (filter is_to (links_of ids)) ≡ filter (λ other. is_unit top (climb other)) ids
+          → map (λ row. row.child) (cond b (link_to 0 id unit ∷ filter is_to (links_of ids)) (filter is_to (links_of ids))) ≡ cond b (id ∷ filter (λ other. is_unit top (climb other)) ids) (filter (λ other. is_unit top (climb other)) ids)
+      step true unit rest = ap (λ others. id ∷ others) rest
+      step false unit rest = rest
 
--- the ids that are linked to a top are those that come to it
-pub beneath-found : (climb : ℕ → Option ℕ) (links : List Link) (ids : List ℕ) → IsRising ids → ((key : ℕ) → filter (λ row. nat_eq (link_key row) key) links ≡ filter (λ row. nat_eq (link_key row) key) (filter_map (λ id. option_map (λ unit. record { level = 0; unit = unit; child = id }) (climb id)) ids)) → (top : ℕ) → linked links 0 top ≡ filter (λ id. is_unit top (climb id)) ids
-beneath-found climb links ids rises kept top =
-    ap (λ found. rising (map (λ row. row.child) found)) (kept (0 * 2 ^ 32 + top))
-    ∙ (ap rising (top-rows climb top ids) ∙ rising-same (filter (λ id. is_unit top (climb id)) ids) (rising-filter (λ id. is_unit top (climb id)) ids rises))
+      by : (found : Option ℕ) → map (λ row. row.child) (filter is_to (links_of ids)) ≡ filter (λ other. is_unit top (climb other)) ids
+          → map (λ row. row.child) (filter is_to (cons_option (option_map (link_to 0 id) found) (links_of ids))) ≡ cond (is_unit top found) (id ∷ filter (λ other. is_unit top (climb other)) ids) (filter (λ other. is_unit top (climb other)) ids)
+      by None rest = rest
+      by (Some unit) rest =
+          ap (λ b. map (λ (row : Link). row.child) (cond b (link_to 0 id unit ∷ filter is_to (links_of ids)) (filter is_to (links_of ids)))) (ap (λ n. nat_eq n (0 * 2 ^ 32 + top)) (bare unit) ∙ ap (nat_eq unit) (bare top)) ∙ step (nat_eq unit top) unit rest
 
 -- ---- what lies beneath a unit
 

@@ -3,8 +3,8 @@ use Rattle.std.proofs.Common.{◌≡◌, ℕ, zero, suc, ◌+◌, ◌*◌, ◌^�
 use Rattle.std.specs.Prelude.{◌&&◌, ◌||◌, is_some}
 use Rattle.std.specs.Cmp.{nat_eq_equiv}
 use Rattle.std.proofs.lemmas.Bool.{eqb-true}
-use Rattle.std.specs.List.{AllByRecursion, filter, filter_map, flat_map, list_any}
-use Rattle.kt_keys.specs.Climbing.{climbed}
+use Rattle.std.specs.List.{AllByRecursion, filter, filter_map, list_any}
+use Rattle.kt_keys.specs.Climbing.{after, climbed}
 use Rattle.kt_tree.specs.Members.{filter-both, member-filter}
 use Rattle.kt_tree.specs.Struck.{is_struck, struck, struck_children}
 use Rattle.kt_tree.specs.StruckLaws.{climbed-struck, struck-id, struck-is}
@@ -12,19 +12,28 @@ use Rattle.kt_rec.specs.Rising.{IsRising, rising, rising-all, rising-member, ris
 use Rattle.kt_tree.specs.Sums.{each_then}
 use Rattle.kt_tree.specs.Tree.{Tree, beneath, comes_to, is_unit}
 use Rattle.kt_fmtree.specs.RisingLaws.{rising-filter}
-use Rattle.kt_structure.specs.Plan.{link_key, linked, links_up}
+use Rattle.kt_structure.specs.Plan.{end_link, link_key, linked, links_up}
 use Rattle.kt_structure.specs.Structure.{Fits, Kept, IsStructure}
 use Rattle.kt_structure.specs.declared.links.Link.{Link}
-use Rattle.kt_structure.proofs.FindLemmas.{each-filter, linked-are}
-use Rattle.kt_structure.proofs.LinkLemmas.{all-small, children-among, reached-among, reached-small}
+use Rattle.kt_structure.proofs.FindLemmas.{each-filter, ends-of, linked-are}
+use Rattle.kt_structure.proofs.LinkLemmas.{FitsBits, all-small, children-among, ends-small, reached-among, units-small}
+use Rattle.kt_structure.proofs.RisingLemmas.{rising-among}
 
 module _ (tree : Tree) (kept : Kept) (is : IsStructure tree kept) (ids : List ℕ) (fit : AllByRecursion (λ id. id < 2 ^ 32) ids) where
   -- the links from the ids up
   abbrev rows_up : List Link
-  rows_up = flat_map (links_up kept.next kept.top_level 1) ids
+  rows_up = links_up kept.next ids kept.top_level
 
-  rows-fit : AllByRecursion (λ row. (row.unit < 2 ^ 32) × (row.child < 2 ^ 32)) rows_up
-  rows-fit = all-small kept.next (λ key unit to. is.small key unit (sym (ap (λ next. next key) is.next_is) ∙ to)) kept.top_level ids fit
+  -- the links of the ids to their tops
+  abbrev ends_up : List Link
+  ends_up = filter_map (end_link kept.next kept.top_level) ids
+
+  -- units that losses come to fit 32 bits
+  next-small : (key : ℕ × ℕ) (unit : ℕ) → kept.next key ≡ Some unit → unit < 2 ^ 32
+  next-small key unit to = is.small key unit (sym (ap (λ next. next key) is.next_is) ∙ to)
+
+  rows-fit : AllByRecursion FitsBits rows_up
+  rows-fit = all-small kept.next next-small ids fit kept.top_level
 
   -- ---- children
 
@@ -88,8 +97,8 @@ module _ (tree : Tree) (kept : Kept) (is : IsStructure tree kept) (ids : List �
           ∙ sym (member-filter (is_struck tree ids 0) id tree.ids)))))
 
   -- the tops that are reached are its tops
-  pub tops-struck : rising (filter_map (climbed kept.next kept.top_level 1) ids) ≡ filter (is_struck tree ids tree.top_level) tree.tops
-  tops-struck = rising-unique (rising (filter_map (climbed kept.next kept.top_level 1) ids)) (filter (is_struck tree ids tree.top_level) tree.tops) (rising-rises (filter_map (climbed kept.next kept.top_level 1) ids)) (rising-filter (is_struck tree ids tree.top_level) tree.tops is.tops_rise) same
+  pub tops-struck : rising (map (λ row. row.unit) ends_up) ≡ filter (is_struck tree ids tree.top_level) tree.tops
+  tops-struck = rising-unique (rising (map (λ row. row.unit) ends_up)) (filter (is_struck tree ids tree.top_level) tree.tops) (rising-rises (map (λ row. row.unit) ends_up)) (rising-filter (is_struck tree ids tree.top_level) tree.tops is.tops_rise) same
     where
       is_top : (top : ℕ) (ids : List ℕ) → list_any (comes_to tree tree.top_level top) ids ≡ true → list_any (nat_eq top) tree.tops ≡ true
       is_top top [] none = cc
@@ -107,9 +116,9 @@ module _ (tree : Tree) (kept : Kept) (is : IsStructure tree kept) (ids : List �
       kept_top top true here = sym (is_top top ids here)
       kept_top top false here = refl
 
-      same : (top : ℕ) → list_any (nat_eq top) (rising (filter_map (climbed kept.next kept.top_level 1) ids)) ≡ list_any (nat_eq top) (filter (is_struck tree ids tree.top_level) tree.tops)
+      same : (top : ℕ) → list_any (nat_eq top) (rising (map (λ row. row.unit) ends_up)) ≡ list_any (nat_eq top) (filter (is_struck tree ids tree.top_level) tree.tops)
       same top =
-          rising-member (filter_map (climbed kept.next kept.top_level 1) ids) top
+          rising-member (map (λ row. row.unit) ends_up) top
           ∙ (reached-among kept.next kept.top_level top ids
           ∙ ((λ i. list_any (λ id. is_unit top (climbed (is.next_is i) (is.top_level_is i) 1 id)) ids)
           ∙ (kept_top top (is_struck tree ids tree.top_level top) refl
@@ -119,7 +128,7 @@ module _ (tree : Tree) (kept : Kept) (is : IsStructure tree kept) (ids : List �
   pub tops-fit : AllByRecursion (λ unit. unit < 2 ^ 32) (filter (is_struck tree ids tree.top_level) tree.tops)
   tops-fit =
       subst (AllByRecursion (λ unit. unit < 2 ^ 32)) tops-struck
-      (rising-all (λ unit. unit < 2 ^ 32) _ (reached-small kept.next (λ key unit to. is.small key unit (sym (ap (λ next. next key) is.next_is) ∙ to)) kept.top_level (omega (arith, is.top_level_is, is.is.levels)) ids))
+      (rising-all (λ unit. unit < 2 ^ 32) _ (units-small ends_up (ends-small kept.next next-small kept.top_level ids fit)))
 
   -- ---- the lists
 
@@ -129,10 +138,32 @@ module _ (tree : Tree) (kept : Kept) (is : IsStructure tree kept) (ids : List �
       filter-both (is_struck tree ids 0) (comes_to tree tree.top_level top) (comes_to tree tree.top_level top) (λ id here. refl) tree.ids
       ∙ sym (filter-both (is_struck tree ids 0) (comes_to (struck tree ids) tree.top_level top) (comes_to tree tree.top_level top) (λ id here. ap (is_unit top) (climbed-struck tree is.is ids tree.top_level id (sym (struck-id tree is.is ids id) ∙ here))) tree.ids)
 
+  -- an id that comes to a top is taken
+  comes-taken : (top id : ℕ) → is_unit top (climbed kept.next kept.top_level 1 id) ≡ true → is_some (kept.next (1, id)) ≡ true
+  comes-taken top id = from kept.top_level (omega (arith, is.top_level_is, is.is.levels))
+    where
+      first : (levels : ℕ) (found : Option ℕ) → is_unit top (after found (climbed kept.next levels 2)) ≡ true → is_some found ≡ true
+      first levels None comes = comes
+      first levels (Some unit) comes = refl
+
+      from : (levels : ℕ) → 0 < levels → is_unit top (climbed kept.next levels 1 id) ≡ true → is_some (kept.next (1, id)) ≡ true
+      from zero above comes = absurd (omega arith)
+      from (suc levels) above comes = first levels (kept.next (1, id)) comes
+
+  -- the ids that are linked to each top are those beneath it
+  beneath-struck : (ends : List Link) → ((key : ℕ) → filter (λ row. nat_eq (link_key row) key) ends ≡ filter (λ row. nat_eq (link_key row) key) ends_up) → (top : ℕ) → linked ends 0 top ≡ beneath (struck tree ids) top
+  beneath-struck ends by_key top =
+      ap (λ found. rising (map (λ row. row.child) found)) (by_key (0 * 2 ^ 32 + top))
+      ∙ (ap rising (ends-of (climbed kept.next kept.top_level 1) top ids)
+      ∙ (rising-among (λ id. is_unit top (climbed kept.next kept.top_level 1 id)) (λ id. is_some (kept.next (1, id))) (comes-taken top) ids
+      ∙ ((λ i. filter (λ id. is_unit top (climbed (is.next_is i) (is.top_level_is i) 1 id)) (ids-struck i)) ∙ beneath-made top)))
+
   -- what is found along the ids fits the tree of struck units
-  pub struck-fits : (links : List Link) → ((key : ℕ) → filter (λ row. nat_eq (link_key row) key) links ≡ filter (λ row. nat_eq (link_key row) key) rows_up) → (taken tops : List ℕ) → taken ≡ rising (filter (λ id. is_some (kept.next (1, id))) ids) → tops ≡ rising (filter_map (climbed kept.next kept.top_level 1) ids) → Fits (struck tree ids) kept links taken tops
-  struck-fits links by_key taken tops taken_are tops_are =
-      let ids_same = taken_are ∙ ids-struck in
+  pub struck-fits : (links : List Link) → ((key : ℕ) → filter (λ row. nat_eq (link_key row) key) links ≡ filter (λ row. nat_eq (link_key row) key) rows_up)
+      → (ends : List Link) → ((key : ℕ) → filter (λ row. nat_eq (link_key row) key) ends ≡ filter (λ row. nat_eq (link_key row) key) ends_up)
+      → (taken tops : List ℕ) → taken ≡ rising (filter (λ id. is_some (kept.next (1, id))) ids) → tops ≡ rising (map (λ row. row.unit) ends_up)
+      → Fits (struck tree ids) kept links ends taken tops
+  struck-fits links by_unit ends by_top taken tops taken_are tops_are =
       let tops_same = tops_are ∙ tops-struck in
       record {
         is = struck-is tree is.is ids;
@@ -141,14 +172,24 @@ module _ (tree : Tree) (kept : Kept) (is : IsStructure tree kept) (ids : List �
         layer_profiles_are = is.layer_profiles_are;
         tivs_are = is.tivs_are;
         layers_are = is.layers_are;
-        children_are = children-struck links by_key;
-        children_fit = kids-fit links by_key;
-        ids_are = ids_same;
+        children_are = children-struck links by_unit;
+        children_fit = kids-fit links by_unit;
+        ids_are = taken_are ∙ ids-struck;
         ids_rise = subst IsRising (sym taken_are) (rising-rises (filter (λ id. is_some (kept.next (1, id))) ids));
         tops_are = tops_same;
         tops_fit = subst (AllByRecursion (λ unit. unit < 2 ^ 32)) (sym tops_same) tops-fit;
-        beneath_are = λ top. (λ i. filter (λ id. is_unit top (climbed (is.next_is i) (is.top_level_is i) 1 id)) (ids_same i)) ∙ beneath-made top;
+        beneath_are = beneath-struck ends by_top;
       }
+
+  -- so does what is found along them in lists that are theirs
+  pub struck-found : (rows links : List Link) → rows ≡ rows_up → ((key : ℕ) → filter (λ row. nat_eq (link_key row) key) links ≡ filter (λ row. nat_eq (link_key row) key) rows)
+      → (up ends : List Link) → up ≡ ends_up → ((key : ℕ) → filter (λ row. nat_eq (link_key row) key) ends ≡ filter (λ row. nat_eq (link_key row) key) up)
+      → (taken tops : List ℕ) → taken ≡ rising (filter (λ id. is_some (kept.next (1, id))) ids) → tops ≡ rising (map (λ row. row.unit) up)
+      → Fits (struck tree ids) kept links ends taken tops
+  struck-found rows links rows_are by_unit up ends up_is by_top taken tops taken_are tops_are =
+      struck-fits links (λ key. by_unit key ∙ ap (filter (λ row. nat_eq (link_key row) key)) rows_are)
+      ends (λ key. by_top key ∙ ap (filter (λ row. nat_eq (link_key row) key)) up_is)
+      taken tops taken_are (tops_are ∙ ap (λ found. rising (map (λ (row : Link). row.unit) found)) up_is)
 
 -- numbers that fit 32 bits at each place
 pub fits-each : (xs : List ℕ) → ((i : ℕ) → get_or xs i 0 < 2 ^ 32) → AllByRecursion (λ x. x < 2 ^ 32) xs

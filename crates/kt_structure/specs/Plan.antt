@@ -1,11 +1,12 @@
 -- What a programme is made from: links between units, and terms.
-use Rattle.std.specs.Prelude.{◌≡◌, ℕ, zero, suc, ◌+◌, ◌*◌, ◌^◌, ◌<◌, ◌≤◌, nat_eq, List, [], ◌∷◌, ◌++◌, length, map, Option, None, Some, unwrap_or}
-use Rattle.std.specs.List.{AllByRecursion, filter, flat_map}
+use Rattle.std.specs.Prelude.{◌≡◌, ℕ, zero, suc, ◌+◌, ◌*◌, ◌^◌, ◌<◌, ◌≤◌, nat_eq, List, [], ◌∷◌, ◌++◌, length, map, Option, unwrap_or, option_map}
+use Rattle.std.specs.List.{AllByRecursion, filter, filter_map, flat_map}
 use Rattle.std.specs.Map.{lookup}
 use Rattle.std.specs.HashMap.{get}
 use Rattle.kt_rec.specs.declared.financial.FmPolicytc.{FmPolicytc}
 use Rattle.kt_rec.specs.declared.financial.FmProfile.{FmProfile}
 use Rattle.kt_keys.specs.Keys.{same_pair, same_triple}
+use Rattle.kt_keys.specs.Climbing.{climbed}
 use Rattle.kt_rules.specs.declared.profile.Profile.{Profile}
 use Rattle.kt_tree.specs.Programme.{terms_or_none, profile_with, with_id}
 use Rattle.kt_rec.specs.Rising.{rising}
@@ -15,15 +16,26 @@ use Rattle.kt_fmtree.specs.declared.node.Node.{Node}
 use Rattle.kt_structure.specs.declared.plan.Plan.{Plan}
 use Rattle.kt_structure.specs.declared.terms.Terms.{Terms}
 
--- the link of a unit of a level below to the unit that it reaches, where it reaches one, and those behind
-abbrev pub link_and : ℕ → ℕ → Option ℕ → (ℕ → List Link) → List Link
-link_and level child None rest = []
-link_and level child (Some unit) rest = record { level = level; unit = unit; child = child } ∷ rest unit
+-- the link of a child to a unit of a level
+abbrev pub link_to : ℕ → ℕ → ℕ → Link
+link_to level child unit = record { level = level; unit = unit; child = child }
 
--- the links from a unit up, over so many levels from a level on
-abbrev pub links_up : (ℕ × ℕ → Option ℕ) → ℕ → ℕ → ℕ → List Link
-links_up next zero level unit = []
-links_up next (suc levels) level unit = link_and level unit (next (level, unit)) (links_up next levels (level + 1))
+-- the link of an id to the unit that its losses come to over so many levels, where they come to one: its level is 0
+abbrev pub end_link : (ℕ × ℕ → Option ℕ) → ℕ → ℕ → Option Link
+end_link next levels id = option_map (link_to 0 id) (climbed next levels 1 id)
+
+-- that of an id one level up
+abbrev pub end_up : (ℕ × ℕ → Option ℕ) → ℕ → Link → Option Link
+end_up next level end = option_map (link_to 0 end.child) (next (level, end.unit))
+
+-- the link of the unit that an id's losses have come to, to the unit of the next level that they come to
+abbrev pub link_up : (ℕ × ℕ → Option ℕ) → ℕ → Link → Option Link
+link_up next level end = option_map (link_to level end.unit) (next (level, end.unit))
+
+-- the links of ids up to a level: one for each id that comes to a unit of a level
+abbrev pub links_up : (ℕ × ℕ → Option ℕ) → List ℕ → ℕ → List Link
+links_up next ids zero = []
+links_up next ids (suc level) = links_up next ids level ++ filter_map (link_up next (suc level)) (filter_map (end_link next level) ids)
 
 -- the key of a link: the level, and then the unit that losses come to
 abbrev pub link_key : Link → ℕ

@@ -2,13 +2,13 @@
 -- The rule: docs/FINANCIAL_MODULE.md, "Levels".
 use Rattle.std.specs.Prelude.{◌≡◌, ℕ, ◌≤◌, ◌<◌, ◌^◌, true, nat_eq, List, Option, None, Some, unwrap_or}
 use Rattle.std.specs.HashMap.{get}
-use Rattle.std.specs.List.{AllByRecursion, filter, list_any}
+use Rattle.std.specs.List.{AllByRecursion, list_any}
 use Rattle.kt_keys.specs.Keys.{same_pair}
 use Rattle.kt_keys.specs.Climbing.{climbed}
 use Rattle.kt_rules.specs.declared.profile.Profile.{Profile}
 use Rattle.kt_tree.specs.Programme.{or_first}
 use Rattle.kt_rec.specs.Rising.{IsRising}
-use Rattle.kt_tree.specs.Tree.{Tree, IsTree, beneath, is_unit}
+use Rattle.kt_tree.specs.Tree.{Tree, IsTree, beneath}
 use Rattle.kt_structure.specs.Plan.{found_terms, linked}
 use Rattle.kt_structure.specs.declared.links.Link.{Link}
 use Rattle.kt_structure.specs.declared.structure.Structure.{Structure}
@@ -54,8 +54,8 @@ pub record HasStructure (kept : Kept) : Type 0 where
   pub tree : Tree
   pub is : IsStructure tree kept
 
--- the links, the ids and the tops are those of a tree, of which the structure has all else
-pub record Fits (tree : Tree) (kept : Kept) (links : List Link) (ids tops : List ℕ) : Type 0 where
+-- the links between units and those of ids to tops, the ids and the tops are those of a tree, of which the structure has all else
+pub record Fits (tree : Tree) (kept : Kept) (links ends : List Link) (ids tops : List ℕ) : Type 0 where
   pub is : IsTree tree
   pub top_level_is : kept.top_level ≡ tree.top_level
   pub profiles_are : (level unit : ℕ) → kept.terms 1 level unit ≡ tree.profile level unit
@@ -68,9 +68,9 @@ pub record Fits (tree : Tree) (kept : Kept) (links : List Link) (ids tops : List
   pub ids_rise : IsRising ids
   pub tops_are : tops ≡ tree.tops
   pub tops_fit : AllByRecursion (λ top. top < 2 ^ 32) tops
-  pub beneath_are : (top : ℕ) → filter (λ id. is_unit top (climbed kept.next kept.top_level 1 id)) ids ≡ beneath tree top
+  pub beneath_are : (top : ℕ) → linked ends 0 top ≡ beneath tree top
 
 -- there is a tree whose they are
-pub record HasFit (kept : Kept) (links : List Link) (ids tops : List ℕ) : Type 0 where
+pub record HasFit (kept : Kept) (links ends : List Link) (ids tops : List ℕ) : Type 0 where
   pub tree : Tree
-  pub fits : Fits tree kept links ids tops
+  pub fits : Fits tree kept links ends ids tops

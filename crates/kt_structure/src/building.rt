@@ -9,7 +9,7 @@ ghost use Rattle.kt_fmtree.specs.Parts.{IsProgramme};
 ghost use Rattle.kt_structure.specs.Plan.{build_levels, build_leaves};
 ghost use Rattle.kt_structure.specs.Structure.{Fits, HasFit, HasStructure, IsStructure, kept_by};
 
-use crate::links::{Link, links_up};
+use crate::links::{Link, by_key, climb};
 use crate::outline::{beneath, layers, reached, taken, terms};
 use crate::plan::Plan;
 use crate::structure::Structure;
@@ -46,21 +46,22 @@ fn levels_of(
 }
 
 impl Structure {
-    /// The programme of these links, ids and tops, with the rest from the structure.
+    /// The programme of these links between units and of ids to tops, with these ids and tops, and the rest from the structure.
     fn made(
         &self,
         alloc: Global,
         links: &ByKey<Link>,
+        ends: &ByKey<Link>,
         ids: Vec<u32>,
         tops: Vec<u32>,
     ) -> Result<Programme, AllocError>
-        requires fit { HasFit (kept_by self.now) links.now ids.items tops.items }
-        ensures value { IfOk result (λ made. (tree : Tree) → Fits tree (kept_by self.now) links.now ids.items tops.items → IsProgramme tree made) }
+        requires fit { HasFit (kept_by self.now) links.now ends.now ids.items tops.items }
+        ensures value { IfOk result (λ made. (tree : Tree) → Fits tree (kept_by self.now) links.now ends.now ids.items tops.items → IsProgramme tree made) }
     {
         let top = self.top_level;
         let layers = layers(alloc, &self.layers, top, &tops)?;
         let terms = terms(alloc, &self.terms, top, &tops, &layers)?;
-        let beneath = beneath(alloc, &self.next, top, &ids, &tops)?;
+        let beneath = beneath(alloc, ends, &tops)?;
         let plan = Plan::new(links, &self.terms, &self.tivs);
         let (levels, leaves) = levels_of(alloc, &plan, top, &tops, &ids)?;
         let made = Programme::new(ids, leaves, levels, tops, layers, terms, beneath);
@@ -72,10 +73,12 @@ impl Structure {
         requires structure { HasStructure (kept_by self.now) }
         ensures value { IfOk result (λ made. (tree : Tree) → IsStructure tree (kept_by self.now) → IsProgramme (struck tree ids.now) made) }
     {
-        let links = links_up(alloc, &self.next, self.top_level, ids)?;
+        let (rows, ends) = climb(alloc, &self.next, self.top_level, ids)?;
         let taken = taken(alloc, &self.next, ids)?;
-        let reached = reached(alloc, &self.next, self.top_level, ids)?;
-        let made = self.made(alloc, &links, taken, reached)?;
+        let reached = reached(alloc, &ends)?;
+        let links = by_key(rows)?;
+        let by_top = by_key(ends)?;
+        let made = self.made(alloc, &links, &by_top, taken, reached)?;
         Ok(made)
     }
 }

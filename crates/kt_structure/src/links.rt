@@ -1,15 +1,14 @@
 //! The units whose losses come to a unit.
 //! The rule: docs/FINANCIAL_MODULE.md, "Levels".
-ghost use Rattle.std.specs.Prelude.{◌≡◌, ◌+◌, ◌++◌, ◌*◌, ◌^◌, ℕ, nat_eq, map, IfOk, OnOk};
+ghost use Rattle.std.specs.Prelude.{◌≡◌, ◌+◌, ◌++◌, ◌*◌, ◌^◌, ℕ, [], nat_eq, map, IfOk, OnOk};
 ghost use Rattle.std.specs.HashMap.{get};
-ghost use Rattle.std.specs.List.{filter, flat_map};
+ghost use Rattle.std.specs.List.{cons_option, filter, filter_map};
 ghost use Rattle.kt_keys.specs.Keys.{same_pair};
 ghost use Rattle.kt_rec.specs.Rising.{rising};
-ghost use Rattle.kt_structure.specs.Plan.{link_key, links_up};
+ghost use Rattle.kt_structure.specs.Plan.{end_link, end_up, link_key, link_to, link_up, links_up};
 
 use kt_fmtree::rising;
 use kt_index::{ByKey, Keyed, pair_key};
-use kt_rec::FmProgramme;
 use std::alloc::{AllocError, Global};
 use std::collections::HashMap;
 
@@ -31,59 +30,90 @@ impl Keyed for Link {
     }
 }
 
-/// Puts the links from an id up to its top behind others.
-fn push_links(
-    next: &HashMap<(u32, u32), u32>,
-    top: u32,
-    id: u32,
-    links: &mut Vec<Link>,
-) -> Result<(), AllocError>
-    ensures ok { OnOk result (links.new.items ≡ links.old.items ++ links_up (get same_pair next.now) top 1 id) }
+/// The links of ids to themselves, from which they climb.
+fn own_links(alloc: Global, ids: &[u32]) -> Result<Vec<Link>, AllocError>
+    ensures value { IfOk result (λ ends. ends.items ≡ map (λ id. link_to 0 id id) ids.now) }
 {
-    let mut unit = id;
-    for below in 0..top {
-        match next.get(&(below + 1, unit)) {
-            None => return Ok(()),
-            Some(reached) => {
-                links.push(Link {
-                    level: below + 1,
-                    unit: *reached,
-                    child: unit,
-                })?;
-                unit = *reached;
-            }
+    ids.iter()
+        .map(|id| Link {
+            level: 0,
+            unit: *id,
+            child: *id,
+        })
+        .collect(alloc)
+}
+
+/// Puts the link of an id one level up behind others, and that of the unit between behind the links between units.
+fn push_up(
+    next: &HashMap<(u32, u32), u32>,
+    level: u32,
+    end: Link,
+    links: &mut Vec<Link>,
+    ends: &mut Vec<Link>,
+) -> Result<(), AllocError>
+    ensures links { OnOk result (links.new.items ≡ links.old.items ++ cons_option (link_up (get same_pair next.now) level end) []) }
+    ensures ends { OnOk result (ends.new.items ≡ ends.old.items ++ cons_option (end_up (get same_pair next.now) level end) []) }
+{
+    match next.get(&(level, end.unit)) {
+        None => Ok(()),
+        Some(unit) => {
+            links.push(Link {
+                level,
+                unit: *unit,
+                child: end.unit,
+            })?;
+            ends.push(Link {
+                level: 0,
+                unit: *unit,
+                child: end.child,
+            })?;
+            Ok(())
         }
     }
-    Ok(())
 }
 
-/// The links from ids up to their tops.
-fn rows_up(
+/// The links of ids one level up; those of the units between are put behind others.
+fn ends_up(
     alloc: Global,
     next: &HashMap<(u32, u32), u32>,
-    top: u32,
-    ids: &[u32],
+    level: u32,
+    ends: &[Link],
+    links: &mut Vec<Link>,
 ) -> Result<Vec<Link>, AllocError>
-    ensures value { IfOk result (λ rows. rows.items ≡ flat_map (links_up (get same_pair next.now) top 1) ids.now) }
+    ensures links { OnOk result (links.new.items ≡ links.old.items ++ filter_map (link_up (get same_pair next.now) level) ends.now) }
+    ensures value { IfOk result (λ higher. higher.items ≡ filter_map (end_up (get same_pair next.now) level) ends.now) }
 {
-    let mut rows = Vec::new(alloc);
-    for id in ids {
-        push_links(next, top, *id, &mut rows)?;
+    let mut higher = Vec::with_capacity(alloc, ends.len())?;
+    for end in ends {
+        push_up(next, level, *end, links, &mut higher)?;
     }
-    Ok(rows)
+    Ok(higher)
 }
 
-/// The links from ids up to their tops, by the units that losses come to.
-pub(crate) fn links_up(
+/// The links from ids up to their tops, level by level, and the links of the ids to the tops.
+pub(crate) fn climb(
     alloc: Global,
     next: &HashMap<(u32, u32), u32>,
     top: u32,
     ids: &[u32],
-) -> Result<ByKey<Link>, AllocError>
-    ensures kept { IfOk result (λ links. (key : ℕ) → filter (λ row. nat_eq (link_key row) key) links ≡ filter (λ row. nat_eq (link_key row) key) (flat_map (links_up (get same_pair next.now) top 1) ids.now)) }
+) -> Result<(Vec<Link>, Vec<Link>), AllocError>
+    ensures links { IfOk result (λ made. made.0.items ≡ links_up (get same_pair next.now) ids.now top) }
+    ensures ends { IfOk result (λ made. made.1.items ≡ filter_map (end_link (get same_pair next.now) top) ids.now) }
 {
-    let rows = rows_up(alloc, next, top, ids)?;
-    ByKey::new(alloc, &rows)
+    let mut links = Vec::with_capacity(alloc, ids.len().saturating_mul(top as usize))?;
+    let mut ends = own_links(alloc, ids)?;
+    for below in 0..top {
+        let higher = ends_up(alloc, next, below + 1, &ends, &mut links)?;
+        ends = higher;
+    }
+    Ok((links, ends))
+}
+
+/// Links by the units of levels that they lead to.
+pub(crate) fn by_key(rows: Vec<Link>) -> Result<ByKey<Link>, AllocError>
+    ensures kept { IfOk result (λ links. (key : ℕ) → filter (λ row. nat_eq (link_key row) key) links ≡ filter (λ row. nat_eq (link_key row) key) rows.items) }
+{
+    ByKey::of_rows(rows)
 }
 
 /// The units of links.

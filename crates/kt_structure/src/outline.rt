@@ -1,18 +1,15 @@
 //! The tops of a programme, their layers, and the ids beneath them.
 //! The rule: docs/FINANCIAL_MODULE.md, "Levels".
-ghost use Rattle.std.specs.Prelude.{◌≡◌, ℕ, nat_eq, List, length, map, option_map, is_some, IfOk};
-ghost use Rattle.std.specs.List.{filter, filter_map};
+ghost use Rattle.std.specs.Prelude.{◌≡◌, ℕ, nat_eq, List, length, map, is_some, IfOk};
+ghost use Rattle.std.specs.List.{filter};
 ghost use Rattle.std.specs.HashMap.{get};
-ghost use Rattle.kt_keys.specs.Climbing.{climbed};
 ghost use Rattle.kt_keys.specs.Keys.{same_pair};
 ghost use Rattle.kt_tree.specs.Programme.{or_first};
 ghost use Rattle.kt_structure.specs.Plan.{found_terms, layer_link, link_key, linked};
-ghost use Rattle.kt_rec.specs.Rising.{rising, IsRising};
-ghost use Rattle.kt_tree.specs.Tree.{is_unit};
+ghost use Rattle.kt_rec.specs.Rising.{rising};
 
-use crate::links::{Link, children};
+use crate::links::{Link, by_key, children};
 use crate::terms::Terms;
-use kt_checks::climbed;
 use kt_fmtree::rising;
 use kt_index::ByKey;
 use kt_rec::FmPolicytc;
@@ -54,32 +51,20 @@ pub(crate) fn taken(
     Ok(taken)
 }
 
-/// The tops that the losses of ids come to, one for each id that has one.
-fn tops_up(
-    alloc: Global,
-    next: &HashMap<(u32, u32), u32>,
-    level: u32,
-    ids: &[u32],
-) -> Result<Vec<u32>, AllocError>
-    ensures value { IfOk result (λ tops. tops.items ≡ filter_map (climbed (get same_pair next.now) level 1) ids.now) }
+/// The units that links lead to.
+fn units_of(alloc: Global, links: &[Link]) -> Result<Vec<u32>, AllocError>
+    ensures value { IfOk result (λ units. units.items ≡ map (λ row. row.unit) links.now) }
 {
-    ids.iter()
-        .filter_map(|id| climbed(next, level, *id))
-        .collect(alloc)
+    links.iter().map(|link| link.unit).collect(alloc)
 }
 
-/// The tops that the losses of ids come to, rising.
-pub(crate) fn reached(
-    alloc: Global,
-    next: &HashMap<(u32, u32), u32>,
-    level: u32,
-    ids: &[u32],
-) -> Result<Vec<u32>, AllocError>
-    ensures value { IfOk result (λ tops. tops.items ≡ rising (filter_map (climbed (get same_pair next.now) level 1) ids.now)) }
+/// The units that links lead to, rising.
+pub(crate) fn reached(alloc: Global, links: &[Link]) -> Result<Vec<u32>, AllocError>
+    ensures value { IfOk result (λ units. units.items ≡ rising (map (λ row. row.unit) links.now)) }
 {
-    let tops = tops_up(alloc, next, level, ids)?;
-    let tops = rising(tops)?;
-    Ok(tops)
+    let units = units_of(alloc, links)?;
+    let units = rising(units)?;
+    Ok(units)
 }
 
 /// The link of a layer to its unit.
@@ -105,7 +90,7 @@ pub(crate) fn layer_links(alloc: Global, policytc: &[FmPolicytc]) -> Result<ByKe
     ensures kept { IfOk result (λ links. (key : ℕ) → filter (λ row. nat_eq (link_key row) key) links ≡ filter (λ row. nat_eq (link_key row) key) (map layer_link policytc.now)) }
 {
     let rows = layer_rows(alloc, policytc)?;
-    ByKey::new(alloc, &rows)
+    by_key(rows)
 }
 
 /// The layers of a unit of a level, rising; layer 1 where it has none.
@@ -175,68 +160,17 @@ pub(crate) fn terms(
     Ok(rows)
 }
 
-/// The link of an id to the top that its losses come to.
-fn top_link(next: &HashMap<(u32, u32), u32>, level: u32, id: u32) -> Option<Link>
-    ensures value { result ≡ option_map (λ top. record { level = 0; unit = top; child = id }) (climbed (get same_pair next.now) level 1 id) }
-{
-    let unit = climbed(next, level, id)?;
-    Some(Link {
-        level: 0,
-        unit,
-        child: id,
-    })
-}
-
-/// The links of ids to the tops that their losses come to.
-fn top_rows(
+/// The ids, rising, beneath each top, by links of ids to tops.
+pub(crate) fn beneath(
     alloc: Global,
-    next: &HashMap<(u32, u32), u32>,
-    level: u32,
-    ids: &[u32],
-) -> Result<Vec<Link>, AllocError>
-    ensures value { IfOk result (λ links. links.items ≡ filter_map (λ id. option_map (λ top. record { level = 0; unit = top; child = id }) (climbed (get same_pair next.now) level 1 id)) ids.now) }
-{
-    ids.iter()
-        .filter_map(|id| top_link(next, level, *id))
-        .collect(alloc)
-}
-
-/// The links of ids to the tops that their losses come to, by the tops.
-fn top_links(
-    alloc: Global,
-    next: &HashMap<(u32, u32), u32>,
-    level: u32,
-    ids: &[u32],
-) -> Result<ByKey<Link>, AllocError>
-    ensures kept { IfOk result (λ links. (key : ℕ) → filter (λ row. nat_eq (link_key row) key) links ≡ filter (λ row. nat_eq (link_key row) key) (filter_map (λ id. option_map (λ top. record { level = 0; unit = top; child = id }) (climbed (get same_pair next.now) level 1 id)) ids.now)) }
-{
-    let rows = top_rows(alloc, next, level, ids)?;
-    ByKey::new(alloc, &rows)
-}
-
-/// The ids beneath each top, by links of ids to tops.
-fn linked_ids(alloc: Global, links: &ByKey<Link>, tops: &[u32]) -> Result<Vec<Vec<u32>>, AllocError>
-    ensures value { IfOk result (λ rows. map (λ row. row.items) rows.items ≡ map (λ top. linked links.now 0 top) tops.now) }
+    ends: &ByKey<Link>,
+    tops: &[u32],
+) -> Result<Vec<Vec<u32>>, AllocError>
+    ensures value { IfOk result (λ rows. map (λ row. row.items) rows.items ≡ map (λ top. linked ends.now 0 top) tops.now) }
 {
     let mut rows = Vec::with_capacity(alloc, tops.len())?;
     for top in tops {
-        rows.push(children(alloc, links, 0, *top)?)?;
+        rows.push(children(alloc, ends, 0, *top)?)?;
     }
-    Ok(rows)
-}
-
-/// The ids, rising, beneath each top.
-pub(crate) fn beneath(
-    alloc: Global,
-    next: &HashMap<(u32, u32), u32>,
-    level: u32,
-    ids: &[u32],
-    tops: &[u32],
-) -> Result<Vec<Vec<u32>>, AllocError>
-    requires rising { IsRising ids.now }
-    ensures value { IfOk result (λ rows. map (λ row. row.items) rows.items ≡ map (λ top. filter (λ id. is_unit top (climbed (get same_pair next.now) level 1 id)) ids.now) tops.now) }
-{
-    let links = top_links(alloc, next, level, ids)?;
-    let rows = linked_ids(alloc, &links, tops)?;
     Ok(rows)
 }

@@ -1,11 +1,8 @@
-use Rattle.std.proofs.Common.{◌∙◌}
-use Rattle.std.specs.HashMap.{get}
-use Rattle.kt_keys.specs.Keys.{same_pair}
-use Rattle.kt_keys.specs.Climbing.{climbed}
-use Rattle.kt_structure.proofs.AssemblyLemmas.{all-beneath}
+use Rattle.std.proofs.Common.{Vec, Global, ℕ}
+use Rattle.kt_fmtree.specs.LoopLaws.{seen-goes}
+use Rattle.kt_structure.specs.Plan.{linked}
 use Rattle.kt_structure.proofs.outline.beneath.Goals as goal
 
-pub returns : goal.returns
-returns c = record {
-  value = c.in_ok-rows.ensures.value ∙ all-beneath (climbed (get same_pair c.args.next.now) c.args.level 1) c.in_ok-links.links c.args.ids.now c.args.tops.now c.requires.rising c.in_ok-links.ensures.kept;
-}
+pub loop-top-preserved : goal.loop-top-preserved
+loop-top-preserved c =
+    seen-goes (λ (row : Vec ℕ Global). row.items) (linked c.args.ends.now 0) c.args.tops.now c.loop-top.top-index 0 c.loop-top.rows.items _ c.in_ok-children.field-0 c.loop-top-test.true c.loop-top.invariant c.in_ok-push.ensures.items c.in_ok-children.ensures.value
