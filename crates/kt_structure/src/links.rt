@@ -1,14 +1,14 @@
 //! The units whose losses come to a unit.
 //! The rule: docs/FINANCIAL_MODULE.md, "Levels".
-ghost use Rattle.std.specs.Prelude.{◌≡◌, ◌+◌, ◌++◌, ◌*◌, ◌^◌, ℕ, [], nat_eq, map, IfOk, OnOk};
+ghost use Rattle.std.specs.Prelude.{◌≡◌, ◌+◌, ◌++◌, ◌*◌, ◌^◌, ℕ, true, [], nat_eq, length, map, take, IfOk, OnOk};
 ghost use Rattle.std.specs.HashMap.{get};
 ghost use Rattle.std.specs.List.{cons_option, filter, filter_map};
 ghost use Rattle.kt_keys.specs.Keys.{same_pair};
 ghost use Rattle.kt_rec.specs.Rising.{rising};
-ghost use Rattle.kt_structure.specs.Plan.{end_link, end_up, link_key, link_to, link_up, links_up};
+ghost use Rattle.kt_structure.specs.Plan.{end_link, end_up, link_key, link_to, link_up, linked, links_up};
 
 use kt_fmtree::rising;
-use kt_index::{ByKey, Keyed, pair_key};
+use kt_index::{ByKey, Keyed, pair_key, rows_near};
 use std::alloc::{AllocError, Global};
 use std::collections::HashMap;
 
@@ -116,24 +116,88 @@ pub(crate) fn by_key(rows: Vec<Link>) -> Result<ByKey<Link>, AllocError>
     ByKey::of_rows(rows)
 }
 
-/// The units of links.
+/// The links to a unit of a level. They are looked for first at a place, which is then that behind them: there those to the next
+/// unit stand.
+fn links_to<'a>(links: &'a ByKey<Link>, level: u32, unit: u32, near: &mut usize) -> &'a [Link]
+    ensures value { result.now ≡ filter (λ row. nat_eq (link_key row) (level * 2 ^ 32 + unit)) links.now }
+{
+    let found = rows_near(links.as_slice(), pair_key(level, unit), near);
+    *near = near.saturating_add(found.len());
+    found
+}
+
+/// The children of links.
 fn children_of(alloc: Global, links: &[Link]) -> Result<Vec<u32>, AllocError>
     ensures value { IfOk result (λ ids. ids.items ≡ map (λ row. row.child) links.now) }
 {
     links.iter().map(|link| link.child).collect(alloc)
 }
 
-/// The units whose losses come to a unit of a level, rising.
+/// Puts the children of links behind others, each once, as far as they rise; whether all do.
+fn push_while_rising(links: &[Link], below: &mut Vec<u32>) -> Result<bool, AllocError>
+    ensures all { IfOk result (λ all. all ≡ true → below.new.items ≡ below.old.items ++ rising (map (λ row. row.child) links.now)) }
+    ensures behind { OnOk result (take (length below.old.items) below.new.items ≡ below.old.items) }
+{
+    // No child so far is as great as this, and one is the number before it.
+    let mut floor: u64 = 0;
+    for link in links {
+        let child = u64::from(link.child);
+        if child + 1 < floor {
+            return Ok(false);
+        }
+        if floor <= child {
+            below.push(link.child)?;
+            floor = child + 1;
+        }
+    }
+    Ok(true)
+}
+
+/// Puts the children of links, rising, behind others.
+fn push_children(alloc: Global, links: &[Link], below: &mut Vec<u32>) -> Result<(), AllocError>
+    ensures ok { OnOk result (below.new.items ≡ below.old.items ++ rising (map (λ row. row.child) links.now)) }
+{
+    let before = below.len();
+    if push_while_rising(links, below)? {
+        return Ok(());
+    }
+    below.truncate(before);
+    let ids = rising(children_of(alloc, links)?)?;
+    below.extend_from_slice(&ids)?;
+    Ok(())
+}
+
+/// Puts the units whose losses come to a unit of a level, rising, behind others, and tells how many they are. Their links are
+/// looked for first at a place, which is then that behind them.
+pub(crate) fn push_linked(
+    alloc: Global,
+    links: &ByKey<Link>,
+    level: u32,
+    unit: u32,
+    near: &mut usize,
+    below: &mut Vec<u32>,
+) -> Result<usize, AllocError>
+    ensures ok { OnOk result (below.new.items ≡ below.old.items ++ linked links.now level unit) }
+    ensures count { IfOk result (λ count. count ≡ length (linked links.now level unit)) }
+{
+    let before = below.len();
+    push_children(alloc, links_to(links, level, unit, near), below)?;
+    Ok(below.len() - before)
+}
+
+/// The units whose losses come to a unit of a level, rising. Their links are looked for first at a place, which is then that behind
+/// them.
 pub(crate) fn children(
     alloc: Global,
     links: &ByKey<Link>,
     level: u32,
     unit: u32,
+    near: &mut usize,
 ) -> Result<Vec<u32>, AllocError>
-    ensures value { IfOk result (λ ids. ids.items ≡ rising (map (λ row. row.child) (filter (λ row. nat_eq (link_key row) (level * 2 ^ 32 + unit)) links.now))) }
+    ensures value { IfOk result (λ ids. ids.items ≡ linked links.now level unit) }
 {
-    let found = links.of(pair_key(level, unit));
-    let ids = children_of(alloc, found)?;
-    let ids = rising(ids)?;
+    let found = links_to(links, level, unit, near);
+    let mut ids = Vec::with_capacity(alloc, found.len())?;
+    push_children(alloc, found, &mut ids)?;
     Ok(ids)
 }

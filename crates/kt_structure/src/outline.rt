@@ -93,16 +93,18 @@ pub(crate) fn layer_links(alloc: Global, policytc: &[FmPolicytc]) -> Result<ByKe
     by_key(rows)
 }
 
-/// The layers of a unit of a level, rising; layer 1 where it has none.
+/// The layers of a unit of a level, rising; layer 1 where it has none. Their links are looked for first at a place, which is then
+/// that behind them.
 fn layers_of(
     alloc: Global,
     links: &ByKey<Link>,
     level: u32,
     unit: u32,
+    near: &mut usize,
 ) -> Result<Vec<u32>, AllocError>
     ensures value { IfOk result (λ layers. layers.items ≡ or_first (linked links.now level unit)) }
 {
-    let mut layers = children(alloc, links, level, unit)?;
+    let mut layers = children(alloc, links, level, unit, near)?;
     if layers.is_empty() {
         layers.push(1)?;
     }
@@ -119,8 +121,9 @@ pub(crate) fn layers(
     ensures value { IfOk result (λ rows. map (λ layers. layers.items) rows.items ≡ map (λ top. or_first (linked links.now level top)) tops.now) }
 {
     let mut rows = Vec::with_capacity(alloc, tops.len())?;
+    let mut near = 0;
     for top in tops {
-        rows.push(layers_of(alloc, links, level, *top)?)?;
+        rows.push(layers_of(alloc, links, level, *top, &mut near)?)?;
     }
     Ok(rows)
 }
@@ -169,8 +172,9 @@ pub(crate) fn beneath(
     ensures value { IfOk result (λ rows. map (λ row. row.items) rows.items ≡ map (λ top. linked ends.now 0 top) tops.now) }
 {
     let mut rows = Vec::with_capacity(alloc, tops.len())?;
+    let mut near = 0;
     for top in tops {
-        rows.push(children(alloc, ends, 0, *top)?)?;
+        rows.push(children(alloc, ends, 0, *top, &mut near)?)?;
     }
     Ok(rows)
 }

@@ -4,7 +4,7 @@ ghost use Rattle.std.specs.Prelude.{◌≡◌, ◌+◌, ◌<◌, ◌++◌, ◌�
 ghost use Rattle.std.specs.List.{flat_map};
 ghost use Rattle.kt_structure.specs.Plan.{found_tiv, kids, new_node, nodes_from, build_levels, build_leaves};
 
-use crate::links::{Link, children};
+use crate::links::{Link, push_linked};
 use crate::terms::Terms;
 use kt_fmtree::Node;
 use kt_index::ByKey;
@@ -40,13 +40,6 @@ impl<'a> Plan<'a> {
         self.tivs.get(&(level, unit)).copied().unwrap_or(0)
     }
 
-    /// The units whose losses come to a unit of a level, rising.
-    fn kids(&self, alloc: Global, level: u32, unit: u32) -> Result<Vec<u32>, AllocError>
-        ensures value { IfOk result (λ ids. ids.items ≡ kids self.now level unit) }
-    {
-        children(alloc, self.links, level, unit)
-    }
-
     /// A unit of a level, with so many children from a place on.
     fn node(&self, level: u32, unit: u32, start: usize, width: usize) -> Node
         ensures value { result ≡ new_node self.now level unit start width }
@@ -60,21 +53,23 @@ impl<'a> Plan<'a> {
         }
     }
 
-    /// Adds a unit of a level behind others, and its children behind theirs.
+    /// Adds a unit of a level behind others, and its children behind theirs. The children are looked for first at a place, which is
+    /// then that behind them.
     fn push_unit(
         &self,
         alloc: Global,
         level: u32,
         unit: u32,
+        near: &mut usize,
         nodes: &mut Vec<Node>,
         below: &mut Vec<u32>,
     ) -> Result<(), AllocError>
         ensures nodes { OnOk result (nodes.new.items ≡ nodes.old.items ++ new_node self.now level unit (length below.old.items) (length (kids self.now level unit)) ∷ []) }
         ensures below { OnOk result (below.new.items ≡ below.old.items ++ kids self.now level unit) }
     {
-        let kids = self.kids(alloc, level, unit)?;
-        nodes.push(self.node(level, unit, below.len(), kids.len()))?;
-        below.extend_from_slice(&kids)?;
+        let start = below.len();
+        let width = push_linked(alloc, self.links, level, unit, near, below)?;
+        nodes.push(self.node(level, unit, start, width))?;
         Ok(())
     }
 
@@ -89,9 +84,10 @@ impl<'a> Plan<'a> {
         ensures below { IfOk result (λ made. made.1.items ≡ flat_map (kids self.now level) units.now) }
     {
         let mut nodes = Vec::with_capacity(alloc, units.len())?;
-        let mut below = Vec::new(alloc);
+        let mut below = Vec::with_capacity(alloc, units.len())?;
+        let mut near = 0;
         for unit in units {
-            self.push_unit(alloc, level, *unit, &mut nodes, &mut below)?;
+            self.push_unit(alloc, level, *unit, &mut near, &mut nodes, &mut below)?;
         }
         Ok((nodes, below))
     }
