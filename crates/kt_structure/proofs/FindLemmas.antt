@@ -82,7 +82,7 @@ each-filter {X = X} P take_of test (row ∷ rows) all = by (test row) (each-filt
 -- the terms that are found are those of the tables
 pub terms-found : (policytc : List FmPolicytc) (profiles : List FmProfile) (terms : Terms) → AreTerms policytc profiles terms → (layer level unit : ℕ) → found_terms terms layer level unit ≡ terms_in policytc profiles layer level unit
 terms-found policytc profiles terms are layer level unit =
-    ap (λ found. terms_or_none (with_id found (get nat_eq terms.by_id))) (are.units (layer, level, unit))
+    ap (λ found. terms_or_none (with_id found (get nat_eq terms.by_id))) (are.units layer level unit)
     ∙ by (lookup (same_triple (layer, level, unit)) (map (λ row. ((row.layer_id, row.level_id, row.agg_id), row.policytc_id)) policytc))
   where
     by : (found : Option ℕ) → terms_or_none (with_id found (get nat_eq terms.by_id)) ≡ terms_or_none (with_id found (profile_with profiles))

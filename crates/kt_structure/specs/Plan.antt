@@ -1,16 +1,17 @@
 -- What a programme is made from: links between units, and terms.
-use Rattle.std.specs.Prelude.{◌≡◌, ℕ, zero, suc, ◌+◌, ◌*◌, ◌^◌, ◌<◌, ◌≤◌, nat_eq, List, [], ◌∷◌, ◌++◌, length, map, Option, unwrap_or, option_map}
+use Rattle.std.specs.Prelude.{◌≡◌, ℕ, zero, suc, ◌+◌, ◌*◌, ◌^◌, ◌<◌, ◌≤◌, cond, nat_eq, List, [], ◌∷◌, ◌++◌, length, map, Option, unwrap_or, option_map}
 use Rattle.std.specs.List.{AllByRecursion, filter, filter_map, flat_map}
 use Rattle.std.specs.Map.{lookup}
 use Rattle.std.specs.HashMap.{get}
 use Rattle.kt_rec.specs.declared.financial.FmPolicytc.{FmPolicytc}
 use Rattle.kt_rec.specs.declared.financial.FmProfile.{FmProfile}
-use Rattle.kt_keys.specs.Keys.{same_pair, same_triple}
+use Rattle.kt_keys.specs.Keys.{same_triple}
 use Rattle.kt_keys.specs.Climbing.{climbed}
 use Rattle.kt_rules.specs.declared.profile.Profile.{Profile}
 use Rattle.kt_tree.specs.Programme.{terms_or_none, profile_with, with_id}
 use Rattle.kt_rec.specs.Rising.{rising}
 use Rattle.kt_tree.specs.Tree.{Tree, IsTree}
+use Rattle.kt_structure.specs.UnitTable.{value_of}
 use Rattle.kt_structure.specs.declared.links.Link.{Link}
 use Rattle.kt_fmtree.specs.declared.node.Node.{Node}
 use Rattle.kt_structure.specs.declared.plan.Plan.{Plan}
@@ -49,20 +50,32 @@ layer_link row = record { level = row.level_id; unit = row.agg_id; child = row.l
 abbrev pub linked : List Link → ℕ → ℕ → List ℕ
 linked links level unit = rising (map (λ row. row.child) (filter (λ row. nat_eq (link_key row) (level * 2 ^ 32 + unit)) links))
 
+-- the profile of a row for its unit, by level and unit
+abbrev pub first_pair : FmPolicytc → (ℕ × ℕ) × ℕ
+first_pair row = ((row.level_id, row.agg_id), row.policytc_id)
+
+-- and by layer, level and unit
+abbrev pub unit_pair : FmPolicytc → (ℕ × ℕ × ℕ) × ℕ
+unit_pair row = ((row.layer_id, row.level_id, row.agg_id), row.policytc_id)
+
+-- the profile of a layer of a unit of a level, where it has one
+abbrev pub found_id : Terms → ℕ → ℕ → ℕ → Option ℕ
+found_id terms layer level unit = cond (nat_eq layer 1) (value_of terms.first (level, unit)) (get same_triple terms.others (layer, level, unit))
+
 -- the terms are those of the tables
 pub record AreTerms (policytc : List FmPolicytc) (profiles : List FmProfile) (terms : Terms) : Type 0 where
-  pub units : (key : ℕ × ℕ × ℕ) → get same_triple terms.by_unit key ≡ lookup (same_triple key) (map (λ row. ((row.layer_id, row.level_id, row.agg_id), row.policytc_id)) policytc)
+  pub units : (layer level unit : ℕ) → found_id terms layer level unit ≡ lookup (same_triple (layer, level, unit)) (map unit_pair policytc)
   pub ids : (id : ℕ) → get nat_eq terms.by_id id ≡ profile_with profiles id
 
 -- the terms of a layer of a unit of a level
 abbrev pub found_terms : Terms → ℕ → ℕ → ℕ → Profile
-found_terms terms layer level unit = terms_or_none (with_id (get same_triple terms.by_unit (layer, level, unit)) (get nat_eq terms.by_id))
+found_terms terms layer level unit = terms_or_none (with_id (found_id terms layer level unit) (get nat_eq terms.by_id))
 
 -- ---- levels
 
 -- what the distinct coverages beneath a unit of a level are worth, as it was found
 abbrev pub found_tiv : Plan → ℕ → ℕ → ℕ
-found_tiv plan level unit = unwrap_or (get same_pair plan.tivs.now (level, unit)) 0
+found_tiv plan level unit = unwrap_or (value_of plan.tivs.now (level, unit)) 0
 
 -- the units whose losses come to a unit of a level, as they were found
 abbrev pub kids : Plan → ℕ → ℕ → List ℕ

@@ -1,15 +1,14 @@
 -- The structure of a programme, and the tree whose it is.
 -- The rule: docs/FINANCIAL_MODULE.md, "Levels".
 use Rattle.std.specs.Prelude.{◌≡◌, ℕ, ◌≤◌, ◌<◌, ◌^◌, true, nat_eq, List, Option, None, Some, unwrap_or}
-use Rattle.std.specs.HashMap.{get}
 use Rattle.std.specs.List.{AllByRecursion, list_any}
-use Rattle.kt_keys.specs.Keys.{same_pair}
 use Rattle.kt_keys.specs.Climbing.{climbed}
 use Rattle.kt_rules.specs.declared.profile.Profile.{Profile}
 use Rattle.kt_tree.specs.Programme.{or_first}
 use Rattle.kt_rec.specs.Rising.{IsRising}
 use Rattle.kt_tree.specs.Tree.{Tree, IsTree, beneath}
 use Rattle.kt_structure.specs.Plan.{found_terms, linked}
+use Rattle.kt_structure.specs.UnitTable.{value_of}
 use Rattle.kt_structure.specs.declared.links.Link.{Link}
 use Rattle.kt_structure.specs.declared.structure.Structure.{Structure}
 
@@ -26,9 +25,9 @@ pub record Kept : Type 0 where
 abbrev pub kept_by : Structure → Kept
 kept_by kept = record {
   top_level = kept.top_level;
-  next = get same_pair kept.next;
+  next = value_of kept.next;
   terms = found_terms kept.terms;
-  tiv = λ level unit. unwrap_or (get same_pair kept.tivs (level, unit)) 0;
+  tiv = λ level unit. unwrap_or (value_of kept.tivs (level, unit)) 0;
   layers = λ top. or_first (linked kept.layers kept.top_level top);
 }
 

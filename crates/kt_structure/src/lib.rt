@@ -9,6 +9,7 @@ mod outline;
 mod plan;
 mod shared;
 mod structure;
+mod table;
 mod terms;
 
 pub use structure::Structure;

@@ -1,16 +1,15 @@
 //! The units whose losses come to a unit.
 //! The rule: docs/FINANCIAL_MODULE.md, "Levels".
 ghost use Rattle.std.specs.Prelude.{◌≡◌, ◌+◌, ◌++◌, ◌*◌, ◌^◌, ℕ, true, [], nat_eq, length, map, take, IfOk, OnOk};
-ghost use Rattle.std.specs.HashMap.{get};
 ghost use Rattle.std.specs.List.{cons_option, filter, filter_map};
-ghost use Rattle.kt_keys.specs.Keys.{same_pair};
 ghost use Rattle.kt_rec.specs.Rising.{rising};
 ghost use Rattle.kt_structure.specs.Plan.{end_link, end_up, link_key, link_to, link_up, linked, links_up};
+ghost use Rattle.kt_structure.specs.UnitTable.{value_of};
 
+use crate::table::UnitTable;
 use kt_fmtree::rising;
 use kt_index::{ByKey, Keyed, pair_key, rows_near};
 use std::alloc::{AllocError, Global};
-use std::collections::HashMap;
 
 /// The losses of a unit come to a unit of a level.
 #[derive(Clone, Copy, Drop)]
@@ -45,26 +44,26 @@ fn own_links(alloc: Global, ids: &[u32]) -> Result<Vec<Link>, AllocError>
 
 /// Puts the link of an id one level up behind others, and that of the unit between behind the links between units.
 fn push_up(
-    next: &HashMap<(u32, u32), u32>,
+    next: &UnitTable<u32>,
     level: u32,
     end: Link,
     links: &mut Vec<Link>,
     ends: &mut Vec<Link>,
 ) -> Result<(), AllocError>
-    ensures links { OnOk result (links.new.items ≡ links.old.items ++ cons_option (link_up (get same_pair next.now) level end) []) }
-    ensures ends { OnOk result (ends.new.items ≡ ends.old.items ++ cons_option (end_up (get same_pair next.now) level end) []) }
+    ensures links { OnOk result (links.new.items ≡ links.old.items ++ cons_option (link_up (value_of next.now) level end) []) }
+    ensures ends { OnOk result (ends.new.items ≡ ends.old.items ++ cons_option (end_up (value_of next.now) level end) []) }
 {
-    match next.get(&(level, end.unit)) {
+    match next.of(level, end.unit) {
         None => Ok(()),
         Some(unit) => {
             links.push(Link {
                 level,
-                unit: *unit,
+                unit,
                 child: end.unit,
             })?;
             ends.push(Link {
                 level: 0,
-                unit: *unit,
+                unit,
                 child: end.child,
             })?;
             Ok(())
@@ -75,13 +74,13 @@ fn push_up(
 /// The links of ids one level up; those of the units between are put behind others.
 fn ends_up(
     alloc: Global,
-    next: &HashMap<(u32, u32), u32>,
+    next: &UnitTable<u32>,
     level: u32,
     ends: &[Link],
     links: &mut Vec<Link>,
 ) -> Result<Vec<Link>, AllocError>
-    ensures links { OnOk result (links.new.items ≡ links.old.items ++ filter_map (link_up (get same_pair next.now) level) ends.now) }
-    ensures value { IfOk result (λ higher. higher.items ≡ filter_map (end_up (get same_pair next.now) level) ends.now) }
+    ensures links { OnOk result (links.new.items ≡ links.old.items ++ filter_map (link_up (value_of next.now) level) ends.now) }
+    ensures value { IfOk result (λ higher. higher.items ≡ filter_map (end_up (value_of next.now) level) ends.now) }
 {
     let mut higher = Vec::with_capacity(alloc, ends.len())?;
     for end in ends {
@@ -93,12 +92,12 @@ fn ends_up(
 /// The links from ids up to their tops, level by level, and the links of the ids to the tops.
 pub(crate) fn climb(
     alloc: Global,
-    next: &HashMap<(u32, u32), u32>,
+    next: &UnitTable<u32>,
     top: u32,
     ids: &[u32],
 ) -> Result<(Vec<Link>, Vec<Link>), AllocError>
-    ensures links { IfOk result (λ made. made.0.items ≡ links_up (get same_pair next.now) ids.now top) }
-    ensures ends { IfOk result (λ made. made.1.items ≡ filter_map (end_link (get same_pair next.now) top) ids.now) }
+    ensures links { IfOk result (λ made. made.0.items ≡ links_up (value_of next.now) ids.now top) }
+    ensures ends { IfOk result (λ made. made.1.items ≡ filter_map (end_link (value_of next.now) top) ids.now) }
 {
     let mut links = Vec::with_capacity(alloc, ids.len().saturating_mul(top as usize))?;
     let mut ends = own_links(alloc, ids)?;

@@ -2,35 +2,30 @@
 //! The rule: docs/FINANCIAL_MODULE.md, "Levels".
 ghost use Rattle.std.specs.Prelude.{◌≡◌, ℕ, nat_eq, List, length, map, is_some, IfOk};
 ghost use Rattle.std.specs.List.{filter};
-ghost use Rattle.std.specs.HashMap.{get};
-ghost use Rattle.kt_keys.specs.Keys.{same_pair};
 ghost use Rattle.kt_tree.specs.Programme.{or_first};
 ghost use Rattle.kt_structure.specs.Plan.{found_terms, layer_link, link_key, linked};
+ghost use Rattle.kt_structure.specs.UnitTable.{value_of};
 ghost use Rattle.kt_rec.specs.Rising.{rising};
 
 use crate::links::{Link, by_key, children};
+use crate::table::UnitTable;
 use crate::terms::Terms;
 use kt_fmtree::rising;
 use kt_index::ByKey;
 use kt_rec::FmPolicytc;
 use kt_rules::Profile;
 use std::alloc::{AllocError, Global};
-use std::collections::HashMap;
 
 /// Whether the losses of an id come to a unit.
-fn is_taken(next: &HashMap<(u32, u32), u32>, id: u32) -> bool
-    ensures value { result ≡ is_some (get same_pair next.now (1, id)) }
+fn is_taken(next: &UnitTable<u32>, id: u32) -> bool
+    ensures value { result ≡ is_some (value_of next.now (1, id)) }
 {
-    next.get(&(1, id)).is_some()
+    next.of(1, id).is_some()
 }
 
 /// The ids of a list whose losses come to a unit.
-fn among(
-    alloc: Global,
-    next: &HashMap<(u32, u32), u32>,
-    ids: &[u32],
-) -> Result<Vec<u32>, AllocError>
-    ensures value { IfOk result (λ taken. taken.items ≡ filter (λ id. is_some (get same_pair next.now (1, id))) ids.now) }
+fn among(alloc: Global, next: &UnitTable<u32>, ids: &[u32]) -> Result<Vec<u32>, AllocError>
+    ensures value { IfOk result (λ taken. taken.items ≡ filter (λ id. is_some (value_of next.now (1, id))) ids.now) }
 {
     ids.iter()
         .copied()
@@ -41,10 +36,10 @@ fn among(
 /// The ids of a list whose losses come to a unit, rising.
 pub(crate) fn taken(
     alloc: Global,
-    next: &HashMap<(u32, u32), u32>,
+    next: &UnitTable<u32>,
     ids: &[u32],
 ) -> Result<Vec<u32>, AllocError>
-    ensures value { IfOk result (λ taken. taken.items ≡ rising (filter (λ id. is_some (get same_pair next.now (1, id))) ids.now)) }
+    ensures value { IfOk result (λ taken. taken.items ≡ rising (filter (λ id. is_some (value_of next.now (1, id))) ids.now)) }
 {
     let taken = among(alloc, next, ids)?;
     let taken = rising(taken)?;

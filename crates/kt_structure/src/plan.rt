@@ -5,18 +5,18 @@ ghost use Rattle.std.specs.List.{flat_map};
 ghost use Rattle.kt_structure.specs.Plan.{found_tiv, kids, new_node, nodes_from, build_levels, build_leaves};
 
 use crate::links::{Link, push_linked};
+use crate::table::UnitTable;
 use crate::terms::Terms;
 use kt_fmtree::Node;
 use kt_index::ByKey;
 use std::alloc::{AllocError, Global};
-use std::collections::HashMap;
 
 /// The links between units, the terms of their layers, and what the coverages beneath each unit of a level are worth.
 #[derive(Clone, Copy)]
 pub(crate) struct Plan<'a> {
     pub links: &'a ByKey<Link>,
     pub terms: &'a Terms,
-    pub tivs: &'a HashMap<(u32, u32), u64>,
+    pub tivs: &'a UnitTable<u64>,
 }
 
 impl<'a> Plan<'a> {
@@ -24,7 +24,7 @@ impl<'a> Plan<'a> {
     pub(crate) fn new(
         links: &'a ByKey<Link>,
         terms: &'a Terms,
-        tivs: &'a HashMap<(u32, u32), u64>,
+        tivs: &'a UnitTable<u64>,
     ) -> Plan<'a>
         ensures links { result.links.now ≡ links.now }
         ensures terms { result.terms.now ≡ terms.now }
@@ -37,7 +37,7 @@ impl<'a> Plan<'a> {
     fn tiv(&self, level: u32, unit: u32) -> u64
         ensures value { result ≡ found_tiv self.now level unit }
     {
-        self.tivs.get(&(level, unit)).copied().unwrap_or(0)
+        self.tivs.of(level, unit).unwrap_or(0)
     }
 
     /// A unit of a level, with so many children from a place on.

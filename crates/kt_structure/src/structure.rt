@@ -11,6 +11,7 @@ ghost use Rattle.kt_structure.specs.Structure.{IsStructure, kept_by};
 use crate::coverage::{covered_ids, tivs};
 use crate::links::Link;
 use crate::outline::layer_links;
+use crate::table::UnitTable;
 use crate::terms::Terms;
 use kt_checks::next_units;
 use kt_index::ByKey;
@@ -18,7 +19,6 @@ use kt_keys::{policytc, profile, programme, top_level};
 use kt_rec::Tables;
 use kt_tables::Portfolio;
 use std::alloc::{AllocError, Global};
-use std::collections::HashMap;
 
 /// The structure of a programme: which unit the losses of each come to, with the terms of units and layers and what the
 /// coverages beneath them are worth. It depends on the tables alone, so that one serves all runs. Contracts see what it keeps of
@@ -26,9 +26,9 @@ use std::collections::HashMap;
 #[derive(Drop)]
 pub struct Structure {
     pub(crate) top_level: u32,
-    pub(crate) next: HashMap<(u32, u32), u32>,
+    pub(crate) next: UnitTable<u32>,
     pub(crate) terms: Terms,
-    pub(crate) tivs: HashMap<(u32, u32), u64>,
+    pub(crate) tivs: UnitTable<u64>,
     pub(crate) layers: ByKey<Link>,
 }
 
@@ -44,11 +44,13 @@ pub(crate) fn structure_at(
 {
     let rows = programme(tables, stage);
     let top_level = top_level(rows);
-    let next = next_units(alloc, rows)?;
+    let units = next_units(alloc, rows)?;
     let covered = covered_ids(alloc, tables, stage)?;
-    let tivs = tivs(alloc, &next, top_level, covered, &tables.coverages)?;
+    let worth = tivs(alloc, &units, top_level, covered, &tables.coverages)?;
     let terms = Terms::new(alloc, policytc(tables, stage), profile(tables, stage))?;
     let layers = layer_links(alloc, policytc(tables, stage))?;
+    let next = UnitTable::new(alloc, units)?;
+    let tivs = UnitTable::new(alloc, worth)?;
     Ok(Structure {
         top_level,
         next,

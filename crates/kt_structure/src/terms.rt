@@ -1,24 +1,28 @@
 //! The terms of the layers of units.
 //! The rule: docs/FINANCIAL_MODULE.md, "Policy losses".
-ghost use Rattle.std.specs.Prelude.{◌≡◌, ℕ, map, nat_eq, All, IfOk};
+ghost use Rattle.std.specs.Prelude.{◌≡◌, ℕ, map, nat_eq, not, All, IfOk};
+ghost use Rattle.std.specs.List.{filter};
 ghost use Rattle.std.specs.Map.{lookup};
 ghost use Rattle.std.specs.HashMap.{get};
-ghost use Rattle.kt_keys.specs.Keys.{same_triple};
+ghost use Rattle.kt_keys.specs.Keys.{same_pair, same_triple};
 ghost use Rattle.kt_rec.specs.Ranges.{IsFmProfile};
 ghost use Rattle.kt_rules.specs.Profiles.{profile_of};
 ghost use Rattle.kt_tree.specs.Programme.{no_terms, terms_or_none};
-ghost use Rattle.kt_structure.specs.Plan.{AreTerms, found_terms};
+ghost use Rattle.kt_structure.specs.Plan.{AreTerms, first_pair, found_id, found_terms, unit_pair};
+ghost use Rattle.kt_structure.specs.UnitTable.{value_of};
 
-use kt_keys::first_values;
+use crate::table::UnitTable;
+use kt_keys::{first_values, pair_values};
 use kt_rec::{FmPolicytc, FmProfile};
 use kt_rules::Profile;
 use std::alloc::{AllocError, Global};
 use std::collections::HashMap;
 
-/// The profiles of the layers of units, and the terms of profiles.
+/// The profiles of the first layers of units, those of their other layers, and the terms of profiles.
 #[derive(Drop)]
 pub(crate) struct Terms {
-    pub by_unit: HashMap<(u32, u32, u32), u32>,
+    pub first: UnitTable<u32>,
+    pub others: HashMap<(u32, u32, u32), u32>,
     pub by_id: HashMap<u32, Profile>,
 }
 
@@ -45,20 +49,51 @@ fn id_pairs(alloc: Global, profiles: &[FmProfile]) -> Result<Vec<(u32, Profile)>
     Ok(pairs)
 }
 
-/// The profiles of the layers of units.
-fn unit_pairs(
-    alloc: Global,
-    policytc: &[FmPolicytc],
-) -> Result<Vec<((u32, u32, u32), u32)>, AllocError>
-    ensures value { IfOk result (λ pairs. pairs.items ≡ map (λ row. ((row.layer_id, row.level_id, row.agg_id), row.policytc_id)) policytc.now) }
+/// Whether a row is of layer 1.
+fn is_first(row: &FmPolicytc) -> bool
+    ensures value { result ≡ nat_eq row.now.layer_id 1 }
+{
+    row.layer_id == 1
+}
+
+/// The profiles of the first layers of units.
+fn first_pairs(alloc: Global, policytc: &[FmPolicytc]) -> Result<Vec<((u32, u32), u32)>, AllocError>
+    ensures value { IfOk result (λ pairs. pairs.items ≡ map first_pair (filter (λ row. nat_eq row.layer_id 1) policytc.now)) }
 {
     policytc
         .iter()
+        .copied()
+        .filter(|row| is_first(row))
+        .map(|row| ((row.level_id, row.agg_id), row.policytc_id))
+        .collect(alloc)
+}
+
+/// The profiles of the other layers of units.
+fn other_pairs(
+    alloc: Global,
+    policytc: &[FmPolicytc],
+) -> Result<Vec<((u32, u32, u32), u32)>, AllocError>
+    ensures value { IfOk result (λ pairs. pairs.items ≡ map unit_pair (filter (λ row. not (nat_eq row.layer_id 1)) policytc.now)) }
+{
+    policytc
+        .iter()
+        .copied()
+        .filter(|row| !is_first(row))
         .map(|row| ((row.layer_id, row.level_id, row.agg_id), row.policytc_id))
         .collect(alloc)
 }
 
-/// The profile that each layer of a unit has in its first row.
+/// The profile that the first layer of each unit has in its first row.
+fn first_layers(alloc: Global, policytc: &[FmPolicytc]) -> Result<UnitTable<u32>, AllocError>
+    ensures value { IfOk result (λ values. (key : ℕ × ℕ) → value_of values key ≡ lookup (same_pair key) (map first_pair (filter (λ row. nat_eq row.layer_id 1) policytc.now))) }
+{
+    let pairs = first_pairs(alloc, policytc)?;
+    let values = pair_values(alloc, &pairs)?;
+    let table = UnitTable::new(alloc, values)?;
+    Ok(table)
+}
+
+/// The profile that each pair of key and profile has first.
 fn unit_values(
     alloc: Global,
     pairs: &[((u32, u32, u32), u32)],
@@ -66,6 +101,18 @@ fn unit_values(
     ensures value { IfOk result (λ values. (key : ℕ × ℕ × ℕ) → get same_triple values key ≡ lookup (same_triple key) pairs.now) }
 {
     first_values(alloc, pairs)
+}
+
+/// The profile that each other layer of a unit has in its first row.
+fn other_layers(
+    alloc: Global,
+    policytc: &[FmPolicytc],
+) -> Result<HashMap<(u32, u32, u32), u32>, AllocError>
+    ensures value { IfOk result (λ values. (key : ℕ × ℕ × ℕ) → get same_triple values key ≡ lookup (same_triple key) (map unit_pair (filter (λ row. not (nat_eq row.layer_id 1)) policytc.now))) }
+{
+    let pairs = other_pairs(alloc, policytc)?;
+    let values = unit_values(alloc, &pairs)?;
+    Ok(values)
 }
 
 /// The terms that each profile has in its first row.
@@ -85,20 +132,34 @@ impl Terms {
         requires { All IsFmProfile profiles.now }
         ensures value { IfOk result (AreTerms policytc.now profiles.now) }
     {
-        let units = unit_pairs(alloc, policytc)?;
-        let by_unit = unit_values(alloc, &units)?;
+        let first = first_layers(alloc, policytc)?;
+        let others = other_layers(alloc, policytc)?;
         let ids = id_pairs(alloc, profiles)?;
         let by_id = id_values(alloc, &ids)?;
-        Ok(Terms { by_unit, by_id })
+        Ok(Terms {
+            first,
+            others,
+            by_id,
+        })
+    }
+
+    /// The profile of a layer of a unit of a level, where it has a row.
+    fn id_of(&self, layer: u32, level: u32, unit: u32) -> Option<u32>
+        ensures value { result ≡ found_id self.now layer level unit }
+    {
+        if layer == 1 {
+            return self.first.of(level, unit);
+        }
+        self.others.get(&(layer, level, unit)).copied()
     }
 
     /// The terms of a layer of a unit of a level; none where it has no row.
     pub(crate) fn of(&self, layer: u32, level: u32, unit: u32) -> Profile
         ensures value { result ≡ found_terms self.now layer level unit }
     {
-        match self.by_unit.get(&(layer, level, unit)) {
+        match self.id_of(layer, level, unit) {
             None => no_terms(),
-            Some(id) => self.with_id(*id),
+            Some(id) => self.with_id(id),
         }
     }
 

@@ -1,20 +1,19 @@
 use Rattle.std.proofs.Common.{◌≡◌, ◌∙◌, ◌+◌, ◌++◌, ap, arith}
-use Rattle.std.specs.HashMap.{get}
 use Rattle.std.specs.List.{filter_map}
-use Rattle.kt_keys.specs.Keys.{same_pair}
 use Rattle.kt_structure.specs.Plan.{end_link, end_up, link_up, links_up}
+use Rattle.kt_structure.specs.UnitTable.{value_of}
 use Rattle.kt_structure.proofs.LinkLemmas.{climb-begins, ends-go, links-go}
 use Rattle.kt_structure.proofs.links.climb.Goals as goal
 
 pub loop-below-init : goal.loop-below-init
 loop-below-init c = record {
   links_are = c.in_ok-links.ensures.items;
-  ends_are = c.in_ok-ends.ensures.value ∙ climb-begins (get same_pair c.args.next.now) c.args.ids.now;
+  ends_are = c.in_ok-ends.ensures.value ∙ climb-begins (value_of c.args.next.now) c.args.ids.now;
 }
 
 pub loop-below-preserved : goal.loop-below-preserved
 loop-below-preserved c =
-    let next = get same_pair c.args.next.now in
+    let next = value_of c.args.next.now in
     let ids = c.args.ids.now in
     let below = c.loop-below.below in
     let here = c.loop-below.invariant in
@@ -26,7 +25,7 @@ loop-below-preserved c =
 
 pub returns : goal.returns
 returns c =
-    let next = get same_pair c.args.next.now in
+    let next = value_of c.args.next.now in
     let ids = c.args.ids.now in
     let all : c.loop-below.below ≡ c.args.top = omega arith in
     record {

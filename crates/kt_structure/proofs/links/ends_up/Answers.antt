@@ -1,13 +1,12 @@
 use Rattle.std.proofs.Common.{[]}
-use Rattle.std.specs.HashMap.{get}
-use Rattle.kt_keys.specs.Keys.{same_pair}
 use Rattle.kt_structure.specs.Plan.{end_up, link_to, link_up}
+use Rattle.kt_structure.specs.UnitTable.{value_of}
 use Rattle.kt_structure.proofs.LinkLemmas.{made-goes}
 use Rattle.kt_structure.proofs.links.ends_up.Goals as goal
 
 pub loop-end-preserved : goal.loop-end-preserved
 loop-end-preserved c =
-    let next = get same_pair c.args.next.now in
+    let next = value_of c.args.next.now in
     let here = c.loop-end.invariant in
     record {
       links_are = made-goes c.args.links.now.items (link_up next c.args.level) c.args.ends.now c.loop-end.end-index (link_to 0 0 0) c.loop-end.links.items c.push_up.new.links.items c.loop-end-test.true here.links_are c.in_ok-push_up.ensures.links;
