@@ -1,11 +1,13 @@
 -- The lists that are made from a plan are those of the tree of the tables.
-use Rattle.std.proofs.Common.{◌≡◌, ℕ, zero, suc, ◌^◌, ◌<◌, ◌≤◌, true, List, [], ◌∷◌, length, map, get_or, refl, ap, sym, subst, ◌∙◌, nat_eq, arith}
+use Rattle.std.proofs.Common.{◌≡◌, ℕ, zero, suc, ◌^◌, ◌<◌, ◌≤◌, Bool, true, false, cond, List, [], ◌∷◌, length, map, get_or, refl, ap, sym, subst, ◌∙◌, nat_eq, arith}
+use Rattle.std.specs.Prelude.{◌&&◌}
 use Rattle.std.proofs.Math.Path.{fun_ext}
 use Rattle.std.specs.List.{All, AllByRecursion, filter, list_any}
 use Rattle.kt_rec.specs.Rows.{Rows}
+use Rattle.kt_rec.specs.declared.financial.FmPolicytc.{FmPolicytc}
 use Rattle.kt_keys.specs.Keys.{policytc_of}
 use Rattle.kt_tree.specs.Sums.{each_then, each_member, each_flat_map}
-use Rattle.kt_rec.specs.Rising.{IsRising}
+use Rattle.kt_rec.specs.Rising.{IsRising, rising}
 use Rattle.kt_tree.specs.Tree.{Tree, beneath}
 use Rattle.kt_tree.specs.Programme.{layers_in, or_first}
 use Rattle.kt_fmtree.specs.Parts.{Parts, IsNode, IsProgramme, nodes_at, units_at}
@@ -69,8 +71,29 @@ map-each P f g same [] all = refl
 map-each P f g same (id ∷ ids) all = ap (λ y. y ∷ map f ids) (same id all.0) ∙ ap (λ ys. g id ∷ ys) (map-each P f g same ids all.1)
 
 -- the layers of the tops, and their terms
-pub layers-found : (rows : Rows) (stage : ℕ) → IsReady rows stage → (links : List Link) → ((key : ℕ) → filter (λ row. nat_eq (link_key row) key) links ≡ filter (λ row. nat_eq (link_key row) key) (map layer_link (policytc_of rows stage))) → (level top : ℕ) → top < 2 ^ 32 → or_first (linked links level top) ≡ layers_in (policytc_of rows stage) level top
-layers-found rows stage ready links kept level top fits = ap or_first (linked-are layer_link links (policytc_of rows stage) kept (fits-agg (policytc_of rows stage) ready.policytc) level top fits)
+pub layers-found : (rows : Rows) (stage : ℕ) → IsReady rows stage → (links : List Link) (level : ℕ) → ((key : ℕ) → filter (λ row. nat_eq (link_key row) key) links ≡ filter (λ row. nat_eq (link_key row) key) (map layer_link (filter (λ row. nat_eq row.level_id level) (policytc_of rows stage)))) → (top : ℕ) → top < 2 ^ 32 → or_first (linked links level top) ≡ layers_in (policytc_of rows stage) level top
+layers-found rows stage ready links level kept top fits =
+    ap or_first (linked-are layer_link links (filter (λ row. nat_eq row.level_id level) policytc) kept (of_level policytc (fits-agg policytc ready.policytc)) level top fits ∙ ap (λ found. rising (map (λ (row : FmPolicytc). row.layer_id) found)) (twice policytc))
+  where
+    policytc : List FmPolicytc
+    policytc = policytc_of rows stage
+
+    of_level : (rows : List FmPolicytc) → AllByRecursion (λ row. row.agg_id < 2 ^ 32) rows → AllByRecursion (λ row. row.agg_id < 2 ^ 32) (filter (λ row. nat_eq row.level_id level) rows)
+    of_level [] all = tt
+    of_level (row ∷ rows) all = by (nat_eq row.level_id level) (of_level rows all.1)
+      where
+        by : (b : Bool) → AllByRecursion (λ row. row.agg_id < 2 ^ 32) (filter (λ row. nat_eq row.level_id level) rows) → AllByRecursion (λ row. row.agg_id < 2 ^ 32) (cond b (row ∷ filter (λ row. nat_eq row.level_id level) rows) (filter (λ row. nat_eq row.level_id level) rows))
+        by true rest = (all.0, rest)
+        by false rest = rest
+
+    twice : (rows : List FmPolicytc) → filter (λ row. nat_eq row.level_id level && nat_eq row.agg_id top) (filter (λ row. nat_eq row.level_id level) rows) ≡ filter (λ row. nat_eq row.level_id level && nat_eq row.agg_id top) rows
+    twice [] = refl
+    twice (row ∷ rows) = by (nat_eq row.level_id level) refl (twice rows)
+      where
+        by : (b : Bool) → nat_eq row.level_id level ≡ b → filter (λ row. nat_eq row.level_id level && nat_eq row.agg_id top) (filter (λ row. nat_eq row.level_id level) rows) ≡ filter (λ row. nat_eq row.level_id level && nat_eq row.agg_id top) rows
+            → filter (λ row. nat_eq row.level_id level && nat_eq row.agg_id top) (cond b (row ∷ filter (λ row. nat_eq row.level_id level) rows) (filter (λ row. nat_eq row.level_id level) rows)) ≡ cond (nat_eq row.level_id level && nat_eq row.agg_id top) (row ∷ filter (λ row. nat_eq row.level_id level && nat_eq row.agg_id top) rows) (filter (λ row. nat_eq row.level_id level && nat_eq row.agg_id top) rows)
+        by true is rest = ap (λ kept. cond (nat_eq row.level_id level && nat_eq row.agg_id top) (row ∷ kept) kept) rest
+        by false is rest = rest ∙ ap (λ b. cond (b && nat_eq row.agg_id top) (row ∷ filter (λ row. nat_eq row.level_id level && nat_eq row.agg_id top) rows) (filter (λ row. nat_eq row.level_id level && nat_eq row.agg_id top) rows)) (sym is)
 
 -- the lists that are made of what fits a tree are its lists
 module _ (tree : Tree) (kept : Kept) (links ends : List Link) (ids tops : List ℕ) (fits : Fits tree kept links ends ids tops) (plan : Plan) (links_are : plan.links.now ≡ links) (terms_are : found_terms plan.terms.now ≡ kept.terms) (tivs_are : (level unit : ℕ) → found_tiv plan level unit ≡ kept.tiv level unit) where

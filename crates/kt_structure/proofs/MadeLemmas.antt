@@ -9,7 +9,7 @@ use Rattle.kt_rec.specs.declared.financial.FmProgramme.{FmProgramme}
 use Rattle.kt_keys.specs.Keys.{policytc_of, profile_of as profiles_of, programme_of}
 use Rattle.kt_keys.specs.Units.{top_level, top_targets}
 use Rattle.kt_keys.specs.Climbing.{after, climbed, next_unit}
-use Rattle.kt_tree.specs.Programme.{or_first, tiv_beneath, tree_of}
+use Rattle.kt_tree.specs.Programme.{layers_in, or_first, tiv_beneath, tree_of}
 use Rattle.kt_structure.specs.ProgrammeLaws.{tree_of-is}
 use Rattle.kt_rec.specs.Rising.{rising-member, rising-rises}
 use Rattle.kt_tree.specs.TreeLaws.{climbed-last}
@@ -80,7 +80,7 @@ pub structure-made : (rows : Rows) (stage : ℕ) → IsReady rows stage → (kep
     → kept.next ≡ next_unit (programme_of rows stage)
     → kept.terms ≡ found_terms terms → AreTerms (policytc_of rows stage) (profiles_of rows stage) terms
     → ((level unit : ℕ) → 1 ≤ level → level ≤ top_level (programme_of rows stage) → kept.tiv level unit ≡ tiv_beneath rows stage level unit)
-    → kept.layers ≡ (λ top. or_first (linked links kept.top_level top)) → ((key : ℕ) → filter (λ row. nat_eq (link_key row) key) links ≡ filter (λ row. nat_eq (link_key row) key) (map layer_link (policytc_of rows stage)))
+    → kept.layers ≡ (λ top. or_first (linked links kept.top_level top)) → ((key : ℕ) → filter (λ row. nat_eq (link_key row) key) links ≡ filter (λ row. nat_eq (link_key row) key) (map layer_link (filter (λ row. nat_eq row.level_id kept.top_level) (policytc_of rows stage))))
     → IsStructure (tree_of rows stage) kept
 structure-made rows stage ready kept terms links top_is next_is terms_are of_tables tivs layers_are by_key =
     let programme = programme_of rows stage in
@@ -91,7 +91,7 @@ structure-made rows stage ready kept terms links top_is next_is terms_are of_tab
       profiles_are = λ level unit. ap (λ found. found 1 level unit) terms_are ∙ terms-found (policytc_of rows stage) (profiles_of rows stage) terms of_tables 1 level unit;
       layer_profiles_are = λ top layer. ap (λ found. found layer (top_level programme) top) terms_are ∙ terms-found (policytc_of rows stage) (profiles_of rows stage) terms of_tables layer (top_level programme) top;
       tivs_are = tivs;
-      layers_are = λ top fits. ap (λ found. found top) layers_are ∙ (ap (λ n. or_first (linked links n top)) top_is ∙ layers-found rows stage ready links by_key (top_level programme) top fits);
+      layers_are = λ top fits. ap (λ found. found top) layers_are ∙ (layers-found rows stage ready links kept.top_level by_key top fits ∙ ap (λ n. layers_in (policytc_of rows stage) n top) top_is);
       small = next-fits programme (recursion_from_All (λ row. row.to_agg_id < 2 ^ 32) programme (λ k d below. let is = ready.programme k d below in let most = is.to_agg_id.most in omega arith));
       taken = λ id member. taken-next programme programme id (sym (rising-member (map (λ row. row.from_agg_id) (filter (λ row. nat_eq row.level_id 1) programme)) id) ∙ member);
       reached = λ id top climbs. rising-member (top_targets programme) top ∙ reached-top programme (top_level programme) id top ready.has.levels climbs;

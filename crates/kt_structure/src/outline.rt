@@ -73,18 +73,34 @@ fn layer_link(row: &FmPolicytc) -> Link
     }
 }
 
-/// The links of the layers of units.
-fn layer_rows(alloc: Global, policytc: &[FmPolicytc]) -> Result<Vec<Link>, AllocError>
-    ensures value { IfOk result (λ links. links.items ≡ map layer_link policytc.now) }
+/// Whether a row is of a level.
+fn is_at(row: &FmPolicytc, level: u32) -> bool
+    ensures value { result ≡ nat_eq row.now.level_id level }
 {
-    policytc.iter().map(|row| layer_link(row)).collect(alloc)
+    row.level_id == level
 }
 
-/// The links of the layers of units, by their units.
-pub(crate) fn layer_links(alloc: Global, policytc: &[FmPolicytc]) -> Result<ByKey<Link>, AllocError>
-    ensures kept { IfOk result (λ links. (key : ℕ) → filter (λ row. nat_eq (link_key row) key) links ≡ filter (λ row. nat_eq (link_key row) key) (map layer_link policytc.now)) }
+/// The links of the layers of the units of a level.
+fn layer_rows(alloc: Global, policytc: &[FmPolicytc], level: u32) -> Result<Vec<Link>, AllocError>
+    ensures value { IfOk result (λ links. links.items ≡ map layer_link (filter (λ row. nat_eq row.level_id level) policytc.now)) }
 {
-    let rows = layer_rows(alloc, policytc)?;
+    policytc
+        .iter()
+        .copied()
+        .filter(|row| is_at(row, level))
+        .map(|row| layer_link(&row))
+        .collect(alloc)
+}
+
+/// The links of the layers of the units of a level, by their units.
+pub(crate) fn layer_links(
+    alloc: Global,
+    policytc: &[FmPolicytc],
+    level: u32,
+) -> Result<ByKey<Link>, AllocError>
+    ensures kept { IfOk result (λ links. (key : ℕ) → filter (λ row. nat_eq (link_key row) key) links ≡ filter (λ row. nat_eq (link_key row) key) (map layer_link (filter (λ row. nat_eq row.level_id level) policytc.now))) }
+{
+    let rows = layer_rows(alloc, policytc, level)?;
     by_key(rows)
 }
 

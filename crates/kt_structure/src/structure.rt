@@ -48,7 +48,7 @@ pub(crate) fn structure_at(
     let covered = covered_ids(alloc, tables, stage)?;
     let worth = tivs(alloc, &units, top_level, covered, &tables.coverages)?;
     let terms = Terms::new(alloc, policytc(tables, stage), profile(tables, stage))?;
-    let layers = layer_links(alloc, policytc(tables, stage))?;
+    let layers = layer_links(alloc, policytc(tables, stage), top_level)?;
     let next = UnitTable::new(alloc, units)?;
     let tivs = UnitTable::new(alloc, worth)?;
     Ok(Structure {

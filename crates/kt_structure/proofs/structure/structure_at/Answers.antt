@@ -28,5 +28,5 @@ returns c =
           ap (λ (found : Option ℕ). unwrap_or found 0) (c.in_ok-tivs.ensures.value (level, unit))
           ∙ tivs-beneath rows c.args.stage c.requires.ready (get same_pair c.in_ok-units.units) c.top_level-top_level.result c.in_ok-covered.covered.items c.deref.result.now (fun_ext units_are) top_is c.in_ok-covered.ensures.value c.deref.ensures.value (λ key. unwrap_or (get same_pair c.in_ok-worth.worth key) 0) c.in_ok-worth.ensures.value level unit least most)
           refl
-          (subst (λ (policytc : List FmPolicytc). (key : ℕ) → filter (λ row. nat_eq (link_key row) key) c.in_ok-layers.layers ≡ filter (λ row. nat_eq (link_key row) key) (map layer_link policytc)) c.policytc-2.ensures.value c.in_ok-layers.ensures.kept);
+          (subst (λ (policytc : List FmPolicytc). (key : ℕ) → filter (λ row. nat_eq (link_key row) key) c.in_ok-layers.layers ≡ filter (λ row. nat_eq (link_key row) key) (map layer_link (filter (λ row. nat_eq row.level_id c.top_level-top_level.result) policytc))) c.policytc-2.ensures.value c.in_ok-layers.ensures.kept);
     }
