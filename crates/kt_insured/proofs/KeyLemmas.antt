@@ -1,6 +1,6 @@
 -- The units and layers that have shares, and their places.
 use Rattle.std.proofs.Common.{◌≡◌, ℕ, zero, suc, ◌+◌, ◌-◌, ◌<◌, ◌≤◌, false, cond, nat_eq, List, [], ◌∷◌, ◌++◌, length, map, take, drop, slice_index, slice_index_or, refl, sym, ap, ◌∙◌, arith, drop-cons, add-one, append_assoc, append-nil}
-use Rattle.std.specs.List.{range_with_len, zip}
+use Rattle.std.specs.List.{flat_map, range_with_len, zip}
 use Rattle.std.proofs.lemmas.Grind.{flat_map-append}
 use Rattle.std.proofs.lemmas.List.{map-append, take_more}
 use Rattle.kt_tree.specs.Tree.{Tree, beneath}
@@ -34,27 +34,36 @@ keys-shared tree parts is rule one other within =
 abbrev later_pairs : List (ℕ × ℕ) → ℕ → List ((ℕ × ℕ) × ℕ)
 later_pairs keys place = zip (drop (place + 1) keys) (range_with_len (place + 1) (length keys - (place + 1)))
 
--- one more key with its place
-pub placed-step : (keys : List (ℕ × ℕ)) (placed now : List ((ℕ × ℕ) × ℕ)) (place : ℕ) (d : ℕ × ℕ) → place < length keys → placed ++ zip (drop place keys) (range_with_len place (length keys - place)) ≡ zip keys (range_with_len 0 (length keys)) → now ≡ placed ++ (slice_index_or keys place d, place) ∷ [] → now ++ zip (drop (place + 1) keys) (range_with_len (place + 1) (length keys - (place + 1))) ≡ zip keys (range_with_len 0 (length keys))
-placed-step keys placed now place d below so_far now_is =
-    ap (λ made. made ++ later_pairs keys place) now_is
-    ∙ (append_assoc placed ((slice_index_or keys place d, place) ∷ []) (later_pairs keys place)
-    ∙ (ap (λ more. placed ++ more) (sym next) ∙ so_far))
-  where
-    next : zip (drop place keys) (range_with_len place (length keys - place)) ≡ (slice_index_or keys place d, place) ∷ later_pairs keys place
-    next =
-        let first : drop place keys ≡ slice_index_or keys place d ∷ drop (place + 1) keys = rw (add-one, drop-cons keys place d) refl in
-        let many : length keys - place ≡ suc (length keys - (place + 1)) = omega arith in
-        ap (λ ks. zip ks (range_with_len place (length keys - place))) first
-        ∙ ap (λ n. zip (slice_index_or keys place d ∷ drop (place + 1) keys) (range_with_len place n)) many
+-- what is made of each key with its place
+module _ {Y : Type 0} (f : (ℕ × ℕ) × ℕ → List Y) (keys : List (ℕ × ℕ)) where
+  -- of all
+  abbrev pub made_of : List Y
+  made_of = flat_map f (zip keys (range_with_len 0 (length keys)))
 
--- all keys are placed
-pub placed-end : (keys : List (ℕ × ℕ)) (placed : List ((ℕ × ℕ) × ℕ)) (place : ℕ) → length keys ≤ place → placed ++ zip (drop place keys) (range_with_len place (length keys - place)) ≡ zip keys (range_with_len 0 (length keys)) → placed ≡ zip keys (range_with_len 0 (length keys))
-placed-end keys placed place past so_far =
-    sym (append-nil placed) ∙ (ap (λ rest. placed ++ zip rest (range_with_len place (length keys - place))) (sym (none keys place past)) ∙ so_far)
-  where
-    none : {X : Type 0} (xs : List X) (n : ℕ) → length xs ≤ n → drop n xs ≡ []
-    none [] zero past = refl
-    none [] (suc n) past = refl
-    none (x ∷ xs) zero past = absurd (omega arith)
-    none (x ∷ xs) (suc n) past = none xs n (omega arith)
+  -- of those from a place on
+  abbrev pub made_from : ℕ → List Y
+  made_from place = flat_map f (zip (drop place keys) (range_with_len place (length keys - place)))
+
+  -- of one key more
+  pub placed-step : (made now : List Y) (place : ℕ) (d : ℕ × ℕ) → place < length keys → made ++ made_from place ≡ made_of → now ≡ made ++ f (slice_index_or keys place d, place) → now ++ made_from (place + 1) ≡ made_of
+  placed-step made now place d below so_far now_is =
+      ap (λ front. front ++ made_from (place + 1)) now_is
+      ∙ (append_assoc made (f (slice_index_or keys place d, place)) (made_from (place + 1))
+      ∙ (ap (λ more. made ++ flat_map f more) (sym next) ∙ so_far))
+    where
+      next : zip (drop place keys) (range_with_len place (length keys - place)) ≡ (slice_index_or keys place d, place) ∷ later_pairs keys place
+      next =
+          let first : drop place keys ≡ slice_index_or keys place d ∷ drop (place + 1) keys = rw (add-one, drop-cons keys place d) refl in
+          let many : length keys - place ≡ suc (length keys - (place + 1)) = omega arith in
+          ap (λ ks. zip ks (range_with_len place (length keys - place))) first
+          ∙ ap (λ n. zip (slice_index_or keys place d ∷ drop (place + 1) keys) (range_with_len place n)) many
+
+  -- of no key more
+  pub placed-end : (made : List Y) (place : ℕ) → length keys ≤ place → made ++ made_from place ≡ made_of → made ≡ made_of
+  placed-end made place past so_far = sym (append-nil made) ∙ (ap (λ rest. made ++ flat_map f (zip rest (range_with_len place (length keys - place)))) (sym (none keys place past)) ∙ so_far)
+    where
+      none : {X : Type 0} (xs : List X) (n : ℕ) → length xs ≤ n → drop n xs ≡ []
+      none [] zero past = refl
+      none [] (suc n) past = refl
+      none (x ∷ xs) zero past = absurd (omega arith)
+      none (x ∷ xs) (suc n) past = none xs n (omega arith)

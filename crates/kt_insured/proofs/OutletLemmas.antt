@@ -8,7 +8,7 @@ use Rattle.std.specs.Map.{lookup}
 use Rattle.std.specs.Option.{option_or}
 use Rattle.std.proofs.lemmas.Bool.{eqb-true}
 use Rattle.std.proofs.lemmas.Bool.Decides.{nat_tests}
-use Rattle.std.proofs.lemmas.List.{map-append, take_more}
+use Rattle.std.proofs.lemmas.List.{map-append, map_more, take_more}
 use Rattle.std.proofs.lemmas.List.Elements.{filter_map-append}
 use Rattle.kt_rec.specs.Rising.{IsRising}
 use Rattle.kt_rec.specs.declared.financial.FmXref.{FmXref}
@@ -151,6 +151,25 @@ below-more (other ∷ ids) id next below least = (omega (arith, below.0, least),
 below-id : (ids : List ℕ) (id next : ℕ) → AllByRecursion (λ other. other < next) ids → next ≤ id → AllByRecursion (λ other. other < id) ids
 below-id [] id next below least = tt
 below-id (other ∷ ids) id next below least = (omega (arith, below.0, least), below-id ids id next below.1 least)
+
+-- the ids of so many rise, all below a next id
+pub record AreRising (outlets : List Outlet) (i next : ℕ) : Type 0 where
+  pub rises : IsRising (ids_of (take i outlets))
+  pub below : AllByRecursion (λ id. id < next) (ids_of (take i outlets))
+
+pub rising-none : (outlets : List Outlet) → AreRising outlets 0 0
+unfolding IsRising
+rising-none outlets = record { rises = tt; below = tt }
+
+-- so do those of one more, where its id is not below it
+pub rising-more : (outlets : List Outlet) (i next : ℕ) → AreRising outlets i next → i < length outlets → next ≤ (slice_index_or outlets i no_outlet).id → AreRising outlets (i + 1) ((slice_index_or outlets i no_outlet).id + 1)
+rising-more outlets i next here inside least =
+    let id = (slice_index_or outlets i no_outlet).id in
+    let more = map_more (λ (outlet : Outlet). outlet.id) outlets i no_outlet inside in
+    record {
+      rises = rw more (rises-more (ids_of (take i outlets)) id here.rises (below-id (ids_of (take i outlets)) id next here.below least));
+      below = rw more (below-more (ids_of (take i outlets)) id next here.below least);
+    }
 
 module _ (sorted : List Outlet) (i next : ℕ) (kept : List Outlet) (here : AreKept sorted i next kept) (inside : i < length sorted) where
   abbrev outlet : Outlet

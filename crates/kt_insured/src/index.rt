@@ -1,14 +1,14 @@
 //! The outputs of a portfolio, found by their units.
 //! The rule: docs/FINANCIAL_MODULE.md, "Insured losses".
-ghost use Rattle.std.specs.Prelude.{◌≡◌, ◌++◌, ℕ, nat_eq, map, IfOk, OnOk};
-ghost use Rattle.std.specs.List.{filter, filter_map, flat_map};
+ghost use Rattle.std.specs.Prelude.{◌≡◌, ◌++◌, ℕ, nat_eq, length, map, IfOk, OnOk};
+ghost use Rattle.std.specs.List.{filter, filter_map, flat_map, range_with_len, zip};
 ghost use Rattle.std.specs.Map.{lookup};
 ghost use Rattle.kt_insured.specs.Index.{AreIndexed, first_of, outlet_in, outlets_at, unit_output};
 ghost use Rattle.kt_insured.specs.Insured.{in_order};
 
 use crate::outlets::Outlet;
 use kt_fmtree::rising;
-use kt_index::{ByKey, Keyed};
+use kt_index::{ByKey, Keyed, rows_near};
 use kt_rec::FmXref;
 use kt_tables::Portfolio;
 use std::alloc::{AllocError, Global};
@@ -120,16 +120,28 @@ impl OutputIndex {
         Ok(OutputIndex { by_unit })
     }
 
-    /// Puts the outputs of a layer of a unit, with a place, behind others.
+    /// The outputs of a unit. They are looked for first at a place, which is then that behind them: there those of the next unit
+    /// stand.
+    fn of_unit(&self, unit: u32, near: &mut usize) -> &[UnitOutput]
+        ensures value { result.now ≡ filter (λ row. nat_eq row.agg_id unit) self.now.by_unit }
+    {
+        let found = rows_near(self.by_unit.as_slice(), u64::from(unit), near);
+        *near = near.saturating_add(found.len());
+        found
+    }
+
+    /// Puts the outputs of a layer of a unit, with a place, behind others. They are looked for first at a place near which they may
+    /// stand.
     fn push_outlets(
         &self,
         key: (u32, u32),
         place: usize,
+        near: &mut usize,
         outlets: &mut Vec<Outlet>,
     ) -> Result<(), AllocError>
         ensures ok { OnOk result (outlets.new.items ≡ outlets.old.items ++ outlets_at self.now (key, place)) }
     {
-        let rows = self.by_unit.of(u64::from(key.0));
+        let rows = self.of_unit(key.0, near);
         for row in rows {
             if row.layer_id == key.1 {
                 outlets.push(Outlet {
@@ -141,17 +153,18 @@ impl OutputIndex {
         Ok(())
     }
 
-    /// The outputs of layers of units, each with the place that stands beside its unit and layer.
+    /// The outputs of layers of units, each with the place of its unit and layer.
     pub(crate) fn outlets(
         &self,
         alloc: Global,
-        placed: &[((u32, u32), usize)],
+        keys: &[(u32, u32)],
     ) -> Result<Vec<Outlet>, AllocError>
-        ensures value { IfOk result (λ outlets. outlets.items ≡ flat_map (outlets_at self.now) placed.now) }
+        ensures value { IfOk result (λ outlets. outlets.items ≡ flat_map (outlets_at self.now) (zip keys.now (range_with_len 0 (length keys.now)))) }
     {
-        let mut outlets = Vec::with_capacity(alloc, placed.len())?;
-        for one in placed {
-            self.push_outlets(one.0, one.1, &mut outlets)?;
+        let mut outlets = Vec::with_capacity(alloc, keys.len())?;
+        let mut near = 0;
+        for (place, key) in keys.iter().enumerate() {
+            self.push_outlets(*key, place, &mut near, &mut outlets)?;
         }
         Ok(outlets)
     }

@@ -1,7 +1,7 @@
 //! Where the loss of each output stands in a row of shares.
 //! The rule: docs/FINANCIAL_MODULE.md, "Insured losses".
-ghost use Rattle.std.specs.Prelude.{◌≡◌, ◌++◌, ℕ, nat_eq, List, [], ◌∷◌, length, map, IfOk, OnOk};
-ghost use Rattle.std.specs.List.{AllByRecursion, filter_map, flat_map, range_with_len, zip};
+ghost use Rattle.std.specs.Prelude.{◌≡◌, ◌++◌, ℕ, nat_eq, List, [], ◌∷◌, map, IfOk, OnOk};
+ghost use Rattle.std.specs.List.{AllByRecursion, filter_map, flat_map};
 ghost use Rattle.kt_rec.specs.declared.financial.FmXref.{FmXref};
 ghost use Rattle.kt_rec.specs.Rising.{IsRising};
 ghost use Rattle.kt_tree.specs.Tree.{Tree};
@@ -66,22 +66,11 @@ fn keys_of(
     requires layers { AllByRecursion (IsTopLayer programme.now) layers.now }
     ensures value { IfOk result (λ keys. (tree : Tree) → IsProgramme tree programme.now → keys.items ≡ keys_for tree rule (map key_of layers.now)) }
 {
-    let mut keys = Vec::new(alloc);
+    let mut keys = Vec::with_capacity(alloc, layers.len())?;
     for one in layers {
         push_keys(programme, rule, *one, &mut keys)?;
     }
     Ok(keys)
-}
-
-/// Keys with their places.
-fn placed_keys(alloc: Global, keys: &[(u32, u32)]) -> Result<Vec<((u32, u32), usize)>, AllocError>
-    ensures value { IfOk result (λ placed. placed.items ≡ zip keys.now (range_with_len 0 (length keys.now))) }
-{
-    let mut placed = Vec::with_capacity(alloc, keys.len())?;
-    for (place, key) in keys.iter().enumerate() {
-        placed.push((*key, place))?;
-    }
-    Ok(placed)
 }
 
 /// The outputs that have a place among keys, with it, by rising output.
@@ -92,8 +81,7 @@ fn outlets_for(
 ) -> Result<Vec<Outlet>, AllocError>
     ensures value { IfOk result (λ outlets. (all : List FmXref) → AreIndexed all outputs.now → outlets.items ≡ filter_map (outlet_of keys.now) (in_order all)) }
 {
-    let placed = placed_keys(alloc, keys)?;
-    let outlets = first_outlets(alloc, outputs.outlets(alloc, &placed)?)?;
+    let outlets = first_outlets(alloc, outputs.outlets(alloc, keys)?)?;
     Ok(outlets)
 }
 

@@ -1,7 +1,8 @@
 //! Outputs that have a loss, with their places in a row of shares.
 //! The rule: docs/FINANCIAL_MODULE.md, "Insured losses".
-ghost use Rattle.std.specs.Prelude.{◌≡◌, ℕ, IfOk};
+ghost use Rattle.std.specs.Prelude.{◌≡◌, ℕ, true, map, IfOk};
 ghost use Rattle.std.specs.List.Sorted.{IsNonDecreasingBy};
+ghost use Rattle.kt_rec.specs.Rising.{IsRising};
 ghost use Rattle.kt_insured.specs.Outlets.{AreFirsts};
 
 use kt_index::{ByKey, Keyed};
@@ -41,10 +42,28 @@ fn firsts(alloc: Global, sorted: &[Outlet]) -> Result<Vec<Outlet>, AllocError>
     Ok(kept)
 }
 
+/// Whether the ids of outlets rise, each once.
+fn rise(outlets: &[Outlet]) -> bool
+    ensures rises { result ≡ true → IsRising (map (λ outlet. outlet.id) outlets.now) }
+{
+    let mut next: u64 = 0;
+    for outlet in outlets {
+        let id = u64::from(outlet.id);
+        if id < next {
+            return false;
+        }
+        next = id + 1;
+    }
+    true
+}
+
 /// The first outlet of each id, by rising id. An error is want of memory.
 pub(crate) fn first_outlets(alloc: Global, outlets: Vec<Outlet>) -> Result<Vec<Outlet>, AllocError>
     ensures value { IfOk result (λ kept. AreFirsts outlets.items kept.items) }
 {
+    if rise(&outlets) {
+        return Ok(outlets);
+    }
     let sorted = ByKey::of_rows(outlets)?;
     let kept = firsts(alloc, sorted.as_slice())?;
     Ok(kept)

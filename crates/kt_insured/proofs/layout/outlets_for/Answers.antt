@@ -1,4 +1,4 @@
-use Rattle.std.proofs.Common.{◌∙◌, List, subst}
+use Rattle.std.proofs.Common.{List, refl, subst}
 use Rattle.kt_insured.specs.Outlets.{AreFirsts}
 use Rattle.kt_insured.specs.declared.outlets.Outlet.{Outlet}
 use Rattle.kt_insured.proofs.IndexLemmas.{outlets-found}
@@ -8,6 +8,6 @@ pub returns : goal.returns
 returns c = record {
   value = λ all indexed.
       let kept = c.in_ok-outlets-2.outlets.items in
-      outlets-found all c.args.outputs.now indexed c.args.keys.now c.deref.result.now (c.deref.ensures.value ∙ c.in_ok-placed.ensures.value) kept
+      outlets-found all c.args.outputs.now indexed c.args.keys.now _ refl kept
       (subst (λ (outlets : List Outlet). AreFirsts outlets kept) c.in_ok-outlets.ensures.value c.in_ok-outlets-2.ensures.value);
 }
