@@ -23,7 +23,7 @@ use kt_model::laws::distributions_are_of_a_stream;
 use kt_rec::{FootRow, ModelStop, Perspective};
 use kt_ri::reinsure;
 use kt_stream::{LossRecord, Records};
-use kt_sum::summarise;
+use kt_sum::summarise_within;
 use kt_tables::Portfolio;
 use std::alloc::{AllocError, Global};
 
@@ -40,13 +40,14 @@ fn put_set(
     losses: &[LossRecord],
     made: &mut Records<Summaries>,
 ) -> Result<(), AllocError>
+    requires samples { samples ≤ 1000 }
     requires losses { All (IsLoss samples) losses.now }
     requires within { AreWithin losses.now }
     ensures ok { OnOk result (made.new ≡ made.old ++ set_if (has_summary_set perspective portfolio.now.rows set) (summaries_of portfolio.now.rows portfolio.now.need.rule losses.now) (summary_set perspective set)) }
     ensures good { AreSummaries samples made.old → OnOk result (AreSummaries samples made.new) }
 {
     if portfolio.has_set(perspective, set) {
-        let records = summarise(alloc, portfolio, perspective, set, losses)?;
+        let records = summarise_within(alloc, portfolio, samples, perspective, set, losses)?;
         made.push(Summaries {
             perspective,
             set,
@@ -65,6 +66,7 @@ fn put_summaries(
     losses: &[LossRecord],
     made: &mut Records<Summaries>,
 ) -> Result<(), AllocError>
+    requires samples { samples ≤ 1000 }
     requires losses { All (IsLoss samples) losses.now }
     requires within { AreWithin losses.now }
     requires good { AreSummaries samples made.old }

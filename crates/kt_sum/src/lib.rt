@@ -9,5 +9,5 @@ mod set_run;
 mod span;
 mod summary_sums;
 
-pub use run::summarise;
+pub use run::{summarise, summarise_within};
 pub use run_summaries::RunSummaries;

@@ -14,7 +14,7 @@ ghost use Rattle.kt_sum.specs.Summaries.{run_summaries};
 use crate::rows::add_entry;
 use crate::set_run::SetRun;
 use crate::span::{Span, span_of};
-use crate::summary_sums::{SummarySums, no_sums, record_of};
+use crate::summary_sums::{FIRST, SummarySums, no_sums, record_of};
 use kt_index::keep_once;
 use kt_rec::Perspective;
 use kt_runs::event_of;
@@ -100,6 +100,35 @@ fn made_of(
     Ok(made)
 }
 
+/// The records of the summaries of a set, as `summarise` makes them, for records whose sidx all stand in a span.
+fn summaries_in(
+    alloc: Global,
+    portfolio: &Portfolio,
+    perspective: Perspective,
+    set: u32,
+    span: Span,
+    records: &[LossRecord],
+) -> Result<Records<SummaryRecord>, AllocError>
+    requires losses { AreWithin records.now }
+    requires span { IsSpan records.now span.least span.width }
+    ensures value { IfOk result (λ made. made ≡ run_summaries perspective portfolio.now.rows portfolio.now.need.rule set records.now) }
+    ensures good { (samples : ℕ) → All (IsLoss samples) records.now → IfOk result (λ made. All (IsSummary samples) made) }
+{
+    portfolio.keeps_summaries();
+    let run = SetRun {
+        portfolio,
+        perspective,
+        set,
+        event: event_of(records),
+    };
+    let found = found_of(alloc, &portfolio.set_summaries(perspective, set), records)?;
+    let summaries = rising_of(alloc, &found)?;
+    let mut rows = no_sums(alloc, span.width, &summaries)?;
+    add_records(&mut rows, &summaries, span, &found, records);
+    let made = made_of(alloc, &run, span, &rows)?;
+    Ok(Records::from_vec(made))
+}
+
 /// The records of the summaries of a set, by rising summary, for the records of one run: one event, rising ids, rising sidx.
 /// The losses of the run add to at most 10^16 cents at each sidx. A summary to which no id of the run is mapped, and one
 /// whose losses add to 0, has no record. An error is want of memory.
@@ -114,18 +143,29 @@ pub fn summarise(
     ensures value { IfOk result (λ made. made ≡ run_summaries perspective portfolio.now.rows portfolio.now.need.rule set records.now) }
     ensures good { (samples : ℕ) → All (IsLoss samples) records.now → IfOk result (λ made. All (IsSummary samples) made) }
 {
-    portfolio.keeps_summaries();
-    let run = SetRun {
-        portfolio,
-        perspective,
-        set,
-        event: event_of(records),
-    };
-    let found = found_of(alloc, &portfolio.set_summaries(perspective, set), records)?;
-    let summaries = rising_of(alloc, &found)?;
     let span = span_of(records);
-    let mut rows = no_sums(alloc, span.width, &summaries)?;
-    add_records(&mut rows, &summaries, span, &found, records);
-    let made = made_of(alloc, &run, span, &rows)?;
-    Ok(Records::from_vec(made))
+    summaries_in(alloc, portfolio, perspective, set, span, records)
+}
+
+/// The records that `summarise` makes, for the records of a run that may stand in a stream with so many samples: the places of their
+/// sidx are known, and not looked for. An error is want of memory.
+pub fn summarise_within(
+    alloc: Global,
+    portfolio: &Portfolio,
+    samples: u32,
+    perspective: Perspective,
+    set: u32,
+    records: &[LossRecord],
+) -> Result<Records<SummaryRecord>, AllocError>
+    requires samples { samples ≤ 1000 }
+    requires records { All (IsLoss samples) records.now }
+    requires losses { AreWithin records.now }
+    ensures value { IfOk result (λ made. made ≡ run_summaries perspective portfolio.now.rows portfolio.now.need.rule set records.now) }
+    ensures good { IfOk result (λ made. All (IsSummary samples) made) }
+{
+    let span = Span {
+        least: FIRST,
+        width: samples as usize + 3,
+    };
+    summaries_in(alloc, portfolio, perspective, set, span, records)
 }

@@ -9,4 +9,4 @@ use Rattle.kt_event.proofs.event.put_set.Goals as goal
 pub returns-in_ok-push-clause-good : goal.returns-in_ok-push-clause-good
 returns-in_ok-push-clause-good c = λ good.
     subst (AreSummaries c.args.samples) (sym c.in_ok-push.ensures.ok)
-    (each_append (λ (one : Summaries). All (IsSummary c.args.samples) one.records) c.args.made.now _ good (c.in_ok-records.ensures.good c.args.samples c.requires.losses, tt))
+    (each_append (λ (one : Summaries). All (IsSummary c.args.samples) one.records) c.args.made.now _ good (c.in_ok-records.ensures.good, tt))

@@ -12,7 +12,7 @@ use Rattle.kt_sum.specs.Summaries.{run_summaries}
 use Rattle.kt_sum.specs.declared.summary_sums.SummarySums.{SummarySums}
 use Rattle.kt_sum.proofs.GoodLemmas.{summaries_good}
 use Rattle.kt_sum.proofs.RunSumsLemmas.{found_there, run_records}
-use Rattle.kt_sum.proofs.run.summarise.Goals as goal
+use Rattle.kt_sum.proofs.run.summaries_in.Goals as goal
 
 pub add_records-requires-clause-found : goal.add_records-requires-clause-found
 add_records-requires-clause-found c =
@@ -22,7 +22,7 @@ add_records-requires-clause-found c =
 
 pub made_of-requires-clause-ready : goal.made_of-requires-clause-ready
 made_of-requires-clause-ready c =
-    subst (λ (rows : List SummarySums). All (IsReadyRow c.span_of-span.result.width) rows) (sym (c.deref-5.ensures.value ∙ with_items_is c.in_ok-rows.rows c.add_records.new.rows (c.add_records.auto.rows ∙ c.deref_mut.ensures.len))) c.add_records.ensures.ready
+    subst (λ (rows : List SummarySums). All (IsReadyRow c.args.span.width) rows) (sym (c.deref-5.ensures.value ∙ with_items_is c.in_ok-rows.rows c.add_records.new.rows (c.add_records.auto.rows ∙ c.deref_mut.ensures.len))) c.add_records.ensures.ready
 
 -- the records themselves have their event
 event_same : (records : List LossRecord) → event_of (map (λ entry. entry) records) ≡ event_of records
@@ -36,12 +36,12 @@ returns c =
     let records = c.args.records.now in
     let find = summary_in c.args.perspective rows c.args.set in
     let exposure = exposure_of c.args.perspective rows rule c.args.set in
-    let span = c.span_of-span in
+    let span = c.args.span in
     let found = c.in_ok-found.ensures.value find c.set_summaries.ensures.value in
     let there = found_there find c.in_ok-summaries.summaries.items c.in_ok-found.found.items records found (subst (λ (found : List (Option ℕ)). All (IsThere c.in_ok-summaries.summaries.items) found) c.deref.ensures.value c.in_ok-summaries.ensures.there) in
     let made : c.from_vec.result ≡ run_summaries c.args.perspective rows rule c.args.set records =
-    c.from_vec.ensures.value ∙ (c.in_ok-made.ensures.value ∙ (ap (λ (rows : List SummarySums). filter_map (record_of c.event_of.result exposure span.result.least) rows) (c.deref-5.ensures.value ∙ with_items_is c.in_ok-rows.rows c.add_records.new.rows (c.add_records.auto.rows ∙ c.deref_mut.ensures.len))
-    ∙ run_records find exposure records span.result.least span.result.width span.ensures.value c.event_of.result (c.event_of.ensures.value ∙ event_same records) c.in_ok-summaries.summaries.items c.in_ok-summaries.ensures.rising there
+    c.from_vec.ensures.value ∙ (c.in_ok-made.ensures.value ∙ (ap (λ (rows : List SummarySums). filter_map (record_of c.event_of.result exposure span.least) rows) (c.deref-5.ensures.value ∙ with_items_is c.in_ok-rows.rows c.add_records.new.rows (c.add_records.auto.rows ∙ c.deref_mut.ensures.len))
+    ∙ run_records find exposure records span.least span.width c.requires.span c.event_of.result (c.event_of.ensures.value ∙ event_same records) c.in_ok-summaries.summaries.items c.in_ok-summaries.ensures.rising there
     c.add_records.new.rows (c.add_records.ensures.rows ∙ c.deref-3.ensures.value) (c.add_records.ensures.sums find (c.deref-4.ensures.value ∙ found)))) in
     record {
       value = made;
