@@ -1,9 +1,9 @@
 -- The summary sets of a perspective, one more at a time.
 use Rattle.std.proofs.Common.{◌≡◌, ℕ, zero, suc, ◌+◌, Bool, true, false, cond, List, [], ◌∷◌, ◌++◌, map, refl, sym, ap, ◌∙◌, append_assoc, append-nil, arith}
-use Rattle.std.specs.List.{AllByRecursion, filter, range_with_len}
+use Rattle.std.specs.List.{filter, range_with_len}
 use Rattle.std.proofs.lemmas.List.{map-append}
 use Rattle.std.proofs.lemmas.List.Elements.{filter-append}
-use Rattle.kt_event.specs.Losses.{AreSummaries, set_if}
+use Rattle.kt_event.specs.Losses.{set_if}
 use Rattle.kt_event.specs.Terms.{summary_set}
 use Rattle.kt_event.specs.declared.block.Summaries.{Summaries}
 use Rattle.kt_event.specs.declared.terms.SummarySet.{SummarySet}

@@ -1,13 +1,13 @@
 -- The tables that a run needs are those on which its stages stand.
 -- The rules: docs/COMMANDS.md, "chain".
-use Rattle.std.proofs.Common.{◌≡◌, ◌⊎◌, ◌<◌, ◌≤◌, ℕ, zero, suc, true, refl, ap, inl, inr, subst, sym, arith}
+use Rattle.std.proofs.Common.{◌≡◌, ◌⊎◌, ◌≤◌, ℕ, zero, suc, true, refl, ap, inl, inr, subst, sym, arith}
 use Rattle.kt_keys.specs.Refusals.{is_loaded}
 use Rattle.kt_keys.specs.declared.need.Need.{Need}
 use Rattle.kt_rec.specs.declared.perspective.Perspective.{Perspective}
 use Rattle.kt_rec.specs.declared.perspective.Perspective.TheVariants.{Gul, Il, Ri}
 use Rattle.kt_rec.specs.declared.table.Table.{Table}
 use Rattle.kt_rec.specs.declared.table.Table.TheVariants as table
-use Rattle.kt_event.specs.Needs.{chain_need, chain_tables}
+use Rattle.kt_event.specs.Needs.{chain_need}
 use Rattle.kt_event.specs.Terms.{AreTerms, has_insured}
 use Rattle.kt_event.specs.declared.terms.Terms.{Terms}
 

@@ -1,29 +1,31 @@
 //! One event through all stages.
 //! The rules: docs/CALCULATION.md; docs/FINANCIAL_MODULE.md; docs/REFUSALS.md, "Order".
-ghost use Rattle.std.specs.Prelude.{◌≡◌, ◌⊎◌, ◌++◌, ◌≤◌, ℤ, true, map, All, IfOk, IfErr, None, OnOk, Some};
+ghost use Rattle.std.specs.Prelude.{◌≡◌, ◌⊎◌, ◌+◌, ◌++◌, ◌≤◌, ℤ, true, map, All, IfOk, IfErr, None, OnOk, Some};
 ghost use Rattle.std.specs.List.{flat_map};
 ghost use Rattle.kt_rec.specs.FootRows.{first_refused_row};
 ghost use Rattle.kt_rec.specs.declared.foot_rows.ModelStop.TheVariants.{OutOfMemory};
 ghost use Rattle.kt_runs.specs.RunLosses.{AreWithin, run_loss};
 ghost use Rattle.kt_stream.specs.Losses.{IsLoss};
 ghost use Rattle.kt_stream.specs.Pairs.{IsId};
+ghost use Rattle.kt_event.specs.EventLosses.{HaveRows, records_in};
 ghost use Rattle.kt_event.specs.Losses.{AreSummaries, block_of_losses, event_result, ground_up_of, insured_of, layers_up_to, set_if, set_summaries, summaries_of};
 ghost use Rattle.kt_event.specs.Plan.{IsBase, IsOrMemory, IsPlan, terms_of};
 ghost use Rattle.kt_event.specs.Terms.{has_insured, has_net, net_sets, output_perspectives, sets_of, summary_set};
 ghost use Rattle.kt_tables.specs.Lookups.{has_summary_set};
 
 use crate::block::{EventBlock, Summaries};
+use crate::losses::{Losses, summaries_in};
 use crate::plan::{Base, Plan};
 use kt_gul::ground_up;
 use kt_gul::laws::ground_up_losses_are_within;
 use kt_insured::laws::insured_losses_are_within;
-use kt_insured::{LayerSum, insured};
+use kt_insured::{LayerSum, insured_lanes};
 use kt_model::distributions;
 use kt_model::laws::distributions_are_of_a_stream;
 use kt_rec::{FootRow, ModelStop, Perspective};
-use kt_ri::reinsure;
+use kt_ri::reinsure_lanes;
+use kt_shares::LossLanes;
 use kt_stream::{LossRecord, Records};
-use kt_sum::summarise_within;
 use kt_tables::Portfolio;
 use std::alloc::{AllocError, Global};
 
@@ -37,17 +39,18 @@ fn put_set(
     samples: u32,
     perspective: Perspective,
     set: u32,
-    losses: &[LossRecord],
+    losses: Losses<'_>,
     made: &mut Records<Summaries>,
 ) -> Result<(), AllocError>
     requires samples { samples ≤ 1000 }
-    requires losses { All (IsLoss samples) losses.now }
-    requires within { AreWithin losses.now }
-    ensures ok { OnOk result (made.new ≡ made.old ++ set_if (has_summary_set perspective portfolio.now.rows set) (summaries_of portfolio.now.rows portfolio.now.need.rule losses.now) (summary_set perspective set)) }
+    requires rows { HaveRows samples losses }
+    requires losses { All (IsLoss samples) (records_in losses) }
+    requires within { AreWithin (records_in losses) }
+    ensures ok { OnOk result (made.new ≡ made.old ++ set_if (has_summary_set perspective portfolio.now.rows set) (summaries_of portfolio.now.rows portfolio.now.need.rule (records_in losses.entry)) (summary_set perspective set)) }
     ensures good { AreSummaries samples made.old → OnOk result (AreSummaries samples made.new) }
 {
     if portfolio.has_set(perspective, set) {
-        let records = summarise_within(alloc, portfolio, samples, perspective, set, losses)?;
+        let records = summaries_in(alloc, portfolio, samples, perspective, set, losses)?;
         made.push(Summaries {
             perspective,
             set,
@@ -63,14 +66,15 @@ fn put_summaries(
     portfolio: &Portfolio,
     samples: u32,
     perspective: Perspective,
-    losses: &[LossRecord],
+    losses: Losses<'_>,
     made: &mut Records<Summaries>,
 ) -> Result<(), AllocError>
     requires samples { samples ≤ 1000 }
-    requires losses { All (IsLoss samples) losses.now }
-    requires within { AreWithin losses.now }
+    requires rows { HaveRows samples losses }
+    requires losses { All (IsLoss samples) (records_in losses) }
+    requires within { AreWithin (records_in losses) }
     requires good { AreSummaries samples made.old }
-    ensures ok { OnOk result (made.new ≡ made.old ++ map (summaries_of portfolio.now.rows portfolio.now.need.rule losses.now) (sets_of portfolio.now.rows perspective)) }
+    ensures ok { OnOk result (made.new ≡ made.old ++ map (summaries_of portfolio.now.rows portfolio.now.need.rule (records_in losses.entry)) (sets_of portfolio.now.rows perspective)) }
     ensures good { OnOk result (AreSummaries samples made.new) }
 {
     for place in 0..SETS {
@@ -92,25 +96,26 @@ fn put_net_summaries(
     alloc: Global,
     portfolio: &Portfolio,
     plan: &Plan,
-    insured: &[LossRecord],
+    insured: LossLanes,
     made: &mut Records<Summaries>,
 ) -> Result<(), AllocError>
     requires plan { IsPlan portfolio.now plan.now }
     requires insured { has_insured (terms_of plan.now).last ≡ true }
-    requires losses { All (IsLoss (terms_of plan.now).samples) insured.now }
-    requires within { AreWithin insured.now }
+    requires rows { insured.rows ≡ (terms_of plan.now).samples + 1 }
+    requires losses { All (IsLoss (terms_of plan.now).samples) insured.records }
+    requires within { AreWithin insured.records }
     requires good { AreSummaries (terms_of plan.now).samples made.old }
-    ensures ok { (losses : _) → insured.now ≡ insured_of (terms_of plan.now) portfolio.now.rows losses → OnOk result (made.new ≡ made.old ++ map (set_summaries (terms_of plan.now) portfolio.now.rows losses) (net_sets portfolio.now.rows (terms_of plan.now).last)) }
+    ensures ok { (losses : _) → insured.records ≡ insured_of (terms_of plan.now) portfolio.now.rows losses → OnOk result (made.new ≡ made.old ++ map (set_summaries (terms_of plan.now) portfolio.now.rows losses) (net_sets portfolio.now.rows (terms_of plan.now).last)) }
     ensures good { OnOk result (AreSummaries (terms_of plan.now).samples made.new) }
 {
     if plan.terms.has_net() {
-        let net = reinsure(alloc, &plan.stages, plan.terms.samples, insured)?;
+        let net = reinsure_lanes(alloc, &plan.stages, plan.terms.samples, insured)?;
         put_summaries(
             alloc,
             portfolio,
             plan.terms.samples,
             Perspective::Ri,
-            net.as_slice(),
+            Losses::Lanes(&net),
             made,
         )?;
     }
@@ -139,7 +144,7 @@ fn put_insured_summaries(
 {
     let terms = &plan.terms;
     insured_losses_are_within(portfolio);
-    let insured = insured(
+    let insured = insured_lanes(
         alloc,
         portfolio,
         &base.structure,
@@ -153,10 +158,10 @@ fn put_insured_summaries(
         portfolio,
         terms.samples,
         Perspective::Il,
-        insured.records.as_slice(),
+        Losses::Lanes(&insured.losses),
         made,
     )?;
-    put_net_summaries(alloc, portfolio, plan, insured.records.as_slice(), made)?;
+    put_net_summaries(alloc, portfolio, plan, insured.losses, made)?;
     Ok(insured.layers)
 }
 
@@ -205,7 +210,7 @@ fn block_of(
         portfolio,
         plan.terms.samples,
         Perspective::Gul,
-        losses,
+        Losses::Records(losses),
         &mut summaries,
     )?;
     let layers = put_output_summaries(alloc, portfolio, plan, losses, &mut summaries)?;

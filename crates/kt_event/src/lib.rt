@@ -3,6 +3,7 @@
 
 mod block;
 mod event;
+mod losses;
 mod needs;
 mod plan;
 mod shared;

@@ -12,6 +12,6 @@ mod shared;
 mod sums;
 
 pub use index::OutputIndex;
-pub use made::Insured;
-pub use run::{insured, put_insured};
+pub use made::{Insured, InsuredLanes};
+pub use run::{insured, insured_lanes, put_insured};
 pub use sums::LayerSum;

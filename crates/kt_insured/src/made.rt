@@ -2,6 +2,7 @@
 //! The rule: docs/FINANCIAL_MODULE.md, "Insured losses".
 
 use crate::sums::LayerSum;
+use kt_shares::LossLanes;
 use kt_stream::{LossRecord, Records};
 
 /// The insured losses of a run.
@@ -9,6 +10,15 @@ use kt_stream::{LossRecord, Records};
 pub struct Insured {
     /// The records of the outputs, by rising output.
     pub records: Records<LossRecord>,
+    /// The sums of the layers, by top and then by layer.
+    pub layers: Records<LayerSum>,
+}
+
+/// The insured losses of a run, by lanes.
+#[derive(Drop)]
+pub struct InsuredLanes {
+    /// The losses of the outputs, by rising output.
+    pub losses: LossLanes,
     /// The sums of the layers, by top and then by layer.
     pub layers: Records<LayerSum>,
 }

@@ -7,26 +7,25 @@ ghost use Rattle.kt_insured.specs.Table.{record_in};
 
 use crate::outlets::Outlet;
 use kt_money::Bytes;
-use kt_shares::{Table, push_record};
-use kt_stream::{LossRecord, Records};
+use kt_shares::{LossLanes, Table};
 use std::alloc::{AllocError, Global};
 
-/// The records of outputs, in their order.
-pub(crate) fn records_of(
+/// The losses of outputs, in their order.
+pub(crate) fn lanes_of(
     alloc: Global,
     event: u32,
     table: &Table,
     outlets: &[Outlet],
-) -> Result<Records<LossRecord>, AllocError>
+) -> Result<LossLanes, AllocError>
     requires places { AllByRecursion (λ outlet. All (λ row. outlet.place < length row.shares) table.now) outlets.now }
-    ensures value { IfOk result (λ made. made ≡ filter_map (record_in event table.now) outlets.now) }
+    ensures rows { IfOk result (λ made. made.rows ≡ length table.now) }
+    ensures value { IfOk result (λ made. made.records ≡ filter_map (record_in event table.now) outlets.now) }
 {
-    let mut made = Vec::new(alloc);
+    let mut made = table.no_losses(alloc, outlets.len())?;
     for outlet in outlets {
-        let pairs = table.pairs(alloc, outlet.place)?;
-        push_record(&mut made, event, outlet.id, pairs)?;
+        table.keep(event, outlet.id, outlet.place, &mut made)?;
     }
-    Ok(Records::from_vec(made))
+    Ok(made)
 }
 
 /// Appends the records of outputs, in their order, as they stand in a stream. An error is want of memory, and nothing is appended

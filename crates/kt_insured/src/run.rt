@@ -1,6 +1,6 @@
 //! The insured losses of a run, and the sums of its layers.
 //! The rule: docs/FINANCIAL_MODULE.md, "Insured losses".
-ghost use Rattle.std.specs.Prelude.{◌≡◌, ◌≤◌, ◌++◌, map, All, IfOk, OnErr, OnOk};
+ghost use Rattle.std.specs.Prelude.{◌≡◌, ◌+◌, ◌≤◌, ◌++◌, map, All, IfOk, OnErr, OnOk};
 ghost use Rattle.std.specs.List.{flat_map};
 ghost use Rattle.kt_stream.specs.Losses.{IsLoss, loss_bytes};
 ghost use Rattle.kt_runs.specs.RunLosses.{AreWithin};
@@ -14,8 +14,8 @@ ghost use Rattle.kt_insured.specs.Layout.{IsLayout};
 
 use crate::index::OutputIndex;
 use crate::layout::Layout;
-use crate::made::Insured;
-use crate::outputs::{put_records, records_of};
+use crate::made::{Insured, InsuredLanes};
+use crate::outputs::{lanes_of, put_records};
 use crate::sums::sums_of;
 use kt_fmtree::Programme;
 use kt_money::Bytes;
@@ -26,32 +26,64 @@ use kt_tables::Portfolio;
 use std::alloc::{AllocError, Global};
 
 /// The insured losses of the records of a run, by a programme of the ids that have losses.
-fn insured_of<T: RunEntry>(
+fn lanes_by<T: RunEntry>(
     alloc: Global,
     portfolio: &Portfolio,
     programme: &Programme,
     layout: &Layout,
     samples: u32,
     records: &[T],
-) -> Result<Insured, AllocError>
+) -> Result<InsuredLanes, AllocError>
     requires samples { samples ≤ 1000 }
     requires rule { layout.now.rule ≤ 2 }
     requires layout { (tree : Tree) → IsProgramme tree programme.now → IsLayout tree portfolio.now.rows.fm_xref programme.now layout.now }
     requires records { All (IsLoss samples) (map T.entry_of records.now) }
     requires within { AreWithin (map T.entry_of records.now) }
-    ensures records { IfOk result (λ made. (tree : Tree) → IsProgramme tree programme.now → made.records ≡ insured_records tree layout.now.rule samples portfolio.now.rows.fm_xref (map T.entry_of records.now)) }
+    ensures rows { IfOk result (λ made. made.losses.rows ≡ samples + 1) }
+    ensures records { IfOk result (λ made. (tree : Tree) → IsProgramme tree programme.now → made.losses.records ≡ insured_records tree layout.now.rule samples portfolio.now.rows.fm_xref (map T.entry_of records.now)) }
     ensures layers { IfOk result (λ made. (tree : Tree) → IsProgramme tree programme.now → made.layers ≡ layer_sums tree layout.now.rule samples (map T.entry_of records.now)) }
 {
     programme.is_of_a_tree();
     let event = event_of(records);
     let layers = layout.layers();
     let table = table_of(alloc, programme, samples, layout.rule(), layers, records)?;
-    let made = records_of(alloc, event, &table, layout.outlets())?;
+    let losses = lanes_of(alloc, event, &table, layout.outlets())?;
     let sums = sums_of(alloc, event, &table, layers)?;
-    Ok(Insured {
-        records: made,
+    Ok(InsuredLanes {
+        losses,
         layers: sums,
     })
+}
+
+/// The insured losses of the records of one run, by lanes, and the sums of the layers: those of `insured`, which says what must hold. An
+/// error is want of memory.
+pub fn insured_lanes<T: RunEntry>(
+    alloc: Global,
+    portfolio: &Portfolio,
+    structure: &Structure,
+    outputs: &OutputIndex,
+    samples: u32,
+    rule: u32,
+    records: &[T],
+) -> Result<InsuredLanes, AllocError>
+    requires samples { samples ≤ 1000 }
+    requires rule { rule ≤ 2 }
+    requires structure { IsStructure (tree_of portfolio.now.rows 0) (kept_by structure.now) }
+    requires outputs { AreIndexed portfolio.now.rows.fm_xref outputs.now }
+    requires records { All (IsLoss samples) (map T.entry_of records.now) }
+    requires within { AreWithin (map T.entry_of records.now) }
+    ensures rows { IfOk result (λ made. made.losses.rows ≡ samples + 1) }
+    ensures records { IfOk result (λ made. made.losses.records ≡ insured_records (tree_of portfolio.now.rows 0) rule samples portfolio.now.rows.fm_xref (map T.entry_of records.now)) }
+    ensures layers { IfOk result (λ made. made.layers ≡ layer_sums (tree_of portfolio.now.rows 0) rule samples (map T.entry_of records.now)) }
+    ensures conserved { IfOk result (λ made. All (λ entry. entry.allocated ≡ entry.policy) made.layers) }
+    ensures good { IfOk result (λ made. All (IsLoss samples) made.losses.records) }
+{
+    portfolio.is_valid();
+    let ids = ids_of(alloc, records)?;
+    let programme = structure.programme(alloc, &ids)?;
+    let layout = Layout::new(alloc, outputs, &programme, rule)?;
+    let made = lanes_by(alloc, portfolio, &programme, &layout, samples, records)?;
+    Ok(made)
 }
 
 /// The insured losses of the records of one run, by an allocation rule from 0 to 2, and the sums of the layers over the samples.
@@ -78,12 +110,12 @@ pub fn insured<T: RunEntry>(
     ensures conserved { IfOk result (λ made. All (λ entry. entry.allocated ≡ entry.policy) made.layers) }
     ensures good { IfOk result (λ made. All (IsLoss samples) made.records) }
 {
-    portfolio.is_valid();
-    let ids = ids_of(alloc, records)?;
-    let programme = structure.programme(alloc, &ids)?;
-    let layout = Layout::new(alloc, outputs, &programme, rule)?;
-    let made = insured_of(alloc, portfolio, &programme, &layout, samples, records)?;
-    Ok(made)
+    let made = insured_lanes(alloc, portfolio, structure, outputs, samples, rule, records)?;
+    let records = made.losses.to_records(alloc)?;
+    Ok(Insured {
+        records,
+        layers: made.layers,
+    })
 }
 
 /// Appends the insured losses of the records of a run, by a programme of the ids that have losses, as they stand in a stream. An

@@ -1,14 +1,20 @@
 //! The types of this crate may be sent to threads and shared by them.
 use crate::index::OutputIndex;
-use crate::made::Insured;
+use crate::made::{Insured, InsuredLanes};
 use crate::sums::LayerSum;
 
 /// Takes what may be sent to threads and shared by them.
 fn is_shared<T: Send + Sync>(_: &T) {}
 
 /// Each type once.
-pub(crate) fn are_shared(outputs: &OutputIndex, made: &Insured, sum: &LayerSum) {
+pub(crate) fn are_shared(
+    outputs: &OutputIndex,
+    made: &Insured,
+    lanes: &InsuredLanes,
+    sum: &LayerSum,
+) {
     is_shared(outputs);
     is_shared(made);
+    is_shared(lanes);
     is_shared(sum);
 }

@@ -1,14 +1,13 @@
 //! What the ids of a programme cede of the losses of a run.
 //! The rule: docs/FINANCIAL_MODULE.md, "Reinsurance".
-ghost use Rattle.std.specs.Prelude.{◌≡◌, ◌⊎◌, ◌+◌, ◌≤◌, ◌<◌, map, All, IfOk, length};
+ghost use Rattle.std.specs.Prelude.{◌≡◌, ◌⊎◌, ◌+◌, ◌≤◌, ◌<◌, All, IfOk, length};
 ghost use Rattle.kt_stream.specs.Losses.{IsLoss};
 ghost use Rattle.kt_runs.specs.RunLosses.{AreWithin};
 ghost use Rattle.kt_ri.specs.Ceded.{AreCeded, AreCededShares, AreRows, HasShares};
 
 use crate::ceding::CedingProgramme;
 use kt_lanes::Lanes;
-use kt_runs::RunEntry;
-use kt_shares::Table;
+use kt_shares::{RunLosses, Table};
 use std::alloc::{AllocError, Global};
 
 /// The shares of a table, added by the places of their ids, row by row.
@@ -32,22 +31,23 @@ fn ceded_lanes(
 }
 
 /// What the ids of a programme cede of the losses of a run, at the mean and at each sample: a lane for each id.
-pub(crate) fn ceded_of<T: RunEntry>(
+pub(crate) fn ceded_of<R: RunLosses>(
     alloc: Global,
     stage: &CedingProgramme,
     samples: u32,
     rule: u32,
-    records: &[T],
+    run: &R,
 ) -> Result<Lanes, AllocError>
     requires samples { samples ≤ 1000 }
     requires rule { (rule ≡ 1) ⊎ (rule ≡ 2) }
-    requires records { All (IsLoss samples) (map T.entry_of records.now) }
-    requires within { AreWithin (map T.entry_of records.now) }
+    requires has_rows { R.has_rows samples run.now }
+    requires records { All (IsLoss samples) (R.records_of run.now) }
+    requires within { AreWithin (R.records_of run.now) }
     ensures rows { IfOk result (λ ceded. AreRows (length stage.now.ids) samples ceded) }
-    ensures value { IfOk result (λ ceded. AreCeded stage.now rule samples (map T.entry_of records.now) ceded) }
+    ensures value { IfOk result (λ ceded. AreCeded stage.now rule samples (R.records_of run.now) ceded) }
 {
     stage.is_ceding();
-    let table = stage.table(alloc, samples, rule, records)?;
+    let table = stage.table(alloc, samples, rule, run)?;
     let ceded = ceded_lanes(
         alloc,
         stage.ids().len(),

@@ -1,6 +1,6 @@
 //! A programme that cedes losses.
 //! The rule: docs/FINANCIAL_MODULE.md, "Reinsurance".
-ghost use Rattle.std.specs.Prelude.{◌≡◌, ◌≤◌, map, All, IfOk};
+ghost use Rattle.std.specs.Prelude.{◌≡◌, ◌≤◌, All, IfOk};
 ghost use Rattle.kt_stream.specs.Losses.{IsLoss};
 ghost use Rattle.kt_runs.specs.RunLosses.{AreWithin};
 ghost use Rattle.kt_tree.specs.Tree.{Tree};
@@ -11,8 +11,7 @@ ghost use Rattle.kt_ri.specs.Ceding.{AreLayers, ArePlaces, HasFewLayers};
 
 use crate::places::owner_places;
 use kt_fmtree::Programme;
-use kt_runs::RunEntry;
-use kt_shares::{Table, TopLayer, table_of, top_layers};
+use kt_shares::{RunLosses, Table, TopLayer, table_of_run, top_layers};
 use std::alloc::{AllocError, Global};
 use std::marker::Model;
 
@@ -75,21 +74,22 @@ impl CedingProgramme {
     }
 
     /// What its layers have of the losses of a run at the mean and at each sample.
-    pub(crate) fn table<T: RunEntry>(
+    pub(crate) fn table<R: RunLosses>(
         &self,
         alloc: Global,
         samples: u32,
         rule: u32,
-        records: &[T],
+        run: &R,
     ) -> Result<Table, AllocError>
         requires samples { samples ≤ 1000 }
         requires rule { rule ≤ 2 }
-        requires records { All (IsLoss samples) (map T.entry_of records.now) }
-        requires within { AreWithin (map T.entry_of records.now) }
-        ensures value { IfOk result (λ table. (tree : Tree) → IsProgramme tree self.now → table ≡ table_for tree rule samples (map T.entry_of records.now) (layers_of tree)) }
+        requires has_rows { R.has_rows samples run.now }
+        requires records { All (IsLoss samples) (R.records_of run.now) }
+        requires within { AreWithin (R.records_of run.now) }
+        ensures value { IfOk result (λ table. (tree : Tree) → IsProgramme tree self.now → table ≡ table_for tree rule samples (R.records_of run.now) (layers_of tree)) }
     {
         let layers = self.layers();
-        let table = table_of(alloc, &self.programme, samples, rule, layers, records)?;
+        let table = table_of_run(alloc, &self.programme, samples, rule, layers, run)?;
         Ok(table)
     }
 

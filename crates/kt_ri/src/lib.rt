@@ -14,5 +14,5 @@ mod written;
 
 pub use reinsured::{Reinsured, one_stage};
 pub use stage::stage_of;
-pub use stages::reinsure;
+pub use stages::{reinsure, reinsure_lanes};
 pub use written::put_net;

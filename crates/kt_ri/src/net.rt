@@ -1,22 +1,20 @@
 //! The net and the ceded records of a run.
 //! The rule: docs/FINANCIAL_MODULE.md, "Reinsurance".
-ghost use Rattle.std.specs.Prelude.{◌≡◌, ◌+◌, ◌≤◌, ◌++◌, ℕ, ℤ, List, [], length, map, slice_index, All, IfOk, OnOk};
+ghost use Rattle.std.specs.Prelude.{◌≡◌, ◌+◌, ◌≤◌, ◌<◌, ◌++◌, ℕ, List, [], length, slice_index, slice_index_or, All, IfOk, OnOk};
 ghost use Rattle.std.specs.List.{cons_option};
 ghost use Rattle.kt_stream.specs.Losses.{IsLoss};
 ghost use Rattle.kt_stream.specs.declared.entry.LossRecord.{LossRecord};
-ghost use Rattle.kt_runs.specs.RunLosses.{AreWithin, loss_of};
+ghost use Rattle.kt_runs.specs.RunLosses.{AreWithin};
 ghost use Rattle.kt_tree.specs.Tree.{Tree};
 ghost use Rattle.kt_fmtree.specs.Parts.{IsProgramme};
 ghost use Rattle.kt_lanes.specs.Lanes.{AreWide, IsLane};
-ghost use Rattle.kt_ri.specs.Ceded.{AreCeded, AreRows, IsPlaceIn, ceded_in, pairs_behind, part_behind, record_behind, records_behind};
+ghost use Rattle.kt_ri.specs.Ceded.{AreCeded, AreRows, IsPlaceIn, ceded_in, part_behind, record_behind, records_behind};
 
 use crate::ceding::CedingProgramme;
 use crate::places::place_of;
 use kt_alloc::zeros;
 use kt_lanes::Lanes;
-use kt_runs::RunEntry;
-use kt_shares::{lane_pairs, push_record, take_losses};
-use kt_stream::{LossRecord, Pairs, Records};
+use kt_shares::{LossLanes, RunLosses};
 use std::alloc::{AllocError, Global};
 
 /// What is left of a loss of which so much is ceded, or that.
@@ -61,85 +59,60 @@ pub(crate) fn take_behind(losses: &mut [u64], ceded: &Lanes, place: Option<usize
     }
 }
 
-/// What is left of a record, or what its id cedes, row by row; the lane takes it first.
-fn pairs_behind(
-    alloc: Global,
-    samples: u32,
-    ceded: &Lanes,
-    place: Option<usize>,
-    entry: &LossRecord,
-    left: bool,
-    lane: &mut [u64],
-) -> Result<Pairs, AllocError>
-    requires samples { samples ≤ 1000 }
-    requires place { IsPlaceIn ceded.now place }
-    requires wide { AreWide (samples + 1) ceded.now }
-    requires entry { IsLoss samples entry.now }
-    requires few { (sidx : ℤ) → loss_of sidx entry.now.pairs ≤ 10000000000000000 }
-    requires lane { length lane.old ≡ samples + 1 }
-    ensures lane { length lane.new ≡ length lane.old }
-    ensures value { IfOk result (λ pairs. pairs ≡ pairs_behind left ceded.now samples place entry.now.pairs) }
-{
-    take_losses(lane, samples, entry.pairs.as_slice());
-    take_behind(lane, ceded, place, left);
-    let pairs = lane_pairs(alloc, lane)?;
-    Ok(pairs)
-}
-
-/// Appends what is left of a record, or what its id cedes, where that is something; the lane takes it first.
-fn push_behind(
-    alloc: Global,
+/// Puts what is left of the record in a place, or what its id cedes, behind others, where that is something; the lane takes it first.
+fn keep_behind<R: RunLosses>(
     stage: &CedingProgramme,
     samples: u32,
     ceded: &Lanes,
-    entry: &LossRecord,
+    run: &R,
+    at: usize,
     left: bool,
     lane: &mut [u64],
-    made: &mut Vec<LossRecord>,
+    made: &mut LossLanes,
 ) -> Result<(), AllocError>
     requires samples { samples ≤ 1000 }
     requires rows { AreRows (length stage.now.ids) samples ceded.now }
-    requires entry { IsLoss samples entry.now }
-    requires few { (sidx : ℤ) → loss_of sidx entry.now.pairs ≤ 10000000000000000 }
+    requires has_rows { R.has_rows samples run.now }
+    requires records { All (IsLoss samples) (R.records_of run.now) }
+    requires within { AreWithin (R.records_of run.now) }
+    requires at { at < length (R.records_of run.now) }
     requires lane { length lane.old ≡ samples + 1 }
+    requires made { made.old.rows ≡ samples + 1 }
     ensures lane { length lane.new ≡ length lane.old }
-    ensures ok { OnOk result ((tree : Tree) (rule : ℕ) (records : List LossRecord) → IsProgramme tree stage.now → AreCeded stage.now rule samples records ceded.now → made.new.items ≡ made.old.items ++ cons_option (record_behind left tree rule samples records entry.now) []) }
+    ensures made { made.new.rows ≡ made.old.rows }
+    ensures ok { OnOk result ((d : LossRecord) (tree : Tree) (rule : ℕ) (records : List LossRecord) → IsProgramme tree stage.now → AreCeded stage.now rule samples records ceded.now → made.new.records ≡ made.old.records ++ cons_option (record_behind left tree rule samples records (slice_index_or (R.records_of run.now) at d)) []) }
 {
     stage.is_ceding();
-    let place = place_of(stage.ids(), entry.id);
-    let pairs = pairs_behind(alloc, samples, ceded, place, entry, left, lane)?;
-    push_record(made, entry.event, entry.id, pairs)?;
+    let id = run.id_at(at);
+    let place = place_of(stage.ids(), id);
+    run.take_at(at, samples, lane);
+    take_behind(lane, ceded, place, left);
+    made.put(run.event_at(at), id, lane)?;
     Ok(())
 }
 
-/// What is left of the records of a run, or what their ids cede.
-pub(crate) fn records_behind<T: RunEntry>(
+/// What is left of the records of a run, or what their ids cede, by lanes.
+pub(crate) fn lanes_behind<R: RunLosses>(
     alloc: Global,
     stage: &CedingProgramme,
     samples: u32,
     ceded: &Lanes,
-    records: &[T],
+    run: &R,
     left: bool,
-) -> Result<Records<LossRecord>, AllocError>
+) -> Result<LossLanes, AllocError>
     requires samples { samples ≤ 1000 }
     requires rows { AreRows (length stage.now.ids) samples ceded.now }
-    requires records { All (IsLoss samples) (map T.entry_of records.now) }
-    requires within { AreWithin (map T.entry_of records.now) }
-    ensures value { IfOk result (λ made. (tree : Tree) (rule : ℕ) → IsProgramme tree stage.now → AreCeded stage.now rule samples (map T.entry_of records.now) ceded.now → made ≡ records_behind left tree rule samples (map T.entry_of records.now)) }
+    requires has_rows { R.has_rows samples run.now }
+    requires records { All (IsLoss samples) (R.records_of run.now) }
+    requires within { AreWithin (R.records_of run.now) }
+    ensures rows { IfOk result (λ made. made.rows ≡ samples + 1) }
+    ensures value { IfOk result (λ made. (tree : Tree) (rule : ℕ) → IsProgramme tree stage.now → AreCeded stage.now rule samples (R.records_of run.now) ceded.now → made.records ≡ records_behind left tree rule samples (R.records_of run.now)) }
 {
-    let mut made = Vec::with_capacity(alloc, records.len())?;
-    let mut lane = zeros(alloc, samples as usize + 1)?;
-    for held in records {
-        push_behind(
-            alloc,
-            stage,
-            samples,
-            ceded,
-            held.entry(),
-            left,
-            &mut lane,
-            &mut made,
-        )?;
+    let rows = samples as usize + 1;
+    let mut made = LossLanes::with_room(alloc, run.count(), rows)?;
+    let mut lane = zeros(alloc, rows)?;
+    for at in 0..run.count() {
+        keep_behind(stage, samples, ceded, run, at, left, &mut lane, &mut made)?;
     }
-    Ok(Records::from_vec(made))
+    Ok(made)
 }

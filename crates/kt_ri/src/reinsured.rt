@@ -1,6 +1,6 @@
 //! The losses of a run behind one stage.
 //! The rule: docs/FINANCIAL_MODULE.md, "Reinsurance".
-ghost use Rattle.std.specs.Prelude.{◌≡◌, ◌⊎◌, ◌≤◌, true, map, All, IfOk};
+ghost use Rattle.std.specs.Prelude.{◌≡◌, ◌⊎◌, ◌+◌, ◌≤◌, map, All, IfOk};
 ghost use Rattle.kt_stream.specs.Losses.{IsLoss};
 ghost use Rattle.kt_runs.specs.RunLosses.{AreWithin};
 ghost use Rattle.kt_tree.specs.Tree.{Tree};
@@ -12,9 +12,9 @@ ghost use Rattle.kt_ri.specs.Reinsurance.{ceded_records, net_records};
 
 use crate::ceded::ceded_of;
 use crate::ceding::{CedingProgramme, ceding_of};
-use crate::net::records_behind;
+use crate::net::lanes_behind;
 use kt_runs::RunEntry;
-use kt_shares::ids_of;
+use kt_shares::{Listed, LossLanes, RunLosses};
 use kt_stream::{LossRecord, Records};
 use kt_structure::Structure;
 use std::alloc::{AllocError, Global};
@@ -29,69 +29,42 @@ pub struct Reinsured {
 }
 
 /// The programme that cedes the losses of a run: of the units that they come to.
-pub(crate) fn ceding_for<T: RunEntry>(
+pub(crate) fn ceding_for<R: RunLosses>(
     alloc: Global,
     stage: &Structure,
-    records: &[T],
+    run: &R,
 ) -> Result<CedingProgramme, AllocError>
     requires stage { HasStage stage.now }
-    ensures value { IfOk result (λ made. (tree : Tree) → IsStage tree stage.now → IsProgramme (struck tree (ids_of (map T.entry_of records.now))) made) }
+    ensures value { IfOk result (λ made. (tree : Tree) → IsStage tree stage.now → IsProgramme (struck tree (ids_of (R.records_of run.now))) made) }
 {
-    let ids = ids_of(alloc, records)?;
+    let ids = run.id_list(alloc)?;
     let programme = stage.programme(alloc, &ids)?;
     let made = ceding_of(alloc, programme)?;
     Ok(made)
 }
 
-/// What a programme leaves of the losses of a run, and what it cedes, where that is asked for.
-fn behind<T: RunEntry>(
-    alloc: Global,
-    ceding: &CedingProgramme,
-    samples: u32,
-    rule: u32,
-    records: &[T],
-    with_ceded: bool,
-) -> Result<Reinsured, AllocError>
-    requires samples { samples ≤ 1000 }
-    requires rule { (rule ≡ 1) ⊎ (rule ≡ 2) }
-    requires records { All (IsLoss samples) (map T.entry_of records.now) }
-    requires within { AreWithin (map T.entry_of records.now) }
-    ensures net { IfOk result (λ made. (tree : Tree) → IsProgramme tree ceding.now → made.net ≡ net_records tree rule samples (map T.entry_of records.now)) }
-    ensures ceded { IfOk result (λ made. (tree : Tree) → IsProgramme tree ceding.now → with_ceded ≡ true → made.ceded ≡ ceded_records tree rule samples (map T.entry_of records.now)) }
-{
-    let shares = ceded_of(alloc, ceding, samples, rule, records)?;
-    let net = records_behind(alloc, ceding, samples, &shares, records, true)?;
-    if !with_ceded {
-        return Ok(Reinsured {
-            net,
-            ceded: Records::new(alloc),
-        });
-    }
-    let ceded = records_behind(alloc, ceding, samples, &shares, records, false)?;
-    Ok(Reinsured { net, ceded })
-}
-
-/// What a stage leaves of the losses of a run, and what it cedes, where that is asked for.
-pub(crate) fn behind_stage<T: RunEntry>(
+/// What a stage leaves of the losses of a run, by lanes.
+pub(crate) fn net_behind<R: RunLosses>(
     alloc: Global,
     stage: &Structure,
     samples: u32,
     rule: u32,
-    records: &[T],
-    with_ceded: bool,
-) -> Result<Reinsured, AllocError>
+    run: &R,
+) -> Result<LossLanes, AllocError>
     requires stage { HasStage stage.now }
     requires samples { samples ≤ 1000 }
     requires rule { (rule ≡ 1) ⊎ (rule ≡ 2) }
-    requires records { All (IsLoss samples) (map T.entry_of records.now) }
-    requires within { AreWithin (map T.entry_of records.now) }
-    ensures net { IfOk result (λ made. (tree : Tree) → IsStage tree stage.now → made.net ≡ net_records tree rule samples (map T.entry_of records.now)) }
-    ensures ceded { IfOk result (λ made. (tree : Tree) → IsStage tree stage.now → with_ceded ≡ true → made.ceded ≡ ceded_records tree rule samples (map T.entry_of records.now)) }
-    ensures good { IfOk result (λ made. All (IsLoss samples) made.net) }
-    ensures within { IfOk result (λ made. AreWithin made.net) }
+    requires has_rows { R.has_rows samples run.now }
+    requires records { All (IsLoss samples) (R.records_of run.now) }
+    requires within { AreWithin (R.records_of run.now) }
+    ensures rows { IfOk result (λ made. made.rows ≡ samples + 1) }
+    ensures net { IfOk result (λ made. (tree : Tree) → IsStage tree stage.now → made.records ≡ net_records tree rule samples (R.records_of run.now)) }
+    ensures good { IfOk result (λ made. All (IsLoss samples) made.records) }
+    ensures within { IfOk result (λ made. AreWithin made.records) }
 {
-    let ceding = ceding_for(alloc, stage, records)?;
-    let made = behind(alloc, &ceding, samples, rule, records, with_ceded)?;
+    let ceding = ceding_for(alloc, stage, run)?;
+    let ceded = ceded_of(alloc, &ceding, samples, rule, run)?;
+    let made = lanes_behind(alloc, &ceding, samples, &ceded, run, true)?;
     Ok(made)
 }
 
@@ -115,5 +88,13 @@ pub fn one_stage<T: RunEntry>(
     ensures good { IfOk result (λ made. All (IsLoss samples) made.net) }
     ensures within { IfOk result (λ made. AreWithin made.net) }
 {
-    behind_stage(alloc, stage, samples, rule, records, true)
+    let run = Listed { records };
+    let ceding = ceding_for(alloc, stage, &run)?;
+    let shares = ceded_of(alloc, &ceding, samples, rule, &run)?;
+    let net = lanes_behind(alloc, &ceding, samples, &shares, &run, true)?;
+    let ceded = lanes_behind(alloc, &ceding, samples, &shares, &run, false)?;
+    Ok(Reinsured {
+        net: net.to_records(alloc)?,
+        ceded: ceded.to_records(alloc)?,
+    })
 }

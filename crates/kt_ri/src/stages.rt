@@ -1,13 +1,14 @@
 //! The net losses of a run behind stages, one after the other.
 //! The rule: docs/FINANCIAL_MODULE.md, "Reinsurance".
-ghost use Rattle.std.specs.Prelude.{◌≡◌, ◌≤◌, ◌++◌, ◌∷◌, [], List, map, All, IfOk, OnOk};
+ghost use Rattle.std.specs.Prelude.{◌≡◌, ◌+◌, ◌≤◌, ◌++◌, ◌∷◌, [], List, map, All, IfOk, OnOk};
 ghost use Rattle.kt_stream.specs.Losses.{IsLoss};
 ghost use Rattle.kt_runs.specs.RunLosses.{AreWithin};
 ghost use Rattle.kt_tree.specs.Tree.{Tree};
 ghost use Rattle.kt_ri.specs.Reinsurance.{net_records, reinsured};
 ghost use Rattle.kt_ri.specs.Stages.{AreStages, HasStage, IsStage};
 
-use crate::reinsured::behind_stage;
+use crate::reinsured::net_behind;
+use kt_shares::{Listed, LossLanes};
 use kt_stream::{LossRecord, Pairs, Records};
 use kt_structure::Structure;
 use std::alloc::{AllocError, Global};
@@ -46,25 +47,26 @@ fn copy_of(alloc: Global, records: &[LossRecord]) -> Result<Records<LossRecord>,
     Ok(copy)
 }
 
-/// What stages leave of losses, by allocation rule 2, each stage on what the one before leaves.
-fn behind_stages(
+/// What stages leave of losses kept by lanes, as `reinsure` says it of records. An error is want of memory.
+pub fn reinsure_lanes(
     alloc: Global,
     stages: &[Structure],
     samples: u32,
-    losses: Records<LossRecord>,
-) -> Result<Records<LossRecord>, AllocError>
+    losses: LossLanes,
+) -> Result<LossLanes, AllocError>
     requires stages { All HasStage stages.now }
     requires samples { samples ≤ 1000 }
-    requires records { All (IsLoss samples) losses }
-    requires within { AreWithin losses }
-    ensures net { IfOk result (λ net. (trees : List Tree) → AreStages trees stages.now → net ≡ reinsured trees samples losses) }
-    ensures good { IfOk result (λ net. All (IsLoss samples) net) }
-    ensures within { IfOk result (λ net. AreWithin net) }
+    requires rows { losses.rows ≡ samples + 1 }
+    requires records { All (IsLoss samples) losses.records }
+    requires within { AreWithin losses.records }
+    ensures rows { IfOk result (λ net. net.rows ≡ samples + 1) }
+    ensures net { IfOk result (λ net. (trees : List Tree) → AreStages trees stages.now → net.records ≡ reinsured trees samples losses.records) }
+    ensures good { IfOk result (λ net. All (IsLoss samples) net.records) }
+    ensures within { IfOk result (λ net. AreWithin net.records) }
 {
     let mut net = losses;
     for stage in stages {
-        let made = behind_stage(alloc, stage, samples, 2, net.as_slice(), false)?;
-        net = made.net;
+        net = net_behind(alloc, stage, samples, 2, &net)?;
     }
     Ok(net)
 }
@@ -89,7 +91,9 @@ pub fn reinsure(
         let copy = copy_of(alloc, records)?;
         return Ok(copy);
     };
-    let made = behind_stage(alloc, first, samples, 2, records, false)?;
-    let net = behind_stages(alloc, later, samples, made.net)?;
-    Ok(net)
+    let run = Listed { records };
+    let made = net_behind(alloc, first, samples, 2, &run)?;
+    let net = reinsure_lanes(alloc, later, samples, made)?;
+    let left = net.to_records(alloc)?;
+    Ok(left)
 }

@@ -22,7 +22,7 @@ use kt_lanes::Lanes;
 use kt_money::Bytes;
 use kt_pairs::pair_room;
 use kt_runs::RunEntry;
-use kt_shares::{put_lane, take_losses};
+use kt_shares::{Listed, put_lane, take_losses};
 use kt_stream::LossRecord;
 use kt_structure::Structure;
 use std::alloc::{AllocError, Global};
@@ -107,8 +107,9 @@ pub fn put_net<T: RunEntry>(
     ensures ok { OnOk result ((tree : Tree) → IsStage tree stage.now → out.new ≡ out.old ++ flat_map loss_bytes (net_records tree rule samples (map T.entry_of records.now))) }
     ensures unchanged { OnErr result (out.new ≡ out.old) }
 {
-    let ceding = ceding_for(alloc, stage, records)?;
-    let ceded = ceded_of(alloc, &ceding, samples, rule, records)?;
+    let run = Listed { records };
+    let ceding = ceding_for(alloc, stage, &run)?;
+    let ceded = ceded_of(alloc, &ceding, samples, rule, &run)?;
     put_behind(alloc, &ceding, samples, &ceded, records, out)?;
     Ok(())
 }

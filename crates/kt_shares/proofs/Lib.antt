@@ -7,3 +7,4 @@ pub mod ByLanesLemmas
 pub mod ByRowsLemmas
 pub mod TableLemmas
 pub mod WrittenLemmas
+pub mod LossLanesLemmas

@@ -13,22 +13,16 @@ use Rattle.kt_runs.specs.Sidx.{place_of, sidx_at}
 use Rattle.kt_runs.specs.SidxLaws.{one_place}
 use Rattle.kt_lanes.specs.Lanes.{IsLane}
 use Rattle.kt_shares.specs.HoldsLaws.{holds-more}
+use Rattle.kt_shares.specs.RowLaws.{row-back}
 use Rattle.kt_shares.specs.Table.{row_place}
 
--- the place of a row is above that of sidx -2, and tells the row
+-- the place of a row is above that of sidx -2
 row-above : (row : ℕ) → 2147483646 < row_place row
 row-above row = by (nat_eq row 0)
   where
     by : (b : Bool) → 2147483646 < cond b 2147483647 (2147483648 + row)
     by true = omega arith
     by false = omega arith
-
-row-back : (row : ℕ) → row ≡ row_place row - 2147483648
-row-back row = by (nat_eq row 0) refl
-  where
-    by : (b : Bool) → nat_eq row 0 ≡ b → row ≡ cond b 2147483647 (2147483648 + row) - 2147483648
-    by true is = let none = eqb-true row 0 is in omega (arith, none)
-    by false is = omega arith
 
 module _ (samples place : ℕ) (pair : Pair) (is : IsSidx samples pair.sidx) (place_is : place ≡ place_of pair.sidx) (back : sidx_at place ≡ pair.sidx) where
   most : place ≤ 2147483648 + samples

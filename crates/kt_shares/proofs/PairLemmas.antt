@@ -47,6 +47,20 @@ module _ (loss : ℕ → ℕ) where
   later-more row zero = let same : row + 0 ≡ row = omega arith in omega (arith, ap (λ n. length (pairs_by_row loss n)) same)
   later-more row (suc n) = let next : row + n + 1 ≡ row + suc n = omega arith in omega (arith, later-more row n, longer (row + n), ap (λ n. length (pairs_by_row loss n)) next)
 
+  -- with a row that has a loss there is a pair
+  pub some-pair : (rows row : ℕ) → row < rows → 0 < loss row → 0 < length (pairs_by_row loss rows)
+  some-pair rows row below some =
+      let end : row + 1 + (rows - (row + 1)) ≡ rows = omega (arith, below) in
+      omega (arith, later-more (row + 1) (rows - (row + 1)), ap (λ n. length (pairs_by_row loss n)) end, counted row (length (pairs_by_row loss row)) refl some)
+
+  -- and a row without a loss adds none to none
+  pub still-none : (row : ℕ) → pairs_by_row loss row ≡ [] → loss row ≤ 0 → pairs_by_row loss (row + 1) ≡ []
+  still-none row none zero_is = more-row row ∙ (ap (λ (pairs : List Pair). pairs ++ own row (loss row)) none ∙ empty (loss row) zero_is)
+    where
+      empty : (n : ℕ) → n ≤ 0 → own row n ≡ []
+      empty zero least = refl
+      empty (suc n) least = absurd (omega (arith, least))
+
   -- where all pairs are there, no row adds one
   pub full : (rows row : ℕ) → row < rows → length (pairs_by_row loss rows) ≤ length (pairs_by_row loss row) → pairs_by_row loss row ≡ pairs_by_row loss (row + 1)
   full rows row below all = by (loss row) (longer row) ∙ sym (more-row row)

@@ -7,7 +7,7 @@ use Rattle.std.proofs.lemmas.List.{get_or-set_same, get_or-set_other, length-set
 use Rattle.kt_runs.specs.Adding.{Holds}
 
 -- numbers that differ are not equal
-apart : (one other : ℕ) → (one ≡ other → ⊥) → nat_eq one other ≡ false
+pub apart : (one other : ℕ) → (one ≡ other → ⊥) → nat_eq one other ≡ false
 apart one other differ = by (nat_eq one other) refl
   where
     by : (b : Bool) → nat_eq one other ≡ b → b ≡ false

@@ -2,6 +2,8 @@ pub mod Shares
 pub mod Layers
 pub mod Row
 pub mod Table
+pub mod LaneRun
+pub mod LossLanes
 pub mod Taken
 pub mod ByLanes
 pub mod Kept
@@ -9,6 +11,7 @@ pub mod HoldsLaws
 pub mod LookupLaws
 pub mod SharesLaws
 pub mod RowLaws
+pub mod LossLanesLaws
 pub mod PairLaws
 pub mod RecordLaws
 pub mod TableLaws

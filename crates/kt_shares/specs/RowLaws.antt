@@ -3,6 +3,7 @@
 use Rattle.std.specs.Prelude.{◌≡◌, ℕ, zero, suc, ◌+◌, ◌-◌, ◌<◌, ◌≤◌, Bool, true, false, cond, nat_eq, nat_lt, ℤ, pos, negsuc, List, [], ◌∷◌, ◌++◌, Option, length, map, slice_index_or, take}
 use Rattle.std.specs.List.{AllByRecursion, cons_option, filter_map, range_with_len}
 use Rattle.std.proofs.Common.{refl, sym, ap, ◌∙◌, arith, add-one}
+use Rattle.std.proofs.lemmas.Bool.{eqb-true}
 use Rattle.std.proofs.lemmas.Bool.Decides.{nat_tests}
 use Rattle.std.proofs.lemmas.List.{take_more}
 use Rattle.std.proofs.lemmas.List.Elements.{filter_map-append}
@@ -57,6 +58,14 @@ sample-place row some = ap (λ b. sidx_at (cond b 2147483647 (2147483648 + row))
 
     above : (n : ℕ) → nat_lt (2147483648 + n) 2147483648 ≡ false
     above n = grind (arith, nat_tests)
+
+-- the place of a row tells it
+pub row-back : (row : ℕ) → row ≡ row_place row - 2147483648
+row-back row = by (nat_eq row 0) refl
+  where
+    by : (b : Bool) → nat_eq row 0 ≡ b → row ≡ cond b 2147483647 (2147483648 + row) - 2147483648
+    by true is = let none = eqb-true row 0 is in omega (arith, none)
+    by false is = omega arith
 
 -- the place of a row from that of sidx -2
 pub place-in : (row samples : ℕ) → row ≤ samples → (row_place row - 2147483646 < samples + 3) × (2147483646 + (row_place row - 2147483646) ≡ row_place row)

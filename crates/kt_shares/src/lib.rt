@@ -4,15 +4,18 @@
 mod by_lanes;
 mod by_rows;
 mod layers;
+mod loss_lanes;
 mod losses;
 mod pairs;
 mod row;
+mod run_losses;
 mod shared;
 mod table;
 mod written;
 
 pub use layers::{TopLayer, top_layers};
+pub use loss_lanes::LossLanes;
 pub use losses::{ids_of, take_losses};
-pub use pairs::{lane_pairs, push_record};
-pub use table::{Table, table_of};
+pub use run_losses::{Listed, RunLosses};
+pub use table::{Table, table_of, table_of_run};
 pub use written::put_lane;

@@ -1,13 +1,12 @@
-//! The pairs of the rows of a run, and records of them.
+//! The pairs of the rows of a run.
 //! The rule: docs/FINANCIAL_MODULE.md, "Insured losses".
-ghost use Rattle.std.specs.Prelude.{◌≡◌, ◌+◌, ◌≤◌, ◌<◌, ◌++◌, [], length, slice_index, take, IfOk, OnErr, OnOk};
+ghost use Rattle.std.specs.Prelude.{◌≡◌, ◌+◌, ◌≤◌, ◌<◌, ◌++◌, [], length, slice_index, take, IfOk};
 ghost use Rattle.std.specs.List.{cons_option};
 ghost use Rattle.kt_runs.specs.Sidx.{pair_of, sidx_at};
-ghost use Rattle.kt_shares.specs.Shares.{record_with};
 ghost use Rattle.kt_shares.specs.Table.{pairs_by_row, row_place};
 
 use kt_runs::sidx_at;
-use kt_stream::{LossRecord, Pair, Pairs};
+use kt_stream::{Pair, Pairs};
 use std::alloc::{AllocError, Global};
 
 /// The pair of a row.
@@ -56,7 +55,7 @@ fn put_pair(pairs: &mut Vec<Pair>, place: usize, row: u32, loss: u64) -> usize
 
 /// The pairs of a lane of losses in cents, where they are above 0. The first is that of the mean, and behind it stand those of the
 /// samples, at most 1,000. An error is want of memory.
-pub fn lane_pairs(alloc: Global, lane: &[u64]) -> Result<Pairs, AllocError>
+pub(crate) fn lane_pairs(alloc: Global, lane: &[u64]) -> Result<Pairs, AllocError>
     requires { length lane.now ≤ 1001 }
     ensures value { IfOk result (λ pairs. pairs ≡ pairs_by_row (slice_index lane.now) (length lane.now)) }
 {
@@ -68,21 +67,4 @@ pub fn lane_pairs(alloc: Global, lane: &[u64]) -> Result<Pairs, AllocError>
         }
     }
     Ok(Pairs::from_vec(pairs))
-}
-
-/// Appends the record of pairs of an event and an id, where there are some. An error is want of memory, and the records stay as
-/// they are.
-pub fn push_record(
-    made: &mut Vec<LossRecord>,
-    event: u32,
-    id: u32,
-    pairs: Pairs,
-) -> Result<(), AllocError>
-    ensures ok { OnOk result (made.new.items ≡ made.old.items ++ cons_option (record_with event id pairs) []) }
-    ensures unchanged { OnErr result (made.new.items ≡ made.old.items) }
-{
-    if !pairs.as_slice().is_empty() {
-        made.push(LossRecord { event, id, pairs })?;
-    }
-    Ok(())
 }

@@ -1,12 +1,14 @@
 //! The types of this crate may be sent to threads and shared by them.
 use crate::layers::TopLayer;
+use crate::loss_lanes::LossLanes;
 use crate::table::Table;
 
 /// Takes what may be sent to threads and shared by them.
 fn is_shared<T: Send + Sync>(_: &T) {}
 
 /// Each type once.
-pub(crate) fn are_shared(layer: &TopLayer, table: &Table) {
+pub(crate) fn are_shared(layer: &TopLayer, losses: &LossLanes, table: &Table) {
     is_shared(layer);
+    is_shared(losses);
     is_shared(table);
 }

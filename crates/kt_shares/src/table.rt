@@ -15,15 +15,14 @@ ghost use Rattle.kt_shares.specs.Table.{HasAmounts, pairs_by_row, row_at, sample
 use crate::by_lanes::{LayerLanes, are_plain, layer_lanes};
 use crate::by_rows::lanes_by_rows;
 use crate::layers::TopLayer;
-use crate::losses::id_lanes;
-use crate::pairs::lane_pairs;
+use crate::loss_lanes::LossLanes;
+use crate::run_losses::{Listed, RunLosses};
 use crate::written::put_lane;
 use kt_fmtree::Programme;
 use kt_lanes::{LaneGroups, Lanes, climb, has_plain_units};
 use kt_money::Bytes;
 use kt_pairs::pair_room;
 use kt_runs::RunEntry;
-use kt_stream::Pairs;
 use std::alloc::{AllocError, Global};
 use std::marker::Model;
 
@@ -74,13 +73,30 @@ impl Table {
         self.shares.lane(place)
     }
 
-    /// The pairs of the shares in a place, where these are above 0. An error is want of memory.
-    pub fn pairs(&self, alloc: Global, place: usize) -> Result<Pairs, AllocError>
-        requires place { All (λ row. place < length row.shares) self.now }
-        ensures value { IfOk result (λ pairs. pairs ≡ pairs_by_row (λ row. slice_index (row_at self.now row).shares place) (length self.now)) }
+    /// No record, with room for the shares in so many places. An error is want of memory.
+    pub fn no_losses(&self, alloc: Global, count: usize) -> Result<LossLanes, AllocError>
+        ensures rows { IfOk result (λ made. made.rows ≡ length self.now) }
+        ensures none { IfOk result (λ made. made.records ≡ []) }
     {
-        let pairs = lane_pairs(alloc, self.shares(place))?;
-        Ok(pairs)
+        LossLanes::with_room(alloc, count, self.rows)
+    }
+
+    /// Puts the record of an event and an id with the shares in a place behind others, where one is above 0. An error is want of memory,
+    /// and nothing changes then.
+    pub fn keep(
+        &self,
+        event: u32,
+        id: u32,
+        place: usize,
+        losses: &mut LossLanes,
+    ) -> Result<(), AllocError>
+        requires place { All (λ row. place < length row.shares) self.now }
+        requires rows { losses.old.rows ≡ length self.now }
+        ensures rows { losses.new.rows ≡ losses.old.rows }
+        ensures ok { OnOk result (losses.new.records ≡ losses.old.records ++ cons_option (record_with event id (pairs_by_row (λ row. slice_index (row_at self.now row).shares place) (length self.now))) []) }
+        ensures unchanged { OnErr result (losses.new.records ≡ losses.old.records) }
+    {
+        losses.put(event, id, self.shares(place))
     }
 
     /// Room for the pairs of one record of the shares. An error is want of memory.
@@ -155,6 +171,34 @@ fn lanes_of(
     Ok(made)
 }
 
+/// What layers of a programme have of the losses of a run, as `table_of` says it of records.
+pub fn table_of_run<R: RunLosses>(
+    alloc: Global,
+    programme: &Programme,
+    samples: u32,
+    rule: u32,
+    layers: &[TopLayer],
+    run: &R,
+) -> Result<Table, AllocError>
+    requires samples { samples ≤ 1000 }
+    requires rule { rule ≤ 2 }
+    requires layers { AllByRecursion (IsTopLayer programme.now) layers.now }
+    requires rows { R.has_rows samples run.now }
+    requires records { All (IsLoss samples) (R.records_of run.now) }
+    requires within { AreWithin (R.records_of run.now) }
+    ensures value { IfOk result (λ table. (tree : Tree) → IsProgramme tree programme.now → table ≡ table_for tree rule samples (R.records_of run.now) (map key_of layers.now)) }
+{
+    programme.is_of_a_tree();
+    let rows = samples as usize + 1;
+    let lanes = run.lanes_for(alloc, programme.ids(), samples)?;
+    let made = lanes_of(alloc, programme, rows, &lanes, rule, layers)?;
+    Ok(Table {
+        rows,
+        shares: made.shares,
+        policies: made.policies,
+    })
+}
+
 /// What layers of a programme have of the losses of a run, by an allocation rule from 0 to 2: a row for the mean, and one for each
 /// sample. An id that the programme does not name takes no part, and neither does sidx -2. An error is want of memory.
 pub fn table_of<T: RunEntry>(
@@ -172,13 +216,6 @@ pub fn table_of<T: RunEntry>(
     requires within { AreWithin (map T.entry_of records.now) }
     ensures value { IfOk result (λ table. (tree : Tree) → IsProgramme tree programme.now → table ≡ table_for tree rule samples (map T.entry_of records.now) (map key_of layers.now)) }
 {
-    programme.is_of_a_tree();
-    let rows = samples as usize + 1;
-    let lanes = id_lanes(alloc, programme.ids(), samples, records)?;
-    let made = lanes_of(alloc, programme, rows, &lanes, rule, layers)?;
-    Ok(Table {
-        rows,
-        shares: made.shares,
-        policies: made.policies,
-    })
+    let run = Listed { records };
+    table_of_run(alloc, programme, samples, rule, layers, &run)
 }

@@ -4,3 +4,4 @@ pub mod GoodLemmas
 pub mod OneRunLemmas
 pub mod SumsLemmas
 pub mod RunSumsLemmas
+pub mod LaneSumsLemmas

@@ -8,6 +8,7 @@ use Rattle.std.proofs.lemmas.List.{get_or-map, take_more, get_or-set_same, get_o
 use Rattle.std.proofs.lemmas.List.Elements.{All-set, filter-append, recursion_from_All}
 use Rattle.std.proofs.lemmas.List.Sums.{sum_by_push, sum_by-take-le}
 use Rattle.std.proofs.lemmas.Map.Keys.{apart_from_distinct}
+use Rattle.kt_fmtree.specs.CarriedLaws.{map-map}
 use Rattle.kt_fmtree.specs.RisingLaws.{rising-filter}
 use Rattle.kt_rec.specs.Rising.{IsRising, distinct-from_rising, rising, rising-member, rising-rises, rising-unique}
 use Rattle.kt_tree.specs.Members.{member-filter}
@@ -22,6 +23,7 @@ use Rattle.kt_tables.specs.Portfolio.{PortfolioRows}
 use Rattle.kt_tables.specs.SetRows.{AreFound, SetRows, summary_at}
 use Rattle.kt_stream.specs.Losses.{IsLoss}
 use Rattle.kt_pairs.specs.Sums.{pairs_upto}
+use Rattle.kt_shares.specs.Shares.{ids_of}
 use Rattle.kt_sum.specs.Adding.{IsSpan}
 use Rattle.kt_sum.specs.RunSummaries.{IsReadyRow, IsSumOf, IsThere, IsZeroRow, record_of}
 use Rattle.kt_sum.specs.Summaries.{found_summaries, is_summary, members, record_with, sidx_range, summaries_by, summary_of_run}
@@ -87,6 +89,10 @@ among (one ∷ found) (suc k) summary d below is = behind one (among found k sum
     behind : (one : Option ℕ) → list_any (nat_eq summary) (filter_map (λ one. one) found) ≡ true → list_any (nat_eq summary) (cons_option one (filter_map (λ one. one) found)) ≡ true
     behind None rest = rest
     behind (Some other) rest = ap (λ b. nat_eq summary other || b) rest ∙ or (nat_eq summary other)
+
+-- the summaries that are found for the ids of records are those of the records
+pub found_ids : (find : ℕ → Option ℕ) (found : List (Option ℕ)) (ids : List ℕ) (records : List LossRecord) → found ≡ map find ids → ids ≡ ids_of records → found ≡ map (λ entry. find entry.id) records
+found_ids find found ids records found_is ids_are = found_is ∙ (ap (map find) ids_are ∙ map-map find (λ (entry : LossRecord). entry.id) records)
 
 -- what was found for a record
 pub found_at : (find : ℕ → Option ℕ) (found : List (Option ℕ)) (records : List LossRecord) (i : ℕ) (d : Option ℕ) (entry : LossRecord) → found ≡ map (λ entry. find entry.id) records → i < length records → entry ≡ slice_index_or records i entry → find entry.id ≡ slice_index_or found i d
@@ -160,6 +166,10 @@ pub exposure_same : (one other : PortfolioRows) (perspective same : Perspective)
 exposure_same one other perspective same set also portfolio_is perspective_is set_is =
     ap (λ (rows : PortfolioRows). exposure_of perspective rows.rows rows.need.rule set) portfolio_is
     ∙ (ap (λ (whose : Perspective). exposure_of whose other.rows other.need.rule set) perspective_is ∙ ap (exposure_of same other.rows other.need.rule) set_is)
+
+-- a place among the summaries is one among the sums
+pub row_inside : (rows : List SummarySums) (summaries : List ℕ) (place : ℕ) → map (λ row. row.summary) rows ≡ summaries → place < length summaries → place < length rows
+row_inside rows summaries place are below = omega (arith, ap length are, length-map rows (λ (row : SummarySums). row.summary))
 
 -- rows at two places are of two summaries
 apart_rows : (rows : List SummarySums) → IsRising (map (λ row. row.summary) rows) → (i j : ℕ) (d e : SummarySums) → i < length rows → j < length rows → j ≢ i → nat_eq (slice_index_or rows i d).summary (slice_index_or rows j e).summary ≡ false

@@ -1,6 +1,8 @@
 //! Summaries: what the losses of a run come to in each summary of a set.
 #![tactic(auto)]
 
+mod lane_sums;
+mod lanes;
 pub mod laws;
 mod rows;
 mod run;
@@ -9,5 +11,6 @@ mod set_run;
 mod span;
 mod summary_sums;
 
+pub use lanes::summarise_lanes;
 pub use run::{summarise, summarise_within};
 pub use run_summaries::RunSummaries;

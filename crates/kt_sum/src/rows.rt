@@ -1,15 +1,16 @@
 //! The sums of several summaries: where those of a summary stand, and how a record is added to them.
 //! The rule: docs/CALCULATION.md, "Summaries".
-ghost use Rattle.std.specs.Prelude.{◌≡◌, ℕ, true, ◌<◌, ◌∷◌, [], ◌++◌, nat_eq, List, length, map, All, Option, slice_index};
+ghost use Rattle.std.specs.Prelude.{◌≡◌, ℕ, true, ◌+◌, ◌<◌, ◌≤◌, ◌∷◌, [], ◌++◌, nat_eq, List, length, map, All, Option, slice_index};
 ghost use Rattle.std.specs.List.{list_any};
 ghost use Rattle.kt_rec.specs.Rising.{IsRising};
 ghost use Rattle.kt_stream.specs.declared.entry.LossRecord.{LossRecord};
 ghost use Rattle.kt_runs.specs.Adding.{AreInside};
 ghost use Rattle.kt_runs.specs.RunLosses.{AreWithin};
+ghost use Rattle.kt_shares.specs.Table.{pairs_by_row};
 ghost use Rattle.kt_sum.specs.RunSummaries.{IsReadyRow, IsSumOf, IsThere};
 
 use crate::span::Span;
-use crate::summary_sums::{SummarySums, add_to};
+use crate::summary_sums::{SummarySums, add_lane_to, add_to};
 use kt_stream::LossRecord;
 
 /// Whether a summary stands at a place.
@@ -67,5 +68,33 @@ pub(crate) fn add_entry(
     };
     let place = place_near(summaries, summary, near);
     add_to(&mut rows[place], span.least, entry.pairs.as_slice());
+    place
+}
+
+/// Adds the losses of a lane to the sums of the summary that was found for its id, if one was, as `add_entry` does: sums which begin at
+/// sidx -2.
+pub(crate) fn add_lane_entry(
+    rows: &mut [SummarySums],
+    summaries: &[u32],
+    found: Option<u32>,
+    near: usize,
+    lane: &[u64],
+) -> usize
+    requires rising { IsRising summaries.now }
+    requires rows { map (λ row. row.summary) rows.old ≡ summaries.now }
+    requires there { IsThere summaries.now found }
+    requires ready { All (IsReadyRow (length lane.now + 2)) rows.old }
+    requires some { 1 ≤ length lane.now }
+    requires few { length lane.now ≤ 1001 }
+    ensures rows { map (λ row. row.summary) rows.new ≡ summaries.now }
+    ensures ready { All (IsReadyRow (length lane.now + 2)) rows.new }
+    ensures sums { (find : ℕ → Option ℕ) (records : List LossRecord) (entry : LossRecord) → entry.pairs ≡ pairs_by_row (slice_index lane.now) (length lane.now) → find entry.id ≡ found → AreWithin (records ++ entry ∷ []) → All (IsSumOf 2147483646 (length lane.now + 2) find records) rows.old → All (IsSumOf 2147483646 (length lane.now + 2) find (records ++ entry ∷ [])) rows.new }
+{
+    let summary = match found {
+        Some(summary) => summary,
+        None => return near,
+    };
+    let place = place_near(summaries, summary, near);
+    add_lane_to(&mut rows[place], lane);
     place
 }

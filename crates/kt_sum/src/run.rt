@@ -18,21 +18,22 @@ use crate::summary_sums::{FIRST, SummarySums, no_sums, record_of};
 use kt_index::keep_once;
 use kt_rec::Perspective;
 use kt_runs::event_of;
+use kt_shares::ids_of;
 use kt_stream::{LossRecord, Records, SummaryRecord};
 use kt_tables::{Portfolio, SetSummaries};
 use std::alloc::{AllocError, Global};
 
-/// The summaries that a set has for the ids of records, record by record.
-fn found_of(
+/// The summaries that a set has for ids, id by id.
+pub(crate) fn found_of(
     alloc: Global,
     summaries: &SetSummaries,
-    records: &[LossRecord],
+    ids: &[u32],
 ) -> Result<Vec<Option<u32>>, AllocError>
-    ensures value { IfOk result (λ found. (find : ℕ → Option ℕ) → AreFound find summaries.now → found.items ≡ map (λ entry. find entry.id) records.now) }
+    ensures value { IfOk result (λ found. (find : ℕ → Option ℕ) → AreFound find summaries.now → found.items ≡ map find ids.now) }
 {
-    let mut found = Vec::with_capacity(alloc, records.len())?;
-    for entry in records {
-        found.push(summaries.of(entry.id))?;
+    let mut found = Vec::with_capacity(alloc, ids.len())?;
+    for id in ids {
+        found.push(summaries.of(*id))?;
     }
     Ok(found)
 }
@@ -45,7 +46,7 @@ fn known_of(alloc: Global, found: &[Option<u32>]) -> Result<Vec<u32>, AllocError
 }
 
 /// The summaries among what was found, by rising number.
-fn rising_of(alloc: Global, found: &[Option<u32>]) -> Result<Vec<u32>, AllocError>
+pub(crate) fn rising_of(alloc: Global, found: &[Option<u32>]) -> Result<Vec<u32>, AllocError>
     ensures rising { IfOk result (λ summaries. IsRising summaries.items) }
     ensures there { IfOk result (λ summaries. All (IsThere summaries.items) found.now) }
 {
@@ -81,7 +82,7 @@ fn add_records(
 }
 
 /// The records of the sums of summaries, in their order, where one of the sums is above 0.
-fn made_of(
+pub(crate) fn made_of(
     alloc: Global,
     run: &SetRun<'_>,
     span: Span,
@@ -121,7 +122,8 @@ fn summaries_in(
         set,
         event: event_of(records),
     };
-    let found = found_of(alloc, &portfolio.set_summaries(perspective, set), records)?;
+    let ids = ids_of(alloc, records)?;
+    let found = found_of(alloc, &portfolio.set_summaries(perspective, set), &ids)?;
     let summaries = rising_of(alloc, &found)?;
     let mut rows = no_sums(alloc, span.width, &summaries)?;
     add_records(&mut rows, &summaries, span, &found, records);

@@ -1,11 +1,10 @@
-use Rattle.std.proofs.Common.{◌≡◌, ◌∙◌, ◌++◌, ℕ, List, map, ap, sym, subst}
-use Rattle.kt_event.specs.Losses.{insured_of, losses_of}
+use Rattle.std.proofs.Common.{◌≡◌, ◌∙◌, ◌++◌, ℕ, List, ap, sym, subst}
+use Rattle.kt_event.specs.Losses.{losses_of}
 use Rattle.kt_event.specs.declared.block.Summaries.{Summaries}
 use Rattle.kt_insured.specs.Insured.{insured_records, layer_sums}
 use Rattle.kt_rec.specs.declared.perspective.Perspective.TheVariants.{Il}
 use Rattle.kt_runs.specs.RunLosses.{AreWithin}
 use Rattle.kt_shares.specs.RecordLaws.{map-same}
-use Rattle.kt_stream.specs.declared.entry.LossRecord.{LossRecord}
 use Rattle.kt_tree.specs.Programme.{tree_of}
 use Rattle.kt_event.proofs.BlockLemmas.{layers_are, of_perspective, output_summaries, rule_is}
 use Rattle.kt_event.specs.Loading.{loads_outputs, loads_policytc, loads_programme}
@@ -24,15 +23,15 @@ pub put_summaries-requires-clause-within : goal.put_summaries-requires-clause-wi
 put_summaries-requires-clause-within c =
     let terms = c.args.plan.now.terms in
     let rows = c.args.portfolio.now.rows in
-    let made : c.in_ok-insured.insured.records ≡ insured_records (tree_of rows 0) terms.rule terms.samples rows.fm_xref c.args.losses.now = c.in_ok-insured.ensures.records ∙ ap (insured_records (tree_of rows 0) terms.rule terms.samples rows.fm_xref) (map-same c.args.losses.now) in
-    subst AreWithin (sym (c.as_slice.ensures.value ∙ made ∙ ap (λ (rule : ℕ). insured_records (tree_of rows 0) rule terms.samples rows.fm_xref c.args.losses.now) (sym (rule_is terms c.args.portfolio.now.need c.requires.plan.need)))) (c.insured_losses_are_within.ensures.within terms.samples c.args.losses.now c.requires.within)
+    let made : c.in_ok-insured.insured.losses.records ≡ insured_records (tree_of rows 0) terms.rule terms.samples rows.fm_xref c.args.losses.now = c.in_ok-insured.ensures.records ∙ ap (insured_records (tree_of rows 0) terms.rule terms.samples rows.fm_xref) (map-same c.args.losses.now) in
+    subst AreWithin (sym (made ∙ ap (λ (rule : ℕ). insured_records (tree_of rows 0) rule terms.samples rows.fm_xref c.args.losses.now) (sym (rule_is terms c.args.portfolio.now.need c.requires.plan.need)))) (c.insured_losses_are_within.ensures.within terms.samples c.args.losses.now c.requires.within)
 
 pub put_net_summaries-requires-clause-within : goal.put_net_summaries-requires-clause-within
 put_net_summaries-requires-clause-within c =
     let terms = c.args.plan.now.terms in
     let rows = c.args.portfolio.now.rows in
-    let made : c.in_ok-insured.insured.records ≡ insured_records (tree_of rows 0) terms.rule terms.samples rows.fm_xref c.args.losses.now = c.in_ok-insured.ensures.records ∙ ap (insured_records (tree_of rows 0) terms.rule terms.samples rows.fm_xref) (map-same c.args.losses.now) in
-    subst AreWithin (sym (c.as_slice-2.ensures.value ∙ made ∙ ap (λ (rule : ℕ). insured_records (tree_of rows 0) rule terms.samples rows.fm_xref c.args.losses.now) (sym (rule_is terms c.args.portfolio.now.need c.requires.plan.need)))) (c.insured_losses_are_within.ensures.within terms.samples c.args.losses.now c.requires.within)
+    let made : c.in_ok-insured.insured.losses.records ≡ insured_records (tree_of rows 0) terms.rule terms.samples rows.fm_xref c.args.losses.now = c.in_ok-insured.ensures.records ∙ ap (insured_records (tree_of rows 0) terms.rule terms.samples rows.fm_xref) (map-same c.args.losses.now) in
+    subst AreWithin (sym (made ∙ ap (λ (rule : ℕ). insured_records (tree_of rows 0) rule terms.samples rows.fm_xref c.args.losses.now) (sym (rule_is terms c.args.portfolio.now.need c.requires.plan.need)))) (c.insured_losses_are_within.ensures.within terms.samples c.args.losses.now c.requires.within)
 
 pub returns-clause-layers : goal.returns-clause-layers
 returns-clause-layers c =
@@ -44,7 +43,7 @@ pub returns-clause-ok : goal.returns-clause-ok
 returns-clause-ok c =
     let terms = c.args.plan.now.terms in
     let rows = c.args.portfolio.now.rows in
-    let made : c.in_ok-insured.insured.records ≡ losses_of terms rows c.args.losses.now Il = c.in_ok-insured.ensures.records ∙ ap (insured_records (tree_of rows 0) terms.rule terms.samples rows.fm_xref) (map-same c.args.losses.now) in
+    let made : c.in_ok-insured.insured.losses.records ≡ losses_of terms rows c.args.losses.now Il = c.in_ok-insured.ensures.records ∙ ap (insured_records (tree_of rows 0) terms.rule terms.samples rows.fm_xref) (map-same c.args.losses.now) in
     output_summaries terms rows c.args.losses.now c.args.made.now c.put_summaries.new.made c.put_net_summaries.new.made c.requires.insured
-    (c.in_ok-put_summaries.ensures.ok ∙ ap (λ (xs : List Summaries). c.args.made.now ++ xs) (of_perspective terms rows c.args.losses.now Il c.args.portfolio.now.need.rule c.as_slice.result.now (rule_is terms c.args.portfolio.now.need c.requires.plan.need) (c.as_slice.ensures.value ∙ made)))
-    (c.in_ok-put_net_summaries.ensures.ok c.args.losses.now (c.as_slice-2.ensures.value ∙ made))
+    (c.in_ok-put_summaries.ensures.ok ∙ ap (λ (xs : List Summaries). c.args.made.now ++ xs) (of_perspective terms rows c.args.losses.now Il c.args.portfolio.now.need.rule c.in_ok-insured.insured.losses.records (rule_is terms c.args.portfolio.now.need c.requires.plan.need) made))
+    (c.in_ok-put_net_summaries.ensures.ok c.args.losses.now made)

@@ -1,5 +1,4 @@
-use Rattle.std.proofs.Common.{◌∷◌, [], All, sym, subst}
-use Rattle.std.specs.List.{AllByRecursion}
+use Rattle.std.proofs.Common.{All, sym, subst}
 use Rattle.kt_stream.specs.Summary.{IsSummary}
 use Rattle.kt_event.specs.Losses.{AreSummaries}
 use Rattle.kt_event.specs.declared.block.Summaries.{Summaries}

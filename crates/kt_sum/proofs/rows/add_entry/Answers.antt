@@ -1,26 +1,22 @@
-use Rattle.std.proofs.Common.{◌≡◌, ◌∙◌, ◌<◌, List, ℕ, Some, length, map, slice_index, slice_index_or, ap, arith, subst, sym}
+use Rattle.std.proofs.Common.{◌≡◌, ◌∙◌, List, ℕ, Some, slice_index, slice_index_or, ap, subst, sym}
 use Rattle.std.proofs.Math.Seq.{map-set_same}
-use Rattle.std.proofs.lemmas.List.{get_or-map, length-map}
+use Rattle.std.proofs.lemmas.List.{get_or-map}
 use Rattle.kt_rec.specs.Rising.{IsRising}
 use Rattle.kt_runs.specs.Adding.{AreInside}
 use Rattle.kt_sum.specs.declared.summary_sums.SummarySums.{SummarySums}
-use Rattle.kt_sum.proofs.RunSumsLemmas.{none_added, ready_more, some_added}
+use Rattle.kt_sum.proofs.RunSumsLemmas.{none_added, ready_more, row_inside, some_added}
 use Rattle.kt_sum.proofs.rows.add_entry.Goals as goal
 
 pub returns-in-None-clause-sums : goal.returns-in-None-clause-sums
 returns-in-None-clause-sums c = λ find records found within are. none_added find c.args.span.least c.args.span.width records c.args.entry.now (found ∙ c.in-None.is) c.args.rows.now are
 
--- a place among the summaries is one among the sums
-inside : (rows : List SummarySums) (summaries : List ℕ) (place : ℕ) → map (λ row. row.summary) rows ≡ summaries → place < length summaries → place < length rows
-inside rows summaries place are below = omega (arith, ap length are, length-map rows (λ (row : SummarySums). row.summary))
-
 pub bounds-rows-place : goal.bounds-rows-place
-bounds-rows-place c = inside c.args.rows.now c.args.summaries.now c.place_near-place.result c.requires.rows c.place_near-place.ensures.within
+bounds-rows-place c = row_inside c.args.rows.now c.args.summaries.now c.place_near-place.result c.requires.rows c.place_near-place.ensures.within
 
 pub add_to-requires : goal.add_to-requires
 add_to-requires c =
     let span = c.args.span in
-    let below = inside c.args.rows.now c.args.summaries.now c.place_near-place.result c.requires.rows c.place_near-place.ensures.within in
+    let below = row_inside c.args.rows.now c.args.summaries.now c.place_near-place.result c.requires.rows c.place_near-place.ensures.within in
     let width = (c.requires.ready c.place_near-place.result c.index-rows-place.result below).width_is in
     record { inside = subst (λ n. AreInside span.least n c.as_slice.result.now) (sym width) (subst (AreInside span.least span.width) (sym c.as_slice.ensures.value) c.requires.inside) }
 
@@ -32,7 +28,7 @@ returns c =
     let item = c.index-rows-place.result in
     let now = c.add_to.new.row in
     let added = c.add_to.ensures in
-    let below = inside rows c.args.summaries.now place c.requires.rows c.place_near-place.ensures.within in
+    let below = row_inside rows c.args.summaries.now place c.requires.rows c.place_near-place.ensures.within in
     let summary : (slice_index_or rows place item).summary ≡ c.in-Some.summary = sym (get_or-map (λ (row : SummarySums). row.summary) rows place item 0 below) ∙ (ap (λ (ids : List ℕ). slice_index ids place) c.requires.rows ∙ c.place_near-place.ensures.value) in
     record {
       rows = map-set_same (λ (row : SummarySums). row.summary) rows place now item added.summary ∙ c.requires.rows;
