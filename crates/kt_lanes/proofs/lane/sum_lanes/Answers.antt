@@ -3,17 +3,15 @@ use Rattle.std.specs.List.{sum}
 use Rattle.kt_lanes.specs.Lanes.{column, IsLane}
 use Rattle.kt_lanes.specs.LaneLaws.{first-lane, sums-end, sums-fit, sums-more}
 use Rattle.kt_lanes.proofs.lane.sum_lanes.Goals as goal
+use Rattle.kt_lanes.proofs.lane.sum_lanes.Goals.{After-lane-first}
+
+-- the first lane has its own amounts
+first-is : (c : After-lane-first) → IsLane (length c.args.sums.now) (λ k. sum (column k (take 1 (take c.args.count (drop c.args.start c.args.lanes.now))))) c.lane-first.result.now
+first-is c =
+    first-lane (length c.args.sums.now) c.args.lanes.now c.args.start c.args.count c.requires.wide (omega (arith, c.if-count-eq0.false)) c.requires.within c.lane-first.result.now c.lane-first.ensures.value
 
 pub copy_from_slice-requires : goal.copy_from_slice-requires
-copy_from_slice-requires c =
-    let width = length c.args.sums.now in
-    let lanes = c.args.lanes.now in
-    let start = c.args.start in
-    let count = c.args.count in
-    let first = c.lane-first.result.now in
-    let some : 0 < count = omega (arith, c.if-count-eq0.false) in
-    let first_is = first-lane width lanes start count c.requires.wide some c.requires.within first c.lane-first.ensures.value in
-    sym first_is.wide
+copy_from_slice-requires c = sym (first-is (goal.at.copy_from_slice-requires c).After-lane-first).wide
 
 pub returns-then-count-eq1 : goal.returns-then-count-eq1
 returns-then-count-eq1 c =
@@ -22,8 +20,7 @@ returns-then-count-eq1 c =
     let start = c.args.start in
     let count = c.args.count in
     let first = c.lane-first.result.now in
-    let some : 0 < count = omega (arith, c.if-count-eq0.false) in
-    let first_is = first-lane width lanes start count c.requires.wide some c.requires.within first c.lane-first.ensures.value in
+    let first_is = first-is (goal.at.returns-then-count-eq1 c).After-lane-first in
     let one : count ≤ 1 = omega (arith, c.if-count-eq1.true) in
     record {
       value =
@@ -41,8 +38,7 @@ add_both-requires-clause-few c =
     let start = c.args.start in
     let count = c.args.count in
     let first = c.lane-first.result.now in
-    let some : 0 < count = omega (arith, c.if-count-eq0.false) in
-    let first_is = first-lane width lanes start count c.requires.wide some c.requires.within first c.lane-first.ensures.value in
+    let first_is = first-is (goal.at.add_both-requires-clause-few c).After-lane-first in
     let more : 1 < count = omega (arith, c.if-count-eq0.false, c.if-count-eq1.false) in
     λ k below. sums-fit width lanes start count c.requires.within c.requires.few 1 more c.lane.result.now c.lane.ensures.value first first_is k below
 
@@ -53,8 +49,7 @@ loop-at-init c =
     let start = c.args.start in
     let count = c.args.count in
     let first = c.lane-first.result.now in
-    let some : 0 < count = omega (arith, c.if-count-eq0.false) in
-    let first_is = first-lane width lanes start count c.requires.wide some c.requires.within first c.lane-first.ensures.value in
+    let first_is = first-is (goal.at.loop-at-init c).After-lane-first in
     let more : 1 < count = omega (arith, c.if-count-eq0.false, c.if-count-eq1.false) in
     let second = c.lane.result.now in
     sums-more width lanes start count c.requires.within c.requires.few 1 more second c.lane.ensures.value first first_is c.add_both.new.sums

@@ -4,43 +4,41 @@ use Rattle.kt_lanes.specs.Lanes.{column, IsLane}
 use Rattle.kt_lanes.specs.LaneLaws.{first-lane, part-count, sums-fit, sums-more}
 use Rattle.kt_lanes.specs.SharesLaws.{behind-ends, behind-first, behind-goes, can-part, last-enough, part-enough, sharing-first, sharing-goes, sharing-last}
 use Rattle.kt_lanes.proofs.shares.push_shares.Goals as goal
+use Rattle.kt_lanes.proofs.shares.push_shares.Goals.{After-sum_lanes, After-lane-first, After-add_to}
+
+-- what all children have
+weights-are : (c : After-sum_lanes) → IsLane (length c.args.totals.now) (λ k. sum (column k (take c.args.count (drop c.args.start c.args.lanes.now)))) c.sum_lanes.new.sums
+weights-are c = subst (λ n. IsLane n (λ k. sum (column k (take c.args.count (drop c.args.start c.args.lanes.now)))) c.sum_lanes.new.sums) c.requires.weights_wide c.sum_lanes.ensures.value
+
+-- what the first has
+first-is : (c : After-lane-first) → IsLane (length c.args.totals.now) (λ k. sum (column k (take 1 (take c.args.count (drop c.args.start c.args.lanes.now))))) c.lane-first.result.now
+first-is c =
+    first-lane (length c.args.totals.now) c.args.lanes.now c.args.start c.args.count c.requires.wide (omega (arith, c.requires.some)) c.requires.within c.lane-first.result.now c.lane-first.ensures.value
+
+-- what the first have with the next
+upto-is : (c : After-add_to) → IsLane (length c.args.totals.now) (λ k. sum (column k (take (c.loop-at.at + 1) (take c.args.count (drop c.args.start c.args.lanes.now))))) c.add_to.new.lane
+upto-is c =
+    let below : c.loop-at.at < c.args.count = omega (arith, c.loop-at-test.true) in
+    let more : 2 < c.args.count = omega (arith, c.loop-at-test.true, c.loop-at.auto.at) in
+    sums-more (length c.args.totals.now) c.args.lanes.now c.args.start c.args.count c.requires.within c.requires.can.few c.loop-at.at below c.lane.result.now c.lane.ensures.value c.loop-at.upto (c.loop-at.invariant.upto more) c.add_to.new.lane c.add_to.ensures.value
 
 pub find_parts-requires-clause-can : goal.find_parts-requires-clause-can
-find_parts-requires-clause-can c =
-    let totals = c.args.totals.now in
-    let lanes = c.args.lanes.now in
-    let start = c.args.start in
-    let count = c.args.count in
-    let children = take count (drop start lanes) in
-    let weights_are : IsLane (length totals) (λ k. sum (column k children)) c.sum_lanes.new.sums = subst (λ n. IsLane n (λ k. sum (column k children)) c.sum_lanes.new.sums) c.requires.weights_wide c.sum_lanes.ensures.value in
-    let first_is = first-lane (length totals) lanes start count c.requires.wide (omega (arith, c.requires.some)) c.requires.within c.lane-first.result.now c.lane-first.ensures.value in
-    can-part totals children c.requires.can c.sum_lanes.new.sums weights_are 0 c.lane-first.result.now first_is
+find_parts-requires-clause-can c = can-part c.args.totals.now (take c.args.count (drop c.args.start c.args.lanes.now)) c.requires.can c.sum_lanes.new.sums (weights-are (goal.at.find_parts-requires-clause-can c).After-sum_lanes) 0 c.lane-first.result.now (first-is (goal.at.find_parts-requires-clause-can c).After-lane-first)
 
 pub begin_upto-requires : goal.begin_upto-requires
-begin_upto-requires c =
-    let totals = c.args.totals.now in
-    let lanes = c.args.lanes.now in
-    let start = c.args.start in
-    let count = c.args.count in
-    let children = take count (drop start lanes) in
-    let first_is = first-lane (length totals) lanes start count c.requires.wide (omega (arith, c.requires.some)) c.requires.within c.lane-first.result.now c.lane-first.ensures.value in
-    record { same = first_is.wide ∙ sym c.requires.upto_wide }
+begin_upto-requires c = record { same = (first-is (goal.at.begin_upto-requires c).After-lane-first).wide ∙ sym c.requires.upto_wide }
 
 pub loop-at-init : goal.loop-at-init
 loop-at-init c =
     let totals = c.args.totals.now in
-    let lanes = c.args.lanes.now in
-    let start = c.args.start in
-    let count = c.args.count in
-    let children = take count (drop start lanes) in
-    let weights_are : IsLane (length totals) (λ k. sum (column k children)) c.sum_lanes.new.sums = subst (λ n. IsLane n (λ k. sum (column k children)) c.sum_lanes.new.sums) c.requires.weights_wide c.sum_lanes.ensures.value in
-    let first_is = first-lane (length totals) lanes start count c.requires.wide (omega (arith, c.requires.some)) c.requires.within c.lane-first.result.now c.lane-first.ensures.value in
-    let some : 0 < length children = omega (arith, c.requires.some, part-count start count lanes c.requires.within) in
+    let children = take c.args.count (drop c.args.start c.args.lanes.now) in
+    let first_is = first-is (goal.at.loop-at-init c).After-lane-first in
+    let some : 0 < length children = omega (arith, c.requires.some, part-count c.args.start c.args.count c.args.lanes.now c.requires.within) in
     record {
       upto = λ more. subst (λ (lane : List ℕ). IsLane (length totals) (λ k. sum (column k (take 1 children))) lane) (sym (c.begin_upto.ensures.value more)) first_is;
       sharing =
           behind-first totals children c.args.out.now c.push.new.self c.find_parts.new.parts c.requires.out c.in_ok-push.ensures.ok
-          (sharing-first totals children c.requires.can c.sum_lanes.new.sums weights_are some c.lane-first.result.now first_is c.find_parts.new.parts c.find_parts.ensures.value);
+          (sharing-first totals children c.requires.can c.sum_lanes.new.sums (weights-are (goal.at.loop-at-init c).After-sum_lanes) some c.lane-first.result.now first_is c.find_parts.new.parts c.find_parts.ensures.value);
     }
 
 pub overflow_add-start : goal.overflow_add-start
@@ -48,91 +46,52 @@ overflow_add-start c = record { fits = omega (arith, c.len-all.ensures.value, c.
 
 pub add_to-requires-clause-few : goal.add_to-requires-clause-few
 add_to-requires-clause-few c =
-    let totals = c.args.totals.now in
     let more : 2 < c.args.count = omega (arith, c.loop-at-test.true, c.loop-at.auto.at) in
     let upto_is = c.loop-at.invariant.upto more in
     λ k below.
-    sums-fit (length totals) c.args.lanes.now c.args.start c.args.count c.requires.within c.requires.can.few c.loop-at.at (omega (arith, c.loop-at-test.true)) c.lane.result.now c.lane.ensures.value c.loop-at.upto upto_is k (omega (arith, below, upto_is.wide))
+    sums-fit (length c.args.totals.now) c.args.lanes.now c.args.start c.args.count c.requires.within c.requires.can.few c.loop-at.at (omega (arith, c.loop-at-test.true)) c.lane.result.now c.lane.ensures.value c.loop-at.upto upto_is k (omega (arith, below, upto_is.wide))
 
 pub pay_share-requires-clause-can : goal.pay_share-requires-clause-can
-pay_share-requires-clause-can c =
-    let totals = c.args.totals.now in
-    let lanes = c.args.lanes.now in
-    let start = c.args.start in
-    let count = c.args.count in
-    let children = take count (drop start lanes) in
-    let weights_are : IsLane (length totals) (λ k. sum (column k children)) c.sum_lanes.new.sums = subst (λ n. IsLane n (λ k. sum (column k children)) c.sum_lanes.new.sums) c.requires.weights_wide c.sum_lanes.ensures.value in
-    let at = c.loop-at.at in
-    let below : at < count = omega (arith, c.loop-at-test.true) in
-    let more : 2 < count = omega (arith, c.loop-at-test.true, c.loop-at.auto.at) in
-    let upto_is = sums-more (length totals) lanes start count c.requires.within c.requires.can.few at below c.lane.result.now c.lane.ensures.value c.loop-at.upto (c.loop-at.invariant.upto more) c.add_to.new.lane c.add_to.ensures.value in
-    can-part totals children c.requires.can c.sum_lanes.new.sums weights_are at c.add_to.new.lane upto_is
+pay_share-requires-clause-can c = can-part c.args.totals.now (take c.args.count (drop c.args.start c.args.lanes.now)) c.requires.can c.sum_lanes.new.sums (weights-are (goal.at.pay_share-requires-clause-can c).After-sum_lanes) c.loop-at.at c.add_to.new.lane (upto-is (goal.at.pay_share-requires-clause-can c).After-add_to)
 
 pub pay_share-requires-clause-few : goal.pay_share-requires-clause-few
 pay_share-requires-clause-few c =
-    let totals = c.args.totals.now in
-    let lanes = c.args.lanes.now in
-    let start = c.args.start in
-    let count = c.args.count in
-    let children = take count (drop start lanes) in
-    let weights_are : IsLane (length totals) (λ k. sum (column k children)) c.sum_lanes.new.sums = subst (λ n. IsLane n (λ k. sum (column k children)) c.sum_lanes.new.sums) c.requires.weights_wide c.sum_lanes.ensures.value in
-    let at = c.loop-at.at in
-    let below : at < count = omega (arith, c.loop-at-test.true) in
-    let more : 2 < count = omega (arith, c.loop-at-test.true, c.loop-at.auto.at) in
-    let upto_is = sums-more (length totals) lanes start count c.requires.within c.requires.can.few at below c.lane.result.now c.lane.ensures.value c.loop-at.upto (c.loop-at.invariant.upto more) c.add_to.new.lane c.add_to.ensures.value in
-    let inside : at < length children = omega (arith, below, part-count start count lanes c.requires.within) in
+    let children = take c.args.count (drop c.args.start c.args.lanes.now) in
+    let inside : c.loop-at.at < length children = omega (arith, c.loop-at-test.true, part-count c.args.start c.args.count c.args.lanes.now c.requires.within) in
     let so_far = c.loop-at.invariant.sharing in
-    part-enough totals children c.requires.can c.sum_lanes.new.sums weights_are at c.add_to.new.lane upto_is inside c.loop-at.paid so_far.shares so_far.sharing
+    part-enough c.args.totals.now children c.requires.can c.sum_lanes.new.sums (weights-are (goal.at.pay_share-requires-clause-few c).After-sum_lanes) c.loop-at.at c.add_to.new.lane (upto-is (goal.at.pay_share-requires-clause-few c).After-add_to) inside c.loop-at.paid so_far.shares so_far.sharing
 
 pub loop-at-preserved : goal.loop-at-preserved
 loop-at-preserved c =
     let totals = c.args.totals.now in
-    let lanes = c.args.lanes.now in
-    let start = c.args.start in
-    let count = c.args.count in
-    let children = take count (drop start lanes) in
-    let weights_are : IsLane (length totals) (λ k. sum (column k children)) c.sum_lanes.new.sums = subst (λ n. IsLane n (λ k. sum (column k children)) c.sum_lanes.new.sums) c.requires.weights_wide c.sum_lanes.ensures.value in
-    let at = c.loop-at.at in
-    let below : at < count = omega (arith, c.loop-at-test.true) in
-    let more : 2 < count = omega (arith, c.loop-at-test.true, c.loop-at.auto.at) in
-    let upto_is = sums-more (length totals) lanes start count c.requires.within c.requires.can.few at below c.lane.result.now c.lane.ensures.value c.loop-at.upto (c.loop-at.invariant.upto more) c.add_to.new.lane c.add_to.ensures.value in
-    let inside : at < length children = omega (arith, below, part-count start count lanes c.requires.within) in
+    let children = take c.args.count (drop c.args.start c.args.lanes.now) in
+    let inside : c.loop-at.at < length children = omega (arith, c.loop-at-test.true, part-count c.args.start c.args.count c.args.lanes.now c.requires.within) in
     let so_far = c.loop-at.invariant.sharing in
+    let upto_is = upto-is (goal.at.loop-at-preserved c).After-add_to in
     record {
       upto = λ _. upto_is;
       sharing =
-          behind-goes totals children at c.loop-at.paid c.args.out.now c.loop-at.out so_far c.pay_share.new.share c.push-in-loop-at.new.self c.in_ok-push-2.ensures.ok c.pay_share.new.paid c.pay_share.ensures.share.wide
-          (sharing-goes totals children c.requires.can c.sum_lanes.new.sums weights_are at c.add_to.new.lane upto_is inside c.loop-at.paid so_far.shares so_far.sharing c.pay_share.new.paid c.pay_share.new.share c.pay_share.ensures.paid c.pay_share.ensures.share);
+          behind-goes totals children c.loop-at.at c.loop-at.paid c.args.out.now c.loop-at.out so_far c.pay_share.new.share c.push-in-loop-at.new.self c.in_ok-push-2.ensures.ok c.pay_share.new.paid c.pay_share.ensures.share.wide
+          (sharing-goes totals children c.requires.can c.sum_lanes.new.sums (weights-are (goal.at.loop-at-preserved c).After-sum_lanes) c.loop-at.at c.add_to.new.lane upto_is inside c.loop-at.paid so_far.shares so_far.sharing c.pay_share.new.paid c.pay_share.new.share c.pay_share.ensures.paid c.pay_share.ensures.share);
     }
 
 pub take_paid-requires-clause-few : goal.take_paid-requires-clause-few
 take_paid-requires-clause-few c =
-    let totals = c.args.totals.now in
-    let lanes = c.args.lanes.now in
-    let start = c.args.start in
-    let count = c.args.count in
-    let children = take count (drop start lanes) in
-    let weights_are : IsLane (length totals) (λ k. sum (column k children)) c.sum_lanes.new.sums = subst (λ n. IsLane n (λ k. sum (column k children)) c.sum_lanes.new.sums) c.requires.weights_wide c.sum_lanes.ensures.value in
-    let at = c.loop-at.at in
-    let many : length children ≡ count = part-count start count lanes c.requires.within in
-    let last : at + 1 ≡ length children = omega (arith, c.requires.some, many, c.loop-at-test.false, c.loop-at.auto.at-end) in
+    let children = take c.args.count (drop c.args.start c.args.lanes.now) in
+    let many : length children ≡ c.args.count = part-count c.args.start c.args.count c.args.lanes.now c.requires.within in
+    let last : c.loop-at.at + 1 ≡ length children = omega (arith, c.requires.some, many, c.loop-at-test.false, c.loop-at.auto.at-end) in
     let so_far = c.loop-at.invariant.sharing in
-    last-enough totals children c.requires.can c.sum_lanes.new.sums weights_are at last c.loop-at.paid so_far.shares so_far.sharing
+    last-enough c.args.totals.now children c.requires.can c.sum_lanes.new.sums (weights-are (goal.at.take_paid-requires-clause-few c).After-sum_lanes) c.loop-at.at last c.loop-at.paid so_far.shares so_far.sharing
 
 pub returns : goal.returns
 returns c =
     let totals = c.args.totals.now in
-    let lanes = c.args.lanes.now in
-    let start = c.args.start in
-    let count = c.args.count in
-    let children = take count (drop start lanes) in
-    let weights_are : IsLane (length totals) (λ k. sum (column k children)) c.sum_lanes.new.sums = subst (λ n. IsLane n (λ k. sum (column k children)) c.sum_lanes.new.sums) c.requires.weights_wide c.sum_lanes.ensures.value in
-    let at = c.loop-at.at in
-    let many : length children ≡ count = part-count start count lanes c.requires.within in
-    let last : at + 1 ≡ length children = omega (arith, c.requires.some, many, c.loop-at-test.false, c.loop-at.auto.at-end) in
+    let children = take c.args.count (drop c.args.start c.args.lanes.now) in
+    let many : length children ≡ c.args.count = part-count c.args.start c.args.count c.args.lanes.now c.requires.within in
+    let last : c.loop-at.at + 1 ≡ length children = omega (arith, c.requires.some, many, c.loop-at-test.false, c.loop-at.auto.at-end) in
     let so_far = c.loop-at.invariant.sharing in
     record {
       value =
-          behind-ends totals children at c.loop-at.paid c.args.out.now c.loop-at.out so_far c.take_paid.new.paid c.push-2.new.self c.in_ok-push-3.ensures.ok count many
-          (sharing-last totals children c.requires.can c.sum_lanes.new.sums weights_are at last c.loop-at.paid so_far.shares so_far.sharing c.take_paid.new.paid c.take_paid.ensures.value);
+          behind-ends totals children c.loop-at.at c.loop-at.paid c.args.out.now c.loop-at.out so_far c.take_paid.new.paid c.push-2.new.self c.in_ok-push-3.ensures.ok c.args.count many
+          (sharing-last totals children c.requires.can c.sum_lanes.new.sums (weights-are (goal.at.returns c).After-sum_lanes) c.loop-at.at last c.loop-at.paid so_far.shares so_far.sharing c.take_paid.new.paid c.take_paid.ensures.value);
     }
