@@ -5,7 +5,6 @@ pub mod ClimbedLaws
 pub mod Shares
 pub mod SharesLaws
 pub mod SideBySide
-pub mod Groups
 pub mod Down
 pub mod DownLaws
 pub mod ByIdLaws

@@ -145,7 +145,7 @@ impl Lanes {
 }
 
 /// The sum of two numbers of lanes, or want of memory.
-pub(crate) fn more_of(count: usize, more: usize) -> Result<usize, AllocError>
+pub fn more_of(count: usize, more: usize) -> Result<usize, AllocError>
     ensures value { IfOk result (λ all. all ≡ count + more) }
 {
     match count.checked_add(more) {

@@ -14,11 +14,10 @@ ghost use Rattle.kt_shares.specs.Layers.{IsTopLayer};
 ghost use Rattle.kt_shares.specs.Shares.{shares};
 ghost use Rattle.kt_shares.specs.ByLanes.{AreLayers, IsPlainLayer};
 
+use crate::groups::LaneGroups;
 use crate::layers::TopLayer;
 use kt_fmtree::Programme;
-use kt_lanes::{
-    Climbed, LaneGroups, Lanes, Room, allocate_lanes, layer_looks_back, policy_lane, room_of,
-};
+use kt_lanes::{Climbed, Lanes, Room, allocate_lanes, layer_looks_back, policy_lane, room_of};
 use std::alloc::{AllocError, Global};
 
 /// What layers have, sidx by sidx.

@@ -8,11 +8,12 @@ ghost use Rattle.kt_shares.specs.Layers.{IsTopLayer};
 ghost use Rattle.kt_shares.specs.ByLanes.{AreLayers, AreLong, AreRows, amounts_at, row_in};
 
 use crate::by_lanes::LayerLanes;
+use crate::groups::LaneGroups;
 use crate::layers::TopLayer;
 use crate::row::row_of;
 use kt_alloc::zeros;
 use kt_fmtree::Programme;
-use kt_lanes::{LaneGroups, Lanes};
+use kt_lanes::Lanes;
 use std::alloc::{AllocError, Global};
 
 /// What layers have, row by row.

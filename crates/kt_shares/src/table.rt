@@ -14,12 +14,13 @@ ghost use Rattle.kt_shares.specs.Table.{HasAmounts, pairs_by_row, row_at, sample
 
 use crate::by_lanes::{LayerLanes, are_plain, layer_lanes};
 use crate::by_rows::lanes_by_rows;
+use crate::groups::LaneGroups;
 use crate::layers::TopLayer;
 use crate::loss_lanes::LossLanes;
 use crate::run_losses::{Listed, RunLosses};
 use crate::written::put_lane;
 use kt_fmtree::Programme;
-use kt_lanes::{LaneGroups, Lanes, climb, has_plain_units};
+use kt_lanes::{Lanes, climb, has_plain_units};
 use kt_money::Bytes;
 use kt_pairs::pair_room;
 use kt_runs::RunEntry;

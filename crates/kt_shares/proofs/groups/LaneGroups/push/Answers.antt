@@ -1,9 +1,9 @@
 use Rattle.std.proofs.Common.{◌∙◌, length, sym, ap, subst, arith}
 use Rattle.std.proofs.lemmas.List.{length-append}
-use Rattle.kt_lanes.specs.Groups.{AreStacked, all_lanes}
-use Rattle.kt_lanes.specs.declared.groups.LaneGroup.{LaneGroup}
-use Rattle.kt_lanes.proofs.GroupLemmas.{all-more, stacked-more}
-use Rattle.kt_lanes.proofs.groups.LaneGroups.push.Goals as goal
+use Rattle.kt_shares.specs.Groups.{AreStacked, all_lanes}
+use Rattle.kt_shares.specs.declared.groups.LaneGroup.{LaneGroup}
+use Rattle.kt_shares.proofs.GroupLemmas.{all-more, stacked-more}
+use Rattle.kt_shares.proofs.groups.LaneGroups.push.Goals as goal
 
 pub invariant_of-self-2 : goal.invariant_of-self-2
 invariant_of-self-2 c =

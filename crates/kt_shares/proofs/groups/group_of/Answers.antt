@@ -1,6 +1,6 @@
 use Rattle.std.proofs.Common.{◌+◌, ◌-◌, ◌/◌, ◌<◌, arith}
-use Rattle.kt_lanes.proofs.GroupLemmas.{start-at}
-use Rattle.kt_lanes.proofs.groups.group_of.Goals as goal
+use Rattle.kt_shares.proofs.GroupLemmas.{start-at}
+use Rattle.kt_shares.proofs.groups.group_of.Goals as goal
 
 pub loop-high-preserved-then-groups-middle : goal.loop-high-preserved-then-groups-middle
 loop-high-preserved-then-groups-middle c =

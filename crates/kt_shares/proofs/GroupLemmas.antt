@@ -1,8 +1,8 @@
 -- Lanes in groups, one group behind the other.
 use Rattle.std.proofs.Common.{append_assoc, append-nil, ◌≡◌, ℕ, zero, suc, ◌+◌, ◌-◌, ◌<◌, ◌≤◌, List, [], ◌∷◌, ◌++◌, length, take, slice_index_or, sym, ap, subst, ◌∙◌, arith}
 use Rattle.std.proofs.lemmas.List.{get_or_append_left, get_or-append-add, length-append}
-use Rattle.kt_lanes.specs.Groups.{AreStacked, all_lanes}
-use Rattle.kt_lanes.specs.declared.groups.LaneGroup.{LaneGroup}
+use Rattle.kt_shares.specs.Groups.{AreStacked, all_lanes}
+use Rattle.kt_shares.specs.declared.groups.LaneGroup.{LaneGroup}
 
 -- one more group
 pub all-more : (groups : List LaneGroup) (group : LaneGroup) → all_lanes (groups ++ group ∷ []) ≡ all_lanes groups ++ group.lanes

@@ -1,6 +1,6 @@
 use Rattle.std.proofs.Common.{◌<◌, ◌≤◌, ◌-◌, length, take}
-use Rattle.kt_lanes.specs.Groups.{all_lanes}
-use Rattle.kt_lanes.proofs.groups.group_of.Given as goal
+use Rattle.kt_shares.specs.Groups.{all_lanes}
+use Rattle.kt_shares.proofs.groups.group_of.Given as goal
 
 abbrev pub invariant-loop-high : goal.invariant-loop-high
 invariant-loop-high l = record {

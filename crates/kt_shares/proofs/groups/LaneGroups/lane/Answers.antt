@@ -1,6 +1,6 @@
 use Rattle.std.proofs.Common.{◌∙◌, slice_index_or, ap}
-use Rattle.kt_lanes.proofs.GroupLemmas.{found}
-use Rattle.kt_lanes.proofs.groups.LaneGroups.lane.Goals as goal
+use Rattle.kt_shares.proofs.GroupLemmas.{found}
+use Rattle.kt_shares.proofs.groups.LaneGroups.lane.Goals as goal
 
 pub overflow_sub-place : goal.overflow_sub-place
 overflow_sub-place c =

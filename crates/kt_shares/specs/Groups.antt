@@ -2,8 +2,8 @@
 -- The rule: docs/FINANCIAL_MODULE.md, "Allocation".
 use Rattle.std.specs.Prelude.{◌≡◌, ℕ, ◌+◌, List, [], ◌∷◌, ⊤, length}
 use Rattle.std.specs.List.{flat_map}
-use Rattle.kt_lanes.specs.declared.groups.LaneGroup.{LaneGroup}
-use Rattle.kt_lanes.specs.declared.groups.LaneGroups.TheInside.{Inside}
+use Rattle.kt_shares.specs.declared.groups.LaneGroup.{LaneGroup}
+use Rattle.kt_shares.specs.declared.groups.LaneGroups.TheInside.{Inside}
 
 -- the lanes of all groups
 abbrev pub all_lanes : List LaneGroup → List (List ℕ)

@@ -1,10 +1,10 @@
 //! Lanes in groups, one group behind the other.
 //! The rule: docs/FINANCIAL_MODULE.md, "Allocation".
 ghost use Rattle.std.specs.Prelude.{◌≡◌, ℕ, ◌+◌, ◌<◌, ◌≤◌, [], ◌++◌, length, take, slice_index_or, IfOk, OnErr, OnOk};
-ghost use Rattle.kt_lanes.specs.Groups.{AreStacked, all_lanes};
-ghost use Rattle.kt_lanes.specs.declared.groups.LaneGroup.{LaneGroup};
+ghost use Rattle.kt_shares.specs.Groups.{AreStacked, all_lanes};
+ghost use Rattle.kt_shares.specs.declared.groups.LaneGroup.{LaneGroup};
 
-use crate::lanes::{Lanes, more_of};
+use kt_lanes::{Lanes, more_of};
 use std::alloc::{AllocError, Global};
 use std::marker::Model;
 
@@ -20,14 +20,14 @@ pub(crate) struct LaneGroup {
 /// Lanes in groups, as the shares of each layer are. Contracts see the list of all lanes, one group behind the other; kept are the groups
 /// as they were made, so that no amount is copied.
 #[derive(Drop)]
-pub struct LaneGroups {
+pub(crate) struct LaneGroups {
     count: usize,
     groups: Vec<LaneGroup>,
 }
 
 impl Model for LaneGroups {
     ghost use Rattle.std.specs.Prelude.{ℕ, List};
-    ghost use Rattle.kt_lanes.specs.Groups.{AreGroups, all_lanes};
+    ghost use Rattle.kt_shares.specs.Groups.{AreGroups, all_lanes};
 
     ghost Value = { List (List ℕ) };
 
@@ -59,7 +59,7 @@ fn group_of(groups: &[LaneGroup], place: usize) -> usize
 
 impl LaneGroups {
     /// No lanes, with room for so many groups. An error is want of memory.
-    pub fn with_room(alloc: Global, count: usize) -> Result<LaneGroups, AllocError>
+    pub(crate) fn with_room(alloc: Global, count: usize) -> Result<LaneGroups, AllocError>
         ensures value { IfOk result (λ groups. groups ≡ []) }
     {
         let groups = Vec::with_capacity(alloc, count)?;
@@ -67,7 +67,7 @@ impl LaneGroups {
     }
 
     /// One group. An error is want of memory.
-    pub fn of(alloc: Global, lanes: Lanes) -> Result<LaneGroups, AllocError>
+    pub(crate) fn of(alloc: Global, lanes: Lanes) -> Result<LaneGroups, AllocError>
         ensures value { IfOk result (λ groups. groups ≡ lanes) }
     {
         let mut groups = LaneGroups::with_room(alloc, 1)?;
@@ -76,7 +76,7 @@ impl LaneGroups {
     }
 
     /// Puts lanes behind the others. An error is want of memory, and nothing changes then.
-    pub fn push(&mut self, lanes: Lanes) -> Result<(), AllocError>
+    pub(crate) fn push(&mut self, lanes: Lanes) -> Result<(), AllocError>
         ensures ok { OnOk result (self.new ≡ self.old ++ lanes) }
         ensures unchanged { OnErr result (self.new ≡ self.old) }
     {
@@ -88,7 +88,7 @@ impl LaneGroups {
     }
 
     /// The lane in a place.
-    pub fn lane(&self, place: usize) -> &[u64]
+    pub(crate) fn lane(&self, place: usize) -> &[u64]
         requires place { place < length self.now }
         ensures value { result.now ≡ slice_index_or self.now place result.now }
     {
