@@ -1,5 +1,5 @@
 -- The records that lanes stand for, place by place.
-use Rattle.std.proofs.Common.{◌≡◌, ℕ, zero, suc, ◌+◌, ◌<◌, List, [], ◌∷◌, ◌++◌, length, slice_index_or, take, refl, sym, ap, ◌∙◌, arith, append-nil}
+use Rattle.std.proofs.Common.{◌≡◌, ℕ, zero, suc, ◌+◌, ◌<◌, List, [], ◌∷◌, ◌++◌, length, slice_index_or, take, refl, sym, ap, ◌∙◌, arith}
 use Rattle.std.specs.List.{cons_option}
 use Rattle.std.proofs.lemmas.List.{map-append, take_more}
 use Rattle.kt_stream.specs.declared.entry.LossRecord.{LossRecord}
@@ -65,7 +65,3 @@ event-first (entry ∷ records) d some = refl
 pub record-some : (event id : ℕ) (pairs : List Pair) → 0 < length pairs → (record { event = event; id = id; pairs = pairs }) ∷ [] ≡ cons_option (record_with event id pairs) []
 record-some event id [] some = absurd (omega (arith, some))
 record-some event id (pair ∷ pairs) some = refl
-
--- and without one there is none
-pub record-none : (event id : ℕ) (pairs : List Pair) → pairs ≡ [] → (records : List LossRecord) → records ≡ records ++ cons_option (record_with event id pairs) []
-record-none event id pairs none records = sym (ap (λ (pairs : List Pair). records ++ cons_option (record_with event id pairs) []) none ∙ append-nil records)
