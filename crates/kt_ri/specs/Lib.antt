@@ -1,5 +1,6 @@
 pub mod Reinsurance
 pub mod Ceding
 pub mod Ceded
+pub mod Left
 pub mod Stages
 pub mod Examples

@@ -2,8 +2,10 @@
 //! The rule: docs/FINANCIAL_MODULE.md, "Reinsurance".
 ghost use Rattle.std.specs.Prelude.{◌≡◌, ◌⊎◌, ◌+◌, ◌≤◌, ◌<◌, All, IfOk, length};
 ghost use Rattle.kt_stream.specs.Losses.{IsLoss};
+ghost use Rattle.kt_runs.specs.Adding.{Holds};
 ghost use Rattle.kt_runs.specs.RunLosses.{AreWithin};
-ghost use Rattle.kt_ri.specs.Ceded.{AreCeded, AreCededShares, AreRows, HasShares};
+ghost use Rattle.kt_lanes.specs.Lanes.{AreWide, IsLane};
+ghost use Rattle.kt_ri.specs.Ceded.{AreCeded, AreCededShares, AreRows, HasShares, IsPlaceIn, ceded_in};
 
 use crate::ceding::CedingProgramme;
 use kt_lanes::Lanes;
@@ -56,4 +58,22 @@ pub(crate) fn ceded_of<R: RunLosses>(
         &table,
     )?;
     Ok(ceded)
+}
+
+/// The lane of what an id cedes, whose place may be absent: then it is that of nothing.
+pub(crate) fn ceded_lane<'a>(
+    ceded: &'a Lanes,
+    samples: u32,
+    place: Option<usize>,
+    nothing: &'a [u64],
+) -> &'a [u64]
+    requires place { IsPlaceIn ceded.now place }
+    requires wide { AreWide (samples + 1) ceded.now }
+    requires nothing { Holds (samples + 1) (λ row. 0) nothing.now }
+    ensures value { IsLane (samples + 1) (ceded_in ceded.now place) result.now }
+{
+    match place {
+        Some(place) => ceded.lane(place),
+        None => nothing,
+    }
 }

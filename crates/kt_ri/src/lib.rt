@@ -4,6 +4,7 @@
 mod ceded;
 mod ceding;
 pub mod laws;
+mod left;
 mod net;
 mod places;
 mod reinsured;

@@ -11,7 +11,7 @@ ghost use Rattle.kt_lanes.specs.Lanes.{AreWide, IsLane};
 ghost use Rattle.kt_ri.specs.Ceded.{AreCeded, AreRows, IsPlaceIn, ceded_in, part_behind, record_behind, records_behind};
 
 use crate::ceding::CedingProgramme;
-use crate::places::place_of;
+use crate::places::place_near;
 use kt_alloc::zeros;
 use kt_lanes::Lanes;
 use kt_shares::{LossLanes, RunLosses};
@@ -48,7 +48,7 @@ fn take_none(losses: &mut [u64], left: bool)
 }
 
 /// What is left of losses of an id whose place may be absent, or what it cedes, in the place of the losses.
-pub(crate) fn take_behind(losses: &mut [u64], ceded: &Lanes, place: Option<usize>, left: bool)
+fn take_behind(losses: &mut [u64], ceded: &Lanes, place: Option<usize>, left: bool)
     requires place { IsPlaceIn ceded.now place }
     requires wide { AreWide (length losses.old) ceded.now }
     ensures value { IsLane (length losses.old) (λ row. part_behind left (slice_index losses.old row) (ceded_in ceded.now place row)) losses.new }
@@ -84,7 +84,7 @@ fn keep_behind<R: RunLosses>(
 {
     stage.is_ceding();
     let id = run.id_at(at);
-    let place = place_of(stage.ids(), id);
+    let place = place_near(stage.ids(), id, at);
     run.take_at(at, samples, lane);
     take_behind(lane, ceded, place, left);
     made.put(run.event_at(at), id, lane)?;

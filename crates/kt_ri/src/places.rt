@@ -12,13 +12,32 @@ use kt_shares::TopLayer;
 use std::alloc::{AllocError, Global};
 
 /// The place of an id among rising ids, where it is one of them.
-pub(crate) fn place_of(ids: &[u32], id: u32) -> Option<usize>
+fn place_of(ids: &[u32], id: u32) -> Option<usize>
     requires rising { IsRising ids.now }
     ensures value { IsPlaceOf ids.now id result }
 {
     match ids.binary_search(&id) {
         Ok(place) => Some(place),
         Err(_) => None,
+    }
+}
+
+/// The place of an id among rising ids, where it is one of them. It is looked for first at a place where it may stand.
+pub(crate) fn place_near(ids: &[u32], id: u32, near: usize) -> Option<usize>
+    requires rising { IsRising ids.now }
+    ensures value { IsPlaceOf ids.now id result }
+{
+    if near < ids.len() && ids[near] == id {
+        return Some(near);
+    }
+    place_of(ids, id)
+}
+
+/// Where the next id of a rising order may stand, behind the place of one that has it, or else where that was looked for.
+pub(crate) fn next_near(place: Option<usize>, near: usize) -> usize {
+    match place {
+        Some(place) => place.saturating_add(1),
+        None => near,
     }
 }
 

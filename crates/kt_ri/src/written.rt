@@ -1,60 +1,63 @@
 //! The net records of a run as they stand in a stream.
 //! The rules: docs/FINANCIAL_MODULE.md, "Reinsurance"; docs/STREAMS.md, "Records".
-ghost use Rattle.std.specs.Prelude.{◌≡◌, ◌⊎◌, ◌+◌, ◌*◌, ◌≤◌, ◌++◌, ℕ, ℤ, true, List, [], length, map, All, OnErr, OnOk};
+ghost use Rattle.std.specs.Prelude.{◌≡◌, ◌⊎◌, ◌+◌, ◌*◌, ◌≤◌, ◌++◌, ℕ, true, List, [], length, map, All, OnErr, OnOk};
 ghost use Rattle.std.specs.List.{cons_option, flat_map};
 ghost use Rattle.kt_stream.specs.Losses.{IsLoss, loss_bytes};
 ghost use Rattle.kt_stream.specs.Write.{BeginsWith};
 ghost use Rattle.kt_stream.specs.declared.entry.LossRecord.{LossRecord};
-ghost use Rattle.kt_runs.specs.RunLosses.{AreWithin, loss_of};
+ghost use Rattle.kt_runs.specs.Adding.{Holds};
+ghost use Rattle.kt_runs.specs.RunLosses.{AreWithin};
 ghost use Rattle.kt_tree.specs.Tree.{Tree};
 ghost use Rattle.kt_fmtree.specs.Parts.{IsProgramme};
 ghost use Rattle.kt_ri.specs.Ceded.{AreCeded, AreRows, record_behind, records_behind};
 ghost use Rattle.kt_ri.specs.Reinsurance.{net_records};
 ghost use Rattle.kt_ri.specs.Stages.{HasStage, IsStage};
 
-use crate::ceded::ceded_of;
+use crate::ceded::{ceded_lane, ceded_of};
 use crate::ceding::CedingProgramme;
-use crate::net::take_behind;
-use crate::places::place_of;
+use crate::left::write_left;
+use crate::places::{next_near, place_near};
 use crate::reinsured::ceding_for;
-use kt_alloc::zeros;
 use kt_lanes::Lanes;
 use kt_money::Bytes;
-use kt_pairs::pair_room;
-use kt_runs::RunEntry;
-use kt_shares::{Listed, put_lane, take_losses};
-use kt_stream::LossRecord;
+use kt_pairs::{append_record, pair_room};
+use kt_runs::{RunEntry, zeros};
+use kt_shares::Listed;
+use kt_stream::{LossRecord, loss_front};
 use kt_structure::Structure;
 use std::alloc::{AllocError, Global};
 
-/// Appends what is left of a record, where that is something, as it stands in a stream; the lane takes its losses first, and the
-/// room its pairs. An error is want of memory, and nothing is appended then.
+/// Appends what is left of a record, where that is something, as it stands in a stream; the room takes its pairs first. The place of
+/// its id is looked for first at `near`, which then is that behind it. An error is want of memory, and nothing is appended then.
 fn put_left(
     stage: &CedingProgramme,
     samples: u32,
     ceded: &Lanes,
+    nothing: &[u64],
+    near: &mut usize,
     entry: &LossRecord,
-    lane: &mut [u64],
     room: &mut [u8],
     out: &mut Bytes,
 ) -> Result<(), AllocError>
     requires samples { samples ≤ 1000 }
     requires rows { AreRows (length stage.now.ids) samples ceded.now }
+    requires nothing { Holds (samples + 1) (λ row. 0) nothing.now }
     requires entry { IsLoss samples entry.now }
-    requires few { (sidx : ℤ) → loss_of sidx entry.now.pairs ≤ 10000000000000000 }
-    requires lane { length lane.old ≡ samples + 1 }
-    requires room { 12 * (samples + 1) + 12 ≤ length room.old }
-    ensures lane { length lane.new ≡ length lane.old }
+    requires room { 12 * (samples + 2) + 12 ≤ length room.old }
     ensures room { length room.new ≡ length room.old }
     ensures begins { OnOk result (BeginsWith out.old out.new) }
     ensures ok { OnOk result ((tree : Tree) (rule : ℕ) (records : List LossRecord) → IsProgramme tree stage.now → AreCeded stage.now rule samples records ceded.now → out.new ≡ out.old ++ flat_map loss_bytes (cons_option (record_behind true tree rule samples records entry.now) [])) }
     ensures unchanged { OnErr result (out.new ≡ out.old) }
 {
     stage.is_ceding();
-    let place = place_of(stage.ids(), entry.id);
-    take_losses(lane, samples, entry.pairs.as_slice());
-    take_behind(lane, ceded, place, true);
-    put_lane(entry.event, entry.id, lane, room, out)?;
+    let place = place_near(stage.ids(), entry.id, *near);
+    *near = next_near(place, *near);
+    let lane = ceded_lane(ceded, samples, place, nothing);
+    let used = write_left(room, entry.pairs.as_slice(), samples, lane);
+    if used == 0 {
+        return Ok(());
+    }
+    append_record(out, &loss_front(entry.event, entry.id), &room[..used])?;
     Ok(())
 }
 
@@ -76,12 +79,15 @@ fn put_behind<T: RunEntry>(
     ensures unchanged { OnErr result (out.new ≡ out.old) }
 {
     let rows = samples as usize + 1;
-    let mut lane = zeros(alloc, rows)?;
-    let mut room = pair_room(alloc, rows)?;
+    let nothing = zeros(alloc, rows)?;
+    let mut room = pair_room(alloc, rows + 1)?;
+    let mut near = 0;
     let whole = out.len();
     for held in records {
         let entry = held.entry();
-        if let Err(stop) = put_left(stage, samples, ceded, entry, &mut lane, &mut room, out) {
+        if let Err(stop) = put_left(
+            stage, samples, ceded, &nothing, &mut near, entry, &mut room, out,
+        ) {
             out.truncate(whole);
             return Err(stop);
         }

@@ -11,10 +11,10 @@ use Rattle.kt_ri.proofs.net.keep_behind.Goals as goal
 pub returns-clause-ok : goal.returns-clause-ok
 returns-clause-ok g c = λ d tree rule records is are.
     let entry : LossRecord = slice_index_or (g.R.RunLosses.records_of c.args.run.now) c.args.at d in
-    let place = c.place_of-place.result in
+    let place = c.place_near-place.result in
     let before = c.args.made.now.records in
     let own = pairs_by_row (slice_index c.take_behind.new.losses) (length c.take_behind.new.losses) in
-    let found = subst (λ (ids : List ℕ). IsPlaceOf ids entry.id place) c.ids.ensures.value (subst (λ (id : ℕ). IsPlaceOf c.ids.result.now id place) (c.id_at-id.ensures.value d) c.place_of-place.ensures.value) in
+    let found = subst (λ (ids : List ℕ). IsPlaceOf ids entry.id place) c.ids.ensures.value (subst (λ (id : ℕ). IsPlaceOf c.ids.result.now id place) (c.id_at-id.ensures.value d) c.place_near-place.ensures.value) in
     let pairs = lane-behind c.args.samples entry.pairs c.args.ceded.now place c.args.left c.take_at.new.lane c.take_behind.new.losses (c.take_at.ensures.value d) c.take_behind.ensures.value in
     c.in_ok-put.ensures.ok
     ∙ (ap (λ (event : ℕ). before ++ cons_option (record_with event c.id_at-id.result own) []) (c.event_at.ensures.value d)

@@ -1,10 +1,10 @@
-use Rattle.std.proofs.Common.{◌+◌, ◌≤◌, ◌<◌, ◌++◌, ◌∙◌, true, [], drop, length, map, take, ap, sym, subst, arith, append-nil}
+use Rattle.std.proofs.Common.{◌+◌, ◌≤◌, ◌<◌, ◌++◌, ◌∙◌, ℕ, true, [], drop, length, map, take, ap, sym, subst, arith, append-nil}
 use Rattle.std.specs.List.{cons_option, filter_map, flat_map}
-use Rattle.std.proofs.lemmas.List.{length-map, length-replicate, take_all}
+use Rattle.std.proofs.lemmas.List.{length-map, take_all}
+use Rattle.kt_runs.specs.Adding.{Holds}
 use Rattle.kt_runs.specs.HeldLaws.{entry_at}
 use Rattle.kt_stream.specs.Losses.{IsLoss, loss_bytes}
 use Rattle.kt_stream.specs.declared.entry.LossRecord.{LossRecord}
-use Rattle.kt_shares.specs.RecordLaws.{one-few}
 use Rattle.kt_shares.specs.WrittenLaws.{put-more}
 use Rattle.kt_ri.specs.Ceded.{record_behind}
 use Rattle.kt_ri.proofs.WrittenLemmas.{begins-long, begins-more, begins-none, kept-length, taken-back}
@@ -18,13 +18,8 @@ put_left-requires-clause-entry g c =
     let is = entry_at entry_of c.args.records.now c.loop-held.held-index c.held-item.result entry c.loop-held-test.true c.held-item.is c.entry-entry.ensures entry in
     subst (IsLoss c.args.samples) (sym is) (c.requires.records c.loop-held.held-index entry below)
 
-pub put_left-requires-clause-few : goal.put_left-requires-clause-few
-put_left-requires-clause-few g c =
-    let entry_of = g.T.RunEntry.entry_of in
-    let entry = c.entry-entry.result.now in
-    let below : c.loop-held.held-index < length (map entry_of c.args.records.now) = omega (arith, c.loop-held-test.true, length-map c.args.records.now entry_of) in
-    let is = entry_at entry_of c.args.records.now c.loop-held.held-index c.held-item.result entry c.loop-held-test.true c.held-item.is c.entry-entry.ensures entry in
-    one-few (map entry_of c.args.records.now) c.requires.within c.loop-held.held-index entry below entry is
+pub put_left-requires-clause-nothing : goal.put_left-requires-clause-nothing
+put_left-requires-clause-nothing g c = subst (Holds (c.args.samples + 1) (λ (row : ℕ). 0)) (sym c.deref.ensures.value) c.in_ok-nothing.ensures.value
 
 pub loop-held-preserved : goal.loop-held-preserved
 loop-held-preserved g c =
@@ -34,13 +29,10 @@ loop-held-preserved g c =
     let i = c.loop-held.held-index in
     let below : i < length records = omega (arith, c.loop-held-test.true, length-map c.args.records.now entry_of) in
     let here = entry_at entry_of c.args.records.now i c.held-item.result entry c.loop-held-test.true c.held-item.is c.entry-entry.ensures entry in
-    let lane = c.loop-held.lane in
-    let taken = c.put_left.new.lane in
     let room = c.loop-held.room in
     let used = c.put_left.new.room in
     record {
-      lane = kept-length lane.len taken (drop (length taken) lane.items) (c.put_left.ensures.lane ∙ c.deref_mut.ensures.len) ∙ (lane.ok.0 ∙ c.loop-held.invariant.lane);
-      room = omega (arith, c.loop-held.invariant.room, room.ok.0, kept-length room.len used (drop (length used) room.items) (c.put_left.ensures.room ∙ c.deref_mut-in-loop-held.ensures.len));
+      room = omega (arith, c.loop-held.invariant.room, room.ok.0, kept-length room.len used (drop (length used) room.items) (c.put_left.ensures.room ∙ c.deref_mut.ensures.len));
       begins = begins-more c.args.out.now c.loop-held.out c.put_left.new.out c.loop-held.invariant.begins c.in_default.ensures.begins;
       written = λ tree rule is are.
           put-more (record_behind true tree rule c.args.samples records) records i entry c.args.out.now c.loop-held.out c.put_left.new.out below (c.loop-held.invariant.written tree rule is are)
@@ -56,7 +48,6 @@ returns-clause-ok g c = λ tree rule is are.
 
 pub loop-held-init : goal.loop-held-init
 loop-held-init g c = record {
-  lane = ap length c.in_ok-lane.ensures.value ∙ length-replicate (c.args.samples + 1) 0;
   room = omega (arith, c.in_ok-room.ensures.room);
   begins = begins-none c.args.out.now;
   written = λ tree rule is are. sym (append-nil c.args.out.now);

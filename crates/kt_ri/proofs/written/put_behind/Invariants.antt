@@ -10,8 +10,7 @@ use Rattle.kt_ri.proofs.written.put_behind.Given as goal
 -- what is left of the records so far
 abbrev pub invariant-loop-held : goal.invariant-loop-held
 invariant-loop-held g l = record {
-  lane : length l.lane.items ≡ l.samples + 1;
-  room : 12 * (l.samples + 1) + 12 ≤ length l.room.items;
+  room : 12 * (l.samples + 2) + 12 ≤ length l.room.items;
   begins : BeginsWith l.fn.out l.out;
   written : (tree : Tree) (rule : ℕ) → IsProgramme tree l.stage → AreCeded l.stage rule l.samples (map g.T.RunEntry.entry_of l.records) l.ceded → l.out ≡ l.fn.out ++ flat_map loss_bytes (filter_map (record_behind true tree rule l.samples (map g.T.RunEntry.entry_of l.records)) (take l.held-index (map g.T.RunEntry.entry_of l.records)));
 }
