@@ -20,10 +20,10 @@ use crate::places::{next_near, place_near};
 use crate::reinsured::ceding_for;
 use kt_lanes::Lanes;
 use kt_money::Bytes;
-use kt_pairs::{append_record, pair_room};
+use kt_pairs::pair_room;
 use kt_runs::{RunEntry, zeros};
-use kt_shares::Listed;
-use kt_stream::{LossRecord, loss_front};
+use kt_shares::{Listed, put_pairs};
+use kt_stream::LossRecord;
 use kt_structure::Structure;
 use std::alloc::{AllocError, Global};
 
@@ -54,10 +54,7 @@ fn put_left(
     *near = next_near(place, *near);
     let lane = ceded_lane(ceded, samples, place, nothing);
     let used = write_left(room, entry.pairs.as_slice(), samples, lane);
-    if used == 0 {
-        return Ok(());
-    }
-    append_record(out, &loss_front(entry.event, entry.id), &room[..used])?;
+    put_pairs(entry.event, entry.id, room, used, out)?;
     Ok(())
 }
 

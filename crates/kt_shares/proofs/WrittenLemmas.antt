@@ -11,3 +11,7 @@ pub record-bytes : (event id : ℕ) (pairs : List Pair) (front text : List ℕ) 
 record-bytes event id [] front text some fronts is = absurd (omega arith)
 record-bytes event id (pair ∷ pairs) front text some fronts is =
     ap (λ text. front ++ text) is ∙ (sym (fronts (pair ∷ pairs)) ∙ sym (append-nil (loss_bytes (record { event = event; id = id; pairs = pair ∷ pairs }))))
+
+-- and without a pair there is none
+pub no-record : (event id : ℕ) (pairs : List Pair) (old : List ℕ) → pairs ≡ [] → old ≡ old ++ flat_map loss_bytes (cons_option (record_with event id pairs) [])
+no-record event id pairs old none = sym (ap (λ (pairs : List Pair). old ++ flat_map loss_bytes (cons_option (record_with event id pairs) [])) none ∙ append-nil old)

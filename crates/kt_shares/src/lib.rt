@@ -16,7 +16,7 @@ mod written;
 
 pub use layers::{TopLayer, top_layers};
 pub use loss_lanes::LossLanes;
-pub use losses::{ids_of, take_losses};
+pub use losses::ids_of;
 pub use run_losses::{Listed, RunLosses};
 pub use table::{Table, table_of, table_of_run};
-pub use written::put_lane;
+pub use written::put_pairs;

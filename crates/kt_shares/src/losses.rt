@@ -41,7 +41,7 @@ fn add_losses(lane: &mut [u64], samples: u32, pairs: &[Pair])
 }
 
 /// Puts the losses of pairs in cents, row by row, in the place of what a lane has.
-pub fn take_losses(lane: &mut [u64], samples: u32, pairs: &[Pair])
+pub(crate) fn take_losses(lane: &mut [u64], samples: u32, pairs: &[Pair])
     requires samples { samples ≤ 1000 }
     requires wide { length lane.old ≡ samples + 1 }
     requires pairs { AllByRecursion (IsPair samples) pairs.now }

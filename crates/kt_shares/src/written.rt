@@ -1,8 +1,9 @@
-//! Records of lanes as they stand in a stream.
+//! Records of pairs, and those of lanes, as they stand in a stream.
 //! The rule: docs/STREAMS.md, "Records".
-ghost use Rattle.std.specs.Prelude.{◌≡◌, ◌+◌, ◌*◌, ◌≤◌, ◌<◌, ◌++◌, [], length, slice_index, OnErr, OnOk};
+ghost use Rattle.std.specs.Prelude.{◌≡◌, ◌+◌, ◌*◌, ◌≤◌, ◌<◌, ◌++◌, List, [], length, slice_index, OnErr, OnOk};
 ghost use Rattle.std.specs.List.{cons_option, flat_map};
 ghost use Rattle.kt_stream.specs.Losses.{loss_bytes};
+ghost use Rattle.kt_stream.specs.declared.entry.Pair.{Pair};
 ghost use Rattle.kt_pairs.specs.Room.{AreEnded};
 ghost use Rattle.kt_shares.specs.Shares.{record_with};
 ghost use Rattle.kt_shares.specs.Table.{pairs_by_row};
@@ -29,9 +30,29 @@ fn write_lane(room: &mut [u8], lane: &[u64]) -> usize
     end_pairs(room, used)
 }
 
+/// Appends the record of an event and an id with the pairs that stand in a room, in so many bytes with the end pair behind them, as
+/// it stands in a stream; where these are 0 there is no pair, and no record. An error is want of memory, and nothing is appended then.
+pub fn put_pairs(
+    event: u32,
+    id: u32,
+    room: &[u8],
+    used: usize,
+    out: &mut Bytes,
+) -> Result<(), AllocError>
+    requires within { used ≤ length room.now }
+    ensures ok { OnOk result ((pairs : List Pair) → AreEnded pairs used room.now → out.new ≡ out.old ++ flat_map loss_bytes (cons_option (record_with event id pairs) [])) }
+    ensures unchanged { OnErr result (out.new ≡ out.old) }
+{
+    if used == 0 {
+        return Ok(());
+    }
+    append_record(out, &loss_front(event, id), &room[..used])?;
+    Ok(())
+}
+
 /// Appends the record of an event and an id with the pairs of a lane of losses in cents, where one is above 0, as it stands in a
 /// stream; the room takes its pairs first. An error is want of memory, and nothing is appended then.
-pub fn put_lane(
+pub(crate) fn put_lane(
     event: u32,
     id: u32,
     lane: &[u64],
@@ -45,9 +66,6 @@ pub fn put_lane(
     ensures unchanged { OnErr result (out.new ≡ out.old) }
 {
     let used = write_lane(room, lane);
-    if used == 0 {
-        return Ok(());
-    }
-    append_record(out, &loss_front(event, id), &room[..used])?;
+    put_pairs(event, id, room, used, out)?;
     Ok(())
 }
