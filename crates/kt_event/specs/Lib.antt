@@ -1,6 +1,5 @@
 pub mod Terms
 pub mod Needs
 pub mod Losses
-pub mod EventLosses
 pub mod Plan
 pub mod Loading

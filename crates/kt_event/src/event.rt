@@ -7,16 +7,14 @@ ghost use Rattle.kt_rec.specs.declared.foot_rows.ModelStop.TheVariants.{OutOfMem
 ghost use Rattle.kt_runs.specs.RunLosses.{AreWithin, run_loss};
 ghost use Rattle.kt_stream.specs.Losses.{IsLoss};
 ghost use Rattle.kt_stream.specs.Pairs.{IsId};
-ghost use Rattle.kt_event.specs.EventLosses.{HaveRows, records_in};
 ghost use Rattle.kt_event.specs.Losses.{AreSummaries, block_of_losses, event_result, ground_up_of, insured_of, layers_up_to, set_if, set_summaries, summaries_of};
 ghost use Rattle.kt_event.specs.Plan.{IsBase, IsOrMemory, IsPlan, terms_of};
 ghost use Rattle.kt_event.specs.Terms.{has_insured, has_net, net_sets, output_perspectives, sets_of, summary_set};
 ghost use Rattle.kt_tables.specs.Lookups.{has_summary_set};
 
 use crate::block::{EventBlock, Summaries};
-use crate::losses::{Losses, summaries_in};
 use crate::plan::{Base, Plan};
-use kt_gul::ground_up;
+use kt_gul::ground_up_lanes;
 use kt_gul::laws::ground_up_losses_are_within;
 use kt_insured::laws::insured_losses_are_within;
 use kt_insured::{LayerSum, insured_lanes};
@@ -25,7 +23,8 @@ use kt_model::laws::distributions_are_of_a_stream;
 use kt_rec::{FootRow, ModelStop, Perspective};
 use kt_ri::reinsure_lanes;
 use kt_shares::LossLanes;
-use kt_stream::{LossRecord, Records};
+use kt_stream::Records;
+use kt_sum::summarise_lanes;
 use kt_tables::Portfolio;
 use std::alloc::{AllocError, Global};
 
@@ -39,18 +38,18 @@ fn put_set(
     samples: u32,
     perspective: Perspective,
     set: u32,
-    losses: Losses<'_>,
+    losses: &LossLanes,
     made: &mut Records<Summaries>,
 ) -> Result<(), AllocError>
     requires samples { samples ≤ 1000 }
-    requires rows { HaveRows samples losses }
-    requires losses { All (IsLoss samples) (records_in losses) }
-    requires within { AreWithin (records_in losses) }
-    ensures ok { OnOk result (made.new ≡ made.old ++ set_if (has_summary_set perspective portfolio.now.rows set) (summaries_of portfolio.now.rows portfolio.now.need.rule (records_in losses.entry)) (summary_set perspective set)) }
+    requires rows { losses.now.rows ≡ samples + 1 }
+    requires losses { All (IsLoss samples) losses.now.records }
+    requires within { AreWithin losses.now.records }
+    ensures ok { OnOk result (made.new ≡ made.old ++ set_if (has_summary_set perspective portfolio.now.rows set) (summaries_of portfolio.now.rows portfolio.now.need.rule losses.now.records) (summary_set perspective set)) }
     ensures good { AreSummaries samples made.old → OnOk result (AreSummaries samples made.new) }
 {
     if portfolio.has_set(perspective, set) {
-        let records = summaries_in(alloc, portfolio, samples, perspective, set, losses)?;
+        let records = summarise_lanes(alloc, portfolio, samples, perspective, set, losses)?;
         made.push(Summaries {
             perspective,
             set,
@@ -66,15 +65,15 @@ fn put_summaries(
     portfolio: &Portfolio,
     samples: u32,
     perspective: Perspective,
-    losses: Losses<'_>,
+    losses: &LossLanes,
     made: &mut Records<Summaries>,
 ) -> Result<(), AllocError>
     requires samples { samples ≤ 1000 }
-    requires rows { HaveRows samples losses }
-    requires losses { All (IsLoss samples) (records_in losses) }
-    requires within { AreWithin (records_in losses) }
+    requires rows { losses.now.rows ≡ samples + 1 }
+    requires losses { All (IsLoss samples) losses.now.records }
+    requires within { AreWithin losses.now.records }
     requires good { AreSummaries samples made.old }
-    ensures ok { OnOk result (made.new ≡ made.old ++ map (summaries_of portfolio.now.rows portfolio.now.need.rule (records_in losses.entry)) (sets_of portfolio.now.rows perspective)) }
+    ensures ok { OnOk result (made.new ≡ made.old ++ map (summaries_of portfolio.now.rows portfolio.now.need.rule losses.now.records) (sets_of portfolio.now.rows perspective)) }
     ensures good { OnOk result (AreSummaries samples made.new) }
 {
     for place in 0..SETS {
@@ -115,7 +114,7 @@ fn put_net_summaries(
             portfolio,
             plan.terms.samples,
             Perspective::Ri,
-            Losses::Lanes(&net),
+            &net,
             made,
         )?;
     }
@@ -129,17 +128,18 @@ fn put_insured_summaries(
     portfolio: &Portfolio,
     plan: &Plan,
     base: &Base,
-    losses: &[LossRecord],
+    losses: &LossLanes,
     made: &mut Records<Summaries>,
 ) -> Result<Records<LayerSum>, AllocError>
     requires plan { IsPlan portfolio.now plan.now }
     requires base { IsBase portfolio.now.rows base.now }
     requires insured { has_insured (terms_of plan.now).last ≡ true }
-    requires losses { All (IsLoss (terms_of plan.now).samples) losses.now }
-    requires within { (sidx : ℤ) → run_loss sidx losses.now ≤ 200000000000000 }
+    requires rows { losses.now.rows ≡ (terms_of plan.now).samples + 1 }
+    requires losses { All (IsLoss (terms_of plan.now).samples) losses.now.records }
+    requires within { (sidx : ℤ) → run_loss sidx losses.now.records ≤ 200000000000000 }
     requires good { AreSummaries (terms_of plan.now).samples made.old }
-    ensures layers { IfOk result (λ layers. layers ≡ layers_up_to (terms_of plan.now).last (terms_of plan.now) portfolio.now.rows losses.now) }
-    ensures ok { OnOk result (made.new ≡ made.old ++ map (set_summaries (terms_of plan.now) portfolio.now.rows losses.now) (flat_map (sets_of portfolio.now.rows) (output_perspectives (terms_of plan.now).last))) }
+    ensures layers { IfOk result (λ layers. layers ≡ layers_up_to (terms_of plan.now).last (terms_of plan.now) portfolio.now.rows losses.now.records) }
+    ensures ok { OnOk result (made.new ≡ made.old ++ map (set_summaries (terms_of plan.now) portfolio.now.rows losses.now.records) (flat_map (sets_of portfolio.now.rows) (output_perspectives (terms_of plan.now).last))) }
     ensures good { OnOk result (AreSummaries (terms_of plan.now).samples made.new) }
 {
     let terms = &plan.terms;
@@ -158,7 +158,7 @@ fn put_insured_summaries(
         portfolio,
         terms.samples,
         Perspective::Il,
-        Losses::Lanes(&insured.losses),
+        &insured.losses,
         made,
     )?;
     put_net_summaries(alloc, portfolio, plan, insured.losses, made)?;
@@ -170,15 +170,16 @@ fn put_output_summaries(
     alloc: Global,
     portfolio: &Portfolio,
     plan: &Plan,
-    losses: &[LossRecord],
+    losses: &LossLanes,
     made: &mut Records<Summaries>,
 ) -> Result<Records<LayerSum>, AllocError>
     requires plan { IsPlan portfolio.now plan.now }
-    requires losses { All (IsLoss (terms_of plan.now).samples) losses.now }
-    requires within { (sidx : ℤ) → run_loss sidx losses.now ≤ 200000000000000 }
+    requires rows { losses.now.rows ≡ (terms_of plan.now).samples + 1 }
+    requires losses { All (IsLoss (terms_of plan.now).samples) losses.now.records }
+    requires within { (sidx : ℤ) → run_loss sidx losses.now.records ≤ 200000000000000 }
     requires good { AreSummaries (terms_of plan.now).samples made.old }
-    ensures layers { IfOk result (λ layers. layers ≡ layers_up_to (terms_of plan.now).last (terms_of plan.now) portfolio.now.rows losses.now) }
-    ensures ok { OnOk result (made.new ≡ made.old ++ map (set_summaries (terms_of plan.now) portfolio.now.rows losses.now) (flat_map (sets_of portfolio.now.rows) (output_perspectives (terms_of plan.now).last))) }
+    ensures layers { IfOk result (λ layers. layers ≡ layers_up_to (terms_of plan.now).last (terms_of plan.now) portfolio.now.rows losses.now.records) }
+    ensures ok { OnOk result (made.new ≡ made.old ++ map (set_summaries (terms_of plan.now) portfolio.now.rows losses.now.records) (flat_map (sets_of portfolio.now.rows) (output_perspectives (terms_of plan.now).last))) }
     ensures good { OnOk result (AreSummaries (terms_of plan.now).samples made.new) }
 {
     match &plan.base {
@@ -196,12 +197,13 @@ fn block_of(
     portfolio: &Portfolio,
     plan: &Plan,
     event: u32,
-    losses: &[LossRecord],
+    losses: &LossLanes,
 ) -> Result<EventBlock, AllocError>
     requires plan { IsPlan portfolio.now plan.now }
-    requires losses { All (IsLoss (terms_of plan.now).samples) losses.now }
-    requires within { (sidx : ℤ) → run_loss sidx losses.now ≤ 200000000000000 }
-    ensures value { IfOk result (λ block. block ≡ block_of_losses (terms_of plan.now) portfolio.now.rows event losses.now) }
+    requires rows { losses.now.rows ≡ (terms_of plan.now).samples + 1 }
+    requires losses { All (IsLoss (terms_of plan.now).samples) losses.now.records }
+    requires within { (sidx : ℤ) → run_loss sidx losses.now.records ≤ 200000000000000 }
+    ensures value { IfOk result (λ block. block ≡ block_of_losses (terms_of plan.now) portfolio.now.rows event losses.now.records) }
     ensures good { IfOk result (λ block. AreSummaries (terms_of plan.now).samples block.summaries) }
 {
     let mut summaries = Records::new(alloc);
@@ -210,7 +212,7 @@ fn block_of(
         portfolio,
         plan.terms.samples,
         Perspective::Gul,
-        Losses::Records(losses),
+        losses,
         &mut summaries,
     )?;
     let layers = put_output_summaries(alloc, portfolio, plan, losses, &mut summaries)?;
@@ -228,12 +230,13 @@ fn event_losses(
     plan: &Plan,
     event: u32,
     rows: &[FootRow],
-) -> Result<Records<LossRecord>, ModelStop>
+) -> Result<LossLanes, ModelStop>
     requires event { IsId event }
     requires plan { IsPlan portfolio.now plan.now }
-    ensures value { IfOk result (λ losses. losses ≡ ground_up_of (terms_of plan.now) portfolio.now.rows event rows.now) }
-    ensures good { IfOk result (λ losses. All (IsLoss (terms_of plan.now).samples) losses) }
-    ensures within { IfOk result (λ losses. (sidx : ℤ) → run_loss sidx losses ≤ 200000000000000) }
+    ensures rows { IfOk result (λ losses. losses.rows ≡ (terms_of plan.now).samples + 1) }
+    ensures value { IfOk result (λ losses. losses.records ≡ ground_up_of (terms_of plan.now) portfolio.now.rows event rows.now) }
+    ensures good { IfOk result (λ losses. All (IsLoss (terms_of plan.now).samples) losses.records) }
+    ensures within { IfOk result (λ losses. (sidx : ℤ) → run_loss sidx losses.records ≤ 200000000000000) }
     ensures ok { OnOk result (first_refused_row rows.now ≡ None) }
 
     // The first refused row, or want of memory.
@@ -242,7 +245,7 @@ fn event_losses(
     let distributions = distributions(alloc, portfolio, event, rows)?;
     distributions_are_of_a_stream(portfolio);
     ground_up_losses_are_within(portfolio);
-    let losses = ground_up(
+    let losses = ground_up_lanes(
         alloc,
         portfolio,
         plan.terms.samples,
@@ -269,6 +272,6 @@ pub fn event_block(
     ensures good { IfOk result (λ block. AreSummaries (terms_of plan.now).samples block.summaries) }
 {
     let losses = event_losses(alloc, portfolio, plan, event, rows)?;
-    let block = block_of(alloc, portfolio, plan, event, losses.as_slice())?;
+    let block = block_of(alloc, portfolio, plan, event, &losses)?;
     Ok(block)
 }

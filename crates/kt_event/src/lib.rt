@@ -3,7 +3,6 @@
 
 mod block;
 mod event;
-mod losses;
 mod needs;
 mod plan;
 mod shared;

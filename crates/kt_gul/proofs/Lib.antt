@@ -15,3 +15,4 @@ pub mod GoodLemmas
 pub mod WithinLemmas
 pub mod RunLemmas
 pub mod CutLemmas
+pub mod LaneLemmas

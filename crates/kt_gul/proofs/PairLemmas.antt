@@ -1,7 +1,7 @@
 -- The pairs of losses, place by place.
-use Rattle.std.proofs.Common.{◌≡◌, ℕ, zero, suc, ◌+◌, ◌<◌, ◌≤◌, ◌*◌, pos, List, [], ◌∷◌, ◌++◌, length, take, drop, set, get_or, refl, sym, ap, arith, ◌∙◌, add-one, append-nil, append_assoc}
+use Rattle.std.proofs.Common.{◌≡◌, ℕ, zero, suc, ◌+◌, ◌<◌, ◌≤◌, ◌*◌, pos, List, [], ◌∷◌, ◌++◌, length, take, drop, refl, sym, ap, arith, ◌∙◌, add-one, append-nil, append_assoc}
 use Rattle.std.specs.List.{filter_map, flat_map, range_with_len, cons_option}
-use Rattle.std.proofs.lemmas.List.{take_at, take_more, take-set, length-append, length-set, length-take-le, get_or-set_same, flat_map_more}
+use Rattle.std.proofs.lemmas.List.{take_at, length-append, length-take-le, flat_map_more}
 use Rattle.std.proofs.lemmas.List.Elements.{filter_map-append}
 use Rattle.kt_stream.specs.Pairs.{end_bytes, pair_bytes, pairs_bytes}
 use Rattle.kt_stream.specs.declared.entry.LossRecord.{LossRecord}
@@ -39,20 +39,6 @@ pairs_push f n loss pair pairs longer are is some pair_is longer_is =
 pub pairs_skip : (f : ℕ → ℕ) (n : ℕ) (pairs : List Pair) → pairs ≡ filter_map (λ place. pair_at place (f place)) (range_with_len 0 n) → 0 ≡ f n → pairs ≡ filter_map (λ place. pair_at place (f place)) (range_with_len 0 (n + 1))
 pairs_skip f n pairs are none =
     are ∙ (sym (append-nil (filter_map (λ place. pair_at place (f place)) (range_with_len 0 n))) ∙ (ap (λ more. filter_map (λ place. pair_at place (f place)) (range_with_len 0 n) ++ more) (sym (no_pair f n (sym none))) ∙ sym (pairs_upto f n)))
-
--- one more place: its pair is kept where it has a loss
-pub pairs_put : (f : ℕ → ℕ) (n loss used more : ℕ) (d pair : Pair) (pairs : List Pair) → take used pairs ≡ filter_map (λ place. pair_at place (f place)) (range_with_len 0 n) → used < length pairs → loss ≡ f n → pair ≡ record { sidx = sidx_at n; loss = loss } → (0 < loss → more ≡ 1) → (loss ≡ 0 → more ≡ 0) → take (used + more) (set pairs used pair) ≡ filter_map (λ place. pair_at place (f place)) (range_with_len 0 (n + 1))
-pairs_put f n zero used more d pair pairs are below is pair_is some none =
-    pairs_skip f n (take (used + more) (set pairs used pair)) (ap (λ k. take k (set pairs used pair)) (stays (none refl)) ∙ (take-set pairs used pair ∙ are)) is
-  where
-    stays : more ≡ 0 → used + more ≡ used
-    stays same = omega arith
-pairs_put f n (suc less) used more d pair pairs are below is pair_is some none =
-    pairs_push f n (suc less) pair (take used pairs) (take (used + more) (set pairs used pair)) are is (omega arith) pair_is
-    (ap (λ k. take k (set pairs used pair)) (rises (some (omega arith))) ∙ (take_more (set pairs used pair) used d (omega (arith, length-set pairs used pair, below)) ∙ (ap (λ front. front ++ get_or (set pairs used pair) used d ∷ []) (take-set pairs used pair) ∙ ap (λ last. take used pairs ++ last ∷ []) (get_or-set_same pairs used pair d below))))
-  where
-    rises : more ≡ 1 → used + more ≡ used + 1
-    rises same = omega arith
 
 -- equal losses have equal pairs
 pub pairs_agree : (f g : ℕ → ℕ) (samples : ℕ) → ((place : ℕ) → place < samples + 2 → f place ≡ g place) → pairs_of f samples ≡ pairs_of g samples

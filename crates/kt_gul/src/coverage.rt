@@ -109,6 +109,8 @@ fn push_plain<E: Exit>(
     requires group { IsGroup portfolio.now.rows draw.event cdfs.now coverage group.now }
     requires losses { losses.now ≡ flat_map (λ struck. map (raw_loss portfolio.now.rows draw.event cdfs.now struck.item) (range_with_len 0 (draw.samples + 2))) group.now }
     requires plain { draw.cut ≡ true → (place : ℕ) → 1 ≤ place → place < draw.samples + 2 → group_total portfolio.now.rows draw.event cdfs.now group.now place ≤ tiv_of portfolio.now.rows.coverages coverage }
+    requires takes { E.takes draw.samples exit.old }
+    ensures takes { OnOk result (E.takes draw.samples exit.new) }
     ensures ok { OnOk result (E.pieces exit.new ≡ E.pieces exit.old ++ flat_map E.spelled (filter_map (item_record portfolio.now.rows draw.samples draw.cut draw.event cdfs.now) (map (λ struck. struck.item) group.now))) }
 
     ensures front { OnErr result (StandsInFront (E.pieces exit.old) (E.pieces exit.new)) }
@@ -147,6 +149,8 @@ fn push_cut<E: Exit>(
     requires before { length before.old ≡ draw.samples + 2 }
     requires cut { length cut.old ≡ draw.samples + 2 }
     requires most { (place : ℕ) → place < draw.samples + 2 → group_total portfolio.now.rows draw.event cdfs.now group.now place < 2 ^ 64 }
+    requires takes { E.takes draw.samples exit.old }
+    ensures takes { OnOk result (E.takes draw.samples exit.new) }
     ensures ok { OnOk result (E.pieces exit.new ≡ E.pieces exit.old ++ flat_map E.spelled (filter_map (item_record portfolio.now.rows draw.samples draw.cut draw.event cdfs.now) (map (λ struck. struck.item) group.now))) }
 
     ensures front { OnErr result (StandsInFront (E.pieces exit.old) (E.pieces exit.new)) }
@@ -184,6 +188,8 @@ fn push_single<E: Exit>(
     requires tables { AreTables portfolio.now.rows.damage_bin_dict cdfs.now (length cdfs.now) tables.now.tables.items tables.now.steps.items }
     requires single { length group.now ≡ 1 }
     requires empty { losses.items ≡ [] }
+    requires takes { E.takes draw.samples exit.old }
+    ensures takes { OnOk result (E.takes draw.samples exit.new) }
     ensures ok { OnOk result (E.pieces exit.new ≡ E.pieces exit.old ++ flat_map E.spelled (filter_map (item_record portfolio.now.rows draw.samples draw.cut draw.event cdfs.now) (map (λ struck. struck.item) group.now))) }
 
     ensures front { OnErr result (StandsInFront (E.pieces exit.old) (E.pieces exit.new)) }
@@ -211,7 +217,9 @@ pub(crate) fn push_coverage<E: Exit>(
     requires group { IsGroup portfolio.now.rows draw.event cdfs.now coverage group.now }
     requires tables { AreTables portfolio.now.rows.damage_bin_dict cdfs.now (length cdfs.now) tables.now.tables.items tables.now.steps.items }
     requires scratch { IsScratch (draw.samples + 2) scratch }
+    requires takes { E.takes draw.samples exit.old }
     ensures scratch { IfOk result (IsScratch (draw.samples + 2)) }
+    ensures takes { OnOk result (E.takes draw.samples exit.new) }
     ensures ok { OnOk result (E.pieces exit.new ≡ E.pieces exit.old ++ flat_map E.spelled (filter_map (item_record portfolio.now.rows draw.samples draw.cut draw.event cdfs.now) (map (λ struck. struck.item) group.now))) }
 
     ensures front { OnErr result (StandsInFront (E.pieces exit.old) (E.pieces exit.new)) }

@@ -1,13 +1,12 @@
-//! The ground-up losses of an event, as records.
+//! The ground-up losses of an event.
 //! The rules: docs/CALCULATION.md, "Sampled loss", "Mean and deviation of an item", "Coverage cut".
 ghost use Rattle.std.specs.Prelude.{◌≡◌, ◌+◌, ◌-◌, ◌<◌, ◌≤◌, true, length, map, take, drop, All, IfOk, OnOk, OnErr, ◌++◌, slice_index_or};
 ghost use Rattle.std.specs.List.{filter_map, flat_map};
-ghost use Rattle.std.specs.List.Sorted.{IsPermutation, IsNonDecreasingBy};
+ghost use Rattle.std.specs.List.Sorted.{IsNonDecreasingBy};
 ghost use Rattle.kt_rec.specs.declared.table.Table.TheVariants as table;
 ghost use Rattle.kt_keys.specs.Refusals.{is_loaded};
 ghost use Rattle.kt_stream.specs.Losses.{IsLoss, loss_bytes};
 ghost use Rattle.kt_stream.specs.Pairs.{IsId};
-ghost use Rattle.kt_stream.specs.declared.entry.LossRecord.{LossRecord};
 ghost use Rattle.kt_gul.specs.declared.struck.StruckItem.{StruckItem};
 ghost use Rattle.kt_gul.specs.GroundUp.{StandsInFront, item_record, ground_up_records};
 ghost use Rattle.kt_gul.specs.StruckItems.{AreCdfs, AreInOrder, id_of, item_of};
@@ -23,6 +22,7 @@ use crate::sums::Scratch;
 use crate::tables::{StepTables, tables_of};
 use kt_index::ByKey;
 use kt_money::Bytes;
+use kt_shares::LossLanes;
 use kt_stream::{Cdf, LossRecord, Records, put_loss};
 use kt_tables::Portfolio;
 use std::alloc::{AllocError, Global};
@@ -64,6 +64,8 @@ fn put_groups<E: Exit>(
     requires samples { draw.samples ≤ 1000 }
     requires order { AreInOrder portfolio.now.rows cdfs.now struck.now }
     requires tables { AreTables portfolio.now.rows.damage_bin_dict cdfs.now (length cdfs.now) tables.now.tables.items tables.now.steps.items }
+    requires takes { E.takes draw.samples exit.old }
+    ensures takes { OnOk result (E.takes draw.samples exit.new) }
     ensures ok { OnOk result (E.pieces exit.new ≡ E.pieces exit.old ++ flat_map E.spelled (filter_map (item_record portfolio.now.rows draw.samples draw.cut draw.event cdfs.now) (map item_of struck.now))) }
 
     ensures front { OnErr result (StandsInFront (E.pieces exit.old) (E.pieces exit.new)) }
@@ -83,34 +85,30 @@ fn put_groups<E: Exit>(
     Ok(())
 }
 
-/// Puts records in the order of their ids.
-fn sort_by_id(records: &mut Vec<LossRecord>) -> Result<(), AllocError>
-    ensures permutation { IfOk result (λ _. IsPermutation records.old.items records.new.items) }
-    ensures rising { IfOk result (λ _. IsNonDecreasingBy (λ entry. entry.id) records.new.items) }
-{
-    records.sort_by_key(|entry| entry.id)?;
-    Ok(())
-}
-
-/// The records of struck items by rising id.
-fn records_by_id(
+/// The records of struck items by rising id, by lanes.
+fn lanes_by_id(
     portfolio: &Portfolio,
     draw: Draw,
     cdfs: &[HeldCdf<'_>],
     tables: &StepTables,
     struck: &[StruckItem],
-) -> Result<Vec<LossRecord>, AllocError>
+) -> Result<LossLanes, AllocError>
     requires loaded { is_loaded portfolio.now.need 0 table.Random ≡ true }
     requires samples { draw.samples ≤ 1000 }
     requires order { AreInOrder portfolio.now.rows cdfs.now struck.now }
     requires tables { AreTables portfolio.now.rows.damage_bin_dict cdfs.now (length cdfs.now) tables.now.tables.items tables.now.steps.items }
-    ensures value { IfOk result (λ records. records.items ≡ ground_up_records portfolio.now.rows draw.samples draw.cut draw.event cdfs.now) }
+    ensures rows { IfOk result (λ lanes. lanes.rows ≡ draw.samples + 1) }
+    ensures value { IfOk result (λ lanes. lanes.records ≡ ground_up_records portfolio.now.rows draw.samples draw.cut draw.event cdfs.now) }
 {
     portfolio.is_valid();
-    let mut records = Vec::new(draw.alloc);
-    put_groups(portfolio, draw, cdfs, tables, struck, &mut records)?;
-    sort_by_id(&mut records)?;
-    Ok(records)
+    let rows = draw.samples as usize + 1;
+    let mut lanes = LossLanes::with_room(draw.alloc, struck.len(), rows)?;
+    put_groups(portfolio, draw, cdfs, tables, struck, &mut lanes)?;
+    if is_by_id(struck) {
+        return Ok(lanes);
+    }
+    let sorted = lanes.by_id(draw.alloc)?;
+    Ok(sorted)
 }
 
 /// Appends the bytes of records, all or none.
@@ -176,10 +174,40 @@ fn struck_in_order(
     Ok(struck)
 }
 
-/// The records of the ground-up losses of an event, by rising id of the item: of each item its deviation, its mean and so
-/// many samples, with the cut of the losses of a coverage to its insured value or without it. The random numbers must be
-/// loaded, and the distributions are those of the event, of which none has more bins than the dictionary of damage bins. An
-/// error is want of memory.
+/// The ground-up losses of an event, by lanes, by rising id of the item: of each item its deviation, its mean and so many samples, with
+/// the cut of the losses of a coverage to its insured value or without it. The random numbers must be loaded, and the distributions are
+/// those of the event, of which none has more bins than the dictionary of damage bins. An error is want of memory.
+pub fn ground_up_lanes(
+    alloc: Global,
+    portfolio: &Portfolio,
+    samples: u32,
+    cut: bool,
+    event: u32,
+    cdfs: &[Cdf],
+) -> Result<LossLanes, AllocError>
+    requires random { is_loaded portfolio.now.need 0 table.Random ≡ true }
+    requires samples { samples ≤ 1000 }
+    requires event { IsId event }
+    requires cdfs { AreCdfs (length portfolio.now.rows.damage_bin_dict) cdfs.now }
+    ensures rows { IfOk result (λ lanes. lanes.rows ≡ samples + 1) }
+    ensures value { IfOk result (λ lanes. lanes.records ≡ ground_up_records portfolio.now.rows samples cut event cdfs.now) }
+    ensures good { IfOk result (λ lanes. All (IsLoss samples) lanes.records) }
+{
+    portfolio.is_valid();
+    let cdfs = held_cdfs(alloc, cdfs)?;
+    let tables = tables_of(alloc, portfolio.damage_bins(), &cdfs)?;
+    let struck = struck_in_order(alloc, portfolio, &cdfs)?;
+    let draw = Draw {
+        alloc,
+        samples,
+        cut,
+        event,
+    };
+    let lanes = lanes_by_id(portfolio, draw, &cdfs, &tables, struck.as_slice())?;
+    Ok(lanes)
+}
+
+/// The records of the ground-up losses of an event, as `ground_up_lanes` says it of lanes. An error is want of memory.
 pub fn ground_up(
     alloc: Global,
     portfolio: &Portfolio,
@@ -195,18 +223,9 @@ pub fn ground_up(
     ensures value { IfOk result (λ records. records ≡ ground_up_records portfolio.now.rows samples cut event cdfs.now) }
     ensures good { IfOk result (λ records. All (IsLoss samples) records) }
 {
-    portfolio.is_valid();
-    let cdfs = held_cdfs(alloc, cdfs)?;
-    let tables = tables_of(alloc, portfolio.damage_bins(), &cdfs)?;
-    let struck = struck_in_order(alloc, portfolio, &cdfs)?;
-    let draw = Draw {
-        alloc,
-        samples,
-        cut,
-        event,
-    };
-    let records = records_by_id(portfolio, draw, &cdfs, &tables, struck.as_slice())?;
-    Ok(Records::from_vec(records))
+    let lanes = ground_up_lanes(alloc, portfolio, samples, cut, event, cdfs)?;
+    let records = lanes.to_records(alloc)?;
+    Ok(records)
 }
 
 /// Appends the records of the ground-up losses of an event as they stand in a stream: those of `ground_up`, which says what must
@@ -241,6 +260,7 @@ pub fn put_ground_up<T: CdfEntry>(
     if is_by_id(struck) {
         return put_written(portfolio, draw, &cdfs, &tables, struck, out);
     }
-    let records = records_by_id(portfolio, draw, &cdfs, &tables, struck)?;
-    put_records(out, &records)
+    let lanes = lanes_by_id(portfolio, draw, &cdfs, &tables, struck)?;
+    let records = lanes.to_records(alloc)?;
+    put_records(out, records.as_slice())
 }

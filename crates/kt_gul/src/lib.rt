@@ -19,5 +19,5 @@ mod struck;
 mod sums;
 mod tables;
 
-pub use event::{ground_up, put_ground_up};
+pub use event::{ground_up, ground_up_lanes, put_ground_up};
 pub use held::CdfEntry;

@@ -4,11 +4,7 @@ ghost use Rattle.std.specs.Prelude.{◌≡◌, ◌+◌, ◌*◌, ◌<◌, ◌≤
 ghost use Rattle.kt_gul.specs.GroundUp.{sidx_at, pairs_of};
 ghost use Rattle.kt_stream.specs.Pairs.{pairs_bytes};
 
-use kt_stream::{END, Pair, Pairs, write_pair};
-use std::alloc::{AllocError, Global};
-
-/// What stands where no pair is yet.
-const NO_PAIR: Pair = Pair { sidx: 0, loss: 0 };
+use kt_stream::{END, Pair, write_pair};
 
 /// The length of a pair in bytes.
 const PAIR: usize = 12;
@@ -59,27 +55,6 @@ fn sample_pair(place: usize, loss: u64) -> Pair
         sidx: (place as u32 - 1).cast_signed(),
         loss,
     }
-}
-
-/// The pairs of an item's losses. An error is want of memory.
-#[inline(never)]
-pub(crate) fn row_pairs(alloc: Global, row: &[u64], samples: u32) -> Result<Pairs, AllocError>
-    requires samples { samples ≤ 1000 }
-    requires row { length row.now ≡ samples + 2 }
-    ensures value { IfOk result (λ pairs. pairs ≡ pairs_of (λ place. slice_index row.now place) samples) }
-{
-    let mut pairs = vec![in alloc; NO_PAIR; samples as usize + 2]?;
-    pairs[0] = pair_at(0, row[0]);
-    let mut used = one_if(row[0]);
-    pairs[used] = pair_at(1, row[1]);
-    used += one_if(row[1]);
-    for place in 2..samples as usize + 2 {
-        let loss = row[place];
-        pairs[used] = sample_pair(place, loss);
-        used += one_if(loss);
-    }
-    pairs.truncate(used);
-    Ok(Pairs::from_vec(pairs))
 }
 
 /// Writes the pairs of an item's losses and the end pair behind them, and answers how many bytes these are: 0 where there is no

@@ -20,33 +20,34 @@ use crate::sums::sums_of;
 use kt_fmtree::Programme;
 use kt_money::Bytes;
 use kt_runs::{RunEntry, event_of};
-use kt_shares::{ids_of, table_of};
+use kt_shares::{Listed, RunLosses, event_of_run, ids_of, table_of, table_of_run};
 use kt_structure::Structure;
 use kt_tables::Portfolio;
 use std::alloc::{AllocError, Global};
 
-/// The insured losses of the records of a run, by a programme of the ids that have losses.
-fn lanes_by<T: RunEntry>(
+/// The insured losses of a run, by a programme of the ids that have losses.
+fn lanes_by<R: RunLosses>(
     alloc: Global,
     portfolio: &Portfolio,
     programme: &Programme,
     layout: &Layout,
     samples: u32,
-    records: &[T],
+    run: &R,
 ) -> Result<InsuredLanes, AllocError>
     requires samples { samples ≤ 1000 }
     requires rule { layout.now.rule ≤ 2 }
     requires layout { (tree : Tree) → IsProgramme tree programme.now → IsLayout tree portfolio.now.rows.fm_xref programme.now layout.now }
-    requires records { All (IsLoss samples) (map T.entry_of records.now) }
-    requires within { AreWithin (map T.entry_of records.now) }
+    requires rows { R.has_rows samples run.now }
+    requires records { All (IsLoss samples) (R.records_of run.now) }
+    requires within { AreWithin (R.records_of run.now) }
     ensures rows { IfOk result (λ made. made.losses.rows ≡ samples + 1) }
-    ensures records { IfOk result (λ made. (tree : Tree) → IsProgramme tree programme.now → made.losses.records ≡ insured_records tree layout.now.rule samples portfolio.now.rows.fm_xref (map T.entry_of records.now)) }
-    ensures layers { IfOk result (λ made. (tree : Tree) → IsProgramme tree programme.now → made.layers ≡ layer_sums tree layout.now.rule samples (map T.entry_of records.now)) }
+    ensures records { IfOk result (λ made. (tree : Tree) → IsProgramme tree programme.now → made.losses.records ≡ insured_records tree layout.now.rule samples portfolio.now.rows.fm_xref (R.records_of run.now)) }
+    ensures layers { IfOk result (λ made. (tree : Tree) → IsProgramme tree programme.now → made.layers ≡ layer_sums tree layout.now.rule samples (R.records_of run.now)) }
 {
     programme.is_of_a_tree();
-    let event = event_of(records);
+    let event = event_of_run(run);
     let layers = layout.layers();
-    let table = table_of(alloc, programme, samples, layout.rule(), layers, records)?;
+    let table = table_of_run(alloc, programme, samples, layout.rule(), layers, run)?;
     let losses = lanes_of(alloc, event, &table, layout.outlets())?;
     let sums = sums_of(alloc, event, &table, layers)?;
     Ok(InsuredLanes {
@@ -55,34 +56,35 @@ fn lanes_by<T: RunEntry>(
     })
 }
 
-/// The insured losses of the records of one run, by lanes, and the sums of the layers: those of `insured`, which says what must hold. An
+/// The insured losses of one run, by lanes, and the sums of the layers: those of `insured`, which says what must hold. An
 /// error is want of memory.
-pub fn insured_lanes<T: RunEntry>(
+pub fn insured_lanes<R: RunLosses>(
     alloc: Global,
     portfolio: &Portfolio,
     structure: &Structure,
     outputs: &OutputIndex,
     samples: u32,
     rule: u32,
-    records: &[T],
+    run: &R,
 ) -> Result<InsuredLanes, AllocError>
     requires samples { samples ≤ 1000 }
     requires rule { rule ≤ 2 }
     requires structure { IsStructure (tree_of portfolio.now.rows 0) (kept_by structure.now) }
     requires outputs { AreIndexed portfolio.now.rows.fm_xref outputs.now }
-    requires records { All (IsLoss samples) (map T.entry_of records.now) }
-    requires within { AreWithin (map T.entry_of records.now) }
+    requires rows { R.has_rows samples run.now }
+    requires records { All (IsLoss samples) (R.records_of run.now) }
+    requires within { AreWithin (R.records_of run.now) }
     ensures rows { IfOk result (λ made. made.losses.rows ≡ samples + 1) }
-    ensures records { IfOk result (λ made. made.losses.records ≡ insured_records (tree_of portfolio.now.rows 0) rule samples portfolio.now.rows.fm_xref (map T.entry_of records.now)) }
-    ensures layers { IfOk result (λ made. made.layers ≡ layer_sums (tree_of portfolio.now.rows 0) rule samples (map T.entry_of records.now)) }
+    ensures records { IfOk result (λ made. made.losses.records ≡ insured_records (tree_of portfolio.now.rows 0) rule samples portfolio.now.rows.fm_xref (R.records_of run.now)) }
+    ensures layers { IfOk result (λ made. made.layers ≡ layer_sums (tree_of portfolio.now.rows 0) rule samples (R.records_of run.now)) }
     ensures conserved { IfOk result (λ made. All (λ entry. entry.allocated ≡ entry.policy) made.layers) }
     ensures good { IfOk result (λ made. All (IsLoss samples) made.losses.records) }
 {
     portfolio.is_valid();
-    let ids = ids_of(alloc, records)?;
+    let ids = run.id_list(alloc)?;
     let programme = structure.programme(alloc, &ids)?;
     let layout = Layout::new(alloc, outputs, &programme, rule)?;
-    let made = lanes_by(alloc, portfolio, &programme, &layout, samples, records)?;
+    let made = lanes_by(alloc, portfolio, &programme, &layout, samples, run)?;
     Ok(made)
 }
 
@@ -110,7 +112,8 @@ pub fn insured<T: RunEntry>(
     ensures conserved { IfOk result (λ made. All (λ entry. entry.allocated ≡ entry.policy) made.layers) }
     ensures good { IfOk result (λ made. All (IsLoss samples) made.records) }
 {
-    let made = insured_lanes(alloc, portfolio, structure, outputs, samples, rule, records)?;
+    let run = Listed { records };
+    let made = insured_lanes(alloc, portfolio, structure, outputs, samples, rule, &run)?;
     let records = made.losses.to_records(alloc)?;
     Ok(Insured {
         records,

@@ -1,16 +1,29 @@
--- Records of losses by lanes: that of a record has the loss of the mean, and behind it those of the samples.
--- The rule: docs/FINANCIAL_MODULE.md, "Insured losses".
-use Rattle.std.specs.Prelude.{◌≡◌, ℕ, ◌≤◌, List, [], ◌∷◌, length, slice_index}
+-- Records of losses by lanes: that of a record has the loss of the mean, and behind it those of the samples; its deviation stands beside
+-- its event and id.
+-- The rules: docs/FINANCIAL_MODULE.md, "Insured losses"; docs/STREAMS.md, "Records".
+use Rattle.std.specs.Prelude.{◌≡◌, ℕ, ◌+◌, ◌≤◌, List, [], ◌∷◌, length}
 use Rattle.kt_lanes.specs.Lanes.{AreWide}
 use Rattle.kt_stream.specs.declared.entry.LossRecord.{LossRecord}
 use Rattle.kt_shares.specs.LaneRun.{LaneRun}
-use Rattle.kt_shares.specs.Table.{pairs_by_row}
+use Rattle.kt_runs.specs.RunLosses.{loss_of}
+use Rattle.kt_runs.specs.Sidx.{sidx_at}
+use Rattle.kt_shares.specs.Table.{pairs_with}
+use Rattle.kt_shares.specs.declared.loss_lanes.IdPlace.{IdPlace}
 use Rattle.kt_shares.specs.declared.loss_lanes.LossHead.{LossHead}
 use Rattle.kt_shares.specs.declared.loss_lanes.LossLanes.TheInside.{Inside}
 
 -- the record of a lane
 abbrev pub lane_record : LossHead → List ℕ → LossRecord
-lane_record head lane = record { event = head.event; id = head.id; pairs = pairs_by_row (slice_index lane) (length lane) }
+lane_record head lane = record { event = head.event; id = head.id; pairs = pairs_with head.deviation lane }
+
+-- the deviation of a record: its loss at sidx -2
+abbrev pub deviation_of : LossRecord → ℕ
+deviation_of entry = loss_of (sidx_at 2147483646) entry.pairs
+
+-- the ids of records with their places, from one on
+abbrev pub id_places : ℕ → List LossRecord → List IdPlace
+id_places first [] = []
+id_places first (entry ∷ records) = record { id = entry.id; place = first } ∷ id_places (first + 1) records
 
 -- those of lanes
 abbrev pub lane_records : List LossHead → List (List ℕ) → List LossRecord

@@ -14,7 +14,7 @@ use Rattle.kt_runs.specs.Sidx.{pair_of, sidx_at}
 use Rattle.kt_runs.specs.SidxLaws.{one_place}
 use Rattle.kt_shares.specs.HoldsLaws.{apart}
 use Rattle.kt_shares.specs.RowLaws.{row-back}
-use Rattle.kt_shares.specs.Table.{pairs_by_row, row_place}
+use Rattle.kt_shares.specs.Table.{pairs_by_row, pairs_with, row_place}
 
 -- two places have one sidx where they are the same
 place-test : (one other : ℕ) → int_eq (sidx_at one) (sidx_at other) ≡ nat_eq one other
@@ -90,6 +90,43 @@ module _ (amount : ℕ → ℕ) where
   pub rows-loss : (row rows : ℕ) → row < rows → loss_of (sidx_at (row_place row)) (pairs_by_row amount rows) ≡ amount row
   rows-loss row rows below = from-loss row 0 rows (omega arith) (omega (arith, below))
 
--- so the pairs of a lane have its losses
-pub lane-loss : (lane : List ℕ) (pairs : List Pair) → pairs ≡ pairs_by_row (slice_index lane) (length lane) → (row : ℕ) → row < length lane → loss_of (sidx_at (row_place row)) pairs ≡ slice_index lane row
-lane-loss lane pairs are row below = ap (loss_of (sidx_at (row_place row))) are ∙ rows-loss (slice_index lane) row (length lane) below
+-- ---- a deviation and a lane
+
+-- sidx -2 is that of no row
+pub first-apart : (row : ℕ) → row_place row ≡ 2147483646 → ⊥
+first-apart row = by (nat_eq row 0)
+  where
+    by : (b : Bool) → cond b 2147483647 (2147483648 + row) ≡ 2147483646 → ⊥
+    by true same = absurd (omega (arith, same))
+    by false same = absurd (omega (arith, same))
+
+-- the losses of both
+pub with-loss : (deviation : ℕ) (lane : List ℕ) (place : ℕ) → loss_of (sidx_at place) (pairs_with deviation lane) ≡ cond (nat_eq 2147483646 place) deviation 0 + loss_of (sidx_at place) (pairs_by_row (slice_index lane) (length lane))
+with-loss deviation lane place =
+    front-loss (sidx_at place) (sidx_at 2147483646) deviation (pairs_by_row (slice_index lane) (length lane))
+    ∙ ap (λ b. cond b deviation 0 + loss_of (sidx_at place) (pairs_by_row (slice_index lane) (length lane))) (place-test 2147483646 place)
+
+-- that of sidx -2 is the deviation
+pub deviation-loss : (deviation : ℕ) (lane : List ℕ) → loss_of (sidx_at 2147483646) (pairs_with deviation lane) ≡ deviation
+deviation-loss deviation lane =
+    let none = rows-none (slice_index lane) 2147483646 (length lane) (λ row below same. first-apart row same) in
+    with-loss deviation lane 2147483646 ∙ (ap (λ n. deviation + n) none ∙ omega arith)
+
+-- at the sidx of no row and behind it there is none
+pub with-none : (deviation : ℕ) (lane : List ℕ) (place : ℕ) → (2147483646 ≡ place → ⊥) → ((row : ℕ) → row < length lane → row_place row ≡ place → ⊥) → loss_of (sidx_at place) (pairs_with deviation lane) ≡ 0
+with-none deviation lane place first other =
+    omega (arith, with-loss deviation lane place, ap (λ b. cond b deviation 0) (apart 2147483646 place first), rows-none (slice_index lane) place (length lane) other)
+
+-- and those of the rows are the losses of the lane
+pub with-row : (deviation : ℕ) (lane : List ℕ) (row : ℕ) → row < length lane → loss_of (sidx_at (row_place row)) (pairs_with deviation lane) ≡ slice_index lane row
+with-row deviation lane row below =
+    omega (
+      arith,
+      with-loss deviation lane (row_place row),
+      ap (λ b. cond b deviation 0) (apart 2147483646 (row_place row) (λ same. first-apart row (sym same))),
+      rows-loss (slice_index lane) row (length lane) below,
+    )
+
+-- so a record has the losses of its lane
+pub lane-loss : (deviation : ℕ) (lane : List ℕ) (pairs : List Pair) → pairs ≡ pairs_with deviation lane → (row : ℕ) → row < length lane → loss_of (sidx_at (row_place row)) pairs ≡ slice_index lane row
+lane-loss deviation lane pairs are row below = ap (loss_of (sidx_at (row_place row))) are ∙ with-row deviation lane row below

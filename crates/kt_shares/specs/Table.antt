@@ -1,7 +1,7 @@
 -- The rows of all sidx.
 -- The rule: docs/FINANCIAL_MODULE.md, "Insured losses".
 use Rattle.std.specs.Prelude.{ℕ, ◌+◌, ◌-◌, ◌<◌, ◌≤◌, cond, nat_eq, List, length, map, slice_index, slice_index_or}
-use Rattle.std.specs.List.{filter_map, range_with_len, sum_by}
+use Rattle.std.specs.List.{cons_option, filter_map, range_with_len, sum_by}
 use Rattle.kt_stream.specs.declared.entry.LossRecord.{LossRecord}
 use Rattle.kt_stream.specs.declared.entry.Pair.{Pair}
 use Rattle.kt_runs.specs.Sidx.{pair_of, sidx_at}
@@ -24,6 +24,10 @@ row_at table row = slice_index_or table row no_shares
 -- the pairs of so many rows, where their amounts are above 0
 abbrev pub pairs_by_row : (ℕ → ℕ) → ℕ → List Pair
 pairs_by_row amount rows = filter_map (λ row. pair_of (sidx_at (row_place row)) (amount row)) (range_with_len 0 rows)
+
+-- the pairs of a deviation, which stands in front, and of a lane, whose rows are those of the mean and of the samples
+abbrev pub pairs_with : ℕ → List ℕ → List Pair
+pairs_with deviation lane = cons_option (pair_of (sidx_at 2147483646) deviation) (pairs_by_row (slice_index lane) (length lane))
 
 -- amounts of the samples added
 abbrev pub sampled_sum : (Shared → ℕ) → List Shared → ℕ

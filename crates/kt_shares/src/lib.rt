@@ -17,6 +17,6 @@ mod written;
 pub use layers::{TopLayer, top_layers};
 pub use loss_lanes::LossLanes;
 pub use losses::ids_of;
-pub use run_losses::{Listed, RunLosses};
+pub use run_losses::{Listed, RunLosses, event_of_run};
 pub use table::{Table, table_of, table_of_run};
 pub use written::put_pairs;

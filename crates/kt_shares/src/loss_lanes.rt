@@ -1,32 +1,45 @@
 //! Records of losses by lanes.
 //! The rule: docs/FINANCIAL_MODULE.md, "Insured losses".
-ghost use Rattle.std.specs.Prelude.{◌≡◌, ◌+◌, ◌≤◌, ◌<◌, ◌++◌, true, false, [], length, slice_index, slice_index_or, IfOk, OnErr, OnOk};
+ghost use Rattle.std.specs.Prelude.{◌≡◌, ◌+◌, ◌≤◌, ◌<◌, ◌++◌, ◌∷◌, true, false, [], All, length, map, slice_index, slice_index_or, IfOk, OnErr, OnOk};
 ghost use Rattle.std.specs.List.{cons_option};
+ghost use Rattle.std.specs.List.Sorted.{IsNonDecreasingBy, IsPermutation};
 ghost use Rattle.kt_rec.specs.Rising.{IsRising};
 ghost use Rattle.kt_runs.specs.RunLosses.{AreWithin, event_of};
 ghost use Rattle.kt_stream.specs.declared.entry.LossRecord.{LossRecord};
+ghost use Rattle.kt_shares.specs.LossLanes.{deviation_of, id_places, lane_record};
 ghost use Rattle.kt_shares.specs.Shares.{ids_of, record_with};
-ghost use Rattle.kt_shares.specs.Table.{pairs_by_row};
+ghost use Rattle.kt_shares.specs.Table.{pairs_by_row, pairs_with};
 ghost use Rattle.kt_shares.specs.Taken.{AreIdLanes};
 
-use crate::pairs::lane_pairs;
-use crate::run_losses::RunLosses;
+use crate::pairs::record_pairs;
+use crate::run_losses::{RunLosses, event_of_run};
 use kt_lanes::{Lanes, add_by_id};
 use kt_stream::{LossRecord, Records};
 use std::alloc::{AllocError, Global};
 use std::marker::Model;
 
-/// Whose the losses of a lane are.
+/// Whose the losses of a lane are, and their deviation.
 #[derive(Clone, Copy)]
 pub(crate) struct LossHead {
     /// The event.
     pub(crate) event: u32,
     /// The id.
     pub(crate) id: u32,
+    /// The deviation in cents, which only ground-up losses have.
+    pub(crate) deviation: u64,
 }
 
-/// Records of losses in cents, by lanes: of each record a lane, with the loss of the mean first and then those of the samples, at most
-/// 1,000. Contracts see the number of losses in a lane, and the records.
+/// An id, and the place of its record.
+#[derive(Clone, Copy)]
+pub(crate) struct IdPlace {
+    /// The id.
+    pub(crate) id: u32,
+    /// The place.
+    pub(crate) place: usize,
+}
+
+/// Records of losses in cents, by lanes: of each record its deviation, and a lane, with the loss of the mean first and then those of the
+/// samples, at most 1,000. Contracts see the number of losses in a lane, and the records.
 #[derive(Drop)]
 pub struct LossLanes {
     rows: usize,
@@ -59,6 +72,26 @@ fn has_loss(lane: &[u64]) -> bool
     false
 }
 
+/// Whether a deviation or one of the losses of a lane is above 0.
+fn has_losses(deviation: u64, lane: &[u64]) -> bool
+    ensures some { result ≡ true → 0 < length (pairs_with deviation lane.now) }
+    ensures none { result ≡ false → pairs_with deviation lane.now ≡ [] }
+{
+    if deviation > 0 {
+        return true;
+    }
+    has_loss(lane)
+}
+
+/// Puts the places of ids in the order of the ids.
+fn sort_by_id(places: &mut Vec<IdPlace>) -> Result<(), AllocError>
+    ensures permutation { IfOk result (λ _. IsPermutation places.old.items places.new.items) }
+    ensures rising { IfOk result (λ _. IsNonDecreasingBy (λ one. one.id) places.new.items) }
+{
+    places.sort_by_key(|one| one.id)?;
+    Ok(())
+}
+
 impl LossLanes {
     /// No record, with room for so many, of each so many losses. An error is want of memory.
     pub fn with_room(alloc: Global, count: usize, rows: usize) -> Result<LossLanes, AllocError>
@@ -79,16 +112,57 @@ impl LossLanes {
         ensures ok { OnOk result (self.new.records ≡ self.old.records ++ cons_option (record_with event id (pairs_by_row (slice_index lane.now) (length lane.now))) []) }
         ensures unchanged { OnErr result (self.new.records ≡ self.old.records) }
     {
-        if !has_loss(lane) {
+        self.put_with(event, id, 0, lane)
+    }
+
+    /// Puts the deviation and the losses of an id in an event behind the others, where one is above 0. An error is want of memory, and
+    /// nothing changes then.
+    pub fn put_with(
+        &mut self,
+        event: u32,
+        id: u32,
+        deviation: u64,
+        lane: &[u64],
+    ) -> Result<(), AllocError>
+        requires rows { length lane.now ≡ self.old.rows }
+        ensures rows { self.new.rows ≡ self.old.rows }
+        ensures ok { OnOk result (self.new.records ≡ self.old.records ++ cons_option (record_with event id (pairs_with deviation lane.now)) []) }
+        ensures unchanged { OnErr result (self.new.records ≡ self.old.records) }
+    {
+        if !has_losses(deviation, lane) {
             return Ok(());
         }
+        let head = LossHead {
+            event,
+            id,
+            deviation,
+        };
+        self.keep(head, lane)?;
+        Ok(())
+    }
+
+    /// Puts the record of a lane behind the others. An error is want of memory, and nothing changes then.
+    fn keep(&mut self, head: LossHead, lane: &[u64]) -> Result<(), AllocError>
+        requires rows { length lane.now ≡ self.old.rows }
+        ensures rows { self.new.rows ≡ self.old.rows }
+        ensures ok { OnOk result (self.new.records ≡ self.old.records ++ lane_record head lane.now ∷ []) }
+        ensures unchanged { OnErr result (self.new.records ≡ self.old.records) }
+    {
         let count = self.heads.len();
-        self.heads.push(LossHead { event, id })?;
+        self.heads.push(head)?;
         if let Err(stop) = self.lanes.push(lane) {
             self.heads.truncate(count);
             return Err(stop);
         }
         Ok(())
+    }
+
+    /// How many losses a lane has.
+    fn rows(&self) -> usize
+        ensures value { result ≡ self.now.rows }
+        ensures few { result ≤ 1001 }
+    {
+        self.rows
     }
 
     /// How many records there are.
@@ -116,12 +190,21 @@ impl LossLanes {
         self.heads[place].id
     }
 
+    /// The deviation of the record in a place in cents.
+    pub fn deviation(&self, place: usize) -> u64
+        requires place { place < length self.now.records }
+        ensures value { (d : LossRecord) → result ≡ deviation_of (slice_index_or self.now.records place d) }
+    {
+        let _lanes = self.lanes.len();
+        self.heads[place].deviation
+    }
+
     /// The losses of the record in a place in cents: that of the mean, and behind it those of the samples.
     pub fn lane(&self, place: usize) -> &[u64]
         requires place { place < length self.now.records }
         ensures rows { length result.now ≡ self.now.rows }
         ensures few { self.now.rows ≤ 1001 }
-        ensures pairs { (d : LossRecord) → (slice_index_or self.now.records place d).pairs ≡ pairs_by_row (slice_index result.now) (length result.now) }
+        ensures pairs { (d : LossRecord) → (slice_index_or self.now.records place d).pairs ≡ pairs_with (deviation_of (slice_index_or self.now.records place d)) result.now }
     {
         let _heads = self.heads.len();
         self.lanes.lane(place)
@@ -131,11 +214,7 @@ impl LossLanes {
     pub fn first_event(&self) -> u32
         ensures value { result ≡ event_of self.now.records }
     {
-        let count = self.len();
-        if count == 0 {
-            return 0;
-        }
-        self.event(0)
+        event_of_run(self)
     }
 
     /// The ids of the records, in their order. An error is want of memory.
@@ -154,7 +233,7 @@ impl LossLanes {
         requires place { place < length self.now.records }
         ensures value { IfOk result (λ entry. (d : LossRecord) → entry ≡ slice_index_or self.now.records place d) }
     {
-        let pairs = lane_pairs(alloc, self.lane(place))?;
+        let pairs = record_pairs(alloc, self.deviation(place), self.lane(place))?;
         Ok(LossRecord {
             event: self.event(place),
             id: self.id(place),
@@ -171,6 +250,68 @@ impl LossLanes {
             made.push(self.record_at(alloc, place)?)?;
         }
         Ok(Records::from_vec(made))
+    }
+
+    /// The ids of the records with their places. An error is want of memory.
+    fn id_places(&self, alloc: Global) -> Result<Vec<IdPlace>, AllocError>
+        ensures value { IfOk result (λ places. places.items ≡ id_places 0 self.now.records) }
+    {
+        let mut places = Vec::with_capacity(alloc, self.len())?;
+        for place in 0..self.len() {
+            let id = self.id(place);
+            places.push(IdPlace { id, place })?;
+        }
+        Ok(places)
+    }
+
+    /// Puts the record in a place of others behind those that are there. An error is want of memory.
+    fn keep_from(&mut self, others: &LossLanes, place: usize) -> Result<(), AllocError>
+        requires place { place < length others.now.records }
+        requires rows { others.now.rows ≡ self.old.rows }
+        ensures rows { self.new.rows ≡ self.old.rows }
+        ensures ok { OnOk result ((d : LossRecord) → self.new.records ≡ self.old.records ++ slice_index_or others.now.records place d ∷ []) }
+    {
+        let head = LossHead {
+            event: others.event(place),
+            id: others.id(place),
+            deviation: others.deviation(place),
+        };
+        self.keep(head, others.lane(place))?;
+        Ok(())
+    }
+
+    /// The places of the records, by rising id.
+    fn places_by_id(&self, alloc: Global) -> Result<Vec<IdPlace>, AllocError>
+        ensures permutation { IfOk result (λ places. IsPermutation (id_places 0 self.now.records) places.items) }
+        ensures rising { IfOk result (λ places. IsNonDecreasingBy (λ one. one.id) places.items) }
+    {
+        let mut places = self.id_places(alloc)?;
+        sort_by_id(&mut places)?;
+        Ok(places)
+    }
+
+    /// The records in places, in the order of the places. An error is want of memory.
+    fn records_in(&self, alloc: Global, places: &[IdPlace]) -> Result<LossLanes, AllocError>
+        requires inside { All (λ one. one.place < length self.now.records) places.now }
+        ensures rows { IfOk result (λ made. made.rows ≡ self.now.rows) }
+        ensures value { IfOk result (λ made. (d : LossRecord) → made.records ≡ map (λ one. slice_index_or self.now.records one.place d) places.now) }
+    {
+        let mut made = LossLanes::with_room(alloc, places.len(), self.rows())?;
+        for one in places {
+            made.keep_from(self, one.place)?;
+        }
+        Ok(made)
+    }
+
+    /// The records by rising id. An error is want of memory.
+    pub fn by_id(&self, alloc: Global) -> Result<LossLanes, AllocError>
+        ensures rows { IfOk result (λ made. made.rows ≡ self.now.rows) }
+        ensures permutation { IfOk result (λ made. IsPermutation self.now.records made.records) }
+        ensures rising { IfOk result (λ made. IsNonDecreasingBy (λ entry. entry.id) made.records) }
+    {
+        let places = self.places_by_id(alloc)?;
+        let made = self.records_in(alloc, &places)?;
+        Ok(made)
     }
 }
 

@@ -3,7 +3,7 @@
 ghost use Rattle.std.specs.Prelude.{◌≡◌, ◌+◌, ◌≤◌, ◌<◌, ◌++◌, [], length, slice_index, take, IfOk};
 ghost use Rattle.std.specs.List.{cons_option};
 ghost use Rattle.kt_runs.specs.Sidx.{pair_of, sidx_at};
-ghost use Rattle.kt_shares.specs.Table.{pairs_by_row, row_place};
+ghost use Rattle.kt_shares.specs.Table.{pairs_by_row, pairs_with, row_place};
 
 use kt_runs::sidx_at;
 use kt_stream::{Pair, Pairs};
@@ -66,5 +66,23 @@ pub(crate) fn lane_pairs(alloc: Global, lane: &[u64]) -> Result<Pairs, AllocErro
             place = put_pair(&mut pairs, place, row as u32, lane[row]);
         }
     }
+    Ok(Pairs::from_vec(pairs))
+}
+
+/// The pairs of a record: that of its deviation in cents, where it is above 0, and those of its lane behind it. An error is want of memory.
+pub(crate) fn record_pairs(alloc: Global, deviation: u64, lane: &[u64]) -> Result<Pairs, AllocError>
+    requires { length lane.now ≤ 1001 }
+    ensures value { IfOk result (λ pairs. pairs ≡ pairs_with deviation lane.now) }
+{
+    let behind = lane_pairs(alloc, lane)?;
+    if deviation == 0 {
+        return Ok(behind);
+    }
+    let mut pairs = Vec::new(alloc);
+    pairs.push(Pair {
+        sidx: -2,
+        loss: deviation,
+    })?;
+    pairs.extend_from_slice(behind.as_slice())?;
     Ok(Pairs::from_vec(pairs))
 }

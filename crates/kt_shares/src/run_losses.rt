@@ -4,7 +4,7 @@ ghost use Rattle.std.specs.Prelude.{◌≡◌, ◌+◌, ◌<◌, ◌≤◌, ℕ,
 ghost use Rattle.kt_stream.specs.Losses.{IsLoss};
 ghost use Rattle.kt_stream.specs.declared.entry.LossRecord.{LossRecord};
 ghost use Rattle.kt_rec.specs.Rising.{IsRising};
-ghost use Rattle.kt_runs.specs.RunLosses.{AreWithin, loss_of};
+ghost use Rattle.kt_runs.specs.RunLosses.{AreWithin, event_of, loss_of};
 ghost use Rattle.kt_runs.specs.Sidx.{sidx_at};
 ghost use Rattle.kt_lanes.specs.Lanes.{IsLane};
 ghost use Rattle.kt_shares.specs.Shares.{ids_of};
@@ -60,6 +60,17 @@ pub trait RunLosses {
         requires records { All (IsLoss samples) (records_of self.now) }
         requires within { AreWithin (records_of self.now) }
         ensures value { IfOk result (λ lanes. AreIdLanes ids.now samples (records_of self.now) lanes) };
+}
+
+/// The event of a run, which is that of its first record, or 0 where there is none.
+pub fn event_of_run<R: RunLosses>(run: &R) -> u32
+    ensures value { result ≡ event_of (R.records_of run.now) }
+{
+    let count = run.count();
+    if count == 0 {
+        return 0;
+    }
+    run.event_at(0)
 }
 
 /// A run of records in a slice.

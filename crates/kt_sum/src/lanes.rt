@@ -35,7 +35,14 @@ fn add_lanes(rows: &mut [SummarySums], summaries: &[u32], found: &[Option<u32>],
 {
     let mut near = 0;
     for place in 0..losses.len() {
-        near = add_lane_entry(rows, summaries, found[place], near, losses.lane(place));
+        near = add_lane_entry(
+            rows,
+            summaries,
+            found[place],
+            near,
+            losses.deviation(place),
+            losses.lane(place),
+        );
     }
 }
 

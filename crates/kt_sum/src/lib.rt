@@ -12,5 +12,5 @@ mod span;
 mod summary_sums;
 
 pub use lanes::summarise_lanes;
-pub use run::{summarise, summarise_within};
+pub use run::summarise;
 pub use run_summaries::RunSummaries;

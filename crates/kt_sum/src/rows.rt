@@ -6,7 +6,7 @@ ghost use Rattle.kt_rec.specs.Rising.{IsRising};
 ghost use Rattle.kt_stream.specs.declared.entry.LossRecord.{LossRecord};
 ghost use Rattle.kt_runs.specs.Adding.{AreInside};
 ghost use Rattle.kt_runs.specs.RunLosses.{AreWithin};
-ghost use Rattle.kt_shares.specs.Table.{pairs_by_row};
+ghost use Rattle.kt_shares.specs.Table.{pairs_with};
 ghost use Rattle.kt_sum.specs.RunSummaries.{IsReadyRow, IsSumOf, IsThere};
 
 use crate::span::Span;
@@ -71,13 +71,14 @@ pub(crate) fn add_entry(
     place
 }
 
-/// Adds the losses of a lane to the sums of the summary that was found for its id, if one was, as `add_entry` does: sums which begin at
-/// sidx -2.
+/// Adds a deviation and the losses of a lane to the sums of the summary that was found for their id, if one was, as `add_entry` does:
+/// sums which begin at sidx -2.
 pub(crate) fn add_lane_entry(
     rows: &mut [SummarySums],
     summaries: &[u32],
     found: Option<u32>,
     near: usize,
+    deviation: u64,
     lane: &[u64],
 ) -> usize
     requires rising { IsRising summaries.now }
@@ -88,13 +89,13 @@ pub(crate) fn add_lane_entry(
     requires few { length lane.now ≤ 1001 }
     ensures rows { map (λ row. row.summary) rows.new ≡ summaries.now }
     ensures ready { All (IsReadyRow (length lane.now + 2)) rows.new }
-    ensures sums { (find : ℕ → Option ℕ) (records : List LossRecord) (entry : LossRecord) → entry.pairs ≡ pairs_by_row (slice_index lane.now) (length lane.now) → find entry.id ≡ found → AreWithin (records ++ entry ∷ []) → All (IsSumOf 2147483646 (length lane.now + 2) find records) rows.old → All (IsSumOf 2147483646 (length lane.now + 2) find (records ++ entry ∷ [])) rows.new }
+    ensures sums { (find : ℕ → Option ℕ) (records : List LossRecord) (entry : LossRecord) → entry.pairs ≡ pairs_with deviation lane.now → find entry.id ≡ found → AreWithin (records ++ entry ∷ []) → All (IsSumOf 2147483646 (length lane.now + 2) find records) rows.old → All (IsSumOf 2147483646 (length lane.now + 2) find (records ++ entry ∷ [])) rows.new }
 {
     let summary = match found {
         Some(summary) => summary,
         None => return near,
     };
     let place = place_near(summaries, summary, near);
-    add_lane_to(&mut rows[place], lane);
+    add_lane_to(&mut rows[place], deviation, lane);
     place
 }

@@ -14,7 +14,7 @@ ghost use Rattle.kt_sum.specs.Summaries.{run_summaries};
 use crate::rows::add_entry;
 use crate::set_run::SetRun;
 use crate::span::{Span, span_of};
-use crate::summary_sums::{FIRST, SummarySums, no_sums, record_of};
+use crate::summary_sums::{SummarySums, no_sums, record_of};
 use kt_index::keep_once;
 use kt_rec::Perspective;
 use kt_runs::event_of;
@@ -146,28 +146,5 @@ pub fn summarise(
     ensures good { (samples : ℕ) → All (IsLoss samples) records.now → IfOk result (λ made. All (IsSummary samples) made) }
 {
     let span = span_of(records);
-    summaries_in(alloc, portfolio, perspective, set, span, records)
-}
-
-/// The records that `summarise` makes, for the records of a run that may stand in a stream with so many samples: the places of their
-/// sidx are known, and not looked for. An error is want of memory.
-pub fn summarise_within(
-    alloc: Global,
-    portfolio: &Portfolio,
-    samples: u32,
-    perspective: Perspective,
-    set: u32,
-    records: &[LossRecord],
-) -> Result<Records<SummaryRecord>, AllocError>
-    requires samples { samples ≤ 1000 }
-    requires records { All (IsLoss samples) records.now }
-    requires losses { AreWithin records.now }
-    ensures value { IfOk result (λ made. made ≡ run_summaries perspective portfolio.now.rows portfolio.now.need.rule set records.now) }
-    ensures good { IfOk result (λ made. All (IsSummary samples) made) }
-{
-    let span = Span {
-        least: FIRST,
-        width: samples as usize + 3,
-    };
     summaries_in(alloc, portfolio, perspective, set, span, records)
 }

@@ -7,7 +7,7 @@ ghost use Rattle.kt_stream.specs.declared.entry.Pair.{Pair};
 ghost use Rattle.kt_runs.specs.Adding.{AreInside, IsAdded};
 ghost use Rattle.kt_runs.specs.RunLosses.{loss_of};
 ghost use Rattle.kt_runs.specs.Sidx.{sidx_at};
-ghost use Rattle.kt_shares.specs.Table.{pairs_by_row};
+ghost use Rattle.kt_shares.specs.Table.{pairs_with};
 ghost use Rattle.kt_sum.specs.RunSummaries.{IsIdle, IsReadyRow, IsZeroRow, exposure_in, record_of, records_of};
 
 use crate::lane_sums::add_lane;
@@ -66,18 +66,18 @@ pub(crate) fn add_to(row: &mut SummarySums, least: u64, pairs: &[Pair])
     add_pairs(&mut row.sums, least, pairs);
 }
 
-/// Adds the losses of a lane to sums, which begin at sidx -2.
-pub(crate) fn add_lane_to(row: &mut SummarySums, lane: &[u64])
+/// Adds a deviation and the losses of a lane to sums, which begin at sidx -2.
+pub(crate) fn add_lane_to(row: &mut SummarySums, deviation: u64, lane: &[u64])
     requires some { 1 ≤ length lane.now }
     requires few { length lane.now ≤ 1001 }
     requires width { length row.old.sums.items ≡ length lane.now + 2 }
     ensures summary { row.new.summary ≡ row.old.summary }
     ensures used { row.new.is_used ≡ true }
     ensures width { length row.new.sums.items ≡ length row.old.sums.items }
-    ensures added { ((k : ℕ) → k < length row.old.sums.items → slice_index row.old.sums.items k + loss_of (sidx_at (2147483646 + k)) (pairs_by_row (slice_index lane.now) (length lane.now)) < 2 ^ 64) → IsAdded 2147483646 row.old.sums.items (pairs_by_row (slice_index lane.now) (length lane.now)) row.new.sums.items }
+    ensures added { ((k : ℕ) → k < length row.old.sums.items → slice_index row.old.sums.items k + loss_of (sidx_at (2147483646 + k)) (pairs_with deviation lane.now) < 2 ^ 64) → IsAdded 2147483646 row.old.sums.items (pairs_with deviation lane.now) row.new.sums.items }
 {
     row.is_used = true;
-    add_lane(&mut row.sums, lane);
+    add_lane(&mut row.sums, deviation, lane);
 }
 
 /// The record of the sums of a summary, the first of which is for the sidx at the place `least`; `None` where all are 0. An error is

@@ -1,10 +1,9 @@
 use Rattle.std.proofs.Common.{◌≡◌, ◌∙◌, ◌++◌, ℕ, List, ap, sym, subst}
 use Rattle.kt_event.specs.Losses.{losses_of}
 use Rattle.kt_event.specs.declared.block.Summaries.{Summaries}
-use Rattle.kt_insured.specs.Insured.{insured_records, layer_sums}
+use Rattle.kt_insured.specs.Insured.{insured_records}
 use Rattle.kt_rec.specs.declared.perspective.Perspective.TheVariants.{Il}
 use Rattle.kt_runs.specs.RunLosses.{AreWithin}
-use Rattle.kt_shares.specs.RecordLaws.{map-same}
 use Rattle.kt_tree.specs.Programme.{tree_of}
 use Rattle.kt_event.proofs.BlockLemmas.{layers_are, of_perspective, output_summaries, rule_is}
 use Rattle.kt_event.specs.Loading.{loads_outputs, loads_policytc, loads_programme}
@@ -23,27 +22,27 @@ pub put_summaries-requires-clause-within : goal.put_summaries-requires-clause-wi
 put_summaries-requires-clause-within c =
     let terms = c.args.plan.now.terms in
     let rows = c.args.portfolio.now.rows in
-    let made : c.in_ok-insured.insured.losses.records ≡ insured_records (tree_of rows 0) terms.rule terms.samples rows.fm_xref c.args.losses.now = c.in_ok-insured.ensures.records ∙ ap (insured_records (tree_of rows 0) terms.rule terms.samples rows.fm_xref) (map-same c.args.losses.now) in
-    subst AreWithin (sym (made ∙ ap (λ (rule : ℕ). insured_records (tree_of rows 0) rule terms.samples rows.fm_xref c.args.losses.now) (sym (rule_is terms c.args.portfolio.now.need c.requires.plan.need)))) (c.insured_losses_are_within.ensures.within terms.samples c.args.losses.now c.requires.within)
+    let made : c.in_ok-insured.insured.losses.records ≡ insured_records (tree_of rows 0) terms.rule terms.samples rows.fm_xref c.args.losses.now.records = c.in_ok-insured.ensures.records in
+    subst AreWithin (sym (made ∙ ap (λ (rule : ℕ). insured_records (tree_of rows 0) rule terms.samples rows.fm_xref c.args.losses.now.records) (sym (rule_is terms c.args.portfolio.now.need c.requires.plan.need)))) (c.insured_losses_are_within.ensures.within terms.samples c.args.losses.now.records c.requires.within)
 
 pub put_net_summaries-requires-clause-within : goal.put_net_summaries-requires-clause-within
 put_net_summaries-requires-clause-within c =
     let terms = c.args.plan.now.terms in
     let rows = c.args.portfolio.now.rows in
-    let made : c.in_ok-insured.insured.losses.records ≡ insured_records (tree_of rows 0) terms.rule terms.samples rows.fm_xref c.args.losses.now = c.in_ok-insured.ensures.records ∙ ap (insured_records (tree_of rows 0) terms.rule terms.samples rows.fm_xref) (map-same c.args.losses.now) in
-    subst AreWithin (sym (made ∙ ap (λ (rule : ℕ). insured_records (tree_of rows 0) rule terms.samples rows.fm_xref c.args.losses.now) (sym (rule_is terms c.args.portfolio.now.need c.requires.plan.need)))) (c.insured_losses_are_within.ensures.within terms.samples c.args.losses.now c.requires.within)
+    let made : c.in_ok-insured.insured.losses.records ≡ insured_records (tree_of rows 0) terms.rule terms.samples rows.fm_xref c.args.losses.now.records = c.in_ok-insured.ensures.records in
+    subst AreWithin (sym (made ∙ ap (λ (rule : ℕ). insured_records (tree_of rows 0) rule terms.samples rows.fm_xref c.args.losses.now.records) (sym (rule_is terms c.args.portfolio.now.need c.requires.plan.need)))) (c.insured_losses_are_within.ensures.within terms.samples c.args.losses.now.records c.requires.within)
 
 pub returns-clause-layers : goal.returns-clause-layers
 returns-clause-layers c =
     let terms = c.args.plan.now.terms in
     let rows = c.args.portfolio.now.rows in
-    c.in_ok-insured.ensures.layers ∙ ap (layer_sums (tree_of rows 0) terms.rule terms.samples) (map-same c.args.losses.now) ∙ layers_are terms rows c.args.losses.now terms.last c.requires.insured
+    c.in_ok-insured.ensures.layers ∙ layers_are terms rows c.args.losses.now.records terms.last c.requires.insured
 
 pub returns-clause-ok : goal.returns-clause-ok
 returns-clause-ok c =
     let terms = c.args.plan.now.terms in
     let rows = c.args.portfolio.now.rows in
-    let made : c.in_ok-insured.insured.losses.records ≡ losses_of terms rows c.args.losses.now Il = c.in_ok-insured.ensures.records ∙ ap (insured_records (tree_of rows 0) terms.rule terms.samples rows.fm_xref) (map-same c.args.losses.now) in
-    output_summaries terms rows c.args.losses.now c.args.made.now c.put_summaries.new.made c.put_net_summaries.new.made c.requires.insured
-    (c.in_ok-put_summaries.ensures.ok ∙ ap (λ (xs : List Summaries). c.args.made.now ++ xs) (of_perspective terms rows c.args.losses.now Il c.args.portfolio.now.need.rule c.in_ok-insured.insured.losses.records (rule_is terms c.args.portfolio.now.need c.requires.plan.need) made))
-    (c.in_ok-put_net_summaries.ensures.ok c.args.losses.now made)
+    let made : c.in_ok-insured.insured.losses.records ≡ losses_of terms rows c.args.losses.now.records Il = c.in_ok-insured.ensures.records in
+    output_summaries terms rows c.args.losses.now.records c.args.made.now c.put_summaries.new.made c.put_net_summaries.new.made c.requires.insured
+    (c.in_ok-put_summaries.ensures.ok ∙ ap (λ (xs : List Summaries). c.args.made.now ++ xs) (of_perspective terms rows c.args.losses.now.records Il c.args.portfolio.now.need.rule c.in_ok-insured.insured.losses.records (rule_is terms c.args.portfolio.now.need c.requires.plan.need) made))
+    (c.in_ok-put_net_summaries.ensures.ok c.args.losses.now.records made)

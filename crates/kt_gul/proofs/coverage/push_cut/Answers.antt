@@ -67,14 +67,18 @@ loop-struck-preserved g c =
     record {
       pushed = pushed_more rows c.args.draw.event c.args.cdfs.now group (c.args.draw.samples + 2) i none _ _ _ _ here below c.split_at.ensures.back sums;
       width = made.width_is;
+      takes = c.in_ok-put.ensures.takes;
       pieces_are = pieces_more rows c.args.draw.event c.args.cdfs.now group g.E.Exit.spelled c.args.draw.cut c.args.draw.samples i none _ (g.E.Exit.pieces c.args.exit.now) (g.E.Exit.pieces c.loop-struck.exit) _ below pairs c.loop-struck.invariant.pieces_are c.in_ok-put.ensures.ok;
     }
 
 pub loop-struck-init : goal.loop-struck-init
-loop-struck-init g c = grind (arith, common_steps)
+loop-struck-init g c = record { pushed = grind (arith, common_steps); width = grind (arith, common_steps); pieces_are = grind (arith, common_steps); takes = c.requires.takes }
 
-pub returns : goal.returns
-returns g c = grind (arith, common_steps)
+pub returns-clause-takes : goal.returns-clause-takes
+returns-clause-takes g c = c.loop-struck.invariant.takes
+
+pub returns-clause-ok : goal.returns-clause-ok
+returns-clause-ok g c = grind (arith, common_steps)
 
 pub cut_row-requires-clause-losses : goal.cut_row-requires-clause-losses
 cut_row-requires-clause-losses g c = grind (arith, common_steps)

@@ -9,5 +9,6 @@ abbrev pub invariant-loop-struck : goal.invariant-loop-struck
 invariant-loop-struck g l = record {
   pushed : ArePushed l.portfolio.rows l.fn.draw.event l.cdfs (l.fn.draw.samples + 2) l.group l.struck-index l.rest l.before;
   width : length l.cut ≡ l.fn.draw.samples + 2;
+  takes : g.E.Exit.takes l.fn.draw.samples l.exit;
   pieces_are : g.E.Exit.pieces l.exit ≡ g.E.Exit.pieces l.fn.exit ++ flat_map g.E.Exit.spelled (filter_map (item_record l.portfolio.rows l.fn.draw.samples l.fn.draw.cut l.fn.draw.event l.cdfs) (map (λ struck. struck.item) (take l.struck-index l.group)));
 }

@@ -31,14 +31,18 @@ loop-struck-preserved g c =
     let pairs = plain_pairs_are rows c.args.draw.event c.args.cdfs.now group c.args.draw.cut c.args.coverage c.args.draw.samples i none c.split_at.result.0.now c.requires.group below c.requires.plain row_are in
     record {
       rest_are = rest_more rows c.args.draw.event c.args.cdfs.now group (c.args.draw.samples + 2) i none _ _ here.rest_are below c.split_at.ensures.back;
+      takes = c.in_ok-put.ensures.takes;
       pieces_are = pieces_more rows c.args.draw.event c.args.cdfs.now group g.E.Exit.spelled c.args.draw.cut c.args.draw.samples i none _ (g.E.Exit.pieces c.args.exit.now) (g.E.Exit.pieces c.loop-struck.exit) _ below pairs here.pieces_are c.in_ok-put.ensures.ok;
     }
 
 pub loop-struck-init : goal.loop-struck-init
-loop-struck-init g c = grind (arith, common_steps)
+loop-struck-init g c = record { rest_are = grind (arith, common_steps); pieces_are = grind (arith, common_steps); takes = c.requires.takes }
 
-pub returns : goal.returns
-returns g c = grind (arith, common_steps)
+pub returns-clause-takes : goal.returns-clause-takes
+returns-clause-takes g c = c.loop-struck.invariant.takes
+
+pub returns-clause-ok : goal.returns-clause-ok
+returns-clause-ok g c = grind (arith, common_steps)
 
 pub returns-in_err-put-clause-front : goal.returns-in_err-put-clause-front
 returns-in_err-put-clause-front g c =

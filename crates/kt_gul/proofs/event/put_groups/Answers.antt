@@ -32,6 +32,7 @@ loop-start-preserved g c =
           c.loop-start.start c.group_end-end.result coverage c.group_end-end.ensures.value c.loop-start.invariant.done.apart
           g.E.Exit.spelled c.args.draw.samples c.args.draw.cut (g.E.Exit.pieces c.args.exit.now) pieces _ c.loop-start.invariant.done
           (c.in_ok-scratch-2.ensures.ok ∙ ap (λ (group : List StruckItem). pieces ++ flat_map g.E.Exit.spelled (filter_map (item_record portfolio.rows c.args.draw.samples c.args.draw.cut c.args.draw.event c.args.cdfs.now) (map item_of group))) c.between-group.ensures.value);
+      takes = c.in_ok-scratch-2.ensures.takes;
       scratch = c.in_ok-scratch-2.ensures.scratch;
     }
 
@@ -42,8 +43,12 @@ loop-start-init g c = record {
     pieces_are = sym (append-nil (g.E.Exit.pieces c.args.exit.now));
     apart = λ k j d before behind below. absurd (omega arith);
   };
+  takes = c.requires.takes;
   scratch = c.in_ok-scratch.ensures.value;
 }
+
+pub returns-clause-takes : goal.returns-clause-takes
+returns-clause-takes g c = c.loop-start.invariant.takes
 
 pub returns-clause-ok : goal.returns-clause-ok
 returns-clause-ok g c =

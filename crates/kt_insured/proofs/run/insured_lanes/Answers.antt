@@ -1,4 +1,4 @@
-use Rattle.std.proofs.Common.{◌≡◌, ◌∙◌, ℕ, List, map, ap, sym, subst}
+use Rattle.std.proofs.Common.{◌≡◌, ◌∙◌, ℕ, List, ap, sym, subst}
 use Rattle.std.specs.Prelude.{All}
 use Rattle.kt_stream.specs.Losses.{IsLoss}
 use Rattle.kt_stream.specs.declared.entry.LossRecord.{LossRecord}
@@ -24,7 +24,7 @@ lanes_by-requires-clause-layout g c = λ tree is. c.in_ok-layout.ensures.value t
 pub returns-clause-records : goal.returns-clause-records
 returns-clause-records g c =
     let tree = tree_of c.args.portfolio.now.rows 0 in
-    let entries = map g.T.RunEntry.entry_of c.args.records.now in
+    let entries = g.R.RunLosses.records_of c.args.run.now in
     let outputs = c.args.portfolio.now.rows.fm_xref in
     c.in_ok-made.ensures.records (struck tree c.deref.result.now) (c.in_ok-programme.ensures.value tree c.requires.structure)
     ∙ (ap (λ rule. insured_records (struck tree c.deref.result.now) rule c.args.samples outputs entries) c.in_ok-layout.ensures.rule
@@ -34,7 +34,7 @@ returns-clause-records g c =
 pub returns-clause-layers : goal.returns-clause-layers
 returns-clause-layers g c =
     let tree = tree_of c.args.portfolio.now.rows 0 in
-    let entries = map g.T.RunEntry.entry_of c.args.records.now in
+    let entries = g.R.RunLosses.records_of c.args.run.now in
     c.in_ok-made.ensures.layers (struck tree c.deref.result.now) (c.in_ok-programme.ensures.value tree c.requires.structure)
     ∙ (ap (λ rule. layer_sums (struck tree c.deref.result.now) rule c.args.samples entries) c.in_ok-layout.ensures.rule
     ∙ (ap (λ (ids : List ℕ). layer_sums (struck tree ids) c.args.rule c.args.samples entries) (c.deref.ensures.value ∙ c.in_ok-ids.ensures.value)
@@ -44,10 +44,10 @@ pub returns-clause-conserved : goal.returns-clause-conserved
 returns-clause-conserved g c =
     let tree = tree_of c.args.portfolio.now.rows 0 in
     subst (λ (made : List LayerSum). All (λ entry. entry.allocated ≡ entry.policy) made) (sym (returns-clause-layers g c))
-    (sums-whole tree c.requires.structure.is c.args.rule c.args.samples (map g.T.RunEntry.entry_of c.args.records.now))
+    (sums-whole tree c.requires.structure.is c.args.rule c.args.samples (g.R.RunLosses.records_of c.args.run.now))
 
 pub returns-clause-good : goal.returns-clause-good
 returns-clause-good g c =
     let tree = tree_of c.args.portfolio.now.rows 0 in
     subst (λ (made : List LossRecord). All (IsLoss c.args.samples) made) (sym (returns-clause-records g c))
-    (insured-good tree c.requires.structure.is c.args.rule c.args.samples c.args.portfolio.now.rows.fm_xref (map g.T.RunEntry.entry_of c.args.records.now) c.is_valid.ensures.valid.in_range.fm_xref c.requires.records c.requires.within)
+    (insured-good tree c.requires.structure.is c.args.rule c.args.samples c.args.portfolio.now.rows.fm_xref (g.R.RunLosses.records_of c.args.run.now) c.is_valid.ensures.valid.in_range.fm_xref c.requires.records c.requires.within)

@@ -25,7 +25,7 @@ add_by_id-requires-clause-few c =
     let inside : near < length records = omega (arith, c.loop-near-test.true, c.len-near-end.ensures.value) in
     λ row place less within.
     let here : row < c.args.samples + 1 = omega (arith, less, c.lane.ensures.rows, c.requires.rows) in
-    subst (λ n. slice_index (column row c.loop-near.lanes) place + n < 2 ^ 64) (lane-loss lane entry.pairs (c.lane.ensures.pairs none) row less)
+    subst (λ n. slice_index (column row c.loop-near.lanes) place + n < 2 ^ 64) (lane-loss _ lane entry.pairs (c.lane.ensures.pairs none) row less)
     (ids-fit c.args.ids.now c.args.samples records near none entry inside refl c.loop-near.lanes c.loop-near.invariant c.requires.within row place here within)
 
 pub loop-near-preserved : goal.loop-near-preserved
@@ -44,7 +44,7 @@ loop-near-preserved c =
       each = λ row less.
           added.each row less
           ∙ (ap (λ id. with_more ids (column row c.loop-near.lanes) id (slice_index lane row)) (c.id.ensures.value none)
-          ∙ sym (ap (with_more ids (column row c.loop-near.lanes) entry.id) (lane-loss lane entry.pairs (c.lane.ensures.pairs none) row (subst (λ n. row < n) (sym wide) less))));
+          ∙ sym (ap (with_more ids (column row c.loop-near.lanes) entry.id) (lane-loss _ lane entry.pairs (c.lane.ensures.pairs none) row (subst (λ n. row < n) (sym wide) less))));
     })
 
 pub returns : goal.returns

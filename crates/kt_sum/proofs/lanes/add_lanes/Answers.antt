@@ -1,7 +1,8 @@
-use Rattle.std.proofs.Common.{◌≡◌, ◌+◌, ◌<◌, ◌≤◌, ◌∷◌, ◌++◌, [], ℕ, List, length, slice_index_or, take, arith, subst, sym}
+use Rattle.std.proofs.Common.{◌≡◌, ◌+◌, ◌<◌, ◌≤◌, ◌∷◌, ◌++◌, [], ℕ, List, length, slice_index_or, take, ap, arith, subst, sym, ◌∙◌}
 use Rattle.std.specs.Prelude.{All}
 use Rattle.std.proofs.lemmas.List.{get_or_default, take_more, take_all}
 use Rattle.kt_stream.specs.declared.entry.LossRecord.{LossRecord}
+use Rattle.kt_shares.specs.Table.{pairs_with}
 use Rattle.kt_sum.specs.RunSummaries.{IsReadyRow, IsSumOf}
 use Rattle.kt_sum.proofs.RunSumsLemmas.{found_at, taken_within}
 use Rattle.kt_sum.proofs.lanes.add_lanes.Goals as goal
@@ -35,7 +36,7 @@ loop-place-preserved c =
           let more : take (place + 1) records ≡ take place records ++ entry ∷ [] = take_more records place none below in
           subst (λ (done : List LossRecord). All (IsSumOf 2147483646 (c.args.losses.now.rows + 2) find done) rows) (sym more)
           (subst (λ (n : ℕ). All (IsSumOf 2147483646 (n + 2) find (take place records ++ entry ∷ [])) rows) width
-          (c.add_lane_entry-near.ensures.sums find (take place records) entry (c.lane.ensures.pairs none) (found_at find c.args.found.now records place _ entry found_is below (get_or_default records place none entry below)) within
+          (c.add_lane_entry-near.ensures.sums find (take place records) entry (c.lane.ensures.pairs none ∙ ap (λ (n : ℕ). pairs_with n c.lane.result.now) (sym (c.deviation.ensures.value none))) (found_at find c.args.found.now records place _ entry found_is below (get_or_default records place none entry below)) within
           (subst (λ (n : ℕ). All (IsSumOf 2147483646 (n + 2) find (take place records)) c.loop-place.rows) (sym width) (c.loop-place.invariant.sums find found_is))));
     }
 

@@ -2,7 +2,7 @@ use Rattle.std.proofs.Common.{◌≡◌, ◌+◌, ◌∙◌, List, ℕ, Some, le
 use Rattle.std.proofs.Math.Seq.{map-set_same}
 use Rattle.std.proofs.lemmas.List.{get_or-map}
 use Rattle.kt_rec.specs.Rising.{IsRising}
-use Rattle.kt_shares.specs.Table.{pairs_by_row}
+use Rattle.kt_shares.specs.Table.{pairs_with}
 use Rattle.kt_sum.specs.declared.summary_sums.SummarySums.{SummarySums}
 use Rattle.kt_sum.proofs.RunSumsLemmas.{none_added, ready_more, row_inside, some_added}
 use Rattle.kt_sum.proofs.rows.add_lane_entry.Goals as goal
@@ -34,5 +34,5 @@ returns c =
       ready = ready_more width rows place item now below added.used added.width c.requires.ready;
       sums = λ find records entry pairs_are found within are.
           some_added find 2147483646 width records entry within rows place item now below (found ∙ (c.in-Some.is ∙ ap Some (sym summary))) are added.summary
-          (subst IsRising (sym c.requires.rows) c.requires.rising) (pairs_by_row (slice_index lane) (length lane)) (sym pairs_are) added.added;
+          (subst IsRising (sym c.requires.rows) c.requires.rising) (pairs_with c.args.deviation lane) (sym pairs_are) added.added;
     }

@@ -15,7 +15,7 @@ pub returns : goal.returns
 returns c =
     let kept = c.self.inside in
     let place = c.args.place in
-    let none : LossHead = record { event = 0; id = 0 } in
+    let none : LossHead = record { event = 0; id = 0; deviation = 0 } in
     let below : place < length kept.heads.items = omega (arith, c.requires.place, ap (λ (run : LaneRun). length run.records) c.self.view_is, records-length kept.heads.items kept.lanes c.self.invariant.same) in
     record {
       value = λ d.

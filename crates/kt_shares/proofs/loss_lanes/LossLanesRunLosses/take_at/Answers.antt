@@ -11,6 +11,6 @@ returns c =
         wide = ap length c.copy_from_slice.ensures.after ∙ wide;
         each = λ row below.
             ap (λ (all : List ℕ). slice_index all row) c.copy_from_slice.ensures.after
-            ∙ sym (lane-loss lane (slice_index_or c.args.self.now.records c.args.place d).pairs (c.lane.ensures.pairs d) row (subst (λ n. row < n) (sym wide) below));
+            ∙ sym (lane-loss _ lane (slice_index_or c.args.self.now.records c.args.place d).pairs (c.lane.ensures.pairs d) row (subst (λ n. row < n) (sym wide) below));
       };
     }

@@ -1,0 +1,14 @@
+use Rattle.std.proofs.Common.{[], ap, arith, ◌∙◌}
+use Rattle.std.proofs.lemmas.List.{take_all}
+use Rattle.kt_stream.specs.declared.entry.LossRecord.{LossRecord}
+use Rattle.kt_shares.specs.LossLanes.{id_places}
+use Rattle.kt_shares.proofs.LossLanesLemmas.{places-next}
+use Rattle.kt_shares.proofs.loss_lanes.LossLanes.id_places.Goals as goal
+
+pub loop-place-preserved : goal.loop-place-preserved
+loop-place-preserved c =
+    let none : LossRecord = record { event = 0; id = 0; pairs = [] } in
+    places-next c.args.self.now.records c.loop-place.place c.loop-place.places.items _ c.id-id.result none (omega (arith, c.loop-place-test.true, c.len-place-end.ensures.value)) c.loop-place.invariant c.in_ok-push.ensures.items (c.id-id.ensures.value none)
+
+pub returns : goal.returns
+returns c = record { value = c.loop-place.invariant ∙ ap (id_places 0) (take_all c.loop-place.place c.args.self.now.records (omega (arith, c.loop-place-test.false, c.len-place-end.ensures.value))) }

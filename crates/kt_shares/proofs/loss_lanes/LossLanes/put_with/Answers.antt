@@ -1,0 +1,13 @@
+use Rattle.std.proofs.Common.{◌∙◌, ◌++◌, List, ap}
+use Rattle.kt_stream.specs.declared.entry.LossRecord.{LossRecord}
+use Rattle.kt_shares.specs.Table.{pairs_with}
+use Rattle.kt_shares.proofs.LossLanesLemmas.{record-none, record-some}
+use Rattle.kt_shares.proofs.loss_lanes.LossLanes.put_with.Goals as goal
+
+pub returns-then-not-has_losses-clause-ok : goal.returns-then-not-has_losses-clause-ok
+returns-then-not-has_losses-clause-ok c = record-none c.args.event c.args.id (pairs_with c.args.deviation c.args.lane.now) (c.has_losses.ensures.none c.if-not-has_losses.true) c.args.self.now.records
+
+pub returns-clause-ok : goal.returns-clause-ok
+returns-clause-ok c =
+    c.in_ok-keep.ensures.ok
+    ∙ ap (λ (more : List LossRecord). c.args.self.now.records ++ more) (record-some c.args.event c.args.id (pairs_with c.args.deviation c.args.lane.now) (c.has_losses.ensures.some c.if-not-has_losses.false))
