@@ -5,7 +5,8 @@ use Rattle.kt_stream.specs.declared.entry.Pair.{Pair}
 use Rattle.kt_shares.specs.Shares.{record_with}
 use Rattle.kt_ri.specs.Ceding.{IsPlaceOf}
 use Rattle.kt_ri.specs.Left.{pairs_left}
-use Rattle.kt_ri.proofs.LeftLemmas.{left-are, pairs-few}
+use Rattle.kt_ri.proofs.LeftLemmas.{left-are}
+use Rattle.kt_ri.proofs.SidxRowLemmas.{pairs-few}
 use Rattle.kt_ri.proofs.written.put_left.Goals as goal
 
 pub write_left-used-requires-clause-room : goal.write_left-used-requires-clause-room
