@@ -13,7 +13,7 @@ use Rattle.kt_period_cells.specs.declared.row_key.RowKey.{RowKey}
 use Rattle.kt_period_cells.specs.declared.row.Row.{Row}
 use Rattle.kt_period_cells.specs.declared.group.SummaryRow.{SummaryRow}
 use Rattle.kt_period_cells.specs.Sets.{same_bool, is_mean, of_kind}
-use Rattle.kt_period_cells.specs.Amounts.{amount_in, amounts_of, of_sample, of_period}
+use Rattle.kt_period_cells.specs.Amounts.{amount_in, amount_or_none, amounts_of, of_sample, of_period}
 use Rattle.kt_period_cells.specs.RowCells.{SampleCells, with_place, placed, cells_of, cell_in, IsRising}
 use Rattle.kt_period_cells.specs.Rows.{sidx_of, key_in}
 use Rattle.kt_period_cells.specs.SummaryRows.{cell_amounts, has_total, row_at, entries_in, place_entries}
@@ -112,11 +112,6 @@ kind_of_row maxima mean row (one ∷ cells) = by_test (same_bool (is_mean (sidx_
     by_test false false same later = later
     by_test true false same later = cc
     by_test false true same later = cc
-
--- the amount of a cell that is there
-abbrev pub amount_or_none : Bool → Option Cell → List ℕ
-amount_or_none maxima None = []
-amount_or_none maxima (Some one) = amount_in maxima (Some one) ∷ []
 
 -- a sample's sidx
 sample_is : (s k : ℕ) → int_eq (sidx_of s) (pos (suc k)) ≡ nat_eq (suc k) s

@@ -1,6 +1,6 @@
 -- The totals or the maxima of cells.
 -- The rules: docs/CALCULATION.md, "Kinds of exceedance curves".
-use Rattle.std.specs.Prelude.{◌≡◌, ◌<◌, ◌-◌, Bool, false, ◌&&◌, nat_eq, ℕ, ℤ, pos, negsuc, List, [], length, map, slice_index_or, Option, Some, Vec, if◌then◌else◌}
+use Rattle.std.specs.Prelude.{◌≡◌, ◌<◌, ◌-◌, ◌++◌, Bool, false, ◌&&◌, nat_eq, ℕ, ℤ, pos, negsuc, List, [], ◌∷◌, length, map, slice_index_or, Option, None, Some, Vec, if◌then◌else◌}
 use Rattle.std.specs.List.{filter}
 use Rattle.std.specs.Ordering.{int_eq}
 use Rattle.std.specs.declared.alloc.Global.{Global}
@@ -16,6 +16,11 @@ amount_in maxima found = if maxima then maximum_in found else total_in found
 -- the amount that entries have for a key
 abbrev pub amount_at : Bool → List (CellKey × Cell) → CellKey → ℕ
 amount_at maxima entries key = amount_in maxima (cell_at entries key)
+
+-- the amount of a cell that is there
+abbrev pub amount_or_none : Bool → Option Cell → List ℕ
+amount_or_none maxima None = []
+amount_or_none maxima (Some one) = amount_in maxima (Some one) ∷ []
 
 -- the amounts of the entries that pass a test
 abbrev pub amounts_of : Bool → (CellKey × Cell → Bool) → List (CellKey × Cell) → List ℕ
@@ -41,3 +46,7 @@ items_at lists k = slice_index_or (map (λ one. one.items) lists) k []
 -- lists of the amounts of samples: the first has those of the last sample, and each other those of the sample before
 abbrev pub AreSamplesDown : Bool → List (CellKey × Cell) → ℕ → List (Vec ℕ Global) → Type 0
 AreSamplesDown maxima entries last lists = (k : ℕ) → k < length lists → items_at lists k ≡ amounts_of maxima (of_sample (last - k)) entries
+
+-- each list has something more
+abbrev pub HaveMore : (ℕ → List ℕ) → List (Vec ℕ Global) → List (Vec ℕ Global) → Type 0
+HaveMore more old new = (k : ℕ) → k < length old → items_at new k ≡ items_at old k ++ more k

@@ -2,11 +2,11 @@
 //! The rules: docs/CALCULATION.md, "Kinds of exceedance curves".
 ghost use Rattle.std.specs.Prelude.{◌≡◌, ◌≤◌, ◌+◌, ◌-◌, ◌*◌, ◌<◌, ◌^◌, ◌++◌, ℕ, [], map, sum, length, slice_index, All, IfOk, OnOk};
 ghost use Rattle.kt_period_cells.specs.Sets.{of_kind};
-ghost use Rattle.kt_period_cells.specs.Amounts.{AreSamplesDown, amounts_of, items_at, of_period, of_sample};
+ghost use Rattle.kt_period_cells.specs.Amounts.{AreSamplesDown, HaveMore, amounts_of, items_at, of_period, of_sample};
 ghost use Rattle.kt_period_cells.specs.SummaryRows.{AreRising, ArePeriods, IsSummary, entries_in, row_at, group_entries};
 
 use crate::group::{SummaryCells, SummaryRow};
-use crate::row::{Row, amount};
+use crate::row::Row;
 use kt_money::OutOfMemory;
 use std::alloc::Global;
 
@@ -26,28 +26,6 @@ fn push_kind(
     rows[place.row].push_kind(found, mean, maxima)
 }
 
-/// Appends the amount of a sample, from 1 up, of the row at a place. An error is want of memory.
-fn push_sample(
-    found: &mut Vec<u64>,
-    rows: &[Row],
-    place: &SummaryRow,
-    sample: u32,
-    maxima: bool,
-) -> Result<(), OutOfMemory>
-    requires rising { AreRising rows.now }
-    requires sample { 1 ≤ sample }
-    ensures ok { OnOk result (found.new.items ≡ found.old.items ++ amounts_of maxima (of_sample sample) (entries_in (row_at rows.now place.now.row))) }
-{
-    if place.row >= rows.len() {
-        return Ok(());
-    }
-    match rows[place.row].cell(sample) {
-        Some(cell) => found.push(amount(&cell, maxima))?,
-        None => {}
-    }
-    Ok(())
-}
-
 /// Appends the amounts of samples of the row at a place, each to a list of its own: that of the last to the first list, and that of the
 /// sample before to each other. An error is want of memory.
 fn push_samples(
@@ -60,12 +38,12 @@ fn push_samples(
     requires rising { AreRising rows.now }
     requires count { length lists.old ≤ last }
     ensures many { length lists.new ≡ length lists.old }
-    ensures ok { OnOk result ((k : ℕ) → k < length lists.old → items_at lists.new k ≡ items_at lists.old k ++ amounts_of maxima (of_sample (last - k)) (entries_in (row_at rows.now place.now.row))) }
+    ensures ok { OnOk result (HaveMore (λ k. amounts_of maxima (of_sample (last - k)) (entries_in (row_at rows.now place.now.row))) lists.old lists.new) }
 {
-    for k in 0..lists.len() {
-        push_sample(&mut lists[k], rows, place, last - k as u32, maxima)?;
+    if place.row >= rows.len() {
+        return Ok(());
     }
-    Ok(())
+    rows[place.row].push_samples(lists, last, maxima)
 }
 
 /// So many empty lists, each with this room. An error is want of memory.

@@ -15,7 +15,6 @@ mod listed;
 mod room;
 mod widening;
 
-pub(crate) use amounts::amount;
 use listed::{listed_cell, place};
 
 /// What a summary has in a period: its cells by rising sample, that of the mean being 0. It may have none.

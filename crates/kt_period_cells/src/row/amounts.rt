@@ -1,13 +1,13 @@
 //! The totals or the maxima of a row's cells.
 //! The rules: docs/CALCULATION.md, "Kinds of exceedance curves".
-ghost use Rattle.std.specs.Prelude.{◌≡◌, ◌++◌, ◌∷◌, [], ◌&&◌, nat_eq, if◌then◌else◌, OnOk, Some};
+ghost use Rattle.std.specs.Prelude.{◌≡◌, ◌≤◌, ◌-◌, ◌++◌, ◌∷◌, [], ◌&&◌, nat_eq, length, if◌then◌else◌, OnOk, Some};
 ghost use Rattle.std.specs.List.{list_any};
-ghost use Rattle.kt_period_cells.specs.RowCells.{cells_of, placed};
-ghost use Rattle.kt_period_cells.specs.Amounts.{amount_in};
+ghost use Rattle.kt_period_cells.specs.RowCells.{IsRising, cell_in, cells_of, placed};
+ghost use Rattle.kt_period_cells.specs.Amounts.{HaveMore, amount_in, amount_or_none};
 ghost use Rattle.kt_period_cells.specs.Sets.{same_bool};
 ghost use Rattle.kt_period_cells.specs.SummaryRows.{has_total, has_any, cell_amounts};
 
-use super::Row;
+use super::{Row, placed_cell};
 use crate::cell::Cell;
 use kt_money::OutOfMemory;
 
@@ -16,6 +16,35 @@ pub(crate) fn amount(cell: &Cell, maxima: bool) -> u64
     ensures value { result ≡ amount_in maxima (Some cell.now) }
 {
     if maxima { cell.maximum } else { cell.total }
+}
+
+/// Appends the amount of a cell, where there is one. An error is want of memory.
+fn push_found(found: &mut Vec<u64>, cell: Option<Cell>, maxima: bool) -> Result<(), OutOfMemory>
+    ensures ok { OnOk result (found.new.items ≡ found.old.items ++ amount_or_none maxima cell) }
+{
+    match cell {
+        Some(cell) => found.push(amount(&cell, maxima))?,
+        None => {}
+    }
+    Ok(())
+}
+
+/// Appends the amounts of samples among the cells of all samples, each to a list of its own: that of the last to the first list, and that
+/// of the sample before to each other. An error is want of memory.
+fn push_placed_samples(
+    lists: &mut [Vec<u64>],
+    places: &[Cell],
+    last: u32,
+    maxima: bool,
+) -> Result<(), OutOfMemory>
+    requires count { length lists.old ≤ last }
+    ensures many { length lists.new ≡ length lists.old }
+    ensures ok { OnOk result (HaveMore (λ k. amount_or_none maxima (cell_in (placed 0 places.now) (last - k))) lists.old lists.new) }
+{
+    for k in 0..lists.len() {
+        push_found(&mut lists[k], placed_cell(places, last - k as u32), maxima)?;
+    }
+    Ok(())
 }
 
 /// Whether two answers are the same.
@@ -111,5 +140,42 @@ impl Row {
             return push_listed(found, self.listed.as_slice(), mean, maxima);
         }
         push_placed(found, self.places.as_slice(), mean, maxima)
+    }
+
+    /// Appends the amounts of samples, as `push_samples` does, where the cells are listed. An error is want of memory.
+    fn push_listed_samples(
+        &self,
+        lists: &mut [Vec<u64>],
+        last: u32,
+        maxima: bool,
+    ) -> Result<(), OutOfMemory>
+        requires rising { IsRising (cells_of self.now) }
+        requires count { length lists.old ≤ last }
+        ensures many { length lists.new ≡ length lists.old }
+        ensures ok { OnOk result (HaveMore (λ k. amount_or_none maxima (cell_in (cells_of self.now) (last - k))) lists.old lists.new) }
+    {
+        for k in 0..lists.len() {
+            push_found(&mut lists[k], self.cell(last - k as u32), maxima)?;
+        }
+        Ok(())
+    }
+
+    /// Appends the amounts of samples, each to a list of its own: that of the last to the first list, and that of the sample before to each
+    /// other. An error is want of memory.
+    pub(crate) fn push_samples(
+        &self,
+        lists: &mut [Vec<u64>],
+        last: u32,
+        maxima: bool,
+    ) -> Result<(), OutOfMemory>
+        requires rising { IsRising (cells_of self.now) }
+        requires count { length lists.old ≤ last }
+        ensures many { length lists.new ≡ length lists.old }
+        ensures ok { OnOk result (HaveMore (λ k. amount_or_none maxima (cell_in (cells_of self.now) (last - k))) lists.old lists.new) }
+    {
+        if self.places.is_empty() {
+            return self.push_listed_samples(lists, last, maxima);
+        }
+        push_placed_samples(lists, self.places.as_slice(), last, maxima)
     }
 }

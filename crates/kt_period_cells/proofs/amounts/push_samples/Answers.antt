@@ -1,20 +1,19 @@
--- One more list has the amounts of the row.
-use Rattle.std.proofs.Common.{◌-◌, ◌∙◌, ℕ, arith}
-use Rattle.std.proofs.lemmas.List.{length-set}
-use Rattle.kt_period_cells.specs.Amounts.{amounts_of, items_at, of_sample}
-use Rattle.kt_period_cells.specs.SummaryRows.{entries_in, row_at}
-use Rattle.kt_period_cells.proofs.ListsOfSamples.{items_there, lists_more}
+-- The amounts of a row's samples are those of its entries.
+use Rattle.std.proofs.Common.{◌-◌, refl, arith}
+use Rattle.kt_period_cells.specs.Amounts.{items_at, of_sample}
+use Rattle.kt_period_cells.specs.RowCells.{cell_in, cells_of}
+use Rattle.kt_period_cells.specs.Outcomes.{on_more}
+use Rattle.kt_period_cells.proofs.RowAmounts.{no_row, sample_pushed}
 use Rattle.kt_period_cells.proofs.amounts.push_samples.Goals as goal
 
-pub loop-k-preserved : goal.loop-k-preserved
-loop-k-preserved c =
-    let lists = c.loop-k.lists in
-    let k = c.loop-k.k in
-    let here = c.loop-k.invariant in
-    record {
-      many = length-set lists k c.push_sample.new.found ∙ here.many;
-      done =
-          lists_more (λ (j : ℕ). amounts_of c.args.maxima (of_sample (c.args.last - j)) (entries_in (row_at c.args.rows.now c.args.place.now.row))) (items_at c.args.lists.now) lists k c.index-lists-k.result c.push_sample.new.found
-          (omega (arith, c.loop-k-test.true, c.loop-k.auto.lists)) here.done here.left c.in_ok-push_sample.ensures.ok;
-      left = λ j below. items_there lists k c.push_sample.new.found j (λ at. absurd (omega (arith, at, below))) ∙ here.left j (omega (arith, below));
-    }
+pub returns-then-place-rows-clause-ok : goal.returns-then-place-rows-clause-ok
+returns-then-place-rows-clause-ok c = λ k below. no_row c.args.maxima (of_sample (c.args.last - k)) c.args.rows.now c.args.place.now.row (items_at c.args.lists.now k) (omega (arith, c.if-place-rows.true))
+
+pub returns-clause-ok : goal.returns-clause-ok
+returns-clause-ok c =
+    let row = c.index-rows-place.result in
+    on_more c.push_samples.result
+    (λ more. λ k below.
+    sample_pushed c.args.maxima (c.args.last - k) c.args.rows.now c.args.place.now.row row (items_at c.args.lists.now k) (items_at c.push_samples.new.lists k) (cell_in (cells_of row) (c.args.last - k))
+    (omega (arith, below, c.requires.count)) c.requires.rising (omega (arith, c.if-place-rows.false)) c.index-rows-place.is refl (more k below))
+    c.push_samples.ensures.ok
