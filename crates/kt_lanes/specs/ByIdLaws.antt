@@ -17,8 +17,8 @@ use Rattle.kt_alloc.specs.declared.part.PlacedPart.{PlacedPart}
 use Rattle.kt_lanes.specs.Lanes.{column, AreWide, AreLanes}
 use Rattle.kt_lanes.specs.SideBySide.{HasMore}
 use Rattle.kt_lanes.specs.LaneLaws.{column-at}
-use Rattle.kt_lanes.specs.Down.{ArePlaced, placed, placed_at}
-use Rattle.kt_lanes.specs.DownLaws.{placed-here, placed-inside}
+use Rattle.kt_lanes.specs.Down.{ArePlaced, amounts_of, placed, placed_at}
+use Rattle.kt_lanes.specs.DownLaws.{placed-here, placed-inside, placed-of}
 use Rattle.kt_lanes.specs.declared.down.PlacedLanes.{PlacedLanes}
 
 -- ---- one lane in the place of another
@@ -122,12 +122,10 @@ module _ (units : List ℕ) where
       ap (λ n. n ∷ amounts) own
       ∙ ap (λ ns. part_of (record { unit = unit; amount = amount } ∷ parts) unit ∷ ns) (own-parts places amounts (omega (arith, same)) rises.1 ∙ sym (own-other unit amount parts (map (slice_index units) places) rises.0))
 
-  -- so the lanes of the units are those of the ids
-  pub lanes-own : (width : ℕ) (ids : List ℕ) → IsRising ids → (parts : PlacedLanes) → ArePlaced width parts → map (slice_index units) parts.places.items ≡ ids → AreLanes width (length ids) (λ k. map (part_of (unit_parts units (placed_at k parts))) ids) parts.lanes
-  lanes-own width ids rises parts are same = record {
-    count_is = sym are.count_is ∙ (sym (length-map parts.places.items (slice_index units)) ∙ ap length same);
-    wide = are.wide;
-    each = λ k less.
-        own-parts parts.places.items (column k parts.lanes) (length-map parts.lanes (λ (lane : List ℕ). slice_index lane k) ∙ sym are.count_is) (subst IsRising (sym same) rises)
-        ∙ ap (map (part_of (unit_parts units (placed_at k parts)))) same;
-  }
+  -- so units that are the ids, in their order, have what these have
+  pub own-amounts : (ids : List ℕ) → IsRising ids → (places : List ℕ) → map (slice_index units) places ≡ ids → (parts : List PlacedPart) → map (λ part. part.place) parts ≡ places → amounts_of parts ≡ map (part_of (unit_parts units parts)) ids
+  own-amounts ids rises places same parts places_are =
+      let own = map (λ (part : PlacedPart). part.place) parts in
+      let here : map (slice_index units) own ≡ ids = ap (map (slice_index units)) places_are ∙ same in
+      own-parts own (amounts_of parts) (length-map parts (λ (part : PlacedPart). part.amount) ∙ sym (length-map parts (λ (part : PlacedPart). part.place))) (subst IsRising (sym here) rises)
+      ∙ (ap (λ all. map (part_of (unit_parts units all)) (map (slice_index units) own)) (placed-of parts) ∙ ap (map (part_of (unit_parts units parts))) here)

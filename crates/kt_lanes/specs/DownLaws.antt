@@ -5,8 +5,8 @@ use Rattle.std.specs.List.{AllByRecursion, flat_map, range_with_len, sum, sum_by
 use Rattle.std.proofs.Common.{inl, inr, refl, sym, ap, subst, ◌∙◌, arith}
 use Rattle.std.proofs.Math.Nat.{zero-div}
 use Rattle.std.proofs.lemmas.Bool.{cases_lt, eqb-true}
-use Rattle.std.proofs.lemmas.List.{length-map, length-append, map-append, take_all, get_or-take, get_or-drop}
-use Rattle.std.proofs.lemmas.List.Elements.{All-from_recursion}
+use Rattle.std.proofs.lemmas.List.{length-map, length-append, length-drop, length-take-le, map-append, take_all, get_or-take, get_or-drop}
+use Rattle.std.proofs.lemmas.List.Elements.{All-from_recursion, recursion_from_All}
 use Rattle.std.proofs.lemmas.List.Sums.{sum-map}
 use Rattle.kt_money.specs.Sharing.{share_of, shares_after, share_out}
 use Rattle.kt_money.specs.SharingLaws.{share_of-le}
@@ -20,13 +20,14 @@ use Rattle.kt_fmtree.specs.Carried.{node_carry, row_of}
 use Rattle.kt_fmtree.specs.Parts.{Parts, HasProgramme}
 use Rattle.kt_fmtree.specs.LoopLaws.{flat_map-goes}
 use Rattle.kt_fmtree.specs.declared.node.Node.{Node}
+use Rattle.kt_alloc.specs.DownLaws.{shares-length}
 use Rattle.kt_alloc.specs.Placed.{weights, amounts_for, parts_from, children_of, no_node, node_at, given_by, level_down}
 use Rattle.kt_alloc.specs.declared.part.PlacedPart.{PlacedPart}
-use Rattle.kt_lanes.specs.Lanes.{column, AreWide, losses_of, child_losses}
+use Rattle.kt_lanes.specs.Lanes.{column, AreLanes, AreWide, losses_of, child_losses}
 use Rattle.kt_lanes.specs.LaneLaws.{All-first, column-at}
 use Rattle.kt_lanes.specs.Climbed.{HasPlainUnits}
 use Rattle.kt_lanes.specs.ClimbedLaws.{child_losses-of, node_carry-loss}
-use Rattle.kt_lanes.specs.Down.{placed, placed_at, ArePlaced, given_losses, AreBacked}
+use Rattle.kt_lanes.specs.Down.{placed, placed_at, amounts_of, child_places, ArePlaced, CanGiveBy, given_losses, AreBacked}
 use Rattle.kt_lanes.specs.declared.down.PlacedLanes.{PlacedLanes}
 
 -- ---- amounts in places
@@ -42,6 +43,24 @@ placed-in [] amounts at d same below = absurd (omega arith)
 placed-in (place ∷ places) [] at d same below = absurd (omega arith)
 placed-in (place ∷ places) (amount ∷ amounts) zero d same below = refl
 placed-in (place ∷ places) (amount ∷ amounts) (suc at) d same below = placed-in places amounts at d (omega arith) (omega arith)
+
+-- amounts in places side by side
+from-amounts : (start : ℕ) (amounts : List ℕ) → amounts_of (parts_from start amounts) ≡ amounts
+from-amounts start [] = refl
+from-amounts start (amount ∷ amounts) = ap (λ rest. amount ∷ rest) (from-amounts (start + 1) amounts)
+
+from-places : (start : ℕ) (amounts : List ℕ) → map (λ part. part.place) (parts_from start amounts) ≡ range_with_len start (length amounts)
+from-places start [] = refl
+from-places start (amount ∷ amounts) = ap (λ rest. start ∷ rest) (from-places (start + 1) amounts)
+
+-- the places and the amounts of units make both
+pub placed-of : (parts : List PlacedPart) → placed (map (λ part. part.place) parts) (amounts_of parts) ≡ parts
+placed-of [] = refl
+placed-of (part ∷ parts) = ap (λ rest. part ∷ rest) (placed-of parts)
+
+length-range : (start n : ℕ) → length (range_with_len start n) ≡ n
+length-range start zero = refl
+length-range start (suc n) = ap suc (length-range (start + 1) n)
 
 -- those of lanes at one sidx
 module _ (width : ℕ) (parts : PlacedLanes) (are : ArePlaced width parts) (at : ℕ) (below : at < length parts.places.items) (k : ℕ) where
@@ -64,29 +83,30 @@ module _ (width : ℕ) (parts : PlacedLanes) (are : ArePlaced width parts) (at :
       (All-from_recursion (λ (part : PlacedPart). part.amount ≤ sum (child_losses row (node_at nodes part.place))) (placed_at k parts) backed at none placed-inside)
 
   -- one more unit has given
-  pub gives-more : (nodes : List Node) (row : List ℕ) (lane : List ℕ) → lane ≡ slice_index_or parts.lanes at lane → (node : Node) → node ≡ node_at nodes (slice_index parts.places.items at) → (made more : List PlacedPart) → made ≡ flat_map (given_losses nodes row) (take at (placed_at k parts)) → more ≡ made ++ parts_from node.start (share_out (slice_index lane k) (child_losses row node)) → more ≡ flat_map (given_losses nodes row) (take (at + 1) (placed_at k parts))
-  gives-more nodes row lane lane_is node node_is made more so_far more_is =
+  pub gives-more : (nodes : List Node) (row : List ℕ) (lane : List ℕ) → lane ≡ slice_index_or parts.lanes at lane → (node : Node) → node ≡ node_at nodes (slice_index parts.places.items at) → amounts_of (flat_map (given_losses nodes row) (take at (placed_at k parts))) ++ share_out (slice_index lane k) (child_losses row node) ≡ amounts_of (flat_map (given_losses nodes row) (take (at + 1) (placed_at k parts)))
+  gives-more nodes row lane lane_is node node_is =
       let none : PlacedPart = record { place = 0; amount = 0 } in
-      flat_map-goes (given_losses nodes row) (placed_at k parts) at none made more placed-inside so_far
-      (more_is
-      ∙ (ap (λ (one : Node). made ++ parts_from one.start (share_out (slice_index lane k) (child_losses row one))) node_is
-      ∙ ap (λ part. made ++ given_losses nodes row part) (sym (placed-here none lane lane_is))))
+      let made = flat_map (given_losses nodes row) (take at (placed_at k parts)) in
+      let shares = share_out (slice_index lane k) (child_losses row node) in
+      ap (λ amounts. amounts_of made ++ amounts) (sym (from-amounts node.start shares))
+      ∙ (sym (map-append (λ (part : PlacedPart). part.amount) made (parts_from node.start shares))
+      ∙ ap amounts_of
+      (flat_map-goes (given_losses nodes row) (placed_at k parts) at none made (made ++ parts_from node.start shares) placed-inside refl
+      (ap (λ (one : Node). made ++ parts_from one.start (share_out (slice_index lane k) (child_losses row one))) node_is
+      ∙ ap (λ part. made ++ given_losses nodes row part) (sym (placed-here none lane lane_is)))))
+
+  -- to so many children more
+  pub count-more : (nodes : List Node) (node : Node) → node ≡ node_at nodes (slice_index parts.places.items at) → length (flat_map (child_places nodes) (take at parts.places.items)) + node.width ≡ length (flat_map (child_places nodes) (take (at + 1) parts.places.items))
+  count-more nodes node node_is =
+      let place = slice_index parts.places.items at in
+      let made = flat_map (child_places nodes) (take at parts.places.items) in
+      ap (λ n. length made + n) (ap (λ (one : Node). one.width) node_is ∙ sym (length-range (node_at nodes place).start (node_at nodes place).width))
+      ∙ (sym (length-append made (child_places nodes place))
+      ∙ ap length (flat_map-goes (child_places nodes) parts.places.items at 0 made (made ++ child_places nodes place) below refl refl))
 
 -- all of them
 pub placed-all : (width : ℕ) (parts : PlacedLanes) → ArePlaced width parts → (n : ℕ) → length parts.places.items ≤ n → (k : ℕ) → take n (placed_at k parts) ≡ placed_at k parts
 placed-all width parts are n enough k = take_all n (placed_at k parts) (omega (arith, enough, length-placed parts.places.items (column k parts.lanes) (are.count_is ∙ sym (length-map parts.lanes (λ (one : List ℕ). slice_index one k)))))
-
-placed-append : (places others amounts more : List ℕ) → length places ≡ length amounts → placed (places ++ others) (amounts ++ more) ≡ placed places amounts ++ placed others more
-placed-append [] others [] more same = refl
-placed-append [] others (amount ∷ amounts) more same = absurd (omega arith)
-placed-append (place ∷ places) others [] more same = absurd (omega arith)
-placed-append (place ∷ places) others (amount ∷ amounts) more same = ap (λ rest. record { place = place; amount = amount } ∷ rest) (placed-append places others amounts more (omega arith))
-
-placed-range : (start n : ℕ) (amounts : List ℕ) → length amounts ≡ n → placed (range_with_len start n) amounts ≡ parts_from start amounts
-placed-range start zero [] same = refl
-placed-range start zero (amount ∷ amounts) same = absurd (omega arith)
-placed-range start (suc n) [] same = absurd (omega arith)
-placed-range start (suc n) (amount ∷ amounts) same = ap (λ rest. record { place = start; amount = amount } ∷ rest) (placed-range (start + 1) n amounts (omega arith))
 
 -- one more place
 pub range-more : (start n : ℕ) → range_with_len start (n + 1) ≡ range_with_len start n ++ (start + n) ∷ []
@@ -95,10 +115,6 @@ range-more start n = let e : n + 1 ≡ suc n = omega arith in ap (range_with_len
     last : (a n j : ℕ) → a + n ≡ j → range_with_len a (suc n) ≡ range_with_len a n ++ j ∷ []
     last a zero j e = let same : a ≡ j = omega arith in ap (λ k. k ∷ []) same
     last a (suc n) j e = ap (λ l. a ∷ l) (last (a + 1) n j (omega arith))
-
-length-range : (start n : ℕ) → length (range_with_len start n) ≡ n
-length-range start zero = refl
-length-range start (suc n) = ap suc (length-range (start + 1) n)
 
 -- what holds of amounts in places holds of the places
 pub places-all : (P : ℕ → Type 0) (places amounts : List ℕ) → length places ≡ length amounts → AllByRecursion (λ (part : PlacedPart). P part.place) (placed places amounts) → All P places
@@ -110,20 +126,53 @@ places-all P places amounts same all = λ at d below. by places amounts same all
     by (place ∷ places) (amount ∷ amounts) same all zero d below = all.0
     by (place ∷ places) (amount ∷ amounts) same all (suc at) d below = by places amounts (omega arith) all.1 at d (omega arith)
 
--- lanes of places side by side, behind others
-module _ (width start count : ℕ) (places others : List ℕ) (lanes more : List (List ℕ)) (same : length places ≡ length lanes) (others_are : others ≡ places ++ range_with_len start count) where
-  pub behind-count : (all : List (List ℕ)) → all ≡ lanes ++ more → length more ≡ count → length others ≡ length all
-  behind-count all all_is long =
-      ap length others_are ∙ (length-append places (range_with_len start count) ∙ (omega (arith, same, long, length-range start count) ∙ sym (ap length all_is ∙ length-append lanes more)))
+-- places side by side are below where they end
+range-below : (start width n : ℕ) → start + width ≤ n → AllByRecursion (λ place. place < n) (range_with_len start width)
+range-below start zero n fits = tt
+range-below start (suc width) n fits = (omega (arith, fits), range-below (start + 1) width n (omega (arith, fits)))
 
-  pub behind-placed : (all : List (List ℕ)) → all ≡ lanes ++ more → length more ≡ count → (k : ℕ) (amounts : List ℕ) → column k more ≡ amounts → placed others (column k all) ≡ placed places (column k lanes) ++ parts_from start amounts
-  behind-placed all all_is long k amounts amounts_are =
-      let f : List ℕ → ℕ = λ lane. slice_index lane k in
-      ap (λ ps. placed ps (column k all)) others_are
-      ∙ (ap (λ ls. placed (places ++ range_with_len start count) (column k ls)) all_is
-      ∙ (ap (placed (places ++ range_with_len start count)) (map-append f lanes more)
-      ∙ (placed-append places (range_with_len start count) (column k lanes) (column k more) (same ∙ sym (length-map lanes f))
-      ∙ ap (λ ps. placed places (column k lanes) ++ ps) (placed-range start count (column k more) (length-map more f ∙ long) ∙ ap (parts_from start) amounts_are))))
+-- the places of what units give are those of their children
+given-places : (nodes : List Node) (row : List ℕ) (places amounts : List ℕ) → length places ≡ length amounts → AllByRecursion (λ place. (node_at nodes place).start + (node_at nodes place).width ≤ length row) places → map (λ part. part.place) (flat_map (given_losses nodes row) (placed places amounts)) ≡ flat_map (child_places nodes) places
+given-places nodes row [] amounts same fits = refl
+given-places nodes row (place ∷ places) [] same fits = absurd (omega arith)
+given-places nodes row (place ∷ places) (amount ∷ amounts) same fits =
+    let node = node_at nodes place in
+    let losses = child_losses row node in
+    let first = fits.0 in
+    let long : length (share_out amount losses) ≡ node.width = shares-length amount (sum losses) 0 losses ∙ length-take-le node.width (drop node.start row) (omega (arith, first, length-drop node.start row)) in
+    let rest = flat_map (given_losses nodes row) (placed places amounts) in
+    map-append (λ (part : PlacedPart). part.place) (parts_from node.start (share_out amount losses)) rest
+    ∙ (ap (λ front. front ++ map (λ (part : PlacedPart). part.place) rest) (from-places node.start (share_out amount losses) ∙ ap (range_with_len node.start) long)
+    ∙ ap (λ back. child_places nodes place ++ back) (given-places nodes row places amounts (omega arith) fits.1))
+
+module _ (width : ℕ) (nodes : List Node) (below : List (List ℕ)) (parts : PlacedLanes) (can : CanGiveBy width nodes below parts) where
+  -- children stand among the units below
+  children-fit : AllByRecursion (λ place. (node_at nodes place).start + (node_at nodes place).width ≤ length below) parts.places.items
+  children-fit = recursion_from_All (λ place. (node_at nodes place).start + (node_at nodes place).width ≤ length below) parts.places.items (λ at d inside. (can.can (slice_index_or parts.places.items at d) no_node (can.within at d inside)).within)
+
+  -- so do their places
+  pub children-within : All (λ place. place < length below) (flat_map (child_places nodes) parts.places.items)
+  children-within =
+      All-from_recursion (λ place. place < length below) (flat_map (child_places nodes) parts.places.items)
+      (each_flat_map (λ place. (node_at nodes place).start + (node_at nodes place).width ≤ length below) (λ place. place < length below) (child_places nodes)
+      (λ place fits. range-below (node_at nodes place).start (node_at nodes place).width (length below) fits) parts.places.items children-fit)
+
+  -- what is given has these places
+  pub places-given : (k : ℕ) → map (λ part. part.place) (flat_map (given_losses nodes (column k below)) (placed_at k parts)) ≡ flat_map (child_places nodes) parts.places.items
+  places-given k =
+      given-places nodes (column k below) parts.places.items (column k parts.lanes) (can.placed.count_is ∙ sym (length-map parts.lanes (λ (lane : List ℕ). slice_index lane k)))
+      (subst (λ n. AllByRecursion (λ place. (node_at nodes place).start + (node_at nodes place).width ≤ n) parts.places.items) (sym (length-map below (λ (lane : List ℕ). slice_index lane k))) children-fit)
+
+  -- lanes of its amounts in these places are what is given
+  module _ (given : PlacedLanes) (places_are : given.places.items ≡ flat_map (child_places nodes) parts.places.items) (lanes_are : AreLanes width (length (flat_map (child_places nodes) parts.places.items)) (λ k. amounts_of (flat_map (given_losses nodes (column k below)) (placed_at k parts))) given.lanes) where
+    pub given-placed : ArePlaced width given
+    given-placed = record { count_is = ap length places_are ∙ sym lanes_are.count_is; wide = lanes_are.wide }
+
+    pub given-are : (k : ℕ) → k < width → placed_at k given ≡ flat_map (given_losses nodes (column k below)) (placed_at k parts)
+    given-are k less =
+        let all = flat_map (given_losses nodes (column k below)) (placed_at k parts) in
+        ap (λ places. placed places (column k given.lanes)) (places_are ∙ sym (places-given k))
+        ∙ (ap (placed (map (λ (part : PlacedPart). part.place) all)) (lanes_are.each k less) ∙ placed-of all)
 
 -- both are wide
 pub wide-both : (width : ℕ) (lanes more : List (List ℕ)) → AreWide width lanes → AreWide width more → AreWide width (lanes ++ more)

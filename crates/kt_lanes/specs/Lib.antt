@@ -7,6 +7,7 @@ pub mod SharesLaws
 pub mod SideBySide
 pub mod Down
 pub mod DownLaws
+pub mod BehindLaws
 pub mod ByIdLaws
 pub mod Policies
 pub mod PoliciesLaws

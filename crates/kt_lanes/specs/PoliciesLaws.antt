@@ -1,7 +1,7 @@
 -- Laws of policy losses by lanes, and of what the ids beneath a top have of them.
 -- The rules: docs/FINANCIAL_MODULE.md, "Policy losses", "Allocation".
 use Rattle.std.specs.Prelude.{◌≡◌, ℕ, suc, ◌-◌, ◌<◌, ◌≤◌, ◌^◌, Bool, true, false, cond, nat_eq, List, [], ◌∷◌, All, length, map, slice_index, slice_index_or}
-use Rattle.std.specs.List.{AllByRecursion, filter, list_any, sum, sum_by}
+use Rattle.std.specs.List.{AllByRecursion, filter, list_any, sum}
 use Rattle.std.proofs.Common.{refl, sym, ap, subst, ◌∙◌, arith}
 use Rattle.std.proofs.lemmas.List.{length-map, get_or-map, get_or_default}
 use Rattle.kt_money.specs.Sharing.{share_out}
@@ -19,18 +19,17 @@ use Rattle.kt_fmtree.specs.Parts.{Parts, IsProgramme, HasProgramme, units_at}
 use Rattle.kt_fmtree.specs.PartsLaws.{base-at, beneath-are}
 use Rattle.kt_fmtree.specs.ProgrammeLaws.{programme-carries}
 use Rattle.kt_fmtree.specs.declared.node.Node.{Node}
-use Rattle.kt_alloc.specs.AllocateLaws.{down-are, leaves-places, losses-few, shared-few, top-can}
+use Rattle.kt_alloc.specs.AllocateLaws.{down-are, losses-few, top-can}
 use Rattle.kt_alloc.specs.Placed.{levels_down, no_node, node_at, unit_parts}
 use Rattle.kt_alloc.specs.declared.part.PlacedPart.{PlacedPart}
 use Rattle.kt_lanes.specs.Lanes.{column, AreLanes, IsLane, CanTake, child_losses, losses_of}
-use Rattle.kt_lanes.specs.LaneLaws.{lanes-are}
+use Rattle.kt_lanes.specs.BehindLaws.{behind-are}
 use Rattle.kt_lanes.specs.Climbed.{IsClimbed, carried_at, level_lanes}
 use Rattle.kt_lanes.specs.ClimbedLaws.{can-take, child_sum-loss}
-use Rattle.kt_lanes.specs.Down.{CanGive, placed_at}
-use Rattle.kt_lanes.specs.DownLaws.{places-all}
+use Rattle.kt_lanes.specs.Down.{CanGive}
 use Rattle.kt_lanes.specs.Policies.{top_losses, IsTopBase, IsPolicy}
+use Rattle.kt_lanes.specs.SideBySide.{AreBehind}
 use Rattle.kt_lanes.specs.declared.climbing.Climbed.{Climbed}
-use Rattle.kt_lanes.specs.declared.down.PlacedLanes.{PlacedLanes}
 
 module _ (parts : Parts) (has : HasProgramme parts) (lanes : List (List ℕ)) (climbed : Climbed) (is_climbed : IsClimbed parts lanes climbed) where
   -- ---- what is carried
@@ -180,31 +179,21 @@ module _ (parts : Parts) (has : HasProgramme parts) (lanes : List (List ℕ)) (c
             (subst (λ n. slice_index policy k ≤ sum (child_losses (losses_of (row_of parts (column k lanes) n)) (node_at (slice_index_or parts.levels n []) node))) last (is_policy.backed k less), tt);
       }
 
-      module _ (given : PlacedLanes) (given_are : (k : ℕ) → k < climbed.width → placed_at k given ≡ levels_down false parts.levels (carried_at parts lanes k).rows (length parts.levels) (record { place = node; amount = slice_index policy k } ∷ [])) where
-        -- what was given has places
-        pub given-places : length given.places.items ≡ length given.lanes → All (λ place. place < length parts.leaves) given.places.items
-        given-places same =
-            let first = is_climbed.losses.some in
-            places-all (λ place. place < length parts.leaves) given.places.items (column 0 given.lanes) (same ∙ sym (length-map given.lanes (λ (one : List ℕ). slice_index one 0)))
-            (leaves-places parts (carried_at parts lanes 0) (carried 0 first) false node (slice_index policy 0) below (policy-le 0 first) (placed_at 0 given) (given_are 0 first))
-
-        pub given-few : (k : ℕ) → k < climbed.width → sum_by (λ part. part.amount) (placed_at k given) ≤ 10 ^ 17
-        given-few k less = shared-few parts (carried_at parts lanes k) (carried k less) node (slice_index policy k) below (policy-le k less) (placed_at k given) (given_are k less)
-
-        -- it is what the tree shares down
-        pub given-shared : (ids : List ℕ) → ids ≡ slice_index_or parts.beneath node [] → (shares : List (List ℕ)) → AreLanes climbed.width (length ids) (λ k. map (part_of (unit_parts (units_at parts 0) (placed_at k given))) ids) shares → (tree : Tree) → IsProgramme tree parts → AreLanes climbed.width (length (beneath tree (slice_index tree.tops node))) (λ k. shared_down tree (loss_by tree.ids (column k lanes)) (slice_index tree.tops node) layer) shares
-        given-shared ids ids_are shares are tree is =
-            lanes-are climbed.width (length ids) (length (beneath tree (slice_index tree.tops node))) (λ k. map (part_of (unit_parts (units_at parts 0) (placed_at k given))) ids) (λ k. shared_down tree (loss_by tree.ids (column k lanes)) (slice_index tree.tops node) layer) shares are
+      module _ (given : ℕ → List PlacedPart) (given_are : (k : ℕ) → k < climbed.width → given k ≡ levels_down false parts.levels (carried_at parts lanes k).rows (length parts.levels) (record { place = node; amount = slice_index policy k } ∷ [])) where
+        -- what was given to the ids is what the tree shares down
+        pub given-shared : (ids : List ℕ) → ids ≡ slice_index_or parts.beneath node [] → (before now : List (List ℕ)) → AreBehind climbed.width (length ids) (λ k. map (part_of (unit_parts (units_at parts 0) (given k))) ids) before now → (tree : Tree) → IsProgramme tree parts → AreBehind climbed.width (length (beneath tree (slice_index tree.tops node))) (λ k. shared_down tree (loss_by tree.ids (column k lanes)) (slice_index tree.tops node) layer) before now
+        given-shared ids ids_are before now are tree is =
+            behind-are climbed.width (length ids) (length (beneath tree (slice_index tree.tops node))) (λ k. map (part_of (unit_parts (units_at parts 0) (given k))) ids) (λ k. shared_down tree (loss_by tree.ids (column k lanes)) (slice_index tree.tops node) layer) before now are
             (ap length (ids_are ∙ beneath-are tree parts is node below))
             (λ k less.
-            down-are parts (carried_at parts lanes k) (carried k less) node layer (slice_index policy k) below (policy-le k less) tree (loss_by tree.ids (column k lanes)) is (carries tree is k) (is_policy.policy_is tree is k less) (placed_at k given) ids (map (part_of (unit_parts (units_at parts 0) (placed_at k given))) ids) (given_are k less) ids_are refl)
+            down-are parts (carried_at parts lanes k) (carried k less) node layer (slice_index policy k) below (policy-le k less) tree (loss_by tree.ids (column k lanes)) is (carries tree is k) (is_policy.policy_is tree is k less) (given k) ids (map (part_of (unit_parts (units_at parts 0) (given k))) ids) (given_are k less) ids_are refl)
 
       -- ---- at once
 
-      pub at-once : (places : List ℕ) → All (λ place. place < length parts.ids) places → map (slice_index parts.ids) places ≡ slice_index_or parts.beneath node [] → (losses shares : List (List ℕ)) → AreLanes climbed.width (length places) (λ k. map (slice_index (column k lanes)) places) losses → AreLanes climbed.width (length losses) (λ k. share_out (slice_index policy k) (column k losses)) shares
-          → (tree : Tree) → IsProgramme tree parts → AreLanes climbed.width (length (beneath tree (slice_index tree.tops node))) (λ k. shared_at_once tree (loss_by tree.ids (column k lanes)) (slice_index tree.tops node) layer) shares
-      at-once places within found losses shares losses_are shares_are tree is =
-          lanes-are climbed.width (length losses) (length (beneath tree (slice_index tree.tops node))) (λ k. share_out (slice_index policy k) (column k losses)) (λ k. shared_at_once tree (loss_by tree.ids (column k lanes)) (slice_index tree.tops node) layer) shares shares_are
+      pub at-once : (places : List ℕ) → All (λ place. place < length parts.ids) places → map (slice_index parts.ids) places ≡ slice_index_or parts.beneath node [] → (losses : List (List ℕ)) → AreLanes climbed.width (length places) (λ k. map (slice_index (column k lanes)) places) losses → (before now : List (List ℕ)) → AreBehind climbed.width (length losses) (λ k. share_out (slice_index policy k) (column k losses)) before now
+          → (tree : Tree) → IsProgramme tree parts → AreBehind climbed.width (length (beneath tree (slice_index tree.tops node))) (λ k. shared_at_once tree (loss_by tree.ids (column k lanes)) (slice_index tree.tops node) layer) before now
+      at-once places within found losses losses_are before now shares_are tree is =
+          behind-are climbed.width (length losses) (length (beneath tree (slice_index tree.tops node))) (λ k. share_out (slice_index policy k) (column k losses)) (λ k. shared_at_once tree (loss_by tree.ids (column k lanes)) (slice_index tree.tops node) layer) before now shares_are
           (losses_are.count_is ∙ (sym (length-map places (slice_index parts.ids)) ∙ ap length (found ∙ beneath-are tree parts is node below)))
           (λ k less.
           ap (share_out (slice_index policy k)) (losses_are.each k less ∙ losses-in tree is places within found k)

@@ -1,20 +1,23 @@
 //! Lanes of units, by rising id.
 //! The rule: docs/FINANCIAL_MODULE.md, "Allocation".
-ghost use Rattle.std.specs.Prelude.{◌≡◌, true, ℕ, ◌+◌, ◌≤◌, ◌<◌, ◌^◌, length, map, slice_index, All, IfOk};
-ghost use Rattle.std.specs.List.{sum_by};
+ghost use Rattle.std.specs.Prelude.{◌≡◌, true, false, ℕ, ◌+◌, ◌≤◌, ◌<◌, ◌^◌, length, map, slice_index, All, IfOk, OnOk};
+ghost use Rattle.std.specs.List.{flat_map, sum_by};
 ghost use Rattle.kt_rec.specs.Rising.{IsRising};
 ghost use Rattle.kt_tree.specs.Sharing.{part_of};
 ghost use Rattle.kt_fmtree.specs.Parts.{units_at};
-ghost use Rattle.kt_alloc.specs.Placed.{unit_parts};
+ghost use Rattle.kt_alloc.specs.Placed.{levels_down, unit_parts};
 ghost use Rattle.kt_alloc.specs.ById.{with_more};
 ghost use Rattle.kt_lanes.specs.Lanes.{column, AreWide, AreLanes};
-ghost use Rattle.kt_lanes.specs.Down.{ArePlaced, placed_at};
+ghost use Rattle.kt_lanes.specs.Climbed.{IsClimbed, carried_at};
+ghost use Rattle.kt_lanes.specs.SideBySide.{AreBehind};
+ghost use Rattle.kt_lanes.specs.Down.{ArePlaced, CanGiveBy, GivesAt, HasLevelRoom, given_losses, placed_at};
 
 use crate::amounts::{Amounts, OneLane};
-use crate::down::PlacedLanes;
+use crate::climbing::{Climbed, lanes_at};
+use crate::down::{LevelRoom, PlacedLanes, level_by_unit, place_children, push_given};
 use crate::lanes::Lanes;
 use kt_alloc::id_at;
-use kt_fmtree::Programme;
+use kt_fmtree::{Node, Programme};
 use std::alloc::{AllocError, Global};
 
 /// Adds amounts to the lane of an id, which stands in this place.
@@ -105,23 +108,72 @@ fn are_in_order(programme: &Programme, ids: &[u32], places: &[usize]) -> bool
     true
 }
 
-/// What each of rising ids has of amounts of units of level 0. An error is want of memory.
-pub(crate) fn lanes_by_id(
+/// Puts what amounts of units give to rising ids, the units below them, behind other lanes, id by id. An error is want of memory.
+fn push_by_id(
     alloc: Global,
     programme: &Programme,
     ids: &[u32],
     width: usize,
-    parts: PlacedLanes,
-) -> Result<Lanes, AllocError>
+    nodes: &[Node],
+    below: &Lanes,
+    room: &mut LevelRoom,
+    out: &mut Lanes,
+) -> Result<(), AllocError>
     requires rising { IsRising ids.now }
-    requires parts { ArePlaced width parts }
-    requires places { All (λ place. place < length programme.now.leaves) parts.places.items }
-    requires few { (k : ℕ) → k < width → sum_by (λ part. part.amount) (placed_at k parts) ≤ 10 ^ 17 }
-    ensures value { IfOk result (λ found. AreLanes width (length ids.now) (λ k. map (part_of (unit_parts (units_at programme.now 0) (placed_at k parts))) ids.now) found) }
+    requires can { CanGiveBy width nodes.now below.now room.old.parts }
+    requires leaves { length below.now ≡ length programme.now.leaves }
+    requires few { (k : ℕ) → k < width → sum_by (λ part. part.amount) (flat_map (given_losses nodes.now (column k below.now)) (placed_at k room.old.parts)) ≤ 10 ^ 17 }
+    requires room { HasLevelRoom width room.old }
+    requires out { AreWide width out.old }
+    ensures room { OnOk result (HasLevelRoom width room.new) }
+    ensures value { OnOk result (AreBehind width (length ids.now) (λ k. map (part_of (unit_parts (units_at programme.now 0) (flat_map (given_losses nodes.now (column k below.now)) (placed_at k room.old.parts)))) ids.now) out.old out.new) }
 {
-    if are_in_order(programme, ids, &parts.places) {
-        return Ok(parts.lanes);
+    place_children(nodes, below, &room.parts.places, &mut room.given.places)?;
+    if are_in_order(programme, ids, &room.given.places) {
+        push_given(nodes, width, below, &mut room.room, &room.parts, out)?;
+        return Ok(());
     }
-    let found = added_by_id(alloc, programme, ids, width, &parts)?;
-    Ok(found)
+    level_by_unit(
+        nodes,
+        width,
+        below,
+        &mut room.room,
+        &room.parts,
+        &mut room.given,
+    )?;
+    let found = added_by_id(alloc, programme, ids, width, &room.given)?;
+    out.append(width, &found)?;
+    Ok(())
+}
+
+/// Puts what amounts of the units of level 1 give to rising ids behind other lanes, id by id. An error is want of memory.
+pub(crate) fn ids_down(
+    alloc: Global,
+    programme: &Programme,
+    lanes: &Lanes,
+    climbed: &Climbed,
+    ids: &[u32],
+    room: &mut LevelRoom,
+    out: &mut Lanes,
+) -> Result<(), AllocError>
+    requires climbed { IsClimbed programme.now lanes.now climbed.now }
+    requires rising { IsRising ids.now }
+    requires gives { GivesAt programme.now lanes.now climbed.now.width 1 room.old }
+    requires out { AreWide climbed.now.width out.old }
+    ensures room { OnOk result (HasLevelRoom climbed.now.width room.new) }
+    ensures value { OnOk result (AreBehind climbed.now.width (length ids.now) (λ k. map (part_of (unit_parts (units_at programme.now 0) (levels_down false programme.now.levels (carried_at programme.now lanes.now k).rows 1 (placed_at k room.old.parts)))) ids.now) out.old out.new) }
+{
+    programme.is_of_a_tree();
+    let below = lanes_at(lanes, &climbed.levels, 0);
+    push_by_id(
+        alloc,
+        programme,
+        ids,
+        climbed.width,
+        programme.nodes_above(0),
+        below,
+        room,
+        out,
+    )?;
+    Ok(())
 }

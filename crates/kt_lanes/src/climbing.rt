@@ -98,7 +98,7 @@ pub(crate) fn lanes_in(
 }
 
 /// Whether places are so many, from 0 up.
-fn are_in_turn(places: &[usize], count: usize) -> bool
+pub fn are_in_turn(places: &[usize], count: usize) -> bool
     ensures value { result ≡ true → places.now ≡ range_with_len 0 count }
 {
     if places.len() != count {

@@ -3,25 +3,58 @@
 ghost use Rattle.std.specs.Prelude.{◌≡◌, ◌+◌, ◌≤◌, ◌<◌, ◌^◌, ◌++◌, ℕ, true, false, length, map, All, IfOk, OnOk, slice_index};
 ghost use Rattle.std.specs.List.{flat_map, range_with_len, sum};
 ghost use Rattle.kt_money.specs.Sharing.{share_out};
-ghost use Rattle.kt_alloc.specs.Placed.{levels_down, node_at, parts_from};
+ghost use Rattle.kt_alloc.specs.Placed.{levels_down, node_at};
 ghost use Rattle.kt_lanes.specs.Lanes.{column, AreWide, CanTake, child_losses};
 ghost use Rattle.kt_lanes.specs.Climbed.{IsClimbed, carried_at};
 ghost use Rattle.kt_lanes.specs.Shares.{HasRoom};
-ghost use Rattle.kt_lanes.specs.Down.{AreBacked, ArePlaced, CanGive, given_losses, placed_at};
+ghost use Rattle.kt_lanes.specs.SideBySide.{AreBehind};
+ghost use Rattle.kt_lanes.specs.Down.{ArePlaced, CanGiveBy, GivesAt, HasLevelRoom, amounts_of, child_places, given_losses, placed_at};
 
 use crate::climbing::{Climbed, lanes_at};
 use crate::lanes::Lanes;
-use crate::shares::{Room, share_lanes};
+use crate::shares::{Room, room_of, share_lanes};
 use kt_fmtree::{Node, Programme};
 use std::alloc::{AllocError, Global};
+use std::mem::swap;
 
 /// Amounts of units in places of their level, a lane each.
 #[derive(Drop)]
-pub(crate) struct PlacedLanes {
+pub struct PlacedLanes {
     /// The places of the units, in the order of the tree.
     pub places: Vec<usize>,
     /// Their amounts in cents, sidx by sidx.
     pub lanes: Lanes,
+}
+
+/// Room to give amounts down a programme: it is kept from layer to layer, so that no list is made for one layer or level.
+#[derive(Drop)]
+pub struct LevelRoom {
+    /// Room to share one amount out.
+    pub room: Room,
+    /// What units of a level have.
+    pub parts: PlacedLanes,
+    /// What they give to those of the level below.
+    pub given: PlacedLanes,
+}
+
+/// No amounts of units.
+fn no_parts(alloc: Global) -> PlacedLanes {
+    PlacedLanes {
+        places: Vec::new(alloc),
+        lanes: Lanes::new(alloc),
+    }
+}
+
+/// Room to give lanes of so many sidx down. An error is want of memory.
+pub fn level_room_of(alloc: Global, width: usize) -> Result<LevelRoom, AllocError>
+    ensures room { IfOk result (HasLevelRoom width) }
+{
+    let room = room_of(alloc, width)?;
+    Ok(LevelRoom {
+        room,
+        parts: no_parts(alloc),
+        given: no_parts(alloc),
+    })
 }
 
 /// Puts places side by side behind others.
@@ -35,81 +68,89 @@ fn push_places(start: usize, width: usize, places: &mut Vec<usize>) -> Result<()
     Ok(())
 }
 
-/// Puts what a unit gives to its children behind what others gave.
-fn push_children(
+/// Puts the places of the children of units in the place of others. They stand within so many places.
+pub(crate) fn place_children(
+    nodes: &[Node],
+    below: &Lanes,
+    parts: &[usize],
+    places: &mut Vec<usize>,
+) -> Result<(), AllocError>
+    requires within { All (λ place. place < length nodes.now) parts.now }
+    requires fits { All (λ node. node.start + node.width ≤ length below.now) nodes.now }
+    ensures value { OnOk result (places.new.items ≡ flat_map (child_places nodes.now) parts.now) }
+{
+    let _all = below.len();
+    places.clear();
+    for part in parts {
+        let node = &nodes[*part];
+        push_places(node.start, node.width, places)?;
+    }
+    Ok(())
+}
+
+/// Puts what a unit gives to its children behind other lanes.
+fn push_shares_of(
     node: &Node,
     below: &Lanes,
     totals: &[u64],
     room: &mut Room,
-    given: &mut PlacedLanes,
+    out: &mut Lanes,
 ) -> Result<(), AllocError>
     requires can { CanTake (length totals.now) below.now node.now }
     requires wide { AreWide (length totals.now) below.now }
     requires backed { (k : ℕ) → k < length totals.now → slice_index totals.now k ≤ sum (child_losses (column k below.now) node.now) }
     requires room { HasRoom (length totals.now) room.old }
-    requires given { ArePlaced (length totals.now) given.old }
+    requires out { AreWide (length totals.now) out.old }
     ensures room { HasRoom (length totals.now) room.new }
-    ensures given { OnOk result (ArePlaced (length totals.now) given.new) }
-    ensures value { OnOk result ((k : ℕ) → k < length totals.now → placed_at k given.new ≡ placed_at k given.old ++ parts_from node.now.start (share_out (slice_index totals.now k) (child_losses (column k below.now) node.now))) }
+    ensures value { OnOk result (AreBehind (length totals.now) node.now.width (λ k. share_out (slice_index totals.now k) (child_losses (column k below.now) node.now)) out.old out.new) }
 {
-    let _all = below.len();
-    share_lanes(
-        totals,
-        below,
-        node.start,
-        node.width,
-        room,
-        &mut given.lanes,
-    )?;
-    push_places(node.start, node.width, &mut given.places)?;
+    share_lanes(totals, below, node.start, node.width, room, out)?;
     Ok(())
 }
 
-/// How many children units in places have, or so many if they have more.
-fn count_of(nodes: &[Node], places: &[usize], most: usize) -> usize
-    requires places { All (λ place. place < length nodes.now) places.now }
-    ensures most { result ≤ most }
-{
-    let mut count: usize = 0;
-    for place in places {
-        count = count.saturating_add(nodes[*place].width);
-    }
-    count.min(most)
-}
-
-/// What amounts of the units of a level give to those of the level below, unit by unit. An error is want of memory.
-fn level_by_unit(
-    alloc: Global,
+/// Puts what amounts of the units of a level give to those of the level below behind other lanes, unit by unit. An error is want of
+/// memory.
+pub(crate) fn push_given(
     nodes: &[Node],
     width: usize,
     below: &Lanes,
     room: &mut Room,
     parts: &PlacedLanes,
-) -> Result<PlacedLanes, AllocError>
-    requires can { All (CanTake width below.now) nodes.now }
-    requires wide { AreWide width below.now }
+    out: &mut Lanes,
+) -> Result<(), AllocError>
+    requires can { CanGiveBy width nodes.now below.now parts.now }
     requires room { HasRoom width room.old }
-    requires parts { ArePlaced width parts.now }
-    requires places { All (λ place. place < length nodes.now) parts.now.places.items }
-    requires backed { (k : ℕ) → k < width → AreBacked nodes.now (column k below.now) (placed_at k parts.now) }
+    requires out { AreWide width out.old }
     ensures room { OnOk result (HasRoom width room.new) }
-    ensures given { IfOk result (ArePlaced width) }
-    ensures value { IfOk result (λ given. (k : ℕ) → k < width → placed_at k given ≡ flat_map (given_losses nodes.now (column k below.now)) (placed_at k parts.now)) }
+    ensures value { OnOk result (AreBehind width (length (flat_map (child_places nodes.now) parts.now.places.items)) (λ k. amounts_of (flat_map (given_losses nodes.now (column k below.now)) (placed_at k parts.now))) out.old out.new) }
 {
-    let count = count_of(nodes, &parts.places, below.len());
-    let places = Vec::with_capacity(alloc, count)?;
-    let lanes = Lanes::with_room(alloc, count, width)?;
-    let mut given = PlacedLanes { places, lanes };
     for (at, place) in parts.places.iter().enumerate() {
-        push_children(
-            &nodes[*place],
-            below,
-            parts.lanes.lane(at),
-            room,
-            &mut given,
-        )?;
+        push_shares_of(&nodes[*place], below, parts.lanes.lane(at), room, out)?;
     }
-    Ok(given)
+    Ok(())
+}
+
+/// Puts what amounts of the units of a level give to those of the level below in the place of what stood there, unit by unit. An
+/// error is want of memory.
+pub(crate) fn level_by_unit(
+    nodes: &[Node],
+    width: usize,
+    below: &Lanes,
+    room: &mut Room,
+    parts: &PlacedLanes,
+    given: &mut PlacedLanes,
+) -> Result<(), AllocError>
+    requires can { CanGiveBy width nodes.now below.now parts.now }
+    requires room { HasRoom width room.old }
+    ensures room { OnOk result (HasRoom width room.new) }
+    ensures given { OnOk result (ArePlaced width given.new) }
+    ensures places { OnOk result (given.new.places.items ≡ flat_map (child_places nodes.now) parts.now.places.items) }
+    ensures value { OnOk result ((k : ℕ) → k < width → placed_at k given.new ≡ flat_map (given_losses nodes.now (column k below.now)) (placed_at k parts.now)) }
+{
+    place_children(nodes, below, &parts.places, &mut given.places)?;
+    given.lanes.clear();
+    push_given(nodes, width, below, room, parts, &mut given.lanes)?;
+    Ok(())
 }
 
 /// Whether the units in places have an only child each.
@@ -125,79 +166,70 @@ fn are_single(nodes: &[Node], places: &[usize]) -> bool
     true
 }
 
-/// The places of the first children of the units in places. An error is want of memory.
-fn starts_of(alloc: Global, nodes: &[Node], places: &[usize]) -> Result<Vec<usize>, AllocError>
+/// Puts the places of the first children of the units in places in the place of others. An error is want of memory.
+fn place_starts(nodes: &[Node], places: &[usize], starts: &mut Vec<usize>) -> Result<(), AllocError>
     requires places { All (λ place. place < length nodes.now) places.now }
-    ensures value { IfOk result (λ starts. starts.items ≡ map (λ place. (node_at nodes.now place).start) places.now) }
+    ensures value { OnOk result (starts.new.items ≡ map (λ place. (node_at nodes.now place).start) places.now) }
 {
-    let mut starts = Vec::with_capacity(alloc, places.len())?;
+    starts.clear();
     for place in places {
         starts.push(nodes[*place].start)?;
     }
-    Ok(starts)
+    Ok(())
 }
 
-/// What amounts of the units of a level give to those of the level below: only children have them whole, as they are. An error is
-/// want of memory.
+/// Puts what amounts of the units of a level give to those of the level below in the place of these amounts: only children have them
+/// whole, as they are. An error is want of memory.
 fn level_down(
-    alloc: Global,
     nodes: &[Node],
     width: usize,
     below: &Lanes,
-    room: &mut Room,
-    parts: PlacedLanes,
-) -> Result<PlacedLanes, AllocError>
-    requires can { All (CanTake width below.now) nodes.now }
-    requires wide { AreWide width below.now }
-    requires room { HasRoom width room.old }
-    requires parts { ArePlaced width parts }
-    requires places { All (λ place. place < length nodes.now) parts.places.items }
-    requires backed { (k : ℕ) → k < width → AreBacked nodes.now (column k below.now) (placed_at k parts) }
-    ensures room { OnOk result (HasRoom width room.new) }
-    ensures given { IfOk result (ArePlaced width) }
-    ensures value { IfOk result (λ given. (k : ℕ) → k < width → placed_at k given ≡ flat_map (given_losses nodes.now (column k below.now)) (placed_at k parts)) }
+    room: &mut LevelRoom,
+) -> Result<(), AllocError>
+    requires can { CanGiveBy width nodes.now below.now room.old.parts }
+    requires room { HasLevelRoom width room.old }
+    ensures room { OnOk result (HasLevelRoom width room.new) }
+    ensures given { OnOk result (ArePlaced width room.new.parts) }
+    ensures value { OnOk result ((k : ℕ) → k < width → placed_at k room.new.parts ≡ flat_map (given_losses nodes.now (column k below.now)) (placed_at k room.old.parts)) }
 {
-    if are_single(nodes, &parts.places) {
-        let places = starts_of(alloc, nodes, &parts.places)?;
-        let lanes = parts.lanes;
-        return Ok(PlacedLanes { places, lanes });
+    if are_single(nodes, &room.parts.places) {
+        place_starts(nodes, &room.parts.places, &mut room.given.places)?;
+        swap(&mut room.parts.places, &mut room.given.places);
+        return Ok(());
     }
-    let given = level_by_unit(alloc, nodes, width, below, room, &parts)?;
-    Ok(given)
+    level_by_unit(
+        nodes,
+        width,
+        below,
+        &mut room.room,
+        &room.parts,
+        &mut room.given,
+    )?;
+    swap(&mut room.parts, &mut room.given);
+    Ok(())
 }
 
-/// What amounts of the units of a level give to the ids beneath them. An error is want of memory.
+/// Gives amounts of the units of a level down to those of level 1. An error is want of memory.
 pub(crate) fn lanes_down(
-    alloc: Global,
     programme: &Programme,
     lanes: &Lanes,
     climbed: &Climbed,
     level: usize,
-    room: &mut Room,
-    parts: PlacedLanes,
-) -> Result<PlacedLanes, AllocError>
+    room: &mut LevelRoom,
+) -> Result<(), AllocError>
     requires climbed { IsClimbed programme.now lanes.now climbed.now }
-    requires room { HasRoom climbed.now.width room.old }
-    requires parts { ArePlaced climbed.now.width parts }
-    requires can { (k : ℕ) → k < climbed.now.width → CanGive programme.now (column k lanes.now) level (placed_at k parts) }
-    ensures room { OnOk result (HasRoom climbed.now.width room.new) }
-    ensures parts { IfOk result (ArePlaced climbed.now.width) }
-    ensures value { IfOk result (λ given. (k : ℕ) → k < climbed.now.width → placed_at k given ≡ levels_down false programme.now.levels (carried_at programme.now lanes.now k).rows level (placed_at k parts)) }
+    requires some { 1 ≤ level }
+    requires gives { GivesAt programme.now lanes.now climbed.now.width level room.old }
+    ensures gives { OnOk result (GivesAt programme.now lanes.now climbed.now.width 1 room.new) }
+    ensures value { OnOk result ((k : ℕ) → k < climbed.now.width → levels_down false programme.now.levels (carried_at programme.now lanes.now k).rows 1 (placed_at k room.new.parts) ≡ levels_down false programme.now.levels (carried_at programme.now lanes.now k).rows level (placed_at k room.old.parts)) }
 {
-    if level == 0 {
-        return Ok(parts);
+    if level == 1 {
+        return Ok(());
     }
     programme.is_of_a_tree();
     let next = level - 1;
     let below = lanes_at(lanes, &climbed.levels, next);
-    let given = level_down(
-        alloc,
-        programme.nodes_above(next),
-        climbed.width,
-        below,
-        room,
-        parts,
-    )?;
-    let last = lanes_down(alloc, programme, lanes, climbed, next, room, given)?;
-    Ok(last)
+    level_down(programme.nodes_above(next), climbed.width, below, room)?;
+    lanes_down(programme, lanes, climbed, next, room)?;
+    Ok(())
 }

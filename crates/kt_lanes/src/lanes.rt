@@ -77,6 +77,14 @@ impl Lanes {
         })
     }
 
+    /// Takes all lanes out. The room that they had stays.
+    pub(crate) fn clear(&mut self)
+        ensures value { self.new ≡ [] }
+    {
+        self.amounts.clear();
+        self.count = 0;
+    }
+
     /// How many lanes there are.
     pub fn len(&self) -> usize
         ensures value { result ≡ length self.now }

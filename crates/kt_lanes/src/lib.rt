@@ -17,8 +17,8 @@ mod shares;
 
 pub use amounts::Amounts;
 pub use by_id::{add_amounts_by_id, add_by_id};
-pub use climbing::{Climbed, climb};
-pub use lanes::{Lanes, more_of};
+pub use climbing::{Climbed, are_in_turn, climb};
+pub use down::{LevelRoom, level_room_of};
+pub use lanes::Lanes;
 pub use plain::{has_plain_units, layer_looks_back};
 pub use policy::{allocate_lanes, policy_lane};
-pub use shares::{Room, room_of};
