@@ -4,7 +4,6 @@ pub mod IdLemmas
 pub mod PairLemmas
 pub mod RowLemmas
 pub mod ByLanesLemmas
-pub mod GroupLemmas
 pub mod ByRowsLemmas
 pub mod TableLemmas
 pub mod WrittenLemmas

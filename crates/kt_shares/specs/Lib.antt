@@ -7,7 +7,6 @@ pub mod LossLanes
 pub mod Taken
 pub mod ByLanes
 pub mod Kept
-pub mod Groups
 pub mod HoldsLaws
 pub mod LookupLaws
 pub mod SharesLaws

@@ -1,6 +1,6 @@
 //! What layers have at all sidx of a run, by lanes: a lane has the amounts of a unit sidx by sidx.
 //! The rules: docs/FINANCIAL_MODULE.md, "Allocation", "Insured losses".
-ghost use Rattle.std.specs.Prelude.{◌≡◌, ◌≤◌, ◌<◌, ◌++◌, ℕ, [], ◌∷◌, List, true, length, All, IfOk, OnOk, slice_index};
+ghost use Rattle.std.specs.Prelude.{◌≡◌, ◌≤◌, ◌<◌, ◌++◌, ℕ, [], ◌∷◌, List, true, length, All, IfOk, OnOk};
 ghost use Rattle.std.specs.List.{AllByRecursion};
 ghost use Rattle.kt_tree.specs.Tree.{Tree};
 ghost use Rattle.kt_fmtree.specs.Carried.{loss_by};
@@ -8,23 +8,25 @@ ghost use Rattle.kt_fmtree.specs.Parts.{IsProgramme};
 ghost use Rattle.kt_lanes.specs.Lanes.{AreWide, column};
 ghost use Rattle.kt_lanes.specs.Climbed.{IsClimbed};
 ghost use Rattle.kt_lanes.specs.Policies.{IsPolicy};
-ghost use Rattle.kt_lanes.specs.Shares.{HasRoom};
+ghost use Rattle.kt_lanes.specs.Down.{HasLevelRoom};
 ghost use Rattle.kt_shares.specs.declared.layers.TopLayer.{TopLayer};
 ghost use Rattle.kt_shares.specs.Layers.{IsTopLayer};
 ghost use Rattle.kt_shares.specs.Shares.{shares};
 ghost use Rattle.kt_shares.specs.ByLanes.{AreLayers, IsPlainLayer};
 
-use crate::groups::LaneGroups;
 use crate::layers::TopLayer;
+use kt_alloc::zeros;
 use kt_fmtree::Programme;
-use kt_lanes::{Climbed, Lanes, Room, allocate_lanes, layer_looks_back, policy_lane, room_of};
+use kt_lanes::{
+    Climbed, Lanes, LevelRoom, allocate_lanes, layer_looks_back, level_room_of, policy_lane,
+};
 use std::alloc::{AllocError, Global};
 
 /// What layers have, sidx by sidx.
 #[derive(Drop)]
 pub(crate) struct LayerLanes {
     /// The lanes of the shares of all layers in cents, layer by layer.
-    pub shares: LaneGroups,
+    pub shares: Lanes,
     /// The lane of the policy losses of each layer in cents.
     pub policies: Lanes,
 }
@@ -42,48 +44,40 @@ pub(crate) fn are_plain(programme: &Programme, layers: &[TopLayer]) -> bool
     true
 }
 
-/// A lane that stays whole.
-fn whole(alloc: Global, policies: &[u64]) -> Result<Lanes, AllocError>
-    ensures wide { IfOk result (AreWide (length policies.now)) }
-    ensures value { IfOk result (λ made. (k : ℕ) → column k made ≡ slice_index policies.now k ∷ []) }
-{
-    let mut made = Lanes::new(alloc);
-    made.push(policies)?;
-    Ok(made)
-}
-
-/// What the policy losses of a layer are shared out to. An error is want of memory.
-fn shares_of(
+/// Puts what the policy losses of a layer are shared out to behind other lanes: by rule 0 they stay whole. An error is want of memory.
+fn push_shares(
     alloc: Global,
     programme: &Programme,
     lanes: &Lanes,
     climbed: &Climbed,
     rule: u32,
     one: TopLayer,
-    room: &mut Room,
+    room: &mut LevelRoom,
     policies: &[u64],
-) -> Result<Lanes, AllocError>
+    out: &mut Lanes,
+) -> Result<(), AllocError>
     requires rule { rule ≤ 2 }
     requires layer { IsTopLayer programme.now one }
     requires climbed { IsClimbed programme.now lanes.now climbed.now }
     requires policies { IsPolicy programme.now lanes.now climbed.now.width one.node one.layer policies.now }
-    requires room { HasRoom climbed.now.width room.old }
-    ensures room { OnOk result (HasRoom climbed.now.width room.new) }
-    ensures wide { IfOk result (AreWide climbed.now.width) }
-    ensures value { IfOk result (λ made. (tree : Tree) → IsProgramme tree programme.now → (k : ℕ) → k < climbed.now.width → column k made ≡ shares tree (loss_by tree.ids (column k lanes.now)) rule one.top one.layer) }
+    requires room { HasLevelRoom climbed.now.width room.old }
+    requires out { AreWide climbed.now.width out.old }
+    ensures room { OnOk result (HasLevelRoom climbed.now.width room.new) }
+    ensures wide { OnOk result (AreWide climbed.now.width out.new) }
+    ensures value { OnOk result ((tree : Tree) → IsProgramme tree programme.now → (k : ℕ) → k < climbed.now.width → column k out.new ≡ column k out.old ++ shares tree (loss_by tree.ids (column k lanes.now)) rule one.top one.layer) }
 {
     programme.is_of_a_tree();
     if rule == 0 {
-        let made = whole(alloc, policies)?;
-        return Ok(made);
+        out.push(policies)?;
+        return Ok(());
     }
-    let made = allocate_lanes(
-        alloc, programme, lanes, climbed, one.node, one.layer, rule, room, policies,
+    allocate_lanes(
+        alloc, programme, lanes, climbed, one.node, one.layer, rule, room, policies, out,
     )?;
-    Ok(made)
+    Ok(())
 }
 
-/// Puts what a layer has behind what others have. An error is want of memory.
+/// Puts what a layer has behind what others have. Its policy losses stand in the place of what a lane had. An error is want of memory.
 fn push_layer(
     alloc: Global,
     programme: &Programme,
@@ -91,7 +85,8 @@ fn push_layer(
     climbed: &Climbed,
     rule: u32,
     one: TopLayer,
-    room: &mut Room,
+    room: &mut LevelRoom,
+    policies: &mut [u64],
     made: &mut LayerLanes,
 ) -> Result<(), AllocError>
     requires rule { rule ≤ 2 }
@@ -100,24 +95,54 @@ fn push_layer(
     requires climbed { IsClimbed programme.now lanes.now climbed.now }
     requires shares_wide { AreWide climbed.now.width made.old.shares }
     requires policies_wide { AreWide climbed.now.width made.old.policies }
-    requires room { HasRoom climbed.now.width room.old }
-    ensures room { OnOk result (HasRoom climbed.now.width room.new) }
+    requires room { HasLevelRoom climbed.now.width room.old }
+    requires policies { length policies.old ≡ climbed.now.width }
+    ensures room { OnOk result (HasLevelRoom climbed.now.width room.new) }
+    ensures policies { OnOk result (length policies.new ≡ climbed.now.width) }
     ensures value { OnOk result ((before : List TopLayer) → AreLayers programme.now lanes.now climbed.now.width rule before made.old → AreLayers programme.now lanes.now climbed.now.width rule (before ++ one ∷ []) made.new) }
 {
-    let policies = policy_lane(alloc, programme, lanes, climbed, one.node, one.layer)?;
-    let shares = shares_of(alloc, programme, lanes, climbed, rule, one, room, &policies)?;
-    made.shares.push(shares)?;
-    made.policies.push(&policies)?;
+    policy_lane(programme, lanes, climbed, one.node, one.layer, policies);
+    push_shares(
+        alloc,
+        programme,
+        lanes,
+        climbed,
+        rule,
+        one,
+        room,
+        policies,
+        &mut made.shares,
+    )?;
+    made.policies.push(policies)?;
     Ok(())
 }
 
-/// No layers, with room for what so many have. An error is want of memory.
-fn no_layers(alloc: Global, count: usize, width: usize) -> Result<LayerLanes, AllocError>
+/// How many shares layers have in all: by rule 0 one each, and else one for each id beneath their tops.
+fn share_count(programme: &Programme, rule: u32, layers: &[TopLayer]) -> usize
+    requires layers { AllByRecursion (IsTopLayer programme.now) layers.now }
+{
+    if rule == 0 {
+        return layers.len();
+    }
+    let mut count: usize = 0;
+    for one in layers {
+        count = count.saturating_add(programme.beneath(one.node).len());
+    }
+    count
+}
+
+/// No layers, with room for so many shares and for what so many layers have. An error is want of memory.
+fn no_layers(
+    alloc: Global,
+    shares: usize,
+    layers: usize,
+    width: usize,
+) -> Result<LayerLanes, AllocError>
     ensures shares { IfOk result (λ made. made.shares ≡ []) }
     ensures policies { IfOk result (λ made. made.policies ≡ []) }
 {
-    let shares = LaneGroups::with_room(alloc, count)?;
-    let policies = Lanes::with_room(alloc, count, width)?;
+    let shares = Lanes::with_room(alloc, shares, width)?;
+    let policies = Lanes::with_room(alloc, layers, width)?;
     Ok(LayerLanes { shares, policies })
 }
 
@@ -136,11 +161,21 @@ pub(crate) fn layer_lanes(
     requires climbed { IsClimbed programme.now lanes.now climbed.now }
     ensures value { IfOk result (λ made. AreLayers programme.now lanes.now climbed.now.width rule layers.now made) }
 {
-    let mut room = room_of(alloc, climbed.width)?;
-    let mut made = no_layers(alloc, layers.len(), climbed.width)?;
+    let count = share_count(programme, rule, layers);
+    let mut made = no_layers(alloc, count, layers.len(), climbed.width)?;
+    let mut room = level_room_of(alloc, climbed.width)?;
+    let mut policies = zeros(alloc, climbed.width)?;
     for one in layers {
         push_layer(
-            alloc, programme, lanes, climbed, rule, *one, &mut room, &mut made,
+            alloc,
+            programme,
+            lanes,
+            climbed,
+            rule,
+            *one,
+            &mut room,
+            &mut policies,
+            &mut made,
         )?;
     }
     Ok(made)

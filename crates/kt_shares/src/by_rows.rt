@@ -8,7 +8,6 @@ ghost use Rattle.kt_shares.specs.Layers.{IsTopLayer};
 ghost use Rattle.kt_shares.specs.ByLanes.{AreLayers, AreLong, AreRows, amounts_at, row_in};
 
 use crate::by_lanes::LayerLanes;
-use crate::groups::LaneGroups;
 use crate::layers::TopLayer;
 use crate::row::row_of;
 use kt_alloc::zeros;
@@ -137,8 +136,5 @@ pub(crate) fn lanes_by_rows(
     let rows = rows_of(alloc, programme, width, lanes, rule, layers)?;
     let shares = turned(alloc, first_len(&rows.shares), &rows.shares)?;
     let policies = turned(alloc, layers.len(), &rows.policies)?;
-    Ok(LayerLanes {
-        shares: LaneGroups::of(alloc, shares)?,
-        policies,
-    })
+    Ok(LayerLanes { shares, policies })
 }

@@ -3,7 +3,6 @@
 
 mod by_lanes;
 mod by_rows;
-mod groups;
 mod layers;
 mod loss_lanes;
 mod losses;

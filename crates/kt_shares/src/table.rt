@@ -7,6 +7,7 @@ ghost use Rattle.kt_runs.specs.RunLosses.{AreWithin};
 ghost use Rattle.kt_tree.specs.Tree.{Tree};
 ghost use Rattle.kt_fmtree.specs.Parts.{IsProgramme};
 ghost use Rattle.kt_lanes.specs.Climbed.{AreLosses};
+ghost use Rattle.kt_lanes.specs.Lanes.{AreWide, column};
 ghost use Rattle.kt_shares.specs.Layers.{IsTopLayer, key_of};
 ghost use Rattle.kt_shares.specs.ByLanes.{AreLayers};
 ghost use Rattle.kt_shares.specs.Shares.{record_with};
@@ -14,7 +15,6 @@ ghost use Rattle.kt_shares.specs.Table.{HasAmounts, pairs_by_row, row_at, sample
 
 use crate::by_lanes::{LayerLanes, are_plain, layer_lanes};
 use crate::by_rows::lanes_by_rows;
-use crate::groups::LaneGroups;
 use crate::layers::TopLayer;
 use crate::loss_lanes::LossLanes;
 use crate::run_losses::{Listed, RunLosses};
@@ -33,7 +33,7 @@ use std::marker::Model;
 #[derive(Drop)]
 pub struct Table {
     rows: usize,
-    shares: LaneGroups,
+    shares: Lanes,
     policies: Lanes,
 }
 
@@ -145,6 +145,14 @@ impl Table {
         ensures total { result ≡ sampled_sum (λ row. slice_index row.totals place) self.now }
     {
         sum_of(self.policies(place))
+    }
+
+    /// The shares in all places in cents, as lanes: each place has what it is row by row.
+    pub fn into_shares(self) -> Lanes
+        ensures wide { AreWide (length self) result }
+        ensures value { (row : ℕ) → row < length self → column row result ≡ (row_at self row).shares }
+    {
+        self.shares
     }
 }
 

@@ -1,10 +1,11 @@
-use Rattle.std.proofs.Common.{take}
-use Rattle.kt_lanes.specs.Shares.{HasRoom}
+use Rattle.std.proofs.Common.{◌≡◌, length, take}
+use Rattle.kt_lanes.specs.Down.{HasLevelRoom}
 use Rattle.kt_shares.specs.ByLanes.{AreLayers}
 use Rattle.kt_shares.proofs.by_lanes.layer_lanes.Given as goal
 
 abbrev pub invariant-loop-one : goal.invariant-loop-one
 invariant-loop-one l = record {
-  room : HasRoom l.climbed.width l.room;
+  room : HasLevelRoom l.climbed.width l.room;
+  policies : length l.policies.items ≡ l.climbed.width;
   layers : AreLayers l.programme l.lanes l.climbed.width l.rule (take l.one-index l.layers) l.made;
 }

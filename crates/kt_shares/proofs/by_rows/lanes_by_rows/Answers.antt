@@ -28,7 +28,6 @@ returns c =
     record {
       value =
           rows-turned c.args.programme.now c.args.lanes.now c.args.rule c.args.layers.now c.args.width c.requires.lanes.some c.in_ok-rows.rows c.in_ok-rows.ensures.value _ _ _
-          (subst (λ (rows : List (Vec ℕ Global)). AreLanes (length rows) c.first_len.result (row_in rows) c.in_ok-of.field-0) c.deref-2.ensures.value
-          (subst (AreLanes (length c.deref-2.result.now) c.first_len.result (row_in c.deref-2.result.now)) (sym c.in_ok-of.ensures.value) c.in_ok-shares.ensures.value))
+          (subst (λ (rows : List (Vec ℕ Global)). AreLanes (length rows) c.first_len.result (row_in rows) c.in_ok-shares.shares) c.deref-2.ensures.value c.in_ok-shares.ensures.value)
           (subst (λ (rows : List (Vec ℕ Global)). AreLanes (length rows) (length c.args.layers.now) (row_in rows) policies) c.deref-3.ensures.value c.in_ok-policies.ensures.value);
     }
