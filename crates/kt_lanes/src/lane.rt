@@ -64,15 +64,3 @@ pub(crate) fn apply_lane(profile: &Profile, tiv: u64, lane: &mut [u64])
 {
     apply_each(profile, tiv, lane);
 }
-
-/// What a profile leaves of each loss of a lane.
-pub(crate) fn applied_lane(profile: &Profile, tiv: u64, lane: Vec<u64>) -> Vec<u64>
-    requires profile { IsProfile profile.now }
-    requires value { tiv ≤ 10 ^ 14 }
-    requires few { (k : ℕ) → k < length lane.items → slice_index lane.items k ≤ 10 ^ 16 }
-    ensures value { IsLane (length lane.items) (λ k. loss_after profile.now tiv (slice_index lane.items k)) result.items }
-{
-    let mut left = lane;
-    apply_lane(profile, tiv, &mut left);
-    left
-}
