@@ -156,6 +156,14 @@ module _ (width : ℕ) (lanes : List (List ℕ)) (start count : ℕ) where
 
 -- ---- one lane
 
+-- what holds of the numbers below one and of this holds of those below the next
+pub below-more : (P : ℕ → Type 0) (k : ℕ) → ((j : ℕ) → j < k → P j) → P k → (j : ℕ) → j < k + 1 → P j
+below-more P k earlier here j below = by (cases_eq j k)
+  where
+    by : (j ≡ k) ⊎ (j ≢ k) → P j
+    by (inl same) = subst P (sym same) here
+    by (inr differ) = earlier j (omega (arith, below, differ))
+
 -- a lane that is written from its start on: what was written, and what is left
 pub record IsWritten (width k : ℕ) (new old : ℕ → ℕ) (lane : List ℕ) : Type 0 where
   pub wide : length lane ≡ width

@@ -4,6 +4,7 @@ pub mod Climbed
 pub mod ClimbedLaws
 pub mod Shares
 pub mod SharesLaws
+pub mod SplitLaws
 pub mod SideBySide
 pub mod Down
 pub mod DownLaws

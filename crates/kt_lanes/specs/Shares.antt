@@ -1,6 +1,6 @@
 -- Totals that are shared out over lanes, child by child.
 -- The rule: docs/CALCULATION.md, "Share-out".
-use Rattle.std.specs.Prelude.{◌≡◌, ℕ, ◌<◌, ◌≤◌, ◌^◌, List, length, slice_index, take, ◌++◌}
+use Rattle.std.specs.Prelude.{◌≡◌, ℕ, ◌+◌, ◌-◌, ◌<◌, ◌≤◌, ◌^◌, List, length, slice_index, take, ◌++◌}
 use Rattle.std.specs.List.{sum}
 use Rattle.kt_money.specs.Sharing.{share_to, share_out}
 use Rattle.kt_lanes.specs.Lanes.{column, AreLanes, AreWide, IsLane}
@@ -19,6 +19,18 @@ pub record CanShare (totals : List ℕ) (children : List (List ℕ)) : Type 0 wh
   pub wide : AreWide (length totals) children
   pub few : (k : ℕ) → k < length totals → sum (column k children) ≤ 10 ^ 16
   pub backed : (k : ℕ) → k < length totals → slice_index totals k ≤ sum (column k children)
+
+-- totals can be shared out over the lanes of two children
+pub record CanSplit (totals first second : List ℕ) : Type 0 where
+  pub first_wide : length first ≡ length totals
+  pub second_wide : length second ≡ length totals
+  pub few : (k : ℕ) → k < length totals → slice_index first k + slice_index second k ≤ 10 ^ 16
+  pub backed : (k : ℕ) → k < length totals → slice_index totals k ≤ slice_index first k + slice_index second k
+
+-- of totals the first of two children has its part, and the second what is left
+pub record AreSplit (totals first second parts rests : List ℕ) : Type 0 where
+  pub parts_are : IsLane (length totals) (λ k. share_to (slice_index totals k) (slice_index first k + slice_index second k) (slice_index first k)) parts
+  pub rests_are : IsLane (length totals) (λ k. slice_index totals k - share_to (slice_index totals k) (slice_index first k + slice_index second k) (slice_index first k)) rests
 
 -- how far totals are shared out over the lanes of children: what the first of them were paid, and their shares
 pub record AreSharing (totals : List ℕ) (children : List (List ℕ)) (at : ℕ) (paid : List ℕ) (shares : List (List ℕ)) : Type 0 where

@@ -42,8 +42,12 @@ only-share total (w ∷ []) one few =
     let same : total ≡ share = omega (arith, all, sum_by-cons (λ (n : ℕ). n) share []) in
     ap (λ n. n ∷ []) same
 
+-- no weights are due nothing
+pub none-due : (total weights : ℕ) → share_to total weights 0 ≡ 0
+none-due total weights = let e : total * 0 ≡ 0 = omega arith in ap (λ n. n / weights) e ∙ zero-div weights
+
 -- all weights together are due the whole
-whole-due : (total weights : ℕ) → total ≤ weights → total ≡ share_to total weights weights
+pub whole-due : (total weights : ℕ) → total ≤ weights → total ≡ share_to total weights weights
 whole-due total zero few = let none : total ≡ 0 = omega arith in none ∙ sym (div-zero (total * zero))
 whole-due total (suc n) few = sym (mul-div_cancel total {n = suc n} (omega arith))
 
@@ -59,12 +63,9 @@ module _ (totals : List ℕ) (children : List (List ℕ)) where
   -- nothing is shared out at first
   sharing-begins : AreSharing totals children 0 (replicate (length totals) 0) []
   sharing-begins = record {
-    paid_is = record { wide = length-replicate (length totals) 0; each = λ k below. get_or-replicate (length totals) k 0 0 below ∙ sym (none (slice_index totals k) (sum (column k children))) };
+    paid_is = record { wide = length-replicate (length totals) 0; each = λ k below. get_or-replicate (length totals) k 0 0 below ∙ sym (none-due (slice_index totals k) (sum (column k children))) };
     shares_are = lanes-none (length totals) (λ k. take 0 (share_out (slice_index totals k) (column k children))) (λ k below. refl);
   }
-    where
-      none : (total weights : ℕ) → share_to total weights 0 ≡ 0
-      none total weights = let e : total * 0 ≡ 0 = omega arith in ap (λ n. n / weights) e ∙ zero-div weights
 
   -- all children have their shares
   sharing-ends : (at : ℕ) (paid : List ℕ) (shares : List (List ℕ)) → at ≡ length children → AreSharing totals children at paid shares → AreLanes (length totals) (length children) (λ k. share_out (slice_index totals k) (column k children)) shares

@@ -14,6 +14,8 @@ mod policy;
 mod quotient;
 mod shared;
 mod shares;
+mod split;
+mod tested;
 
 pub use amounts::Amounts;
 pub use by_id::{add_amounts_by_id, add_by_id};

@@ -13,12 +13,14 @@ pub(crate) const AT_ONCE: usize = 4;
 /// How many numbers of 32 bits there are.
 pub(crate) const NARROW: u64 = 4_294_967_296;
 
-/// Somewhat more than a half: the whole number that is nearest to a part and this is one more than the part rounded down, and of a part
-/// that is as good as whole one more than that.
-const HALF: f64 = 0.500_01;
-
 /// The bits of 2^52 as a float. A number of 32 bits in the lowest of them is added to it.
 const LIFT_BITS: u64 = 0x4330_0000_0000_0000;
+
+/// 2^33. Where it is added to a number of 32 bits and a fraction, that number stands in the bits of the sum above its fraction.
+const RAISE: f64 = 8_589_934_592.0;
+
+/// How many bits the fraction of such a sum has.
+const FRACTION_BITS: u64 = 19;
 
 /// The bits of the float that is 2^52 and a number of 32 bits; of any other, of some such float.
 #[inline]
@@ -42,19 +44,29 @@ fn floats_of(lane: &[u64], at: usize) -> f64x4
     f64x4::from_bits(bits) - f64x4::splat(LIFT)
 }
 
-/// 2^52 and 1.
-const LIFTED_ONE: f64 = 4_503_599_627_370_497.0;
-
-/// Numbers from 0 to 2^32, to the nearest whole numbers, and 1 for what is no number, as 0 divided by 0; of any other, some number.
-/// Where 2^52 is added to one, the whole number stands in its lowest bits.
+/// The sums of four amounts of two lanes, from a place on, as floats; for any of more than 32 bits, some number.
 #[inline]
-fn nearest_wholes(x: f64x4) -> u64x4 {
-    let lift = f64x4::splat(LIFT);
-    let lifted = x + lift;
-    lifted
-        .simd_ge(lift)
-        .select(lifted, f64x4::splat(LIFTED_ONE))
-        .to_bits()
+fn floats_of_sums(first: &[u64], second: &[u64], at: usize) -> f64x4
+    requires first { at + 4 ≤ length first.now }
+    requires second { at + 4 ≤ length second.now }
+{
+    let bits = u64x4::from_array([
+        lifted_bits(first[at].wrapping_add(second[at])),
+        lifted_bits(first[at + 1].wrapping_add(second[at + 1])),
+        lifted_bits(first[at + 2].wrapping_add(second[at + 2])),
+        lifted_bits(first[at + 3].wrapping_add(second[at + 3])),
+    ]);
+    f64x4::from_bits(bits) - f64x4::splat(LIFT)
+}
+
+/// Numbers from 0 to 2^32, rounded down but where they are whole but for a millionth, and 0 for what is no number, as 0 divided by 0; of
+/// any other, some number.
+#[inline]
+fn rounded_down(x: f64x4) -> u64x4 {
+    let raise = f64x4::splat(RAISE);
+    let raised = x + raise;
+    let bits = raised.simd_ge(raise).select(raised, raise).to_bits();
+    (bits >> u64x4::splat(FRACTION_BITS)) & u64x4::splat(NARROW - 1)
 }
 
 /// What four parts are likely to be: 0 of no weights.
@@ -64,8 +76,15 @@ pub(crate) fn likely_parts(totals: &[u64], weights: &[u64], upto: &[u64], at: us
     requires upto_wide { length upto.now ≡ length totals.now }
     requires within { at + 4 ≤ length totals.now }
 {
-    let products = floats_of(totals, at) * floats_of(upto, at);
-    let parts = products / floats_of(weights, at);
-    let above = nearest_wholes(parts + f64x4::splat(HALF));
-    (above - u64x4::splat(1)) & u64x4::splat(NARROW - 1)
+    rounded_down(floats_of(totals, at) * floats_of(upto, at) / floats_of(weights, at))
+}
+
+/// What four parts that fall to the first of two children are likely to be: 0 of no weights.
+#[inline]
+pub(crate) fn likely_shares(totals: &[u64], first: &[u64], second: &[u64], at: usize) -> u64x4
+    requires first_wide { length first.now ≡ length totals.now }
+    requires second_wide { length second.now ≡ length totals.now }
+    requires within { at + 4 ≤ length totals.now }
+{
+    rounded_down(floats_of(totals, at) * floats_of(first, at) / floats_of_sums(first, second, at))
 }

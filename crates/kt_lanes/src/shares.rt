@@ -10,6 +10,7 @@ ghost use Rattle.kt_lanes.specs.SideBySide.{AreBehind};
 use crate::lane::{add_to, sum_lanes};
 use crate::lanes::Lanes;
 use crate::parts::find_parts;
+use crate::split::split_totals;
 use kt_alloc::zeros;
 use std::alloc::{AllocError, Global};
 
@@ -81,17 +82,33 @@ fn take_paid(totals: &[u64], paid: &mut [u64])
     }
 }
 
-/// Puts the lane of the first child in the place of what a lane has, where others stand between it and the last.
-fn begin_upto(first: &[u64], count: usize, upto: &mut [u64])
-    requires same { length first.now ≡ length upto.old }
-    ensures value { 2 < count → upto.new ≡ first.now }
+/// Puts shares of totals behind others, as `share_lanes`, where there are two children.
+fn push_two(
+    totals: &[u64],
+    lanes: &Lanes,
+    start: usize,
+    parts: &mut [u64],
+    rests: &mut [u64],
+    out: &mut Lanes,
+) -> Result<(), AllocError>
+    requires within { start + 2 ≤ length lanes.now }
+    requires wide { AreWide (length totals.now) lanes.now }
+    requires parts_wide { length parts.old ≡ length totals.now }
+    requires rests_wide { length rests.old ≡ length totals.now }
+    requires out { AreWide (length totals.now) out.old }
+    requires can { CanShare totals.now (take 2 (drop start lanes.now)) }
+    ensures value { OnOk result (AreBehind (length totals.now) 2 (λ k. share_out (slice_index totals.now k) (column k (take 2 (drop start lanes.now)))) out.old out.new) }
 {
-    if 2 < count {
-        upto.copy_from_slice(first);
-    }
+    let _all = lanes.len();
+    let first = lanes.lane(start);
+    let second = lanes.lane(start + 1);
+    split_totals(totals, first, second, parts, rests);
+    out.push(parts)?;
+    out.push(rests)?;
+    Ok(())
 }
 
-/// Puts shares of totals behind others, as `share_lanes`, where there are two children or more. The share of the first is its part:
+/// Puts shares of totals behind others, as `share_lanes`, where there are three children or more. The share of the first is its part:
 /// nothing was paid before.
 fn push_shares(
     totals: &[u64],
@@ -104,7 +121,7 @@ fn push_shares(
     share: &mut [u64],
     out: &mut Lanes,
 ) -> Result<(), AllocError>
-    requires some { 1 < count }
+    requires some { 2 < count }
     requires within { start + count ≤ length lanes.now }
     requires wide { AreWide (length totals.now) lanes.now }
     requires weights_wide { length weights.old ≡ length totals.now }
@@ -120,7 +137,7 @@ fn push_shares(
     let first = lanes.lane(start);
     find_parts(totals, weights, first, paid);
     out.push(paid)?;
-    begin_upto(first, count, upto);
+    upto.copy_from_slice(first);
     let last = count - 1;
     for at in 1..last {
         add_to(upto, lanes.lane(start + at));
@@ -157,6 +174,9 @@ pub(crate) fn share_lanes(
     if count == 1 {
         out.push(totals)?;
         return Ok(());
+    }
+    if count == 2 {
+        return push_two(totals, lanes, start, &mut room.paid, &mut room.share, out);
     }
     push_shares(
         totals,

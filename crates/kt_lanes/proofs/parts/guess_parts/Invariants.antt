@@ -6,6 +6,3 @@ invariant-loop-at l = record { wide : length l.parts ≡ length l.totals; within
 
 abbrev pub decreases-loop-at : goal.decreases-loop-at
 decreases-loop-at l = length l.totals - l.at
-
-abbrev pub invariant-loop-k : goal.invariant-loop-k
-invariant-loop-k l = length l.parts ≡ length l.totals

@@ -19,14 +19,13 @@ first-is c =
 upto-is : (c : After-add_to) → IsLane (length c.args.totals.now) (λ k. sum (column k (take (c.loop-at.at + 1) (take c.args.count (drop c.args.start c.args.lanes.now))))) c.add_to.new.lane
 upto-is c =
     let below : c.loop-at.at < c.args.count = omega (arith, c.loop-at-test.true) in
-    let more : 2 < c.args.count = omega (arith, c.loop-at-test.true, c.loop-at.auto.at) in
-    sums-more (length c.args.totals.now) c.args.lanes.now c.args.start c.args.count c.requires.within c.requires.can.few c.loop-at.at below c.lane.result.now c.lane.ensures.value c.loop-at.upto (c.loop-at.invariant.upto more) c.add_to.new.lane c.add_to.ensures.value
+    sums-more (length c.args.totals.now) c.args.lanes.now c.args.start c.args.count c.requires.within c.requires.can.few c.loop-at.at below c.lane.result.now c.lane.ensures.value c.loop-at.upto c.loop-at.invariant.upto c.add_to.new.lane c.add_to.ensures.value
 
 pub find_parts-requires-clause-can : goal.find_parts-requires-clause-can
 find_parts-requires-clause-can c = can-part c.args.totals.now (take c.args.count (drop c.args.start c.args.lanes.now)) c.requires.can c.sum_lanes.new.sums (weights-are (goal.at.find_parts-requires-clause-can c).After-sum_lanes) 0 c.lane-first.result.now (first-is (goal.at.find_parts-requires-clause-can c).After-lane-first)
 
-pub begin_upto-requires : goal.begin_upto-requires
-begin_upto-requires c = record { same = (first-is (goal.at.begin_upto-requires c).After-lane-first).wide ∙ sym c.requires.upto_wide }
+pub copy_from_slice-requires : goal.copy_from_slice-requires
+copy_from_slice-requires c = c.requires.upto_wide ∙ sym (first-is (goal.at.copy_from_slice-requires c).After-lane-first).wide
 
 pub loop-at-init : goal.loop-at-init
 loop-at-init c =
@@ -35,7 +34,7 @@ loop-at-init c =
     let first_is = first-is (goal.at.loop-at-init c).After-lane-first in
     let some : 0 < length children = omega (arith, c.requires.some, part-count c.args.start c.args.count c.args.lanes.now c.requires.within) in
     record {
-      upto = λ more. subst (λ (lane : List ℕ). IsLane (length totals) (λ k. sum (column k (take 1 children))) lane) (sym (c.begin_upto.ensures.value more)) first_is;
+      upto = subst (λ (lane : List ℕ). IsLane (length totals) (λ k. sum (column k (take 1 children))) lane) (sym c.copy_from_slice.ensures.after) first_is;
       sharing =
           behind-first totals children c.args.out.now c.push.new.self c.find_parts.new.parts c.requires.out c.in_ok-push.ensures.ok
           (sharing-first totals children c.requires.can c.sum_lanes.new.sums (weights-are (goal.at.loop-at-init c).After-sum_lanes) some c.lane-first.result.now first_is c.find_parts.new.parts c.find_parts.ensures.value);
@@ -46,8 +45,7 @@ overflow_add-start c = record { fits = omega (arith, c.len-all.ensures.value, c.
 
 pub add_to-requires-clause-few : goal.add_to-requires-clause-few
 add_to-requires-clause-few c =
-    let more : 2 < c.args.count = omega (arith, c.loop-at-test.true, c.loop-at.auto.at) in
-    let upto_is = c.loop-at.invariant.upto more in
+    let upto_is = c.loop-at.invariant.upto in
     λ k below.
     sums-fit (length c.args.totals.now) c.args.lanes.now c.args.start c.args.count c.requires.within c.requires.can.few c.loop-at.at (omega (arith, c.loop-at-test.true)) c.lane.result.now c.lane.ensures.value c.loop-at.upto upto_is k (omega (arith, below, upto_is.wide))
 
@@ -69,7 +67,7 @@ loop-at-preserved c =
     let so_far = c.loop-at.invariant.sharing in
     let upto_is = upto-is (goal.at.loop-at-preserved c).After-add_to in
     record {
-      upto = λ _. upto_is;
+      upto = upto_is;
       sharing =
           behind-goes totals children c.loop-at.at c.loop-at.paid c.args.out.now c.loop-at.out so_far c.pay_share.new.share c.push-in-loop-at.new.self c.in_ok-push-2.ensures.ok c.pay_share.new.paid c.pay_share.ensures.share.wide
           (sharing-goes totals children c.requires.can c.sum_lanes.new.sums (weights-are (goal.at.loop-at-preserved c).After-sum_lanes) c.loop-at.at c.add_to.new.lane upto_is inside c.loop-at.paid so_far.shares so_far.sharing c.pay_share.new.paid c.pay_share.new.share c.pay_share.ensures.paid c.pay_share.ensures.share);
