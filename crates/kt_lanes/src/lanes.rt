@@ -1,8 +1,8 @@
 //! Lanes side by side: what each unit has sidx by sidx, one unit behind the other.
 //! The rules: docs/FINANCIAL_MODULE.md, "Levels".
-ghost use Rattle.std.specs.Prelude.{◌≡◌, ℕ, ◌+◌, ◌*◌, ◌<◌, ◌^◌, [], ◌∷◌, ◌++◌, length, replicate, slice_index, slice_index_or, IfOk, OnErr, OnOk};
-ghost use Rattle.kt_lanes.specs.Lanes.{AreLanes, AreWide};
-ghost use Rattle.kt_lanes.specs.SideBySide.{HasMore, IsAdded};
+ghost use Rattle.std.specs.Prelude.{◌≡◌, ℕ, ◌+◌, ◌-◌, ◌*◌, ◌<◌, ◌^◌, [], ◌∷◌, ◌++◌, length, replicate, slice_index, slice_index_or, IfOk, OnErr, OnOk};
+ghost use Rattle.kt_lanes.specs.Lanes.{AreLanes, AreWide, IsLane};
+ghost use Rattle.kt_lanes.specs.SideBySide.{HasMore, IsAdded, IsLessened};
 
 use crate::amounts::{Amounts, OneLane};
 use kt_alloc::zeros;
@@ -36,6 +36,16 @@ fn size_of(count: usize, width: usize) -> Result<usize, AllocError>
     match width.checked_mul(count) {
         Some(size) => Ok(size),
         None => Err(AllocError),
+    }
+}
+
+/// Takes the amounts of a lane in cents from those of another, sidx by sidx: one of which more is taken becomes 0.
+fn take_from(lane: &mut [u64], less: &[u64])
+    requires same { length less.now ≡ length lane.old }
+    ensures value { IsLane (length lane.old) (λ k. slice_index lane.old k - slice_index less.now k) lane.new }
+{
+    for k in 0..lane.len() {
+        lane[k] = lane[k].saturating_sub(less[k]);
     }
 }
 
@@ -149,6 +159,17 @@ impl Lanes {
         let start = self.width * place;
         let end = start + self.width;
         more.add_to(&mut self.amounts[start..end]);
+    }
+
+    /// Takes the amounts of a lane in cents from those of the lane in a place, where they stand: one of which more is taken becomes 0.
+    pub fn lessen(&mut self, place: usize, less: &[u64])
+        requires place { place < length self.old }
+        requires wide { AreWide (length less.now) self.old }
+        ensures value { IsLessened place less.now self.old self.new }
+    {
+        let start = self.width * place;
+        let end = start + self.width;
+        take_from(&mut self.amounts[start..end], less);
     }
 }
 
