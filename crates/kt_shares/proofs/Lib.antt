@@ -8,3 +8,6 @@ pub mod ByRowsLemmas
 pub mod TableLemmas
 pub mod WrittenLemmas
 pub mod LossLanesLemmas
+pub mod HeadLemmas
+pub mod LessLemmas
+pub mod TableLossesLemmas

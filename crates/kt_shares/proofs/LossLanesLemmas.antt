@@ -1,40 +1,51 @@
 -- The records that lanes stand for, place by place.
-use Rattle.std.proofs.Common.{◌≡◌, ℕ, zero, suc, ◌+◌, ◌<◌, List, [], ◌∷◌, ◌++◌, length, map, slice_index, slice_index_or, take, refl, sym, ap, subst, ◌∙◌, arith, append-nil}
-use Rattle.std.specs.Prelude.{All}
+use Rattle.std.proofs.Common.{◌≡◌, ℕ, zero, suc, ◌+◌, ◌<◌, List, [], ◌∷◌, ◌++◌, length, slice_index, slice_index_or, take, refl, sym, ap, subst, ◌∙◌, arith, append-nil}
 use Rattle.std.specs.List.{AllByRecursion, cons_option}
 use Rattle.std.specs.List.Sorted.{IsNonDecreasingBy, IsPermutation}
-use Rattle.std.proofs.lemmas.List.{get_or-map, get_or_default, length-map, length-take-le, map-append, take_more}
-use Rattle.std.proofs.lemmas.List.Elements.{All-from_recursion}
+use Rattle.std.proofs.lemmas.List.{get_or-map, get_or_append_left, get_or_push, length-map, length_push, map-append, map_push, take_more}
+use Rattle.std.proofs.lemmas.List.Elements.{All-push, recursion_from_All}
 use Rattle.std.proofs.lemmas.List.Sorted.{All-permutation, IsPermutation-map}
 use Rattle.kt_stream.specs.declared.entry.LossRecord.{LossRecord}
 use Rattle.kt_stream.specs.declared.entry.Pair.{Pair}
 use Rattle.kt_runs.specs.RunLosses.{event_of}
-use Rattle.kt_shares.specs.LossLanes.{deviation_of, id_places, lane_record, lane_records}
+use Rattle.kt_shares.specs.LossLanes.{HaveLanes, deviation_of, head_record, lane_record, lane_records, no_head}
 use Rattle.kt_shares.specs.LossLanesLaws.{deviation-loss}
 use Rattle.kt_shares.specs.Shares.{ids_of, record_with}
 use Rattle.kt_shares.specs.Table.{pairs_by_row, pairs_with}
-use Rattle.kt_shares.specs.declared.loss_lanes.IdPlace.{IdPlace}
-use Rattle.kt_shares.specs.declared.loss_lanes.LossHead.{LossHead}
+use Rattle.kt_shares.specs.declared.heads.LossHead.{LossHead}
 
--- there is a record for each lane
-pub records-length : (heads : List LossHead) (lanes : List (List ℕ)) → length heads ≡ length lanes → length (lane_records heads lanes) ≡ length heads
-records-length [] lanes same = refl
-records-length (head ∷ heads) [] same = absurd (omega (arith, same))
-records-length (head ∷ heads) (lane ∷ lanes) same = ap suc (records-length heads lanes (omega (arith, same)))
+-- there is a record for each head
+pub records-length : (heads : List LossHead) (lanes : List (List ℕ)) → length (lane_records heads lanes) ≡ length heads
+records-length heads lanes = length-map heads (head_record lanes)
 
--- the record in a place is that of its lane
-pub records-at : (heads : List LossHead) (lanes : List (List ℕ)) → length heads ≡ length lanes → (place : ℕ) (head : LossHead) (lane : List ℕ) → place < length heads → (d : LossRecord) → lane_record (slice_index_or heads place head) (slice_index_or lanes place lane) ≡ slice_index_or (lane_records heads lanes) place d
-records-at [] lanes same place head lane below d = absurd (omega (arith, below))
-records-at (one ∷ heads) [] same place head lane below d = absurd (omega (arith, same))
-records-at (one ∷ heads) (first ∷ lanes) same zero head lane below d = refl
-records-at (one ∷ heads) (first ∷ lanes) same (suc place) head lane below d = records-at heads lanes (omega (arith, same)) place head lane (omega (arith, below)) d
+-- the record in a place is that of its head
+pub records-at : (heads : List LossHead) (lanes : List (List ℕ)) (place : ℕ) → place < length heads → (d : LossRecord) → head_record lanes (slice_index_or heads place no_head) ≡ slice_index_or (lane_records heads lanes) place d
+records-at heads lanes place below d = sym (get_or-map (head_record lanes) heads place no_head d below)
 
--- one more behind the others
-pub records-more : (heads : List LossHead) (lanes : List (List ℕ)) → length heads ≡ length lanes → (head : LossHead) (lane : List ℕ) → lane_records (heads ++ head ∷ []) (lanes ++ lane ∷ []) ≡ lane_records heads lanes ++ lane_record head lane ∷ []
-records-more [] [] same head lane = refl
-records-more [] (first ∷ lanes) same head lane = absurd (omega (arith, same))
-records-more (one ∷ heads) [] same head lane = absurd (omega (arith, same))
-records-more (one ∷ heads) (first ∷ lanes) same head lane = ap (λ (rest : List LossRecord). lane_record one first ∷ rest) (records-more heads lanes (omega (arith, same)) head lane)
+-- a lane behind the others changes no record
+pub records-kept : (heads : List LossHead) (lanes : List (List ℕ)) → HaveLanes lanes heads → (lane : List ℕ) → lane_records heads (lanes ++ lane ∷ []) ≡ lane_records heads lanes
+records-kept heads lanes have lane = over heads (recursion_from_All (λ (head : LossHead). head.place < length lanes) heads have)
+  where
+    over : (heads : List LossHead) → AllByRecursion (λ (head : LossHead). head.place < length lanes) heads → lane_records heads (lanes ++ lane ∷ []) ≡ lane_records heads lanes
+    over [] have = refl
+    over (head ∷ heads) have =
+        ap (λ (one : List ℕ). lane_record head one ∷ lane_records heads (lanes ++ lane ∷ [])) (get_or_append_left lanes (lane ∷ []) [] head.place have.0)
+        ∙ ap (λ (rest : List LossRecord). head_record lanes head ∷ rest) (over heads have.1)
+
+-- and with its head it is one more
+pub records-more : (heads : List LossHead) (lanes : List (List ℕ)) → HaveLanes lanes heads → (head : LossHead) (lane : List ℕ) → head.place ≡ length lanes → lane_records (heads ++ head ∷ []) (lanes ++ lane ∷ []) ≡ lane_records heads lanes ++ lane_record head lane ∷ []
+records-more heads lanes have head lane place_is =
+    map_push (head_record (lanes ++ lane ∷ [])) heads head
+    ∙ (ap (λ (front : List LossRecord). front ++ head_record (lanes ++ lane ∷ []) head ∷ []) (records-kept heads lanes have lane)
+    ∙ ap (λ (one : List ℕ). lane_records heads lanes ++ lane_record head one ∷ []) (get_or_push lanes lane [] head.place (sym place_is)))
+
+-- heads have lanes where one stands behind the others
+pub have-kept : (heads : List LossHead) (lanes : List (List ℕ)) → HaveLanes lanes heads → (lane : List ℕ) → HaveLanes (lanes ++ lane ∷ []) heads
+have-kept heads lanes have lane = λ k d below. omega (arith, have k d below, length_push lanes lane)
+
+pub have-more : (heads : List LossHead) (lanes : List (List ℕ)) → HaveLanes lanes heads → (head : LossHead) (lane : List ℕ) → head.place ≡ length lanes → HaveLanes (lanes ++ lane ∷ []) (heads ++ head ∷ [])
+have-more heads lanes have head lane place_is =
+    All-push (λ (head : LossHead). head.place < length (lanes ++ lane ∷ [])) heads head (have-kept heads lanes have lane) (omega (arith, place_is, length_push lanes lane))
 
 -- the ids of one record more
 pub ids-next : (records : List LossRecord) (place : ℕ) (ids next : List ℕ) (id : ℕ) (d : LossRecord) → place < length records → ids ≡ ids_of (take place records) → next ≡ ids ++ id ∷ [] → id ≡ (slice_index_or records place d).id → next ≡ ids_of (take (place + 1) records)
@@ -98,86 +109,19 @@ no-deviation deviation lane none = ap (λ (n : ℕ). pairs_with n lane) none
 
 -- ---- the order of ids
 
--- the places of one record more
-pub places-more : (first : ℕ) (records : List LossRecord) (entry : LossRecord) → id_places first (records ++ entry ∷ []) ≡ id_places first records ++ record { id = entry.id; place = first + length records } ∷ []
-places-more first [] entry = ap (λ (at : ℕ). record { id = entry.id; place = at } ∷ []) (omega arith)
-places-more first (one ∷ records) entry =
-    ap (λ (rest : List IdPlace). record { id = one.id; place = first } ∷ rest)
-    (places-more (first + 1) records entry ∙ ap (λ (at : ℕ). id_places (first + 1) records ++ record { id = entry.id; place = at } ∷ []) (omega arith))
+module _ (heads sorted : List LossHead) (moved : IsPermutation heads sorted) (lanes : List (List ℕ)) where
+  -- heads in another order have lanes
+  pub sorted-have : HaveLanes lanes heads → HaveLanes lanes sorted
+  sorted-have have = All-permutation (λ (head : LossHead). head.place < length lanes) heads sorted moved have
 
-pub places-next : (records : List LossRecord) (place : ℕ) (places next : List IdPlace) (id : ℕ) (d : LossRecord) → place < length records → places ≡ id_places 0 (take place records) → next ≡ places ++ record { id = id; place = place } ∷ [] → id ≡ (slice_index_or records place d).id → next ≡ id_places 0 (take (place + 1) records)
-places-next records place places next id d below places_are next_is id_is =
-    let long : place ≡ 0 + length (take place records) = omega (arith, length-take-le place records (omega (arith, below))) in
-    let entry = slice_index_or records place d in
-    next_is
-    ∙ (ap (λ (front : List IdPlace). front ++ record { id = id; place = place } ∷ []) places_are
-    ∙ (ap (λ (n : ℕ). id_places 0 (take place records) ++ record { id = n; place = place } ∷ []) id_is
-    ∙ (ap (λ (at : ℕ). id_places 0 (take place records) ++ record { id = entry.id; place = at } ∷ []) long
-    ∙ sym (ap (id_places 0) (take_more records place d below) ∙ places-more 0 (take place records) entry))))
+  -- their records are these records in that order
+  pub sorted-moved : IsPermutation (lane_records heads lanes) (lane_records sorted lanes)
+  sorted-moved = IsPermutation-map (head_record lanes) heads sorted moved
 
--- where records stand at places from one on
-abbrev Stand : (ℕ → LossRecord) → ℕ → List LossRecord → Type 0
-Stand at first records = (k : ℕ) (d : LossRecord) → k < length records → at (first + k) ≡ slice_index_or records k d
-
-stand-behind : (at : ℕ → LossRecord) (first : ℕ) (entry : LossRecord) (records : List LossRecord) → Stand at first (entry ∷ records) → Stand at (first + 1) records
-stand-behind at first entry records stand k d below = ap at (omega arith) ∙ stand (suc k) d (omega (arith, below))
-
-stand-first : (at : ℕ → LossRecord) (first : ℕ) (entry : LossRecord) (records : List LossRecord) → Stand at first (entry ∷ records) → at first ≡ entry
-stand-first at first entry records stand = ap at (omega arith) ∙ stand 0 entry (omega arith)
-
--- their places give them back
-places-back : (at : ℕ → LossRecord) (first : ℕ) (records : List LossRecord) → Stand at first records → map (λ (one : IdPlace). at one.place) (id_places first records) ≡ records
-places-back at first [] stand = refl
-places-back at first (entry ∷ records) stand =
-    ap (λ (front : LossRecord). front ∷ map (λ (one : IdPlace). at one.place) (id_places (first + 1) records)) (stand-first at first entry records stand)
-    ∙ ap (λ (rest : List LossRecord). entry ∷ rest) (places-back at (first + 1) records (stand-behind at first entry records stand))
-
--- and have their ids
-places-ids : (at : ℕ → LossRecord) (first : ℕ) (records : List LossRecord) → Stand at first records → AllByRecursion (λ (one : IdPlace). one.id ≡ (at one.place).id) (id_places first records)
-places-ids at first [] stand = tt
-places-ids at first (entry ∷ records) stand = (
-  sym (ap (λ (one : LossRecord). one.id) (stand-first at first entry records stand)),
-  places-ids at (first + 1) records (stand-behind at first entry records stand),
-)
-
--- they are places of records
-places-inside : (first : ℕ) (records : List LossRecord) → AllByRecursion (λ (one : IdPlace). one.place < first + length records) (id_places first records)
-places-inside first [] = tt
-places-inside first (entry ∷ records) = (
-  omega arith,
-  subst (λ (n : ℕ). AllByRecursion (λ (one : IdPlace). one.place < n) (id_places (first + 1) records)) (omega arith) (places-inside (first + 1) records),
-)
-
-module _ (records : List LossRecord) (sorted : List IdPlace) (moved : IsPermutation (id_places 0 records) sorted) where
-  -- however they stand
-  pub sorted-inside : All (λ (one : IdPlace). one.place < length records) sorted
-  sorted-inside =
-      All-permutation (λ (one : IdPlace). one.place < length records) (id_places 0 records) sorted moved
-      (All-from_recursion (λ (one : IdPlace). one.place < length records) (id_places 0 records)
-      (subst (λ (n : ℕ). AllByRecursion (λ (one : IdPlace). one.place < n) (id_places 0 records)) (omega arith) (places-inside 0 records)))
-
-  module _ (d : LossRecord) where
-    -- the record in a place
-    abbrev pub at_place : ℕ → LossRecord
-    at_place place = slice_index_or records place d
-
-    stands : Stand at_place 0 records
-    stands k other below = ap at_place (omega arith) ∙ get_or_default records k d other below
-
-    -- the records in the order of places are these records
-    pub sorted-moved : IsPermutation records (map (λ (one : IdPlace). at_place one.place) sorted)
-    sorted-moved =
-        subst (λ (all : List LossRecord). IsPermutation all (map (λ (one : IdPlace). at_place one.place) sorted)) (places-back at_place 0 records stands)
-        (IsPermutation-map (λ (one : IdPlace). at_place one.place) (id_places 0 records) sorted moved)
-
-    -- and rise where the ids of the places do
-    pub sorted-rises : IsNonDecreasingBy (λ (one : IdPlace). one.id) sorted → IsNonDecreasingBy (λ (entry : LossRecord). entry.id) (map (λ (one : IdPlace). at_place one.place) sorted)
-    sorted-rises rising i j other order below =
-        let none : IdPlace = record { id = 0; place = 0 } in
-        let own =
-        All-permutation (λ (one : IdPlace). one.id ≡ (at_place one.place).id) (id_places 0 records) sorted moved
-        (All-from_recursion (λ (one : IdPlace). one.id ≡ (at_place one.place).id) (id_places 0 records) (places-ids at_place 0 records stands)) in
-        let inside : j < length sorted = omega (arith, below, length-map sorted (λ (one : IdPlace). at_place one.place)) in
-        let first = ap (λ (entry : LossRecord). entry.id) (get_or-map (λ (one : IdPlace). at_place one.place) sorted i none other (omega (arith, order, inside))) in
-        let second = ap (λ (entry : LossRecord). entry.id) (get_or-map (λ (one : IdPlace). at_place one.place) sorted j none other inside) in
-        omega (arith, rising i j none order inside, first, second, own i none (omega (arith, order, inside)), own j none inside)
+  -- and rise where the ids of the heads do
+  pub sorted-rises : IsNonDecreasingBy (λ (head : LossHead). head.id) sorted → IsNonDecreasingBy (λ (entry : LossRecord). entry.id) (lane_records sorted lanes)
+  sorted-rises rising i j d order below =
+      let inside : j < length sorted = omega (arith, below, records-length sorted lanes) in
+      let first = ap (λ (entry : LossRecord). entry.id) (records-at sorted lanes i (omega (arith, order, inside)) d) in
+      let second = ap (λ (entry : LossRecord). entry.id) (records-at sorted lanes j inside d) in
+      omega (arith, rising i j no_head order inside, first, second)

@@ -4,6 +4,9 @@ pub mod Row
 pub mod Table
 pub mod LaneRun
 pub mod LossLanes
+pub mod Less
+pub mod TableRun
+pub mod TableLosses
 pub mod Taken
 pub mod ByLanes
 pub mod Kept

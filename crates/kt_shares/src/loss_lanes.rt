@@ -1,16 +1,22 @@
 //! Records of losses by lanes.
 //! The rule: docs/FINANCIAL_MODULE.md, "Insured losses".
-ghost use Rattle.std.specs.Prelude.{◌≡◌, ◌+◌, ◌≤◌, ◌<◌, ◌++◌, ◌∷◌, true, false, [], All, length, map, slice_index, slice_index_or, IfOk, OnErr, OnOk};
+ghost use Rattle.std.specs.Prelude.{◌≡◌, ◌+◌, ◌≤◌, ◌<◌, ◌++◌, ◌∷◌, true, false, [], All, length, slice_index, slice_index_or, IfOk, OnErr, OnOk};
 ghost use Rattle.std.specs.List.{cons_option};
 ghost use Rattle.std.specs.List.Sorted.{IsNonDecreasingBy, IsPermutation};
 ghost use Rattle.kt_rec.specs.Rising.{IsRising};
 ghost use Rattle.kt_runs.specs.RunLosses.{AreWithin, event_of};
 ghost use Rattle.kt_stream.specs.declared.entry.LossRecord.{LossRecord};
-ghost use Rattle.kt_shares.specs.LossLanes.{deviation_of, id_places, lane_record};
+ghost use Rattle.kt_lanes.specs.Lanes.{AreWide};
+ghost use Rattle.kt_shares.specs.Less.{IsPlaceIn, records_less};
+ghost use Rattle.kt_shares.specs.LossLanes.{HaveLanes, deviation_of, lane_records};
 ghost use Rattle.kt_shares.specs.Shares.{ids_of, record_with};
 ghost use Rattle.kt_shares.specs.Table.{pairs_by_row, pairs_with};
 ghost use Rattle.kt_shares.specs.Taken.{AreIdLanes};
 
+use crate::heads::{
+    LossHead, are_apart, are_ids, are_in_turn, copied_lanes, put_in_turn, sort_by_id,
+};
+use crate::less::lessened;
 use crate::pairs::record_pairs;
 use crate::run_losses::{RunLosses, event_of_run};
 use kt_lanes::{Lanes, add_by_id};
@@ -18,28 +24,8 @@ use kt_stream::{LossRecord, Records};
 use std::alloc::{AllocError, Global};
 use std::marker::Model;
 
-/// Whose the losses of a lane are, and their deviation.
-#[derive(Clone, Copy)]
-pub(crate) struct LossHead {
-    /// The event.
-    pub(crate) event: u32,
-    /// The id.
-    pub(crate) id: u32,
-    /// The deviation in cents, which only ground-up losses have.
-    pub(crate) deviation: u64,
-}
-
-/// An id, and the place of its record.
-#[derive(Clone, Copy)]
-pub(crate) struct IdPlace {
-    /// The id.
-    pub(crate) id: u32,
-    /// The place.
-    pub(crate) place: usize,
-}
-
-/// Records of losses in cents, by lanes: of each record its deviation, and a lane, with the loss of the mean first and then those of the
-/// samples, at most 1,000. Contracts see the number of losses in a lane, and the records.
+/// Records of losses in cents, by lanes: of each record its deviation, and the place of a lane, with the loss of the mean first and then
+/// those of the samples, at most 1,000. Contracts see the number of losses in a lane, and the records.
 #[derive(Drop)]
 pub struct LossLanes {
     rows: usize,
@@ -60,7 +46,7 @@ impl Model for LossLanes {
 }
 
 /// Whether one of the losses of a lane is above 0.
-fn has_loss(lane: &[u64]) -> bool
+pub(crate) fn has_loss(lane: &[u64]) -> bool
     ensures some { result ≡ true → 0 < length (pairs_by_row (slice_index lane.now) (length lane.now)) }
     ensures none { result ≡ false → pairs_by_row (slice_index lane.now) (length lane.now) ≡ [] }
 {
@@ -83,15 +69,6 @@ fn has_losses(deviation: u64, lane: &[u64]) -> bool
     has_loss(lane)
 }
 
-/// Puts the places of ids in the order of the ids.
-fn sort_by_id(places: &mut Vec<IdPlace>) -> Result<(), AllocError>
-    ensures permutation { IfOk result (λ _. IsPermutation places.old.items places.new.items) }
-    ensures rising { IfOk result (λ _. IsNonDecreasingBy (λ one. one.id) places.new.items) }
-{
-    places.sort_by_key(|one| one.id)?;
-    Ok(())
-}
-
 impl LossLanes {
     /// No record, with room for so many, of each so many losses. An error is want of memory.
     pub fn with_room(alloc: Global, count: usize, rows: usize) -> Result<LossLanes, AllocError>
@@ -102,6 +79,17 @@ impl LossLanes {
         let heads = Vec::with_capacity(alloc, count)?;
         let lanes = Lanes::with_room(alloc, count, rows)?;
         Ok(LossLanes { rows, heads, lanes })
+    }
+
+    /// The records of heads, whose lanes are among these.
+    pub(crate) fn of(rows: usize, heads: Vec<LossHead>, lanes: Lanes) -> LossLanes
+        requires few { rows ≤ 1001 }
+        requires have { HaveLanes lanes heads.items }
+        requires wide { AreWide rows lanes }
+        ensures rows { result.rows ≡ rows }
+        ensures records { result.records ≡ lane_records heads.items lanes }
+    {
+        LossLanes { rows, heads, lanes }
     }
 
     /// Puts the losses of an id in an event behind the others, where one is above 0. An error is want of memory, and nothing changes
@@ -132,37 +120,27 @@ impl LossLanes {
         if !has_losses(deviation, lane) {
             return Ok(());
         }
-        let head = LossHead {
+        self.keep(event, id, deviation, lane)?;
+        Ok(())
+    }
+
+    /// Puts the record of a lane behind the others. An error is want of memory; the records are then as they were, though the lane may be
+    /// kept.
+    fn keep(&mut self, event: u32, id: u32, deviation: u64, lane: &[u64]) -> Result<(), AllocError>
+        requires rows { length lane.now ≡ self.old.rows }
+        ensures rows { self.new.rows ≡ self.old.rows }
+        ensures ok { OnOk result (self.new.records ≡ self.old.records ++ (record { event = event; id = id; pairs = pairs_with deviation lane.now }) ∷ []) }
+        ensures unchanged { OnErr result (self.new.records ≡ self.old.records) }
+    {
+        let place = self.lanes.len();
+        self.lanes.push(lane)?;
+        self.heads.push(LossHead {
             event,
             id,
             deviation,
-        };
-        self.keep(head, lane)?;
+            place,
+        })?;
         Ok(())
-    }
-
-    /// Puts the record of a lane behind the others. An error is want of memory, and nothing changes then.
-    fn keep(&mut self, head: LossHead, lane: &[u64]) -> Result<(), AllocError>
-        requires rows { length lane.now ≡ self.old.rows }
-        ensures rows { self.new.rows ≡ self.old.rows }
-        ensures ok { OnOk result (self.new.records ≡ self.old.records ++ lane_record head lane.now ∷ []) }
-        ensures unchanged { OnErr result (self.new.records ≡ self.old.records) }
-    {
-        let count = self.heads.len();
-        self.heads.push(head)?;
-        if let Err(stop) = self.lanes.push(lane) {
-            self.heads.truncate(count);
-            return Err(stop);
-        }
-        Ok(())
-    }
-
-    /// How many losses a lane has.
-    fn rows(&self) -> usize
-        ensures value { result ≡ self.now.rows }
-        ensures few { result ≤ 1001 }
-    {
-        self.rows
     }
 
     /// How many records there are.
@@ -206,8 +184,7 @@ impl LossLanes {
         ensures few { self.now.rows ≤ 1001 }
         ensures pairs { (d : LossRecord) → (slice_index_or self.now.records place d).pairs ≡ pairs_with (deviation_of (slice_index_or self.now.records place d)) result.now }
     {
-        let _heads = self.heads.len();
-        self.lanes.lane(place)
+        self.lanes.lane(self.heads[place].place)
     }
 
     /// The event of the records, which is that of the first, or 0 where there is none.
@@ -252,66 +229,43 @@ impl LossLanes {
         Ok(Records::from_vec(made))
     }
 
-    /// The ids of the records with their places. An error is want of memory.
-    fn id_places(&self, alloc: Global) -> Result<Vec<IdPlace>, AllocError>
-        ensures value { IfOk result (λ places. places.items ≡ id_places 0 self.now.records) }
-    {
-        let mut places = Vec::with_capacity(alloc, self.len())?;
-        for place in 0..self.len() {
-            let id = self.id(place);
-            places.push(IdPlace { id, place })?;
-        }
-        Ok(places)
-    }
-
-    /// Puts the record in a place of others behind those that are there. An error is want of memory.
-    fn keep_from(&mut self, others: &LossLanes, place: usize) -> Result<(), AllocError>
-        requires place { place < length others.now.records }
-        requires rows { others.now.rows ≡ self.old.rows }
-        ensures rows { self.new.rows ≡ self.old.rows }
-        ensures ok { OnOk result ((d : LossRecord) → self.new.records ≡ self.old.records ++ slice_index_or others.now.records place d ∷ []) }
-    {
-        let head = LossHead {
-            event: others.event(place),
-            id: others.id(place),
-            deviation: others.deviation(place),
-        };
-        self.keep(head, others.lane(place))?;
-        Ok(())
-    }
-
-    /// The places of the records, by rising id.
-    fn places_by_id(&self, alloc: Global) -> Result<Vec<IdPlace>, AllocError>
-        ensures permutation { IfOk result (λ places. IsPermutation (id_places 0 self.now.records) places.items) }
-        ensures rising { IfOk result (λ places. IsNonDecreasingBy (λ one. one.id) places.items) }
-    {
-        let mut places = self.id_places(alloc)?;
-        sort_by_id(&mut places)?;
-        Ok(places)
-    }
-
-    /// The records in places, in the order of the places. An error is want of memory.
-    fn records_in(&self, alloc: Global, places: &[IdPlace]) -> Result<LossLanes, AllocError>
-        requires inside { All (λ one. one.place < length self.now.records) places.now }
-        ensures rows { IfOk result (λ made. made.rows ≡ self.now.rows) }
-        ensures value { IfOk result (λ made. (d : LossRecord) → made.records ≡ map (λ one. slice_index_or self.now.records one.place d) places.now) }
-    {
-        let mut made = LossLanes::with_room(alloc, places.len(), self.rows())?;
-        for one in places {
-            made.keep_from(self, one.place)?;
-        }
-        Ok(made)
-    }
-
-    /// The records by rising id. An error is want of memory.
-    pub fn by_id(&self, alloc: Global) -> Result<LossLanes, AllocError>
-        ensures rows { IfOk result (λ made. made.rows ≡ self.now.rows) }
-        ensures permutation { IfOk result (λ made. IsPermutation self.now.records made.records) }
+    /// The records by rising id: no lane is moved. An error is want of memory.
+    pub fn by_id(self) -> Result<LossLanes, AllocError>
+        ensures rows { IfOk result (λ made. made.rows ≡ self.rows) }
+        ensures permutation { IfOk result (λ made. IsPermutation self.records made.records) }
         ensures rising { IfOk result (λ made. IsNonDecreasingBy (λ entry. entry.id) made.records) }
     {
-        let places = self.places_by_id(alloc)?;
-        let made = self.records_in(alloc, &places)?;
-        Ok(made)
+        let rows = self.rows;
+        let lanes = self.lanes;
+        let mut heads = self.heads;
+        sort_by_id(&mut heads)?;
+        Ok(LossLanes { rows, heads, lanes })
+    }
+
+    /// What is left of the records where amounts in cents are taken from them, row by row, where the place of such amounts is named: a
+    /// loss of which more is taken becomes 0. A record without a loss is left out, and so is each deviation. Lanes are copied only where
+    /// they do not stand in the order of the records, or records share one. An error is want of memory.
+    pub fn less(
+        self,
+        alloc: Global,
+        taken: &Lanes,
+        places: &[Option<usize>],
+    ) -> Result<LossLanes, AllocError>
+        requires places { length places.now ≡ length self.records }
+        requires within { All (IsPlaceIn taken.now) places.now }
+        requires wide { AreWide self.rows taken.now }
+        ensures rows { IfOk result (λ made. made.rows ≡ self.rows) }
+        ensures records { IfOk result (λ made. made.records ≡ records_less self.rows taken.now self.records places.now) }
+    {
+        let rows = self.rows;
+        let lanes = self.lanes;
+        let mut heads = self.heads;
+        if are_apart(&heads) {
+            return lessened(alloc, rows, &heads, lanes, taken, places);
+        }
+        let copied = copied_lanes(alloc, rows, &heads, &lanes)?;
+        put_in_turn(&mut heads);
+        lessened(alloc, rows, &heads, copied, taken, places)
     }
 }
 
@@ -360,7 +314,17 @@ impl RunLosses for LossLanes {
         lane.copy_from_slice(self.lane(place));
     }
 
+    fn kept_for(&self, ids: &[u32], samples: u32) -> Option<&Lanes> {
+        if are_ids(&self.heads, ids) && are_in_turn(&self.heads, self.lanes.len()) {
+            return Some(&self.lanes);
+        }
+        None
+    }
+
     fn lanes_for(&self, alloc: Global, ids: &[u32], samples: u32) -> Result<Lanes, AllocError> {
+        if are_ids(&self.heads, ids) {
+            return copied_lanes(alloc, self.rows, &self.heads, &self.lanes);
+        }
         lanes_of_ids(alloc, ids, samples, self)
     }
 }

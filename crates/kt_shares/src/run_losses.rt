@@ -1,6 +1,6 @@
 //! Runs of losses, as records or by lanes.
 //! The rules: docs/STREAMS.md, "Runs"; docs/FINANCIAL_MODULE.md, "Insured losses".
-ghost use Rattle.std.specs.Prelude.{◌≡◌, ◌+◌, ◌<◌, ◌≤◌, ℕ, List, All, length, map, slice_index_or, IfOk};
+ghost use Rattle.std.specs.Prelude.{◌≡◌, ◌+◌, ◌<◌, ◌≤◌, ℕ, List, All, length, map, slice_index_or, IfOk, IfSome};
 ghost use Rattle.kt_stream.specs.Losses.{IsLoss};
 ghost use Rattle.kt_stream.specs.declared.entry.LossRecord.{LossRecord};
 ghost use Rattle.kt_rec.specs.Rising.{IsRising};
@@ -51,6 +51,15 @@ pub trait RunLosses {
         requires within { AreWithin (records_of self.now) }
         requires lane { length lane.old ≡ samples + 1 }
         ensures value { (d : LossRecord) → IsLane (samples + 1) (λ row. loss_of (sidx_at (row_place row)) (slice_index_or (records_of self.now) place d).pairs) lane.new };
+
+    /// The lanes of rising ids, with the losses of the records that have these ids, where the run keeps them so.
+    fn kept_for(&self, ids: &[u32], samples: u32) -> Option<&Lanes>
+        requires samples { samples ≤ 1000 }
+        requires rising { IsRising ids.now }
+        requires rows { has_rows samples self.now }
+        requires records { All (IsLoss samples) (records_of self.now) }
+        requires within { AreWithin (records_of self.now) }
+        ensures value { IfSome result (λ lanes. AreIdLanes ids.now samples (records_of self.now) lanes.now) };
 
     /// The lanes of rising ids, with the losses of the records that have these ids. An error is want of memory.
     fn lanes_for(&self, alloc: Global, ids: &[u32], samples: u32) -> Result<Lanes, AllocError>
@@ -104,6 +113,10 @@ impl<'a, T: RunEntry> RunLosses for Listed<'a, T> {
     fn take_at(&self, place: usize, samples: u32, lane: &mut [u64]) {
         let entry = self.records[place].entry();
         take_losses(lane, samples, entry.pairs.as_slice());
+    }
+
+    fn kept_for(&self, ids: &[u32], samples: u32) -> Option<&Lanes> {
+        None
     }
 
     fn lanes_for(&self, alloc: Global, ids: &[u32], samples: u32) -> Result<Lanes, AllocError> {

@@ -2,13 +2,15 @@
 use crate::layers::TopLayer;
 use crate::loss_lanes::LossLanes;
 use crate::table::Table;
+use crate::table_losses::TableLosses;
 
 /// Takes what may be sent to threads and shared by them.
 fn is_shared<T: Send + Sync>(_: &T) {}
 
 /// Each type once.
-pub(crate) fn are_shared(layer: &TopLayer, losses: &LossLanes, table: &Table) {
+pub(crate) fn are_shared(layer: &TopLayer, losses: &LossLanes, table: &Table, made: &TableLosses) {
     is_shared(layer);
     is_shared(losses);
     is_shared(table);
+    is_shared(made);
 }

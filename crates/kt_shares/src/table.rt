@@ -1,8 +1,9 @@
 //! What layers have of a run: a row for the mean, and one for each sample.
 //! The rule: docs/FINANCIAL_MODULE.md, "Insured losses".
-ghost use Rattle.std.specs.Prelude.{◌≡◌, ◌≤◌, ◌<◌, ◌+◌, ◌-◌, ◌*◌, ◌++◌, ℕ, [], length, map, All, IfOk, OnErr, OnOk, slice_index};
+ghost use Rattle.std.specs.Prelude.{◌≡◌, ◌≤◌, ◌<◌, ◌+◌, ◌-◌, ◌*◌, ◌++◌, ℕ, List, [], length, map, All, IfOk, OnErr, OnOk, slice_index};
 ghost use Rattle.std.specs.List.{AllByRecursion, cons_option, flat_map, range_with_len, sum_by};
 ghost use Rattle.kt_stream.specs.Losses.{IsLoss, loss_bytes};
+ghost use Rattle.kt_stream.specs.declared.entry.LossRecord.{LossRecord};
 ghost use Rattle.kt_runs.specs.RunLosses.{AreWithin};
 ghost use Rattle.kt_tree.specs.Tree.{Tree};
 ghost use Rattle.kt_fmtree.specs.Parts.{IsProgramme};
@@ -12,11 +13,11 @@ ghost use Rattle.kt_shares.specs.Layers.{IsTopLayer, key_of};
 ghost use Rattle.kt_shares.specs.ByLanes.{AreLayers};
 ghost use Rattle.kt_shares.specs.Shares.{record_with};
 ghost use Rattle.kt_shares.specs.Table.{HasAmounts, pairs_by_row, row_at, sampled_sum, table_for};
+ghost use Rattle.kt_shares.specs.Taken.{AreIdLanes};
 
 use crate::by_lanes::{LayerLanes, are_plain, layer_lanes};
 use crate::by_rows::lanes_by_rows;
 use crate::layers::TopLayer;
-use crate::loss_lanes::LossLanes;
 use crate::run_losses::{Listed, RunLosses};
 use crate::written::put_lane;
 use kt_fmtree::Programme;
@@ -74,30 +75,13 @@ impl Table {
         self.shares.lane(place)
     }
 
-    /// No record, with room for the shares in so many places. An error is want of memory.
-    pub fn no_losses(&self, alloc: Global, count: usize) -> Result<LossLanes, AllocError>
-        ensures rows { IfOk result (λ made. made.rows ≡ length self.now) }
-        ensures none { IfOk result (λ made. made.records ≡ []) }
+    /// How many rows there are: that of the mean, and those of at most 1,000 samples.
+    pub(crate) fn rows(&self) -> usize
+        ensures value { result ≡ length self.now }
+        ensures some { 1 ≤ length self.now }
+        ensures most { length self.now ≤ 1001 }
     {
-        LossLanes::with_room(alloc, count, self.rows)
-    }
-
-    /// Puts the record of an event and an id with the shares in a place behind others, where one is above 0. An error is want of memory,
-    /// and nothing changes then.
-    pub fn keep(
-        &self,
-        event: u32,
-        id: u32,
-        place: usize,
-        losses: &mut LossLanes,
-    ) -> Result<(), AllocError>
-        requires place { All (λ row. place < length row.shares) self.now }
-        requires rows { losses.old.rows ≡ length self.now }
-        ensures rows { losses.new.rows ≡ losses.old.rows }
-        ensures ok { OnOk result (losses.new.records ≡ losses.old.records ++ cons_option (record_with event id (pairs_by_row (λ row. slice_index (row_at self.now row).shares place) (length self.now))) []) }
-        ensures unchanged { OnErr result (losses.new.records ≡ losses.old.records) }
-    {
-        losses.put(event, id, self.shares(place))
+        self.rows
     }
 
     /// Room for the pairs of one record of the shares. An error is want of memory.
@@ -180,6 +164,30 @@ fn lanes_of(
     Ok(made)
 }
 
+/// What layers of a programme have of the losses of a run, whose ids have these lanes.
+fn table_by_lanes(
+    alloc: Global,
+    programme: &Programme,
+    samples: u32,
+    rule: u32,
+    layers: &[TopLayer],
+    lanes: &Lanes,
+) -> Result<Table, AllocError>
+    requires samples { samples ≤ 1000 }
+    requires rule { rule ≤ 2 }
+    requires layers { AllByRecursion (IsTopLayer programme.now) layers.now }
+    requires lanes { AreLosses programme.now (samples + 1) lanes.now }
+    ensures value { IfOk result (λ table. (tree : Tree) (records : List LossRecord) → IsProgramme tree programme.now → AreIdLanes programme.now.ids samples records lanes.now → table ≡ table_for tree rule samples records (map key_of layers.now)) }
+{
+    let rows = samples as usize + 1;
+    let made = lanes_of(alloc, programme, rows, lanes, rule, layers)?;
+    Ok(Table {
+        rows,
+        shares: made.shares,
+        policies: made.policies,
+    })
+}
+
 /// What layers of a programme have of the losses of a run, as `table_of` says it of records.
 pub fn table_of_run<R: RunLosses>(
     alloc: Global,
@@ -198,14 +206,12 @@ pub fn table_of_run<R: RunLosses>(
     ensures value { IfOk result (λ table. (tree : Tree) → IsProgramme tree programme.now → table ≡ table_for tree rule samples (R.records_of run.now) (map key_of layers.now)) }
 {
     programme.is_of_a_tree();
-    let rows = samples as usize + 1;
-    let lanes = run.lanes_for(alloc, programme.ids(), samples)?;
-    let made = lanes_of(alloc, programme, rows, &lanes, rule, layers)?;
-    Ok(Table {
-        rows,
-        shares: made.shares,
-        policies: made.policies,
-    })
+    let ids = programme.ids();
+    if let Some(lanes) = run.kept_for(ids, samples) {
+        return table_by_lanes(alloc, programme, samples, rule, layers, lanes);
+    }
+    let lanes = run.lanes_for(alloc, ids, samples)?;
+    table_by_lanes(alloc, programme, samples, rule, layers, &lanes)
 }
 
 /// What layers of a programme have of the losses of a run, by an allocation rule from 0 to 2: a row for the mean, and one for each

@@ -1,25 +1,28 @@
-use Rattle.std.proofs.Common.{[], List, subst, sym}
-use Rattle.std.specs.List.Sorted.{IsNonDecreasingBy, IsPermutation}
+use Rattle.std.proofs.Common.{List, ap, subst}
+use Rattle.std.specs.List.Sorted.{IsPermutation}
+use Rattle.kt_shares.specs.LaneRun.{LaneRun}
 use Rattle.kt_stream.specs.declared.entry.LossRecord.{LossRecord}
-use Rattle.kt_shares.specs.LossLanes.{id_places}
-use Rattle.kt_shares.specs.declared.loss_lanes.IdPlace.{IdPlace}
-use Rattle.kt_shares.proofs.LossLanesLemmas.{sorted-inside, sorted-moved, sorted-rises}
+use Rattle.kt_shares.specs.LossLanes.{lane_records}
+use Rattle.kt_shares.proofs.LossLanesLemmas.{sorted-have, sorted-moved, sorted-rises}
 use Rattle.kt_shares.proofs.loss_lanes.LossLanes.by_id.Goals as goal
 
--- a record for want of another
-none : LossRecord
-none = record { event = 0; id = 0; pairs = [] }
-
-pub records_in-requires : goal.records_in-requires
-records_in-requires c = record { inside = sorted-inside c.args.self.now.records c.deref.result.now (subst (IsPermutation (id_places 0 c.args.self.now.records)) (sym c.deref.ensures.value) c.in_ok-places.ensures.permutation) }
+pub invariant_of-result : goal.invariant_of-result
+invariant_of-result c =
+    let kept = c.self.inside in
+    record {
+      few = c.self.invariant.few;
+      have = sorted-have kept.heads.items c.sort_by_id.new.heads.items c.in_ok-sort_by_id.ensures.permutation kept.lanes c.self.invariant.have;
+      wide = c.self.invariant.wide;
+    }
 
 pub returns-clause-permutation : goal.returns-clause-permutation
 returns-clause-permutation c =
-    let moved = subst (IsPermutation (id_places 0 c.args.self.now.records)) (sym c.deref.ensures.value) c.in_ok-places.ensures.permutation in
-    subst (IsPermutation c.args.self.now.records) (sym (c.in_ok-made.ensures.value none)) (sorted-moved c.args.self.now.records c.deref.result.now moved none)
+    let kept = c.self.inside in
+    let heads = c.sort_by_id.new.heads.items in
+    subst (λ (records : List LossRecord). IsPermutation records (lane_records heads kept.lanes)) (ap (λ (run : LaneRun). run.records) c.self.view_is)
+    (sorted-moved kept.heads.items heads c.in_ok-sort_by_id.ensures.permutation kept.lanes)
 
 pub returns-clause-rising : goal.returns-clause-rising
 returns-clause-rising c =
-    let moved = subst (IsPermutation (id_places 0 c.args.self.now.records)) (sym c.deref.ensures.value) c.in_ok-places.ensures.permutation in
-    let rises = subst (λ (places : List IdPlace). IsNonDecreasingBy (λ one. one.id) places) (sym c.deref.ensures.value) c.in_ok-places.ensures.rising in
-    subst (λ (records : List LossRecord). IsNonDecreasingBy (λ entry. entry.id) records) (sym (c.in_ok-made.ensures.value none)) (sorted-rises c.args.self.now.records c.deref.result.now moved none rises)
+    let kept = c.self.inside in
+    sorted-rises kept.heads.items c.sort_by_id.new.heads.items c.in_ok-sort_by_id.ensures.permutation kept.lanes c.in_ok-sort_by_id.ensures.rising

@@ -6,4 +6,4 @@ use Rattle.kt_shares.proofs.loss_lanes.LossLanes.len.Goals as goal
 pub returns : goal.returns
 returns c =
     let kept = c.self.inside in
-    record { value = omega (arith, c.len.ensures, kept.heads.ok, records-length kept.heads.items kept.lanes c.self.invariant.same, ap (λ (run : LaneRun). length run.records) c.self.view_is) }
+    record { value = omega (arith, c.len.ensures, kept.heads.ok, records-length kept.heads.items kept.lanes, ap (λ (run : LaneRun). length run.records) c.self.view_is) }

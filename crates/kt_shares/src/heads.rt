@@ -1,0 +1,101 @@
+//! Whose the losses of lanes are, and where their lanes stand.
+//! The rule: docs/FINANCIAL_MODULE.md, "Insured losses".
+ghost use Rattle.std.specs.Prelude.{◌≡◌, true, ℕ, ◌<◌, length, map, slice_index_or, IfOk};
+ghost use Rattle.std.specs.List.Sorted.{IsNonDecreasingBy, IsPermutation};
+ghost use Rattle.kt_lanes.specs.Lanes.{AreWide};
+ghost use Rattle.kt_shares.specs.LossLanes.{AreApart, AreInTurn, HaveLanes, head_at, lane_of, no_head};
+
+use kt_lanes::Lanes;
+use std::alloc::{AllocError, Global};
+
+/// Whose the losses of a lane are, their deviation, and where the lane stands.
+#[derive(Clone, Copy)]
+pub(crate) struct LossHead {
+    /// The event.
+    pub(crate) event: u32,
+    /// The id.
+    pub(crate) id: u32,
+    /// The deviation in cents, which only ground-up losses have.
+    pub(crate) deviation: u64,
+    /// The place of the lane among lanes.
+    pub(crate) place: usize,
+}
+
+/// Puts heads in the order of their ids.
+pub(crate) fn sort_by_id(heads: &mut Vec<LossHead>) -> Result<(), AllocError>
+    ensures permutation { IfOk result (λ _. IsPermutation heads.old.items heads.new.items) }
+    ensures rising { IfOk result (λ _. IsNonDecreasingBy (λ head. head.id) heads.new.items) }
+{
+    heads.sort_by_key(|head| head.id)?;
+    Ok(())
+}
+
+/// Whether these are the ids of heads, in their order.
+pub(crate) fn are_ids(heads: &[LossHead], ids: &[u32]) -> bool
+    ensures value { result ≡ true → map (λ head. head.id) heads.now ≡ ids.now }
+{
+    if heads.len() != ids.len() {
+        return false;
+    }
+    for at in 0..heads.len() {
+        if heads[at].id != ids[at] {
+            return false;
+        }
+    }
+    true
+}
+
+/// Whether heads have all of so many lanes, in their order.
+pub(crate) fn are_in_turn(heads: &[LossHead], count: usize) -> bool
+    ensures value { result ≡ true → AreInTurn count heads.now }
+{
+    if heads.len() != count {
+        return false;
+    }
+    for at in 0..heads.len() {
+        if heads[at].place != at {
+            return false;
+        }
+    }
+    true
+}
+
+/// Whether the lanes of heads stand in their order, and no two heads have the same.
+pub(crate) fn are_apart(heads: &[LossHead]) -> bool
+    ensures value { result ≡ true → AreApart heads.now }
+{
+    for at in 1..heads.len() {
+        if heads[at].place <= heads[at - 1].place {
+            return false;
+        }
+    }
+    true
+}
+
+/// Gives heads the places of lanes that stand in their order.
+pub(crate) fn put_in_turn(heads: &mut [LossHead])
+    ensures many { length heads.new ≡ length heads.old }
+    ensures each { (k : ℕ) → k < length heads.old → slice_index_or heads.new k no_head ≡ head_at (slice_index_or heads.old k no_head) k }
+{
+    for at in 0..heads.len() {
+        heads[at].place = at;
+    }
+}
+
+/// The lanes of heads, in the order of the heads. An error is want of memory.
+pub(crate) fn copied_lanes(
+    alloc: Global,
+    rows: usize,
+    heads: &[LossHead],
+    lanes: &Lanes,
+) -> Result<Lanes, AllocError>
+    requires have { HaveLanes lanes.now heads.now }
+    requires wide { AreWide rows lanes.now }
+    ensures value { IfOk result (λ made. made ≡ map (lane_of lanes.now) heads.now) }
+{
+    let mut made = Lanes::with_room(alloc, heads.len(), rows)?;
+    for head in heads {
+        made.push(lanes.lane(head.place))?;
+    }
+    Ok(made)
+}
