@@ -107,7 +107,7 @@ fn lanes_by_id(
     if is_by_id(struck) {
         return Ok(lanes);
     }
-    let sorted = lanes.by_id(draw.alloc)?;
+    let sorted = lanes.by_id()?;
     Ok(sorted)
 }
 

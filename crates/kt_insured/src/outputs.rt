@@ -7,25 +7,25 @@ ghost use Rattle.kt_insured.specs.Table.{record_in};
 
 use crate::outlets::Outlet;
 use kt_money::Bytes;
-use kt_shares::{LossLanes, Table};
+use kt_shares::{LossLanes, Table, TableLosses};
 use std::alloc::{AllocError, Global};
 
 /// The losses of outputs, in their order.
 pub(crate) fn lanes_of(
     alloc: Global,
     event: u32,
-    table: &Table,
+    table: Table,
     outlets: &[Outlet],
 ) -> Result<LossLanes, AllocError>
-    requires places { AllByRecursion (λ outlet. All (λ row. outlet.place < length row.shares) table.now) outlets.now }
-    ensures rows { IfOk result (λ made. made.rows ≡ length table.now) }
-    ensures value { IfOk result (λ made. made.records ≡ filter_map (record_in event table.now) outlets.now) }
+    requires places { AllByRecursion (λ outlet. All (λ row. outlet.place < length row.shares) table) outlets.now }
+    ensures rows { IfOk result (λ made. made.rows ≡ length table) }
+    ensures value { IfOk result (λ made. made.records ≡ filter_map (record_in event table) outlets.now) }
 {
-    let mut made = table.no_losses(alloc, outlets.len())?;
+    let mut made = TableLosses::with_room(alloc, table, outlets.len())?;
     for outlet in outlets {
-        table.keep(event, outlet.id, outlet.place, &mut made)?;
+        made.keep(event, outlet.id, outlet.place)?;
     }
-    Ok(made)
+    Ok(made.into_lanes())
 }
 
 /// Appends the records of outputs, in their order, as they stand in a stream. An error is want of memory, and nothing is appended

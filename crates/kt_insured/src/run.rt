@@ -48,8 +48,8 @@ fn lanes_by<R: RunLosses>(
     let event = event_of_run(run);
     let layers = layout.layers();
     let table = table_of_run(alloc, programme, samples, layout.rule(), layers, run)?;
-    let losses = lanes_of(alloc, event, &table, layout.outlets())?;
     let sums = sums_of(alloc, event, &table, layers)?;
+    let losses = lanes_of(alloc, event, table, layout.outlets())?;
     Ok(InsuredLanes {
         losses,
         layers: sums,
