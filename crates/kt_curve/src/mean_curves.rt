@@ -82,7 +82,7 @@ pub(crate) fn append_period_means(
 {
     let mut zeros = vec![in alloc; 0u128; group.periods as usize]?;
     let sums = zeros.as_mut_slice();
-    group.add_periods(sums, alloc)?;
+    group.add_periods(sums);
     append_means(out, alloc, group, sums, returns)
 }
 

@@ -5,7 +5,7 @@ ghost use Rattle.kt_period_cells.specs.Amounts.{amounts_of, of_sample};
 ghost use Rattle.kt_period_cells.specs.SummaryRows.{group_entries, IsSummary};
 
 use kt_money::OutOfMemory;
-use kt_period_cells::SummaryCells;
+use kt_period_cells::{AmountList, SummaryCells};
 use std::alloc::Global;
 use std::marker::Model;
 
@@ -20,7 +20,7 @@ pub(crate) struct SampleAmounts<'a> {
     /// The sample of the first of the lists.
     last: u32,
     /// What was gathered and not taken yet: each list is of the sample before that of the list before it.
-    lists: Vec<Vec<u64>>,
+    lists: Vec<AmountList>,
 }
 
 impl<'a> Model for SampleAmounts<'a> {
@@ -55,7 +55,10 @@ impl<'a> SampleAmounts<'a> {
         if sample as usize + self.lists.len() != self.last as usize + 1 {
             return None;
         }
-        self.lists.pop()
+        match self.lists.pop() {
+            Some(found) => Some(found.into_amounts()),
+            None => None,
+        }
     }
 
     /// Takes the amounts of a sample, counted from 1. An error is want of memory.
@@ -78,6 +81,6 @@ impl<'a> SampleAmounts<'a> {
         };
         self.last = last;
         self.lists = lists;
-        Ok(found)
+        Ok(found.into_amounts())
     }
 }

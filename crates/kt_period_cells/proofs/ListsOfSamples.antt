@@ -1,45 +1,40 @@
--- Lists in a list: what each has, where one of them changes.
-use Rattle.std.proofs.Common.{◌≡◌, ◌≢◌, ◌<◌, ◌≤◌, ◌+◌, ◌++◌, ℕ, zero, suc, List, [], map, length, take, drop, replicate, slice_set, slice_index_or, refl, ap, sym, subst, ◌∙◌, arith}
-use Rattle.std.specs.Prelude.{Vec, Bool, true, false, nat_eq}
-use Rattle.std.specs.declared.alloc.Global.{Global}
-use Rattle.std.proofs.lemmas.List.{append-nil, drop_all, take_all, map-set, length-map, get_or-map, get_or-set_same, get_or-set_other}
+-- Lists of the amounts of samples: one that gains an amount, and all of them.
+use Rattle.std.proofs.Common.{◌≡◌, ◌≢◌, ◌<◌, ◌≤◌, ◌+◌, ◌++◌, ◌∷◌, ℕ, List, [], length, take, drop, set, slice_set, slice_index_or, cond, refl, ap, sym, subst, ◌∙◌, arith}
+use Rattle.std.specs.Prelude.{Bool, true, false, nat_eq}
+use Rattle.std.proofs.lemmas.List.{append-nil, drop_all, take_all, take_more_set, take-set, get_or_default, get_or-set_same, get_or-set_other}
 use Rattle.std.proofs.lemmas.Bool.Decides.{Decides-eqb}
-use Rattle.kt_period_cells.specs.Amounts.{items_at}
+use Rattle.kt_period_cells.specs.Losses.{one_if}
 
--- the list that was changed
-pub items_here : (lists : List (Vec ℕ Global)) (k : ℕ) (now : Vec ℕ Global) → k < length lists → items_at (slice_set lists k now) k ≡ now.items
-items_here lists k now below =
-    let inside : k < length (map (λ (one : Vec ℕ Global). one.items) lists) = omega (arith, below, length-map lists (λ (one : Vec ℕ Global). one.items)) in
-    ap (λ (xs : List (List ℕ)). slice_index_or xs k []) (map-set (λ (one : Vec ℕ Global). one.items) lists k now) ∙ get_or-set_same (map (λ (one : Vec ℕ Global). one.items) lists) k now.items [] inside
+-- one amount more behind the first ones, where it is there
+pub amount_more : (values : List ℕ) (used amount more : ℕ) (there : Bool) → used < length values → more ≡ one_if there → take (used + more) (set values used amount) ≡ take used values ++ cond there (amount ∷ []) []
+amount_more values used amount more true within is = ap (λ m. take (used + m) (set values used amount)) is ∙ take_more_set values used amount within
+amount_more values used amount more false within is =
+    let same : used + 0 ≡ used = omega arith in
+    ap (λ m. take (used + m) (set values used amount)) is ∙ ap (λ m. take m (set values used amount)) same ∙ take-set values used amount ∙ sym (append-nil (take used values))
 
--- the others
-pub items_there : (lists : List (Vec ℕ Global)) (k : ℕ) (now : Vec ℕ Global) (j : ℕ) → j ≢ k → items_at (slice_set lists k now) j ≡ items_at lists j
-items_there lists k now j other =
-    ap (λ (xs : List (List ℕ)). slice_index_or xs j []) (map-set (λ (one : Vec ℕ Global). one.items) lists k now) ∙ get_or-set_other (map (λ (one : Vec ℕ Global). one.items) lists) k j now.items [] other
+-- it is one at the most
+pub one_at_most : (there : Bool) → one_if there ≤ 1
+one_at_most true = omega arith
+one_at_most false = omega arith
 
--- one more list has what it gains
-pub lists_more : (more : ℕ → List ℕ) (old : ℕ → List ℕ) (lists : List (Vec ℕ Global)) (k : ℕ) (item now : Vec ℕ Global) → k < length lists → ((j : ℕ) → j < k → items_at lists j ≡ old j ++ more j) → ((j : ℕ) → k ≤ j → items_at lists j ≡ old j)
-    → now.items ≡ (slice_index_or lists k item).items ++ more k → (j : ℕ) → j < k + 1 → items_at (slice_set lists k now) j ≡ old j ++ more j
-lists_more more old lists k item now below done left grown j within = by_test (nat_eq j k) refl
+-- what one more list gained
+pub lists_more : {X : Type 0} (R : ℕ → X → X → Type 0) (old lists : List X) (k : ℕ) (item now : X) → k < length lists → ((j : ℕ) (d : X) → j < k → R j (slice_index_or old j d) (slice_index_or lists j d)) →
+    ((j : ℕ) (d : X) → k ≤ j → slice_index_or lists j d ≡ slice_index_or old j d) → R k (slice_index_or lists k item) now → (j : ℕ) (d : X) → j < k + 1 → R j (slice_index_or old j d) (slice_index_or (slice_set lists k now) j d)
+lists_more {X = X} R old lists k item now below done left grown j d within = by_test (nat_eq j k) refl
   where
-    by_test : (b : Bool) → nat_eq j k ≡ b → items_at (slice_set lists k now) j ≡ old j ++ more j
+    by_test : (b : Bool) → nat_eq j k ≡ b → R j (slice_index_or old j d) (slice_index_or (slice_set lists k now) j d)
     by_test true same =
         let at : j ≡ k = (Decides-eqb j k).0 same in
-        let before : (slice_index_or lists k item).items ≡ old k = sym (get_or-map (λ (one : Vec ℕ Global). one.items) lists k item [] below) ∙ left k (omega arith) in
-        subst (λ (i : ℕ). items_at (slice_set lists k now) i ≡ old i ++ more i) (sym at) (items_here lists k now below ∙ grown ∙ ap (λ (xs : List ℕ). xs ++ more k) before)
+        let before : slice_index_or lists k item ≡ slice_index_or old k d = get_or_default lists k item d below ∙ left k d (omega arith) in
+        subst (λ (i : ℕ). R i (slice_index_or old i d) (slice_index_or (slice_set lists k now) i d)) (sym at)
+        (subst (λ (x : X). R k (slice_index_or old k d) x) (sym (get_or-set_same lists k now d below)) (subst (λ (x : X). R k x now) before grown))
     by_test false other =
         let apart : j ≢ k = λ at. let wrong : nat_eq j k ≡ true = (Decides-eqb j k).1 at in let no : true ≡ false = sym wrong ∙ other in cc in
-        items_there lists k now j apart ∙ done j (omega (arith, within, apart))
+        subst (λ (x : X). R j (slice_index_or old j d) x) (sym (get_or-set_other lists k j now d apart)) (done j d (omega (arith, within, apart)))
 
--- nothing in empty lists
-in_empty : (n k : ℕ) → slice_index_or {A = List ℕ} (replicate n []) k [] ≡ []
-in_empty zero k = refl
-in_empty (suc n) zero = refl
-in_empty (suc n) (suc k) = in_empty n k
-
--- of lists that are empty none has anything
-pub none_listed : (lists : List (Vec ℕ Global)) (n : ℕ) → map (λ (one : Vec ℕ Global). one.items) lists ≡ replicate n [] → (k : ℕ) → items_at lists k ≡ []
-none_listed lists n are k = ap (λ (xs : List (List ℕ)). slice_index_or xs k []) are ∙ in_empty n k
+-- the lists behind it are as they were
+pub lists_left : {X : Type 0} (old lists : List X) (k : ℕ) (now : X) → ((j : ℕ) (d : X) → k ≤ j → slice_index_or lists j d ≡ slice_index_or old j d) → (j : ℕ) (d : X) → k + 1 ≤ j → slice_index_or (slice_set lists k now) j d ≡ slice_index_or old j d
+lists_left old lists k now left j d behind = get_or-set_other lists k j now d (λ at. absurd (omega (arith, at, behind))) ∙ left j d (omega (arith, behind))
 
 -- a list in whose place another of the same length was put is that one
 pub written_back : {X : Type 0} (now old : List X) (n : ℕ) → length now ≡ n → length old ≡ n → take n (now ++ drop (length now) old) ≡ now

@@ -20,7 +20,7 @@ pub some_cell_is : (one : Cell) → 1 ≤ one.total → some_cell one ≡ Some o
 some_cell_is one some = let above : nat_eq one.total 0 ≡ false = grind (arith, nat_tests) in ap (λ b. cond b None (Some one)) above
 
 -- no place is of a lower sample
-placed_low : (k : ℕ) (cs : List Cell) (t : ℕ) → t < k → cell_in (placed k cs) t ≡ None
+pub placed_low : (k : ℕ) (cs : List Cell) (t : ℕ) → t < k → cell_in (placed k cs) t ≡ None
 placed_low k [] t low = refl
 placed_low k (x ∷ cs) t low = by_test (nat_eq x.total 0) (placed_low (suc k) cs t (omega (arith, low)))
   where

@@ -4,7 +4,7 @@ use Rattle.std.specs.Prelude.{Bool, true, false, ◌&&◌, not, nat_eq, All, pos
 use Rattle.std.specs.List.{filter}
 use Rattle.std.specs.Ordering.{int_eq}
 use Rattle.std.proofs.lemmas.Bool.Decides.{nat_tests, Decides-eqb}
-use Rattle.std.proofs.lemmas.List.{map-append, take_more, length-take-le, get_or-set_same, get_or-set_other}
+use Rattle.std.proofs.lemmas.List.{map-append, take_more, get_or-set_same, get_or-set_other}
 use Rattle.std.proofs.lemmas.List.Sums.{sum_by-append}
 use Rattle.std.proofs.lemmas.List.Elements.{filter-append, All-get_or}
 use Rattle.kt_rec.specs.declared.perspective.CellKey.{CellKey}
@@ -16,8 +16,9 @@ use Rattle.kt_period_cells.specs.Sets.{same_bool, is_mean, of_kind}
 use Rattle.kt_period_cells.specs.Amounts.{amount_in, amount_or_none, amounts_of, of_sample, of_period}
 use Rattle.kt_period_cells.specs.RowCells.{SampleCells, with_place, placed, cells_of, cell_in, IsRising}
 use Rattle.kt_period_cells.specs.Rows.{sidx_of, key_in}
-use Rattle.kt_period_cells.specs.SummaryRows.{cell_amounts, has_total, row_at, entries_in, place_entries}
+use Rattle.kt_period_cells.specs.SummaryRows.{cell_amount, cell_amounts, has_total, row_at, entries_in, place_entries}
 use Rattle.kt_period_cells.specs.SameKeys.{pos_same}
+use Rattle.kt_period_cells.proofs.PlacedCells.{placed_get, placed_low}
 use Rattle.kt_period_cells.proofs.RowCells.{cell_absent}
 use Rattle.kt_period_cells.proofs.SetRows.{row_is, row_past}
 
@@ -71,24 +72,92 @@ one_place maxima mean s x = by_test (nat_eq x.total 0)
     by_test true = refl
     by_test false = one_cell maxima mean (s, x)
 
--- the amounts of one place more
-pub placed_more : (maxima mean : Bool) (cs : List Cell) (i : ℕ) (d : Cell) → i < length cs →
-    cell_amounts maxima mean (placed 0 (take (i + 1) cs)) ≡ cell_amounts maxima mean (placed 0 (take i cs)) ++ cond (has_total (get_or cs i d) && same_bool (nat_eq i 0) mean) (amount_in maxima (Some (get_or cs i d)) ∷ []) []
-placed_more maxima mean cs i d within =
-    let short : length (take i cs) ≡ i = length-take-le i cs (omega (arith, within)) in
-    let at : 0 + length (take i cs) ≡ i = omega (arith, short) in
-    ap (λ xs. cell_amounts maxima mean (placed 0 xs)) (take_more cs i d within)
-    ∙ ap (cell_amounts maxima mean) (placed_append 0 (take i cs) (get_or cs i d ∷ []) ∙ ap (λ n. placed 0 (take i cs) ++ placed n (get_or cs i d ∷ [])) at)
-    ∙ cells_append maxima mean (placed 0 (take i cs)) (placed i (get_or cs i d ∷ []))
-    ∙ ap (λ more. cell_amounts maxima mean (placed 0 (take i cs)) ++ more) (one_place maxima mean i (get_or cs i d))
+-- the amounts of one place of a sample
+sample_place : (maxima : Bool) (s : ℕ) (x : Cell) → 1 ≤ s → cell_amounts maxima false (placed s (x ∷ [])) ≡ cell_amount maxima x
+sample_place maxima s x some =
+    let above : nat_eq s 0 ≡ false = grind (arith, nat_tests) in
+    one_place maxima false s x ∙ ap (λ b. cond (has_total x && same_bool b false) (amount_in maxima (Some x) ∷ []) []) above ∙ by_test (has_total x)
+  where
+    by_test : (b : Bool) → cond (b && true) (amount_in maxima (Some x) ∷ []) [] ≡ cond b (amount_in maxima (Some x) ∷ []) []
+    by_test true = refl
+    by_test false = refl
 
--- the amounts of one place more that were pushed
-pub placed_pushed : (maxima mean : Bool) (cs : List Cell) (i : ℕ) (d : Cell) (base old new : List ℕ) → i < length cs → old ≡ base ++ cell_amounts maxima mean (placed 0 (take i cs)) →
-    new ≡ old ++ cond (has_total (get_or cs i d) && same_bool (nat_eq i 0) mean) (amount_in maxima (Some (get_or cs i d)) ∷ []) [] → new ≡ base ++ cell_amounts maxima mean (placed 0 (take (i + 1) cs))
-placed_pushed maxima mean cs i d base old new within old_is new_is =
-    new_is ∙ ap (λ xs. xs ++ cond (has_total (get_or cs i d) && same_bool (nat_eq i 0) mean) (amount_in maxima (Some (get_or cs i d)) ∷ []) []) old_is
-    ∙ append_assoc base (cell_amounts maxima mean (placed 0 (take i cs))) (cond (has_total (get_or cs i d) && same_bool (nat_eq i 0) mean) (amount_in maxima (Some (get_or cs i d)) ∷ []) [])
-    ∙ ap (λ xs. base ++ xs) (sym (placed_more maxima mean cs i d within))
+-- the amounts of one place more, from that of sample 1 on
+pub samples_more : (maxima : Bool) (cs : List Cell) (i : ℕ) (d : Cell) → i < length cs →
+    cell_amounts maxima false (placed 1 (take (i + 1) cs)) ≡ cell_amounts maxima false (placed 1 (take i cs)) ++ cell_amount maxima (get_or cs i d)
+samples_more maxima cs i d within =
+    ap (λ xs. cell_amounts maxima false (placed 1 xs)) (take_more cs i d within)
+    ∙ ap (cell_amounts maxima false) (placed_append 1 (take i cs) (get_or cs i d ∷ []))
+    ∙ cells_append maxima false (placed 1 (take i cs)) (placed (1 + length (take i cs)) (get_or cs i d ∷ []))
+    ∙ ap (λ more. cell_amounts maxima false (placed 1 (take i cs)) ++ more) (sample_place maxima (1 + length (take i cs)) (get_or cs i d) (omega arith))
+
+-- the same behind others
+pub written_more : (maxima : Bool) (cs : List Cell) (i : ℕ) (d : Cell) (base old new : List ℕ) → i < length cs → old ≡ base ++ cell_amounts maxima false (placed 1 (take i cs)) →
+    new ≡ old ++ cell_amount maxima (get_or cs i d) → new ≡ base ++ cell_amounts maxima false (placed 1 (take (i + 1) cs))
+written_more maxima cs i d base old new within old_is new_is =
+    new_is ∙ ap (λ xs. xs ++ cell_amount maxima (get_or cs i d)) old_is
+    ∙ append_assoc base (cell_amounts maxima false (placed 1 (take i cs))) (cell_amount maxima (get_or cs i d))
+    ∙ ap (λ xs. base ++ xs) (sym (samples_more maxima cs i d within))
+
+-- their sum
+pub placed_summed : (maxima : Bool) (cs : List Cell) (i : ℕ) (d : Cell) (total amount : ℕ) → i < length cs → total ≡ sum (cell_amounts maxima false (placed 1 (take i cs))) → amount ≡ sum (cell_amount maxima (get_or cs i d)) →
+    total + amount ≡ sum (cell_amounts maxima false (placed 1 (take (i + 1) cs)))
+placed_summed maxima cs i d total amount within is more =
+    let all : sum (cell_amounts maxima false (placed 1 (take (i + 1) cs))) ≡ sum (cell_amounts maxima false (placed 1 (take i cs))) + sum (cell_amount maxima (get_or cs i d)) =
+    ap sum (samples_more maxima cs i d within) ∙ sum_by-append (λ (x : ℕ). x) (cell_amounts maxima false (placed 1 (take i cs))) (cell_amount maxima (get_or cs i d)) in
+    omega (arith, is, more, all)
+
+-- the sum of the amounts of one listed cell more
+pub listed_summed : (maxima : Bool) (cells : SampleCells) (i : ℕ) (d : ℕ × Cell) (total amount : ℕ) → i < length cells → total ≡ sum (cell_amounts maxima false (take i cells)) → amount ≡ sum (cell_amounts maxima false (get_or cells i d ∷ [])) →
+    total + amount ≡ sum (cell_amounts maxima false (take (i + 1) cells))
+listed_summed maxima cells i d total amount within is more =
+    let all : sum (cell_amounts maxima false (take (i + 1) cells)) ≡ sum (cell_amounts maxima false (take i cells)) + sum (cell_amounts maxima false (get_or cells i d ∷ [])) =
+    ap (λ xs. sum (cell_amounts maxima false xs)) (take_more cells i d within) ∙ ap sum (cells_append maxima false (take i cells) (get_or cells i d ∷ []))
+    ∙ sum_by-append (λ (x : ℕ). x) (cell_amounts maxima false (take i cells)) (cell_amounts maxima false (get_or cells i d ∷ [])) in
+    omega (arith, is, more, all)
+
+-- places of samples have no amount of the mean
+no_mean : (maxima : Bool) (k : ℕ) (cs : List Cell) → 1 ≤ k → cell_amounts maxima true (placed k cs) ≡ []
+no_mean maxima k [] some = refl
+no_mean maxima k (x ∷ cs) some = by_test (nat_eq x.total 0) (no_mean maxima (suc k) cs (omega arith))
+  where
+    is_mean_cell : ℕ × Cell → Bool
+    is_mean_cell one = same_bool (nat_eq one.0 0) true
+
+    by_test : (b : Bool) → cell_amounts maxima true (placed (suc k) cs) ≡ [] → cell_amounts maxima true (with_place b k x (placed (suc k) cs)) ≡ []
+    by_test true later = later
+    by_test false later =
+        let above : nat_eq k 0 ≡ false = grind (arith, nat_tests) in
+        ap (λ b. map (λ (one : ℕ × Cell). amount_in maxima (Some one.1)) (cond (same_bool b true) ((k, x) ∷ filter is_mean_cell (placed (suc k) cs)) (filter is_mean_cell (placed (suc k) cs)))) above ∙ later
+
+-- the amount of the mean among places is that of the first
+pub mean_placed : (maxima : Bool) (cs : List Cell) → cell_amounts maxima true (placed 0 cs) ≡ amount_or_none maxima (cell_in (placed 0 cs) 0)
+mean_placed maxima [] = refl
+mean_placed maxima (x ∷ cs) = by_test (nat_eq x.total 0)
+  where
+    by_test : (b : Bool) → cell_amounts maxima true (with_place b 0 x (placed 1 cs)) ≡ amount_or_none maxima (cell_in (with_place b 0 x (placed 1 cs)) 0)
+    by_test true = no_mean maxima 1 cs (omega arith) ∙ sym (ap (amount_or_none maxima) (placed_low 1 cs 0 (omega arith)))
+    by_test false = ap (λ xs. amount_in maxima (Some x) ∷ xs) (no_mean maxima 1 cs (omega arith))
+
+-- those of the samples are those of the others
+pub samples_placed : (maxima : Bool) (cs : List Cell) → 1 ≤ length cs → cell_amounts maxima false (placed 0 cs) ≡ cell_amounts maxima false (placed 1 (drop 1 cs))
+samples_placed maxima [] some = absurd (omega (arith, some))
+samples_placed maxima (x ∷ cs) some = by_test (nat_eq x.total 0)
+  where
+    by_test : (b : Bool) → cell_amounts maxima false (with_place b 0 x (placed 1 cs)) ≡ cell_amounts maxima false (placed 1 cs)
+    by_test true = refl
+    by_test false = refl
+
+-- the amount of a place is that of its sample
+pub place_amounts : (maxima : Bool) (cs : List Cell) (s : ℕ) (d : Cell) → s < length cs → cell_amount maxima (get_or cs s d) ≡ amount_or_none maxima (cell_in (placed 0 cs) s)
+place_amounts maxima cs s d within = by_test (nat_eq x.total 0) ∙ ap (amount_or_none maxima) (sym (placed_get 0 cs s d s (omega arith) within))
+  where
+    x : Cell
+    x = get_or cs s d
+
+    by_test : (b : Bool) → cond (not b) (amount_in maxima (Some x) ∷ []) [] ≡ amount_or_none maxima (cond b None (Some x))
+    by_test true = refl
+    by_test false = refl
 
 -- ---- the entries of a row
 
@@ -225,12 +294,12 @@ pub kind_pushed : (maxima mean : Bool) (rows : List Row) (i : ℕ) (row : Row) (
 kind_pushed maxima mean rows i row old new within is new_is =
     new_is ∙ ap (λ xs. old ++ xs) (sym (kind_of_row maxima mean row.key (cells_of row))) ∙ ap (λ (o : Option Row). old ++ amounts_of maxima (of_kind mean) (entries_in o)) (sym (row_is rows i row within is))
 
--- the amount of a sample that was pushed
-pub sample_pushed : (maxima : Bool) (sample : ℕ) (rows : List Row) (i : ℕ) (row : Row) (old new : List ℕ) (found : Option Cell) → 1 ≤ sample → All (λ row. IsRising (cells_of row)) rows → i < length rows → row ≡ get_or rows i row → found ≡ cell_in (cells_of row) sample →
-    new ≡ old ++ amount_or_none maxima found → new ≡ old ++ amounts_of maxima (of_sample sample) (entries_in (row_at rows i))
-sample_pushed maxima sample rows i row old new found some rising within is found_is new_is =
+-- the amount of a sample's cell is that of the row's entries
+pub sample_amounts : (maxima : Bool) (sample : ℕ) (rows : List Row) (i : ℕ) (row : Row) → 1 ≤ sample → All (λ row. IsRising (cells_of row)) rows → i < length rows → row ≡ get_or rows i row →
+    amount_or_none maxima (cell_in (cells_of row) sample) ≡ amounts_of maxima (of_sample sample) (entries_in (row_at rows i))
+sample_amounts maxima sample rows i row some rising within is =
     let rises : IsRising (cells_of row) = subst (λ (r : Row). IsRising (cells_of r)) (sym is) (All-get_or (λ (r : Row). IsRising (cells_of r)) rows i row within rising) in
-    new_is ∙ ap (λ o. old ++ amount_or_none maxima o) found_is ∙ ap (λ xs. old ++ xs) (sym (sample_of_row maxima row.key sample some (cells_of row) rises)) ∙ ap (λ (o : Option Row). old ++ amounts_of maxima (of_sample sample) (entries_in o)) (sym (row_is rows i row within is))
+    sym (sample_of_row maxima row.key sample some (cells_of row) rises) ∙ ap (λ (o : Option Row). amounts_of maxima (of_sample sample) (entries_in o)) (sym (row_is rows i row within is))
 
 -- the sum of a period in a row
 period_in : (maxima : Bool) (rows : List Row) (i : ℕ) (row : Row) (t : ℕ) → i < length rows → row ≡ get_or rows i row → sum (amounts_of maxima (of_period t) (entries_in (row_at rows i))) ≡ cond (nat_eq t row.key.period) (sum (cell_amounts maxima false (cells_of row))) 0

@@ -22,6 +22,10 @@ use Rattle.kt_period_cells.specs.Standing.{KeptCells}
 abbrev pub has_total : Cell → Bool
 has_total one = not (nat_eq one.total 0)
 
+-- the amount of a place that has a cell
+abbrev pub cell_amount : Bool → Cell → List ℕ
+cell_amount maxima one = if has_total one then amount_in maxima (Some one) ∷ [] else []
+
 -- whether there is a cell
 abbrev pub has_any : SampleCells → Bool
 has_any [] = false

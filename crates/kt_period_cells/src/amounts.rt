@@ -1,10 +1,11 @@
 //! The totals or the maxima of a summary's cells.
 //! The rules: docs/CALCULATION.md, "Kinds of exceedance curves".
-ghost use Rattle.std.specs.Prelude.{◌≡◌, ◌≤◌, ◌+◌, ◌-◌, ◌*◌, ◌<◌, ◌^◌, ◌++◌, ℕ, [], map, sum, length, slice_index, All, IfOk, OnOk};
+ghost use Rattle.std.specs.Prelude.{◌≡◌, ◌≤◌, ◌+◌, ◌-◌, ◌<◌, ◌^◌, ◌++◌, ℕ, sum, length, slice_index, All, IfOk, OnOk};
 ghost use Rattle.kt_period_cells.specs.Sets.{of_kind};
-ghost use Rattle.kt_period_cells.specs.Amounts.{AreSamplesDown, HaveMore, amounts_of, items_at, of_period, of_sample};
+ghost use Rattle.kt_period_cells.specs.Amounts.{AreSamplesDown, HasRoom, HaveMore, IsRoom, amounts_of, of_period, of_sample};
 ghost use Rattle.kt_period_cells.specs.SummaryRows.{AreRising, ArePeriods, IsSummary, entries_in, row_at, group_entries};
 
+use crate::amount_list::AmountList;
 use crate::group::{SummaryCells, SummaryRow};
 use crate::row::Row;
 use kt_money::OutOfMemory;
@@ -27,69 +28,44 @@ fn push_kind(
 }
 
 /// Appends the amounts of samples of the row at a place, each to a list of its own: that of the last to the first list, and that of the
-/// sample before to each other. An error is want of memory.
-fn push_samples(
-    lists: &mut [Vec<u64>],
-    rows: &[Row],
-    place: &SummaryRow,
-    last: u32,
-    maxima: bool,
-) -> Result<(), OutOfMemory>
+/// sample before to each other.
+fn put_samples(lists: &mut [AmountList], rows: &[Row], place: &SummaryRow, last: u32, maxima: bool)
     requires rising { AreRising rows.now }
     requires count { length lists.old ≤ last }
+    requires room { All HasRoom lists.old }
     ensures many { length lists.new ≡ length lists.old }
-    ensures ok { OnOk result (HaveMore (λ k. amounts_of maxima (of_sample (last - k)) (entries_in (row_at rows.now place.now.row))) lists.old lists.new) }
+    ensures more { HaveMore (λ k. amounts_of maxima (of_sample (last - k)) (entries_in (row_at rows.now place.now.row))) lists.old lists.new }
 {
     if place.row >= rows.len() {
-        return Ok(());
+        return;
     }
-    rows[place.row].push_samples(lists, last, maxima)
+    rows[place.row].put_samples(lists, last, maxima);
 }
 
 /// So many empty lists, each with this room. An error is want of memory.
-fn empty_lists(alloc: Global, count: u32, room: usize) -> Result<Vec<Vec<u64>>, OutOfMemory>
+fn empty_lists(alloc: Global, count: u32, room: usize) -> Result<Vec<AmountList>, OutOfMemory>
     ensures many { IfOk result (λ lists. length lists.items ≡ count) }
-    ensures empty { IfOk result (λ lists. (k : ℕ) → items_at lists.items k ≡ []) }
+    ensures empty { IfOk result (λ lists. All (IsRoom room) lists.items) }
 {
     let mut lists = Vec::with_capacity(alloc, count as usize)?;
     for _list in 0..count {
-        lists.push(Vec::with_capacity(alloc, room)?)?;
+        lists.push(AmountList::new(alloc, room)?)?;
     }
     Ok(lists)
 }
 
-/// The sum of amounts.
-fn sum_of(amounts: &[u64]) -> u128
-    ensures value { result ≡ sum amounts.now }
-{
-    let mut total = 0u128;
-    for amount in amounts {
-        total += u128::from(*amount);
-    }
-    total
-}
-
-/// Adds the samples of the row at a place to the sum of its period. An error is want of memory.
-fn add_period(
-    sums: &mut [u128],
-    alloc: Global,
-    rows: &[Row],
-    place: &SummaryRow,
-    maxima: bool,
-) -> Result<(), OutOfMemory>
+/// Adds the samples of the row at a place to the sum of its period.
+fn add_period(sums: &mut [u128], rows: &[Row], place: &SummaryRow, maxima: bool)
     requires periods { ArePeriods (length sums.old) rows.now }
     requires room { (period : ℕ) → slice_index sums.old period + sum (amounts_of maxima (of_period (period + 1)) (entries_in (row_at rows.now place.now.row))) < 2 ^ 128 }
     ensures len { length sums.new ≡ length sums.old }
-    ensures sums { OnOk result ((period : ℕ) → slice_index sums.new period ≡ slice_index sums.old period + sum (amounts_of maxima (of_period (period + 1)) (entries_in (row_at rows.now place.now.row)))) }
+    ensures sums { (period : ℕ) → slice_index sums.new period ≡ slice_index sums.old period + sum (amounts_of maxima (of_period (period + 1)) (entries_in (row_at rows.now place.now.row))) }
 {
     if place.row >= rows.len() {
-        return Ok(());
+        return;
     }
     let row = &rows[place.row];
-    let mut amounts = Vec::new(alloc);
-    row.push_kind(&mut amounts, false, maxima)?;
-    sums[row.key.period as usize - 1] += sum_of(amounts.as_slice());
-    Ok(())
+    sums[row.key.period as usize - 1] += row.samples_sum(maxima);
 }
 
 impl SummaryCells<'_> {
@@ -111,7 +87,7 @@ impl SummaryCells<'_> {
         alloc: Global,
         last: u32,
         count: u32,
-    ) -> Result<Vec<Vec<u64>>, OutOfMemory>
+    ) -> Result<Vec<AmountList>, OutOfMemory>
         requires group { IsSummary self.now }
         requires count { count ≤ last }
         ensures many { IfOk result (λ lists. length lists.items ≡ count) }
@@ -119,24 +95,22 @@ impl SummaryCells<'_> {
     {
         let mut lists = empty_lists(alloc, count, self.places.len())?;
         for place in self.places {
-            push_samples(&mut lists, self.rows, place, last, self.maxima)?;
+            put_samples(&mut lists, self.rows, place, last, self.maxima);
         }
         Ok(lists)
     }
 
-    /// Adds the samples of each period to sums that are 0, one for each period. Each sum of a period is below 2^128. An error is
-    /// want of memory.
-    pub fn add_periods(&self, sums: &mut [u128], alloc: Global) -> Result<(), OutOfMemory>
+    /// Adds the samples of each period to sums that are 0, one for each period. Each sum of a period is below 2^128.
+    pub fn add_periods(&self, sums: &mut [u128])
         requires group { IsSummary self.now }
         requires len { length sums.old ≡ self.now.periods }
         requires room { (period : ℕ) → sum (amounts_of self.now.maxima (of_period (period + 1)) (group_entries self.now)) < 2 ^ 128 }
         requires none { (place : ℕ) → slice_index sums.old place ≡ 0 }
         ensures len { length sums.new ≡ self.now.periods }
-        ensures sums { OnOk result ((place : ℕ) → slice_index sums.new place ≡ sum (amounts_of self.now.maxima (of_period (place + 1)) (group_entries self.now))) }
+        ensures sums { (place : ℕ) → slice_index sums.new place ≡ sum (amounts_of self.now.maxima (of_period (place + 1)) (group_entries self.now)) }
     {
         for place in self.places {
-            add_period(sums, alloc, self.rows, place, self.maxima)?;
+            add_period(sums, self.rows, place, self.maxima);
         }
-        Ok(())
     }
 }

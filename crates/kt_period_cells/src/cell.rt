@@ -1,8 +1,10 @@
 //! The total and the maximum of one key, and why cells refuse a record.
 //! The rules: docs/CALCULATION.md, "Periods".
-ghost use Rattle.std.specs.Prelude.{◌≡◌};
+ghost use Rattle.std.specs.Prelude.{◌≡◌, Some};
 ghost use Rattle.std.specs.List.{list_any};
-ghost use Rattle.kt_period_cells.specs.Losses.{has_cells, is_added};
+ghost use Rattle.kt_period_cells.specs.Amounts.{amount_in};
+ghost use Rattle.kt_period_cells.specs.Losses.{has_cells, is_added, one_if};
+ghost use Rattle.kt_period_cells.specs.SummaryRows.{has_total};
 
 use kt_rec::CellKey;
 use kt_stream::Pair;
@@ -46,6 +48,30 @@ pub enum CellStop {
     },
     /// Want of memory.
     OutOfMemory,
+}
+
+/// The maximum of a cell, or its total, in cents.
+#[inline]
+pub(crate) fn amount(cell: &Cell, maxima: bool) -> u64
+    ensures value { result ≡ amount_in maxima (Some cell.now) }
+{
+    if maxima { cell.maximum } else { cell.total }
+}
+
+/// Whether a place has a cell: its total is above 0.
+#[inline]
+pub(crate) fn has_total(cell: &Cell) -> bool
+    ensures value { result ≡ has_total cell.now }
+{
+    cell.total != 0
+}
+
+/// 1 for yes, 0 for no.
+#[inline]
+pub(crate) fn one_if(is_there: bool) -> usize
+    ensures value { result ≡ one_if is_there }
+{
+    if is_there { 1 } else { 0 }
 }
 
 /// Whether the loss of a pair is added up: that of sidx -1 or from 1 up, where it is above 0.

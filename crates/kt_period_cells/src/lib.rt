@@ -1,6 +1,7 @@
 //! Period totals and maxima of summary records.
 #![tactic(auto)]
 
+mod amount_list;
 mod amounts;
 mod cell;
 mod cells;
@@ -12,6 +13,7 @@ mod rows;
 mod samples;
 mod shared;
 
+pub use amount_list::AmountList;
 pub use cell::CellStop;
 pub use cells::Cells;
 pub use group::{SetCells, SummaryCells};

@@ -1,22 +1,16 @@
 //! The totals or the maxima of a row's cells.
 //! The rules: docs/CALCULATION.md, "Kinds of exceedance curves".
-ghost use Rattle.std.specs.Prelude.{◌≡◌, ◌≤◌, ◌-◌, ◌++◌, ◌∷◌, [], ◌&&◌, nat_eq, length, if◌then◌else◌, OnOk, Some};
+ghost use Rattle.std.specs.Prelude.{◌≡◌, ◌≤◌, ◌<◌, ◌+◌, ◌-◌, ◌++◌, ◌∷◌, [], All, false, length, sum, take, OnOk};
 ghost use Rattle.std.specs.List.{list_any};
 ghost use Rattle.kt_period_cells.specs.RowCells.{IsRising, cell_in, cells_of, placed};
-ghost use Rattle.kt_period_cells.specs.Amounts.{HaveMore, amount_in, amount_or_none};
+ghost use Rattle.kt_period_cells.specs.Amounts.{HasMore, HasRoom, HaveMore, amount_or_none};
 ghost use Rattle.kt_period_cells.specs.Sets.{same_bool};
-ghost use Rattle.kt_period_cells.specs.SummaryRows.{has_total, has_any, cell_amounts};
+ghost use Rattle.kt_period_cells.specs.SummaryRows.{cell_amount, cell_amounts, has_any, has_total};
 
 use super::{Row, placed_cell};
-use crate::cell::Cell;
+use crate::amount_list::AmountList;
+use crate::cell::{Cell, amount, has_total, one_if};
 use kt_money::OutOfMemory;
-
-/// The maximum of a cell, or its total, in cents.
-pub(crate) fn amount(cell: &Cell, maxima: bool) -> u64
-    ensures value { result ≡ amount_in maxima (Some cell.now) }
-{
-    if maxima { cell.maximum } else { cell.total }
-}
 
 /// Appends the amount of a cell, where there is one. An error is want of memory.
 fn push_found(found: &mut Vec<u64>, cell: Option<Cell>, maxima: bool) -> Result<(), OutOfMemory>
@@ -29,22 +23,38 @@ fn push_found(found: &mut Vec<u64>, cell: Option<Cell>, maxima: bool) -> Result<
     Ok(())
 }
 
-/// Appends the amounts of samples among the cells of all samples, each to a list of its own: that of the last to the first list, and that
-/// of the sample before to each other. An error is want of memory.
-fn push_placed_samples(
-    lists: &mut [Vec<u64>],
-    places: &[Cell],
-    last: u32,
-    maxima: bool,
-) -> Result<(), OutOfMemory>
+/// Appends the amount of a cell, where there is one, to a list that has room.
+fn put_found(list: &mut AmountList, cell: Option<Cell>, maxima: bool)
+    requires { HasRoom list.old }
+    ensures { HasMore (amount_or_none maxima cell) list.old list.new }
+{
+    match cell {
+        Some(cell) => list.put(amount(&cell, maxima), true),
+        None => list.put(0, false),
+    }
+}
+
+/// Appends the amount of a place, where it has a cell, to a list that has room.
+#[inline]
+fn put_place(list: &mut AmountList, place: &Cell, maxima: bool)
+    requires { HasRoom list.old }
+    ensures { HasMore (cell_amount maxima place.now) list.old list.new }
+{
+    list.put(amount(place, maxima), has_total(place));
+}
+
+/// Appends the amounts of samples that have places, each to a list of its own: that of the last to the first list, and that of the sample
+/// before to each other.
+fn put_places(lists: &mut [AmountList], places: &[Cell], last: usize, maxima: bool)
     requires count { length lists.old ≤ last }
+    requires place { last < length places.now }
+    requires room { All HasRoom lists.old }
     ensures many { length lists.new ≡ length lists.old }
-    ensures ok { OnOk result (HaveMore (λ k. amount_or_none maxima (cell_in (placed 0 places.now) (last - k))) lists.old lists.new) }
+    ensures more { HaveMore (λ k. amount_or_none maxima (cell_in (placed 0 places.now) (last - k))) lists.old lists.new }
 {
     for k in 0..lists.len() {
-        push_found(&mut lists[k], placed_cell(places, last - k as u32), maxima)?;
+        put_place(&mut lists[k], &places[last - k], maxima);
     }
-    Ok(())
 }
 
 /// Whether two answers are the same.
@@ -52,13 +62,6 @@ fn is_same(one: bool, other: bool) -> bool
     ensures value { result ≡ same_bool one other }
 {
     if one { other } else { !other }
-}
-
-/// Whether a place has a cell.
-fn has_total(cell: &Cell) -> bool
-    ensures value { result ≡ has_total cell.now }
-{
-    cell.total != 0
 }
 
 /// Whether one of the places has a cell.
@@ -85,6 +88,33 @@ fn push_listed(
     Ok(())
 }
 
+/// Writes the amounts of the places of samples that have cells, from that of sample 1 on, behind values that there are. Returns how many
+/// values there are then; what stands behind them has no meaning.
+fn write_samples(values: &mut [u64], used: usize, samples: &[Cell], maxima: bool) -> usize
+    requires room { used + length samples.now ≤ length values.old }
+    ensures size { length values.new ≡ length values.old }
+    ensures value { take result values.new ≡ take used values.old ++ cell_amounts maxima false (placed 1 samples.now) }
+{
+    let mut end = used;
+    for cell in samples {
+        // Written in any case and counted where there is a cell, so that there is no branch.
+        values[end] = amount(cell, maxima);
+        end += one_if(has_total(cell));
+    }
+    end
+}
+
+/// Appends the amounts of the places of samples that have cells, from that of sample 1 on. An error is want of memory.
+fn push_samples(found: &mut Vec<u64>, samples: &[Cell], maxima: bool) -> Result<(), OutOfMemory>
+    ensures ok { OnOk result (found.new.items ≡ found.old.items ++ cell_amounts maxima false (placed 1 samples.now)) }
+{
+    let used = found.len();
+    found.resize(used + samples.len(), 0)?;
+    let end = write_samples(found.as_mut_slice(), used, samples, maxima);
+    found.truncate(end);
+    Ok(())
+}
+
 /// Appends the amounts of the cells of all samples: of the mean, or of all others.
 fn push_placed(
     found: &mut Vec<u64>,
@@ -94,26 +124,58 @@ fn push_placed(
 ) -> Result<(), OutOfMemory>
     ensures ok { OnOk result (found.new.items ≡ found.old.items ++ cell_amounts maxima mean (placed 0 places.now)) }
 {
-    for (sample, cell) in places.iter().enumerate() {
-        push_cell(found, cell, sample, mean, maxima)?;
+    if mean {
+        return push_found(found, placed_cell(places, 0), maxima);
     }
-    Ok(())
+    let [_mean, samples @ ..] = places else {
+        return Ok(());
+    };
+    push_samples(found, samples, maxima)
 }
 
-/// Appends the amount of a place that has a cell: of the mean, or of another sample. An error is want of memory.
-fn push_cell(
-    found: &mut Vec<u64>,
-    cell: &Cell,
-    sample: usize,
-    mean: bool,
-    maxima: bool,
-) -> Result<(), OutOfMemory>
-    ensures ok { OnOk result (found.new.items ≡ found.old.items ++ (if has_total cell.now && same_bool (nat_eq sample 0) mean then amount_in maxima (Some cell.now) ∷ [] else [])) }
+/// The sum of the amounts of the samples among listed cells.
+fn listed_sum(cells: &[(u32, Cell)], maxima: bool) -> u128
+    ensures value { result ≡ sum (cell_amounts maxima false cells.now) }
 {
-    if has_total(cell) && is_same(sample == 0, mean) {
-        found.push(amount(cell, maxima))?;
+    let mut total = 0u128;
+    for one in cells {
+        total += u128::from(listed_amount(one, maxima));
     }
-    Ok(())
+    total
+}
+
+/// The amount of a listed cell, 0 where it is that of the mean.
+fn listed_amount(one: &(u32, Cell), maxima: bool) -> u64
+    ensures { result ≡ sum (cell_amounts maxima false (one.now ∷ [])) }
+{
+    if one.0 == 0 {
+        0
+    } else {
+        amount(&one.1, maxima)
+    }
+}
+
+/// The sum of the amounts of the places of samples, from that of sample 1 on.
+fn placed_sum(samples: &[Cell], maxima: bool) -> u128
+    ensures value { result ≡ sum (cell_amounts maxima false (placed 1 samples.now)) }
+{
+    let mut total = 0u128;
+    for cell in samples {
+        total += u128::from(place_amount(cell, maxima));
+    }
+    total
+}
+
+/// The amount of a place, 0 where it has no cell.
+#[inline]
+fn place_amount(place: &Cell, maxima: bool) -> u64
+    ensures { result ≡ sum (cell_amount maxima place.now) }
+{
+    if has_total(place) {
+        amount(place, maxima)
+    } else {
+        0
+    }
 }
 
 impl Row {
@@ -142,40 +204,43 @@ impl Row {
         push_placed(found, self.places.as_slice(), mean, maxima)
     }
 
-    /// Appends the amounts of samples, as `push_samples` does, where the cells are listed. An error is want of memory.
-    fn push_listed_samples(
-        &self,
-        lists: &mut [Vec<u64>],
-        last: u32,
-        maxima: bool,
-    ) -> Result<(), OutOfMemory>
+    /// The sum of the amounts of all samples.
+    pub(crate) fn samples_sum(&self, maxima: bool) -> u128
+        ensures value { result ≡ sum (cell_amounts maxima false (cells_of self.now)) }
+    {
+        let [_mean, samples @ ..] = self.places.as_slice() else {
+            return listed_sum(self.listed.as_slice(), maxima);
+        };
+        placed_sum(samples, maxima)
+    }
+
+    /// Appends the amounts of samples, as `put_samples` does, looking for each cell.
+    fn put_cells(&self, lists: &mut [AmountList], last: u32, maxima: bool)
         requires rising { IsRising (cells_of self.now) }
         requires count { length lists.old ≤ last }
+        requires room { All HasRoom lists.old }
         ensures many { length lists.new ≡ length lists.old }
-        ensures ok { OnOk result (HaveMore (λ k. amount_or_none maxima (cell_in (cells_of self.now) (last - k))) lists.old lists.new) }
+        ensures more { HaveMore (λ k. amount_or_none maxima (cell_in (cells_of self.now) (last - k))) lists.old lists.new }
     {
         for k in 0..lists.len() {
-            push_found(&mut lists[k], self.cell(last - k as u32), maxima)?;
+            put_found(&mut lists[k], self.cell(last - k as u32), maxima);
         }
-        Ok(())
     }
 
     /// Appends the amounts of samples, each to a list of its own: that of the last to the first list, and that of the sample before to each
-    /// other. An error is want of memory.
-    pub(crate) fn push_samples(
-        &self,
-        lists: &mut [Vec<u64>],
-        last: u32,
-        maxima: bool,
-    ) -> Result<(), OutOfMemory>
+    /// other.
+    pub(crate) fn put_samples(&self, lists: &mut [AmountList], last: u32, maxima: bool)
         requires rising { IsRising (cells_of self.now) }
         requires count { length lists.old ≤ last }
+        requires room { All HasRoom lists.old }
         ensures many { length lists.new ≡ length lists.old }
-        ensures ok { OnOk result (HaveMore (λ k. amount_or_none maxima (cell_in (cells_of self.now) (last - k))) lists.old lists.new) }
+        ensures more { HaveMore (λ k. amount_or_none maxima (cell_in (cells_of self.now) (last - k))) lists.old lists.new }
     {
-        if self.places.is_empty() {
-            return self.push_listed_samples(lists, last, maxima);
+        let places = self.places.as_slice();
+        if last as usize >= places.len() {
+            self.put_cells(lists, last, maxima);
+            return;
         }
-        push_placed_samples(lists, self.places.as_slice(), last, maxima)
+        put_places(lists, places, last as usize, maxima);
     }
 }

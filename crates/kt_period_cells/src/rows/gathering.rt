@@ -35,7 +35,7 @@ impl Rows {
         // The rows say that their keys differ.
         let _held = self.held;
         let found = self.gathered(perspective, set)?;
-        ByKey::new(self.alloc, found.as_slice())
+        ByKey::of_rows(found)
     }
 
     /// The cells of a perspective and set, by summary. An error is want of memory.

@@ -14,12 +14,12 @@ small a samples few low = omega (arith, few, low)
 pub append_means-requires-clause-most : goal.append_means-requires-clause-most
 append_means-requires-clause-most c =
     sums_most c.args.group.now.perspective c.args.group.now.set c.args.group.now.periods c.args.group.now.samples c.args.group.now.summary (group_entries c.args.group.now) c.args.group.now.maxima c.add_periods.new.sums c.requires.group.cells
-    c.in_ok-add_periods.ensures.len (λ place inside. c.in_ok-add_periods.ensures.sums place)
+    c.add_periods.ensures.len (λ place inside. c.add_periods.ensures.sums place)
 
 pub returns : goal.returns
 returns c = record {
   ok = let values = means_of_periods c.args.group.now.perspective c.args.group.now.set c.args.group.now.periods c.args.group.now.samples c.args.group.now.summary (group_entries c.args.group.now) c.args.group.now.maxima c.add_periods.new.sums c.requires.group.cells
-      c.in_ok-add_periods.ensures.len (λ place inside. c.in_ok-add_periods.ensures.sums place) in
+      c.add_periods.ensures.len (λ place inside. c.add_periods.ensures.sums place) in
       on_more c.append_means.result (λ rows. rows ∙ ap (λ values. c.args.out.now ++ curve_rows c.args.group.now.summary 2 c.args.group.now.periods values c.args.returns.now) values) c.append_means.ensures.ok;
 }
 

@@ -1,9 +1,6 @@
 -- The samples of one row, added to the sum of its period.
-use Rattle.std.proofs.Common.{◌-◌, ◌++◌, arith, ap, ◌∙◌}
-use Rattle.std.specs.Prelude.{false, sum}
+use Rattle.std.proofs.Common.{◌-◌, arith}
 use Rattle.kt_period_cells.specs.Amounts.{of_period}
-use Rattle.kt_period_cells.specs.RowCells.{cells_of}
-use Rattle.kt_period_cells.specs.SummaryRows.{cell_amounts}
 use Rattle.kt_period_cells.proofs.RowAmounts.{no_sum, row_period, period_here, period_added}
 use Rattle.kt_period_cells.proofs.amounts.add_period.Goals as goal
 
@@ -14,13 +11,11 @@ pub overflow_add-sums : goal.overflow_add-sums
 overflow_add-sums c =
     let row = c.index-rows-place.result in
     let period = row_period _ c.args.rows.now c.args.place.now.row row c.requires.periods (omega (arith, c.if-place-rows.false)) c.index-rows-place.is in
-    let total = c.sum_of.ensures.value ∙ ap sum (c.as_slice.ensures.value ∙ c.in_ok-push_kind.ensures.ok ∙ ap (λ xs. xs ++ cell_amounts c.args.maxima false (cells_of row)) c.new-amounts.ensures.items) in
-    let here = period_here c.args.maxima c.args.rows.now c.args.place.now.row row c.sum_of.result (omega (arith, c.if-place-rows.false)) c.index-rows-place.is period.0 total in
+    let here = period_here c.args.maxima c.args.rows.now c.args.place.now.row row c.samples_sum.result (omega (arith, c.if-place-rows.false)) c.index-rows-place.is period.0 c.samples_sum.ensures.value in
     omega (arith, here, c.requires.room (row.key.period - 1))
 
 pub returns-clause-sums : goal.returns-clause-sums
 returns-clause-sums c = λ t.
     let row = c.index-rows-place.result in
     let period = row_period _ c.args.rows.now c.args.place.now.row row c.requires.periods (omega (arith, c.if-place-rows.false)) c.index-rows-place.is in
-    let total = c.sum_of.ensures.value ∙ ap sum (c.as_slice.ensures.value ∙ c.in_ok-push_kind.ensures.ok ∙ ap (λ xs. xs ++ cell_amounts c.args.maxima false (cells_of row)) c.new-amounts.ensures.items) in
-    period_added c.args.maxima c.args.rows.now c.args.place.now.row row c.args.sums.now c.sum_of.result (omega (arith, c.if-place-rows.false)) c.index-rows-place.is period.0 period.1 total t
+    period_added c.args.maxima c.args.rows.now c.args.place.now.row row c.args.sums.now c.samples_sum.result (omega (arith, c.if-place-rows.false)) c.index-rows-place.is period.0 period.1 c.samples_sum.ensures.value t

@@ -1,8 +1,11 @@
--- So many empty lists.
-use Rattle.std.proofs.Common.{◌≡◌, ℕ, [], map, replicate}
-use Rattle.std.specs.Prelude.{Vec}
-use Rattle.std.specs.declared.alloc.Global.{Global}
+-- The first lists are empty.
+use Rattle.std.proofs.Common.{◌≡◌, length}
+use Rattle.std.specs.Prelude.{All}
+use Rattle.kt_period_cells.specs.Amounts.{IsRoom}
 use Rattle.kt_period_cells.proofs.amounts.empty_lists.Given as goal
 
 abbrev pub invariant-loop-list : goal.invariant-loop-list
-invariant-loop-list l = map (λ (one : Vec ℕ Global). one.items) l.lists.items ≡ replicate l._list []
+invariant-loop-list l = record {
+  many : length l.lists.items ≡ l._list;
+  empty : All (IsRoom l.room) l.lists.items;
+}

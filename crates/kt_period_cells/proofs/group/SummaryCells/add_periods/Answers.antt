@@ -31,8 +31,8 @@ pub loop-place-preserved : goal.loop-place-preserved
 loop-place-preserved c =
     let group = c.args.self.now in
     record {
-      len = c.in_ok-add_period.ensures.len ∙ c.loop-place.invariant.len;
+      len = c.add_period.ensures.len ∙ c.loop-place.invariant.len;
       sums = λ period.
           let more = sum_more group.maxima (of_period (period + 1)) group.rows.now group.places.now c.loop-place.place-index (get_or group.places.now c.loop-place.place-index none) c.loop-place-test.true (get_or_default group.places.now c.loop-place.place-index none _ c.loop-place-test.true) in
-          c.in_ok-add_period.ensures.sums period ∙ ap (λ n. n + sum (amounts_of group.maxima (of_period (period + 1)) (entries_in (row_at group.rows.now (get_or group.places.now c.loop-place.place-index none).row)))) (c.loop-place.invariant.sums period) ∙ sym more;
+          c.add_period.ensures.sums period ∙ ap (λ n. n + sum (amounts_of group.maxima (of_period (period + 1)) (entries_in (row_at group.rows.now (get_or group.places.now c.loop-place.place-index none).row)))) (c.loop-place.invariant.sums period) ∙ sym more;
     }

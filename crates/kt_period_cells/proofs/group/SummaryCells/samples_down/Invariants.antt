@@ -1,5 +1,6 @@
--- The amounts of the first rows.
-use Rattle.std.proofs.Common.{◌≡◌, length, take}
+-- The amounts of the first rows, and room for those of the others.
+use Rattle.std.proofs.Common.{◌≡◌, ◌≤◌, ◌<◌, ℕ, length, slice_index_or, take}
+use Rattle.kt_period_cells.specs.declared.amount_list.AmountList.{AmountList}
 use Rattle.kt_period_cells.specs.Amounts.{AreSamplesDown}
 use Rattle.kt_period_cells.specs.SummaryRows.{place_entries}
 use Rattle.kt_period_cells.proofs.group.SummaryCells.samples_down.Given as goal
@@ -8,4 +9,6 @@ abbrev pub invariant-loop-place : goal.invariant-loop-place
 invariant-loop-place l = record {
   many : length l.lists.items ≡ l.count;
   each : AreSamplesDown l.self.maxima (place_entries l.self.rows.now (take l.place-index l.self.places.now)) l.last l.lists.items;
+  few : (k : ℕ) (d : AmountList) → k < length l.lists.items → (slice_index_or l.lists.items k d).used ≤ l.place-index;
+  size : (k : ℕ) (d : AmountList) → k < length l.lists.items → length (slice_index_or l.lists.items k d).values.items ≡ length l.self.places.now;
 }
