@@ -10,3 +10,4 @@ pub mod Means
 pub mod Exceedances
 pub mod SetTexts
 pub mod Gathered
+pub mod RankMeans

@@ -15,10 +15,9 @@ use Rattle.kt_period_cells.specs.Losses.{same_key, key_of}
 use Rattle.kt_period_cells.specs.Sets.{IsGroup}
 use Rattle.kt_curve.specs.Grid.{sample_sidx}
 use Rattle.kt_period_cells.specs.Standing.{cell_at, most_total, FitsCells}
-use Rattle.kt_period_cells.specs.Amounts.{amount_in, amounts_of, of_period, of_sample}
-use Rattle.kt_curve.specs.Exceedance.{ranked_loss, sidx_values, period_means, rank_means}
-use Rattle.kt_curve.proofs.Grids.{at_choice, length_keys, single_times}
-use Rattle.kt_curve.proofs.Moments.{few_by, length_amounts}
+use Rattle.kt_period_cells.specs.Amounts.{amount_in, amounts_of, of_period}
+use Rattle.kt_curve.specs.Exceedance.{period_means}
+use Rattle.kt_curve.proofs.Grids.{at_choice}
 use Rattle.kt_curve.proofs.Periods.{period_sum}
 
 -- ---- lists by place
@@ -92,20 +91,6 @@ means_of_periods p s n samples u group maxima sums is len at =
     (λ i inside. at i inside ∙ ap (λ t. sum (amounts_of maxima (of_period t) group)) (let e : i + 1 ≡ 1 + i = omega arith in e) ∙ period_amounts p s n samples u group maxima (1 + i) is)
 
 -- ---- the means of the ranks
-
--- a sample has at most as many amounts as there are periods
-pub sample_few : (p : Perspective) (s n samples u : ℕ) (group : List (CellKey × Cell)) (maxima : Bool) (sample : ℕ) → IsGroup p s n samples u group → length (amounts_of maxima (of_sample sample) group) ≤ n
-sample_few p s n samples u group maxima sample is =
-    let few = few_by p s n samples u group (pos sample ∷ []) (of_sample sample) is (λ e within. single_times (pos sample) e.0.sidx) in
-    omega (arith, length_amounts maxima (filter (of_sample sample) group), few, length_keys p s u n (pos sample ∷ []))
-
--- the means of the sums of the ranks
-pub means_of_ranks : (p : Perspective) (s n samples u : ℕ) (amount : CellKey → ℕ) (sums : List ℕ) → length sums ≡ n →
-    ((place : ℕ) → get_or sums place 0 ≡ sum_by (λ sidx. ranked_loss (sidx_values p s n amount u sidx) place) (sample_sidx samples)) →
-    map (λ total. half_up total samples) sums ≡ rank_means p s n samples amount u
-means_of_ranks p s n samples u amount sums len at =
-    by_places (λ total. half_up total samples) (λ rank. sum_by (λ sidx. ranked_loss (sidx_values p s n amount u sidx) rank) (sample_sidx samples)) 0 n sums len
-    (λ i inside. at i ∙ ap (λ t. sum_by (λ sidx. ranked_loss (sidx_values p s n amount u sidx) t) (sample_sidx samples)) (let e : i ≡ 0 + i = omega arith in e))
 
 -- values by place behind those that were added
 pub added_all : (sums base xs : List ℕ) (i : ℕ) → length xs ≤ i → ((place : ℕ) → place < i → get_or sums place 0 ≡ get_or base place 0 + get_or xs place 0) → ((place : ℕ) → i ≤ place → get_or sums place 0 ≡ get_or base place 0) →

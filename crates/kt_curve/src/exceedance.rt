@@ -4,21 +4,11 @@ ghost use Rattle.std.specs.Prelude.{◌≡◌, ◌+◌, ◌-◌, ◌*◌, ◌/�
 ghost use Rattle.std.specs.List.{slice_index};
 ghost use Rattle.kt_period_cells.specs.Standing.{most_total};
 ghost use Rattle.kt_curve.specs.Exceedance.{loss_between, lec_row, curve_rows, exceedance_loss};
-ghost use Rattle.kt_curve.specs.Ranks.{SameRanks, HasLosses};
+ghost use Rattle.kt_curve.specs.Ranks.{AreFalling, HasLosses, SameRanks};
 
-use crate::ranks::place_losses;
+use crate::ranks::{loss_of_rank, place_losses};
 use kt_money::{Bytes, OutOfMemory, Row};
 use std::alloc::Global;
-
-/// The loss of a rank, counted from 0; 0 behind the last.
-fn loss_of_rank(ranked: &[u64], rank: u64) -> u64
-    ensures value { result ≡ slice_index ranked.now rank }
-{
-    match usize::try_from(rank) {
-        Ok(place) if place < ranked.len() => ranked[place],
-        _ => 0,
-    }
-}
 
 /// What lies between two ranked losses.
 fn between(count: u64, period: u32, rank: u64, upper: u64, lower: u64) -> u64
@@ -72,6 +62,31 @@ fn append_row(
     out.append(row.as_slice())
 }
 
+/// Appends the rows of a curve of `count` values, of which the losses of the ranks that it asks for stand at their places. An error is
+/// want of memory.
+pub(crate) fn append_rows(
+    out: &mut Bytes,
+    summary: u32,
+    column: u32,
+    count: u64,
+    ranked: &[u64],
+    returns: &[u32],
+) -> Result<(), OutOfMemory>
+    requires count { count ≤ 10 ^ 8 }
+    requires returns { All (λ period. 1 ≤ period) returns.now }
+    requires falls { All (λ period. period ≤ count → AreFalling ranked.now count period) returns.now }
+    ensures ok { OnOk result ((values : List ℕ) → All (λ period. period ≤ count → HasLosses ranked.now values count period) returns.now → out.new ≡ out.old ++ curve_rows summary column count values returns.now) }
+{
+    for period in returns {
+        if u64::from(*period) > count {
+            continue;
+        }
+        let loss = exceedance_loss(ranked, count, *period);
+        append_row(out, summary, column, *period, loss)?;
+    }
+    Ok(())
+}
+
 /// Appends the rows of a curve of `count` values, of which those that are not listed are 0. It leaves the values in no order. An
 /// error is want of memory.
 pub(crate) fn append_values(
@@ -89,12 +104,5 @@ pub(crate) fn append_values(
     ensures ok { OnOk result ((whole : List ℕ) → SameRanks values.old whole → out.new ≡ out.old ++ curve_rows summary column count whole returns.now) }
 {
     place_losses(alloc, values, count, returns)?;
-    for period in returns {
-        if u64::from(*period) > count {
-            continue;
-        }
-        let loss = exceedance_loss(values, count, *period);
-        append_row(out, summary, column, *period, loss)?;
-    }
-    Ok(())
+    append_rows(out, summary, column, count, values, returns)
 }

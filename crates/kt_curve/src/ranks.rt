@@ -25,7 +25,7 @@ pub(crate) fn rank(values: &mut [u64])
 }
 
 /// The ranks of the losses that a curve of `count` values asks for, falling. An error is want of memory.
-fn ranks_of(alloc: Global, count: u64, returns: &[u32]) -> Result<Vec<u64>, OutOfMemory>
+pub(crate) fn ranks_of(alloc: Global, count: u64, returns: &[u32]) -> Result<Vec<u64>, OutOfMemory>
     requires count { count ≤ 10 ^ 8 }
     requires returns { All (λ period. 1 ≤ period) returns.now }
     ensures falls { IfOk result (λ ranks. Falls ranks.items) }
@@ -79,8 +79,37 @@ fn append_losses(
     }
 }
 
+/// The loss of a rank, counted from 0; 0 behind the last.
+pub(crate) fn loss_of_rank(ranked: &[u64], rank: u64) -> u64
+    ensures value { result ≡ slice_index ranked.now rank }
+{
+    match usize::try_from(rank) {
+        Ok(place) if place < ranked.len() => ranked[place],
+        _ => 0,
+    }
+}
+
+/// Appends the losses of falling ranks. It leaves the values in no order. An error is want of memory.
+pub(crate) fn append_ranked(
+    losses: &mut Vec<u64>,
+    values: &mut [u64],
+    ranks: &[u64],
+) -> Result<(), OutOfMemory>
+    requires falls { Falls ranks.now }
+    ensures ok { OnOk result (losses.new.items ≡ losses.old.items ++ map (ranked_loss values.old) ranks.now) }
+{
+    if values.len() > FEW {
+        return append_losses(losses, values, 0, ranks);
+    }
+    rank(values);
+    for place in ranks {
+        losses.push(loss_of_rank(values, *place))?;
+    }
+    Ok(())
+}
+
 /// Puts the losses of ranks at their places.
-fn put_losses(values: &mut [u64], ranks: &[u64], losses: &[u64])
+pub(crate) fn put_losses(values: &mut [u64], ranks: &[u64], losses: &[u64])
     requires { length losses.now ≡ length ranks.now }
     ensures { (whole : List ℕ) → length whole ≡ length values.old → losses.now ≡ map (ranked_loss whole) ranks.now → All (λ rank. slice_index values.new rank ≡ ranked_loss whole rank) ranks.now }
 {
