@@ -9,8 +9,9 @@ use kt_period_cells::{AmountList, SummaryCells};
 use std::alloc::Global;
 use std::marker::Model;
 
-/// How many samples are gathered at once.
-const AT_ONCE: u32 = 8;
+/// How many samples are gathered at once: their cells stand side by side in each row, so that a pass over the rows waits for memory once
+/// for all of them.
+const AT_ONCE: u32 = 32;
 
 /// The amounts of a summary's samples, in cents. Those of some samples are gathered at once, in one pass over the rows, and taken one after
 /// the other. Contracts see the summary.
