@@ -158,7 +158,7 @@ module _ (tree : Tree) (parts : Parts) (is : IsProgramme tree parts) (places : L
 -- ---- the amounts of a row, share by share
 
 -- as many pairs as keys
-length-paired : (keys amounts : List ℕ) → length amounts ≡ length keys → length (zip keys amounts) ≡ length keys
+pub length-paired : (keys amounts : List ℕ) → length amounts ≡ length keys → length (zip keys amounts) ≡ length keys
 length-paired [] amounts same = refl
 length-paired (key ∷ keys) [] same = absurd (omega arith)
 length-paired (key ∷ keys) (amount ∷ amounts) same = ap suc (length-paired keys amounts (omega arith))

@@ -15,10 +15,11 @@ use Rattle.kt_runs.specs.Sidx.{pair_of, pairs_of, place_of, sidx_at}
 use Rattle.kt_tree.specs.Tree.{Tree}
 use Rattle.kt_fmtree.specs.Parts.{Parts, IsProgramme}
 use Rattle.kt_shares.specs.HoldsLaws.{apart}
+use Rattle.kt_shares.specs.Less.{amount_in}
 use Rattle.kt_shares.specs.RowLaws.{pairs-agree, sample-place}
 use Rattle.kt_shares.specs.Shares.{insured_range}
 use Rattle.kt_shares.specs.Table.{pairs_by_row, row_place}
-use Rattle.kt_ri.specs.Ceded.{AreCeded, ceded_in, part_behind}
+use Rattle.kt_ri.specs.Ceded.{AreCeded, part_behind}
 use Rattle.kt_ri.specs.Ceding.{IsPlaceOf}
 use Rattle.kt_ri.specs.Left.{left_at, pairs_left}
 use Rattle.kt_ri.specs.Reinsurance.{ceded_at}
@@ -136,20 +137,20 @@ rows-left samples ceded (pair ∷ pairs) each rises = by (has-row samples pair.s
 -- ---- what the id of a record cedes
 
 -- the lane in the place of an id
-pub lane-at : (samples place : ℕ) (ceded : List (List ℕ)) (lane : List ℕ) → AreWide (samples + 1) ceded → place < length ceded → lane ≡ slice_index_or ceded place lane → IsLane (samples + 1) (ceded_in ceded (Some place)) lane
+pub lane-at : (samples place : ℕ) (ceded : List (List ℕ)) (lane : List ℕ) → AreWide (samples + 1) ceded → place < length ceded → lane ≡ slice_index_or ceded place lane → IsLane (samples + 1) (amount_in ceded (Some place)) lane
 lane-at samples place ceded lane wide below is = record {
   wide = ap length is ∙ wide place lane below;
   each = λ row within. ap (λ (one : List ℕ). slice_index one row) is ∙ sym (column-at row place ceded lane below);
 }
 
 -- and where it has none
-pub lane-none : (samples : ℕ) (ceded : List (List ℕ)) (nothing : List ℕ) → Holds (samples + 1) (λ row. 0) nothing → IsLane (samples + 1) (ceded_in ceded None) nothing
+pub lane-none : (samples : ℕ) (ceded : List (List ℕ)) (nothing : List ℕ) → Holds (samples + 1) (λ row. 0) nothing → IsLane (samples + 1) (amount_in ceded None) nothing
 lane-none samples ceded nothing holds = record { wide = holds.width_is; each = holds.each }
 
 -- the pairs that are left where it cedes so much
-pub left-are : (tree : Tree) (parts : Parts) → IsProgramme tree parts → (rule samples : ℕ) (records : List LossRecord) (ceded : List (List ℕ)) → AreCeded parts rule samples records ceded → (id : ℕ) (place : Option ℕ) → IsPlaceOf parts.ids id place → (lane : List ℕ) → IsLane (samples + 1) (ceded_in ceded place) lane → (pairs : List Pair) → ArePairs samples pairs → pairs_left (slice_index lane) pairs ≡ pairs_of (λ sidx. part_behind true (loss_of sidx pairs) (ceded_at tree rule records id sidx)) (insured_range samples)
+pub left-are : (tree : Tree) (parts : Parts) → IsProgramme tree parts → (rule samples : ℕ) (records : List LossRecord) (ceded : List (List ℕ)) → AreCeded parts rule samples records ceded → (id : ℕ) (place : Option ℕ) → IsPlaceOf parts.ids id place → (lane : List ℕ) → IsLane (samples + 1) (amount_in ceded place) lane → (pairs : List Pair) → ArePairs samples pairs → pairs_left (slice_index lane) pairs ≡ pairs_of (λ sidx. part_behind true (loss_of sidx pairs) (ceded_at tree rule records id sidx)) (insured_range samples)
 left-are tree parts is rule samples records ceded cedes id place found lane lane_is pairs are =
     sym (rows-left samples (slice_index lane) pairs are.each are.rising)
-    ∙ (pairs-agree (λ row. loss_of (sidx_at (row_place row)) pairs - slice_index lane row) (λ row. part_behind true (loss_of (sidx_at (row_place row)) pairs) (ceded_in ceded place row)) (samples + 1)
+    ∙ (pairs-agree (λ row. loss_of (sidx_at (row_place row)) pairs - slice_index lane row) (λ row. part_behind true (loss_of (sidx_at (row_place row)) pairs) (amount_in ceded place row)) (samples + 1)
     (λ row below. ap (part_behind true (loss_of (sidx_at (row_place row)) pairs)) (lane_is.each row below))
     ∙ behind-are tree parts is rule samples records ceded cedes id place found true pairs)

@@ -1,6 +1,7 @@
 pub mod PlaceLemmas
 pub mod FewLemmas
 pub mod CededLemmas
+pub mod TurnLemmas
 pub mod NetLemmas
 mod SidxRowLemmas
 pub mod LeftLemmas

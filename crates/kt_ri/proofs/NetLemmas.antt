@@ -1,5 +1,5 @@
 -- What is left of the records of a run, record by record.
-use Rattle.std.proofs.Common.{◌≡◌, ℕ, ◌+◌, ◌-◌, ◌<◌, ◌≤◌, ◌||◌, Bool, true, false, cond, nat_eq, ℤ, List, [], ◌∷◌, Option, Some, None, length, map, slice_index, refl, sym, ap, subst, ◌∙◌, arith}
+use Rattle.std.proofs.Common.{◌≡◌, ℕ, suc, ◌+◌, ◌-◌, ◌<◌, ◌≤◌, ◌||◌, Bool, true, false, cond, nat_eq, ℤ, List, [], ◌∷◌, Option, Some, None, length, map, slice_index, refl, sym, ap, subst, ◌∙◌, arith}
 use Rattle.std.specs.Prelude.{All, unwrap_or}
 use Rattle.std.specs.List.{AllByRecursion, cons_option, filter, filter_map, list_any, sum_by}
 use Rattle.std.proofs.lemmas.List.Elements.{All-from_recursion, recursion_from_All}
@@ -16,13 +16,14 @@ use Rattle.kt_tree.specs.Tree.{Tree, beneath, comes_to}
 use Rattle.kt_fmtree.specs.Parts.{Parts, IsProgramme}
 use Rattle.kt_fmtree.specs.RisingLaws.{rising-made}
 use Rattle.kt_shares.specs.LookupLaws.{lookup-none}
+use Rattle.kt_shares.specs.Less.{IsPlaceIn, amount_in, records_less}
 use Rattle.kt_shares.specs.PairLaws.{pairs-le}
 use Rattle.kt_shares.specs.RecordLaws.{record-event, record-good, record-id}
 use Rattle.kt_shares.specs.RowLaws.{pairs-agree, rows-are}
 use Rattle.kt_shares.specs.Shares.{insured_range, layers_of, part_of_id, record_with}
 use Rattle.kt_shares.specs.Table.{pairs_by_row, row_place}
-use Rattle.kt_ri.specs.Ceded.{AreCeded, AreRows, IsPlaceIn, ceded_in, pairs_behind, part_behind}
-use Rattle.kt_ri.specs.Ceding.{IsPlaceOf}
+use Rattle.kt_ri.specs.Ceded.{AreCeded, AreRows, pairs_behind, part_behind, record_behind}
+use Rattle.kt_ri.specs.Ceding.{AreRecordPlaces, IsPlaceOf}
 use Rattle.kt_ri.specs.Reinsurance.{ceded_at, ceded_loss, net_record, net_records}
 
 -- ---- places
@@ -31,6 +32,23 @@ use Rattle.kt_ri.specs.Reinsurance.{ceded_at, ceded_loss, net_record, net_record
 pub place-inside : (ids : List ℕ) (id samples : ℕ) (ceded : List (List ℕ)) → AreRows (length ids) samples ceded → (place : Option ℕ) → IsPlaceOf ids id place → IsPlaceIn ceded place
 place-inside ids id samples ceded are None is = tt
 place-inside ids id samples ceded are (Some place) is = omega (arith, is.0, are.many)
+
+-- the places of the ids of records have lanes
+pub places-inside : (ids : List ℕ) (samples : ℕ) (ceded : List (List ℕ)) → AreRows (length ids) samples ceded → (records : List LossRecord) (places : List (Option ℕ)) → AreRecordPlaces ids records places → All (IsPlaceIn ceded) places
+places-inside ids samples ceded are records places found = All-from_recursion (IsPlaceIn ceded) places (over records places found)
+  where
+    over : (records : List LossRecord) (places : List (Option ℕ)) → AreRecordPlaces ids records places → AllByRecursion (IsPlaceIn ceded) places
+    over [] [] found = tt
+    over [] (place ∷ places) found = absurd found
+    over (entry ∷ records) [] found = absurd found
+    over (entry ∷ records) (place ∷ places) found = (place-inside ids entry.id samples ceded are place found.0, over records places found.1)
+
+-- there are as many as records
+pub places-many : (ids : List ℕ) (records : List LossRecord) (places : List (Option ℕ)) → AreRecordPlaces ids records places → length places ≡ length records
+places-many ids [] [] found = refl
+places-many ids [] (place ∷ places) found = absurd found
+places-many ids (entry ∷ records) [] found = absurd found
+places-many ids (entry ∷ records) (place ∷ places) found = ap suc (places-many ids records places found.1)
 
 -- an id that is not one of the programme's is beneath no top
 filter-none : (test : ℕ → Bool) (id : ℕ) (ids : List ℕ) → list_any (nat_eq id) ids ≡ false → list_any (nat_eq id) (filter test ids) ≡ false
@@ -58,22 +76,30 @@ ceded-none tree losses rule id none = over (layers_of tree)
 
 -- what stands at the place of an id is what it cedes
 module _ (tree : Tree) (parts : Parts) (is : IsProgramme tree parts) (rule samples : ℕ) (records : List LossRecord) (ceded : List (List ℕ)) (are : AreCeded parts rule samples records ceded) (id : ℕ) where
-  ceded-at : (place : Option ℕ) → IsPlaceOf parts.ids id place → (row : ℕ) → row < samples + 1 → ceded_in ceded place row ≡ ceded_at tree rule records id (sidx_at (row_place row))
+  ceded-at : (place : Option ℕ) → IsPlaceOf parts.ids id place → (row : ℕ) → row < samples + 1 → amount_in ceded place row ≡ ceded_at tree rule records id (sidx_at (row_place row))
   ceded-at None none row below = sym (ceded-none tree _ rule id (subst (λ ids. list_any (nat_eq id) ids ≡ false) is.ids_are none))
   ceded-at (Some place) found row below = are tree is row place below found.0 ∙ ap (λ id. ceded_at tree rule records id (sidx_at (row_place row))) found.1
 
   -- the pairs of a record are those of its net losses, or of its ceded ones
   pub behind-are : (place : Option ℕ) → IsPlaceOf parts.ids id place → (left : Bool) (pairs : List Pair) → pairs_behind left ceded samples place pairs ≡ pairs_of (λ sidx. part_behind left (loss_of sidx pairs) (ceded_at tree rule records id sidx)) (insured_range samples)
   behind-are place found left pairs =
-      rows-are samples (λ row. part_behind left (loss_of (sidx_at (row_place row)) pairs) (ceded_in ceded place row)) (λ sidx. part_behind left (loss_of sidx pairs) (ceded_at tree rule records id sidx))
+      rows-are samples (λ row. part_behind left (loss_of (sidx_at (row_place row)) pairs) (amount_in ceded place row)) (λ sidx. part_behind left (loss_of sidx pairs) (ceded_at tree rule records id sidx))
       (λ row below. ap (part_behind left (loss_of (sidx_at (row_place row)) pairs)) (ceded-at place found row below))
 
+-- what is left of records, where what their ids cede is taken from them, are their net losses
+pub less-behind : (tree : Tree) (parts : Parts) → IsProgramme tree parts → (rule samples : ℕ) (records : List LossRecord) (ceded : List (List ℕ)) → AreCeded parts rule samples records ceded → (entries : List LossRecord) (places : List (Option ℕ)) → AreRecordPlaces parts.ids entries places → records_less (samples + 1) ceded entries places ≡ filter_map (record_behind true tree rule samples records) entries
+less-behind tree parts is rule samples records ceded are [] places found = refl
+less-behind tree parts is rule samples records ceded are (entry ∷ entries) [] found = absurd found
+less-behind tree parts is rule samples records ceded are (entry ∷ entries) (place ∷ places) found =
+    ap (λ (pairs : List Pair). cons_option (record_with entry.event entry.id pairs) (records_less (samples + 1) ceded entries places)) (behind-are tree parts is rule samples records ceded are entry.id place found.0 true entry.pairs)
+    ∙ ap (cons_option (record_behind true tree rule samples records entry)) (less-behind tree parts is rule samples records ceded are entries places found.1)
+
 -- a lane of what is left of losses, or of what is ceded, has its pairs
-pub lane-behind : (samples : ℕ) (pairs : List Pair) (ceded : List (List ℕ)) (place : Option ℕ) (left : Bool) (before lane : List ℕ) → IsLane (samples + 1) (λ row. loss_of (sidx_at (row_place row)) pairs) before → IsLane (length before) (λ row. part_behind left (slice_index before row) (ceded_in ceded place row)) lane → pairs_by_row (slice_index lane) (length lane) ≡ pairs_behind left ceded samples place pairs
+pub lane-behind : (samples : ℕ) (pairs : List Pair) (ceded : List (List ℕ)) (place : Option ℕ) (left : Bool) (before lane : List ℕ) → IsLane (samples + 1) (λ row. loss_of (sidx_at (row_place row)) pairs) before → IsLane (length before) (λ row. part_behind left (slice_index before row) (amount_in ceded place row)) lane → pairs_by_row (slice_index lane) (length lane) ≡ pairs_behind left ceded samples place pairs
 lane-behind samples pairs ceded place left before lane losses behind =
     ap (pairs_by_row (slice_index lane)) (behind.wide ∙ losses.wide)
-    ∙ pairs-agree (slice_index lane) (λ row. part_behind left (loss_of (sidx_at (row_place row)) pairs) (ceded_in ceded place row)) (samples + 1)
-    (λ row below. behind.each row (subst (λ n. row < n) (sym losses.wide) below) ∙ ap (λ n. part_behind left n (ceded_in ceded place row)) (losses.each row below))
+    ∙ pairs-agree (slice_index lane) (λ row. part_behind left (loss_of (sidx_at (row_place row)) pairs) (amount_in ceded place row)) (samples + 1)
+    (λ row below. behind.each row (subst (λ n. row < n) (sym losses.wide) below) ∙ ap (λ n. part_behind left n (amount_in ceded place row)) (losses.each row below))
 
 -- ---- net losses are records of a stream, and a run
 

@@ -9,7 +9,7 @@ use Rattle.kt_runs.specs.RunLosses.{AreWithin}
 use Rattle.kt_tree.specs.Tree.{Tree}
 use Rattle.kt_structure.specs.declared.structure.Structure.{Structure}
 use Rattle.kt_ri.specs.Reinsurance.{net_records, reinsured}
-use Rattle.kt_ri.specs.Stages.{AreStages, IsStage}
+use Rattle.kt_ri.specs.Stages.{AreStages, HasStage, IsStage}
 use Rattle.kt_ri.proofs.NetLemmas.{net-event, net-good, net-known, net-rises, net-within}
 
 -- the stages behind so many leave of these losses what all leave of the records
@@ -17,6 +17,12 @@ pub record IsLeft (samples : ℕ) (records : List LossRecord) (stages : List Str
   pub left : (trees : List Tree) → AreStages trees stages → reinsured (drop stage trees) samples net ≡ reinsured trees samples records
   pub good : All (IsLoss samples) net
   pub within : AreWithin net
+
+-- net losses are records of a stream, and keep the limit of a run
+pub net-stream : (stage : Structure) → HasStage stage → (rule samples : ℕ) (records : List LossRecord) → All (IsLoss samples) records → AreWithin records → (net : List LossRecord) → ((tree : Tree) → IsStage tree stage → net ≡ net_records tree rule samples records) → All (IsLoss samples) net × AreWithin net
+net-stream stage has rule samples records are within net is =
+    let same = is has.tree has.is in
+    (subst (λ (net : List LossRecord). All (IsLoss samples) net) (sym same) (net-good has.tree rule samples records are within), subst AreWithin (sym same) (net-within has.tree rule samples records within))
 
 -- one more stage
 pub left-more : (samples : ℕ) (stages : List Structure) (stage : ℕ) (d : Structure) (net later : List LossRecord) → stage < length stages → ((tree : Tree) → IsStage tree (slice_index_or stages stage d) → later ≡ net_records tree 2 samples net) → (trees : List Tree) → AreStages trees stages → reinsured (drop (stage + 1) trees) samples later ≡ reinsured (drop stage trees) samples net

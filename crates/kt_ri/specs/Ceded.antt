@@ -1,6 +1,6 @@
 -- What the ids of a programme cede of the losses of a run, row by row.
 -- The rule: docs/FINANCIAL_MODULE.md, "Reinsurance".
-use Rattle.std.specs.Prelude.{◌≡◌, ℕ, ◌+◌, ◌-◌, ◌<◌, ◌^◌, Bool, cond, nat_eq, List, length, take, All, Option, Some, None, slice_index}
+use Rattle.std.specs.Prelude.{◌≡◌, ℕ, ◌+◌, ◌-◌, ◌<◌, ◌^◌, Bool, cond, nat_eq, List, length, take, All, Option, slice_index}
 use Rattle.std.specs.List.{filter_map, sum_by, zip}
 use Rattle.kt_stream.specs.declared.entry.LossRecord.{LossRecord}
 use Rattle.kt_stream.specs.declared.entry.Pair.{Pair}
@@ -10,6 +10,7 @@ use Rattle.kt_runs.specs.RunLosses.{loss_of}
 use Rattle.kt_runs.specs.Sidx.{pairs_of, sidx_at}
 use Rattle.kt_tree.specs.Tree.{Tree}
 use Rattle.kt_fmtree.specs.Parts.{Parts, IsProgramme}
+use Rattle.kt_shares.specs.Less.{amount_in}
 use Rattle.kt_shares.specs.Row.{Shared}
 use Rattle.kt_shares.specs.Shares.{insured_range, record_with}
 use Rattle.kt_shares.specs.Table.{pairs_by_row, row_at, row_place}
@@ -45,23 +46,13 @@ abbrev pub AreCeded : Parts → ℕ → ℕ → List LossRecord → List (List �
 AreCeded parts rule samples records ceded =
     (tree : Tree) → IsProgramme tree parts → (row place : ℕ) → row < samples + 1 → place < length parts.ids → slice_index (column row ceded) place ≡ ceded_at tree rule records (slice_index parts.ids place) (sidx_at (row_place row))
 
--- what the id in a place that may be absent cedes in a row
-abbrev pub ceded_in : List (List ℕ) → Option ℕ → ℕ → ℕ
-ceded_in ceded None row = 0
-ceded_in ceded (Some place) row = slice_index (column row ceded) place
-
--- a place that may be absent has a lane
-abbrev pub IsPlaceIn : List (List ℕ) → Option ℕ → Type 0
-IsPlaceIn ceded None = Unit {0}
-IsPlaceIn ceded (Some place) = place < length ceded
-
 -- what is left of a loss of which so much is ceded, or that
 abbrev pub part_behind : Bool → ℕ → ℕ → ℕ
 part_behind left loss ceded = cond left (loss - ceded) ceded
 
 -- what is left of a record, or what its id cedes, row by row
 abbrev pub pairs_behind : Bool → List (List ℕ) → ℕ → Option ℕ → List Pair → List Pair
-pairs_behind left ceded samples place pairs = pairs_by_row (λ row. part_behind left (loss_of (sidx_at (row_place row)) pairs) (ceded_in ceded place row)) (samples + 1)
+pairs_behind left ceded samples place pairs = pairs_by_row (λ row. part_behind left (loss_of (sidx_at (row_place row)) pairs) (amount_in ceded place row)) (samples + 1)
 
 -- as a record: the net record, or the ceded one
 abbrev pub record_behind : Bool → Tree → ℕ → ℕ → List LossRecord → LossRecord → Option LossRecord

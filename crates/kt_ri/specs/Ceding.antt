@@ -1,8 +1,9 @@
 -- A programme that cedes losses, with the places of the ids that have the shares in a row.
 -- The rule: docs/FINANCIAL_MODULE.md, "Reinsurance".
-use Rattle.std.specs.Prelude.{◌≡◌, ℕ, ◌≤◌, ◌<◌, false, nat_eq, List, length, map, All, Option, Some, None, slice_index}
+use Rattle.std.specs.Prelude.{◌≡◌, ℕ, ◌≤◌, ◌<◌, false, nat_eq, List, [], ◌∷◌, length, map, All, Option, Some, None, slice_index}
 use Rattle.std.specs.List.{AllByRecursion, flat_map, list_any}
 use Rattle.kt_rec.specs.Rising.{IsRising}
+use Rattle.kt_stream.specs.declared.entry.LossRecord.{LossRecord}
 use Rattle.kt_tree.specs.Tree.{Tree, beneath}
 use Rattle.kt_fmtree.specs.Parts.{Parts, IsProgramme}
 use Rattle.kt_shares.specs.Layers.{IsTopLayer, key_of}
@@ -14,6 +15,12 @@ use Rattle.kt_ri.specs.declared.ceding.CedingProgramme.TheInside.{Inside}
 abbrev pub IsPlaceOf : List ℕ → ℕ → Option ℕ → Type 0
 IsPlaceOf ids id None = list_any (nat_eq id) ids ≡ false
 IsPlaceOf ids id (Some place) = (place < length ids) × (slice_index ids place ≡ id)
+
+-- the places of the ids of records among some, record by record
+abbrev pub AreRecordPlaces : List ℕ → List LossRecord → List (Option ℕ) → Type 0
+AreRecordPlaces ids [] [] = Unit {0}
+AreRecordPlaces ids (entry ∷ records) (place ∷ places) = IsPlaceOf ids entry.id place × AreRecordPlaces ids records places
+AreRecordPlaces ids records places = ⊥
 
 -- the ids that have the shares in a row: those beneath the top of each layer
 abbrev pub owners_of : Tree → List ℕ

@@ -5,15 +5,16 @@ ghost use Rattle.kt_stream.specs.Losses.{IsLoss};
 ghost use Rattle.kt_runs.specs.Adding.{Holds};
 ghost use Rattle.kt_runs.specs.RunLosses.{AreWithin};
 ghost use Rattle.kt_lanes.specs.Lanes.{AreWide, IsLane};
-ghost use Rattle.kt_ri.specs.Ceded.{AreCeded, AreCededShares, AreRows, HasShares, IsPlaceIn, ceded_in};
+ghost use Rattle.kt_shares.specs.Less.{IsPlaceIn, amount_in};
+ghost use Rattle.kt_ri.specs.Ceded.{AreCeded, AreCededShares, AreRows, HasShares};
 
 use crate::ceding::CedingProgramme;
-use kt_lanes::Lanes;
+use kt_lanes::{Lanes, are_in_turn};
 use kt_shares::{RunLosses, Table};
 use std::alloc::{AllocError, Global};
 
 /// The shares of a table, added by the places of their ids, row by row.
-fn ceded_lanes(
+fn added_lanes(
     alloc: Global,
     width: usize,
     rows: usize,
@@ -29,6 +30,28 @@ fn ceded_lanes(
     for k in 0..places.len() {
         ceded.add(places[k], table.shares(k));
     }
+    Ok(ceded)
+}
+
+/// What so many ids have of the shares of a table, by the places of the ids: the shares as they stand where each id has one, in their
+/// order.
+fn ceded_lanes(
+    alloc: Global,
+    width: usize,
+    rows: usize,
+    places: &[usize],
+    table: Table,
+) -> Result<Lanes, AllocError>
+    requires some { 1 ≤ rows }
+    requires rows { length table ≡ rows }
+    requires within { All (λ place. place < width) places.now }
+    requires shares { All (λ row. HasShares width places.now row.shares) table }
+    ensures value { IfOk result (λ ceded. AreCededShares width places.now table (length places.now) ceded) }
+{
+    if are_in_turn(places, width) {
+        return Ok(table.into_shares());
+    }
+    let ceded = added_lanes(alloc, width, rows, places, &table)?;
     Ok(ceded)
 }
 
@@ -55,7 +78,7 @@ pub(crate) fn ceded_of<R: RunLosses>(
         stage.ids().len(),
         samples as usize + 1,
         stage.places(),
-        &table,
+        table,
     )?;
     Ok(ceded)
 }
@@ -70,7 +93,7 @@ pub(crate) fn ceded_lane<'a>(
     requires place { IsPlaceIn ceded.now place }
     requires wide { AreWide (samples + 1) ceded.now }
     requires nothing { Holds (samples + 1) (λ row. 0) nothing.now }
-    ensures value { IsLane (samples + 1) (ceded_in ceded.now place) result.now }
+    ensures value { IsLane (samples + 1) (amount_in ceded.now place) result.now }
 {
     match place {
         Some(place) => ceded.lane(place),

@@ -1,6 +1,6 @@
 //! The net and the ceded records of a run.
 //! The rule: docs/FINANCIAL_MODULE.md, "Reinsurance".
-ghost use Rattle.std.specs.Prelude.{◌≡◌, ◌+◌, ◌≤◌, ◌<◌, ◌++◌, ℕ, List, [], length, slice_index, slice_index_or, All, IfOk, OnOk};
+ghost use Rattle.std.specs.Prelude.{◌≡◌, ◌+◌, ◌≤◌, ◌<◌, ◌++◌, ℕ, true, List, [], length, slice_index, slice_index_or, All, IfOk, OnOk};
 ghost use Rattle.std.specs.List.{cons_option};
 ghost use Rattle.kt_stream.specs.Losses.{IsLoss};
 ghost use Rattle.kt_stream.specs.declared.entry.LossRecord.{LossRecord};
@@ -8,10 +8,11 @@ ghost use Rattle.kt_runs.specs.RunLosses.{AreWithin};
 ghost use Rattle.kt_tree.specs.Tree.{Tree};
 ghost use Rattle.kt_fmtree.specs.Parts.{IsProgramme};
 ghost use Rattle.kt_lanes.specs.Lanes.{AreWide, IsLane};
-ghost use Rattle.kt_ri.specs.Ceded.{AreCeded, AreRows, IsPlaceIn, ceded_in, part_behind, record_behind, records_behind};
+ghost use Rattle.kt_shares.specs.Less.{IsPlaceIn, amount_in};
+ghost use Rattle.kt_ri.specs.Ceded.{AreCeded, AreRows, part_behind, record_behind, records_behind};
 
 use crate::ceding::CedingProgramme;
-use crate::places::place_near;
+use crate::places::{place_near, record_places};
 use kt_alloc::zeros;
 use kt_lanes::Lanes;
 use kt_shares::{LossLanes, RunLosses};
@@ -51,7 +52,7 @@ fn take_none(losses: &mut [u64], left: bool)
 fn take_behind(losses: &mut [u64], ceded: &Lanes, place: Option<usize>, left: bool)
     requires place { IsPlaceIn ceded.now place }
     requires wide { AreWide (length losses.old) ceded.now }
-    ensures value { IsLane (length losses.old) (λ row. part_behind left (slice_index losses.old row) (ceded_in ceded.now place row)) losses.new }
+    ensures value { IsLane (length losses.old) (λ row. part_behind left (slice_index losses.old row) (amount_in ceded.now place row)) losses.new }
 {
     match place {
         Some(place) => take_ceded(losses, ceded.lane(place), left),
@@ -114,5 +115,24 @@ pub(crate) fn lanes_behind<R: RunLosses>(
     for at in 0..run.count() {
         keep_behind(stage, samples, ceded, run, at, left, &mut lane, &mut made)?;
     }
+    Ok(made)
+}
+
+/// What is left of losses by lanes, where so much is ceded, in the place of the losses.
+pub(crate) fn lanes_left(
+    alloc: Global,
+    stage: &CedingProgramme,
+    samples: u32,
+    ceded: &Lanes,
+    losses: LossLanes,
+) -> Result<LossLanes, AllocError>
+    requires rows { AreRows (length stage.now.ids) samples ceded.now }
+    requires has_rows { losses.rows ≡ samples + 1 }
+    ensures rows { IfOk result (λ made. made.rows ≡ samples + 1) }
+    ensures value { IfOk result (λ made. (tree : Tree) (rule : ℕ) → IsProgramme tree stage.now → AreCeded stage.now rule samples losses.records ceded.now → made.records ≡ records_behind true tree rule samples losses.records) }
+{
+    stage.is_ceding();
+    let places = record_places(alloc, stage.ids(), &losses)?;
+    let made = losses.less(alloc, ceded, &places)?;
     Ok(made)
 }

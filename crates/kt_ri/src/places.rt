@@ -5,10 +5,10 @@ ghost use Rattle.std.specs.List.{AllByRecursion, flat_map};
 ghost use Rattle.kt_rec.specs.Rising.{IsRising};
 ghost use Rattle.kt_fmtree.specs.Parts.{HasProgramme};
 ghost use Rattle.kt_shares.specs.Layers.{IsTopLayer};
-ghost use Rattle.kt_ri.specs.Ceding.{AreLayers, ArePlaces, IsPlaceOf};
+ghost use Rattle.kt_ri.specs.Ceding.{AreLayers, ArePlaces, AreRecordPlaces, IsPlaceOf};
 
 use kt_fmtree::{Programme, places_of};
-use kt_shares::TopLayer;
+use kt_shares::{LossLanes, TopLayer};
 use std::alloc::{AllocError, Global};
 
 /// The place of an id among rising ids, where it is one of them.
@@ -39,6 +39,25 @@ pub(crate) fn next_near(place: Option<usize>, near: usize) -> usize {
         Some(place) => place.saturating_add(1),
         None => near,
     }
+}
+
+/// The places of the ids of losses among rising ids, record by record.
+pub(crate) fn record_places(
+    alloc: Global,
+    ids: &[u32],
+    losses: &LossLanes,
+) -> Result<Vec<Option<usize>>, AllocError>
+    requires rising { IsRising ids.now }
+    ensures value { IfOk result (λ places. AreRecordPlaces ids.now losses.now.records places.items) }
+{
+    let mut places = Vec::with_capacity(alloc, losses.len())?;
+    let mut near = 0;
+    for at in 0..losses.len() {
+        let place = place_near(ids, losses.id(at), near);
+        near = next_near(place, near);
+        places.push(place)?;
+    }
+    Ok(places)
 }
 
 /// The ids beneath the tops of layers, layer by layer.

@@ -12,7 +12,7 @@ ghost use Rattle.kt_ri.specs.Reinsurance.{ceded_records, net_records};
 
 use crate::ceded::ceded_of;
 use crate::ceding::{CedingProgramme, ceding_of};
-use crate::net::lanes_behind;
+use crate::net::{lanes_behind, lanes_left};
 use kt_runs::RunEntry;
 use kt_shares::{Listed, LossLanes, RunLosses};
 use kt_stream::{LossRecord, Records};
@@ -40,6 +40,31 @@ pub(crate) fn ceding_for<R: RunLosses>(
     let ids = run.id_list(alloc)?;
     let programme = stage.programme(alloc, &ids)?;
     let made = ceding_of(alloc, programme)?;
+    Ok(made)
+}
+
+/// What a stage leaves of losses that are kept by lanes, in the place of the losses.
+pub(crate) fn net_in_place(
+    alloc: Global,
+    stage: &Structure,
+    samples: u32,
+    rule: u32,
+    losses: LossLanes,
+) -> Result<LossLanes, AllocError>
+    requires stage { HasStage stage.now }
+    requires samples { samples ≤ 1000 }
+    requires rule { (rule ≡ 1) ⊎ (rule ≡ 2) }
+    requires rows { losses.rows ≡ samples + 1 }
+    requires records { All (IsLoss samples) losses.records }
+    requires within { AreWithin losses.records }
+    ensures rows { IfOk result (λ made. made.rows ≡ samples + 1) }
+    ensures net { IfOk result (λ made. (tree : Tree) → IsStage tree stage.now → made.records ≡ net_records tree rule samples losses.records) }
+    ensures good { IfOk result (λ made. All (IsLoss samples) made.records) }
+    ensures within { IfOk result (λ made. AreWithin made.records) }
+{
+    let ceding = ceding_for(alloc, stage, &losses)?;
+    let ceded = ceded_of(alloc, &ceding, samples, rule, &losses)?;
+    let made = lanes_left(alloc, &ceding, samples, &ceded, losses)?;
     Ok(made)
 }
 

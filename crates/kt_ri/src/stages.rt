@@ -7,7 +7,7 @@ ghost use Rattle.kt_tree.specs.Tree.{Tree};
 ghost use Rattle.kt_ri.specs.Reinsurance.{net_records, reinsured};
 ghost use Rattle.kt_ri.specs.Stages.{AreStages, HasStage, IsStage};
 
-use crate::reinsured::net_behind;
+use crate::reinsured::{net_behind, net_in_place};
 use kt_shares::{Listed, LossLanes};
 use kt_stream::{LossRecord, Pairs, Records};
 use kt_structure::Structure;
@@ -66,7 +66,7 @@ pub fn reinsure_lanes(
 {
     let mut net = losses;
     for stage in stages {
-        net = net_behind(alloc, stage, samples, 2, &net)?;
+        net = net_in_place(alloc, stage, samples, 2, net)?;
     }
     Ok(net)
 }

@@ -1,11 +1,7 @@
-use Rattle.std.proofs.Common.{◌∙◌, List, sym, subst, true}
-use Rattle.std.specs.Prelude.{All}
-use Rattle.kt_runs.specs.RunLosses.{AreWithin}
-use Rattle.kt_stream.specs.Losses.{IsLoss}
-use Rattle.kt_stream.specs.declared.entry.LossRecord.{LossRecord}
+use Rattle.std.proofs.Common.{◌∙◌, true}
 use Rattle.kt_tree.specs.Struck.{struck}
 use Rattle.kt_shares.specs.Shares.{ids_of}
-use Rattle.kt_ri.proofs.NetLemmas.{net-good, net-within}
+use Rattle.kt_ri.proofs.StageLemmas.{net-stream}
 use Rattle.kt_ri.proofs.StruckLemmas.{behind-struck}
 use Rattle.kt_ri.proofs.reinsured.net_behind.Goals as goal
 
@@ -17,11 +13,9 @@ returns-clause-net g c = λ tree is.
 pub returns-clause-good : goal.returns-clause-good
 returns-clause-good g c =
     let records = g.R.RunLosses.records_of c.args.run.now in
-    let has = c.requires.stage in
-    subst (λ (net : List LossRecord). All (IsLoss c.args.samples) net) (sym (returns-clause-net g c has.tree has.is)) (net-good has.tree c.args.rule c.args.samples records c.requires.records c.requires.within)
+    (net-stream c.args.stage.now c.requires.stage c.args.rule c.args.samples records c.requires.records c.requires.within c.in_ok-made.made.records (returns-clause-net g c)).0
 
 pub returns-clause-within : goal.returns-clause-within
 returns-clause-within g c =
     let records = g.R.RunLosses.records_of c.args.run.now in
-    let has = c.requires.stage in
-    subst AreWithin (sym (returns-clause-net g c has.tree has.is)) (net-within has.tree c.args.rule c.args.samples records c.requires.within)
+    (net-stream c.args.stage.now c.requires.stage c.args.rule c.args.samples records c.requires.records c.requires.within c.in_ok-made.made.records (returns-clause-net g c)).1

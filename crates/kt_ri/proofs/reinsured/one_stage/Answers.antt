@@ -1,11 +1,7 @@
-use Rattle.std.proofs.Common.{◌∙◌, List, map, sym, subst, true, false}
-use Rattle.std.specs.Prelude.{All}
-use Rattle.kt_runs.specs.RunLosses.{AreWithin}
-use Rattle.kt_stream.specs.Losses.{IsLoss}
-use Rattle.kt_stream.specs.declared.entry.LossRecord.{LossRecord}
+use Rattle.std.proofs.Common.{◌∙◌, map, true, false}
 use Rattle.kt_tree.specs.Struck.{struck}
 use Rattle.kt_shares.specs.Shares.{ids_of}
-use Rattle.kt_ri.proofs.NetLemmas.{net-good, net-within}
+use Rattle.kt_ri.proofs.StageLemmas.{net-stream}
 use Rattle.kt_ri.proofs.StruckLemmas.{behind-struck}
 use Rattle.kt_ri.proofs.reinsured.one_stage.Goals as goal
 
@@ -22,11 +18,9 @@ returns-clause-ceded g c = λ tree is.
 pub returns-clause-good : goal.returns-clause-good
 returns-clause-good g c =
     let records = map g.T.RunEntry.entry_of c.args.records.now in
-    let has = c.requires.stage in
-    subst (λ (net : List LossRecord). All (IsLoss c.args.samples) net) (sym (returns-clause-net g c has.tree has.is)) (net-good has.tree c.args.rule c.args.samples records c.requires.records c.requires.within)
+    (net-stream c.args.stage.now c.requires.stage c.args.rule c.args.samples records c.requires.records c.requires.within _ (returns-clause-net g c)).0
 
 pub returns-clause-within : goal.returns-clause-within
 returns-clause-within g c =
     let records = map g.T.RunEntry.entry_of c.args.records.now in
-    let has = c.requires.stage in
-    subst AreWithin (sym (returns-clause-net g c has.tree has.is)) (net-within has.tree c.args.rule c.args.samples records c.requires.within)
+    (net-stream c.args.stage.now c.requires.stage c.args.rule c.args.samples records c.requires.records c.requires.within _ (returns-clause-net g c)).1
