@@ -4,7 +4,7 @@ use Rattle.std.specs.Cmp.{nat_eq_equiv}
 use Rattle.std.specs.List.{AllByRecursion}
 use Rattle.std.proofs.lemmas.Bool.{cases_eq}
 use Rattle.std.proofs.lemmas.List.{ext_get_or, get_or-map, get_or-set_other, get_or-set_same, length-map, length-set}
-use Rattle.std.proofs.lemmas.List.Elements.{All-from_get_or, All-map, recursion_from_All}
+use Rattle.std.proofs.lemmas.List.Elements.{All-map, recursion_from_All}
 use Rattle.std.proofs.lemmas.List.Sums.{sum_by-cons}
 use Rattle.kt_rec.specs.Rising.{IsRising}
 use Rattle.kt_stream.specs.declared.entry.LossRecord.{LossRecord}
@@ -14,7 +14,7 @@ use Rattle.kt_fmtree.specs.CarriedLaws.{map-map}
 use Rattle.kt_lanes.specs.Lanes.{AreWide, column}
 use Rattle.kt_shares.specs.HoldsLaws.{apart}
 use Rattle.kt_shares.specs.LaneRun.{LaneRun}
-use Rattle.kt_shares.specs.LossLanes.{AreApart, AreInTurn, AreLossLanes, HaveLanes, head_at, head_record, lane_of, lane_record, lane_records, no_head, run_of}
+use Rattle.kt_shares.specs.LossLanes.{AreInTurn, AreLossLanes, HaveLanes, head_at, head_record, lane_of, lane_record, lane_records, no_head, run_of}
 use Rattle.kt_shares.specs.LossLanesLaws.{with-row}
 use Rattle.kt_shares.specs.Shares.{id_loss, ids_of}
 use Rattle.kt_shares.specs.Table.{row_place}
@@ -70,24 +70,11 @@ pub lanes-wide : (rows : ℕ) (heads : List LossHead) (lanes : List (List ℕ)) 
 lanes-wide rows heads lanes have wide = All-map (λ (lane : List ℕ). length lane ≡ rows) (lane_of lanes) heads (λ k d below. wide (slice_index_or heads k d).place [] (have k d below))
 
 module _ (heads turned : List LossHead) (many : length turned ≡ length heads) (each : (k : ℕ) → k < length heads → slice_index_or turned k no_head ≡ head_at (slice_index_or heads k no_head) k) where
-  placed : (k : ℕ) → k < length turned → (slice_index_or turned k no_head).place ≡ k
-  placed k below = ap (λ (head : LossHead). head.place) (each k (omega (arith, below, many)))
-
-  -- heads with the places of lanes that stand in their order have a lane each
-  pub turned-apart : AreApart turned
-  turned-apart k below = omega (arith, placed k (omega (arith, below)), placed (k + 1) below)
-
   module _ (lanes made : List (List ℕ)) (made_is : made ≡ map (lane_of lanes) heads) where
-    long : length made ≡ length heads
-    long = ap length made_is ∙ length-map heads (lane_of lanes)
-
-    pub turned-have : HaveLanes made turned
-    turned-have = All-from_get_or (λ (head : LossHead). head.place < length made) turned no_head (λ k below. omega (arith, placed k below, long, below, many))
-
     lane-here : (k : ℕ) → k < length heads → slice_index_or made k [] ≡ lane_of lanes (slice_index_or heads k no_head)
     lane-here k inside = ap (λ (all : List (List ℕ)). slice_index_or all k []) made_is ∙ get_or-map (lane_of lanes) heads k no_head [] inside
 
-    -- and the same records
+    -- heads with the places of lanes that stand in their order have the same records
     pub turned-records : lane_records turned made ≡ lane_records heads lanes
     turned-records =
         let none : LossRecord = record { event = 0; id = 0; pairs = [] } in

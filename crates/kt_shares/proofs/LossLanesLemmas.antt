@@ -2,8 +2,8 @@
 use Rattle.std.proofs.Common.{◌≡◌, ℕ, zero, suc, ◌+◌, ◌<◌, List, [], ◌∷◌, ◌++◌, length, slice_index, slice_index_or, take, refl, sym, ap, subst, ◌∙◌, arith, append-nil}
 use Rattle.std.specs.List.{AllByRecursion, cons_option}
 use Rattle.std.specs.List.Sorted.{IsNonDecreasingBy, IsPermutation}
-use Rattle.std.proofs.lemmas.List.{get_or-map, get_or_append_left, get_or_push, length-map, length_push, map-append, map_push, take_more}
-use Rattle.std.proofs.lemmas.List.Elements.{All-push, recursion_from_All}
+use Rattle.std.proofs.lemmas.List.{get_or-map, get_or_append_left, get_or_push, length-map, map-append, map_push, take_more}
+use Rattle.std.proofs.lemmas.List.Elements.{recursion_from_All}
 use Rattle.std.proofs.lemmas.List.Sorted.{All-permutation, IsPermutation-map}
 use Rattle.kt_stream.specs.declared.entry.LossRecord.{LossRecord}
 use Rattle.kt_stream.specs.declared.entry.Pair.{Pair}
@@ -38,14 +38,6 @@ records-more heads lanes have head lane place_is =
     map_push (head_record (lanes ++ lane ∷ [])) heads head
     ∙ (ap (λ (front : List LossRecord). front ++ head_record (lanes ++ lane ∷ []) head ∷ []) (records-kept heads lanes have lane)
     ∙ ap (λ (one : List ℕ). lane_records heads lanes ++ lane_record head one ∷ []) (get_or_push lanes lane [] head.place (sym place_is)))
-
--- heads have lanes where one stands behind the others
-pub have-kept : (heads : List LossHead) (lanes : List (List ℕ)) → HaveLanes lanes heads → (lane : List ℕ) → HaveLanes (lanes ++ lane ∷ []) heads
-have-kept heads lanes have lane = λ k d below. omega (arith, have k d below, length_push lanes lane)
-
-pub have-more : (heads : List LossHead) (lanes : List (List ℕ)) → HaveLanes lanes heads → (head : LossHead) (lane : List ℕ) → head.place ≡ length lanes → HaveLanes (lanes ++ lane ∷ []) (heads ++ head ∷ [])
-have-more heads lanes have head lane place_is =
-    All-push (λ (head : LossHead). head.place < length (lanes ++ lane ∷ [])) heads head (have-kept heads lanes have lane) (omega (arith, place_is, length_push lanes lane))
 
 -- the ids of one record more
 pub ids-next : (records : List LossRecord) (place : ℕ) (ids next : List ℕ) (id : ℕ) (d : LossRecord) → place < length records → ids ≡ ids_of (take place records) → next ≡ ids ++ id ∷ [] → id ≡ (slice_index_or records place d).id → next ≡ ids_of (take (place + 1) records)
