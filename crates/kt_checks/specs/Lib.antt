@@ -17,6 +17,7 @@ pub use Rattle.kt_keys.specs.Keys
 pub use Rattle.kt_keys.specs.KeyChecks
 pub use Rattle.kt_keys.specs.Units
 pub use Rattle.kt_keys.specs.Climbing
+pub use Rattle.kt_keys.specs.UnitTable
 pub use Rattle.kt_keys.specs.NameChecks
 pub use Rattle.kt_keys.specs.StageLaws
 pub use Rattle.kt_keys.specs.TotalLaws

@@ -12,6 +12,8 @@ use Rattle.kt_keys.specs.Climbing.{climbed, next_unit}
 use Rattle.kt_keys.specs.FirstRow.{first_where}
 use Rattle.kt_keys.specs.Refusals.{at_stage, is_loaded, refusal}
 use Rattle.kt_keys.specs.Keys.{programme_of, policytc_of, same_pair}
+use Rattle.kt_keys.specs.UnitTable.{has_unit}
+use Rattle.kt_keys.specs.declared.unit_table.UnitTable.{UnitTable}
 use Rattle.kt_keys.specs.Units.{top_level, top_layers}
 
 -- whether one of the layers from 1 to a last one passes a test
@@ -28,6 +30,10 @@ pub record EndsAt (is_layer : ℕ × ℕ → Bool) (last : ℕ) : Type 0 where
   pub some : 1 ≤ last
   pub few : last ≤ 50
   pub none : (unit layer : ℕ) → last < layer → layer ≤ 50 → is_layer (unit, layer) ≡ false
+
+-- whether a table of outputs by their layers has one for a unit and a layer
+abbrev pub has_owner : UnitTable ℕ → ℕ × ℕ → Bool
+has_owner owners pair = has_unit owners (pair.1, pair.0)
 
 -- whether for some layer, 1 to 50, of a unit of the top level its owner has no output
 abbrev pub lacks_output : (ℕ → Bool) → (ℕ × ℕ → Bool) → (ℕ × ℕ → Bool) → ℕ → ℕ → Bool

@@ -13,8 +13,8 @@ mod terms;
 mod values;
 
 pub use checks::{first_check, samples_check};
-pub use kt_keys::{CheckStop, Need, Refusal};
-pub use outputs::{climbed, next_units};
+pub use kt_keys::{CheckStop, Need, Refusal, next_units};
+pub use outputs::climbed;
 pub use places::first_misplaced;
 pub use samples::{SummaryCounts, summary_counts};
 pub use values::tivs;

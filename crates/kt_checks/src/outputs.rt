@@ -1,22 +1,22 @@
 //! The check of the outputs that items, or units of the top level, owe.
 ghost use Rattle.std.specs.Prelude.{◌≡◌, ◌&&◌, ℕ, nat_eq, not, map, IfOk};
 ghost use Rattle.std.specs.List.{list_any};
-ghost use Rattle.std.specs.HashMap.{get};
 ghost use Rattle.std.specs.HashSet.{contains};
 ghost use Rattle.kt_rec.specs.Rows.{rows_of};
 ghost use Rattle.kt_keys.specs.FirstRow.{first_where};
 ghost use Rattle.kt_keys.specs.Keys.{same_pair};
+ghost use Rattle.kt_keys.specs.UnitTable.{value_of};
 ghost use Rattle.kt_keys.specs.Units.{top_layers};
 ghost use Rattle.kt_keys.specs.Climbing.{next_unit, climbed};
-ghost use Rattle.kt_checks.specs.OutputChecks.{EndsAt, has_layer, lacks_output, lacks_at, owes_output, owing_at, missing_output_check};
+ghost use Rattle.kt_checks.specs.OutputChecks.{EndsAt, has_layer, has_owner, lacks_output, lacks_at, owes_output, owing_at, missing_output_check};
 
 use kt_keys::{
-    Need, Refusal, base, has_base, has_both, names_of, pair_set, pair_values, policytc, programme,
-    set_of, steps_of, top_layers, top_level, units_of,
+    Need, Refusal, UnitTable, base, has_base, has_both, next_units, pair_set, policytc, programme,
+    set_of, top_layers, top_level, units_of,
 };
 use kt_rec::{FmPolicytc, FmProgramme, FmXref, Table, Tables};
 use std::alloc::{AllocError, Global};
-use std::collections::{HashMap, HashSet};
+use std::collections::HashSet;
 
 /// The greatest number of layers.
 const LAYERS: u32 = 50;
@@ -25,44 +25,33 @@ const LAYERS: u32 = 50;
 #[derive(Drop)]
 struct Lookups {
     /// The unit that a unit's losses at a level go to.
-    next: HashMap<(u32, u32), u32>,
+    next: UnitTable<u32>,
     /// The units of the top level that have terms.
     with_terms: HashSet<u32>,
     /// These units with their layers.
     layers: HashSet<(u32, u32)>,
     /// No unit of the top level has a layer behind this one.
     last: u32,
-    /// What the outputs are for, with their layers.
-    outputs: HashSet<(u32, u32)>,
-}
-
-/// The unit that each unit's losses at a level go to. The error is want of memory.
-pub fn next_units(
-    alloc: Global,
-    programme: &[FmProgramme],
-) -> Result<HashMap<(u32, u32), u32>, AllocError>
-    ensures value { IfOk result (λ next. (unit : ℕ × ℕ) → get same_pair next unit ≡ next_unit programme.now unit) }
-{
-    let steps = steps_of(alloc, programme)?;
-    pair_values(alloc, &steps)
+    /// What the outputs are for, by their layers.
+    outputs: UnitTable<u32>,
 }
 
 /// The unit of the top level that an item's losses come to over so many levels.
-pub fn climbed(next: &HashMap<(u32, u32), u32>, levels: u32, item: u32) -> Option<u32>
-    ensures value { result ≡ climbed (get same_pair next.now) levels 1 item }
+pub fn climbed(next: &UnitTable<u32>, levels: u32, item: u32) -> Option<u32>
+    ensures value { result ≡ climbed (value_of next.now) levels 1 item }
 {
     let mut unit = item;
     for below in 0..levels {
-        unit = next.get(&(below + 1, unit)).copied()?;
+        unit = next.of(below + 1, unit)?;
     }
     Some(unit)
 }
 
 /// Whether a layer of a unit of the top level has no output for its owner.
 fn lacks_layer(lookups: &Lookups, unit: u32, owner: u32, layer: u32) -> bool
-    ensures value { result ≡ (has_layer (contains nat_eq lookups.now.with_terms) (contains same_pair lookups.now.layers) unit layer && not (contains same_pair lookups.now.outputs (owner, layer))) }
+    ensures value { result ≡ (has_layer (contains nat_eq lookups.now.with_terms) (contains same_pair lookups.now.layers) unit layer && not (has_owner lookups.now.outputs (owner, layer))) }
 {
-    has_layer(lookups, unit, layer) && !lookups.outputs.contains(&(owner, layer))
+    has_layer(lookups, unit, layer) && !lookups.outputs.has(layer, owner)
 }
 
 /// Whether a unit of the top level has a layer; one without terms has layer 1.
@@ -79,7 +68,7 @@ fn has_layer(lookups: &Lookups, unit: u32, layer: u32) -> bool
 /// Whether for some layer of a unit of the top level its owner has no output.
 fn lacks_output(lookups: &Lookups, unit: u32, owner: u32) -> bool
     requires { EndsAt (contains same_pair lookups.now.layers) lookups.now.last }
-    ensures value { result ≡ lacks_output (contains nat_eq lookups.now.with_terms) (contains same_pair lookups.now.layers) (contains same_pair lookups.now.outputs) unit owner }
+    ensures value { result ≡ lacks_output (contains nat_eq lookups.now.with_terms) (contains same_pair lookups.now.layers) (has_owner lookups.now.outputs) unit owner }
 {
     let mut lacks = false;
     for below in 0..lookups.last {
@@ -92,7 +81,7 @@ fn lacks_output(lookups: &Lookups, unit: u32, owner: u32) -> bool
 /// Whether an item lacks an output for some layer of the unit of the top level that its losses come to.
 fn item_lacks_output(lookups: &Lookups, top: u32, item: u32) -> bool
     requires { EndsAt (contains same_pair lookups.now.layers) lookups.now.last }
-    ensures value { result ≡ lacks_at (lacks_output (contains nat_eq lookups.now.with_terms) (contains same_pair lookups.now.layers) (contains same_pair lookups.now.outputs)) (climbed (get same_pair lookups.now.next) top 1 item) item }
+    ensures value { result ≡ lacks_at (lacks_output (contains nat_eq lookups.now.with_terms) (contains same_pair lookups.now.layers) (has_owner lookups.now.outputs)) (climbed (value_of lookups.now.next) top 1 item) item }
 {
     match climbed(&lookups.next, top, item) {
         Some(unit) => lacks_output(lookups, unit, item),
@@ -103,7 +92,7 @@ fn item_lacks_output(lookups: &Lookups, top: u32, item: u32) -> bool
 /// Whether the item of a row of level 1, or by rule 0 the unit of a row of the top level, lacks an output.
 fn owes_output(lookups: &Lookups, rule: u32, top: u32, row: &FmProgramme) -> bool
     requires { EndsAt (contains same_pair lookups.now.layers) lookups.now.last }
-    ensures value { result ≡ owes_output rule top (get same_pair lookups.now.next) (lacks_output (contains nat_eq lookups.now.with_terms) (contains same_pair lookups.now.layers) (contains same_pair lookups.now.outputs)) row.now }
+    ensures value { result ≡ owes_output rule top (value_of lookups.now.next) (lacks_output (contains nat_eq lookups.now.with_terms) (contains same_pair lookups.now.layers) (has_owner lookups.now.outputs)) row.now }
 {
     if rule == 0 {
         row.level_id == top && lacks_output(lookups, row.to_agg_id, row.to_agg_id)
@@ -115,7 +104,7 @@ fn owes_output(lookups: &Lookups, rule: u32, top: u32, row: &FmProgramme) -> boo
 /// The first row that lacks an output.
 fn first_owing(lookups: &Lookups, rule: u32, top: u32, rows: &[FmProgramme]) -> Option<u64>
     requires { EndsAt (contains same_pair lookups.now.layers) lookups.now.last }
-    ensures value { result ≡ first_where (owes_output rule top (get same_pair lookups.now.next) (lacks_output (contains nat_eq lookups.now.with_terms) (contains same_pair lookups.now.layers) (contains same_pair lookups.now.outputs))) rows.now }
+    ensures value { result ≡ first_where (owes_output rule top (value_of lookups.now.next) (lacks_output (contains nat_eq lookups.now.with_terms) (contains same_pair lookups.now.layers) (has_owner lookups.now.outputs))) rows.now }
 {
     for (index, row) in rows.iter().enumerate() {
         if owes_output(lookups, rule, top, row) {
@@ -136,12 +125,23 @@ fn last_layer(layers: &[(u32, u32)]) -> u32
     last.min(LAYERS)
 }
 
-/// What the outputs are for, with their layers.
-fn owners(alloc: Global, outputs: &[FmXref]) -> Result<HashSet<(u32, u32)>, AllocError>
-    ensures value { IfOk result (λ owners. (pair : ℕ × ℕ) → contains same_pair owners pair ≡ list_any (same_pair pair) (map (λ row. (row.agg_id, row.layer_id)) outputs.now)) }
+/// The layers of outputs with what they are for.
+fn owned_layers(alloc: Global, outputs: &[FmXref]) -> Result<Vec<((u32, u32), u32)>, AllocError>
+    ensures value { IfOk result (λ layers. layers.items ≡ map (λ row. ((row.layer_id, row.agg_id), row.output_id)) outputs.now) }
 {
-    let layers: Vec<(u32, u32)> = names_of(alloc, outputs)?;
-    pair_set(alloc, &layers)
+    outputs
+        .iter()
+        .map(|row| ((row.layer_id, row.agg_id), row.output_id))
+        .collect(alloc)
+}
+
+/// What the outputs are for, by their layers.
+fn owners(alloc: Global, outputs: &[FmXref]) -> Result<UnitTable<u32>, AllocError>
+    ensures value { IfOk result (λ owners. (pair : ℕ × ℕ) → has_owner owners pair ≡ list_any (same_pair pair) (map (λ row. (row.agg_id, row.layer_id)) outputs.now)) }
+{
+    let layers = owned_layers(alloc, outputs)?;
+    let owners = UnitTable::new(alloc, &layers)?;
+    Ok(owners)
 }
 
 /// Reads what is looked up from the tables.
@@ -151,11 +151,11 @@ fn lookups_of(
     policytc: &[FmPolicytc],
     outputs: &[FmXref],
 ) -> Result<Lookups, AllocError>
-    ensures next { IfOk result (λ lookups. (unit : ℕ × ℕ) → get same_pair lookups.next unit ≡ next_unit programme.now unit) }
+    ensures next { IfOk result (λ lookups. (unit : ℕ × ℕ) → value_of lookups.next unit ≡ next_unit programme.now unit) }
     ensures with_terms { IfOk result (λ lookups. (unit : ℕ) → contains nat_eq lookups.with_terms unit ≡ list_any (nat_eq unit) (map (λ (pair : ℕ × ℕ). pair.0) (top_layers programme.now policytc.now))) }
     ensures layers { IfOk result (λ lookups. (pair : ℕ × ℕ) → contains same_pair lookups.layers pair ≡ list_any (same_pair pair) (top_layers programme.now policytc.now)) }
     ensures last { IfOk result (λ lookups. EndsAt (contains same_pair lookups.layers) lookups.last) }
-    ensures outputs { IfOk result (λ lookups. (pair : ℕ × ℕ) → contains same_pair lookups.outputs pair ≡ list_any (same_pair pair) (map (λ row. (row.agg_id, row.layer_id)) outputs.now)) }
+    ensures outputs { IfOk result (λ lookups. (pair : ℕ × ℕ) → has_owner lookups.outputs pair ≡ list_any (same_pair pair) (map (λ row. (row.agg_id, row.layer_id)) outputs.now)) }
 {
     let layers = top_layers(alloc, programme, policytc)?;
     let units = units_of(alloc, &layers)?;

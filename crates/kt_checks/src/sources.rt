@@ -1,38 +1,37 @@
 //! The check of what a programme takes losses from, over the base and the stages.
-ghost use Rattle.std.specs.Prelude.{◌≡◌, ◌<◌, nat_eq, IfOk};
-ghost use Rattle.std.specs.HashSet.{contains};
+ghost use Rattle.std.specs.Prelude.{◌≡◌, ◌<◌, ℕ, map, nat_eq, IfOk};
+ghost use Rattle.std.specs.List.{list_any};
 ghost use Rattle.kt_rec.specs.Rows.{rows_of};
 ghost use Rattle.kt_keys.specs.FirstRow.{first_where};
-ghost use Rattle.kt_keys.specs.Keys.{programme_of, same_pair};
+ghost use Rattle.kt_keys.specs.Keys.{programme_of};
 ghost use Rattle.kt_keys.specs.Refusals.{over_stages};
+ghost use Rattle.kt_keys.specs.UnitTable.{has_id, has_unit};
 ghost use Rattle.kt_checks.specs.ProgrammeChecks.{inputs_of, has_sources, is_rootless, rootless_at, source_check};
 
 use kt_keys::{
-    Need, Refusal, STAGES, has_base, has_financial, keys_of, pair_set, programme, set_of,
-    targets_of,
+    Need, Refusal, STAGES, UnitTable, has_base, has_financial, keys_of, programme, target_units,
 };
 use kt_rec::{FmProgramme, Table, TableId, Tables};
 use std::alloc::{AllocError, Global};
-use std::collections::HashSet;
 
 /// Whether a row takes, at level 1, from what is no input, or above it from no unit of the level below.
-fn is_rootless(inputs: &HashSet<u32>, units: &HashSet<(u32, u32)>, row: &FmProgramme) -> bool
-    ensures value { result ≡ is_rootless (contains nat_eq inputs.now) (contains same_pair units.now) row.now }
+fn is_rootless(inputs: &UnitTable<u32>, units: &UnitTable<u32>, row: &FmProgramme) -> bool
+    ensures value { result ≡ is_rootless (has_id inputs.now) (has_unit units.now) row.now }
 {
     if row.level_id == 1 {
-        !inputs.contains(&row.from_agg_id)
+        !inputs.has(0, row.from_agg_id)
     } else {
-        !units.contains(&(row.level_id.saturating_sub(1), row.from_agg_id))
+        !units.has(row.level_id.saturating_sub(1), row.from_agg_id)
     }
 }
 
 /// The first row that takes losses from what has none.
 fn first_rootless(
-    inputs: &HashSet<u32>,
-    units: &HashSet<(u32, u32)>,
+    inputs: &UnitTable<u32>,
+    units: &UnitTable<u32>,
     rows: &[FmProgramme],
 ) -> Option<u64>
-    ensures value { result ≡ first_where (is_rootless (contains nat_eq inputs.now) (contains same_pair units.now)) rows.now }
+    ensures value { result ≡ first_where (is_rootless (has_id inputs.now) (has_unit units.now)) rows.now }
 {
     for (index, row) in rows.iter().enumerate() {
         if is_rootless(inputs, units, row) {
@@ -40,6 +39,22 @@ fn first_rootless(
         }
     }
     None
+}
+
+/// Ids as units of level 0.
+fn id_units(alloc: Global, ids: &[u32]) -> Result<Vec<((u32, u32), u32)>, AllocError>
+    ensures value { IfOk result (λ units. units.items ≡ map (λ id. ((0, id), id)) ids.now) }
+{
+    ids.iter().map(|id| ((0, *id), *id)).collect(alloc)
+}
+
+/// The ids of inputs, to be looked up.
+fn input_units(alloc: Global, inputs: &[u32]) -> Result<UnitTable<u32>, AllocError>
+    ensures value { IfOk result (λ known. (id : ℕ) → has_id known id ≡ list_any (nat_eq id) inputs.now) }
+{
+    let units = id_units(alloc, inputs)?;
+    let known = UnitTable::new(alloc, &units)?;
+    Ok(known)
 }
 
 /// The first row of a programme that takes losses from what has none.
@@ -50,10 +65,9 @@ fn rootless_at(
 ) -> Result<Option<u64>, AllocError>
     ensures value { IfOk result (λ row. row ≡ rootless_at inputs.now programme.now) }
 {
-    let inputs = set_of(alloc, inputs)?;
-    let targets = targets_of(alloc, programme)?;
-    let units = pair_set(alloc, &targets)?;
-    Ok(first_rootless(&inputs, &units, programme))
+    let known = input_units(alloc, inputs)?;
+    let units = target_units(alloc, programme)?;
+    Ok(first_rootless(&known, &units, programme))
 }
 
 /// What the losses of a programme are of: items for the base, and the base's outputs for a stage.

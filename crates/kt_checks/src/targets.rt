@@ -1,27 +1,25 @@
 //! The check of where a programme's losses go, over the base and the stages.
 ghost use Rattle.std.specs.Prelude.{◌≡◌, ◌<◌, IfOk};
-ghost use Rattle.std.specs.HashSet.{contains};
 ghost use Rattle.kt_rec.specs.Rows.{rows_of};
 ghost use Rattle.kt_keys.specs.FirstRow.{first_where};
-ghost use Rattle.kt_keys.specs.Keys.{same_pair};
 ghost use Rattle.kt_keys.specs.Refusals.{over_stages};
+ghost use Rattle.kt_keys.specs.UnitTable.{has_unit};
 ghost use Rattle.kt_checks.specs.ProgrammeChecks.{is_dead_end, dead_end_at, target_check};
 
-use kt_keys::{Need, Refusal, STAGES, has_financial, pair_set, programme, sources_of, top_level};
+use kt_keys::{Need, Refusal, STAGES, UnitTable, has_financial, next_units, programme, top_level};
 use kt_rec::{FmProgramme, Table, TableId, Tables};
 use std::alloc::{AllocError, Global};
-use std::collections::HashSet;
 
 /// Whether a row below the top level puts losses into a unit that the next level does not take from.
-fn is_dead_end(top: u32, sources: &HashSet<(u32, u32)>, row: &FmProgramme) -> bool
-    ensures value { result ≡ is_dead_end top (contains same_pair sources.now) row.now }
+fn is_dead_end(top: u32, sources: &UnitTable<u32>, row: &FmProgramme) -> bool
+    ensures value { result ≡ is_dead_end top (has_unit sources.now) row.now }
 {
-    row.level_id < top && !sources.contains(&(row.level_id + 1, row.to_agg_id))
+    row.level_id < top && !sources.has(row.level_id + 1, row.to_agg_id)
 }
 
 /// The first row whose losses go no further, below the top level.
-fn first_dead_end(top: u32, sources: &HashSet<(u32, u32)>, rows: &[FmProgramme]) -> Option<u64>
-    ensures value { result ≡ first_where (is_dead_end top (contains same_pair sources.now)) rows.now }
+fn first_dead_end(top: u32, sources: &UnitTable<u32>, rows: &[FmProgramme]) -> Option<u64>
+    ensures value { result ≡ first_where (is_dead_end top (has_unit sources.now)) rows.now }
 {
     for (index, row) in rows.iter().enumerate() {
         if is_dead_end(top, sources, row) {
@@ -35,9 +33,8 @@ fn first_dead_end(top: u32, sources: &HashSet<(u32, u32)>, rows: &[FmProgramme])
 fn dead_end_at(alloc: Global, programme: &[FmProgramme]) -> Result<Option<u64>, AllocError>
     ensures value { IfOk result (λ row. row ≡ dead_end_at programme.now) }
 {
-    let sources = sources_of(alloc, programme)?;
-    let units = pair_set(alloc, &sources)?;
-    Ok(first_dead_end(top_level(programme), &units, programme))
+    let sources = next_units(alloc, programme)?;
+    Ok(first_dead_end(top_level(programme), &sources, programme))
 }
 
 /// Check 12 of the base, at 0, or of a stage: a programme's losses go no further, below its top level.

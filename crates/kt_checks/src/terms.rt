@@ -1,32 +1,30 @@
 //! The check of the place of policy terms in a programme, over the base and the stages.
 ghost use Rattle.std.specs.Prelude.{◌≡◌, ◌<◌, ◌&&◌, IfOk};
-ghost use Rattle.std.specs.HashSet.{contains};
 ghost use Rattle.kt_rec.specs.declared.table.Table.TheVariants.{FmPolicytc as ThePolicytc, FmProgramme as TheProgramme};
 ghost use Rattle.kt_rec.specs.Rows.{rows_of};
 ghost use Rattle.kt_keys.specs.FirstRow.{first_where};
-ghost use Rattle.kt_keys.specs.Keys.{same_pair};
 ghost use Rattle.kt_keys.specs.Refusals.{is_loaded, over_stages};
+ghost use Rattle.kt_keys.specs.UnitTable.{has_unit};
 ghost use Rattle.kt_checks.specs.ProgrammeChecks.{is_unplaced, unplaced_at, terms_check};
 
 use kt_keys::{
-    Need, Refusal, STAGES, has_financial, pair_set, policytc, programme, targets_of, top_level,
+    Need, Refusal, STAGES, UnitTable, has_financial, policytc, programme, target_units, top_level,
 };
 use kt_rec::{FmPolicytc, FmProgramme, Table, TableId, Tables};
 use std::alloc::{AllocError, Global};
-use std::collections::HashSet;
 
 /// Whether terms are above the top level, are for no unit of their level, or have a layer other than 1 below the top level.
-fn is_unplaced(top: u32, units: &HashSet<(u32, u32)>, row: &FmPolicytc) -> bool
-    ensures value { result ≡ is_unplaced top (contains same_pair units.now) row.now }
+fn is_unplaced(top: u32, units: &UnitTable<u32>, row: &FmPolicytc) -> bool
+    ensures value { result ≡ is_unplaced top (has_unit units.now) row.now }
 {
     row.level_id > top
-        || !units.contains(&(row.level_id, row.agg_id))
+        || !units.has(row.level_id, row.agg_id)
         || (row.level_id < top && row.layer_id != 1)
 }
 
 /// The first terms that have no place in a programme.
-fn first_unplaced(top: u32, units: &HashSet<(u32, u32)>, rows: &[FmPolicytc]) -> Option<u64>
-    ensures value { result ≡ first_where (is_unplaced top (contains same_pair units.now)) rows.now }
+fn first_unplaced(top: u32, units: &UnitTable<u32>, rows: &[FmPolicytc]) -> Option<u64>
+    ensures value { result ≡ first_where (is_unplaced top (has_unit units.now)) rows.now }
 {
     for (index, row) in rows.iter().enumerate() {
         if is_unplaced(top, units, row) {
@@ -44,8 +42,7 @@ fn unplaced_at(
 ) -> Result<Option<u64>, AllocError>
     ensures value { IfOk result (λ row. row ≡ unplaced_at programme.now policytc.now) }
 {
-    let targets = targets_of(alloc, programme)?;
-    let units = pair_set(alloc, &targets)?;
+    let units = target_units(alloc, programme)?;
     Ok(first_unplaced(top_level(programme), &units, policytc))
 }
 

@@ -4,10 +4,11 @@ ghost use Rattle.std.specs.HashMap.{get};
 ghost use Rattle.std.specs.Map.{lookup};
 ghost use Rattle.kt_rec.specs.Rows.{rows_of};
 ghost use Rattle.kt_keys.specs.Keys.{same_pair};
+ghost use Rattle.kt_keys.specs.UnitTable.{value_of};
 ghost use Rattle.kt_keys.specs.FirstRow.{first_where, above_at};
 ghost use Rattle.kt_checks.specs.TableChecks.{sum_above_at, value_above_at, value_check, bad_bin_at, bin_check, probability_check, period_check};
 
-use kt_keys::{Need, Refusal, base, first_above, first_values, has_base, has_both};
+use kt_keys::{Need, Refusal, UnitTable, base, first_above, first_values, has_base, has_both};
 use kt_rec::{Coverage, DamageBin, Item, Occurrence, Table, Tables, Vulnerability};
 use std::alloc::{AllocError, Global};
 use std::collections::HashMap;
@@ -28,7 +29,7 @@ fn value_above(
 ) -> Result<Option<u64>, AllocError>
     ensures value { IfOk result (λ row. row ≡ value_above_at coverages.now items.now) }
 {
-    let values = tivs(alloc, coverages)?;
+    let values = value_units(alloc, coverages)?;
     Ok(sum_above(&values, items))
 }
 
@@ -42,14 +43,36 @@ fn values_of(alloc: Global, coverages: &[Coverage]) -> Result<Vec<(u32, u64)>, A
         .collect(alloc)
 }
 
+/// The coverages with their values, as units of level 0.
+fn coverage_units(
+    alloc: Global,
+    coverages: &[Coverage],
+) -> Result<Vec<((u32, u32), u64)>, AllocError>
+    ensures value { IfOk result (λ units. units.items ≡ map (λ row. ((0, row.coverage_id), row.tiv)) coverages.now) }
+{
+    coverages
+        .iter()
+        .map(|row| ((0, row.coverage_id), row.tiv))
+        .collect(alloc)
+}
+
+/// The value of each coverage, as a unit of level 0: that of its first row.
+fn value_units(alloc: Global, coverages: &[Coverage]) -> Result<UnitTable<u64>, AllocError>
+    ensures value { IfOk result (λ values. (coverage : ℕ) → value_of values (0, coverage) ≡ lookup (nat_eq coverage) (map (λ row. (row.coverage_id, row.tiv)) coverages.now)) }
+{
+    let units = coverage_units(alloc, coverages)?;
+    let values = UnitTable::new(alloc, &units)?;
+    Ok(values)
+}
+
 /// The first item at which the values of the coverages so far, one for each item, add to more than 10^14 cents.
-fn sum_above(values: &HashMap<u32, u64>, items: &[Item]) -> Option<u64>
-    ensures value { result ≡ sum_above_at (λ row. unwrap_or (get nat_eq values.now row.coverage_id) 0) items.now }
+fn sum_above(values: &UnitTable<u64>, items: &[Item]) -> Option<u64>
+    ensures value { result ≡ sum_above_at (λ row. unwrap_or (value_of values.now (0, row.coverage_id)) 0) items.now }
 {
     let most = 100_000_000_000_000u64;
     let mut sum = 0u64;
     for (index, item) in items.iter().enumerate() {
-        let value = values.get(&item.coverage_id).copied().unwrap_or(0);
+        let value = values.of(0, item.coverage_id).unwrap_or(0);
         if value > most - sum {
             return Some(index as u64 + 1);
         }

@@ -1,7 +1,10 @@
 -- Steps of a loop that keeps the total of each summary.
-use Rattle.std.proofs.Common.{◌≡◌, ℕ, ◌+◌, ◌-◌, ◌*◌, ◌^◌, ◌<◌, ◌≤◌, Bool, true, false, cond, List, [], ◌∷◌, length, get_or, take, refl, ap, sym, subst, ◌∙◌, nat_eq, Option, None, Some, unwrap_or, arith}
+use Rattle.std.proofs.Common.{◌≡◌, ℕ, ◌+◌, ◌-◌, ◌*◌, ◌^◌, ◌<◌, ◌≤◌, Bool, true, false, cond, List, [], ◌∷◌, ◌++◌, length, get_or, take, refl, ap, sym, subst, ◌∙◌, nat_eq, Option, None, Some, unwrap_or, arith}
 use Rattle.std.proofs.Math.Path.{fun_ext}
 use Rattle.std.specs.Prelude.{◌&&◌, ◌||◌, is_some, MatchOption}
+use Rattle.std.specs.Cmp.{nat_eq_equiv}
+use Rattle.std.specs.Map.{lookup}
+use Rattle.std.specs.Option.{option_or}
 use Rattle.std.specs.List.{IsDistinct, filter, list_any}
 use Rattle.std.specs.List.Sorted.{IsPermutation}
 use Rattle.std.proofs.lemmas.List.Sorted.{list_any-IsPermutation}
@@ -20,6 +23,19 @@ same_is : (one other : ℕ × ℕ) → same_pair one other ≡ true → one ≡ 
 same_is (a, b) (c, d) is =
     let parts = and_parts (nat_eq a c) (nat_eq b d) is in
     ap {B = ℕ × ℕ} (λ n. (n, b)) (eqb-true a c parts.0) ∙ ap {B = ℕ × ℕ} (λ n. (c, n)) (eqb-true b d parts.1)
+
+-- the parts of pairs are compared both ways
+pairs_symm : (one other : ℕ × ℕ) → same_pair one other ≡ same_pair other one
+pairs_symm one other = λ j. nat_eq_equiv.symm one.0 other.0 j && nat_eq_equiv.symm one.1 other.1 j
+
+-- what is found behind other pairs
+lookup-pushed : {K V : Type 0} (test : K → Bool) (pairs : List (K × V)) (last : K × V) → lookup test (pairs ++ last ∷ []) ≡ option_or (lookup test pairs) (cond (test last.0) (Some last.1) None)
+lookup-pushed test [] last = refl
+lookup-pushed test (pair ∷ pairs) last = by (test pair.0) (lookup-pushed test pairs last)
+  where
+    by : (b : Bool) → lookup test (pairs ++ last ∷ []) ≡ option_or (lookup test pairs) (cond (test last.0) (Some last.1) None) → cond b (Some pair.1) (lookup test (pairs ++ last ∷ [])) ≡ option_or (cond b (Some pair.1) (lookup test pairs)) (cond (test last.0) (Some last.1) None)
+    by true rest = refl
+    by false rest = rest
 
 -- what fails a test fails it and another
 none-also : {X : Type 0} (one other : X → Bool) (rows : List X) → list_any one rows ≡ false → list_any (λ row. one row && other row) rows ≡ false
@@ -74,12 +90,21 @@ module _ (rows : List SummaryUnit) (pairs : List UnitCoverage) (value : ℕ → 
     known-kept found there known = step (same_pair ((get_or rows i d).set, (get_or rows i d).summary) key) (found key) refl (λ e. subst (λ k. is_some (found k) ≡ true) (same_is _ key e) there) known
 
     -- a row whose key gets a total
-    pub known-added : (new old : Option ℕ) (total : ℕ) → new ≡ cond (same_pair ((get_or rows i d).set, (get_or rows i d).summary) key) (Some total) old → KnownTotal (take i rows) key old → IsTotalOf (summary_covers rows pairs ((get_or rows i d).set, (get_or rows i d).summary)) value total → KnownTotal (take (i + 1) rows) key new
+    known-added : (new old : Option ℕ) (total : ℕ) → new ≡ cond (same_pair ((get_or rows i d).set, (get_or rows i d).summary) key) (Some total) old → KnownTotal (take i rows) key old → IsTotalOf (summary_covers rows pairs ((get_or rows i d).set, (get_or rows i d).summary)) value total → KnownTotal (take (i + 1) rows) key new
     known-added new old total put known is = subst (KnownTotal (take (i + 1) rows) key) (sym put) (by (same_pair ((get_or rows i d).set, (get_or rows i d).summary) key) refl)
       where
         by : (b : Bool) → same_pair ((get_or rows i d).set, (get_or rows i d).summary) key ≡ b → KnownTotal (take (i + 1) rows) key (cond b (Some total) old)
         by true e = subst (λ k. IsTotalOf (summary_covers rows pairs k) value total) (same_is _ key e) is
         by false e = step false old e (λ h. cc) known
+
+    -- a row whose key gets a total behind those of others
+    pub known-pushed : (found more : List ((ℕ × ℕ) × ℕ)) (total : ℕ) → more ≡ found ++ (((get_or rows i d).set, (get_or rows i d).summary), total) ∷ [] → KnownTotal (take i rows) key (lookup (same_pair key) found) → IsTotalOf (summary_covers rows pairs ((get_or rows i d).set, (get_or rows i d).summary)) value total → KnownTotal (take (i + 1) rows) key (lookup (same_pair key) more)
+    known-pushed found more total more_is known is =
+        subst (KnownTotal (take (i + 1) rows) key) (sym (ap (lookup (same_pair key)) more_is ∙ lookup-pushed (same_pair key) found (((get_or rows i d).set, (get_or rows i d).summary), total))) (by (lookup (same_pair key) found) known)
+      where
+        by : (old : Option ℕ) → KnownTotal (take i rows) key old → KnownTotal (take (i + 1) rows) key (option_or old (cond (same_pair key ((get_or rows i d).set, (get_or rows i d).summary)) (Some total) None))
+        by (Some other) known = known
+        by None known = known-added _ None total (ap (λ b. cond b (Some total) None) (pairs_symm key ((get_or rows i d).set, (get_or rows i d).summary))) known is
 
     -- a row of the summary of the row before it, whose key has a total
     pub known-before : (found : Option ℕ) → 1 ≤ i → AreOfOneSummary (get_or rows (i - 1) d) (get_or rows i d) → key ≡ ((get_or rows i d).set, (get_or rows i d).summary) → KnownTotal (take i rows) key found → is_some found ≡ true

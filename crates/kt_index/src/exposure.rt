@@ -1,15 +1,17 @@
 //! The exposures of summaries: what the distinct coverages of each are worth.
 //! The rules: docs/CALCULATION.md, "Summary".
 ghost use Rattle.std.specs.Prelude.{◌≡◌, true, ◌<◌, ◌≤◌, ◌^◌, ◌*◌, ◌+◌, ◌-◌, ◌&&◌, ◌||◌, ℕ, nat_eq, length, slice_index_or, unwrap_or, IfOk};
-ghost use Rattle.std.specs.List.{IsDistinct, list_any, sum_by};
+ghost use Rattle.std.specs.List.{IsDistinct, filter, list_any, sum_by};
 ghost use Rattle.std.specs.HashMap.{get};
+ghost use Rattle.std.specs.Map.{lookup};
 ghost use Rattle.kt_keys.specs.Keys.{same_pair};
 ghost use Rattle.kt_index.specs.declared.exposure.SummaryUnit.{SummaryUnit};
 ghost use Rattle.kt_index.specs.Exposure.{AreOfOneSummary, summary_covers, value_in, IsTotalOf, AddsUp};
 
-use crate::by_key::{ByKey, Keyed};
+use crate::by_key::{ByKey, Keyed, rows_near};
 use crate::keys::pair_key;
 use crate::once::keep_once;
+use kt_keys::first_values;
 use std::alloc::{AllocError, Global};
 use std::collections::HashMap;
 
@@ -116,6 +118,32 @@ fn summary_value(
     Ok(value_of(tivs, &coverages))
 }
 
+/// The exposures of the summaries of rows, one after the other: for each pair of a set and a summary, what the coverages of its
+/// units are worth, each once. What is not there is 0. The rows are put in order where they are. An error is want of memory.
+pub fn exposure_list(
+    alloc: Global,
+    rows: Vec<SummaryUnit>,
+    pairs: Vec<UnitCoverage>,
+    tivs: &HashMap<u32, u64>,
+) -> Result<Vec<((u32, u32), u64)>, AllocError>
+    requires { AddsUp (value_in tivs.now) }
+    ensures value { IfOk result (λ totals. (key : ℕ × ℕ) → IsTotalOf (summary_covers rows.items pairs.items key) (value_in tivs.now) (unwrap_or (lookup (same_pair key) totals.items) 0)) }
+{
+    let rows = ByKey::of_rows(rows)?;
+    let pairs = ByKey::of_rows(pairs)?;
+    totals_of(alloc, &rows, &pairs, tivs)
+}
+
+/// What each pair has, to be looked up.
+fn hashed(
+    alloc: Global,
+    totals: &[((u32, u32), u64)],
+) -> Result<HashMap<(u32, u32), u64>, AllocError>
+    ensures value { IfOk result (λ found. (key : ℕ × ℕ) → get same_pair found key ≡ lookup (same_pair key) totals.now) }
+{
+    first_values(alloc, totals)
+}
+
 /// The exposures of the summaries of rows: for each pair of a set and a summary, what the coverages of its units are worth,
 /// each once. What is not there is 0. The rows are put in order where they are. An error is want of memory.
 pub fn exposures(
@@ -127,9 +155,18 @@ pub fn exposures(
     requires { AddsUp (value_in tivs.now) }
     ensures value { IfOk result (λ totals. (key : ℕ × ℕ) → IsTotalOf (summary_covers rows.items pairs.items key) (value_in tivs.now) (unwrap_or (get same_pair totals key) 0)) }
 {
-    let rows = ByKey::of_rows(rows)?;
-    let pairs = ByKey::of_rows(pairs)?;
-    totals_of(alloc, &rows, &pairs, tivs)
+    let totals = exposure_list(alloc, rows, pairs, tivs)?;
+    let found = hashed(alloc, &totals)?;
+    Ok(found)
+}
+
+/// The rows of a key among rows in its order. They are looked for first at a place where they may stand.
+fn group_at(rows: &ByKey<SummaryUnit>, place: usize, key: u64) -> &[SummaryUnit]
+    ensures value { result.now ≡ filter (λ row. nat_eq (row.set * 2 ^ 32 + row.summary) key) rows.now }
+{
+    let mut near = place;
+    let found = rows_near(rows.as_slice(), key, &mut near);
+    found
 }
 
 /// Whether a row is of the summary of the row before it.
@@ -150,18 +187,18 @@ fn totals_of(
     rows: &ByKey<SummaryUnit>,
     pairs: &ByKey<UnitCoverage>,
     tivs: &HashMap<u32, u64>,
-) -> Result<HashMap<(u32, u32), u64>, AllocError>
+) -> Result<Vec<((u32, u32), u64)>, AllocError>
     requires { AddsUp (value_in tivs.now) }
-    ensures value { IfOk result (λ totals. (key : ℕ × ℕ) → IsTotalOf (summary_covers rows.now pairs.now key) (value_in tivs.now) (unwrap_or (get same_pair totals key) 0)) }
+    ensures value { IfOk result (λ totals. (key : ℕ × ℕ) → IsTotalOf (summary_covers rows.now pairs.now key) (value_in tivs.now) (unwrap_or (lookup (same_pair key) totals.items) 0)) }
 {
-    let mut totals: HashMap<(u32, u32), u64> = HashMap::new(alloc);
+    let mut totals: Vec<((u32, u32), u64)> = Vec::new(alloc);
     let all = rows.as_slice();
     for (place, row) in all.iter().enumerate() {
         let (set, summary) = (row.set, row.summary);
         if !goes_on(all, place) {
-            let group = rows.of(row.key());
+            let group = group_at(rows, place, row.key());
             let value = summary_value(alloc, group, pairs, tivs, set, summary)?;
-            totals.insert((set, summary), value)?;
+            totals.push(((set, summary), value))?;
         }
     }
     Ok(totals)

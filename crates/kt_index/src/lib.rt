@@ -7,6 +7,6 @@ mod keys;
 mod once;
 
 pub use by_key::{ByKey, Keyed, is_by_key, rows_between, rows_near, rows_of};
-pub use exposure::{SummaryUnit, UnitCoverage, exposures};
+pub use exposure::{SummaryUnit, UnitCoverage, exposure_list, exposures};
 pub use keys::pair_key;
 pub use once::keep_once;

@@ -3,3 +3,5 @@ pub mod FirstRowLemmas
 pub mod RepeatedLemmas
 pub mod RisingLemmas
 pub mod RefusalLemmas
+pub mod UnitTableLemmas
+pub mod StepLemmas

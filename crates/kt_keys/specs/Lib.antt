@@ -4,6 +4,7 @@ pub mod Keys
 pub mod KeyChecks
 pub mod Units
 pub mod Climbing
+pub mod UnitTable
 pub mod NameChecks
 pub mod StageLaws
 pub mod TotalLaws

@@ -179,16 +179,6 @@ pub fn first_values<K: Copy + Eq + Hash + Drop, V: Copy + Drop>(
     Ok(values)
 }
 
-/// The value that each pair has in its first row. The error is want of memory.
-pub fn pair_values(
-    alloc: Global,
-    pairs: &[((u32, u32), u32)],
-) -> Result<HashMap<(u32, u32), u32>, AllocError>
-    ensures value { IfOk result (λ values. (key : ℕ × ℕ) → get same_pair values key ≡ lookup (same_pair key) pairs.now) }
-{
-    first_values(alloc, pairs)
-}
-
 /// The pairs of a list as a set. The error is want of memory.
 pub fn pair_set(alloc: Global, pairs: &[(u32, u32)]) -> Result<HashSet<(u32, u32)>, AllocError>
     ensures value { IfOk result (IsFromIterResult same_pair pairs.now) }

@@ -2,9 +2,12 @@
 ghost use Rattle.std.specs.Prelude.{◌≡◌, ◌==◌, ℕ, map, IfOk, filter};
 ghost use Rattle.kt_rec.specs.Rows.{rows_of};
 ghost use Rattle.kt_keys.specs.Keys.{programme_of};
-ghost use Rattle.kt_keys.specs.Units.{top_level, top_targets, top_layers};
+ghost use Rattle.kt_keys.specs.Climbing.{next_unit};
+ghost use Rattle.kt_keys.specs.UnitTable.{has_unit, value_of};
+ghost use Rattle.kt_keys.specs.Units.{is_source, is_target, top_level, top_targets, top_layers};
 
 use crate::stages::programme;
+use crate::unit_table::UnitTable;
 use kt_rec::{FmPolicytc, FmProgramme, Tables};
 use std::alloc::{AllocError, Global};
 
@@ -19,24 +22,26 @@ pub fn top_level(programme: &[FmProgramme]) -> u32
     greatest
 }
 
-/// The units that losses come from, with their levels. The error is want of memory.
-pub fn sources_of(alloc: Global, programme: &[FmProgramme]) -> Result<Vec<(u32, u32)>, AllocError>
-    ensures value { IfOk result (λ units. units.items ≡ map (λ row. (row.level_id, row.from_agg_id)) programme.now) }
+/// The units that losses go to, with their levels, and those that they come from.
+fn targets_of(
+    alloc: Global,
+    programme: &[FmProgramme],
+) -> Result<Vec<((u32, u32), u32)>, AllocError>
+    ensures value { IfOk result (λ targets. targets.items ≡ map (λ row. ((row.level_id, row.to_agg_id), row.from_agg_id)) programme.now) }
 {
     programme
         .iter()
-        .map(|row| (row.level_id, row.from_agg_id))
+        .map(|row| ((row.level_id, row.to_agg_id), row.from_agg_id))
         .collect(alloc)
 }
 
-/// The units that losses go to, with their levels. The error is want of memory.
-pub fn targets_of(alloc: Global, programme: &[FmProgramme]) -> Result<Vec<(u32, u32)>, AllocError>
-    ensures value { IfOk result (λ units. units.items ≡ map (λ row. (row.level_id, row.to_agg_id)) programme.now) }
+/// The units that losses go to, by level, each with a unit that they come from. The error is want of memory.
+pub fn target_units(alloc: Global, programme: &[FmProgramme]) -> Result<UnitTable<u32>, AllocError>
+    ensures value { IfOk result (λ units. (unit : ℕ × ℕ) → has_unit units unit ≡ is_target programme.now unit) }
 {
-    programme
-        .iter()
-        .map(|row| (row.level_id, row.to_agg_id))
-        .collect(alloc)
+    let targets = targets_of(alloc, programme)?;
+    let units = UnitTable::new(alloc, &targets)?;
+    Ok(units)
 }
 
 /// The units of a level that losses go to.
@@ -84,17 +89,24 @@ pub fn top_layers(
     layers_at(alloc, policytc, top_level(programme))
 }
 
-/// The unit that each unit's losses at a level go to. The error is want of memory.
-pub fn steps_of(
-    alloc: Global,
-    programme: &[FmProgramme],
-) -> Result<Vec<((u32, u32), u32)>, AllocError>
+/// The unit that each unit's losses at a level go to, row by row.
+fn steps_of(alloc: Global, programme: &[FmProgramme]) -> Result<Vec<((u32, u32), u32)>, AllocError>
     ensures value { IfOk result (λ steps. steps.items ≡ map (λ row. ((row.level_id, row.from_agg_id), row.to_agg_id)) programme.now) }
 {
     programme
         .iter()
         .map(|row| ((row.level_id, row.from_agg_id), row.to_agg_id))
         .collect(alloc)
+}
+
+/// The unit that each unit's losses at a level go to. The error is want of memory.
+pub fn next_units(alloc: Global, programme: &[FmProgramme]) -> Result<UnitTable<u32>, AllocError>
+    ensures value { IfOk result (λ next. (unit : ℕ × ℕ) → value_of next unit ≡ next_unit programme.now unit) }
+    ensures sources { IfOk result (λ next. (unit : ℕ × ℕ) → has_unit next unit ≡ is_source programme.now unit) }
+{
+    let steps = steps_of(alloc, programme)?;
+    let next = UnitTable::new(alloc, &steps)?;
+    Ok(next)
 }
 
 /// The units of layers. The error is want of memory.

@@ -4,7 +4,6 @@ pub mod FindLemmas
 pub mod AssemblyLemmas
 pub mod LinkLemmas
 pub mod RisingLemmas
-pub mod TableLemmas
 pub mod TermLemmas
 pub mod StruckLemmas
 pub mod MadeLemmas

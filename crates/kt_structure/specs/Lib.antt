@@ -1,6 +1,5 @@
 pub mod ProgrammeLaws
 pub mod OutputLaws
-pub mod UnitTable
 pub mod Plan
 pub mod Coverages
 pub mod Ready

@@ -8,7 +8,7 @@ use Rattle.kt_tree.specs.Programme.{or_first}
 use Rattle.kt_rec.specs.Rising.{IsRising}
 use Rattle.kt_tree.specs.Tree.{Tree, IsTree, beneath}
 use Rattle.kt_structure.specs.Plan.{found_terms, linked}
-use Rattle.kt_structure.specs.UnitTable.{value_of}
+use Rattle.kt_keys.specs.UnitTable.{value_of}
 use Rattle.kt_structure.specs.declared.links.Link.{Link}
 use Rattle.kt_structure.specs.declared.structure.Structure.{Structure}
 

@@ -6,15 +6,15 @@ ghost use Rattle.std.specs.Map.{lookup};
 ghost use Rattle.std.specs.HashMap.{get};
 ghost use Rattle.kt_rec.specs.Ranges.{IsCoverage};
 ghost use Rattle.kt_rec.specs.Rows.{rows_of};
-ghost use Rattle.kt_keys.specs.Keys.{same_pair};
+ghost use Rattle.kt_keys.specs.UnitTable.{value_of};
 ghost use Rattle.kt_index.specs.Exposure.{IsTotalOf, summary_covers};
 ghost use Rattle.kt_checks.specs.TableChecks.{tiv_of};
 ghost use Rattle.kt_tree.specs.Programme.{coverage_of, covered_ids};
 ghost use Rattle.kt_structure.specs.Coverages.{climb_rows, rows_for, own_pair};
 
 use kt_checks::tivs as coverage_tivs;
-use kt_index::{SummaryUnit, UnitCoverage, exposures};
-use kt_keys::first_values;
+use kt_index::{SummaryUnit, UnitCoverage, exposure_list};
+use kt_keys::{UnitTable, first_values};
 use kt_rec::{Coverage, FmXref, Item, Tables};
 use std::alloc::{AllocError, Global};
 use std::collections::HashMap;
@@ -99,20 +99,20 @@ pub(crate) fn covered_ids(
 
 /// Adds the units that an id's losses come to, level by level, with its coverage.
 fn push_climb(
-    next: &HashMap<(u32, u32), u32>,
+    next: &UnitTable<u32>,
     top: u32,
     id: u32,
     coverage: u32,
     rows: &mut Vec<SummaryUnit>,
 ) -> Result<(), AllocError>
-    ensures ok { OnOk result (rows.new.items ≡ rows.old.items ++ climb_rows (get same_pair next.now) top 1 id coverage) }
+    ensures ok { OnOk result (rows.new.items ≡ rows.old.items ++ climb_rows (value_of next.now) top 1 id coverage) }
 {
     let mut unit = id;
     for below in 0..top {
-        match next.get(&(below + 1, unit)) {
+        match next.of(below + 1, unit) {
             None => return Ok(()),
             Some(reached) => {
-                unit = *reached;
+                unit = reached;
                 rows.push(SummaryUnit {
                     set: below + 1,
                     summary: unit,
@@ -127,13 +127,13 @@ fn push_climb(
 /// The units that the losses of ids come to, level by level, with the coverages of the ids.
 fn climbs(
     alloc: Global,
-    next: &HashMap<(u32, u32), u32>,
+    next: &UnitTable<u32>,
     top: u32,
     covered: &[(u32, Option<u32>)],
 ) -> Result<Vec<SummaryUnit>, AllocError>
-    ensures value { IfOk result (λ rows. rows.items ≡ flat_map (rows_for (get same_pair next.now) top) covered.now) }
+    ensures value { IfOk result (λ rows. rows.items ≡ flat_map (rows_for (value_of next.now) top) covered.now) }
 {
-    let mut rows = Vec::new(alloc);
+    let mut rows = Vec::with_capacity(alloc, covered.len().saturating_mul(top as usize))?;
     for pair in covered {
         if let (id, Some(coverage)) = *pair {
             push_climb(next, top, id, coverage, &mut rows)?;
@@ -158,19 +158,21 @@ fn own_pairs(alloc: Global, coverages: &[Coverage]) -> Result<Vec<UnitCoverage>,
 /// What the distinct coverages beneath each unit of each level are worth, by level and unit, for ids with their coverages.
 pub(crate) fn tivs(
     alloc: Global,
-    next: &HashMap<(u32, u32), u32>,
+    next: &UnitTable<u32>,
     top: u32,
     covered: Vec<(u32, Option<u32>)>,
     coverages: &[Coverage],
-) -> Result<HashMap<(u32, u32), u64>, AllocError>
+) -> Result<UnitTable<u64>, AllocError>
     requires distinct { IsDistinct nat_eq (map (λ row. row.coverage_id) coverages.now) }
     requires ranges { All IsCoverage coverages.now }
     requires few { length coverages.now ≤ 100000 }
-    ensures value { IfOk result (λ found. (key : ℕ × ℕ) → IsTotalOf (summary_covers (flat_map (rows_for (get same_pair next.now) top) covered.items) (map own_pair coverages.now) key) (tiv_of coverages.now) (unwrap_or (get same_pair found key) 0)) }
+    ensures value { IfOk result (λ found. (key : ℕ × ℕ) → IsTotalOf (summary_covers (flat_map (rows_for (value_of next.now) top) covered.items) (map own_pair coverages.now) key) (tiv_of coverages.now) (unwrap_or (value_of found key) 0)) }
 {
     let rows = climbs(alloc, next, top, &covered)?;
     drop(covered);
     let pairs = own_pairs(alloc, coverages)?;
     let values = coverage_tivs(alloc, coverages)?;
-    exposures(alloc, rows, pairs, &values)
+    let totals = exposure_list(alloc, rows, pairs, &values)?;
+    let found = UnitTable::new(alloc, &totals)?;
+    Ok(found)
 }

@@ -9,7 +9,6 @@ mod outline;
 mod plan;
 mod shared;
 mod structure;
-mod table;
 mod terms;
 
 pub use structure::Structure;

@@ -4,11 +4,11 @@ ghost use Rattle.std.specs.Prelude.{◌≡◌, ◌+◌, ◌++◌, ◌*◌, ◌^�
 ghost use Rattle.std.specs.List.{cons_option, filter, filter_map};
 ghost use Rattle.kt_rec.specs.Rising.{rising};
 ghost use Rattle.kt_structure.specs.Plan.{end_link, end_up, link_key, link_to, link_up, linked, links_up};
-ghost use Rattle.kt_structure.specs.UnitTable.{value_of};
+ghost use Rattle.kt_keys.specs.UnitTable.{value_of};
 
-use crate::table::UnitTable;
 use kt_fmtree::rising;
 use kt_index::{ByKey, Keyed, pair_key, rows_near};
+use kt_keys::UnitTable;
 use std::alloc::{AllocError, Global};
 
 /// The losses of a unit come to a unit of a level.

@@ -4,14 +4,14 @@ ghost use Rattle.std.specs.Prelude.{◌≡◌, ℕ, nat_eq, List, length, map, i
 ghost use Rattle.std.specs.List.{filter};
 ghost use Rattle.kt_tree.specs.Programme.{or_first};
 ghost use Rattle.kt_structure.specs.Plan.{found_terms, layer_link, link_key, linked};
-ghost use Rattle.kt_structure.specs.UnitTable.{value_of};
+ghost use Rattle.kt_keys.specs.UnitTable.{value_of};
 ghost use Rattle.kt_rec.specs.Rising.{rising};
 
 use crate::links::{Link, by_key, children};
-use crate::table::UnitTable;
 use crate::terms::Terms;
 use kt_fmtree::rising;
 use kt_index::ByKey;
+use kt_keys::UnitTable;
 use kt_rec::FmPolicytc;
 use kt_rules::Profile;
 use std::alloc::{AllocError, Global};

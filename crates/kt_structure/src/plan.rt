@@ -5,10 +5,10 @@ ghost use Rattle.std.specs.List.{flat_map};
 ghost use Rattle.kt_structure.specs.Plan.{found_tiv, kids, new_node, nodes_from, build_levels, build_leaves};
 
 use crate::links::{Link, push_linked};
-use crate::table::UnitTable;
 use crate::terms::Terms;
 use kt_fmtree::Node;
 use kt_index::ByKey;
+use kt_keys::UnitTable;
 use std::alloc::{AllocError, Global};
 
 /// The links between units, the terms of their layers, and what the coverages beneath each unit of a level are worth.

@@ -11,11 +11,10 @@ ghost use Rattle.kt_structure.specs.Structure.{IsStructure, kept_by};
 use crate::coverage::{covered_ids, tivs};
 use crate::links::Link;
 use crate::outline::layer_links;
-use crate::table::UnitTable;
 use crate::terms::Terms;
 use kt_checks::next_units;
 use kt_index::ByKey;
-use kt_keys::{policytc, profile, programme, top_level};
+use kt_keys::{UnitTable, policytc, profile, programme, top_level};
 use kt_rec::Tables;
 use kt_tables::Portfolio;
 use std::alloc::{AllocError, Global};
@@ -44,18 +43,16 @@ pub(crate) fn structure_at(
 {
     let rows = programme(tables, stage);
     let top_level = top_level(rows);
-    let units = next_units(alloc, rows)?;
+    let next = next_units(alloc, rows)?;
     let covered = covered_ids(alloc, tables, stage)?;
-    let worth = tivs(alloc, &units, top_level, covered, &tables.coverages)?;
+    let worth = tivs(alloc, &next, top_level, covered, &tables.coverages)?;
     let terms = Terms::new(alloc, policytc(tables, stage), profile(tables, stage))?;
     let layers = layer_links(alloc, policytc(tables, stage), top_level)?;
-    let next = UnitTable::new(alloc, units)?;
-    let tivs = UnitTable::new(alloc, worth)?;
     Ok(Structure {
         top_level,
         next,
         terms,
-        tivs,
+        tivs: worth,
         layers,
     })
 }

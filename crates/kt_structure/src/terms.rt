@@ -9,10 +9,9 @@ ghost use Rattle.kt_rec.specs.Ranges.{IsFmProfile};
 ghost use Rattle.kt_rules.specs.Profiles.{profile_of};
 ghost use Rattle.kt_tree.specs.Programme.{no_terms, terms_or_none};
 ghost use Rattle.kt_structure.specs.Plan.{AreTerms, first_pair, found_id, found_terms, unit_pair};
-ghost use Rattle.kt_structure.specs.UnitTable.{value_of};
+ghost use Rattle.kt_keys.specs.UnitTable.{value_of};
 
-use crate::table::UnitTable;
-use kt_keys::{first_values, pair_values};
+use kt_keys::{UnitTable, first_values};
 use kt_rec::{FmPolicytc, FmProfile};
 use kt_rules::Profile;
 use std::alloc::{AllocError, Global};
@@ -88,8 +87,7 @@ fn first_layers(alloc: Global, policytc: &[FmPolicytc]) -> Result<UnitTable<u32>
     ensures value { IfOk result (λ values. (key : ℕ × ℕ) → value_of values key ≡ lookup (same_pair key) (map first_pair (filter (λ row. nat_eq row.layer_id 1) policytc.now))) }
 {
     let pairs = first_pairs(alloc, policytc)?;
-    let values = pair_values(alloc, &pairs)?;
-    let table = UnitTable::new(alloc, values)?;
+    let table = UnitTable::new(alloc, &pairs)?;
     Ok(table)
 }
 

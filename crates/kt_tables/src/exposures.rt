@@ -2,10 +2,9 @@
 //! The rules: docs/CALCULATION.md, "Summary".
 ghost use Rattle.std.specs.Prelude.{◌≡◌, ℕ, option_map, IfOk};
 ghost use Rattle.std.specs.List.{filter_map};
-ghost use Rattle.std.specs.HashMap.{get};
 ghost use Rattle.kt_rec.specs.Rows.{rows_of};
 ghost use Rattle.kt_rec.specs.declared.perspective.Perspective.TheVariants as perspective;
-ghost use Rattle.kt_keys.specs.Keys.{same_pair};
+ghost use Rattle.kt_keys.specs.UnitTable.{value_of};
 ghost use Rattle.kt_keys.specs.Climbing.{climbed};
 ghost use Rattle.kt_index.specs.Exposure.{unit_covers};
 ghost use Rattle.kt_tables.specs.Lookups.{agg_of, item_summary_rows, output_summary_rows, lies_beneath, unit_has};
@@ -14,7 +13,7 @@ ghost use Rattle.kt_tables.specs.Kept.{AreTivs, AreAddable, AreExposures};
 use crate::columns::parts_of;
 use kt_checks::{climbed, next_units};
 use kt_index::{ByKey, SummaryUnit, UnitCoverage, exposures};
-use kt_keys::{programme, top_level};
+use kt_keys::{UnitTable, programme, top_level};
 use kt_rec::{FmXref, Item, Tables};
 use std::alloc::{AllocError, Global};
 use std::collections::HashMap;
@@ -53,8 +52,8 @@ fn output_units(
 }
 
 /// The coverage of an item beneath the unit of the top level that its losses come to.
-fn top_coverage(next: &HashMap<(u32, u32), u32>, top: u32, item: &Item) -> Option<UnitCoverage>
-    ensures value { result ≡ option_map (λ unit. record { unit = unit; coverage = item.now.coverage_id }) (climbed (get same_pair next.now) top 1 item.now.item_id) }
+fn top_coverage(next: &UnitTable<u32>, top: u32, item: &Item) -> Option<UnitCoverage>
+    ensures value { result ≡ option_map (λ unit. record { unit = unit; coverage = item.now.coverage_id }) (climbed (value_of next.now) top 1 item.now.item_id) }
 {
     let unit = climbed(next, top, item.item_id)?;
     Some(UnitCoverage {
@@ -66,11 +65,11 @@ fn top_coverage(next: &HashMap<(u32, u32), u32>, top: u32, item: &Item) -> Optio
 /// The coverages beneath the units of the top level.
 fn top_coverages(
     alloc: Global,
-    next: &HashMap<(u32, u32), u32>,
+    next: &UnitTable<u32>,
     top: u32,
     items: &[Item],
 ) -> Result<Vec<UnitCoverage>, AllocError>
-    ensures value { IfOk result (λ pairs. pairs.items ≡ filter_map (λ row. option_map (λ unit. record { unit = unit; coverage = row.coverage_id }) (climbed (get same_pair next.now) top 1 row.item_id)) items.now) }
+    ensures value { IfOk result (λ pairs. pairs.items ≡ filter_map (λ row. option_map (λ unit. record { unit = unit; coverage = row.coverage_id }) (climbed (value_of next.now) top 1 row.item_id)) items.now) }
 {
     items
         .iter()

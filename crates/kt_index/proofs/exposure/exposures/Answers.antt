@@ -1,15 +1,12 @@
-use Rattle.std.proofs.Common.{ℕ, unwrap_or}
-use Rattle.std.specs.HashMap.{get}
-use Rattle.std.proofs.lemmas.Result.{IfOk-weaker}
+use Rattle.std.proofs.Common.{◌∙◌, Option, ℕ, ap, subst, sym, unwrap_or}
+use Rattle.std.specs.Map.{lookup}
 use Rattle.kt_keys.specs.Keys.{same_pair}
 use Rattle.kt_index.specs.Exposure.{summary_covers, value_in, IsTotalOf}
-use Rattle.kt_index.proofs.TotalLemmas.{total-agree, covers-moved}
 use Rattle.kt_index.proofs.exposure.exposures.Goals as goal
 
 pub returns : goal.returns
 returns c = record {
-  value =
-      IfOk-weaker c.totals_of.result _ (λ totals. (key : ℕ × ℕ) → IsTotalOf (summary_covers c.args.rows.items c.args.pairs.items key) (value_in c.args.tivs.now) (unwrap_or (get same_pair totals key) 0))
-      (λ totals known key. total-agree _ (summary_covers c.args.rows.items c.args.pairs.items key) _ _ (covers-moved c.args.rows.items c.in_ok-rows.rows c.args.pairs.items c.in_ok-pairs.pairs c.in_ok-rows.ensures.permutation c.in_ok-pairs.ensures.permutation key) (known key))
-      c.totals_of.ensures.value;
+  value = λ (key : ℕ × ℕ).
+      subst (λ (found : Option ℕ). IsTotalOf (summary_covers c.args.rows.items c.args.pairs.items key) (value_in c.args.tivs.now) (unwrap_or found 0))
+      (sym (c.in_ok-found.ensures.value key ∙ ap (lookup (same_pair key)) c.deref.ensures.value)) (c.in_ok-totals.ensures.value key);
 }

@@ -1,9 +1,9 @@
-use Rattle.std.proofs.Common.{◌∙◌, ℕ, List, ap, map, unwrap_or, subst, sym}
+use Rattle.std.proofs.Common.{◌∙◌, ℕ, List, Option, ap, map, unwrap_or, subst, sym}
 use Rattle.std.proofs.Math.Path.{fun_ext}
 use Rattle.std.specs.List.{flat_map}
-use Rattle.std.specs.HashMap.{get}
-use Rattle.std.proofs.lemmas.Result.{IfOk-weaker}
+use Rattle.std.specs.Map.{lookup}
 use Rattle.kt_keys.specs.Keys.{same_pair}
+use Rattle.kt_keys.specs.UnitTable.{value_of}
 use Rattle.kt_index.specs.Exposure.{AddsUp, IsTotalOf, summary_covers, value_in}
 use Rattle.kt_index.specs.declared.exposure.SummaryUnit.{SummaryUnit}
 use Rattle.kt_index.specs.declared.exposure.UnitCoverage.{UnitCoverage}
@@ -11,17 +11,20 @@ use Rattle.kt_structure.specs.Coverages.{rows_for, own_pair}
 use Rattle.kt_checks.specs.Worth.{values-few}
 use Rattle.kt_structure.proofs.coverage.tivs.Goals as goal
 
-pub exposures-requires : goal.exposures-requires
-exposures-requires c =
+pub exposure_list-requires : goal.exposure_list-requires
+exposure_list-requires c =
     subst AddsUp (sym (fun_ext (λ (id : ℕ). ap (λ found. unwrap_or found 0) (c.in_ok-values.ensures.value id)))) (values-few c.args.coverages.now c.requires.distinct c.requires.ranges c.requires.few)
 
 pub returns : goal.returns
 returns c = record {
-  value =
-      IfOk-weaker c.exposures.result _ _
-      (λ found totals key.
-      subst (λ (value : ℕ → ℕ). IsTotalOf (summary_covers (flat_map (rows_for (get same_pair c.args.next.now) c.args.top) c.args.covered.items) (map own_pair c.args.coverages.now) key) value (unwrap_or (get same_pair found key) 0)) (fun_ext (λ (id : ℕ). ap (λ found. unwrap_or found 0) (c.in_ok-values.ensures.value id)))
-      (subst (λ (rows : List SummaryUnit). IsTotalOf (summary_covers rows (map own_pair c.args.coverages.now) key) (value_in c.in_ok-values.values) (unwrap_or (get same_pair found key) 0)) (c.in_ok-rows.ensures.value ∙ ap (flat_map (rows_for (get same_pair c.args.next.now) c.args.top)) c.deref.ensures.value)
-      (subst (λ (pairs : List UnitCoverage). IsTotalOf (summary_covers c.in_ok-rows.rows.items pairs key) (value_in c.in_ok-values.values) (unwrap_or (get same_pair found key) 0)) c.in_ok-pairs.ensures.value (totals key))))
-      c.exposures.ensures.value;
+  value = λ (key : ℕ × ℕ).
+      let next = value_of c.args.next.now in
+      let rows = flat_map (rows_for next c.args.top) c.args.covered.items in
+      let pairs = map own_pair c.args.coverages.now in
+      let total = unwrap_or (value_of c.in_ok-found.found key) 0 in
+      subst (λ (value : ℕ → ℕ). IsTotalOf (summary_covers rows pairs key) value total) (fun_ext (λ (id : ℕ). ap (λ found. unwrap_or found 0) (c.in_ok-values.ensures.value id)))
+      (subst (λ (all : List SummaryUnit). IsTotalOf (summary_covers all pairs key) (value_in c.in_ok-values.values) total) (c.in_ok-rows.ensures.value ∙ ap (flat_map (rows_for next c.args.top)) c.deref.ensures.value)
+      (subst (λ (all : List UnitCoverage). IsTotalOf (summary_covers c.in_ok-rows.rows.items all key) (value_in c.in_ok-values.values) total) c.in_ok-pairs.ensures.value
+      (subst (λ (found : Option ℕ). IsTotalOf (summary_covers c.in_ok-rows.rows.items c.in_ok-pairs.pairs.items key) (value_in c.in_ok-values.values) (unwrap_or found 0)) (sym (c.in_ok-found.ensures.value key ∙ ap (lookup (same_pair key)) c.deref-2.ensures.value))
+      (c.in_ok-totals.ensures.value key))));
 }

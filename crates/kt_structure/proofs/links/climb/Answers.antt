@@ -1,7 +1,7 @@
 use Rattle.std.proofs.Common.{◌≡◌, ◌∙◌, ◌+◌, ◌++◌, ap, arith}
 use Rattle.std.specs.List.{filter_map}
 use Rattle.kt_structure.specs.Plan.{end_link, end_up, link_up, links_up}
-use Rattle.kt_structure.specs.UnitTable.{value_of}
+use Rattle.kt_keys.specs.UnitTable.{value_of}
 use Rattle.kt_structure.proofs.LinkLemmas.{climb-begins, ends-go, links-go}
 use Rattle.kt_structure.proofs.links.climb.Goals as goal
 

@@ -2,7 +2,7 @@
 use Rattle.std.proofs.Common.{◌≡◌}
 use Rattle.std.specs.List.{filter_map}
 use Rattle.kt_structure.specs.Plan.{end_link, links_up}
-use Rattle.kt_structure.specs.UnitTable.{value_of}
+use Rattle.kt_keys.specs.UnitTable.{value_of}
 use Rattle.kt_structure.proofs.links.climb.Given as goal
 
 abbrev pub invariant-loop-below : goal.invariant-loop-below

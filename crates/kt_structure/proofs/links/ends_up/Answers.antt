@@ -1,6 +1,6 @@
 use Rattle.std.proofs.Common.{[]}
 use Rattle.kt_structure.specs.Plan.{end_up, link_to, link_up}
-use Rattle.kt_structure.specs.UnitTable.{value_of}
+use Rattle.kt_keys.specs.UnitTable.{value_of}
 use Rattle.kt_structure.proofs.LinkLemmas.{made-goes}
 use Rattle.kt_structure.proofs.links.ends_up.Goals as goal
 

@@ -1,6 +1,6 @@
 use Rattle.std.proofs.Common.{◌∙◌, sym}
 use Rattle.kt_structure.specs.Plan.{link_to}
-use Rattle.kt_structure.specs.UnitTable.{value_of}
+use Rattle.kt_keys.specs.UnitTable.{value_of}
 use Rattle.kt_structure.proofs.LinkLemmas.{made-none, made-some}
 use Rattle.kt_structure.proofs.links.push_up.Goals as goal
 

@@ -4,4 +4,4 @@ use Rattle.kt_keys.specs.Keys.{same_pair}
 use Rattle.kt_structure.proofs.terms.first_layers.Goals as goal
 
 pub returns : goal.returns
-returns c = record { value = λ key. c.in_ok-table.ensures.value key ∙ (c.in_ok-values.ensures.value key ∙ ap (lookup (same_pair key)) (c.deref.ensures.value ∙ c.in_ok-pairs.ensures.value)) }
+returns c = record { value = λ key. c.in_ok-table.ensures.value key ∙ ap (lookup (same_pair key)) (c.deref.ensures.value ∙ c.in_ok-pairs.ensures.value) }

@@ -2,12 +2,12 @@ use Rattle.std.proofs.Common.{◌≡◌, ◌∙◌, ℕ, List, Option, ap, nat_e
 use Rattle.std.proofs.Math.Path.{fun_ext}
 use Rattle.std.specs.Prelude.{◌&&◌}
 use Rattle.std.specs.List.{list_any}
-use Rattle.std.specs.HashMap.{get}
 use Rattle.std.proofs.lemmas.Result.{IfOk-weaker}
 use Rattle.kt_rec.specs.Rows.{rows_of}
 use Rattle.kt_rec.specs.declared.exposure.Item.{Item}
 use Rattle.kt_rec.specs.declared.financial.FmProgramme.{FmProgramme}
-use Rattle.kt_keys.specs.Keys.{same_pair, programme_of}
+use Rattle.kt_keys.specs.Keys.{programme_of}
+use Rattle.kt_keys.specs.UnitTable.{value_of}
 use Rattle.kt_keys.specs.Units.{top_level}
 use Rattle.kt_keys.specs.Climbing.{climbed, next_unit}
 use Rattle.kt_index.specs.declared.exposure.UnitCoverage.{UnitCoverage}
@@ -20,7 +20,7 @@ pub returns : goal.returns
 returns c =
     let rows = rows_of c.args.tables.now in
     let top = c.top_level.result in
-    let next = get same_pair c.in_ok-next.next in
+    let next = value_of c.in_ok-next.next in
     let next_is : next ≡ next_unit (programme_of rows 0) = fun_ext (λ (key : ℕ × ℕ). c.in_ok-next.ensures.value key ∙ ap (λ (rows : List FmProgramme). next_unit rows key) c.programme-programme.ensures.value) in
     let top_is : top ≡ top_level (programme_of rows 0) = c.top_level.ensures.value ∙ ap top_level c.programme-programme.ensures.value in
     let climb_is : climbed next top 1 ≡ top_unit rows = ap (λ found. climbed found top 1) next_is ∙ ap (λ levels. climbed (next_unit (programme_of rows 0)) levels 1) top_is in

@@ -5,7 +5,7 @@ use Rattle.kt_rec.specs.Rising.{IsRising}
 use Rattle.kt_fmtree.specs.Parts.{Parts, IsProgramme}
 use Rattle.kt_structure.specs.Plan.{build_leaves, build_levels, found_terms, linked}
 use Rattle.kt_structure.specs.Structure.{kept_by}
-use Rattle.kt_structure.specs.UnitTable.{value_of}
+use Rattle.kt_keys.specs.UnitTable.{value_of}
 use Rattle.kt_structure.proofs.AssemblyLemmas.{leaves-fit, programme-fits}
 use Rattle.kt_structure.proofs.structure.Structure.made.Goals as goal
 

@@ -2,7 +2,7 @@ use Rattle.std.proofs.Common.{◌∙◌, nat_eq, ap}
 use Rattle.std.specs.HashMap.{get}
 use Rattle.std.specs.Map.{lookup}
 use Rattle.kt_keys.specs.Keys.{same_triple}
-use Rattle.kt_structure.specs.UnitTable.{value_of}
+use Rattle.kt_keys.specs.UnitTable.{value_of}
 use Rattle.kt_structure.proofs.TermLemmas.{units-found}
 use Rattle.kt_structure.proofs.terms.Terms.new.Goals as goal
 
