@@ -5,3 +5,5 @@ pub mod ProgrammeLaws
 pub mod PartsLaws
 pub mod RisingLaws
 pub mod LoopLaws
+pub mod Lists
+pub mod ListLaws

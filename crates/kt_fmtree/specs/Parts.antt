@@ -20,15 +20,15 @@ pub record Parts : Type 0 where
   pub beneath : List (List ℕ)
 
 -- the lists of what a programme is made from
-abbrev pub lists_of : Vec ℕ Global → Vec ℕ Global → Vec (Vec Node Global) Global → Vec ℕ Global → Vec (Vec ℕ Global) Global → Vec (Vec Profile Global) Global → Vec (Vec ℕ Global) Global → Parts
+abbrev pub lists_of : Vec ℕ Global → Vec ℕ Global → Vec (Vec Node Global) Global → Vec ℕ Global → List (List ℕ) → List (List Profile) → List (List ℕ) → Parts
 lists_of ids leaves levels tops layers terms beneath = record {
   ids = ids.items;
   leaves = leaves.items;
   levels = map (λ nodes. nodes.items) levels.items;
   tops = tops.items;
-  layers = map (λ layers. layers.items) layers.items;
-  terms = map (λ terms. terms.items) terms.items;
-  beneath = map (λ ids. ids.items) beneath.items;
+  layers = layers;
+  terms = terms;
+  beneath = beneath;
 }
 
 -- the lists of what is kept

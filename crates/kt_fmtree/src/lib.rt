@@ -3,6 +3,7 @@
 
 mod carrying;
 mod levels;
+mod lists;
 mod lookups;
 mod node;
 mod order;
@@ -13,6 +14,7 @@ mod shared;
 mod sums;
 
 pub use levels::Levels;
+pub use lists::Lists;
 pub use node::Node;
 pub use order::rising;
 pub use places::places_of;

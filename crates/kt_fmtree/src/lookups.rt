@@ -51,7 +51,7 @@ impl Programme {
         requires { node < length self.now.tops }
         ensures value { result.now ≡ slice_index_or self.now.layers node [] }
     {
-        &self.layers[node]
+        self.layers.at(node)
     }
 
     /// The ids beneath a top.
@@ -59,7 +59,7 @@ impl Programme {
         requires { node < length self.now.tops }
         ensures value { result.now ≡ slice_index_or self.now.beneath node [] }
     {
-        &self.beneath[node]
+        self.beneath.at(node)
     }
 
     /// The layers, rising, of the top at a place among the tops, which is counted from 0.

@@ -38,7 +38,7 @@ impl Programme {
         requires { node < length self.now.tops }
         ensures value { result.now ≡ slice_index_or self.now.terms node [] }
     {
-        &self.terms[node]
+        self.terms.at(node)
     }
 
     /// The terms of a layer of the top at a place among the tops, which is counted from 0.

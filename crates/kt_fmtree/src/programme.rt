@@ -3,6 +3,7 @@
 ghost use Rattle.std.specs.Prelude.{◌≡◌};
 ghost use Rattle.kt_fmtree.specs.Parts.{HasProgramme, lists_of};
 
+use crate::lists::Lists;
 use crate::node::Node;
 use kt_rules::Profile;
 use std::marker::Model;
@@ -15,9 +16,9 @@ pub struct Programme {
     pub(crate) leaves: Vec<usize>,
     pub(crate) levels: Vec<Vec<Node>>,
     pub(crate) tops: Vec<u32>,
-    pub(crate) layers: Vec<Vec<u32>>,
-    pub(crate) terms: Vec<Vec<Profile>>,
-    pub(crate) beneath: Vec<Vec<u32>>,
+    pub(crate) layers: Lists<u32>,
+    pub(crate) terms: Lists<Profile>,
+    pub(crate) beneath: Lists<u32>,
 }
 
 impl Model for Programme {
@@ -41,9 +42,9 @@ impl Programme {
         leaves: Vec<usize>,
         levels: Vec<Vec<Node>>,
         tops: Vec<u32>,
-        layers: Vec<Vec<u32>>,
-        terms: Vec<Vec<Profile>>,
-        beneath: Vec<Vec<u32>>,
+        layers: Lists<u32>,
+        terms: Lists<Profile>,
+        beneath: Lists<u32>,
     ) -> Programme
         requires kept { HasProgramme (lists_of ids leaves levels tops layers terms beneath) }
         ensures value { result ≡ lists_of ids leaves levels tops layers terms beneath }

@@ -183,20 +183,3 @@ pub(crate) fn push_linked(
     push_children(alloc, links_to(links, level, unit, near), below)?;
     Ok(below.len() - before)
 }
-
-/// The units whose losses come to a unit of a level, rising. Their links are looked for first at a place, which is then that behind
-/// them.
-pub(crate) fn children(
-    alloc: Global,
-    links: &ByKey<Link>,
-    level: u32,
-    unit: u32,
-    near: &mut usize,
-) -> Result<Vec<u32>, AllocError>
-    ensures value { IfOk result (λ ids. ids.items ≡ linked links.now level unit) }
-{
-    let found = links_to(links, level, unit, near);
-    let mut ids = Vec::with_capacity(alloc, found.len())?;
-    push_children(alloc, found, &mut ids)?;
-    Ok(ids)
-}

@@ -1,15 +1,15 @@
 //! The tops of a programme, their layers, and the ids beneath them.
 //! The rule: docs/FINANCIAL_MODULE.md, "Levels".
-ghost use Rattle.std.specs.Prelude.{◌≡◌, ℕ, nat_eq, List, length, map, is_some, IfOk};
+ghost use Rattle.std.specs.Prelude.{◌≡◌, ◌++◌, ℕ, nat_eq, List, length, map, is_some, IfOk, OnOk};
 ghost use Rattle.std.specs.List.{filter};
 ghost use Rattle.kt_tree.specs.Programme.{or_first};
 ghost use Rattle.kt_structure.specs.Plan.{found_terms, layer_link, link_key, linked};
 ghost use Rattle.kt_keys.specs.UnitTable.{value_of};
 ghost use Rattle.kt_rec.specs.Rising.{rising};
 
-use crate::links::{Link, by_key, children};
+use crate::links::{Link, by_key, push_linked};
 use crate::terms::Terms;
-use kt_fmtree::rising;
+use kt_fmtree::{Lists, rising};
 use kt_index::ByKey;
 use kt_keys::UnitTable;
 use kt_rec::FmPolicytc;
@@ -104,22 +104,23 @@ pub(crate) fn layer_links(
     by_key(rows)
 }
 
-/// The layers of a unit of a level, rising; layer 1 where it has none. Their links are looked for first at a place, which is then
-/// that behind them.
-fn layers_of(
+/// Puts the layers of a unit of a level, rising, behind others; layer 1 where it has none. Their links are looked for first at a
+/// place, which is then that behind them.
+fn push_layers(
     alloc: Global,
     links: &ByKey<Link>,
     level: u32,
     unit: u32,
     near: &mut usize,
-) -> Result<Vec<u32>, AllocError>
-    ensures value { IfOk result (λ layers. layers.items ≡ or_first (linked links.now level unit)) }
+    layers: &mut Vec<u32>,
+) -> Result<(), AllocError>
+    ensures ok { OnOk result (layers.new.items ≡ layers.old.items ++ or_first (linked links.now level unit)) }
 {
-    let mut layers = children(alloc, links, level, unit, near)?;
-    if layers.is_empty() {
+    let count = push_linked(alloc, links, level, unit, near, layers)?;
+    if count == 0 {
         layers.push(1)?;
     }
-    Ok(layers)
+    Ok(())
 }
 
 /// The layers of each top.
@@ -128,32 +129,33 @@ pub(crate) fn layers(
     links: &ByKey<Link>,
     level: u32,
     tops: &[u32],
-) -> Result<Vec<Vec<u32>>, AllocError>
-    ensures value { IfOk result (λ rows. map (λ layers. layers.items) rows.items ≡ map (λ top. or_first (linked links.now level top)) tops.now) }
+) -> Result<Lists<u32>, AllocError>
+    ensures value { IfOk result (λ lists. lists ≡ map (λ top. or_first (linked links.now level top)) tops.now) }
 {
-    let mut rows = Vec::with_capacity(alloc, tops.len())?;
+    let mut all = Vec::with_capacity(alloc, tops.len())?;
+    let mut bounds = Vec::with_capacity(alloc, tops.len())?;
     let mut near = 0;
     for top in tops {
-        rows.push(layers_of(alloc, links, level, *top, &mut near)?)?;
+        push_layers(alloc, links, level, *top, &mut near, &mut all)?;
+        bounds.push(all.len())?;
     }
-    Ok(rows)
+    Ok(Lists::new(all, bounds))
 }
 
-/// The terms of layers of a top.
-fn layer_terms(
-    alloc: Global,
+/// Puts the terms of layers of a top behind others.
+fn push_terms(
     terms: &Terms,
     level: u32,
     top: u32,
     layers: &[u32],
-) -> Result<Vec<Profile>, AllocError>
-    ensures value { IfOk result (λ row. row.items ≡ map (λ layer. found_terms terms.now layer level top) layers.now) }
+    row: &mut Vec<Profile>,
+) -> Result<(), AllocError>
+    ensures ok { OnOk result (row.new.items ≡ row.old.items ++ map (λ layer. found_terms terms.now layer level top) layers.now) }
 {
-    let mut row = Vec::with_capacity(alloc, layers.len())?;
     for layer in layers {
         row.push(terms.of(*layer, level, top))?;
     }
-    Ok(row)
+    Ok(())
 }
 
 /// The terms of the layers of each top.
@@ -162,16 +164,18 @@ pub(crate) fn terms(
     terms: &Terms,
     level: u32,
     tops: &[u32],
-    layers: &[Vec<u32>],
-) -> Result<Vec<Vec<Profile>>, AllocError>
+    layers: &Lists<u32>,
+) -> Result<Lists<Profile>, AllocError>
     requires same { length layers.now ≡ length tops.now }
-    ensures value { IfOk result (λ rows. (layers_at : ℕ → List ℕ) → map (λ one. one.items) layers.now ≡ map layers_at tops.now → map (λ row. row.items) rows.items ≡ map (λ top. map (λ layer. found_terms terms.now layer level top) (layers_at top)) tops.now) }
+    ensures value { IfOk result (λ lists. (layers_at : ℕ → List ℕ) → layers.now ≡ map layers_at tops.now → lists ≡ map (λ top. map (λ layer. found_terms terms.now layer level top) (layers_at top)) tops.now) }
 {
-    let mut rows = Vec::with_capacity(alloc, tops.len())?;
+    let mut all = Vec::with_capacity(alloc, tops.len())?;
+    let mut bounds = Vec::with_capacity(alloc, tops.len())?;
     for at in 0..tops.len() {
-        rows.push(layer_terms(alloc, terms, level, tops[at], &layers[at])?)?;
+        push_terms(terms, level, tops[at], layers.at(at), &mut all)?;
+        bounds.push(all.len())?;
     }
-    Ok(rows)
+    Ok(Lists::new(all, bounds))
 }
 
 /// The ids, rising, beneath each top, by links of ids to tops.
@@ -179,13 +183,15 @@ pub(crate) fn beneath(
     alloc: Global,
     ends: &ByKey<Link>,
     tops: &[u32],
-) -> Result<Vec<Vec<u32>>, AllocError>
-    ensures value { IfOk result (λ rows. map (λ row. row.items) rows.items ≡ map (λ top. linked ends.now 0 top) tops.now) }
+) -> Result<Lists<u32>, AllocError>
+    ensures value { IfOk result (λ lists. lists ≡ map (λ top. linked ends.now 0 top) tops.now) }
 {
-    let mut rows = Vec::with_capacity(alloc, tops.len())?;
+    let mut all = Vec::with_capacity(alloc, ends.as_slice().len())?;
+    let mut bounds = Vec::with_capacity(alloc, tops.len())?;
     let mut near = 0;
     for top in tops {
-        rows.push(children(alloc, ends, 0, *top, &mut near)?)?;
+        push_linked(alloc, ends, 0, *top, &mut near, &mut all)?;
+        bounds.push(all.len())?;
     }
-    Ok(rows)
+    Ok(Lists::new(all, bounds))
 }

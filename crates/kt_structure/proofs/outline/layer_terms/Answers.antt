@@ -1,7 +1,0 @@
-use Rattle.kt_fmtree.specs.LoopLaws.{map-goes}
-use Rattle.kt_structure.specs.Plan.{found_terms}
-use Rattle.kt_structure.proofs.outline.layer_terms.Goals as goal
-
-pub loop-layer-preserved : goal.loop-layer-preserved
-loop-layer-preserved c =
-    map-goes (λ layer. found_terms c.args.terms.now layer c.args.level c.args.top) c.args.layers.now c.loop-layer.layer-index 0 c.loop-layer.row.items _ c.of.result c.loop-layer-test.true c.loop-layer.invariant c.in_ok-push.ensures.items c.of.ensures.value
