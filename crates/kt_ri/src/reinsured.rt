@@ -44,7 +44,7 @@ pub(crate) fn ceding_for<R: RunLosses>(
 }
 
 /// What a stage leaves of losses that are kept by lanes, in the place of the losses.
-pub(crate) fn net_in_place(
+fn net_in_turn(
     alloc: Global,
     stage: &Structure,
     samples: u32,
@@ -65,6 +65,31 @@ pub(crate) fn net_in_place(
     let ceding = ceding_for(alloc, stage, &losses)?;
     let ceded = ceded_of(alloc, &ceding, samples, rule, &losses)?;
     let made = lanes_left(alloc, &ceding, samples, &ceded, losses)?;
+    Ok(made)
+}
+
+/// What a stage leaves of losses that are kept by lanes. They are put in turn first, so that the stage takes them as they stand, and what
+/// is left is made in their place: no lane is copied more than once.
+pub(crate) fn net_in_place(
+    alloc: Global,
+    stage: &Structure,
+    samples: u32,
+    rule: u32,
+    losses: LossLanes,
+) -> Result<LossLanes, AllocError>
+    requires stage { HasStage stage.now }
+    requires samples { samples ≤ 1000 }
+    requires rule { (rule ≡ 1) ⊎ (rule ≡ 2) }
+    requires rows { losses.rows ≡ samples + 1 }
+    requires records { All (IsLoss samples) losses.records }
+    requires within { AreWithin losses.records }
+    ensures rows { IfOk result (λ made. made.rows ≡ samples + 1) }
+    ensures net { IfOk result (λ made. (tree : Tree) → IsStage tree stage.now → made.records ≡ net_records tree rule samples losses.records) }
+    ensures good { IfOk result (λ made. All (IsLoss samples) made.records) }
+    ensures within { IfOk result (λ made. AreWithin made.records) }
+{
+    let turned = losses.in_turn(alloc)?;
+    let made = net_in_turn(alloc, stage, samples, rule, turned)?;
     Ok(made)
 }
 

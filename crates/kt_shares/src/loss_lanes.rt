@@ -242,6 +242,23 @@ impl LossLanes {
         Ok(LossLanes { rows, heads, lanes })
     }
 
+    /// The same records, with a lane for each of them, in their order, and no other. Lanes are copied only where they do not stand so. An
+    /// error is want of memory.
+    pub fn in_turn(self, alloc: Global) -> Result<LossLanes, AllocError>
+        ensures rows { IfOk result (λ made. made.rows ≡ self.rows) }
+        ensures records { IfOk result (λ made. made.records ≡ self.records) }
+    {
+        if are_in_turn(&self.heads, self.lanes.len()) {
+            return Ok(self);
+        }
+        let rows = self.rows;
+        let lanes = self.lanes;
+        let mut heads = self.heads;
+        let copied = copied_lanes(alloc, rows, &heads, &lanes)?;
+        put_in_turn(&mut heads);
+        Ok(LossLanes::of(rows, heads, copied))
+    }
+
     /// What is left of the records where amounts in cents are taken from them, row by row, where the place of such amounts is named: a
     /// loss of which more is taken becomes 0. A record without a loss is left out, and so is each deviation. Lanes are copied only where
     /// they do not stand in the order of the records, or records share one. An error is want of memory.

@@ -3,7 +3,7 @@ use Rattle.kt_tree.specs.Struck.{struck}
 use Rattle.kt_shares.specs.Shares.{ids_of}
 use Rattle.kt_ri.proofs.StageLemmas.{net-stream}
 use Rattle.kt_ri.proofs.StruckLemmas.{behind-struck}
-use Rattle.kt_ri.proofs.reinsured.net_in_place.Goals as goal
+use Rattle.kt_ri.proofs.reinsured.net_in_turn.Goals as goal
 
 pub returns-clause-net : goal.returns-clause-net
 returns-clause-net c = λ tree is.
