@@ -99,22 +99,33 @@ written_more maxima cs i d base old new within old_is new_is =
     ∙ append_assoc base (cell_amounts maxima false (placed 1 (take i cs))) (cell_amount maxima (get_or cs i d))
     ∙ ap (λ xs. base ++ xs) (sym (samples_more maxima cs i d within))
 
+-- the sum of an amount that counts, or of none
+sum_if : (b : Bool) (amount : ℕ) → sum (cond b (amount ∷ []) []) ≡ cond b amount 0
+sum_if true amount = omega arith
+sum_if false amount = refl
+
 -- their sum
-pub placed_summed : (maxima : Bool) (cs : List Cell) (i : ℕ) (d : Cell) (total amount : ℕ) → i < length cs → total ≡ sum (cell_amounts maxima false (placed 1 (take i cs))) → amount ≡ sum (cell_amount maxima (get_or cs i d)) →
+pub placed_summed : (maxima : Bool) (cs : List Cell) (i : ℕ) (d : Cell) (total amount : ℕ) → i < length cs → total ≡ sum (cell_amounts maxima false (placed 1 (take i cs))) → amount ≡ cond (has_total (get_or cs i d)) (amount_in maxima (Some (get_or cs i d))) 0 →
     total + amount ≡ sum (cell_amounts maxima false (placed 1 (take (i + 1) cs)))
 placed_summed maxima cs i d total amount within is more =
     let all : sum (cell_amounts maxima false (placed 1 (take (i + 1) cs))) ≡ sum (cell_amounts maxima false (placed 1 (take i cs))) + sum (cell_amount maxima (get_or cs i d)) =
     ap sum (samples_more maxima cs i d within) ∙ sum_by-append (λ (x : ℕ). x) (cell_amounts maxima false (placed 1 (take i cs))) (cell_amount maxima (get_or cs i d)) in
-    omega (arith, is, more, all)
+    omega (arith, is, more, all, sum_if (has_total (get_or cs i d)) (amount_in maxima (Some (get_or cs i d))))
 
 -- the sum of the amounts of one listed cell more
-pub listed_summed : (maxima : Bool) (cells : SampleCells) (i : ℕ) (d : ℕ × Cell) (total amount : ℕ) → i < length cells → total ≡ sum (cell_amounts maxima false (take i cells)) → amount ≡ sum (cell_amounts maxima false (get_or cells i d ∷ [])) →
+pub listed_summed : (maxima : Bool) (cells : SampleCells) (i : ℕ) (d : ℕ × Cell) (total amount : ℕ) → i < length cells → total ≡ sum (cell_amounts maxima false (take i cells)) → amount ≡ cond (not (nat_eq (get_or cells i d).0 0)) (amount_in maxima (Some (get_or cells i d).1)) 0 →
     total + amount ≡ sum (cell_amounts maxima false (take (i + 1) cells))
 listed_summed maxima cells i d total amount within is more =
     let all : sum (cell_amounts maxima false (take (i + 1) cells)) ≡ sum (cell_amounts maxima false (take i cells)) + sum (cell_amounts maxima false (get_or cells i d ∷ [])) =
     ap (λ xs. sum (cell_amounts maxima false xs)) (take_more cells i d within) ∙ ap sum (cells_append maxima false (take i cells) (get_or cells i d ∷ []))
     ∙ sum_by-append (λ (x : ℕ). x) (cell_amounts maxima false (take i cells)) (cell_amounts maxima false (get_or cells i d ∷ [])) in
-    omega (arith, is, more, all)
+    let one : sum (cell_amounts maxima false (get_or cells i d ∷ [])) ≡ cond (not (nat_eq (get_or cells i d).0 0)) (amount_in maxima (Some (get_or cells i d).1)) 0 =
+    ap sum (one_cell maxima false (get_or cells i d)) ∙ ap (λ b. sum (cond b (amount_in maxima (Some (get_or cells i d).1) ∷ []) [])) (turned (nat_eq (get_or cells i d).0 0)) ∙ sum_if (not (nat_eq (get_or cells i d).0 0)) (amount_in maxima (Some (get_or cells i d).1)) in
+    omega (arith, is, more, all, one)
+  where
+    turned : (b : Bool) → same_bool b false ≡ not b
+    turned true = refl
+    turned false = refl
 
 -- places of samples have no amount of the mean
 no_mean : (maxima : Bool) (k : ℕ) (cs : List Cell) → 1 ≤ k → cell_amounts maxima true (placed k cs) ≡ []

@@ -1,11 +1,11 @@
 //! The totals or the maxima of a row's cells.
 //! The rules: docs/CALCULATION.md, "Kinds of exceedance curves".
-ghost use Rattle.std.specs.Prelude.{◌≡◌, ◌≤◌, ◌<◌, ◌+◌, ◌-◌, ◌++◌, ◌∷◌, [], All, false, length, sum, take, OnOk};
+ghost use Rattle.std.specs.Prelude.{◌≡◌, ◌≤◌, ◌<◌, ◌+◌, ◌-◌, ◌++◌, All, Some, false, if◌then◌else◌, length, sum, take, OnOk};
 ghost use Rattle.std.specs.List.{list_any};
 ghost use Rattle.kt_period_cells.specs.RowCells.{IsRising, cell_in, cells_of, placed};
-ghost use Rattle.kt_period_cells.specs.Amounts.{HasMore, HasRoom, HaveMore, amount_or_none};
+ghost use Rattle.kt_period_cells.specs.Amounts.{HasMore, HasRoom, HaveMore, amount_in, amount_or_none};
 ghost use Rattle.kt_period_cells.specs.Sets.{same_bool};
-ghost use Rattle.kt_period_cells.specs.SummaryRows.{cell_amount, cell_amounts, has_any, has_total};
+ghost use Rattle.kt_period_cells.specs.SummaryRows.{cell_amounts, has_any, has_total};
 
 use super::{Row, placed_cell};
 use crate::amount_list::AmountList;
@@ -34,15 +34,6 @@ fn put_found(list: &mut AmountList, cell: Option<Cell>, maxima: bool)
     }
 }
 
-/// Appends the amount of a place, where it has a cell, to a list that has room.
-#[inline]
-fn put_place(list: &mut AmountList, place: &Cell, maxima: bool)
-    requires { HasRoom list.old }
-    ensures { HasMore (cell_amount maxima place.now) list.old list.new }
-{
-    list.put(amount(place, maxima), has_total(place));
-}
-
 /// Appends the amounts of samples that have places, each to a list of its own: that of the last to the first list, and that of the sample
 /// before to each other.
 fn put_places(lists: &mut [AmountList], places: &[Cell], last: usize, maxima: bool)
@@ -53,7 +44,8 @@ fn put_places(lists: &mut [AmountList], places: &[Cell], last: usize, maxima: bo
     ensures more { HaveMore (λ k. amount_or_none maxima (cell_in (placed 0 places.now) (last - k))) lists.old lists.new }
 {
     for k in 0..lists.len() {
-        put_place(&mut lists[k], &places[last - k], maxima);
+        let place = places[last - k];
+        lists[k].put(amount(&place, maxima), has_total(&place));
     }
 }
 
@@ -115,44 +107,15 @@ fn push_samples(found: &mut Vec<u64>, samples: &[Cell], maxima: bool) -> Result<
     Ok(())
 }
 
-/// Appends the amounts of the cells of all samples: of the mean, or of all others.
-fn push_placed(
-    found: &mut Vec<u64>,
-    places: &[Cell],
-    mean: bool,
-    maxima: bool,
-) -> Result<(), OutOfMemory>
-    ensures ok { OnOk result (found.new.items ≡ found.old.items ++ cell_amounts maxima mean (placed 0 places.now)) }
-{
-    if mean {
-        return push_found(found, placed_cell(places, 0), maxima);
-    }
-    let [_mean, samples @ ..] = places else {
-        return Ok(());
-    };
-    push_samples(found, samples, maxima)
-}
-
 /// The sum of the amounts of the samples among listed cells.
 fn listed_sum(cells: &[(u32, Cell)], maxima: bool) -> u128
     ensures value { result ≡ sum (cell_amounts maxima false cells.now) }
 {
     let mut total = 0u128;
     for one in cells {
-        total += u128::from(listed_amount(one, maxima));
+        total += u128::from(amount_if(one.0 != 0, &one.1, maxima));
     }
     total
-}
-
-/// The amount of a listed cell, 0 where it is that of the mean.
-fn listed_amount(one: &(u32, Cell), maxima: bool) -> u64
-    ensures { result ≡ sum (cell_amounts maxima false (one.now ∷ [])) }
-{
-    if one.0 == 0 {
-        0
-    } else {
-        amount(&one.1, maxima)
-    }
 }
 
 /// The sum of the amounts of the places of samples, from that of sample 1 on.
@@ -161,21 +124,17 @@ fn placed_sum(samples: &[Cell], maxima: bool) -> u128
 {
     let mut total = 0u128;
     for cell in samples {
-        total += u128::from(place_amount(cell, maxima));
+        total += u128::from(amount_if(has_total(cell), cell, maxima));
     }
     total
 }
 
-/// The amount of a place, 0 where it has no cell.
+/// The amount of a cell, 0 where it does not count.
 #[inline]
-fn place_amount(place: &Cell, maxima: bool) -> u64
-    ensures { result ≡ sum (cell_amount maxima place.now) }
+fn amount_if(counts: bool, cell: &Cell, maxima: bool) -> u64
+    ensures { result ≡ (if counts then amount_in maxima (Some cell.now) else 0) }
 {
-    if has_total(place) {
-        amount(place, maxima)
-    } else {
-        0
-    }
+    if counts { amount(cell, maxima) } else { 0 }
 }
 
 impl Row {
@@ -198,10 +157,14 @@ impl Row {
     ) -> Result<(), OutOfMemory>
         ensures ok { OnOk result (found.new.items ≡ found.old.items ++ cell_amounts maxima mean (cells_of self.now)) }
     {
-        if self.places.is_empty() {
+        let places = self.places.as_slice();
+        let [_mean, samples @ ..] = places else {
             return push_listed(found, self.listed.as_slice(), mean, maxima);
+        };
+        if mean {
+            return push_found(found, placed_cell(places, 0), maxima);
         }
-        push_placed(found, self.places.as_slice(), mean, maxima)
+        push_samples(found, samples, maxima)
     }
 
     /// The sum of the amounts of all samples.

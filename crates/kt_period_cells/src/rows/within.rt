@@ -17,12 +17,16 @@ use crate::cell::is_added;
 use crate::raising::{MOST_CELLS, MOST_TOTAL};
 use kt_stream::Pair;
 
+/// So many pairs have a sum of losses that fits its type. A record has fewer: one for each sample, and three others.
+const MOST_PAIRS: usize = 1800;
+
 /// The sum of the losses that are added up.
-fn added_sum(pairs: &[Pair]) -> u128
-    requires { All (λ pair. pair.loss ≤ 10 ^ 16) pairs.now }
+fn added_sum(pairs: &[Pair]) -> u64
+    requires losses { All (λ pair. pair.loss ≤ 10 ^ 16) pairs.now }
+    requires few { length pairs.now ≤ 1800 }
     ensures value { result ≡ added_sum pairs.now }
 {
-    let mut total = 0u128;
+    let mut total = 0;
     for pair in pairs {
         total += added_loss(pair);
     }
@@ -30,14 +34,10 @@ fn added_sum(pairs: &[Pair]) -> u128
 }
 
 /// The loss of a pair, where it is added up.
-fn added_loss(pair: &Pair) -> u128
+fn added_loss(pair: &Pair) -> u64
     ensures value { result ≡ added_sum (pair.now ∷ []) }
 {
-    if is_added(pair) {
-        u128::from(pair.loss)
-    } else {
-        0
-    }
+    if is_added(pair) { pair.loss } else { 0 }
 }
 
 /// The sum of the losses that are added up, where it is at most the greatest total.
@@ -45,12 +45,11 @@ fn small_sum(pairs: &[Pair]) -> Option<u64>
     requires { All (λ pair. pair.loss ≤ 10 ^ 16) pairs.now }
     ensures { IfSome result (λ sum. (sum ≡ added_sum pairs.now) × (sum ≤ most_total)) }
 {
-    let sum = added_sum(pairs);
-    if sum > u128::from(MOST_TOTAL) {
-        None
-    } else {
-        Some(sum as u64)
+    if pairs.len() > MOST_PAIRS {
+        return None;
     }
+    let sum = added_sum(pairs);
+    if sum > MOST_TOTAL { None } else { Some(sum) }
 }
 
 /// So many times a sum, where that is at most the greatest total.

@@ -5,6 +5,6 @@ use Rattle.kt_period_cells.proofs.row.amounts.listed_sum.Goals as goal
 
 pub loop-one-preserved : goal.loop-one-preserved
 loop-one-preserved c = record {
-  total = listed_summed c.args.maxima c.args.cells.now c.loop-one.one-index (0, record { total = 0; maximum = 0 }) c.loop-one.total c.from-total.result c.loop-one-test.true c.loop-one.invariant.total (c.from-total.ensures ∙ c.listed_amount.ensures);
-  bound = omega (arith, c.loop-one.invariant.bound, c.from-total.ensures, c.listed_amount.type_inv);
+  total = listed_summed c.args.maxima c.args.cells.now c.loop-one.one-index (0, record { total = 0; maximum = 0 }) c.loop-one.total c.from-total.result c.loop-one-test.true c.loop-one.invariant.total (c.from-total.ensures ∙ c.amount_if.ensures);
+  bound = omega (arith, c.loop-one.invariant.bound, c.from-total.ensures, c.amount_if.type_inv);
 }
