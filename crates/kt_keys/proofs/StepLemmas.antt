@@ -1,5 +1,5 @@
 -- A programme takes the losses of the units that have a next one, and puts losses into those that have a source.
-use Rattle.std.proofs.Common.{◌≡◌, ℕ, Bool, true, false, cond, List, [], ◌∷◌, Option, Some, map, refl}
+use Rattle.std.proofs.Common.{◌≡◌, ℕ, Bool, true, false, cond, List, [], ◌∷◌, Some, map, refl}
 use Rattle.std.specs.Prelude.{◌||◌, is_some}
 use Rattle.std.specs.Map.{lookup}
 use Rattle.kt_rec.specs.declared.financial.FmProgramme.{FmProgramme}

@@ -1,5 +1,4 @@
 use Rattle.std.proofs.Common.{◌≡◌, ◌+◌, ◌-◌, ◌<◌, ap, sym, ◌∙◌, Some, arith}
-use Rattle.kt_keys.specs.Keys.{same_pair}
 use Rattle.kt_keys.specs.UnitTable.{value_of}
 use Rattle.kt_keys.specs.Climbing.{climbed, after}
 use Rattle.kt_checks.proofs.OutputLemmas.{climbed-step}

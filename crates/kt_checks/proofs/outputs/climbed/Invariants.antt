@@ -1,5 +1,4 @@
 use Rattle.std.proofs.Common.{◌≡◌, ◌+◌, ◌-◌}
-use Rattle.kt_keys.specs.Keys.{same_pair}
 use Rattle.kt_keys.specs.UnitTable.{value_of}
 use Rattle.kt_keys.specs.Climbing.{climbed}
 use Rattle.kt_checks.proofs.outputs.climbed.Given as goal

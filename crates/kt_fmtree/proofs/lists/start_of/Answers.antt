@@ -1,4 +1,4 @@
-use Rattle.std.proofs.Common.{◌≡◌, ◌+◌, ◌-◌, suc, ap, sym, ◌∙◌, arith}
+use Rattle.std.proofs.Common.{◌≡◌, ◌-◌, suc, ap, sym, ◌∙◌, arith}
 use Rattle.kt_fmtree.specs.Lists.{start_at}
 use Rattle.kt_fmtree.specs.ListLaws.{start-before, start-first}
 use Rattle.kt_fmtree.proofs.lists.start_of.Goals as goal

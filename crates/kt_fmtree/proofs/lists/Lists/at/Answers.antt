@@ -1,4 +1,4 @@
-use Rattle.std.proofs.Common.{◌≡◌, ◌<◌, ◌∙◌, [], List, ℕ, ap, length, slice_index_or, sym, subst}
+use Rattle.std.proofs.Common.{◌<◌, ◌∙◌, [], ℕ, ap, length, slice_index_or, sym, subst}
 use Rattle.kt_fmtree.specs.Lists.{AreEnds, lists_from}
 use Rattle.kt_fmtree.specs.ListLaws.{lists-count}
 use Rattle.kt_fmtree.proofs.lists.Lists.at.Goals as goal
