@@ -26,25 +26,7 @@ next-of f children at d below =
     let next : drop at children ≡ get_or children at d ∷ drop (at + 1) children = rw (add-one, drop-cons children at d) refl in
     ap (map f) next
 
--- no amounts are left
-pub none-left : (f : Carry → ℕ) (children : List Carry) → map f (drop (length children) children) ≡ []
-none-left f [] = refl
-none-left f (carry ∷ children) = none-left f children
-
 -- ---- weights
-
--- a weight is not above the ground-up loss beneath
-pub weight-le : (carried : ℕ) (carry : Carry) → weight carried carry ≤ total carry
-weight-le carried carry = by (nat_eq carried 0)
-  where
-    by : (b : Bool) → cond b (total carry) carry.loss ≤ total carry
-    by true = omega arith
-    by false = omega arith
-
--- what is due is none without weights, and not above the amount
-pub due-some : (amount weights : ℕ) → (0 < weights) ⊎ (due amount weights ≡ 0)
-due-some amount zero = inr refl
-due-some amount (suc n) = inl (omega arith)
 
 due-is : (amount n : ℕ) → due amount (suc n) ≡ amount
 due-is amount n = by (nat_eq (suc n) 0) refl
@@ -52,10 +34,6 @@ due-is amount n = by (nat_eq (suc n) 0) refl
     by : (b : Bool) → nat_eq (suc n) 0 ≡ b → cond b 0 amount ≡ amount
     by true none = let zero_is = eqb-true (suc n) 0 none in absurd (omega arith)
     by false some = refl
-
-pub due-le : (amount weights : ℕ) → due amount weights ≤ amount
-due-le amount zero = omega arith
-due-le amount (suc n) = omega (arith, due-is amount n)
 
 -- what is due has the shares of the amount
 pub due-shares : (amount all given : ℕ) (further : List ℕ) → shares_after (due amount all) all given further ≡ shares_after amount all given further
@@ -141,7 +119,3 @@ sharing-goes children start amount old now more carried all sharing after at sha
           ∙ ap (λ g. share ∷ shares_after (due amount all) all g (map (weight carried) (drop (at + 1) children))) (sym given)))
           so_far.parts_are more_is;
     }
-
-pub sharing-ends : (children : List Carry) (start amount : ℕ) (old now : List PlacedPart) (carried all : ℕ) (sharing : Sharing) → IsSharingOut children start amount old now carried all sharing (length children) → now ≡ old ++ parts_from start (share_out amount (weights children))
-sharing-ends children start amount old now carried all sharing so_far =
-    sym (append-nil now) ∙ (ap (λ ws. now ++ parts_from (start + length children) (shares_after (due amount all) all sharing.given ws)) (sym (none-left (weight carried) children)) ∙ so_far.parts_are)

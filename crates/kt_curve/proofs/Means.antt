@@ -92,13 +92,6 @@ means_of_periods p s n samples u group maxima sums is len at =
 
 -- ---- the means of the ranks
 
--- values by place behind those that were added
-pub added_all : (sums base xs : List ℕ) (i : ℕ) → length xs ≤ i → ((place : ℕ) → place < i → get_or sums place 0 ≡ get_or base place 0 + get_or xs place 0) → ((place : ℕ) → i ≤ place → get_or sums place 0 ≡ get_or base place 0) →
-    (place : ℕ) → get_or sums place 0 ≡ get_or base place 0 + get_or xs place 0
-added_all sums base xs i end done left place =
-    ⊎_elim (λ (low : place < i). done place low)
-    (λ (high : i ≤ place). let none : get_or xs place 0 ≡ 0 = get_or_past xs place 0 (omega (arith, end, high)) in omega (arith, left place high, none)) (cases_lt place i)
-
 -- the loss of a rank in falling values that are within a bound
 pub rank_most : (m : ℕ) (xs : List ℕ) (place : ℕ) → All (λ x. x ≤ m) xs → get_or xs place 0 ≤ m
 rank_most m [] place all = omega arith

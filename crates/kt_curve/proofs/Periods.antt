@@ -71,51 +71,7 @@ period_sum f none p s n samples u group t is =
         (one e (All-head (λ (e : CellKey × Cell). FitsCells n samples e.0 e.1) e es fits) (All-head (λ (e : CellKey × Cell). e.0 ≡ key_of p s u e.0.sidx e.0.period) e es own))
         (all es (All-tail (λ (e : CellKey × Cell). FitsCells n samples e.0 e.1) e es fits) (All-tail (λ (e : CellKey × Cell). e.0 ≡ key_of p s u e.0.sidx e.0.period) e es own))
 
--- the amounts of one entry more
-pub amounts_next : (maxima : Bool) (test : CellKey × Cell → Bool) (es : List (CellKey × Cell)) (i : ℕ) (d : CellKey × Cell) → i < length es →
-    amounts_of maxima test (take (i + 1) es) ≡ amounts_of maxima test (take i es) ++ cond (test (get_or es i d)) (amount_in maxima (Some (get_or es i d).1) ∷ []) []
-amounts_next maxima test es i d inside =
-    ap (amounts_of maxima test) (take_more es i d inside)
-    ∙ (ap (map (λ (entry : CellKey × Cell). amount_in maxima (Some entry.1))) (filter-append test (take i es) (get_or es i d ∷ []))
-    ∙ (map-append (λ (entry : CellKey × Cell). amount_in maxima (Some entry.1)) (filter test (take i es)) (filter test (get_or es i d ∷ []))
-    ∙ ap (λ more. amounts_of maxima test (take i es) ++ more) (last (test (get_or es i d)) (get_or es i d))))
-  where
-    last : (b : Bool) (e : CellKey × Cell) → map (λ (entry : CellKey × Cell). amount_in maxima (Some entry.1)) (cond b (e ∷ []) []) ≡ cond b (amount_in maxima (Some e.1) ∷ []) []
-    last true e = refl
-    last false e = refl
-
--- and their sum
-pub amounts_more : (maxima : Bool) (test : CellKey × Cell → Bool) (es : List (CellKey × Cell)) (i : ℕ) (d : CellKey × Cell) → i < length es →
-    sum (amounts_of maxima test (take (i + 1) es)) ≡ sum (amounts_of maxima test (take i es)) + cond (test (get_or es i d)) (amount_in maxima (Some (get_or es i d).1)) 0
-amounts_more maxima test es i d inside =
-    ap sum (amounts_next maxima test es i d inside)
-    ∙ (sum_by-append (λ (x : ℕ). x) (amounts_of maxima test (take i es)) (cond (test (get_or es i d)) (amount_in maxima (Some (get_or es i d).1) ∷ []) [])
-    ∙ ap (λ more. sum (amounts_of maxima test (take i es)) + more) (last (test (get_or es i d)) (amount_in maxima (Some (get_or es i d).1))))
-  where
-    last : (b : Bool) (x : ℕ) → sum (cond b (x ∷ []) []) ≡ cond b x 0
-    last true x = sum_by-cons (λ (x : ℕ). x) x [] ∙ omega arith
-    last false x = refl
-
--- the samples among the entries of a sample are these entries
-pub amounts_sample : (maxima : Bool) (sample : ℕ) (es : List (CellKey × Cell)) → amounts_of maxima (of_kind false) (filter (of_sample sample) es) ≡ amounts_of maxima (of_sample sample) es
-amounts_sample maxima sample [] = refl
-amounts_sample maxima sample (e ∷ es) = by (of_sample sample e) refl (amounts_sample maxima sample es)
-  where
-    sampled : (x : ℤ) → int_eq x (pos sample) ≡ true → same_bool (is_mean x) false ≡ true
-    sampled (pos n) same = refl
-    sampled (negsuc n) same = cc
-
     by : (b : Bool) → of_sample sample e ≡ b → amounts_of maxima (of_kind false) (filter (of_sample sample) es) ≡ amounts_of maxima (of_sample sample) es
         → amounts_of maxima (of_kind false) (cond b (e ∷ filter (of_sample sample) es) (filter (of_sample sample) es)) ≡ map (λ (entry : CellKey × Cell). amount_in maxima (Some entry.1)) (cond b (e ∷ filter (of_sample sample) es) (filter (of_sample sample) es))
     by false is later = later
     by true is later = rw (sampled e.0.sidx is) (ap (λ more. amount_in maxima (Some e.1) ∷ more) later)
-
--- the mean of a sum that is at most so many times an amount is at most the amount
-pub mean-le : (total samples most : ℕ) → 1 ≤ samples → total ≤ samples * most → half_up total samples ≤ most
-mean-le total samples most some within =
-    ⊎_elim
-    (λ (more : most < half_up total samples).
-    let low = mul-le (2 * samples) (most + 1) (2 * samples) (half_up total samples) (omega arith) (omega arith) in
-    let high = mul-div-le (2 * total + samples) (2 * samples) in
-    absurd (omega (arith, low, high, within)))
-    (λ (less : half_up total samples ≤ most). less) (cases_lt most (half_up total samples))

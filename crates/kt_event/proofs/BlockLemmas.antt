@@ -44,11 +44,6 @@ module _ (terms : Terms) (rows : Rows) (losses : List LossRecord) where
   sets_of_net Il net = cc
   sets_of_net Ri net = refl
 
-  pub no_sets_of_net : (last : Perspective) → has_net last ≡ false → net_sets rows last ≡ []
-  no_sets_of_net Gul none = refl
-  no_sets_of_net Il none = refl
-  no_sets_of_net Ri none = cc
-
   -- the summaries of insured losses, and those of net losses behind them
   pub output_summaries : (before middle now : List Summaries) → has_insured terms.last ≡ true
       → middle ≡ before ++ map (set_summaries terms rows losses) (sets_of rows Il) → now ≡ middle ++ map (set_summaries terms rows losses) (net_sets rows terms.last)
@@ -75,23 +70,6 @@ module _ (terms : Terms) (rows : Rows) (losses : List LossRecord) where
   block_is event summaries layers one other =
       ap (λ (xs : List Summaries). record { event = event; summaries = xs; layers = layers }) one
       ∙ ap (λ (xs : List LayerSum). record { event = event; summaries = map (set_summaries terms rows losses) (run_sets rows terms.last); layers = xs }) other
-
-  -- without insured losses the sets are those of ground-up losses
-  pub no_outputs : (last : Perspective) → has_insured last ≡ false → (flat_map (sets_of rows) (output_perspectives last) ≡ []) × (layers_up_to last terms rows losses ≡ [])
-  no_outputs Gul none = (refl, refl)
-  no_outputs Il none = cc
-  no_outputs Ri none = cc
-
--- there is a base exactly where there are insured losses
-pub with_base : (last : Perspective) (rows : Rows) (base : Base) → HasBase last rows (Some base) → has_insured last ≡ true
-with_base Gul rows base has = absurd has
-with_base Il rows base has = refl
-with_base Ri rows base has = refl
-
-pub without_base : (last : Perspective) (rows : Rows) → HasBase last rows None → has_insured last ≡ false
-without_base Gul rows has = refl
-without_base Il rows has = absurd has
-without_base Ri rows has = absurd has
 
 -- the rule of a need is that of its terms
 pub rule_is : (terms : Terms) (need : Need) → need ≡ chain_need terms → need.rule ≡ terms.rule

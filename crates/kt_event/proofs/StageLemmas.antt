@@ -31,12 +31,6 @@ have_stages [] (stage ∷ later) are = absurd are
 have_stages (tree ∷ trees) [] are = tt
 have_stages (tree ∷ trees) (stage ∷ later) are = (record { tree = tree; is = are.0 }, have_stages trees later are.1)
 
--- none are those of no tree
-pub no_stages : (rows : Rows) (last : Perspective) (stages : ℕ) → has_net last ≡ false → AreStages (stage_trees rows (kept_stages last stages)) []
-no_stages rows Gul stages none = tt
-no_stages rows Il stages none = tt
-no_stages rows Ri stages none = cc
-
 -- the stages of net losses
 pub net_stages : (rows : Rows) (last : Perspective) (stages : ℕ) (structures : List Structure) → has_net last ≡ true → AreStages (stage_trees rows (kept_stages last stages)) structures → AreStages (stage_trees rows stages) structures
 net_stages rows Gul stages structures net are = cc

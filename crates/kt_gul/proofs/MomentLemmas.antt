@@ -7,10 +7,6 @@ use Rattle.kt_stream.specs.declared.entry.Bin.{Bin}
 use Rattle.kt_gul.specs.MomentSums.{AreSums}
 use Rattle.kt_gul.proofs.SampleLemmas.{lowest-le}
 
--- before the first bin nothing is summed
-pub sums_none : (bins : List Bin) → AreBins 0 bins → AreSums bins bins 0 0 0
-sums_none bins are = record { means_are = omega arith; squares_are = omega arith; rising = are; means_within = omega arith; squares_within = omega arith; whole = omega arith }
-
 -- a part of a whole stays a part where both grow
 grown : (sum before upto unit mean : ℕ) → sum ≤ before * unit → before ≤ upto → mean ≤ unit → sum + (upto - before) * mean ≤ upto * unit
 grown sum before upto unit mean within order part =
@@ -43,7 +39,3 @@ sums_more bins first rest before means squares here = record {
         let up = grown squares before first.prob_to 1000000000000 (first.mean * first.mean) here.squares_within order square in
         let same : (first.prob_to - before) * first.mean * first.mean ≡ (first.prob_to - before) * (first.mean * first.mean) = grind arith in
         omega arith
-
--- the next bin begins where the one before ends, or above
-pub sums_order : (bins : List Bin) (first : Bin) (rest : List Bin) (before means squares : ℕ) → AreSums bins (first ∷ rest) before means squares → before ≤ first.prob_to
-sums_order bins first rest before means squares here = omega (arith, lowest-le (length rest) before, here.rising.0)

@@ -69,10 +69,6 @@ pub record IsSpelled (f : ℕ → ℕ) (n used : ℕ) (bytes : List ℕ) : Type 
   pub used_is : used ≡ length (pairs_below f n)
   pub front_is : take (12 * used) bytes ≡ flat_map pair_bytes (pairs_below f n)
 
--- no pairs yet
-pub spelled_none : (f : ℕ → ℕ) (bytes : List ℕ) → length bytes ≡ 12036 → IsSpelled f 0 0 bytes
-spelled_none f bytes count = record { count = count; within = omega arith; used_is = refl; front_is = refl }
-
 -- the bytes behind a front that is kept
 written_front : (used : ℕ) (bytes fields rest written : List ℕ) → 12 * used + 12 ≤ length bytes → length fields ≡ 12 → written ≡ take (12 * used) bytes ++ (fields ++ rest) → take (12 * used + 12) written ≡ take (12 * used) bytes ++ fields
 written_front used bytes fields rest written room long is =

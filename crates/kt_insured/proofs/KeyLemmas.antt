@@ -17,10 +17,6 @@ keys-more tree rule layers i one below =
     ∙ (ap (keys_for tree rule) (map-append key_of (take i layers) (slice_index_or layers i one ∷ []))
     ∙ flat_map-append (λ (key : ℕ × ℕ). map (λ owner. (owner, key.1)) (owners tree rule key.0)) (map key_of (take i layers)) (key_of (slice_index_or layers i one) ∷ []))
 
--- by rule 0 a layer has one key, that of its top
-pub keys-whole : (tree : Tree) (one : TopLayer) → keys_for tree 0 (key_of one ∷ []) ≡ (one.top, one.layer) ∷ []
-keys-whole tree one = refl
-
 -- by another rule it has those of the ids beneath
 pub keys-shared : (tree : Tree) (parts : Parts) → IsProgramme tree parts → (rule : ℕ) (one : TopLayer) → nat_eq rule 0 ≡ false → IsTopLayer parts one → keys_for tree rule (key_of one ∷ []) ≡ map (λ owner. (owner, one.layer)) (slice_index_or parts.beneath one.node [])
 keys-shared tree parts is rule one other within =

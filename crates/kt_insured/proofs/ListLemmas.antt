@@ -79,25 +79,6 @@ filter_map-twice {Y = Y} f g (x ∷ xs) = by (g x) (filter_map-twice f g xs)
 
 -- ---- one more of a list
 
--- what each becomes, behind others
-pub pushed-more : {X Y : Type 0} (f : X → Y) (xs : List X) (old now next : List Y) (i : ℕ) (d : X) → i < length xs → now ≡ old ++ map f (take i xs) → next ≡ now ++ f (slice_index_or xs i d) ∷ [] → next ≡ old ++ map f (take (i + 1) xs)
-pushed-more f xs old now next i d below now_is next_is =
-    next_is
-    ∙ (ap (λ front. front ++ f (slice_index_or xs i d) ∷ []) now_is
-    ∙ (append_assoc old (map f (take i xs)) (f (slice_index_or xs i d) ∷ [])
-    ∙ ap (λ made. old ++ made) (sym (ap (map f) (take_more xs i d below) ∙ map-append f (take i xs) (slice_index_or xs i d ∷ [])))))
-
--- what is left of a list at a place in it
-pub left-at : {X : Type 0} (xs : List X) (place : ℕ) (d : X) → place < length xs → drop place xs ≡ slice_index_or xs place d ∷ drop (place + 1) xs
-left-at xs place d below = rw (add-one, drop-cons xs place d) refl
-
--- nothing is left behind the last
-pub left-none : {X : Type 0} (xs : List X) (n : ℕ) → length xs ≤ n → drop n xs ≡ []
-left-none [] zero past = refl
-left-none [] (suc n) past = refl
-left-none (x ∷ xs) zero past = absurd (omega arith)
-left-none (x ∷ xs) (suc n) past = left-none xs n (omega arith)
-
 -- with one that is made, and with one that is not
 pub made-push : {X Y : Type 0} (f : X → Option Y) (xs : List X) (now next : List Y) (i : ℕ) (d : X) (y : Y) → i < length xs → now ≡ filter_map f (take i xs) → f (slice_index_or xs i d) ≡ Some y → next ≡ now ++ y ∷ [] → next ≡ filter_map f (take (i + 1) xs)
 made-push f xs now next i d y below now_is found next_is = made-more f xs now next i d below now_is (next_is ∙ ap (λ one. now ++ cons_option one []) (sym found))

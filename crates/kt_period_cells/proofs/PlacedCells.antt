@@ -202,11 +202,6 @@ pub wide_has : (samples s : ℕ) (cs : List Cell) → s ≤ samples → IsWide s
 wide_has samples s [] low wide = tt
 wide_has samples s (x ∷ cs) low wide = omega (arith, wide, low)
 
--- places for the mean and so many samples are wide
-pub wide_is : (samples : ℕ) (cs : List Cell) → length cs ≡ samples + 1 → IsWide samples cs
-wide_is samples [] is = tt
-wide_is samples (x ∷ cs) is = is
-
 -- a row of which one place changes
 pub changes_place : (old new : Row) (s : ℕ) (c : Cell) (after : Option Cell) → s < length old.places.items → new.key ≡ old.key → new.places.items ≡ set old.places.items s c → after ≡ some_cell c → Changes old new s after
 changes_place old new s c after within key places after_is =

@@ -46,12 +46,6 @@ one_cell maxima mean one = by_test (same_bool (nat_eq one.0 0) mean)
     by_test true = refl
     by_test false = refl
 
--- the amounts of one listed cell more
-pub listed_more : (maxima mean : Bool) (cells : SampleCells) (i : ℕ) (d : ℕ × Cell) → i < length cells →
-    cell_amounts maxima mean (take (i + 1) cells) ≡ cell_amounts maxima mean (take i cells) ++ cond (same_bool (nat_eq (get_or cells i d).0 0) mean) (amount_in maxima (Some (get_or cells i d).1) ∷ []) []
-listed_more maxima mean cells i d within =
-    ap (cell_amounts maxima mean) (take_more cells i d within) ∙ cells_append maxima mean (take i cells) (get_or cells i d ∷ []) ∙ ap (λ more. cell_amounts maxima mean (take i cells) ++ more) (one_cell maxima mean (get_or cells i d))
-
 -- the cells of places and of others
 placed_append : (k : ℕ) (xs ys : List Cell) → placed k (xs ++ ys) ≡ placed k xs ++ placed (k + length xs) ys
 placed_append k [] ys = let same : k ≡ k + 0 = omega arith in ap (λ n. placed n ys) same

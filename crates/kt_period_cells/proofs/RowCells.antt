@@ -79,10 +79,6 @@ module _ (cells : SampleCells) (rising : IsRising cells) (s : ℕ) where
   pub cell_found : (at : ℕ) → IsAt cells s at → cell_in cells s ≡ Some (get_or cells at none).1
   cell_found at is = cell_present cells s at is (none_before at is)
 
-  -- the cell of a sample, as it was read
-  pub found_item : (at : ℕ) → IsAt cells s at → (item : ℕ × Cell) → item ≡ get_or cells at item → cell_in cells s ≡ Some item.1
-  found_item at is item item_is = cell_found at is ∙ ap (λ (x : ℕ × Cell). Some x.1) (get_or_default cells at none item is.within ∙ sym item_is)
-
   -- nothing is found in a gap
   pub cell_in_gap : (at : ℕ) → IsGap cells s at → cell_in cells s ≡ None
   cell_in_gap at gap = cell_absent cells s (λ j less same. grind (arith, gap.lower j, gap.higher j))

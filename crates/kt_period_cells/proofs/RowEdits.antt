@@ -160,12 +160,3 @@ lowers_down old new s loss greatest here left found high left_is changes =
       none = λ missing. let wrong : Some here ≡ None = found ∙ missing in cc;
       count = let one : one_of (cell_in (cells_of old) s) ≡ 1 = ap one_of (sym found) in omega (arith, changes.count, one);
     }
-
--- or has no cell to lower
-pub lowers_none : (old : Row) (s loss greatest : ℕ) → None ≡ cell_in (cells_of old) s → Lowers old old s loss greatest 0
-lowers_none old s loss greatest missing =
-    record {
-      some = λ cell is_cell. let wrong : Some cell ≡ None = sym is_cell ∙ sym missing in cc;
-      none = λ gone. refl;
-      count = omega arith;
-    }

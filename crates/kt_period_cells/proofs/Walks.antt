@@ -63,18 +63,10 @@ returns_pop before changes change old new returns taken =
     ap (λ zs. before ++ zs) (map-append loss_of changes (change ∷ [])) ∙ sym (append_assoc before (noted_losses changes) (loss_of change ∷ [])) in
     record { stands = taken (before ++ noted_losses changes) told.2 told.1 (rw same at returns.stands); recalls = told.0 }
 
--- what goes on can be taken back
-pub returns_going : (before done : List KeyLoss) (changes : List Change) (entries : List (CellKey × Cell)) → Going before done changes entries → Returns before changes entries
-returns_going before done changes entries going = record { stands = rw going.noted going.stands; recalls = going.recalls }
-
 -- what went on until a refusal can be taken back
 pub returns_stop : (before done : List KeyLoss) (old new : List Change) (es entries : List (CellKey × Cell)) → Going before done old es → Standing (before ++ done) entries → new ≡ old → Returns before new entries
 returns_stop before done old new es entries going stands same =
     record { stands = rw (same, going.noted) stands; recalls = rw same going.recalls }
-
--- nothing was done yet
-pub going_none : (before : List KeyLoss) (entries : List (CellKey × Cell)) → Standing before entries → Going before [] [] entries
-going_none before entries stands = record { stands = rw (append-nil before) stands; clear = refl; noted = refl; recalls = tt }
 
 -- one more loss is in
 pub going_push : (before done : List KeyLoss) (one : KeyLoss) (old new : List Change) (es entries : List (CellKey × Cell)) → Going before done old es → 1 ≤ one.loss →

@@ -201,23 +201,6 @@ module _ (width : ℕ) (places shares : List ℕ) (has : HasShares width places 
 -- ---- lane by lane
 
 module _ (width : ℕ) (places : List ℕ) (table : List Shared) where
-  -- no share
-  pub ceded-start : (ceded : List (List ℕ)) → AreLanes (length table) width (λ row. replicate width 0) ceded → AreCededShares width places table 0 ceded
-  ceded-start ceded are = record {
-    count_is = are.count_is;
-    wide = are.wide;
-    each = λ row below. subst (Holds width (λ place. 0)) (sym (are.each row below)) (record { width_is = long width; each = λ place inside. none width place });
-  }
-    where
-      long : (n : ℕ) → length {A = ℕ} (replicate n 0) ≡ n
-      long zero = refl
-      long (suc n) = ap suc (long n)
-
-      none : (n place : ℕ) → slice_index (replicate n 0) place ≡ 0
-      none zero place = refl
-      none (suc n) zero = refl
-      none (suc n) (suc place) = none n place
-
   module _ (has : All (λ row. HasShares width places row.shares) table) (k : ℕ) (below : k < length places) (ceded : List (List ℕ)) (so_far : AreCededShares width places table k ceded) (place : ℕ) (place_is : place ≡ slice_index places k) (before : List ℕ) (before_is : before ≡ slice_index_or ceded place before) (lane : List ℕ) (lane_is : lane ≡ map (λ (row : Shared). slice_index row.shares k) table) where
     fits-in : (row : ℕ) → row < length table → HasShares width places (row_at table row).shares
     fits-in row inside = has row no_shares inside

@@ -28,23 +28,6 @@ use Rattle.kt_ri.proofs.SidxRowLemmas.{HasRow, RowsFrom, front-loss, has-row, no
 
 -- ---- what is left at a place
 
--- the row of a place is one of the rows
-pub row-inside : (samples place : ℕ) (sidx : ℤ) → IsSidx samples sidx → place ≡ place_of sidx → place - 2147483648 < samples + 1
-row-inside samples place (pos n) is same = let high = is.highest in omega (arith, ints, high, same)
-row-inside samples place (negsuc n) is same = omega (arith, same)
-
--- above that of sidx -2 there is a row
-pub left-row : (ceded : ℕ → ℕ) (sidx : ℤ) (loss place : ℕ) → place ≡ place_of sidx → 2147483646 < place → loss - ceded (place - 2147483648) ≡ left_at ceded sidx loss
-left-row ceded (pos n) loss place is above = let same : place - 2147483648 ≡ n = omega (arith, is) in ap (λ row. loss - ceded row) same
-left-row ceded (negsuc zero) loss place is above = let same : place - 2147483648 ≡ 0 = omega (arith, is) in ap (λ row. loss - ceded row) same
-left-row ceded (negsuc (suc n)) loss place is above = absurd (omega (arith, is, above))
-
--- and there is none at another
-pub left-none : (ceded : ℕ → ℕ) (sidx : ℤ) (loss place : ℕ) → place ≡ place_of sidx → place ≤ 2147483646 → 0 ≡ left_at ceded sidx loss
-left-none ceded (pos n) loss place is below = absurd (omega (arith, is, below))
-left-none ceded (negsuc zero) loss place is below = absurd (omega (arith, is, below))
-left-none ceded (negsuc (suc n)) loss place is below = sym (ap (λ b. cond b (loss - ceded 0) 0) (apart (suc n) 0 (λ same. omega (arith, same))))
-
 -- ---- row by row
 
 -- what is left of a loss at the sidx of a row
@@ -135,17 +118,6 @@ rows-left samples ceded (pair ∷ pairs) each rises = by (has-row samples pair.s
         (rows-from samples 0 (pair ∷ pairs) each rises (record { from = omega arith; has = has })) (λ row low. refl)
 
 -- ---- what the id of a record cedes
-
--- the lane in the place of an id
-pub lane-at : (samples place : ℕ) (ceded : List (List ℕ)) (lane : List ℕ) → AreWide (samples + 1) ceded → place < length ceded → lane ≡ slice_index_or ceded place lane → IsLane (samples + 1) (amount_in ceded (Some place)) lane
-lane-at samples place ceded lane wide below is = record {
-  wide = ap length is ∙ wide place lane below;
-  each = λ row within. ap (λ (one : List ℕ). slice_index one row) is ∙ sym (column-at row place ceded lane below);
-}
-
--- and where it has none
-pub lane-none : (samples : ℕ) (ceded : List (List ℕ)) (nothing : List ℕ) → Holds (samples + 1) (λ row. 0) nothing → IsLane (samples + 1) (amount_in ceded None) nothing
-lane-none samples ceded nothing holds = record { wide = holds.width_is; each = holds.each }
 
 -- the pairs that are left where it cedes so much
 pub left-are : (tree : Tree) (parts : Parts) → IsProgramme tree parts → (rule samples : ℕ) (records : List LossRecord) (ceded : List (List ℕ)) → AreCeded parts rule samples records ceded → (id : ℕ) (place : Option ℕ) → IsPlaceOf parts.ids id place → (lane : List ℕ) → IsLane (samples + 1) (amount_in ceded place) lane → (pairs : List Pair) → ArePairs samples pairs → pairs_left (slice_index lane) pairs ≡ pairs_of (λ sidx. part_behind true (loss_of sidx pairs) (ceded_at tree rule records id sidx)) (insured_range samples)

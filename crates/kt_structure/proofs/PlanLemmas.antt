@@ -19,9 +19,6 @@ pub record IsBuilding (plan : Plan) (level : ℕ) (units : List ℕ) (place : �
   pub nodes_are : nodes ++ nodes_from plan level (length below) (drop place units) ≡ nodes_from plan level 0 units
   pub below_are : below ++ flat_map (kids plan level) (drop place units) ≡ flat_map (kids plan level) units
 
-pub building-begins : (plan : Plan) (level : ℕ) (units : List ℕ) → IsBuilding plan level units 0 [] []
-building-begins plan level units = record { nodes_are = refl; below_are = refl }
-
 pub building-goes : (plan : Plan) (level : ℕ) (units : List ℕ) (place : ℕ) (nodes more : List Node) (below further : List ℕ) → place < length units → IsBuilding plan level units place nodes below
     → more ≡ nodes ++ new_node plan level (get_or units place 0) (length below) (length (kids plan level (get_or units place 0))) ∷ []
     → further ≡ below ++ kids plan level (get_or units place 0)
@@ -41,16 +38,6 @@ building-goes plan level units place nodes more below further inside so_far more
           ∙ (append_assoc below _ _
           ∙ (ap (λ us. below ++ flat_map (kids plan level) us) (sym next) ∙ so_far.below_are));
     }
-
-none-left : (units : List ℕ) → drop (length units) units ≡ []
-none-left [] = refl
-none-left (unit ∷ units) = none-left units
-
-pub building-ends : (plan : Plan) (level : ℕ) (units : List ℕ) (nodes : List Node) (below : List ℕ) → IsBuilding plan level units (length units) nodes below → (nodes ≡ nodes_from plan level 0 units) × (below ≡ flat_map (kids plan level) units)
-building-ends plan level units nodes below so_far = (
-  sym (append-nil nodes) ∙ (ap (λ us. nodes ++ nodes_from plan level (length below) us) (sym (none-left units)) ∙ so_far.nodes_are),
-  sym (append-nil below) ∙ (ap (λ us. below ++ flat_map (kids plan level) us) (sym (none-left units)) ∙ so_far.below_are),
-)
 
 -- the levels below, and then a level
 pub levels-push : {V : Type 0} (g : V → List Node) (plan : Plan) (level : ℕ) (units below : List ℕ) (old after all : List V) (nodes : V) → 0 < level → map g after ≡ map g old ++ build_levels plan (level - 1) below → below ≡ flat_map (kids plan level) units → g nodes ≡ nodes_from plan level 0 units → all ≡ after ++ nodes ∷ [] → map g all ≡ map g old ++ build_levels plan level units
