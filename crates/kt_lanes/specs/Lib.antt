@@ -3,6 +3,7 @@ pub mod LaneLaws
 pub mod Climbed
 pub mod ClimbedLaws
 pub mod Shares
+pub mod WeightLaws
 pub mod SharesLaws
 pub mod SplitLaws
 pub mod SideBySide

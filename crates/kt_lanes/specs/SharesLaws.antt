@@ -2,7 +2,7 @@
 -- The rule: docs/CALCULATION.md, "Share-out".
 use Rattle.std.specs.Prelude.{◌≡◌, ℕ, zero, suc, ◌+◌, ◌-◌, ◌*◌, ◌/◌, ◌<◌, ◌≤◌, List, [], ◌∷◌, ◌++◌, length, slice_index, slice_index_or, take, replicate}
 use Rattle.std.specs.List.{sum}
-use Rattle.std.proofs.Common.{append_assoc, refl, sym, ap, subst, ◌∙◌, arith}
+use Rattle.std.proofs.Common.{append_assoc, append-nil, refl, sym, ap, subst, ◌∙◌, arith}
 use Rattle.std.proofs.Math.Nat.{div-zero, mul-div_cancel, zero-div}
 use Rattle.std.proofs.lemmas.List.{get_or-replicate, length-map, length-replicate, take_more, take_all, take-map}
 use Rattle.std.proofs.lemmas.List.Sums.{sum_by-cons}
@@ -11,8 +11,9 @@ use Rattle.kt_money.specs.SharingLaws.{share_out-adds, share_to-le}
 use Rattle.kt_alloc.specs.DownLaws.{shares-length}
 use Rattle.kt_lanes.specs.Lanes.{column, AreWide, AreLanes, IsLane}
 use Rattle.kt_lanes.specs.LaneLaws.{All-first, All-more, column-at, column-sum-le, column-sum-more, lanes-are, lanes-more, lanes-none}
-use Rattle.kt_lanes.specs.Shares.{CanPart, CanShare, AreSharing, AreSharingBehind}
+use Rattle.kt_lanes.specs.Shares.{weight_or_one, ArePaid, CanPay, CanShare, AreSharing, AreSharingBehind}
 use Rattle.kt_lanes.specs.SideBySide.{AreBehind}
+use Rattle.kt_lanes.specs.WeightLaws.{weight-few, weight-most, weight-same, weight-some}
 
 -- ---- shares, one by one
 
@@ -73,88 +74,99 @@ module _ (totals : List ℕ) (children : List (List ℕ)) where
       lanes-are (length totals) at (length children) (λ k. take at (share_out (slice_index totals k) (column k children))) (λ k. share_out (slice_index totals k) (column k children)) shares so_far.shares_are at_is
       (λ k below. take_all at (share_out (slice_index totals k) (column k children)) (omega (arith, at_is, shares-length (slice_index totals k) (sum (column k children)) 0 (column k children), length-map children (λ (lane : List ℕ). slice_index lane k))))
 
-  module _ (can : CanShare totals children) (weights : List ℕ) (weights_are : IsLane (length totals) (λ k. sum (column k children)) weights) where
-    module _ (at : ℕ) (upto : List ℕ) (upto_is : IsLane (length totals) (λ k. sum (column k (take (at + 1) children))) upto) where
-      -- what is due to the first children and one more can be told
-      pub can-part : CanPart totals weights upto
-      can-part = record {
-        weights_wide = weights_are.wide;
-        upto_wide = upto_is.wide;
-        most = λ k below. omega (arith, can.backed k below, weights_are.each k below);
-        few = λ k below. omega (arith, can.few k below, weights_are.each k below);
-        within = λ k below. omega (arith, upto_is.each k below, column-sum-le k (at + 1) children, weights_are.each k below);
-      }
+  -- what the first children are paid in all at a sidx
+  abbrev paid_at : ℕ → ℕ → ℕ
+  paid_at at k = share_to (slice_index totals k) (sum (column k children)) (sum (column k (take at children)))
 
-      due : (k : ℕ) → k < length totals → share_to (slice_index totals k) (slice_index weights k) (slice_index upto k) ≡ share_to (slice_index totals k) (sum (column k children)) (sum (column k (take (at + 1) children)))
-      due k below = ap (λ n. share_to (slice_index totals k) n (slice_index upto k)) (weights_are.each k below) ∙ ap (share_to (slice_index totals k) (sum (column k children))) (upto_is.each k below)
+  -- one more child
+  module _ (at : ℕ) (inside : at < length children) (paid : List ℕ) (shares : List (List ℕ)) (so_far : AreSharing totals children at paid shares) where
+    more : (k : ℕ) → sum (column k (take (at + 1) children)) ≡ sum (column k (take at children)) + slice_index (slice_index_or children at []) k
+    more k = column-sum-more k at children [] inside
 
-      module _ (inside : at < length children) (paid : List ℕ) (shares : List (List ℕ)) (so_far : AreSharing totals children at paid shares) where
-        more : (k : ℕ) → sum (column k (take (at + 1) children)) ≡ sum (column k (take at children)) + slice_index (slice_index_or children at []) k
-        more k = column-sum-more k at children [] inside
+    -- its part is not below what was paid
+    more-enough : (k : ℕ) → k < length totals → slice_index paid k ≤ paid_at (at + 1) k
+    more-enough k below =
+        omega (arith, so_far.paid_is.each k below, share_to-le (slice_index totals k) (sum (column k children)) (sum (column k (take at children))) (sum (column k (take (at + 1) children))) (omega (arith, more k)))
 
-        -- it is not below what was paid
-        pub part-enough : (k : ℕ) → k < length totals → slice_index paid k ≤ share_to (slice_index totals k) (slice_index weights k) (slice_index upto k)
-        part-enough k below =
-            omega (arith, so_far.paid_is.each k below, due k below, share_to-le (slice_index totals k) (sum (column k children)) (sum (column k (take at children))) (sum (column k (take (at + 1) children))) (omega (arith, more k)))
+    -- it has its share
+    more-shares : (paid_now share : List ℕ) → IsLane (length totals) (paid_at (at + 1)) paid_now → IsLane (length totals) (λ k. paid_at (at + 1) k - slice_index paid k) share → AreSharing totals children (at + 1) paid_now (shares ++ share ∷ [])
+    more-shares paid_now share paid_is share_is = record {
+      paid_is = record { wide = paid_is.wide; each = λ k below. paid_is.each k below };
+      shares_are =
+          lanes-more (length totals) at (λ k. take at (share_out (slice_index totals k) (column k children))) (λ k. take (at + 1) (share_out (slice_index totals k) (column k children)))
+          (λ k. share_of (slice_index totals k) (sum (column k children)) (sum (column k (take at children))) (slice_index (slice_index_or children at []) k)) shares (shares ++ share ∷ []) share so_far.shares_are
+          (record {
+            wide = share_is.wide;
+            each = λ k below.
+                share_is.each k below
+                ∙ (ap (λ n. paid_at (at + 1) k - n) (so_far.paid_is.each k below)
+                ∙ ap (λ n. share_to (slice_index totals k) (sum (column k children)) n - paid_at at k) (more k));
+          }) refl
+          (λ k below.
+          let total = slice_index totals k in
+          let all = sum (column k children) in
+          ap (λ s. take at (share_out total (column k children)) ++ s ∷ [])
+          (ap (λ n. share_of total all n (slice_index (slice_index_or children at []) k)) (ap sum (sym (take-map (λ (lane : List ℕ). slice_index lane k) at children)))
+          ∙ ap (share_of total all (sum (take at (column k children)))) (sym (column-at k at children [] inside)))
+          ∙ shares-more total (column k children) at (omega (arith, inside, length-map children (λ (lane : List ℕ). slice_index lane k))));
+    }
 
-        -- one more child has its share
-        pub sharing-goes : (paid_now share : List ℕ) → IsLane (length totals) (λ k. share_to (slice_index totals k) (slice_index weights k) (slice_index upto k)) paid_now → IsLane (length totals) (λ k. share_to (slice_index totals k) (slice_index weights k) (slice_index upto k) - slice_index paid k) share → AreSharing totals children (at + 1) paid_now (shares ++ share ∷ [])
-        sharing-goes paid_now share paid_is share_is = record {
-          paid_is = record { wide = paid_is.wide; each = λ k below. paid_is.each k below ∙ due k below };
-          shares_are =
-              lanes-more (length totals) at (λ k. take at (share_out (slice_index totals k) (column k children))) (λ k. take (at + 1) (share_out (slice_index totals k) (column k children)))
-              (λ k. share_of (slice_index totals k) (sum (column k children)) (sum (column k (take at children))) (slice_index (slice_index_or children at []) k)) shares (shares ++ share ∷ []) share so_far.shares_are
-              (record {
-                wide = share_is.wide;
-                each = λ k below.
-                    share_is.each k below
-                    ∙ (ap (λ n. n - slice_index paid k) (due k below)
-                    ∙ (ap (λ n. share_to (slice_index totals k) (sum (column k children)) (sum (column k (take (at + 1) children))) - n) (so_far.paid_is.each k below)
-                    ∙ ap (λ n. share_to (slice_index totals k) (sum (column k children)) n - share_to (slice_index totals k) (sum (column k children)) (sum (column k (take at children)))) (more k)));
-              }) refl
-              (λ k below.
-              let total = slice_index totals k in
-              let all = sum (column k children) in
-              ap (λ s. take at (share_out total (column k children)) ++ s ∷ [])
-              (ap (λ n. share_of total all n (slice_index (slice_index_or children at []) k)) (ap sum (sym (take-map (λ (lane : List ℕ). slice_index lane k) at children)))
-              ∙ ap (share_of total all (sum (take at (column k children)))) (sym (column-at k at children [] inside)))
-              ∙ shares-more total (column k children) at (omega (arith, inside, length-map children (λ (lane : List ℕ). slice_index lane k))));
+  module _ (can : CanShare totals children) where
+    module _ (weights : List ℕ) (weights_are : IsLane (length totals) (λ k. weight_or_one (sum (column k children))) weights) (at : ℕ) (inside : at < length children) (lane : List ℕ) (lane_is : lane ≡ slice_index_or children at lane) (upto : List ℕ)
+        (upto_is : IsLane (length totals) (λ k. sum (column k (take at children))) upto) where
+      next-sum : (k : ℕ) → k < length totals → slice_index upto k + slice_index lane k ≡ sum (column k (take (at + 1) children))
+      next-sum k below = omega (arith, upto_is.each k below, column-sum-more k at children lane inside, ap (λ (one : List ℕ). slice_index one k) lane_is)
+
+      -- the next child is counted among the first
+      pub next-upto : (now : List ℕ) → IsLane (length totals) (λ k. slice_index upto k + slice_index lane k) now → IsLane (length totals) (λ k. sum (column k (take (at + 1) children))) now
+      next-upto now now_is = record { wide = now_is.wide; each = λ k below. now_is.each k below ∙ next-sum k below }
+
+      next-due : (k : ℕ) → k < length totals → share_to (slice_index totals k) (slice_index weights k) (slice_index upto k + slice_index lane k) ≡ paid_at (at + 1) k
+      next-due k below =
+          ap (λ n. share_to (slice_index totals k) n (slice_index upto k + slice_index lane k)) (weights_are.each k below)
+          ∙ (weight-same (slice_index totals k) (sum (column k children)) (slice_index upto k + slice_index lane k) (can.backed k below)
+          ∙ ap (share_to (slice_index totals k) (sum (column k children))) (next-sum k below))
+
+      module _ (paid : List ℕ) (shares : List (List ℕ)) (so_far : AreSharing totals children at paid shares) where
+        -- it can be paid
+        pub can-pay : CanPay totals weights upto lane paid
+        can-pay = record {
+          weights_wide = weights_are.wide;
+          upto_wide = upto_is.wide;
+          lane_wide = ap (λ (one : List ℕ). length one) lane_is ∙ can.wide at lane inside;
+          paid_wide = so_far.paid_is.wide;
+          some = λ k below. omega (arith, weights_are.each k below, weight-some (sum (column k children)));
+          most = λ k below. omega (arith, weights_are.each k below, weight-most (sum (column k children)), can.backed k below);
+          few = λ k below. omega (arith, weights_are.each k below, weight-few (sum (column k children)) (can.few k below));
+          within = λ k below. omega (arith, next-sum k below, column-sum-le k (at + 1) children, weight-most (sum (column k children)), weights_are.each k below);
+          enough = λ k below. omega (arith, next-due k below, more-enough at inside paid shares so_far k below);
         }
 
-    -- the first child has its part
-    pub sharing-first : 0 < length children → (first : List ℕ) → IsLane (length totals) (λ k. sum (column k (take 1 children))) first → (paid : List ℕ) → IsLane (length totals) (λ k. share_to (slice_index totals k) (slice_index weights k) (slice_index first k)) paid → AreSharing totals children 1 paid (paid ∷ [])
-    sharing-first some first first_is paid paid_is =
-        sharing-goes 0 first first_is some (replicate (length totals) 0) [] sharing-begins paid paid paid_is
-        (record {
-          wide = paid_is.wide;
-          each = λ k below.
-              let none : slice_index (replicate (length totals) 0) k ≡ 0 = get_or-replicate (length totals) k 0 0 below in
-              omega (arith, paid_is.each k below, none);
-        })
+        -- it has its share
+        pub sharing-goes : (upto_now paid_now share : List ℕ) → ArePaid totals weights upto lane paid upto_now paid_now share → AreSharing totals children (at + 1) paid_now (shares ++ share ∷ [])
+        sharing-goes upto_now paid_now share are =
+            more-shares at inside paid shares so_far paid_now share (record { wide = are.paid_is.wide; each = λ k below. are.paid_is.each k below ∙ next-due k below })
+            (record { wide = are.share_is.wide; each = λ k below. are.share_is.each k below ∙ ap (λ n. n - slice_index paid k) (next-due k below) })
 
     -- the last child has what is left of the totals
     module _ (at : ℕ) (last : at + 1 ≡ length children) (paid : List ℕ) (shares : List (List ℕ)) (so_far : AreSharing totals children at paid shares) where
-      all-are : IsLane (length totals) (λ k. sum (column k (take (at + 1) children))) weights
-      all-are = record {
-        wide = weights_are.wide;
-        each = λ k below. weights_are.each k below ∙ ap (λ lanes. sum (column k lanes)) (sym (take_all (at + 1) children (omega (arith, last))));
-      }
-
-      whole-part : IsLane (length totals) (λ k. share_to (slice_index totals k) (slice_index weights k) (slice_index weights k)) totals
+      whole-part : IsLane (length totals) (paid_at (at + 1)) totals
       whole-part = record {
         wide = refl;
-        each = λ k below. whole-due (slice_index totals k) (slice_index weights k) (omega (arith, can.backed k below, weights_are.each k below));
+        each = λ k below.
+            whole-due (slice_index totals k) (sum (column k children)) (can.backed k below)
+            ∙ ap (λ lanes. share_to (slice_index totals k) (sum (column k children)) (sum (column k lanes))) (sym (take_all (at + 1) children (omega (arith, last))));
       }
 
       pub last-enough : (k : ℕ) → k < length paid → slice_index paid k ≤ slice_index totals k
       last-enough k below =
           let inside : k < length totals = omega (arith, below, so_far.paid_is.wide) in
-          omega (arith, part-enough at weights all-are (omega (arith, last)) paid shares so_far k inside, whole-part.each k inside)
+          omega (arith, more-enough at (omega (arith, last)) paid shares so_far k inside, whole-part.each k inside)
 
       pub sharing-last : (share : List ℕ) → IsLane (length paid) (λ k. slice_index totals k - slice_index paid k) share → AreLanes (length totals) (length children) (λ k. share_out (slice_index totals k) (column k children)) (shares ++ share ∷ [])
       sharing-last share share_is =
           sharing-ends (at + 1) totals (shares ++ share ∷ []) last
-          (sharing-goes at weights all-are (omega (arith, last)) paid shares so_far totals share whole-part
+          (more-shares at (omega (arith, last)) paid shares so_far totals share whole-part
           (record {
             wide = share_is.wide ∙ so_far.paid_is.wide;
             each = λ k below. share_is.each k (subst (λ n. k < n) (sym so_far.paid_is.wide) below) ∙ ap (λ n. n - slice_index paid k) (whole-part.each k below);
@@ -176,13 +188,20 @@ module _ (totals : List ℕ) (children : List (List ℕ)) where
     now_is = now_is;
   }
 
-  -- the first child has its share
-  pub behind-first : (before now : List (List ℕ)) (share : List ℕ) → AreWide (length totals) before → now ≡ before ++ share ∷ [] → AreSharing totals children 1 share (share ∷ []) → AreSharingBehind totals children 1 share before now
-  behind-first before now share wide now_is sharing = record {
-    shares = share ∷ [];
-    sharing = sharing;
-    now_is = now_is;
-    wide = subst (AreWide (length totals)) (sym now_is) (All-more (λ (lane : List ℕ). length lane ≡ length totals) before share wide sharing.paid_is.wide);
+  -- no child has its share yet
+  pub behind-begins : (before : List (List ℕ)) (paid : List ℕ) → AreWide (length totals) before → paid ≡ replicate (length totals) 0 → AreSharingBehind totals children 0 paid before before
+  behind-begins before paid wide paid_is = record {
+    shares = [];
+    sharing = subst (λ (lane : List ℕ). AreSharing totals children 0 lane []) (sym paid_is) sharing-begins;
+    now_is = sym (append-nil before);
+    wide = wide;
+  }
+
+  -- none is counted yet
+  pub none-counted : (upto : List ℕ) → upto ≡ replicate (length totals) 0 → IsLane (length totals) (λ k. sum (column k (take 0 children))) upto
+  none-counted upto upto_is = record {
+    wide = ap (λ (lane : List ℕ). length lane) upto_is ∙ length-replicate (length totals) 0;
+    each = λ k below. ap (λ (lane : List ℕ). slice_index lane k) upto_is ∙ get_or-replicate (length totals) k 0 0 below;
   }
 
   module _ (at : ℕ) (paid : List ℕ) (before now : List (List ℕ)) (so_far : AreSharingBehind totals children at paid before now) (share : List ℕ) (more : List (List ℕ)) (more_is : more ≡ now ++ share ∷ []) where

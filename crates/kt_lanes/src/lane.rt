@@ -1,6 +1,6 @@
 //! Lanes, element by element.
 //! The rules: docs/FINANCIAL_MODULE.md, "Levels".
-ghost use Rattle.std.specs.Prelude.{◌≡◌, ℕ, ◌+◌, ◌<◌, ◌≤◌, ◌^◌, length, take, drop, slice_index};
+ghost use Rattle.std.specs.Prelude.{◌≡◌, ℕ, ◌+◌, ◌<◌, ◌≤◌, ◌^◌, length, replicate, take, drop, slice_index};
 ghost use Rattle.std.specs.List.{sum};
 ghost use Rattle.kt_rules.specs.LossAlone.{loss_after};
 ghost use Rattle.kt_rules.specs.Profiles.{IsProfile};
@@ -8,6 +8,13 @@ ghost use Rattle.kt_lanes.specs.Lanes.{column, AreWide, IsLane};
 
 use crate::lanes::Lanes;
 use kt_rules::{Profile, apply_each};
+
+/// Puts 0 in the place of each amount of a lane.
+pub(crate) fn clear(lane: &mut [u64])
+    ensures value { lane.new ≡ replicate (length lane.old) 0 }
+{
+    lane.fill(0);
+}
 
 /// Adds the amounts of a lane to those of another, in cents.
 pub(crate) fn add_to(lane: &mut [u64], more: &[u64])

@@ -15,6 +15,17 @@ fn is_quotient(a: u128, b: u64, guess: u64) -> bool
     product <= a && a - product < divisor
 }
 
+/// `a / b`, by a division of 128 bits. It stands apart, so that a loop that seldom divides does so only then.
+#[cold]
+#[inline(never)]
+fn divided(a: u128, b: u64) -> u64
+    requires positive { 0 < b }
+    requires fits { a / b < 2 ^ 64 }
+    ensures value { result ≡ a / b }
+{
+    (a / u128::from(b)) as u64
+}
+
 /// `a / b`. A guess is given that is nearly always right, and to test it takes a fifth of the time of a division of 128 bits.
 #[inline]
 fn quotient(a: u128, b: u64, guess: u64) -> u64
@@ -25,7 +36,7 @@ fn quotient(a: u128, b: u64, guess: u64) -> u64
     if is_quotient(a, b, guess) {
         return guess;
     }
-    (a / u128::from(b)) as u64
+    divided(a, b)
 }
 
 /// A number below 2^53 as it is; of any other, some number.
@@ -60,9 +71,22 @@ fn guess(total: u64, weights: u64, upto: u64) -> u64 {
     nearest_whole(product / float_of(weights) + 0.501).wrapping_sub(1)
 }
 
-/// The part of a total in cents that falls to the first weights, rounded down. It is not above the weights in all.
+/// What the part of a total is likely to be, as `guess`, from the quotient of the total and the weights.
 #[inline]
-pub(crate) fn part_to(total: u64, weights: u64, upto: u64) -> u64
+fn guess_by(upto: u64, ratio: f64) -> u64 {
+    nearest_whole(float_of(upto) * ratio + 0.501).wrapping_sub(1)
+}
+
+/// The quotient of a total in cents and of weights, rounded.
+#[inline]
+pub(crate) fn ratio_of(total: u64, weights: u64) -> f64 {
+    float_of(total) / float_of(weights)
+}
+
+/// The part of a total in cents that falls to the first weights, rounded down, where it is told what it is likely to be. It is not above
+/// the weights in all.
+#[inline]
+fn part_near(total: u64, weights: u64, upto: u64, likely: u64) -> u64
     requires most { total ≤ weights }
     requires bound { weights ≤ 10 ^ 16 }
     requires within { upto ≤ weights }
@@ -71,9 +95,27 @@ pub(crate) fn part_to(total: u64, weights: u64, upto: u64) -> u64
     if weights == 0 {
         return 0;
     }
-    quotient(
-        u128::from(total) * u128::from(upto),
-        weights,
-        guess(total, weights, upto),
-    )
+    quotient(u128::from(total) * u128::from(upto), weights, likely)
+}
+
+/// The part of a total in cents that falls to the first weights, rounded down. It is not above the weights in all.
+#[inline]
+pub(crate) fn part_to(total: u64, weights: u64, upto: u64) -> u64
+    requires most { total ≤ weights }
+    requires bound { weights ≤ 10 ^ 16 }
+    requires within { upto ≤ weights }
+    ensures value { result ≡ share_to total weights upto }
+{
+    part_near(total, weights, upto, guess(total, weights, upto))
+}
+
+/// The same, where the quotient of the total and the weights is given, nearly.
+#[inline]
+pub(crate) fn part_by(total: u64, weights: u64, upto: u64, ratio: f64) -> u64
+    requires most { total ≤ weights }
+    requires bound { weights ≤ 10 ^ 16 }
+    requires within { upto ≤ weights }
+    ensures value { result ≡ share_to total weights upto }
+{
+    part_near(total, weights, upto, guess_by(upto, ratio))
 }

@@ -2,14 +2,14 @@
 //! The rule: docs/CALCULATION.md, "Share-out".
 ghost use Rattle.std.specs.Prelude.{◌≡◌, ◌+◌, ◌-◌, ◌≤◌, ◌<◌, ◌^◌, ℕ, length, take, drop, IfOk, OnOk, slice_index};
 ghost use Rattle.std.specs.List.{sum};
-ghost use Rattle.kt_money.specs.Sharing.{share_out, share_to};
+ghost use Rattle.kt_money.specs.Sharing.{share_out};
 ghost use Rattle.kt_lanes.specs.Lanes.{column, AreWide, IsLane};
-ghost use Rattle.kt_lanes.specs.Shares.{CanPart, CanShare, HasRoom};
+ghost use Rattle.kt_lanes.specs.Shares.{CanShare, HasRoom};
 ghost use Rattle.kt_lanes.specs.SideBySide.{AreBehind};
 
-use crate::lane::{add_to, sum_lanes};
+use crate::lane::{clear, sum_lanes};
 use crate::lanes::Lanes;
-use crate::parts::find_parts;
+use crate::parts::{find_ratios, pay_next};
 use crate::split::split_totals;
 use kt_alloc::zeros;
 use std::alloc::{AllocError, Global};
@@ -17,8 +17,10 @@ use std::alloc::{AllocError, Global};
 /// Room to share totals out: amounts in cents, sidx by sidx.
 #[derive(Drop)]
 pub struct Room {
-    /// What all children have.
+    /// What all children have, and 1 where they have nothing.
     pub weights: Vec<u64>,
+    /// The quotients of totals and these.
+    pub ratios: Vec<f64>,
     /// What the first children have.
     pub upto: Vec<u64>,
     /// What these were paid.
@@ -27,48 +29,29 @@ pub struct Room {
     pub share: Vec<u64>,
 }
 
+/// So many quotients, all 0. An error is want of memory.
+fn no_ratios(alloc: Global, width: usize) -> Result<Vec<f64>, AllocError>
+    ensures wide { IfOk result (λ ratios. length ratios.items ≡ width) }
+{
+    vec![in alloc; 0.0; width]
+}
+
 /// Room for lanes of so many sidx. An error is want of memory.
 pub fn room_of(alloc: Global, width: usize) -> Result<Room, AllocError>
     ensures room { IfOk result (HasRoom width) }
 {
     let weights = zeros(alloc, width)?;
+    let ratios = no_ratios(alloc, width)?;
     let upto = zeros(alloc, width)?;
     let paid = zeros(alloc, width)?;
     let share = zeros(alloc, width)?;
     Ok(Room {
         weights,
+        ratios,
         upto,
         paid,
         share,
     })
-}
-
-/// Puts what parts have beyond what was paid of them in their place. They are paid then.
-fn pay_parts(paid: &mut [u64], parts: &mut [u64])
-    requires same { length paid.old ≡ length parts.old }
-    requires few { (k : ℕ) → k < length parts.old → slice_index paid.old k ≤ slice_index parts.old k }
-    ensures paid { IsLane (length parts.old) (λ k. slice_index parts.old k) paid.new }
-    ensures share { IsLane (length parts.old) (λ k. slice_index parts.old k - slice_index paid.old k) parts.new }
-{
-    for k in 0..parts.len() {
-        let due = parts[k];
-        parts[k] = due - paid[k];
-        paid[k] = due;
-    }
-}
-
-/// Puts the share of a child in the place of what a lane has: the part of totals in cents that falls to the first weights without
-/// what was paid. That part is paid then.
-fn pay_share(totals: &[u64], weights: &[u64], upto: &[u64], paid: &mut [u64], share: &mut [u64])
-    requires can { CanPart totals.now weights.now upto.now }
-    requires paid_wide { length paid.old ≡ length totals.now }
-    requires share_wide { length share.old ≡ length totals.now }
-    requires few { (k : ℕ) → k < length totals.now → slice_index paid.old k ≤ share_to (slice_index totals.now k) (slice_index weights.now k) (slice_index upto.now k) }
-    ensures paid { IsLane (length totals.now) (λ k. share_to (slice_index totals.now k) (slice_index weights.now k) (slice_index upto.now k)) paid.new }
-    ensures share { IsLane (length totals.now) (λ k. share_to (slice_index totals.now k) (slice_index weights.now k) (slice_index upto.now k) - slice_index paid.old k) share.new }
-{
-    find_parts(totals, weights, upto, share);
-    pay_parts(paid, share);
 }
 
 /// Puts what is left of totals in cents, sidx by sidx, in the place of what was paid of them.
@@ -108,14 +91,14 @@ fn push_two(
     Ok(())
 }
 
-/// Puts shares of totals behind others, as `share_lanes`, where there are three children or more. The share of the first is its part:
-/// nothing was paid before.
+/// Puts shares of totals behind others, as `share_lanes`, where there are three children or more.
 fn push_shares(
     totals: &[u64],
     lanes: &Lanes,
     start: usize,
     count: usize,
     weights: &mut [u64],
+    ratios: &mut [f64],
     upto: &mut [u64],
     paid: &mut [u64],
     share: &mut [u64],
@@ -125,6 +108,7 @@ fn push_shares(
     requires within { start + count ≤ length lanes.now }
     requires wide { AreWide (length totals.now) lanes.now }
     requires weights_wide { length weights.old ≡ length totals.now }
+    requires ratios_wide { length ratios.old ≡ length totals.now }
     requires upto_wide { length upto.old ≡ length totals.now }
     requires paid_wide { length paid.old ≡ length totals.now }
     requires share_wide { length share.old ≡ length totals.now }
@@ -134,14 +118,13 @@ fn push_shares(
 {
     let _all = lanes.len();
     sum_lanes(lanes, start, count, weights);
-    let first = lanes.lane(start);
-    find_parts(totals, weights, first, paid);
-    out.push(paid)?;
-    upto.copy_from_slice(first);
+    let bits = find_ratios(totals, weights, ratios);
+    clear(upto);
+    clear(paid);
     let last = count - 1;
-    for at in 1..last {
-        add_to(upto, lanes.lane(start + at));
-        pay_share(totals, weights, upto, paid, share);
+    for at in 0..last {
+        let lane = lanes.lane(start + at);
+        pay_next(totals, weights, ratios, bits, lane, upto, paid, share);
         out.push(share)?;
     }
     take_paid(totals, paid);
@@ -184,6 +167,7 @@ pub(crate) fn share_lanes(
         start,
         count,
         &mut room.weights,
+        &mut room.ratios,
         &mut room.upto,
         &mut room.paid,
         &mut room.share,

@@ -2,7 +2,7 @@ use Rattle.std.proofs.Common.{◌≡◌, ◌≤◌, ◌-◌, length}
 use Rattle.kt_lanes.proofs.parts.guess_parts.Given as goal
 
 abbrev pub invariant-loop-at : goal.invariant-loop-at
-invariant-loop-at l = record { wide : length l.parts ≡ length l.totals; within : l.at ≤ length l.totals }
+invariant-loop-at l = record { wide : length l.parts ≡ length l.upto; within : l.at ≤ length l.upto }
 
 abbrev pub decreases-loop-at : goal.decreases-loop-at
-decreases-loop-at l = length l.totals - l.at
+decreases-loop-at l = length l.upto - l.at

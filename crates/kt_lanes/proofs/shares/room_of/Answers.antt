@@ -6,6 +6,7 @@ pub returns : goal.returns
 returns c = record {
   room = record {
     weights = ap length c.in_ok-weights.ensures.value ∙ length-replicate c.args.width 0;
+    ratios = c.in_ok-ratios.ensures.wide;
     upto = ap length c.in_ok-upto.ensures.value ∙ length-replicate c.args.width 0;
     paid = ap length c.in_ok-paid.ensures.value ∙ length-replicate c.args.width 0;
     share = ap length c.in_ok-share.ensures.value ∙ length-replicate c.args.width 0;

@@ -2,7 +2,7 @@ use Rattle.std.proofs.Common.{◌≡◌, ◌<◌, ◌^◌, ◌*◌, ◌/◌, ◌
 use Rattle.std.proofs.Math.Nat.{mul-div_cancel}
 use Rattle.kt_money.specs.Sharing.{share_to}
 use Rattle.kt_money.specs.SharingLaws.{share_to-le}
-use Rattle.kt_lanes.proofs.quotient.part_to.Goals as goal
+use Rattle.kt_lanes.proofs.quotient.part_near.Goals as goal
 
 pub quotient-requires-clause-fits : goal.quotient-requires-clause-fits
 quotient-requires-clause-fits c =
