@@ -70,8 +70,3 @@ period_sum f none p s n samples u group t is =
         All-cons (λ (e : CellKey × Cell). times (λ key. same_key key e.0) (map (λ x. key_of p s u x t) (sample_sidx samples)) ≡ one_if (of_period t e)) e es
         (one e (All-head (λ (e : CellKey × Cell). FitsCells n samples e.0 e.1) e es fits) (All-head (λ (e : CellKey × Cell). e.0 ≡ key_of p s u e.0.sidx e.0.period) e es own))
         (all es (All-tail (λ (e : CellKey × Cell). FitsCells n samples e.0 e.1) e es fits) (All-tail (λ (e : CellKey × Cell). e.0 ≡ key_of p s u e.0.sidx e.0.period) e es own))
-
-    by : (b : Bool) → of_sample sample e ≡ b → amounts_of maxima (of_kind false) (filter (of_sample sample) es) ≡ amounts_of maxima (of_sample sample) es
-        → amounts_of maxima (of_kind false) (cond b (e ∷ filter (of_sample sample) es) (filter (of_sample sample) es)) ≡ map (λ (entry : CellKey × Cell). amount_in maxima (Some entry.1)) (cond b (e ∷ filter (of_sample sample) es) (filter (of_sample sample) es))
-    by false is later = later
-    by true is later = rw (sampled e.0.sidx is) (ap (λ more. amount_in maxima (Some e.1) ∷ more) later)
