@@ -1,6 +1,6 @@
 -- The cells of a row with a place for each sample.
 use Rattle.std.proofs.Common.{◌≡◌, ℕ, zero, suc, ◌+◌, ◌<◌, ◌≤◌, List, [], ◌∷◌, length, get_or, set, arith, refl, sym, ap, ◌∙◌, cond, Some, None, Option, ◌++◌, take}
-use Rattle.std.specs.Prelude.{Bool, true, false, ◌||◌, not, nat_eq, All, IfSome}
+use Rattle.std.specs.Prelude.{Bool, true, false, ◌||◌, not, nat_eq, nat_lt, All, IfSome, is_some, unwrap_or}
 use Rattle.std.specs.List.{list_any}
 use Rattle.std.proofs.Math.ListN.{replicate}
 use Rattle.std.proofs.lemmas.Bool.Decides.{nat_tests, Decides-eqb}
@@ -190,6 +190,22 @@ pub has_place : (s : ℕ) (cs : List Cell) → 1 ≤ length cs → HasPlace s cs
 has_place s [] some has = absurd (omega (arith, some))
 has_place s (x ∷ cs) some has = has
 
+-- a sample with a cell has a place
+pub place_there : (s : ℕ) (cs : List Cell) → is_some (cell_in (placed 0 cs) s) ≡ true → s < length cs
+place_there s cs there = by_test (nat_lt s (length cs)) refl
+  where
+    by_test : (b : Bool) → nat_lt s (length cs) ≡ b → s < length cs
+    by_test true low = grind (arith, nat_tests)
+    by_test false high =
+        let missing : cell_in (placed 0 cs) s ≡ None = placed_past 0 cs s (grind (arith, nat_tests)) in
+        let wrong : false ≡ true = sym (ap is_some missing) ∙ there in
+        cc
+
+-- the cell of a place in which a cell or none is put
+pub some_put : (cell : Option Cell) → IfSome cell (λ one. 1 ≤ one.total) → cell ≡ some_cell (unwrap_or cell (record { total = 0; maximum = 0 }))
+some_put (Some one) some = sym (some_cell_is one some)
+some_put None some = refl
+
 -- a row as wide as another
 pub wide_same : (old new : List Cell) → length new ≡ length old → (samples : ℕ) → IsWide samples old → IsWide samples new
 wide_same [] [] same samples wide = tt
@@ -216,22 +232,6 @@ changes_place old new s c after within key places after_is =
       rising = rw behind (placed_rising 0 (set old.places.items s c));
       fits = λ samples all one. rw behind (placed_fits samples 0 old.places.items s c s (omega arith) (rw before at all) (rw after_is at one));
     }
-
--- a row of which no place changes, where the sample has none
-pub changes_none : (old : Row) (s : ℕ) → IsRising (cells_of old) → cell_in (cells_of old) s ≡ None → Changes old old s None
-changes_none old s rising missing =
-    record {
-      key = refl;
-      wide = λ samples wide. wide;
-      cells = λ t. by_test t (nat_eq s t) refl;
-      count = rw missing refl;
-      rising = rising;
-      fits = λ samples all one. all;
-    }
-  where
-    by_test : (t : ℕ) (b : Bool) → nat_eq s t ≡ b → cell_in (cells_of old) t ≡ cond b None (cell_in (cells_of old) t)
-    by_test t true same = ap (cell_in (cells_of old)) (sym ((Decides-eqb s t).0 same)) ∙ missing
-    by_test t false other = refl
 
 -- some place has a cell where there is a cell
 pub any_placed : (k : ℕ) (cs : List Cell) → list_any has_total cs ≡ has_any (placed k cs)

@@ -1,9 +1,9 @@
-//! The total and the maximum of one key, and why cells refuse a record.
+//! The total and the maximum of one key, which losses are added to them, and why cells refuse a record.
 //! The rules: docs/CALCULATION.md, "Periods".
 ghost use Rattle.std.specs.Prelude.{◌≡◌, Some};
 ghost use Rattle.std.specs.List.{list_any};
-ghost use Rattle.kt_period_cells.specs.Amounts.{amount_in};
-ghost use Rattle.kt_period_cells.specs.Losses.{has_cells, is_added, one_if};
+ghost use Rattle.kt_period_cells.specs.Amounts.{amount_in, sample_of};
+ghost use Rattle.kt_period_cells.specs.Losses.{is_added, one_if};
 ghost use Rattle.kt_period_cells.specs.SummaryRows.{has_total};
 
 use kt_rec::CellKey;
@@ -74,11 +74,23 @@ pub(crate) fn one_if(is_there: bool) -> usize
     if is_there { 1 } else { 0 }
 }
 
+/// The sample of a sidx with cells, and 0 for the mean.
+#[inline]
+pub(crate) fn sample_of(sidx: &i32) -> u32
+    ensures value { result ≡ sample_of sidx.now }
+{
+    if *sidx < 0 { 0 } else { *sidx as u32 }
+}
+
 /// Whether the loss of a pair is added up: that of sidx -1 or from 1 up, where it is above 0.
+#[inline]
 pub(crate) fn is_added(pair: &Pair) -> bool
     ensures { result ≡ is_added pair.now }
 {
-    has_cells(pair) && 0 < pair.loss
+    match pair.sidx {
+        -1 | 1.. => 0 < pair.loss,
+        _ => false,
+    }
 }
 
 /// Whether the loss of one of the pairs is added up.
@@ -86,15 +98,4 @@ pub(crate) fn adds_any(pairs: &[Pair]) -> bool
     ensures { result ≡ list_any is_added pairs.now }
 {
     pairs.iter().any(is_added)
-}
-
-/// Whether the sidx of a pair has cells.
-fn has_cells(pair: &Pair) -> bool
-    ensures { result ≡ has_cells pair.now.sidx }
-{
-    match pair.sidx {
-        -1 => true,
-        1.. => true,
-        _ => false,
-    }
 }

@@ -10,7 +10,6 @@ mod raising;
 mod row;
 mod row_key;
 mod rows;
-mod samples;
 mod shared;
 
 pub use amount_list::AmountList;

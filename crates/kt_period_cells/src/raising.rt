@@ -64,13 +64,13 @@ pub(crate) fn raised(old: Option<Cell>, loss: u64) -> Cell
     }
 }
 
-/// The number of cells where a key that had a cell, or none, has one.
-pub(crate) fn held_with(held: usize, old: Option<Cell>) -> usize
-    requires { old ≡ None → held < most_cells }
-    ensures value { result + one_of old ≡ held + 1 }
+/// How many cells are new where a key has one: 1 where it had none before.
+#[inline]
+pub(crate) fn new_cells(old: Option<Cell>) -> usize
+    ensures value { result + one_of old ≡ 1 }
 {
     match old {
-        Some(_) => held,
-        None => held + 1,
+        Some(_) => 0,
+        None => 1,
     }
 }

@@ -1,6 +1,6 @@
 //! A row of cells: what one summary has in one period.
 //! The rules: docs/CALCULATION.md, "Periods".
-ghost use Rattle.std.specs.Prelude.{◌≡◌, ◌⊎◌, ◌+◌, ◌≤◌, [], IfOk, OnOk, OnErr, Some, None, true, is_some, length};
+ghost use Rattle.std.specs.Prelude.{◌≡◌, ◌⊎◌, ◌+◌, ◌≤◌, [], IfOk, IfSome, OnOk, OnErr, Some, None, true, is_some, length};
 ghost use Rattle.kt_period_cells.specs.RowCells.{AreLow, HasBound, IsRising, HasPlace, IsWide, Changes, Lowers, cell_in, cells_of, placed};
 ghost use Rattle.kt_period_cells.specs.Standing.{most_total};
 
@@ -138,67 +138,36 @@ impl Row {
         }
     }
 
-    /// Takes out the cell of a sample.
-    fn take_out(&mut self, sample: u32)
-        requires { IsRising (cells_of self.old) }
-        ensures value { Changes self.old self.new sample None }
-        ensures bound { self.new.most ≡ self.old.most }
-    {
-        if self.places.is_empty() {
-            self.unlist(sample);
-            return;
-        }
-        let at = sample as usize;
-        if at < self.places.len() {
-            self.places[at] = NO_CELL;
-        }
-    }
-
-    /// Takes out the listed cell of a sample.
-    fn unlist(&mut self, sample: u32)
-        requires listed { self.old.places.items ≡ [] }
-        requires rising { IsRising self.old.listed.items }
-        ensures value { Changes self.old self.new sample None }
-        ensures bound { self.new.most ≡ self.old.most }
-    {
-        match place(self.listed.as_slice(), self.next, sample) {
-            Ok(at) => {
-                self.listed.remove(at);
-            }
-            Err(_) => {}
-        }
-    }
-
-    /// Puts another cell in the place of that of a sample.
-    fn put_back(&mut self, sample: u32, cell: Cell)
+    /// Puts another cell in the place of that of a sample, or takes it out.
+    fn replace(&mut self, sample: u32, cell: Option<Cell>)
         requires rising { IsRising (cells_of self.old) }
         requires there { is_some (cell_in (cells_of self.old) sample) ≡ true }
-        requires some { 1 ≤ cell.total }
-        ensures value { Changes self.old self.new sample (Some cell) }
+        requires some { IfSome cell (λ cell. 1 ≤ cell.total) }
+        ensures value { Changes self.old self.new sample cell }
         ensures bound { self.new.most ≡ self.old.most }
     {
         if self.places.is_empty() {
-            self.list_back(sample, cell);
+            self.relist(sample, cell);
             return;
         }
-        let at = sample as usize;
-        if at < self.places.len() {
-            self.places[at] = cell;
-        }
+        self.places[sample as usize] = cell.unwrap_or(NO_CELL);
     }
 
-    /// Puts another cell in the place of the listed one of a sample.
-    fn list_back(&mut self, sample: u32, cell: Cell)
+    /// Puts another cell in the place of the listed one of a sample, or takes it out.
+    fn relist(&mut self, sample: u32, cell: Option<Cell>)
         requires listed { self.old.places.items ≡ [] }
         requires rising { IsRising self.old.listed.items }
         requires there { is_some (cell_in self.old.listed.items sample) ≡ true }
-        ensures value { Changes self.old self.new sample (Some cell) }
+        ensures value { Changes self.old self.new sample cell }
         ensures bound { self.new.most ≡ self.old.most }
     {
         match place(self.listed.as_slice(), self.next, sample) {
-            Ok(at) => {
-                self.listed[at] = (sample, cell);
-            }
+            Ok(at) => match cell {
+                Some(cell) => self.listed[at] = (sample, cell),
+                None => {
+                    self.listed.remove(at);
+                }
+            },
             Err(_) => {}
         }
     }
@@ -216,14 +185,14 @@ impl Row {
         };
         self.most = MOST_TOTAL;
         if cell.total <= loss {
-            self.take_out(sample);
+            self.replace(sample, None);
             return 1;
         }
         let left = Cell {
             total: cell.total - loss,
             maximum: greatest,
         };
-        self.put_back(sample, left);
+        self.replace(sample, Some(left));
         0
     }
 }

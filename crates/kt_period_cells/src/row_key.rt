@@ -1,9 +1,9 @@
 //! Which row of cells a loss falls to, and the key by which the row is found.
 //! The rules: docs/CALCULATION.md, "Periods".
 ghost use Rattle.std.specs.Prelude.{◌≡◌};
-ghost use Rattle.kt_period_cells.specs.Rows.{perspective_number, index_key, row_of};
+ghost use Rattle.kt_period_cells.specs.Rows.{index_key};
 
-use kt_rec::{CellKey, Perspective};
+use kt_rec::Perspective;
 
 /// Which row: what one summary of a perspective and set has in one period.
 #[derive(Clone, Copy)]
@@ -23,37 +23,19 @@ pub(crate) struct IndexKey {
     period: u32,
 }
 
-/// The number of a perspective.
-fn perspective_number(perspective: Perspective) -> u32
-    ensures value { result ≡ perspective_number perspective }
-{
-    match perspective {
-        Perspective::Gul => 0,
-        Perspective::Il => 1,
-        Perspective::Ri => 2,
-    }
-}
-
 /// The key of a row in the index.
 pub(crate) fn index_key(row: RowKey) -> IndexKey
     ensures value { result ≡ index_key row }
 {
+    let perspective = match row.perspective {
+        Perspective::Gul => 0,
+        Perspective::Il => 1,
+        Perspective::Ri => 2,
+    };
     IndexKey {
-        perspective: perspective_number(row.perspective),
+        perspective,
         set: row.set,
         summary: row.summary,
         period: row.period,
-    }
-}
-
-/// The row to which a cell belongs.
-pub(crate) fn row_of(key: CellKey) -> RowKey
-    ensures value { result ≡ row_of key }
-{
-    RowKey {
-        perspective: key.perspective,
-        set: key.set,
-        summary: key.summary,
-        period: key.period,
     }
 }

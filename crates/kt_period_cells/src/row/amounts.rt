@@ -4,7 +4,6 @@ ghost use Rattle.std.specs.Prelude.{◌≡◌, ◌≤◌, ◌<◌, ◌+◌, ◌-
 ghost use Rattle.std.specs.List.{list_any};
 ghost use Rattle.kt_period_cells.specs.RowCells.{IsRising, cell_in, cells_of, placed};
 ghost use Rattle.kt_period_cells.specs.Amounts.{HasMore, HasRoom, HaveMore, amount_in, amount_or_none};
-ghost use Rattle.kt_period_cells.specs.Sets.{same_bool};
 ghost use Rattle.kt_period_cells.specs.SummaryRows.{cell_amounts, has_any, has_total};
 
 use super::{Row, placed_cell};
@@ -49,13 +48,6 @@ fn put_places(lists: &mut [AmountList], places: &[Cell], last: usize, maxima: bo
     }
 }
 
-/// Whether two answers are the same.
-fn is_same(one: bool, other: bool) -> bool
-    ensures value { result ≡ same_bool one other }
-{
-    if one { other } else { !other }
-}
-
 /// Whether one of the places has a cell.
 fn has_placed(places: &[Cell]) -> bool
     ensures value { result ≡ list_any has_total places.now }
@@ -73,7 +65,7 @@ fn push_listed(
     ensures ok { OnOk result (found.new.items ≡ found.old.items ++ cell_amounts maxima mean cells.now) }
 {
     for one in cells {
-        if is_same(one.0 == 0, mean) {
+        if (one.0 == 0) == mean {
             found.push(amount(&one.1, maxima))?;
         }
     }

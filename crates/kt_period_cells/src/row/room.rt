@@ -2,14 +2,13 @@
 //! The rules: docs/CALCULATION.md, "Periods"; docs/LIMITS.md, "Cells".
 ghost use Rattle.std.specs.Prelude.{◌≡◌, ◌+◌, ◌<◌, ◌≤◌, ◌≤ℤ◌, ℕ, pos, All, Some, true, length};
 ghost use Rattle.kt_period_cells.specs.Standing.{most_total, raised};
-ghost use Rattle.kt_period_cells.specs.RowCells.{AreLow, Changes, HasBound, cell_in, cells_of, one_of};
+ghost use Rattle.kt_period_cells.specs.RowCells.{AreLow, Changes, HasBound, cell_in, cells_of};
 ghost use Rattle.kt_period_cells.specs.declared.row.Row.{Row};
 ghost use Rattle.kt_period_cells.specs.Room.{IsRoomy, Raises, added_sum};
 
 use super::{Row, placed_cell};
-use crate::cell::{Cell, is_added};
-use crate::raising::{MOST_TOTAL, raised};
-use crate::samples::pair_sample;
+use crate::cell::{Cell, is_added, sample_of};
+use crate::raising::{MOST_TOTAL, new_cells, raised};
 use kt_stream::Pair;
 
 /// Whether the total of each place is at most this one.
@@ -24,16 +23,6 @@ fn are_at_most(places: &[Cell], most: u64) -> bool
         }
     }
     !is_above
-}
-
-/// How many cells are new where a sample has one: 1 where it had none before.
-fn new_cells(old: Option<Cell>) -> usize
-    ensures value { result + one_of old ≡ 1 }
-{
-    match old {
-        Some(_) => 0,
-        None => 1,
-    }
 }
 
 /// Adds a loss to the cell of a sample that has a place and room for it. Returns the cell before.
@@ -81,7 +70,7 @@ impl Row {
             if !is_added(pair) {
                 continue;
             }
-            opened += new_cells(raise(places, pair_sample(pair), pair.loss));
+            opened += new_cells(raise(places, sample_of(&pair.sidx), pair.loss));
         }
         self.most = self.most.min(MOST_TOTAL - sum) + sum;
         opened

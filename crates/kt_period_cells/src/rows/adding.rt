@@ -8,10 +8,9 @@ ghost use Rattle.kt_period_cells.specs.Rows.{entries_of, row_keys, row_of, place
 ghost use Rattle.kt_period_cells.specs.Journal.{Puts, Noted, Going, GoesOn, Returns};
 
 use super::{Rows, Spot};
-use crate::cell::{CellStop, Change, is_added};
-use crate::raising::{held_with, maximum_in, raised, refusal};
-use crate::row_key::row_of;
-use crate::samples::sample_of;
+use crate::cell::{CellStop, Change, is_added, sample_of};
+use crate::raising::{maximum_in, new_cells, raised, refusal};
+use crate::row_key::RowKey;
 use kt_rec::{CellKey, Perspective};
 use kt_stream::Pair;
 
@@ -48,7 +47,7 @@ impl Rows {
         ensures step { (losses : List KeyLoss) → Standing losses (entries_of self.old.rows) → Puts losses (record { key = key; loss = loss }) result (entries_of self.new.rows) }
         ensures noted { (losses : List KeyLoss) → Standing losses (entries_of self.old.rows) → Noted losses (record { key = key; loss = loss }) result journal.old.items journal.new.items }
     {
-        let sample = sample_of(&key);
+        let sample = sample_of(&key.sidx);
         let old = self.rows[row].cell(sample);
         match refusal(self.held, old, key, loss) {
             Some(stop) => return Err(stop),
@@ -66,7 +65,7 @@ impl Rows {
         }
         match self.rows[row].set(sample, raised(old, loss)) {
             Ok(()) => {
-                self.held = held_with(self.held, old);
+                self.held += new_cells(old);
                 return Ok(());
             }
             Err(_) => {}
@@ -81,8 +80,14 @@ impl Rows {
         ensures size { (self.new.periods ≡ self.old.periods) × (self.new.samples ≡ self.old.samples) }
         ensures taken { (losses : List KeyLoss) → change.greatest ≡ maximum losses change.key → 1 ≤ change.loss → Standing (losses ++ (record { key = change.key; loss = change.loss }) ∷ []) (entries_of self.old.rows) → Standing losses (entries_of self.new.rows) }
     {
-        if let Some(row) = self.find(row_of(change.key)) {
-            let sample = sample_of(&change.key);
+        let key = RowKey {
+            perspective: change.key.perspective,
+            set: change.key.set,
+            summary: change.key.summary,
+            period: change.key.period,
+        };
+        if let Some(row) = self.find(key) {
+            let sample = sample_of(&change.key.sidx);
             let gone = self.rows[row].lower(sample, change.loss, change.greatest);
             self.held -= gone;
         }

@@ -1,7 +1,6 @@
 //! The rows of a perspective and set.
 //! The rules: docs/CALCULATION.md, "Periods".
 ghost use Rattle.std.specs.Prelude.{◌≡◌, ◌++◌, ◌∷◌, [], IfOk, OnOk, if◌then◌else◌};
-ghost use Rattle.kt_period_cells.specs.Losses.{same_perspective};
 ghost use Rattle.kt_period_cells.specs.Rows.{entries_of};
 ghost use Rattle.kt_period_cells.specs.SummaryRows.{IsOwnSet, IsSetOf, places_from, is_listed, summary_row};
 
@@ -83,17 +82,5 @@ fn push_row(
 fn is_listed(row: &Row, perspective: Perspective, set: u32) -> bool
     ensures value { result ≡ is_listed perspective set row.now }
 {
-    is_perspective(row.key.perspective, perspective) && row.key.set == set && row.has_cells()
-}
-
-/// Whether two perspectives are the same.
-fn is_perspective(one: Perspective, other: Perspective) -> bool
-    ensures value { result ≡ same_perspective one other }
-{
-    matches!(
-        (one, other),
-        (Perspective::Gul, Perspective::Gul)
-            | (Perspective::Il, Perspective::Il)
-            | (Perspective::Ri, Perspective::Ri)
-    )
+    row.key.perspective == perspective && row.key.set == set && row.has_cells()
 }

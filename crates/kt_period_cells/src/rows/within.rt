@@ -52,19 +52,6 @@ fn small_sum(pairs: &[Pair]) -> Option<u64>
     if sum > MOST_TOTAL { None } else { Some(sum) }
 }
 
-/// So many times a sum, where that is at most the greatest total.
-fn times_sum(count: usize, sum: u64) -> Option<u64>
-    requires { sum ≤ most_total }
-    ensures { IfSome result (λ more. (more ≡ count * sum) × (more ≤ most_total)) }
-{
-    let more = count as u128 * u128::from(sum);
-    if more > u128::from(MOST_TOTAL) {
-        None
-    } else {
-        Some(more as u64)
-    }
-}
-
 impl Rows {
     /// Whether there is room for so many cells more in each of so many rows.
     fn has_cells_room(&self, count: usize, pairs: usize) -> bool
@@ -99,10 +86,8 @@ impl Rows {
         requires { sum ≤ most_total }
         ensures value { result ≡ true → AreRoomy (length spots.now * sum) spots.now self.now.rows }
     {
-        match times_sum(spots.len(), sum) {
-            Some(more) => self.have_room(spots, more),
-            None => false,
-        }
+        let more = spots.len() as u128 * u128::from(sum);
+        more <= u128::from(MOST_TOTAL) && self.have_room(spots, more as u64)
     }
 
     /// The sum of the losses of the pairs, where none of them can pass a limit in the rows at spots, and these have a place for each

@@ -66,13 +66,13 @@ loop-pair-preserved c =
     let low = All-get_or (λ (pair : Pair). pair.sidx ≤ℤ pos c.args.samples) pairs i none c.loop-pair-test.true c.requires.sidx in
     let place = added_place c.args.samples pair mid.places.items added low (now.len ∙ c.requires.places) in
     let room = room_left c.args.samples c.args.self.now mid pairs i c.loop-pair.opened none c.loop-pair-test.true added c.requires.room now in
-    let before : c.raise.result ≡ cell_in (cells_of mid) (sample_of pair.sidx) = rw c.pair_sample.ensures.value at (c.raise.ensures.before mid here) in
+    let before : c.raise.result ≡ cell_in (cells_of mid) (sample_of pair.sidx) = rw c.sample_of.ensures.value at (c.raise.ensures.before mid here) in
     let opened : c.loop-pair.opened + c.new_cells-opened.result + one_of (cell_in (cells_of mid) (sample_of pair.sidx)) ≡ c.loop-pair.opened + 1 = omega (arith, c.new_cells-opened.ensures.value, ap one_of before) in
     record {
       len = c.raise.ensures.len ∙ c.loop-pair.invariant.len;
       few = omega (arith, c.loop-pair.invariant.few, c.new_cells-opened.ensures.value);
       raised = λ row key places. rw (take_more pairs i none c.loop-pair-test.true)
-          (raises_more c.args.samples c.args.self.now mid row (take i pairs) pair c.loop-pair.opened (c.loop-pair.opened + c.new_cells-opened.result) added low now (rw c.pair_sample.ensures.value at (c.raise.ensures.value mid row here key places)) (ap length places ∙ c.raise.ensures.len ∙ sym (ap length here))
+          (raises_more c.args.samples c.args.self.now mid row (take i pairs) pair c.loop-pair.opened (c.loop-pair.opened + c.new_cells-opened.result) added low now (rw c.sample_of.ensures.value at (c.raise.ensures.value mid row here key places)) (ap length places ∙ c.raise.ensures.len ∙ sym (ap length here))
           (total_left mid (sample_of pair.sidx) pair.loss place room) (λ more fits. rw places (c.raise.ensures.room more (rw here at fits))) (λ most low. rw places (c.raise.ensures.totals most (rw here at low))) opened);
     }
 

@@ -80,7 +80,7 @@ invariant_of-self c =
     let cell = raised_fits _ c.sample_of-sample.result c.args.key.sidx c.cell-old.result c.args.loss sidx c.sample_of-sample.ensures.value c.requires.some c.in-None.ensures.room (rw was here.greatest) in
     let fits = fits_changed _ _ _ c.index_mut.result.now c.set.new.self (Some c.raised.result) here.fits changes (rw c.raised.ensures.value cell) in
     table_set _ _ _ _ _ c.self.inside.rows.items c.args.row c.index_mut.result.now c.set.new.self c.self.invariant here.within c.index_mut.ensures.value changes.key fits (fits_bound _ c.set.new.self fits.cells c.in-Ok-set.ensures.bound)
-    (held_put c.self.inside.held c.held_with-self-inside.result c.sample_of-sample.result c.index_mut.result.now c.set.new.self c.raised.result c.cell-old.result changes was c.held_with-self-inside.ensures.value)
+    (held_put c.self.inside.held (c.self.inside.held + c.new_cells.result) c.sample_of-sample.result c.index_mut.result.now c.set.new.self c.raised.result c.cell-old.result changes was (omega (arith, c.new_cells.ensures.value)))
 
 pub returns-in-Ok-set-clause-rows : goal.returns-in-Ok-set-clause-rows
 returns-in-Ok-set-clause-rows c =
