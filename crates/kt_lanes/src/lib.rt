@@ -23,4 +23,4 @@ pub use climbing::{Climbed, are_in_turn, climb};
 pub use down::{LevelRoom, level_room_of};
 pub use lanes::Lanes;
 pub use plain::{has_plain_units, layer_looks_back};
-pub use policy::{allocate_lanes, policy_lane};
+pub use policy::{TopSums, allocate_lanes, no_sums, policy_lane};

@@ -91,7 +91,8 @@ fn push_two(
     Ok(())
 }
 
-/// Puts shares of totals behind others, as `share_lanes`, where there are three children or more.
+/// Puts shares of totals behind others, as `share_lanes`, where there are three children or more. The weights are what these have in
+/// all.
 fn push_shares(
     totals: &[u64],
     lanes: &Lanes,
@@ -107,7 +108,7 @@ fn push_shares(
     requires some { 2 < count }
     requires within { start + count ≤ length lanes.now }
     requires wide { AreWide (length totals.now) lanes.now }
-    requires weights_wide { length weights.old ≡ length totals.now }
+    requires weights { IsLane (length totals.now) (λ k. sum (column k (take count (drop start lanes.now)))) weights.old }
     requires ratios_wide { length ratios.old ≡ length totals.now }
     requires upto_wide { length upto.old ≡ length totals.now }
     requires paid_wide { length paid.old ≡ length totals.now }
@@ -117,7 +118,6 @@ fn push_shares(
     ensures value { OnOk result (AreBehind (length totals.now) count (λ k. share_out (slice_index totals.now k) (column k (take count (drop start lanes.now)))) out.old out.new) }
 {
     let _all = lanes.len();
-    sum_lanes(lanes, start, count, weights);
     let bits = find_ratios(totals, weights, ratios);
     clear(upto);
     clear(paid);
@@ -161,6 +161,44 @@ pub(crate) fn share_lanes(
     if count == 2 {
         return push_two(totals, lanes, start, &mut room.paid, &mut room.share, out);
     }
+    sum_lanes(lanes, start, count, &mut room.weights);
+    push_shares(
+        totals,
+        lanes,
+        start,
+        count,
+        &mut room.weights,
+        &mut room.ratios,
+        &mut room.upto,
+        &mut room.paid,
+        &mut room.share,
+        out,
+    )
+}
+
+/// Puts totals in cents, shared out over lanes side by side, behind others, as `share_lanes`, where there are three lanes or more and
+/// what they have in all is known, sidx by sidx. An error is want of memory.
+pub(crate) fn share_summed(
+    totals: &[u64],
+    lanes: &Lanes,
+    start: usize,
+    count: usize,
+    sums: &[u64],
+    room: &mut Room,
+    out: &mut Lanes,
+) -> Result<(), AllocError>
+    requires some { 2 < count }
+    requires within { start + count ≤ length lanes.now }
+    requires wide { AreWide (length totals.now) lanes.now }
+    requires sums { IsLane (length totals.now) (λ k. sum (column k (take count (drop start lanes.now)))) sums.now }
+    requires room { HasRoom (length totals.now) room.old }
+    requires out { AreWide (length totals.now) out.old }
+    requires few { (k : ℕ) → k < length totals.now → sum (column k (take count (drop start lanes.now))) ≤ 10 ^ 16 }
+    requires backed { (k : ℕ) → k < length totals.now → slice_index totals.now k ≤ sum (column k (take count (drop start lanes.now))) }
+    ensures room { HasRoom (length totals.now) room.new }
+    ensures value { OnOk result (AreBehind (length totals.now) count (λ k. share_out (slice_index totals.now k) (column k (take count (drop start lanes.now)))) out.old out.new) }
+{
+    room.weights.copy_from_slice(sums);
     push_shares(
         totals,
         lanes,

@@ -7,7 +7,7 @@ ghost use Rattle.kt_fmtree.specs.Carried.{loss_by};
 ghost use Rattle.kt_fmtree.specs.Parts.{IsProgramme};
 ghost use Rattle.kt_lanes.specs.Lanes.{AreWide, column};
 ghost use Rattle.kt_lanes.specs.Climbed.{IsClimbed};
-ghost use Rattle.kt_lanes.specs.Policies.{IsPolicy};
+ghost use Rattle.kt_lanes.specs.Policies.{HasSums, IsPolicy, IsTopBase};
 ghost use Rattle.kt_lanes.specs.Down.{HasLevelRoom};
 ghost use Rattle.kt_shares.specs.declared.layers.TopLayer.{TopLayer};
 ghost use Rattle.kt_shares.specs.Layers.{IsTopLayer};
@@ -18,7 +18,8 @@ use crate::layers::TopLayer;
 use kt_alloc::zeros;
 use kt_fmtree::Programme;
 use kt_lanes::{
-    Climbed, Lanes, LevelRoom, allocate_lanes, layer_looks_back, level_room_of, policy_lane,
+    Climbed, Lanes, LevelRoom, TopSums, allocate_lanes, layer_looks_back, level_room_of, no_sums,
+    policy_lane,
 };
 use std::alloc::{AllocError, Global};
 
@@ -44,7 +45,8 @@ pub(crate) fn are_plain(programme: &Programme, layers: &[TopLayer]) -> bool
     true
 }
 
-/// Puts what the policy losses of a layer are shared out to behind other lanes: by rule 0 they stay whole. An error is want of memory.
+/// Puts what the policy losses of a layer are shared out to behind other lanes: by rule 0 they stay whole. The sums
+/// are what comes to its top. An error is want of memory.
 fn push_shares(
     alloc: Global,
     programme: &Programme,
@@ -52,6 +54,7 @@ fn push_shares(
     climbed: &Climbed,
     rule: u32,
     one: TopLayer,
+    sums: &[u64],
     room: &mut LevelRoom,
     policies: &[u64],
     out: &mut Lanes,
@@ -60,6 +63,7 @@ fn push_shares(
     requires layer { IsTopLayer programme.now one }
     requires climbed { IsClimbed programme.now lanes.now climbed.now }
     requires policies { IsPolicy programme.now lanes.now climbed.now.width one.node one.layer policies.now }
+    requires sums { IsTopBase programme.now lanes.now climbed.now.width one.node sums.now }
     requires room { HasLevelRoom climbed.now.width room.old }
     requires out { AreWide climbed.now.width out.old }
     ensures room { OnOk result (HasLevelRoom climbed.now.width room.new) }
@@ -72,12 +76,13 @@ fn push_shares(
         return Ok(());
     }
     allocate_lanes(
-        alloc, programme, lanes, climbed, one.node, one.layer, rule, room, policies, out,
+        alloc, programme, lanes, climbed, one.node, one.layer, rule, sums, room, policies, out,
     )?;
     Ok(())
 }
 
-/// Puts what a layer has behind what others have. Its policy losses stand in the place of what a lane had. An error is want of memory.
+/// Puts what a layer has behind what others have. Its policy losses stand in the place of what a lane had, and what
+/// comes to its top in the place of other sums. An error is want of memory.
 fn push_layer(
     alloc: Global,
     programme: &Programme,
@@ -85,6 +90,7 @@ fn push_layer(
     climbed: &Climbed,
     rule: u32,
     one: TopLayer,
+    sums: &mut TopSums,
     room: &mut LevelRoom,
     policies: &mut [u64],
     made: &mut LayerLanes,
@@ -95,13 +101,17 @@ fn push_layer(
     requires climbed { IsClimbed programme.now lanes.now climbed.now }
     requires shares_wide { AreWide climbed.now.width made.old.shares }
     requires policies_wide { AreWide climbed.now.width made.old.policies }
+    requires sums { HasSums programme.now lanes.now climbed.now.width sums.old }
     requires room { HasLevelRoom climbed.now.width room.old }
     requires policies { length policies.old ≡ climbed.now.width }
+    ensures sums { OnOk result (HasSums programme.now lanes.now climbed.now.width sums.new) }
     ensures room { OnOk result (HasLevelRoom climbed.now.width room.new) }
     ensures policies { OnOk result (length policies.new ≡ climbed.now.width) }
     ensures value { OnOk result ((before : List TopLayer) → AreLayers programme.now lanes.now climbed.now.width rule before made.old → AreLayers programme.now lanes.now climbed.now.width rule (before ++ one ∷ []) made.new) }
 {
-    policy_lane(programme, lanes, climbed, one.node, one.layer, policies);
+    policy_lane(
+        programme, lanes, climbed, one.node, one.layer, sums, policies,
+    );
     push_shares(
         alloc,
         programme,
@@ -109,6 +119,7 @@ fn push_layer(
         climbed,
         rule,
         one,
+        sums.sums(),
         room,
         policies,
         &mut made.shares,
@@ -163,6 +174,7 @@ pub(crate) fn layer_lanes(
 {
     let count = share_count(programme, rule, layers);
     let mut made = no_layers(alloc, count, layers.len(), climbed.width)?;
+    let mut sums = no_sums(alloc, climbed.width)?;
     let mut room = level_room_of(alloc, climbed.width)?;
     let mut policies = zeros(alloc, climbed.width)?;
     for one in layers {
@@ -173,6 +185,7 @@ pub(crate) fn layer_lanes(
             climbed,
             rule,
             *one,
+            &mut sums,
             &mut room,
             &mut policies,
             &mut made,

@@ -8,11 +8,11 @@ use Rattle.kt_lanes.specs.Down.{ArePlaced, CanGive, placed_at}
 use Rattle.kt_lanes.specs.PoliciesLaws.{carried, given-shared, last-below, top-gives}
 use Rattle.kt_lanes.proofs.policy.shared_down.Goals as goal
 
-pub lanes_down-requires-clause-some : goal.lanes_down-requires-clause-some
-lanes_down-requires-clause-some c = omega (arith, c.depth.ensures.value, last-below c.args.programme.now c.is_of_a_tree.ensures.kept c.args.lanes.now c.args.climbed.now c.requires.climbed c.args.node c.requires.node)
+pub unit_down-requires-clause-some : goal.unit_down-requires-clause-some
+unit_down-requires-clause-some c = omega (arith, c.depth.ensures.value, last-below c.args.programme.now c.is_of_a_tree.ensures.kept c.args.lanes.now c.args.climbed.now c.requires.climbed c.args.node c.requires.node)
 
-pub lanes_down-requires-clause-gives : goal.lanes_down-requires-clause-gives
-lanes_down-requires-clause-gives c = record {
+pub unit_down-requires-clause-gives : goal.unit_down-requires-clause-gives
+unit_down-requires-clause-gives c = record {
   has_room = c.requires.room;
   placed = subst (λ n. ArePlaced n c.place_top.new.parts) c.requires.policy.wide c.in_ok-place_top.ensures.parts;
   can = λ k less.
@@ -28,9 +28,9 @@ ids_down-requires-clause-rising c =
 pub returns-clause-value : goal.returns-clause-value
 returns-clause-value c =
     given-shared c.args.programme.now c.is_of_a_tree.ensures.kept c.args.lanes.now c.args.climbed.now c.requires.climbed c.args.node c.requires.node c.args.layer c.args.policy.now c.requires.policy
-    (λ k. levels_down false c.args.programme.now.levels (carried_at c.args.programme.now c.args.lanes.now k).rows 1 (placed_at k c.lanes_down.new.room.parts))
+    (λ k. levels_down false c.args.programme.now.levels (carried_at c.args.programme.now c.args.lanes.now k).rows 1 (placed_at k c.unit_down.new.room.parts))
     (λ k less.
-    c.in_ok-lanes_down.ensures.value k less
+    c.in_ok-unit_down.ensures.value k less
     ∙ (ap (λ n. levels_down false c.args.programme.now.levels (carried_at c.args.programme.now c.args.lanes.now k).rows n (placed_at k c.place_top.new.parts)) c.depth.ensures.value
     ∙ ap (levels_down false c.args.programme.now.levels (carried_at c.args.programme.now c.args.lanes.now k).rows (length c.args.programme.now.levels)) (c.in_ok-place_top.ensures.value k)))
     c.beneath.result.now c.beneath.ensures.value c.args.out.now c.ids_down.new.out c.in_ok-ids_down.ensures.value

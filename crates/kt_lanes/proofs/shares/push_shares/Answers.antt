@@ -1,4 +1,4 @@
-use Rattle.std.proofs.Common.{◌≡◌, ◌<◌, ◌+◌, ◌∙◌, ap, drop, length, replicate, slice_index_or, take, sym, subst, arith}
+use Rattle.std.proofs.Common.{◌≡◌, ◌<◌, ◌+◌, ◌∙◌, ap, drop, length, replicate, slice_index_or, take, sym, arith}
 use Rattle.std.specs.List.{sum}
 use Rattle.kt_lanes.specs.Lanes.{column, IsLane}
 use Rattle.kt_lanes.specs.LaneLaws.{part-at, part-count}
@@ -13,7 +13,7 @@ weights-are c =
     let weights = c.find_ratios-bits.ensures.weights in
     record {
       wide = weights.wide;
-      each = λ k below. weights.each k below ∙ ap weight_or_one (c.sum_lanes.ensures.value.each k (subst (λ n. k < n) (sym c.requires.weights_wide) below));
+      each = λ k below. weights.each k below ∙ ap weight_or_one (c.requires.weights.each k below);
     }
 
 -- the next child is one of them

@@ -9,6 +9,7 @@ use Rattle.kt_shares.proofs.by_lanes.layer_lanes.Goals as goal
 
 pub loop-one-init : goal.loop-one-init
 loop-one-init c = record {
+  sums = c.in_ok-sums.ensures.sums c.args.programme.now c.args.lanes.now;
   room = c.in_ok-room.ensures.room;
   policies = ap length c.in_ok-policies.ensures.value ∙ length-replicate c.args.climbed.now.width 0;
   layers = layers-start c.args.programme.now c.args.lanes.now c.args.climbed.now.width c.args.rule _ c.in_ok-made.ensures.shares c.in_ok-made.ensures.policies;
@@ -33,6 +34,7 @@ loop-one-preserved c =
     let all : vec_len kept ≡ length kept.items = search rules in
     let long : length lane ≡ c.args.climbed.now.width = c.in_ok-push_layer.ensures.policies in
     record {
+      sums = c.in_ok-push_layer.ensures.sums;
       room = c.in_ok-push_layer.ensures.room;
       policies = ap length (with_items_is kept lane (long ∙ (sym c.loop-one.invariant.policies ∙ sym all))) ∙ long;
       layers =
