@@ -212,7 +212,7 @@ fn level_down(
 
 /// Puts what the amounts of one unit, in a place of its level, give to its children behind other lanes, as `push_given`, where these are
 /// three or more and what they have in all is known. An error is want of memory.
-fn push_given_of(
+pub(crate) fn push_given_of(
     nodes: &[Node],
     width: usize,
     below: &Lanes,

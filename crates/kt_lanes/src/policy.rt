@@ -13,7 +13,7 @@ ghost use Rattle.kt_lanes.specs.Down.{ArePlaced, HasLevelRoom, placed_at};
 ghost use Rattle.kt_lanes.specs.Policies.{HasSums, IsPolicy, IsTopBase};
 ghost use Rattle.kt_lanes.specs.SideBySide.{AreBehind};
 
-use crate::by_id::ids_down;
+use crate::by_id::{ids_down, ids_of_one};
 use crate::climbing::{Climbed, add_children, lanes_at, lanes_in};
 use crate::down::{LevelRoom, PlacedLanes, unit_down};
 use crate::lane::apply_lane;
@@ -184,15 +184,15 @@ fn shared_down(
     programme.is_of_a_tree();
     let place = node as usize;
     place_top(place, policy, &mut room.parts)?;
-    unit_down(
-        programme,
-        lanes,
-        climbed,
-        programme.depth(),
-        place,
-        sums,
-        room,
-    )?;
+    let depth = programme.depth();
+    if depth == 1 {
+        let ids = programme.beneath(node);
+        ids_of_one(
+            alloc, programme, lanes, climbed, ids, place, sums, room, out,
+        )?;
+        return Ok(());
+    }
+    unit_down(programme, lanes, climbed, depth, place, sums, room)?;
     ids_down(
         alloc,
         programme,
