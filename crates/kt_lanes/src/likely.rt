@@ -1,4 +1,4 @@
-//! What the parts of totals that fall to the first of weights are likely to be, four sidx at once. Of weights above 32 bits nothing is
+//! What the parts of totals that fall to the first of weights are likely to be, four sidx at once. Of parts above 32 bits nothing is
 //! said.
 //! The rule: docs/CALCULATION.md, "Share-out".
 ghost use Rattle.std.specs.Prelude.{◌≡◌, ◌≤◌, ◌<◌, ◌+◌, length};
@@ -13,8 +13,11 @@ pub(crate) const AT_ONCE: usize = 4;
 /// How many numbers of 32 bits there are.
 pub(crate) const NARROW: u64 = 4_294_967_296;
 
-/// The bits of 2^52 as a float. A number of 32 bits in the lowest of them is added to it.
+/// The bits of 2^52 as a float. A number of 52 bits in the lowest of them is added to it.
 const LIFT_BITS: u64 = 0x4330_0000_0000_0000;
+
+/// How many numbers of 52 bits there are.
+const LIFTED: u64 = 4_503_599_627_370_496;
 
 /// 2^33. Where it is added to a number of 32 bits and a fraction, that number stands in the bits of the sum above its fraction.
 const RAISE: f64 = 8_589_934_592.0;
@@ -22,15 +25,15 @@ const RAISE: f64 = 8_589_934_592.0;
 /// How many bits the fraction of such a sum has.
 const FRACTION_BITS: u64 = 19;
 
-/// The bits of the float that is 2^52 and a number of 32 bits; of any other, of some such float.
+/// The bits of the float that is 2^52 and a number of 52 bits; of any other, of some such float.
 #[inline]
 fn lifted_bits(n: u64) -> u64
-    ensures number { result < 4841369603718250496 }
+    ensures number { result < 4845873199050653696 }
 {
-    n % NARROW + LIFT_BITS
+    n % LIFTED + LIFT_BITS
 }
 
-/// Four amounts of a lane, from a place on, as floats; for any of more than 32 bits, some number.
+/// Four amounts of a lane, from a place on, as floats; for any of more than 52 bits, some number.
 #[inline]
 fn floats_of(lane: &[u64], at: usize) -> f64x4
     requires { at + 4 ≤ length lane.now }
@@ -44,7 +47,7 @@ fn floats_of(lane: &[u64], at: usize) -> f64x4
     f64x4::from_bits(bits) - f64x4::splat(LIFT)
 }
 
-/// The sums of four amounts of two lanes, from a place on, as floats; for any of more than 32 bits, some number.
+/// The sums of four amounts of two lanes, from a place on, as floats; for any of more than 52 bits, some number.
 #[inline]
 fn floats_of_sums(first: &[u64], second: &[u64], at: usize) -> f64x4
     requires first { at + 4 ≤ length first.now }
@@ -67,6 +70,15 @@ fn rounded_down(x: f64x4) -> u64x4 {
     let raised = x + raise;
     let bits = raised.simd_ge(raise).select(raised, raise).to_bits();
     (bits >> u64x4::splat(FRACTION_BITS)) & u64x4::splat(NARROW - 1)
+}
+
+/// The quotients of four totals and of their weights, from a place on.
+#[inline]
+pub(crate) fn likely_ratios(totals: &[u64], weights: &[u64], at: usize) -> f64x4
+    requires weights_wide { length weights.now ≡ length totals.now }
+    requires within { at + 4 ≤ length totals.now }
+{
+    floats_of(totals, at) / floats_of(weights, at)
 }
 
 /// Four quotients of totals and weights, from a place on.

@@ -6,27 +6,41 @@ ghost use Rattle.kt_lanes.specs.Lanes.{IsLane};
 ghost use Rattle.kt_lanes.specs.Shares.{weight_or_one, less_wrapped, ArePaid, CanPart, CanPay};
 
 use crate::lane::add_to;
-use crate::likely::{AT_ONCE, NARROW, likely_parts};
-use crate::quotient::{part_by, ratio_of};
+use crate::likely::{AT_ONCE, NARROW, likely_parts, likely_ratios};
+use crate::quotient::part_by;
 use crate::tested::{at_least_one, wrong_by};
 
-/// Puts the quotients of totals in cents and of their weights in the place of what a lane has, and 1 in the place of no weights. Below
-/// 2^32 only where all weights then have 32 bits at most.
-pub(crate) fn find_ratios(totals: &[u64], weights: &mut [u64], ratios: &mut [f64]) -> u64
-    requires weights_wide { length weights.old ≡ length totals.now }
-    requires ratios_wide { length ratios.old ≡ length totals.now }
-    ensures ratios_wide { length ratios.new ≡ length ratios.old }
-    ensures weights { IsLane (length totals.now) (λ k. weight_or_one (slice_index weights.old k)) weights.new }
-    ensures narrow { result < 2 ^ 32 → (k : ℕ) → k < length totals.now → weight_or_one (slice_index weights.old k) < 2 ^ 32 }
+/// Puts 1 in the place of each of weights that is 0. Below 2^32 only where all of them have 32 bits at most.
+pub(crate) fn fill_weights(weights: &mut [u64]) -> u64
+    ensures weights { IsLane (length weights.old) (λ k. weight_or_one (slice_index weights.old k)) weights.new }
+    ensures narrow { result < 2 ^ 32 → (k : ℕ) → k < length weights.old → weight_or_one (slice_index weights.old k) < 2 ^ 32 }
 {
     let mut bits = 0;
-    for k in 0..totals.len() {
+    for k in 0..weights.len() {
         let weight = at_least_one(weights[k]);
         weights[k] = weight;
-        ratios[k] = ratio_of(totals[k], weight);
         bits |= weight;
     }
     bits
+}
+
+/// Puts the quotients of totals in cents and of their weights in the place of what a lane has, four at once: the last four last, some of
+/// them again. Where there are fewer, none is put.
+pub(crate) fn find_ratios(totals: &[u64], weights: &[u64], ratios: &mut [f64])
+    requires weights_wide { length weights.now ≡ length totals.now }
+    requires ratios_wide { length ratios.old ≡ length totals.now }
+    ensures ratios_wide { length ratios.new ≡ length ratios.old }
+{
+    if totals.len() < AT_ONCE {
+        return;
+    }
+    let last = totals.len() - AT_ONCE;
+    let mut at = 0;
+    while at < last {
+        likely_ratios(totals, weights, at).copy_to_slice(&mut ratios[at..]);
+        at += AT_ONCE;
+    }
+    likely_ratios(totals, weights, last).copy_to_slice(&mut ratios[last..]);
 }
 
 /// Puts what the parts that fall to the first children and one more are likely to be in the place of what a lane has, four at once: the

@@ -71,18 +71,6 @@ fn guess(total: u64, weights: u64, upto: u64) -> u64 {
     nearest_whole(product / float_of(weights) + 0.501).wrapping_sub(1)
 }
 
-/// What the part of a total is likely to be, as `guess`, from the quotient of the total and the weights.
-#[inline]
-fn guess_by(upto: u64, ratio: f64) -> u64 {
-    nearest_whole(float_of(upto) * ratio + 0.501).wrapping_sub(1)
-}
-
-/// The quotient of a total in cents and of weights, rounded.
-#[inline]
-pub(crate) fn ratio_of(total: u64, weights: u64) -> f64 {
-    float_of(total) / float_of(weights)
-}
-
 /// The part of a total in cents that falls to the first weights, rounded down, where it is told what it is likely to be. It is not above
 /// the weights in all.
 #[inline]
@@ -109,7 +97,7 @@ pub(crate) fn part_to(total: u64, weights: u64, upto: u64) -> u64
     part_near(total, weights, upto, guess(total, weights, upto))
 }
 
-/// The same, where the quotient of the total and the weights is given, nearly.
+/// The same, where the quotient of the total and the weights is given, nearly: where it is not, it takes longer.
 #[inline]
 pub(crate) fn part_by(total: u64, weights: u64, upto: u64, ratio: f64) -> u64
     requires most { total ≤ weights }
@@ -117,5 +105,6 @@ pub(crate) fn part_by(total: u64, weights: u64, upto: u64, ratio: f64) -> u64
     requires within { upto ≤ weights }
     ensures value { result ≡ share_to total weights upto }
 {
-    part_near(total, weights, upto, guess_by(upto, ratio))
+    let likely = nearest_whole(float_of(upto) * ratio + 0.501).wrapping_sub(1);
+    part_near(total, weights, upto, likely)
 }

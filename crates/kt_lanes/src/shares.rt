@@ -9,7 +9,7 @@ ghost use Rattle.kt_lanes.specs.SideBySide.{AreBehind};
 
 use crate::lane::{clear, sum_lanes};
 use crate::lanes::Lanes;
-use crate::parts::{find_ratios, pay_next};
+use crate::parts::{fill_weights, find_ratios, pay_next};
 use crate::split::split_totals;
 use kt_alloc::zeros;
 use std::alloc::{AllocError, Global};
@@ -118,7 +118,8 @@ fn push_shares(
     ensures value { OnOk result (AreBehind (length totals.now) count (λ k. share_out (slice_index totals.now k) (column k (take count (drop start lanes.now)))) out.old out.new) }
 {
     let _all = lanes.len();
-    let bits = find_ratios(totals, weights, ratios);
+    let bits = fill_weights(weights);
+    find_ratios(totals, weights, ratios);
     clear(upto);
     clear(paid);
     let last = count - 1;

@@ -1,12 +1,8 @@
--- Where no high bit is set so far, all weights so far have 32 bits.
-use Rattle.std.proofs.Common.{◌≡◌, ℕ, ◌<◌, ◌^◌, length, slice_index}
-use Rattle.kt_lanes.specs.LaneLaws.{IsWritten}
-use Rattle.kt_lanes.specs.Shares.{weight_or_one}
+use Rattle.std.proofs.Common.{◌≡◌, ◌≤◌, ◌-◌, length}
 use Rattle.kt_lanes.proofs.parts.find_ratios.Given as goal
 
-abbrev pub invariant-loop-k : goal.invariant-loop-k
-invariant-loop-k l = record {
-  ratios_wide : length l.ratios ≡ length l.totals;
-  weights : IsWritten (length l.totals) l.k (λ j. weight_or_one (slice_index l.fn.weights j)) (slice_index l.fn.weights) l.weights;
-  narrow : l.bits < 2 ^ 32 → (j : ℕ) → j < l.k → weight_or_one (slice_index l.fn.weights j) < 2 ^ 32;
-}
+abbrev pub invariant-loop-at : goal.invariant-loop-at
+invariant-loop-at l = record { wide : length l.ratios ≡ length l.totals; within : l.at ≤ length l.totals }
+
+abbrev pub decreases-loop-at : goal.decreases-loop-at
+decreases-loop-at l = length l.totals - l.at

@@ -5,15 +5,15 @@ use Rattle.kt_lanes.specs.LaneLaws.{part-at, part-count}
 use Rattle.kt_lanes.specs.Shares.{weight_or_one}
 use Rattle.kt_lanes.specs.SharesLaws.{behind-begins, behind-ends, behind-goes, can-pay, last-enough, next-upto, none-counted, sharing-goes, sharing-last}
 use Rattle.kt_lanes.proofs.shares.push_shares.Goals as goal
-use Rattle.kt_lanes.proofs.shares.push_shares.Goals.{After-find_ratios-bits, After-lane-lane}
+use Rattle.kt_lanes.proofs.shares.push_shares.Goals.{After-fill_weights-bits, After-lane-lane}
 
 -- what all children have
-weights-are : (c : After-find_ratios-bits) → IsLane (length c.args.totals.now) (λ k. weight_or_one (sum (column k (take c.args.count (drop c.args.start c.args.lanes.now))))) c.find_ratios-bits.new.weights
+weights-are : (c : After-fill_weights-bits) → IsLane (length c.args.totals.now) (λ k. weight_or_one (sum (column k (take c.args.count (drop c.args.start c.args.lanes.now))))) c.fill_weights-bits.new.weights
 weights-are c =
-    let weights = c.find_ratios-bits.ensures.weights in
+    let weights = c.fill_weights-bits.ensures.weights in
     record {
-      wide = weights.wide;
-      each = λ k below. weights.each k below ∙ ap weight_or_one (c.requires.weights.each k below);
+      wide = weights.wide ∙ c.requires.weights.wide;
+      each = λ k below. weights.each k (omega (arith, below, c.requires.weights.wide)) ∙ ap weight_or_one (c.requires.weights.each k below);
     }
 
 -- the next child is one of them
@@ -43,15 +43,15 @@ pub pay_next-requires-clause-can : goal.pay_next-requires-clause-can
 pay_next-requires-clause-can c =
     let at = goal.at.pay_next-requires-clause-can c in
     let so_far = c.loop-at.invariant.sharing in
-    can-pay c.args.totals.now (take c.args.count (drop c.args.start c.args.lanes.now)) c.requires.can c.find_ratios-bits.new.weights (weights-are at.After-find_ratios-bits) c.loop-at.at (inside-is at.After-lane-lane) c.lane-lane.result.now (lane-is at.After-lane-lane) c.loop-at.upto c.loop-at.invariant.upto c.loop-at.paid so_far.shares so_far.sharing
+    can-pay c.args.totals.now (take c.args.count (drop c.args.start c.args.lanes.now)) c.requires.can c.fill_weights-bits.new.weights (weights-are at.After-fill_weights-bits) c.loop-at.at (inside-is at.After-lane-lane) c.lane-lane.result.now (lane-is at.After-lane-lane) c.loop-at.upto c.loop-at.invariant.upto c.loop-at.paid so_far.shares so_far.sharing
 
 pub loop-at-preserved : goal.loop-at-preserved
 loop-at-preserved c =
     let at = goal.at.loop-at-preserved c in
     let totals = c.args.totals.now in
     let children = take c.args.count (drop c.args.start c.args.lanes.now) in
-    let weights = c.find_ratios-bits.new.weights in
-    let weights_are = weights-are at.After-find_ratios-bits in
+    let weights = c.fill_weights-bits.new.weights in
+    let weights_are = weights-are at.After-fill_weights-bits in
     let inside = inside-is at.After-lane-lane in
     let lane = c.lane-lane.result.now in
     let lane_is = lane-is at.After-lane-lane in
