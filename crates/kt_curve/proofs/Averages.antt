@@ -1,6 +1,5 @@
 -- The table of average annual losses, from the entries of its set.
-use Rattle.std.proofs.Common.{◌≡◌, ℕ, ◌*◌, ◌≤◌, List, [], ◌∷◌, ◌++◌, map, refl, ap, ◌∙◌, cond}
-use Rattle.std.specs.Prelude.{Bool, true, false, All}
+use Rattle.std.proofs.Common.{◌≡◌, ℕ, ◌*◌, ◌≤◌, List, [], ◌∷◌, ◌++◌, map, refl, ap, ◌∙◌, cond, Bool, true, false, All}
 use Rattle.std.specs.List.{flat_map}
 use Rattle.std.specs.Map.{keys_of}
 use Rattle.std.proofs.lemmas.List.Elements.{All-nil, All-cons, All-append}
@@ -45,8 +44,7 @@ losses_positive history =
 rows_same : (p : Perspective) (s n samples u : ℕ) (f g : CellKey → ℕ) → map f (keys_for p s u mean_sidx n) ≡ map g (keys_for p s u mean_sidx n) → map f (keys_for p s u (sample_sidx samples) n) ≡ map g (keys_for p s u (sample_sidx samples) n) →
     aal_rows p s n samples f u ≡ aal_rows p s n samples g u
 rows_same p s n samples u f g means others =
-    ap (λ amounts. aal_row u 1 (moments_of n amounts) ++ aal_row u 2 (moments_of (n * samples) (map f (keys_for p s u (sample_sidx samples) n)))) means
-    ∙ ap (λ amounts. aal_row u 1 (moments_of n (map g (keys_for p s u mean_sidx n))) ++ aal_row u 2 (moments_of (n * samples) amounts)) others
+    λ i. aal_row u 1 (moments_of n (means i)) ++ aal_row u 2 (moments_of (n * samples) (others i))
 
 -- the rows of the entries of a set are those of the losses for which they stand
 pub rows_of_standing : (p : Perspective) (s n samples : ℕ) (history : List Added) (es part : List (CellKey × Cell)) → Standing (all_losses history) es → HasSet p s part es →

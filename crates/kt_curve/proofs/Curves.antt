@@ -1,10 +1,8 @@
 -- The losses of a summary's entries have the ranks of those of all its keys.
-use Rattle.std.proofs.Common.{◌≡◌, ℕ, zero, suc, ◌+◌, ◌-◌, ◌≤◌, List, [], ◌∷◌, ◌++◌, map, arith, sym, ap, ◌∙◌, append_assoc, append-nil}
-use Rattle.std.specs.Prelude.{Bool, true, false, nat_le, All, ℤ, pos, Some, None}
+use Rattle.std.proofs.Common.{◌≡◌, ℕ, zero, suc, ◌+◌, ◌-◌, ◌≤◌, List, [], ◌∷◌, ◌++◌, map, arith, sym, ap, ◌∙◌, append_assoc, append-nil, Bool, true, false, nat_le, All, ℤ, pos, Some, None, int_eq}
 use Rattle.std.specs.List.{filter, flat_map, range_with_len}
 use Rattle.std.proofs.lemmas.Grind.{flat_map-append}
 use Rattle.std.proofs.lemmas.List.Concat.{flat_map-cons}
-use Rattle.std.specs.Ordering.{int_eq}
 use Rattle.std.proofs.lemmas.Bool.Decides.{nat_tests}
 use Rattle.std.proofs.lemmas.List.Elements.{All-map, All-filter, All-weaker}
 use Rattle.kt_rec.specs.declared.perspective.Perspective.{Perspective}
@@ -18,12 +16,11 @@ use Rattle.kt_period_cells.specs.Amounts.{amount_in, amounts_of, of_sample}
 use Rattle.kt_curve.specs.Exceedance.{curve_rows}
 use Rattle.kt_curve.specs.Ranks.{SameRanks, reaching}
 use Rattle.kt_curve.proofs.Grids.{group_sum_by, kind_times, single_times, times}
-use Rattle.kt_curve.proofs.Moments.{sum_by_map}
+use Rattle.kt_curve.proofs.Moments.{no_amount, sum_by_map}
 
 -- what is not there reaches no amount above 0
 none_reaches : (maxima : Bool) (least : ℕ) → 1 ≤ least → one_if (nat_le least (amount_in maxima None)) ≡ 0
-none_reaches true least some = let no : nat_le least 0 ≡ false = grind (arith, nat_tests) in ap one_if no
-none_reaches false least some = let no : nat_le least 0 ≡ false = grind (arith, nat_tests) in ap one_if no
+none_reaches maxima least some = let no : nat_le least 0 ≡ false = grind (arith, nat_tests) in ap (λ n. one_if (nat_le least n)) (no_amount maxima) ∙ ap one_if no
 
 -- the amounts of the entries of some sidx have the ranks of those of all their keys
 ranks_by : (p : Perspective) (s n samples u : ℕ) (group : List (CellKey × Cell)) (maxima : Bool) (sidxs : List ℤ) (test : CellKey × Cell → Bool) → IsGroup p s n samples u group →
@@ -68,14 +65,8 @@ two_texts new middle old first second a b = a ∙ ap (λ t. t ++ second) b ∙ a
 
 -- a range with one number more
 range_more : (a n : ℕ) → range_with_len a (suc n) ≡ range_with_len a n ++ (a + n) ∷ []
-range_more a zero = ap (λ m. m ∷ []) (plus a)
-  where
-    plus : (a : ℕ) → a ≡ a + 0
-    plus a = omega arith
-range_more a (suc n) = ap (λ ms. a ∷ ms) (range_more (a + 1) n ∙ ap (λ m. range_with_len (a + 1) n ++ m ∷ []) (plus a n))
-  where
-    plus : (a n : ℕ) → (a + 1) + n ≡ a + suc n
-    plus a n = omega arith
+range_more a zero = let same : a ≡ a + 0 = omega arith in ap (λ m. m ∷ []) same
+range_more a (suc n) = let same : (a + 1) + n ≡ a + suc n = omega arith in ap (λ ms. a ∷ ms) (range_more (a + 1) n ∙ ap (λ m. range_with_len (a + 1) n ++ m ∷ []) same)
 
 -- the text of one sample more
 pub samples_more : (f : ℕ → List ℕ) (sample : ℕ) (base out new : List ℕ) → 1 ≤ sample → out ≡ base ++ flat_map f (range_with_len 1 (sample - 1)) → new ≡ out ++ f sample →

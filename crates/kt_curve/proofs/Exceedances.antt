@@ -1,6 +1,5 @@
 -- The tables of exceedance curves, from the entries of a set.
-use Rattle.std.proofs.Common.{◌≡◌, ◌⊎◌, inl, inr, sym, ℕ, ◌*◌, List, [], ◌∷◌, ◌++◌, map, arith, refl, ap, ◌∙◌}
-use Rattle.std.specs.Prelude.{Bool, true, false, ℤ, pos, sum_by}
+use Rattle.std.proofs.Common.{◌≡◌, ℕ, ◌*◌, List, [], ◌∷◌, ◌++◌, map, arith, refl, ap, ◌∙◌, Bool, true, false, ℤ, pos, sum_by}
 use Rattle.std.specs.List.{flat_map, range_with_len}
 use Rattle.std.specs.Map.{keys_of}
 use Rattle.kt_money.specs.Rounding.{half_up}
@@ -10,7 +9,7 @@ use Rattle.kt_period_cells.specs.declared.cell.Cell.{Cell}
 use Rattle.kt_rec.specs.declared.curve.Curve.{Curve}
 use Rattle.kt_rec.specs.declared.curve.Curve.TheVariants.{FullAep, FullOep, SampleAep, SampleOep, WheatAep, WheatOep, WheatmeanAep, WheatmeanOep}
 use Rattle.kt_period_cells.specs.Losses.{KeyLoss, Added, all_losses, total, maximum, key_of}
-use Rattle.kt_curve.specs.Grid.{summary_ids, HasSet, keys_for, mean_sidx, sample_sidx, by_summary}
+use Rattle.kt_curve.specs.Grid.{summary_ids, HasSet, mean_sidx, sample_sidx, by_summary}
 use Rattle.kt_period_cells.specs.Sets.{summary_entries}
 use Rattle.kt_period_cells.specs.Standing.{Standing, cell_at, total_in, maximum_in}
 use Rattle.kt_period_cells.specs.Amounts.{amount_in}
@@ -23,7 +22,7 @@ use Rattle.kt_curve.proofs.Ids.{ids_of_standing, cell_in_summary, keys_for_same,
 -- lists of values that are the same for each
 map_each : (f g : ℕ → ℕ) → ((x : ℕ) → f x ≡ g x) → (xs : List ℕ) → map f xs ≡ map g xs
 map_each f g same [] = refl
-map_each f g same (x ∷ xs) = ap (λ y. y ∷ map f xs) (same x) ∙ ap (λ ys. g x ∷ ys) (map_each f g same xs)
+map_each f g same (x ∷ xs) = λ i. same x i ∷ map_each f g same xs i
 
 -- amounts that are the same at each key of a summary
 abbrev Agree : Perspective → ℕ → ℕ → (CellKey → ℕ) → (CellKey → ℕ) → Type 0
@@ -32,8 +31,7 @@ Agree p s u f g = (x : ℤ) (t : ℕ) → f (key_of p s u x t) ≡ g (key_of p s
 -- rows of the same amounts: of a full curve
 full_same : (p : Perspective) (s n samples u : ℕ) (returns : List ℕ) (f g : CellKey → ℕ) → Agree p s u f g → full_rows p s n samples f returns u ≡ full_rows p s n samples g returns u
 full_same p s n samples u returns f g same =
-    ap (λ values. curve_rows u 1 n values returns ++ curve_rows u 2 (n * samples) (map f (keys_for p s u (sample_sidx samples) n)) returns) (keys_for_same f g p s u n mean_sidx same)
-    ∙ ap (λ values. curve_rows u 1 n (map g (keys_for p s u mean_sidx n)) returns ++ curve_rows u 2 (n * samples) values returns) (keys_for_same f g p s u n (sample_sidx samples) same)
+    λ i. curve_rows u 1 n (keys_for_same f g p s u n mean_sidx same i) returns ++ curve_rows u 2 (n * samples) (keys_for_same f g p s u n (sample_sidx samples) same i) returns
 
 -- of a curve for each sample
 wheat_same : (p : Perspective) (s n samples u : ℕ) (returns : List ℕ) (f g : CellKey → ℕ) → Agree p s u f g → wheat_rows p s n samples f returns u ≡ wheat_rows p s n samples g returns u
@@ -81,25 +79,3 @@ curves_of_standing curve p s n samples returns history es part stands has_set =
     (λ summary. rows_same curve p s n samples summary returns _ (amount_of (takes_maxima curve) (all_losses history)) (amounts_of_standing (takes_maxima curve) p s summary (all_losses history) es part stands has_set))
     (summary_ids p s (keys_of part))
     ∙ ap (flat_map (lec_rows curve p s n samples (amount_of (takes_maxima curve) (all_losses history)) returns)) (ids_of_standing p s (all_losses history) es part stands has_set (losses_positive history))
-
--- ---- the rows of each kind
-
--- of a full kind
-pub rows_full : (curve : Curve) → (curve ≡ FullAep) ⊎ (curve ≡ FullOep) → (p : Perspective) (s n samples u : ℕ) (returns : List ℕ) (f : CellKey → ℕ) → full_rows p s n samples f returns u ≡ lec_rows curve p s n samples f returns u
-rows_full curve (inl is) p s n samples u returns f = ap (λ kind. lec_rows kind p s n samples f returns u) (sym is)
-rows_full curve (inr is) p s n samples u returns f = ap (λ kind. lec_rows kind p s n samples f returns u) (sym is)
-
--- of the means of the periods
-pub rows_sample : (curve : Curve) → (curve ≡ SampleAep) ⊎ (curve ≡ SampleOep) → (p : Perspective) (s n samples u : ℕ) (returns : List ℕ) (f : CellKey → ℕ) → curve_rows u 2 n (period_means p s n samples f u) returns ≡ lec_rows curve p s n samples f returns u
-rows_sample curve (inl is) p s n samples u returns f = ap (λ kind. lec_rows kind p s n samples f returns u) (sym is)
-rows_sample curve (inr is) p s n samples u returns f = ap (λ kind. lec_rows kind p s n samples f returns u) (sym is)
-
--- of a wheat kind
-pub rows_wheat : (curve : Curve) → (curve ≡ WheatAep) ⊎ (curve ≡ WheatOep) → (p : Perspective) (s n samples u : ℕ) (returns : List ℕ) (f : CellKey → ℕ) → wheat_rows p s n samples f returns u ≡ lec_rows curve p s n samples f returns u
-rows_wheat curve (inl is) p s n samples u returns f = ap (λ kind. lec_rows kind p s n samples f returns u) (sym is)
-rows_wheat curve (inr is) p s n samples u returns f = ap (λ kind. lec_rows kind p s n samples f returns u) (sym is)
-
--- of the means of the ranks
-pub rows_wheatmean : (curve : Curve) → (curve ≡ WheatmeanAep) ⊎ (curve ≡ WheatmeanOep) → (p : Perspective) (s n samples u : ℕ) (returns : List ℕ) (f : CellKey → ℕ) → curve_rows u 2 n (rank_means p s n samples f u) returns ≡ lec_rows curve p s n samples f returns u
-rows_wheatmean curve (inl is) p s n samples u returns f = ap (λ kind. lec_rows kind p s n samples f returns u) (sym is)
-rows_wheatmean curve (inr is) p s n samples u returns f = ap (λ kind. lec_rows kind p s n samples f returns u) (sym is)

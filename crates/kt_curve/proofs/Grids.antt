@@ -1,12 +1,10 @@
 -- Sums over all keys of a grid, zeros included, are sums over the entries alone.
-use Rattle.std.proofs.Common.{◌≡◌, ⊎_elim, ℕ, zero, suc, ◌+◌, ◌*◌, ◌<◌, ◌≤◌, List, [], ◌∷◌, length, map, add-mul, length-append, arith, refl, sym, ap, ◌∙◌, cond}
-use Rattle.std.specs.Prelude.{Bool, true, false, ◌&&◌, sum_by, nat_eq, All, ℤ, pos, negsuc, Option, Some, None}
+use Rattle.std.proofs.Common.{◌≡◌, ⊎_elim, ℕ, zero, suc, ◌+◌, ◌*◌, ◌<◌, ◌≤◌, List, [], ◌∷◌, length, map, get_or, add-mul, length-append, arith, refl, sym, ap, ◌∙◌, cond, Bool, true, false, ◌&&◌, sum_by, nat_eq, All, ℤ, pos, negsuc, Option, Some, None, int_eq}
 use Rattle.std.specs.List.{IsDistinct, AllByRecursion, filter, range_with_len}
 use Rattle.std.proofs.lemmas.List.Concat.{flat_map-cons}
 use Rattle.std.specs.Map.{keys_of}
-use Rattle.std.specs.Ordering.{int_eq}
 use Rattle.std.proofs.lemmas.List.Sums.{sum_by-cons, sum_by-append}
-use Rattle.std.proofs.lemmas.List.Elements.{All-head, All-tail, All-nil, All-cons}
+use Rattle.std.proofs.lemmas.List.Elements.{All-head, All-tail}
 use Rattle.std.proofs.lemmas.List.FromFn.{length-map-range_with_len}
 use Rattle.std.proofs.lemmas.Bool.{cases_lt}
 use Rattle.std.proofs.lemmas.Bool.Decides.{nat_tests, Decides-int_eq, Decides-eqb}
@@ -90,6 +88,11 @@ times_map test h [] = refl
 times_map test h (x ∷ xs) =
     sum_by-cons (λ key. one_if (test key)) (h x) (map h xs) ∙ ap (λ n. one_if (test (h x)) + n) (times_map test h xs) ∙ sym (sum_by-cons (λ key. one_if (test (h key))) x xs)
 
+-- a test that never holds
+pub never : {K : Type 0} (xs : List K) → times (λ (x : K). false) xs ≡ 0
+never [] = refl
+never {K = K} (x ∷ xs) = sum_by-cons (λ (x : K). 0) x xs ∙ omega (arith, never xs)
+
 -- a test that is answered alike
 pub times_same : {K : Type 0} (one other : K → Bool) → ((x : K) → one x ≡ other x) → (xs : List K) → times one xs ≡ times other xs
 times_same one other same xs = sum_by_same (λ k. one_if (one k)) (λ k. one_if (other k)) (λ k. ap one_if (same k)) xs
@@ -135,10 +138,6 @@ sidx_times p s u x y t n from upto =
     ∙ times_same (λ j. same_key (key_of p s u x j) (key_of p s u y t)) (λ j. int_eq x y && nat_eq j t) (λ j. same_by_parts p s u x y j t) (range_with_len 1 n)
     ∙ by_sidx (int_eq x y)
   where
-    never : (xs : List ℕ) → times (λ (j : ℕ). false) xs ≡ 0
-    never [] = refl
-    never (x ∷ xs) = sum_by-cons (λ (j : ℕ). 0) x xs ∙ omega (arith, never xs)
-
     by_sidx : (b : Bool) → times (λ j. b && nat_eq j t) (range_with_len 1 n) ≡ one_if b
     by_sidx true = range_once t 1 n from (omega arith)
     by_sidx false = never (range_with_len 1 n)
@@ -165,10 +164,6 @@ kind_times false samples (pos (suc k)) within =
     times_map (λ x. int_eq x (pos (suc k))) pos (range_with_len 1 samples)
     ∙ times_same (λ j. int_eq (pos j) (pos (suc k))) (λ j. nat_eq j (suc k)) (λ j. pos_same j (suc k)) (range_with_len 1 samples) ∙ range_once (suc k) 1 samples (omega arith) (omega arith)
 kind_times false samples (negsuc zero) within = times_map (λ x. int_eq x (negsuc zero)) pos (range_with_len 1 samples) ∙ never (range_with_len 1 samples)
-  where
-    never : (xs : List ℕ) → times (λ (j : ℕ). false) xs ≡ 0
-    never [] = refl
-    never (x ∷ xs) = sum_by-cons (λ (j : ℕ). 0) x xs ∙ omega (arith, never xs)
 kind_times false samples (negsuc (suc k)) within = cc
 
 -- ---- the entries of one summary
@@ -179,21 +174,14 @@ pub group_sum_by : (f : Option Cell → ℕ) → f None ≡ 0 → (p : Perspecti
     sum_by (λ key. f (cell_at group key)) (keys_for p s u sidxs n) ≡ sum_by (λ e. f (Some e.1)) (filter test group)
 group_sum_by f none p s n samples u group sidxs test is tested =
     grid_sum f none group is.distinct (keys_for p s u sidxs n)
-    ∙ sum_filter test (λ e. times (λ key. same_key key e.0) (keys_for p s u sidxs n)) (λ e. f (Some e.1)) group (all group is.fitting is.own)
+    ∙ sum_filter test (λ e. times (λ key. same_key key e.0) (keys_for p s u sidxs n)) (λ e. f (Some e.1)) group
+    (λ k d below. one (get_or group k d) (is.fitting k d below) (is.own k d below))
   where
     one : (e : CellKey × Cell) → FitsCells n samples e.0 e.1 → e.0 ≡ key_of p s u e.0.sidx e.0.period →
         times (λ key. same_key key e.0) (keys_for p s u sidxs n) ≡ one_if (test e)
     one e fits own =
         ap (λ k. times (λ key. same_key key k) (keys_for p s u sidxs n)) own
         ∙ keys_times p s u e.0.sidx e.0.period n sidxs fits.first fits.last ∙ tested e fits.sidx
-
-    all : (es : List (CellKey × Cell)) → All (λ e. FitsCells n samples e.0 e.1) es → All (λ e. e.0 ≡ key_of p s u e.0.sidx e.0.period) es →
-        All (λ e. times (λ key. same_key key e.0) (keys_for p s u sidxs n) ≡ one_if (test e)) es
-    all [] fits own = All-nil _
-    all (e ∷ es) fits own =
-        All-cons (λ (e : CellKey × Cell). times (λ key. same_key key e.0) (keys_for p s u sidxs n) ≡ one_if (test e)) e es
-        (one e (All-head (λ (e : CellKey × Cell). FitsCells n samples e.0 e.1) e es fits) (All-head (λ (e : CellKey × Cell). e.0 ≡ key_of p s u e.0.sidx e.0.period) e es own))
-        (all es (All-tail (λ (e : CellKey × Cell). FitsCells n samples e.0 e.1) e es fits) (All-tail (λ (e : CellKey × Cell). e.0 ≡ key_of p s u e.0.sidx e.0.period) e es own))
 
 -- the sum over all keys of a kind is the sum over the entries of that kind
 pub group_sum : (f : Option Cell → ℕ) → f None ≡ 0 → (p : Perspective) (s n samples u : ℕ) (group : List (CellKey × Cell)) (mean : Bool) → IsGroup p s n samples u group →

@@ -1,6 +1,5 @@
 -- The summary ids of entries are those of the losses for which they stand, and so are the amounts.
-use Rattle.std.proofs.Common.{◌≡◌, ◌≢◌, ℕ, ◌+◌, ◌≤◌, List, [], ◌∷◌, ◌++◌, map, arith, refl, sym, ap, ◌∙◌, cond}
-use Rattle.std.specs.Prelude.{Bool, true, false, ◌&&◌, ◌||◌, nat_eq, All, ℤ, Some, None}
+use Rattle.std.proofs.Common.{◌≡◌, ◌≢◌, ℕ, ◌+◌, ◌≤◌, List, [], ◌∷◌, ◌++◌, map, arith, refl, sym, ap, ◌∙◌, cond, Bool, true, false, ◌&&◌, ◌||◌, nat_eq, All, ℤ, Some, None}
 use Rattle.std.specs.List.{flat_map, list_any, range_with_len}
 use Rattle.std.specs.Map.{keys_of}
 use Rattle.std.proofs.lemmas.Bool.Decides.{Decides-eqb}
@@ -55,6 +54,11 @@ same_ids p s xs ys same =
 
 -- ---- the keys of a set, among entries and among losses
 
+-- what holds holds beside another
+always : (a : Bool) → a || true ≡ true
+always true = refl
+always false = refl
+
 -- a key that is found passes a test of all keys
 found_passes : (t : CellKey → Bool) (k : CellKey) (c : Cell) (es : List (CellKey × Cell)) → t k ≡ true → cell_at es k ≡ Some c → list_any t (keys_of es) ≡ true
 found_passes t k c [] passes found = cc
@@ -63,10 +67,6 @@ found_passes t k c (e ∷ es) passes found = by_key (same_key k e.0) refl found 
     by_key : (b : Bool) → same_key k e.0 ≡ b → cond b (Some e.1) (cell_at es k) ≡ Some c → (cell_at es k ≡ Some c → list_any t (keys_of es) ≡ true) → t e.0 || list_any t (keys_of es) ≡ true
     by_key true same is later = ap (λ b. b || list_any t (keys_of es)) (ap t (sym (same_exact k e.0 same)) ∙ passes)
     by_key false same is later = ap (λ b. t e.0 || b) (later is) ∙ always (t e.0)
-      where
-        always : (a : Bool) → a || true ≡ true
-        always true = refl
-        always false = refl
 
 -- a key of an entry that passes a test is found
 record Found (t : CellKey → Bool) (es : List (CellKey × Cell)) : Type 0 where
@@ -98,10 +98,6 @@ total_passes : (t : CellKey → Bool) (k : CellKey) (losses : List KeyLoss) → 
 total_passes t k [] passes some = absurd (some refl)
 total_passes t k (one ∷ rest) passes some = by_key (same_key one.key k) refl (λ none. total_passes t k rest passes none)
   where
-    always : (a : Bool) → a || true ≡ true
-    always true = refl
-    always false = refl
-
     by_key : (b : Bool) → same_key one.key k ≡ b → (total rest k ≢ 0 → list_any t (map (λ one. one.key) rest) ≡ true) → t one.key || list_any t (map (λ one. one.key) rest) ≡ true
     by_key true same later = ap (λ b. b || list_any t (map (λ one. one.key) rest)) (ap t (same_exact one.key k same) ∙ passes)
     by_key false other later =
@@ -170,12 +166,12 @@ pub keys_for_same : (f g : CellKey → ℕ) (p : Perspective) (s u n : ℕ) (sid
 keys_for_same f g p s u n [] same = refl
 keys_for_same f g p s u n (x ∷ sidxs) same =
     ap (map f) (flat_map-cons (λ sidx. map (key_of p s u sidx) (range_with_len 1 n)) x sidxs) ∙ map-append f (map (key_of p s u x) (range_with_len 1 n)) (keys_for p s u sidxs n)
-    ∙ ap (λ zs. zs ++ map f (keys_for p s u sidxs n)) (periods (range_with_len 1 n)) ∙ ap (λ zs. map g (map (key_of p s u x) (range_with_len 1 n)) ++ zs) (keys_for_same f g p s u n sidxs same)
+    ∙ (λ i. periods (range_with_len 1 n) i ++ keys_for_same f g p s u n sidxs same i)
     ∙ sym (map-append g (map (key_of p s u x) (range_with_len 1 n)) (keys_for p s u sidxs n)) ∙ sym (ap (map g) (flat_map-cons (λ sidx. map (key_of p s u sidx) (range_with_len 1 n)) x sidxs))
   where
     periods : (ts : List ℕ) → map f (map (key_of p s u x) ts) ≡ map g (map (key_of p s u x) ts)
     periods [] = refl
-    periods (t ∷ ts) = ap (λ y. y ∷ map f (map (key_of p s u x) ts)) (same x t) ∙ ap (λ ys. g (key_of p s u x t) ∷ ys) (periods ts)
+    periods (t ∷ ts) = λ i. same x t i ∷ periods ts i
 
 -- the totals of a summary's entries are those of the losses
 pub totals_of_standing : (p : Perspective) (s u n : ℕ) (losses : List KeyLoss) (es part : List (CellKey × Cell)) (sidxs : List ℤ) → Standing losses es → HasSet p s part es →
@@ -187,4 +183,4 @@ totals_of_standing p s u n losses es part sidxs stands has_set =
 -- texts that are the same for each
 pub flat_map_each : {X : Type 0} (f g : X → List ℕ) → ((x : X) → f x ≡ g x) → (xs : List X) → flat_map f xs ≡ flat_map g xs
 flat_map_each f g same [] = refl
-flat_map_each f g same (x ∷ xs) = flat_map-cons f x xs ∙ ap (λ t. t ++ flat_map f xs) (same x) ∙ ap (λ t. g x ++ t) (flat_map_each f g same xs) ∙ sym (flat_map-cons g x xs)
+flat_map_each f g same (x ∷ xs) = flat_map-cons f x xs ∙ (λ i. same x i ++ flat_map_each f g same xs i) ∙ sym (flat_map-cons g x xs)

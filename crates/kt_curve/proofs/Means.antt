@@ -1,9 +1,6 @@
 -- The samples' means in each period and at each rank, from sums by place.
-use Rattle.std.proofs.Common.{◌≡◌, ⊎_elim, ℕ, zero, suc, ◌+◌, ◌-◌, ◌*◌, ◌<◌, ◌≤◌, List, [], ◌∷◌, map, length, get_or, arith, refl, sym, ap, ◌∙◌, cond, add-mul}
-use Rattle.std.specs.Prelude.{Bool, true, false, All, ℤ, pos, Some, None, sum, sum_by}
+use Rattle.std.proofs.Common.{◌≡◌, ℕ, zero, suc, ◌+◌, ◌-◌, ◌*◌, ◌<◌, ◌≤◌, List, [], ◌∷◌, map, length, get_or, arith, refl, sym, ap, ◌∙◌, cond, add-mul, Bool, true, false, All, ℤ, pos, Some, sum, sum_by}
 use Rattle.std.specs.List.{filter, range_with_len}
-use Rattle.std.proofs.lemmas.Bool.{cases_lt}
-use Rattle.std.proofs.lemmas.List.{get_or_past}
 use Rattle.std.proofs.lemmas.List.Sums.{sum_by-le, sum-map}
 use Rattle.std.proofs.lemmas.List.FromFn.{length-map-range_with_len, sum_by-map-range_with_len_more}
 use Rattle.std.proofs.lemmas.List.Elements.{All-head, All-tail, All-from_get_or}
@@ -18,6 +15,7 @@ use Rattle.kt_period_cells.specs.Standing.{cell_at, most_total, FitsCells}
 use Rattle.kt_period_cells.specs.Amounts.{amount_in, amounts_of, of_period}
 use Rattle.kt_curve.specs.Exceedance.{period_means}
 use Rattle.kt_curve.proofs.Grids.{at_choice}
+use Rattle.kt_curve.proofs.Moments.{no_amount}
 use Rattle.kt_curve.proofs.Periods.{period_sum}
 
 -- ---- lists by place
@@ -31,7 +29,7 @@ by_places h f a (suc n) (x ∷ xs) len at =
     let here : x ≡ f a = at 0 (omega arith) ∙ ap f (let e : a + 0 ≡ a = omega arith in e) in
     let later : map h xs ≡ map (λ t. h (f t)) (range_with_len (a + 1) n) =
     by_places h f (a + 1) n xs (omega (arith, len)) (λ i inside. at (suc i) (omega (arith, inside)) ∙ ap f (let e : a + suc i ≡ (a + 1) + i = omega arith in e)) in
-    ap (λ y. h y ∷ map h xs) here ∙ ap (λ ys. h (f a) ∷ ys) later
+    λ i. h (here i) ∷ later i
 
 -- what holds at each place holds of all
 pub all_places : (m : ℕ) (xs : List ℕ) → ((i : ℕ) → i < length xs → get_or xs i 0 ≤ m) → All (λ x. x ≤ m) xs
@@ -54,11 +52,6 @@ cell_most maxima n samples (e ∷ es) key fits =
     by_test : (b : Bool) → amount_in maxima (Some e.1) ≤ most_total → amount_in maxima (cell_at es key) ≤ most_total → cond b (amount_in maxima (Some e.1)) (amount_in maxima (cell_at es key)) ≤ most_total
     by_test true here later = here
     by_test false here later = later
-
--- no key has an amount where there is no cell
-no_amount : (maxima : Bool) → amount_in maxima None ≡ 0
-no_amount true = refl
-no_amount false = refl
 
 -- the sum of a period, over its samples
 period_amounts : (p : Perspective) (s n samples u : ℕ) (group : List (CellKey × Cell)) (maxima : Bool) (t : ℕ) → IsGroup p s n samples u group →

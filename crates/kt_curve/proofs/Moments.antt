@@ -1,6 +1,5 @@
 -- The mean and the deviation over all periods, from the amounts that are there.
-use Rattle.std.proofs.Common.{◌≡◌, ℕ, suc, ◌+◌, ◌*◌, ◌≤◌, List, [], ◌∷◌, length, map, arith, refl, sym, ap, ◌∙◌, cond}
-use Rattle.std.specs.Prelude.{Bool, true, false, sum, sum_by, ℤ, pos, Option, Some, None, is_some}
+use Rattle.std.proofs.Common.{◌≡◌, ℕ, suc, ◌+◌, ◌*◌, ◌≤◌, List, [], ◌∷◌, length, map, arith, refl, sym, ap, ◌∙◌, cond, Bool, true, false, sum, sum_by, ℤ, pos, Option, Some, None, is_some, int_eq}
 use Rattle.std.specs.List.{filter}
 use Rattle.std.proofs.lemmas.List.Sums.{sum_by-cons, sum-map}
 use Rattle.std.proofs.lemmas.List.FromFn.{length-map-range_with_len}
@@ -13,7 +12,6 @@ use Rattle.kt_rec.specs.declared.perspective.CellKey.{CellKey}
 use Rattle.kt_period_cells.specs.declared.cell.Cell.{Cell}
 use Rattle.kt_curve.specs.Grid.{keys_for, sidx_of_kind, moments_of, sample_sidx, mean_sidx}
 use Rattle.kt_period_cells.specs.Sets.{of_kind, IsGroup}
-use Rattle.std.specs.Ordering.{int_eq}
 use Rattle.kt_period_cells.specs.Losses.{one_if}
 use Rattle.kt_period_cells.specs.Standing.{cell_at, sidx_in_range}
 use Rattle.kt_period_cells.specs.Amounts.{amount_in, amount_at, amounts_of}
@@ -72,31 +70,25 @@ spread count amounts few =
 abbrev moments : ℕ → ℕ → ℕ → MeanSd
 moments count total squares = record { mean = mean_of count total; sd = deviation_of count total squares }
 
+-- there is no amount where there is no cell
+pub no_amount : (maxima : Bool) → amount_in maxima None ≡ 0
+no_amount true = refl
+no_amount false = refl
+
 -- the mean and the deviation of all periods are those of the amounts that are there
 pub group_moments : (p : Perspective) (s n samples u : ℕ) (group : List (CellKey × Cell)) (maxima mean : Bool) (count : ℕ) → IsGroup p s n samples u group →
     moments_of count (map (amount_at maxima group) (keys_for p s u (sidx_of_kind mean samples) n)) ≡ moments_of count (amounts_of maxima (of_kind mean) group)
-group_moments p s n samples u group maxima mean count is = same_moments count _ _ _ _ sums squares
+group_moments p s n samples u group maxima mean count is = λ i. moments count (sums i) (squares i)
   where
-    same_moments : (n a b c d : ℕ) → a ≡ b → c ≡ d → moments n a c ≡ moments n b d
-    same_moments n a b c d e f = cc
-
-    nothing : (maxima : Bool) → amount_in maxima None * amount_in maxima None ≡ 0
-    nothing true = refl
-    nothing false = refl
-
-    none : (maxima : Bool) → amount_in maxima None ≡ 0
-    none true = refl
-    none false = refl
-
     sums : sum (map (amount_at maxima group) (keys_for p s u (sidx_of_kind mean samples) n)) ≡ sum (amounts_of maxima (of_kind mean) group)
     sums =
-        sum-map (amount_at maxima group) (keys_for p s u (sidx_of_kind mean samples) n) ∙ group_sum (amount_in maxima) (none maxima) p s n samples u group mean is
+        sum-map (amount_at maxima group) (keys_for p s u (sidx_of_kind mean samples) n) ∙ group_sum (amount_in maxima) (no_amount maxima) p s n samples u group mean is
         ∙ sym (sum-map (λ (entry : CellKey × Cell). amount_in maxima (Some entry.1)) (filter (of_kind mean) group))
 
     squares : sum_by (λ amount. amount * amount) (map (amount_at maxima group) (keys_for p s u (sidx_of_kind mean samples) n)) ≡ sum_by (λ amount. amount * amount) (amounts_of maxima (of_kind mean) group)
     squares =
         sum_by_map (λ amount. amount * amount) (amount_at maxima group) (keys_for p s u (sidx_of_kind mean samples) n)
-        ∙ group_sum (λ o. amount_in maxima o * amount_in maxima o) (nothing maxima) p s n samples u group mean is
+        ∙ group_sum (λ o. amount_in maxima o * amount_in maxima o) (ap (λ n. n * n) (no_amount maxima)) p s n samples u group mean is
         ∙ sym (sum_by_map (λ amount. amount * amount) (λ (entry : CellKey × Cell). amount_in maxima (Some entry.1)) (filter (of_kind mean) group))
 
 -- as many amounts as entries
@@ -104,15 +96,8 @@ pub length_amounts : (maxima : Bool) (es : List (CellKey × Cell)) → length (m
 length_amounts maxima [] = refl
 length_amounts maxima (e ∷ es) = ap suc (length_amounts maxima es)
 
--- a mean and a deviation
-abbrev pair : ℕ → ℕ → MeanSd
-pair m d = record { mean = m; sd = d }
-
 -- the mean and the deviation, part by part
 pub moments_parts : (result : MeanSd) (n : ℕ) (amounts : List ℕ) (count : ℕ) (others : List ℕ) → result.mean ≡ mean_of n (sum amounts) → result.sd ≡ deviation_of n (sum amounts) (sum_by (λ amount. amount * amount) amounts) →
     n ≡ count → amounts ≡ others → result ≡ moments_of count others
 moments_parts result n amounts count others mean sd count_is same =
-    parts result.mean (mean_of n (sum amounts)) result.sd (deviation_of n (sum amounts) (sum_by (λ amount. amount * amount) amounts)) mean sd ∙ ap (λ m. moments_of m amounts) count_is ∙ ap (moments_of count) same
-  where
-    parts : (a b c d : ℕ) → a ≡ b → c ≡ d → pair a c ≡ pair b d
-    parts a b c d e f = cc
+    (λ i. record { mean = mean i; sd = sd i }) ∙ (λ i. moments_of (count_is i) (same i))

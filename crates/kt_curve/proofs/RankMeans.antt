@@ -1,6 +1,5 @@
 -- The samples' means at each rank fall, so that the ranked ones are they themselves.
-use Rattle.std.proofs.Common.{◌≡◌, ⊎_elim, ℕ, zero, suc, ◌+◌, ◌-◌, ◌*◌, ◌/◌, ◌<◌, ◌≤◌, List, [], ◌∷◌, map, length, get_or, arith, refl, sym, ap, ◌∙◌}
-use Rattle.std.specs.Prelude.{All, ℤ, sum_by}
+use Rattle.std.proofs.Common.{◌≡◌, ⊎_elim, ℕ, zero, suc, ◌+◌, ◌-◌, ◌*◌, ◌/◌, ◌<◌, ◌≤◌, List, [], ◌∷◌, map, length, get_or, arith, refl, sym, ap, ◌∙◌, All, ℤ, sum_by}
 use Rattle.std.specs.List.{range_with_len}
 use Rattle.std.specs.List.Sorted.{IsPermutation}
 use Rattle.std.proofs.lemmas.Bool.{cases_lt}
@@ -81,11 +80,8 @@ module _ (p : Perspective) (s n samples u : ℕ) (amount : CellKey → ℕ) (som
   sum_falls : (rank : ℕ) → sum_of (rank + 1) ≤ sum_of rank
   sum_falls rank = sum_by-le-sum_by (λ sidx. ranked_loss (values_of sidx) (rank + 1)) (λ sidx. ranked_loss (values_of sidx) rank) (sample_sidx samples) one
     where
-      next : rank + 1 ≡ suc rank
-      next = omega arith
-
       one : (sidx : ℤ) → ranked_loss (values_of sidx) (rank + 1) ≤ ranked_loss (values_of sidx) rank
-      one sidx = rw next (falls_next (falling (values_of sidx)) rank (falls_falling (values_of sidx)))
+      one sidx = let next : rank + 1 ≡ suc rank = omega arith in rw next (falls_next (falling (values_of sidx)) rank (falls_falling (values_of sidx)))
 
   -- and is 0 behind the last period
   sum_past : (rank : ℕ) → n ≤ rank → sum_of rank ≡ 0
@@ -93,8 +89,7 @@ module _ (p : Perspective) (s n samples u : ℕ) (amount : CellKey → ℕ) (som
     where
       none : (sidx : ℤ) → ranked_loss (values_of sidx) rank ≡ 0
       none sidx =
-          let keys = keys_for p s u (sidx ∷ []) n in
-          let many : length (values_of sidx) ≡ n = length-map keys amount ∙ length_keys p s u n (sidx ∷ []) ∙ omega arith in
+          let many : length (values_of sidx) ≡ n = length-map (keys_for p s u (sidx ∷ []) n) amount ∙ length_keys p s u n (sidx ∷ []) ∙ omega arith in
           get_or_past (falling (values_of sidx)) rank 0 (omega (arith, past, many, length_falling (values_of sidx)))
 
   -- the loss of a rank among the means is the mean of the losses of that rank
@@ -111,8 +106,8 @@ module _ (p : Perspective) (s n samples u : ℕ) (amount : CellKey → ℕ) (som
   ranked_means (x ∷ sums) [] len at = absurd (omega (arith, len))
   ranked_means (x ∷ sums) (r ∷ ranks) len at =
       let here : half_up x samples ≡ ranked_loss (rank_means p s n samples amount u) r = ap (λ total. half_up total samples) (at 0 (omega arith)) ∙ sym (mean_ranked r) in
-      ap (λ y. y ∷ map (λ total. half_up total samples) sums) here
-      ∙ ap (λ ys. ranked_loss (rank_means p s n samples amount u) r ∷ ys) (ranked_means sums ranks (omega (arith, len)) (λ i inside. at (suc i) (omega (arith, inside))))
+      let later = ranked_means sums ranks (omega (arith, len)) (λ i inside. at (suc i) (omega (arith, inside))) in
+      λ i. here i ∷ later i
 
 -- ---- at their places
 

@@ -1,8 +1,6 @@
 -- The losses of ranks, from parts of the values.
-use Rattle.std.proofs.Common.{◌≡◌, ℕ, zero, suc, ◌+◌, ◌-◌, ◌/◌, ◌<◌, ◌≤◌, List, [], ◌∷◌, ◌++◌, map, length, get_or, arith, refl, sym, ap, ◌∙◌, cond, set, take, drop, append_assoc, below_more, Ordering, get_or-set_same, get_or-set_other}
-use Rattle.std.specs.Prelude.{Bool, true, false, nat_le, All}
+use Rattle.std.proofs.Common.{◌≡◌, ℕ, zero, suc, ◌+◌, ◌-◌, ◌/◌, ◌<◌, ◌≤◌, List, [], ◌∷◌, ◌++◌, map, length, get_or, arith, refl, sym, ap, ◌∙◌, cond, set, take, drop, append_assoc, below_more, Ordering, get_or-set_same, get_or-set_other, Bool, true, false, nat_le, All, is_lt, nat_cmp}
 use Rattle.std.specs.List.Sorted.{IsPermutation, IsSplitAroundBy}
-use Rattle.std.specs.Ordering.{is_lt, nat_cmp}
 use Rattle.std.specs.Cmp.{IsStrictWeakOrder}
 use Rattle.std.specs.Fn.{Mut, Called, ComparesAs}
 use Rattle.std.specs.Borrow.{Bor}
@@ -59,8 +57,7 @@ losses_from_front values front loss behind rank [] inside same all = refl
 losses_from_front values front loss behind rank (k ∷ later) inside same all =
     let low : k ≤ rank = All-head (λ k. k ≤ rank) k later all in
     let here : get_or (falling front) k loss ≡ get_or (falling values) k behind = same k low ∙ get_or_default (falling values) k 0 behind (omega (arith, low, inside, length_falling values)) in
-    ap (λ y. y ∷ map (λ k. get_or (falling front) k loss) later) here
-    ∙ ap (λ ys. get_or (falling values) k behind ∷ ys) (losses_from_front values front loss behind rank later inside same (All-tail (λ k. k ≤ rank) k later all))
+    λ i. here i ∷ losses_from_front values front loss behind rank later inside same (All-tail (λ k. k ≤ rank) k later all) i
 
 -- values split by a closure that compares them the other way round
 pub split_by_falling : {F : Type 0} {g : Mut F (Bor ℕ × (Bor ℕ × Unit {0})) Ordering} {f : F} (front : List ℕ) (x : ℕ) (back : List ℕ) →
@@ -130,8 +127,7 @@ pub rows_more : (summary column count : ℕ) (whole returns : List ℕ) (i loss 
     out ≡ base ++ curve_rows summary column count whole (take i returns) → new ≡ out ++ lec_row summary column (get_or returns i 0) loss → new ≡ base ++ curve_rows summary column count whole (take (i + 1) returns)
 rows_more summary column count whole returns i loss base out new inside low is there more =
     let yes : nat_le (get_or returns i 0) count ≡ true = grind (arith, nat_tests) in
-    more ∙ ap (λ text. text ++ lec_row summary column (get_or returns i 0) loss) there
-    ∙ ap (λ loss. (base ++ curve_rows summary column count whole (take i returns)) ++ lec_row summary column (get_or returns i 0) loss) is
+    more ∙ (λ j. there j ++ lec_row summary column (get_or returns i 0) (is j))
     ∙ ap (λ (b : Bool). (base ++ curve_rows summary column count whole (take i returns)) ++ cond b (lec_row summary column (get_or returns i 0) (exceedance_loss count whole (get_or returns i 0))) []) (sym yes)
     ∙ flat_map_more (λ return. cond (nat_le return count) (lec_row summary column return (exceedance_loss count whole return)) []) base (take i returns) (get_or returns i 0)
     ∙ ap (λ rs. base ++ curve_rows summary column count whole rs) (sym (take_more returns i 0 inside))

@@ -1,6 +1,5 @@
 -- The tables of a set, from the texts of its summaries.
-use Rattle.std.proofs.Common.{◌≡◌, ℕ, List, sym, ap, ◌∙◌}
-use Rattle.std.specs.Prelude.{false, true, nat_eq}
+use Rattle.std.proofs.Common.{◌≡◌, ℕ, List, sym, ap, ◌∙◌, false, true, nat_eq}
 use Rattle.std.specs.List.{flat_map, list_any}
 use Rattle.std.specs.Map.{keys_of}
 use Rattle.std.proofs.lemmas.Map.Entries.{lookup-filter-keys}
@@ -9,8 +8,7 @@ use Rattle.kt_rec.specs.declared.perspective.Perspective.{Perspective}
 use Rattle.kt_rec.specs.declared.perspective.CellKey.{CellKey}
 use Rattle.kt_rec.specs.declared.curve.Curve.{Curve}
 use Rattle.kt_period_cells.specs.declared.cell.Cell.{Cell}
-use Rattle.kt_period_cells.specs.Losses.{Added, all_losses}
-use Rattle.kt_period_cells.specs.Losses.{same_key}
+use Rattle.kt_period_cells.specs.Losses.{Added, all_losses, same_key}
 use Rattle.kt_period_cells.specs.Standing.{KeptCells, Standing}
 use Rattle.kt_curve.specs.Grid.{summary_ids, by_summary, HasSet}
 use Rattle.kt_curve.proofs.Ids.{rising_ids, has_ids, flat_map_each}

@@ -1,6 +1,5 @@
 -- The sums of the first amounts.
-use Rattle.std.proofs.Common.{◌≡◌, ◌*◌, ◌^◌, ◌≤◌, take}
-use Rattle.std.specs.Prelude.{sum, sum_by}
+use Rattle.std.proofs.Common.{◌≡◌, ◌*◌, ◌^◌, ◌≤◌, take, sum, sum_by}
 use Rattle.kt_curve.proofs.average.moments.Given as goal
 
 abbrev pub invariant-loop-amount : goal.invariant-loop-amount

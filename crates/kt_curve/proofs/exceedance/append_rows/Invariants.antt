@@ -1,6 +1,5 @@
 -- The rows of the first return periods are there.
-use Rattle.std.proofs.Common.{◌≡◌, ◌≤◌, ℕ, List, ◌++◌, take}
-use Rattle.std.specs.Prelude.{All}
+use Rattle.std.proofs.Common.{◌≡◌, ◌≤◌, ℕ, List, ◌++◌, take, All}
 use Rattle.kt_curve.specs.Ranks.{HasLosses}
 use Rattle.kt_curve.specs.Exceedance.{curve_rows}
 use Rattle.kt_curve.proofs.exceedance.append_rows.Given as goal

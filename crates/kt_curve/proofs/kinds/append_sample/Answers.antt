@@ -1,9 +1,7 @@
 -- The rows of one sample's curve.
-use Rattle.std.proofs.Common.{[], ◌∷◌, ℕ, List, map, ◌∙◌}
+use Rattle.std.proofs.Common.{[], ◌∷◌, ℕ, List, map, ◌∙◌, pos}
 use Rattle.kt_period_cells.specs.SummaryRows.{group_entries}
-use Rattle.kt_period_cells.specs.Amounts.{of_sample}
-use Rattle.std.specs.Prelude.{pos}
-use Rattle.kt_period_cells.specs.Amounts.{amount_at, amounts_of}
+use Rattle.kt_period_cells.specs.Amounts.{of_sample, amount_at, amounts_of}
 use Rattle.kt_curve.specs.Grid.{keys_for}
 use Rattle.kt_period_cells.specs.Outcomes.{on_more}
 use Rattle.kt_curve.proofs.Curves.{ranks_of_sample, amounts_most, ranks_of_equal, rows_of_count}

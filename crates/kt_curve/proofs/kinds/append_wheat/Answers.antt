@@ -1,6 +1,5 @@
 -- The rows of one sample more.
-use Rattle.std.proofs.Common.{ℕ, ◌∙◌, arith}
-use Rattle.std.specs.Prelude.{pos}
+use Rattle.std.proofs.Common.{ℕ, ◌∙◌, arith, pos}
 use Rattle.kt_period_cells.specs.SummaryRows.{group_entries}
 use Rattle.kt_period_cells.specs.Amounts.{amount_at}
 use Rattle.kt_curve.specs.Exceedance.{curve_rows, sidx_values}

@@ -1,6 +1,5 @@
 -- The rows of the first samples are there.
-use Rattle.std.proofs.Common.{◌≡◌, ◌-◌, ◌++◌}
-use Rattle.std.specs.Prelude.{pos}
+use Rattle.std.proofs.Common.{◌≡◌, ◌-◌, ◌++◌, pos}
 use Rattle.std.specs.List.{flat_map, range_with_len}
 use Rattle.kt_period_cells.specs.SummaryRows.{group_entries}
 use Rattle.kt_period_cells.specs.Amounts.{amount_at}

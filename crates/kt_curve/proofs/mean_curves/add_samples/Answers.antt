@@ -1,6 +1,5 @@
 -- The sums of one sample more.
-use Rattle.std.proofs.Common.{◌≡◌, ◌-◌, ℕ, List, map, slice_index, ap, sym, subst, ◌∙◌, arith}
-use Rattle.std.specs.Prelude.{ℤ, pos, sum_by}
+use Rattle.std.proofs.Common.{◌≡◌, ◌-◌, ℕ, List, map, slice_index, ap, sym, subst, ◌∙◌, arith, ℤ, pos, sum_by}
 use Rattle.std.specs.List.{range_with_len}
 use Rattle.kt_period_cells.specs.SummaryRows.{group_entries, IsSummary}
 use Rattle.kt_period_cells.specs.Standing.{most_total}

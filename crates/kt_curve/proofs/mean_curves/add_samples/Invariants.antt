@@ -1,6 +1,5 @@
 -- The sums of the first samples.
-use Rattle.std.proofs.Common.{◌≡◌, ◌-◌, ◌*◌, ◌≤◌, ◌<◌, ℕ, length, map, slice_index}
-use Rattle.std.specs.Prelude.{pos, sum_by}
+use Rattle.std.proofs.Common.{◌≡◌, ◌-◌, ◌*◌, ◌≤◌, ◌<◌, ℕ, length, map, slice_index, pos, sum_by}
 use Rattle.std.specs.List.{range_with_len}
 use Rattle.kt_period_cells.specs.SummaryRows.{group_entries}
 use Rattle.kt_period_cells.specs.Standing.{most_total}

@@ -1,6 +1,5 @@
 -- The means stand at the places of the ranks that are asked for.
-use Rattle.std.proofs.Common.{◌≡◌, List, ℕ, map, length, sym, ◌∙◌}
-use Rattle.std.specs.Prelude.{sum_by}
+use Rattle.std.proofs.Common.{◌≡◌, List, ℕ, map, length, sym, ◌∙◌, sum_by}
 use Rattle.std.proofs.lemmas.List.FromFn.{length-map-range_with_len}
 use Rattle.kt_money.specs.Rounding.{half_up}
 use Rattle.kt_period_cells.specs.declared.group.SummaryCells.{SummaryCells}

@@ -1,6 +1,5 @@
 -- The means of the first sums.
-use Rattle.std.proofs.Common.{◌≡◌, ◌≤◌, map, take}
-use Rattle.std.specs.Prelude.{All}
+use Rattle.std.proofs.Common.{◌≡◌, ◌≤◌, map, take, All}
 use Rattle.kt_money.specs.Rounding.{half_up}
 use Rattle.kt_period_cells.specs.Standing.{most_total}
 use Rattle.kt_curve.proofs.mean_curves.means.Given as goal

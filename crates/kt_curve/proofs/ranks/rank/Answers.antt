@@ -1,9 +1,7 @@
 -- Sorted values the other way round.
-use Rattle.std.proofs.Common.{◌≤◌, ℕ, ◌∙◌}
-use Rattle.std.proofs.lemmas.List.Sorted.{IsNonDecreasingBy-from_sort, sum_by-IsPermutation}
-use Rattle.std.specs.Prelude.{nat_le}
+use Rattle.std.proofs.Common.{◌≤◌, ℕ, ◌∙◌, nat_le}
+use Rattle.std.proofs.lemmas.List.Sorted.{IsNonDecreasingBy-from_sort, sum_by-IsPermutation, All-permutation, IsPermutation-trans}
 use Rattle.kt_period_cells.specs.Losses.{one_if}
-use Rattle.std.proofs.lemmas.List.Sorted.{All-permutation, IsPermutation-trans}
 use Rattle.kt_period_cells.specs.Standing.{most_total}
 use Rattle.kt_curve.proofs.Ranking.{falls_sorted}
 use Rattle.kt_curve.proofs.ranks.rank.Goals as goal
