@@ -113,8 +113,8 @@ ids-own : (records : List LossRecord) (sidx : ℤ) → IsRising (ids_of records)
 unfolding IsRising
 ids-own [] sidx rising = refl
 ids-own (entry ∷ records) sidx rising =
-    ap (λ n. n ∷ map (λ (one : LossRecord). loss_of sidx one.pairs) records) first
-    ∙ ap (λ ns. id_loss (entry ∷ records) sidx entry.id ∷ ns) (ids-own records sidx rising.1 ∙ others (ids_of records) rising.0)
+    let rest = ids-own records sidx rising.1 ∙ others (ids_of records) rising.0 in
+    λ i. first i ∷ rest i
   where
     first : loss_of sidx entry.pairs ≡ id_loss (entry ∷ records) sidx entry.id
     first =
@@ -127,7 +127,7 @@ ids-own (entry ∷ records) sidx rising =
 
     others : (ids : List ℕ) → AllByRecursion (λ other. entry.id < other) ids → map (id_loss records sidx) ids ≡ map (id_loss (entry ∷ records) sidx) ids
     others [] above = refl
-    others (id ∷ ids) above = ap (λ n. n ∷ map (id_loss records sidx) ids) (id-front entry records sidx id above.0) ∙ ap (λ ns. id_loss (entry ∷ records) sidx id ∷ ns) (others ids above.1)
+    others (id ∷ ids) above = λ i. id-front entry records sidx id above.0 i ∷ others ids above.1 i
 
 module _ (samples : ℕ) (heads : List LossHead) (lanes : List (List ℕ)) (have : HaveLanes lanes heads) (wide : AreWide (samples + 1) lanes) where
   -- the lanes of heads have the losses of their records
@@ -139,9 +139,7 @@ module _ (samples : ℕ) (heads : List LossHead) (lanes : List (List ℕ)) (have
 
       over : (heads : List LossHead) → AllByRecursion (λ (head : LossHead). head.place < length lanes) heads → column row (map (lane_of lanes) heads) ≡ map (λ (entry : LossRecord). loss_of (sidx_at (row_place row)) entry.pairs) (lane_records heads lanes)
       over [] have = refl
-      over (head ∷ heads) have =
-          ap (λ n. n ∷ column row (map (lane_of lanes) heads)) (one head have.0)
-          ∙ ap (λ ns. loss_of (sidx_at (row_place row)) (head_record lanes head).pairs ∷ ns) (over heads have.1)
+      over (head ∷ heads) have = λ i. one head have.0 i ∷ over heads have.1 i
 
   -- where their ids rise, they are those of the ids
   pub own-lanes : (ids : List ℕ) → IsRising ids → map (λ (head : LossHead). head.id) heads ≡ ids → (made : List (List ℕ)) → made ≡ map (lane_of lanes) heads → AreIdLanes ids samples (lane_records heads lanes) made

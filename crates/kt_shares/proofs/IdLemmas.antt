@@ -1,9 +1,8 @@
 -- The losses of a run by the places of their ids.
-use Rattle.std.proofs.Common.{◌≡◌, ℕ, ◌+◌, ◌<◌, ◌≤◌, ◌^◌, ◌||◌, Bool, true, false, cond, nat_eq, ℤ, List, [], ◌∷◌, length, map, take, replicate, slice_index, slice_index_or, refl, sym, ap, subst, ◌∙◌, arith}
+use Rattle.std.proofs.Common.{◌≡◌, ℕ, ◌+◌, ◌<◌, ◌≤◌, ◌^◌, ◌||◌, Bool, true, false, cond, nat_eq, ℤ, List, [], ◌∷◌, length, map, take, replicate, slice_index, slice_index_or, refl, sym, ap, subst, ◌∙◌, arith, eqb-true}
 use Rattle.std.specs.Cmp.{nat_eq_equiv}
 use Rattle.std.specs.List.{list_any, sum}
 use Rattle.std.proofs.Math.Path.{fun_ext}
-use Rattle.std.proofs.lemmas.Bool.{eqb-true}
 use Rattle.std.proofs.lemmas.List.{get_or-map, take_all}
 use Rattle.std.proofs.lemmas.List.Sums.{get_or-le-sum_by, sum_by_more, sum_by-take-le}
 use Rattle.kt_stream.specs.declared.entry.LossRecord.{LossRecord}
@@ -66,9 +65,7 @@ module _ (ids : List ℕ) (samples : ℕ) (records : List LossRecord) (i : ℕ) 
 
       each : (sidx : ℤ) (ids : List ℕ) → with_more ids (map (id_loss (take i records) sidx) ids) entry.id (loss_of sidx entry.pairs) ≡ map (id_loss (take (i + 1) records) sidx) ids
       each sidx [] = refl
-      each sidx (id ∷ ids) =
-          ap (λ n. n ∷ with_more ids (map (id_loss (take i records) sidx) ids) entry.id (loss_of sidx entry.pairs)) (one sidx id)
-          ∙ ap (λ rest. id_loss (take (i + 1) records) sidx id ∷ rest) (each sidx ids)
+      each sidx (id ∷ ids) = λ at. one sidx id at ∷ each sidx ids at
 
 -- all records
 pub ids-end : (ids : List ℕ) (samples : ℕ) (records : List LossRecord) (i : ℕ) (lanes : List (List ℕ)) → length records ≤ i → AreIdLanes ids samples (take i records) lanes → AreIdLanes ids samples records lanes

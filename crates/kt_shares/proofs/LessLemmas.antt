@@ -1,6 +1,5 @@
 -- Lanes from which amounts are taken, and the records that are left of them.
-use Rattle.std.proofs.Common.{◌≡◌, ◌≢◌, ◌⊎◌, ℕ, zero, suc, ◌+◌, ◌-◌, ◌<◌, ◌≤◌, List, [], ◌∷◌, length, map, slice_index, slice_index_or, slice_set, inl, inr, refl, sym, ap, subst, ◌∙◌, arith}
-use Rattle.std.specs.Prelude.{Option, Some, None}
+use Rattle.std.proofs.Common.{◌≡◌, ◌≢◌, ◌⊎◌, ℕ, zero, suc, ◌+◌, ◌-◌, ◌<◌, ◌≤◌, List, [], ◌∷◌, length, map, slice_index, slice_index_or, slice_set, inl, inr, refl, sym, ap, subst, ◌∙◌, arith, Option, Some, None}
 use Rattle.std.specs.List.{cons_option, filter_map, zip}
 use Rattle.std.proofs.lemmas.Bool.{cases_eq}
 use Rattle.std.proofs.lemmas.List.{get_or-set_same, get_or-set_other, length-set, set-get_or}
@@ -35,8 +34,7 @@ zip-agree : {X Y P Z : Type 0} (f : X → Option Z) (h : X → Y) (g : Y → P �
 zip-agree f h g x0 p0 [] ps same each = refl
 zip-agree f h g x0 p0 (x ∷ xs) [] same each = absurd (omega (arith, same))
 zip-agree f h g x0 p0 (x ∷ xs) (p ∷ ps) same each =
-    ap (λ one. cons_option one (filter_map f xs)) (each 0 (omega arith))
-    ∙ ap (cons_option (g (h x) p)) (zip-agree f h g x0 p0 xs ps (omega (arith, same)) (λ k below. each (suc k) (omega (arith, below))))
+    λ i. cons_option (each 0 (omega arith) i) (zip-agree f h g x0 p0 xs ps (omega (arith, same)) (λ k below. each (suc k) (omega (arith, below))) i)
 
 -- a place that is none is absent
 pub none-is : (place : Option ℕ) → ((from : ℕ) → place ≡ Some from → ⊥) → place ≡ None

@@ -2,17 +2,19 @@
 use Rattle.std.proofs.Common.{◌≡◌, ℕ, zero, suc, ◌+◌, ◌<◌, List, [], ◌∷◌, ◌++◌, length, slice_index, slice_index_or, take, refl, sym, ap, subst, ◌∙◌, arith, append-nil}
 use Rattle.std.specs.List.{AllByRecursion, cons_option}
 use Rattle.std.specs.List.Sorted.{IsNonDecreasingBy, IsPermutation}
-use Rattle.std.proofs.lemmas.List.{get_or-map, get_or_append_left, get_or_push, length-map, map-append, map_push, take_more}
+use Rattle.std.proofs.lemmas.List.{get_or-map, get_or_append_left, get_or_push, get_or_read, length-map, map-append, map_push, take_more}
 use Rattle.std.proofs.lemmas.List.Elements.{recursion_from_All}
 use Rattle.std.proofs.lemmas.List.Sorted.{All-permutation, IsPermutation-map}
 use Rattle.kt_stream.specs.declared.entry.LossRecord.{LossRecord}
 use Rattle.kt_stream.specs.declared.entry.Pair.{Pair}
 use Rattle.kt_runs.specs.RunLosses.{event_of}
-use Rattle.kt_shares.specs.LossLanes.{HaveLanes, deviation_of, head_record, lane_record, lane_records, no_head}
+use Rattle.kt_shares.specs.LaneRun.{LaneRun}
+use Rattle.kt_shares.specs.LossLanes.{HaveLanes, deviation_of, head_record, lane_record, lane_records, no_head, run_of}
 use Rattle.kt_shares.specs.LossLanesLaws.{deviation-loss}
 use Rattle.kt_shares.specs.Shares.{ids_of, record_with}
 use Rattle.kt_shares.specs.Table.{pairs_by_row, pairs_with}
 use Rattle.kt_shares.specs.declared.heads.LossHead.{LossHead}
+use Rattle.kt_shares.specs.declared.loss_lanes.LossLanes.TheInside.{Inside}
 
 -- there is a record for each head
 pub records-length : (heads : List LossHead) (lanes : List (List ℕ)) → length (lane_records heads lanes) ≡ length heads
@@ -22,22 +24,42 @@ records-length heads lanes = length-map heads (head_record lanes)
 pub records-at : (heads : List LossHead) (lanes : List (List ℕ)) (place : ℕ) → place < length heads → (d : LossRecord) → head_record lanes (slice_index_or heads place no_head) ≡ slice_index_or (lane_records heads lanes) place d
 records-at heads lanes place below d = sym (get_or-map (head_record lanes) heads place no_head d below)
 
+-- ---- the head in a place
+
+module _ (kept : Inside) (run : LaneRun) (run_is : run_of kept ≡ run) (place : ℕ) (within : place < length run.records) where
+  -- there is one
+  pub head-below : place < length kept.heads.items
+  head-below = omega (arith, within, ap (λ (run : LaneRun). length run.records) run_is, records-length kept.heads.items kept.lanes)
+
+  module _ (head : LossHead) (head_is : head ≡ slice_index_or kept.heads.items place head) where
+    read : head ≡ slice_index_or kept.heads.items place no_head
+    read = get_or_read kept.heads.items place head head-below head_is no_head
+
+    -- it has one of the lanes
+    pub read-inside : HaveLanes kept.lanes kept.heads.items → head.place < length kept.lanes
+    read-inside have = subst (λ (head : LossHead). head.place < length kept.lanes) (sym read) (have place no_head head-below)
+
+    -- and its record is the one in the place
+    pub read-record : (d : LossRecord) → head_record kept.lanes head ≡ slice_index_or run.records place d
+    read-record d =
+        ap (head_record kept.lanes) read
+        ∙ (records-at kept.heads.items kept.lanes place head-below d ∙ ap (λ (run : LaneRun). slice_index_or run.records place d) run_is)
+
+-- ---- one more record
+
 -- a lane behind the others changes no record
 pub records-kept : (heads : List LossHead) (lanes : List (List ℕ)) → HaveLanes lanes heads → (lane : List ℕ) → lane_records heads (lanes ++ lane ∷ []) ≡ lane_records heads lanes
 records-kept heads lanes have lane = over heads (recursion_from_All (λ (head : LossHead). head.place < length lanes) heads have)
   where
     over : (heads : List LossHead) → AllByRecursion (λ (head : LossHead). head.place < length lanes) heads → lane_records heads (lanes ++ lane ∷ []) ≡ lane_records heads lanes
     over [] have = refl
-    over (head ∷ heads) have =
-        ap (λ (one : List ℕ). lane_record head one ∷ lane_records heads (lanes ++ lane ∷ [])) (get_or_append_left lanes (lane ∷ []) [] head.place have.0)
-        ∙ ap (λ (rest : List LossRecord). head_record lanes head ∷ rest) (over heads have.1)
+    over (head ∷ heads) have = λ i. lane_record head (get_or_append_left lanes (lane ∷ []) [] head.place have.0 i) ∷ over heads have.1 i
 
 -- and with its head it is one more
 pub records-more : (heads : List LossHead) (lanes : List (List ℕ)) → HaveLanes lanes heads → (head : LossHead) (lane : List ℕ) → head.place ≡ length lanes → lane_records (heads ++ head ∷ []) (lanes ++ lane ∷ []) ≡ lane_records heads lanes ++ lane_record head lane ∷ []
 records-more heads lanes have head lane place_is =
     map_push (head_record (lanes ++ lane ∷ [])) heads head
-    ∙ (ap (λ (front : List LossRecord). front ++ head_record (lanes ++ lane ∷ []) head ∷ []) (records-kept heads lanes have lane)
-    ∙ ap (λ (one : List ℕ). lane_records heads lanes ++ lane_record head one ∷ []) (get_or_push lanes lane [] head.place (sym place_is)))
+    ∙ (λ i. records-kept heads lanes have lane i ++ lane_record head (get_or_push lanes lane [] head.place (sym place_is) i) ∷ [])
 
 -- the ids of one record more
 pub ids-next : (records : List LossRecord) (place : ℕ) (ids next : List ℕ) (id : ℕ) (d : LossRecord) → place < length records → ids ≡ ids_of (take place records) → next ≡ ids ++ id ∷ [] → id ≡ (slice_index_or records place d).id → next ≡ ids_of (take (place + 1) records)
@@ -50,17 +72,7 @@ ids-next records place ids next id d below ids_are next_is id_is =
 -- and the records themselves
 pub records-next : (records : List LossRecord) (place : ℕ) (made next : List LossRecord) (entry d : LossRecord) → place < length records → made ≡ take place records → next ≡ made ++ entry ∷ [] → entry ≡ slice_index_or records place d → next ≡ take (place + 1) records
 records-next records place made next entry d below made_are next_is entry_is =
-    next_is
-    ∙ (ap (λ (front : List LossRecord). front ++ entry ∷ []) made_are
-    ∙ (ap (λ (one : LossRecord). take place records ++ one ∷ []) entry_is
-    ∙ sym (take_more records place d below)))
-
--- a record of its parts
-pub record-is : (entry : LossRecord) (event id : ℕ) (pairs : List Pair) → event ≡ entry.event → id ≡ entry.id → pairs ≡ entry.pairs → record { event = event; id = id; pairs = pairs } ≡ entry
-record-is entry event id pairs event_is id_is pairs_are =
-    ap (λ (event : ℕ). record { event = event; id = id; pairs = pairs }) event_is
-    ∙ (ap (λ (id : ℕ). record { event = entry.event; id = id; pairs = pairs }) id_is
-    ∙ ap (λ (pairs : List Pair). record { event = entry.event; id = entry.id; pairs = pairs }) pairs_are)
+    next_is ∙ ((λ i. made_are i ++ entry_is i ∷ []) ∙ sym (take_more records place d below))
 
 -- the event of records is that of the first
 pub event-none : (records : List LossRecord) → length records ≡ 0 → 0 ≡ event_of records

@@ -31,10 +31,8 @@ zeros-from_sum : (amounts : List ℕ) → sum amounts ≡ 0 → replicate (lengt
 zeros-from_sum [] none = refl
 zeros-from_sum (amount ∷ amounts) none =
     let all = sum_by-cons (λ (n : ℕ). n) amount amounts in
-    ap (λ front. front ∷ replicate (length amounts) 0) (first (omega (arith, all, none))) ∙ ap (λ rest. amount ∷ rest) (zeros-from_sum amounts (omega (arith, all, none)))
-  where
-    first : amount ≡ 0 → 0 ≡ amount
-    first is = sym is
+    let first : 0 ≡ amount = omega (arith, all, none) in
+    λ i. first i ∷ zeros-from_sum amounts (omega (arith, all, none)) i
 
 -- nothing is shared out of no policy loss
 pub nothing-shared : (tree : Tree) → IsTree tree → (losses : ℕ → ℕ) (rule top layer : ℕ) → nat_eq rule 0 ≡ false → policy_loss tree losses top layer ≡ 0 → replicate (length (beneath tree top)) 0 ≡ shares tree losses rule top layer
@@ -81,8 +79,8 @@ shared all policies totals = record { shares = all; policies = policies; totals 
 totals-are : (tree : Tree) → IsTree tree → (losses : ℕ → ℕ) (rule : ℕ) (keys : List (ℕ × ℕ)) → (row_for tree losses rule keys).policies ≡ (row_for tree losses rule keys).totals
 totals-are tree is losses rule [] = refl
 totals-are tree is losses rule (key ∷ keys) =
-    ap (λ n. n ∷ (row_for tree losses rule keys).policies) (sym (shares-sum tree is losses rule key.0 key.1))
-    ∙ ap (λ ns. sum (shares tree losses rule key.0 key.1) ∷ ns) (totals-are tree is losses rule keys)
+    let here = sym (shares-sum tree is losses rule key.0 key.1) in
+    λ i. here i ∷ totals-are tree is losses rule keys i
 
 -- the lists of a row make it
 pub whole-row : (tree : Tree) → IsTree tree → (losses : ℕ → ℕ) (rule : ℕ) (layers : List TopLayer) (all policies : List ℕ) → HasRow tree losses rule layers all policies → shared all policies policies ≡ row_for tree losses rule (map key_of layers)

@@ -13,7 +13,7 @@ use Rattle.kt_fmtree.specs.Parts.{Parts, IsProgramme}
 use Rattle.kt_lanes.specs.Lanes.{AreWide, column}
 use Rattle.kt_lanes.specs.LaneLaws.{column-at}
 use Rattle.kt_shares.specs.ByLanes.{AreLayers}
-use Rattle.kt_shares.specs.Kept.{lane_row}
+use Rattle.kt_shares.specs.Kept.{IsTable, lane_row, rows_in}
 use Rattle.kt_shares.specs.Layers.{key_of}
 use Rattle.kt_shares.specs.Row.{Shared, no_shares, row_for}
 use Rattle.kt_shares.specs.RowLaws.{each-range, pairs-agree}
@@ -22,6 +22,7 @@ use Rattle.kt_shares.specs.Table.{HasAmounts, pairs_by_row, row_at, row_place, s
 use Rattle.kt_shares.specs.Taken.{AreIdLanes}
 use Rattle.kt_shares.specs.declared.by_lanes.LayerLanes.{LayerLanes}
 use Rattle.kt_shares.specs.declared.layers.TopLayer.{TopLayer}
+use Rattle.kt_shares.specs.declared.table.Table.TheInside.{Inside}
 use Rattle.kt_shares.proofs.IdLemmas.{taken-by}
 use Rattle.kt_shares.proofs.RowLemmas.{whole-row}
 
@@ -33,7 +34,7 @@ rows-agree f g n same = each f g (range_with_len 0 n) (each-range (λ row. f row
   where
     each : {Y : Type 0} (f g : ℕ → Y) (rows : List ℕ) → AllByRecursion (λ row. f row ≡ g row) rows → map f rows ≡ map g rows
     each f g [] same = refl
-    each f g (row ∷ rows) same = ap (λ y. y ∷ map f rows) same.0 ∙ ap (λ ys. g row ∷ ys) (each f g rows same.1)
+    each f g (row ∷ rows) same = λ i. same.0 i ∷ each f g rows same.1 i
 
 -- lanes of what layers have of the losses of a run are its rows
 pub table-are : (tree : Tree) (parts : Parts) → IsProgramme tree parts → (samples : ℕ) (records : List LossRecord) (lanes : List (List ℕ)) → AreIdLanes parts.ids samples records lanes → (rule : ℕ) (layers : List TopLayer) (made : LayerLanes) → AreLayers parts lanes (samples + 1) rule layers made → map (lane_row made.shares made.policies) (range_with_len 0 (samples + 1)) ≡ table_for tree rule samples records (map key_of layers)
@@ -45,43 +46,42 @@ table-are tree parts is samples records lanes are rule layers made made_are =
 
 -- ---- the lanes of a table
 
-module _ (shares policies : List (List ℕ)) (rows : ℕ) (some : 1 ≤ rows) where
-  abbrev table : List Shared
-  table = map (lane_row shares policies) (range_with_len 0 rows)
+module _ (kept : Inside) (is : IsTable kept) (table : List Shared) (table_is : rows_in kept ≡ table) where
+  pub table-long : length table ≡ kept.rows
+  table-long = sym (ap length table_is) ∙ length-map-range_with_len (lane_row kept.shares kept.policies) 0 kept.rows
 
-  pub table-long : length table ≡ rows
-  table-long = length-map-range_with_len (lane_row shares policies) 0 rows
-
-  first-row : slice_index_or table 0 no_shares ≡ lane_row shares policies 0
-  first-row = get_or-map-range_with_len (lane_row shares policies) 0 rows 0 0 no_shares (omega (arith, some)) (omega arith)
+  pub table-row : (row : ℕ) → row < kept.rows → lane_row kept.shares kept.policies row ≡ row_at table row
+  table-row row below =
+      sym (get_or-map-range_with_len (lane_row kept.shares kept.policies) 0 kept.rows row row no_shares below (omega arith)) ∙ ap (λ table. row_at table row) table_is
 
   -- what holds of each row holds of the first
-  at-first : (P : Shared → Type 0) → All P table → P (lane_row shares policies 0)
-  at-first P all = subst P first-row (all 0 no_shares (omega (arith, some, table-long)))
+  at-first : (P : Shared → Type 0) → All P table → P (lane_row kept.shares kept.policies 0)
+  at-first P all = let some = is.some in subst P (sym (table-row 0 some)) (all 0 no_shares (omega (arith, some, table-long)))
 
   -- a share in a place has a lane
-  pub shares-inside : (place : ℕ) → All (λ row. place < length row.shares) table → place < length shares
-  shares-inside place all = omega (arith, at-first (λ row. place < length row.shares) all, length-map shares (λ (lane : List ℕ). slice_index lane 0))
+  pub shares-inside : (place : ℕ) → All (λ row. place < length row.shares) table → place < length kept.shares
+  shares-inside place all = omega (arith, at-first (λ row. place < length row.shares) all, length-map kept.shares (λ (lane : List ℕ). slice_index lane 0))
 
   -- and so has a policy loss
-  pub policies-inside : (place : ℕ) → All (HasAmounts place) table → place < length policies
-  policies-inside place all = omega (arith, (at-first (HasAmounts place) all).policy, length-map policies (λ (lane : List ℕ). slice_index lane 0))
+  pub policies-inside : (place : ℕ) → All (HasAmounts place) table → place < length kept.policies
+  policies-inside place all = omega (arith, (at-first (HasAmounts place) all).policy, length-map kept.policies (λ (lane : List ℕ). slice_index lane 0))
 
   -- a lane has the amounts of all rows
-  lane-are : (lanes : List (List ℕ)) → AreWide rows lanes → (amount : Shared → ℕ) (place : ℕ) → place < length lanes → ((row : ℕ) → amount (lane_row shares policies row) ≡ slice_index (column row lanes) place) → (lane : List ℕ) → lane ≡ slice_index_or lanes place lane → lane ≡ map amount table
+  lane-are : (lanes : List (List ℕ)) → AreWide kept.rows lanes → (amount : Shared → ℕ) (place : ℕ) → place < length lanes → ((row : ℕ) → amount (lane_row kept.shares kept.policies row) ≡ slice_index (column row lanes) place) → (lane : List ℕ) → lane ≡ slice_index_or lanes place lane → lane ≡ map amount table
   lane-are lanes wide amount place inside same lane is =
-      fill_by_all (λ row. amount (lane_row shares policies row)) lane rows 0 (ap (λ (one : List ℕ). length one) is ∙ wide place lane inside)
+      fill_by_all (λ row. amount (lane_row kept.shares kept.policies row)) lane kept.rows 0 (ap (λ (one : List ℕ). length one) is ∙ wide place lane inside)
       (λ row below. ap (λ (one : List ℕ). slice_index one row) is ∙ (sym (column-at row place lanes lane inside) ∙ sym (same row)))
-      ∙ sym (map-map amount (lane_row shares policies) (range_with_len 0 rows))
+      ∙ (sym (map-map amount (lane_row kept.shares kept.policies) (range_with_len 0 kept.rows)) ∙ ap (map amount) table_is)
 
-  pub shares-are : AreWide rows shares → (place : ℕ) → place < length shares → (lane : List ℕ) → lane ≡ slice_index_or shares place lane → lane ≡ map (λ row. slice_index row.shares place) table
-  shares-are wide place inside = lane-are shares wide (λ row. slice_index row.shares place) place inside (λ row. refl)
+  module _ (place : ℕ) (lane : List ℕ) where
+    pub shares-are : All (λ row. place < length row.shares) table → lane ≡ slice_index_or kept.shares place lane → lane ≡ map (λ row. slice_index row.shares place) table
+    shares-are all = lane-are kept.shares is.shares (λ row. slice_index row.shares place) place (shares-inside place all) (λ row. refl) lane
 
-  pub policies-are : AreWide rows policies → (place : ℕ) → place < length policies → (lane : List ℕ) → lane ≡ slice_index_or policies place lane → lane ≡ map (λ row. slice_index row.policies place) table
-  policies-are wide place inside = lane-are policies wide (λ row. slice_index row.policies place) place inside (λ row. refl)
+    pub policies-are : All (HasAmounts place) table → lane ≡ slice_index_or kept.policies place lane → lane ≡ map (λ row. slice_index row.policies place) table
+    policies-are all = lane-are kept.policies is.policies (λ row. slice_index row.policies place) place (policies-inside place all) (λ row. refl) lane
 
-  pub totals-are : AreWide rows policies → (place : ℕ) → place < length policies → (lane : List ℕ) → lane ≡ slice_index_or policies place lane → lane ≡ map (λ row. slice_index row.totals place) table
-  totals-are wide place inside = lane-are policies wide (λ row. slice_index row.totals place) place inside (λ row. refl)
+    pub totals-are : All (HasAmounts place) table → lane ≡ slice_index_or kept.policies place lane → lane ≡ map (λ row. slice_index row.totals place) table
+    totals-are all = lane-are kept.policies is.policies (λ row. slice_index row.totals place) place (policies-inside place all) (λ row. refl) lane
 
 -- ---- amounts of all rows
 

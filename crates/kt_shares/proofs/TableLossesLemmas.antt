@@ -3,7 +3,6 @@ use Rattle.std.proofs.Common.{◌≡◌, ℕ, ◌<◌, ◌≤◌, List, [], ◌�
 use Rattle.std.specs.List.{All, AllByRecursion}
 use Rattle.std.proofs.lemmas.List.{ext_get_or, get_or-map, length-map}
 use Rattle.std.proofs.lemmas.List.Elements.{recursion_from_All}
-use Rattle.kt_stream.specs.declared.entry.LossRecord.{LossRecord}
 use Rattle.kt_lanes.specs.Lanes.{AreWide, column}
 use Rattle.kt_lanes.specs.LaneLaws.{column-at}
 use Rattle.kt_shares.specs.LossLanes.{HaveLanes, lane_record, lane_records}
@@ -40,6 +39,4 @@ module _ (table : List Shared) (shares : List (List ℕ)) (some : 1 ≤ length t
       where
         over : (heads : List LossHead) → AllByRecursion (λ (head : LossHead). HasShare table head.place) heads → lane_records heads shares ≡ map (share_record table) heads
         over [] have = refl
-        over (head ∷ heads) have =
-            ap (λ (lane : List ℕ). lane_record head lane ∷ lane_records heads shares) (lane-is head.place have.0)
-            ∙ ap (λ (rest : List LossRecord). share_record table head ∷ rest) (over heads have.1)
+        over (head ∷ heads) have = λ i. lane_record head (lane-is head.place have.0 i) ∷ over heads have.1 i

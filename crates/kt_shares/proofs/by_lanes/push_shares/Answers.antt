@@ -1,5 +1,4 @@
-use Rattle.std.proofs.Common.{◌≡◌, ◌∙◌, ◌++◌, ◌∷◌, [], List, ℕ, length, slice_index, ap, sym, subst}
-use Rattle.std.proofs.lemmas.Bool.{ne_eqb}
+use Rattle.std.proofs.Common.{◌≡◌, ◌∙◌, ◌++◌, ◌∷◌, [], List, ℕ, length, slice_index, ap, sym, subst, ne_eqb}
 use Rattle.std.proofs.lemmas.List.{map-append}
 use Rattle.kt_tree.specs.Sharing.{allocated}
 use Rattle.kt_tree.specs.Tree.{beneath, policy_loss}

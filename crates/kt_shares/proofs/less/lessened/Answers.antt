@@ -1,5 +1,4 @@
-use Rattle.std.proofs.Common.{◌≤◌, ◌<◌, ◌∙◌, length, slice_index_or, subst, arith}
-use Rattle.std.specs.Prelude.{None}
+use Rattle.std.proofs.Common.{◌≤◌, ◌<◌, ◌∙◌, length, slice_index_or, subst, arith, None}
 use Rattle.kt_shares.specs.Less.{IsPlaceIn}
 use Rattle.kt_shares.proofs.LessLemmas.{less-none, less-records, less-some, less-start, none-is}
 use Rattle.kt_shares.proofs.less.lessened.Goals as goal

@@ -1,4 +1,4 @@
-use Rattle.std.proofs.Common.{◌≤◌, ◌<◌, length, map, sym, subst, arith}
+use Rattle.std.proofs.Common.{◌≤◌, length, map, sym, subst, arith}
 use Rattle.std.proofs.lemmas.List.{length-map}
 use Rattle.kt_runs.specs.HeldLaws.{entry_at}
 use Rattle.kt_stream.specs.Losses.{IsLoss}
@@ -10,33 +10,18 @@ loop-near-init g c = ids-start c.args.ids.now c.args.samples c.in_ok-lanes.lanes
 
 pub add_record-requires-clause-entry : goal.add_record-requires-clause-entry
 add_record-requires-clause-entry g c =
-    let entry_of = g.T.RunEntry.entry_of in
-    let records = map entry_of c.args.records.now in
-    let entry = c.entry.result.now in
-    let i = c.loop-near.near in
-    let below : i < length records = omega (arith, c.loop-near-test.true, length-map c.args.records.now entry_of) in
-    let is = entry_at entry_of c.args.records.now i c.index-records-near.result entry c.loop-near-test.true c.index-records-near.is c.entry.ensures entry in
-    subst (IsLoss c.args.samples) (sym is) (c.requires.records i entry below)
+    let is = entry_at g.T.RunEntry.entry_of c.args.records.now c.loop-near.near c.index-records-near.result c.entry.result.now c.loop-near-test.true c.index-records-near.is c.entry.ensures c.entry.result.now in
+    subst (IsLoss c.args.samples) (sym is) (c.requires.records c.loop-near.near c.entry.result.now (omega (arith, c.loop-near-test.true, length-map c.args.records.now g.T.RunEntry.entry_of)))
 
 pub add_record-requires-clause-few : goal.add_record-requires-clause-few
 add_record-requires-clause-few g c =
-    let entry_of = g.T.RunEntry.entry_of in
-    let records = map entry_of c.args.records.now in
-    let entry = c.entry.result.now in
-    let i = c.loop-near.near in
-    let below : i < length records = omega (arith, c.loop-near-test.true, length-map c.args.records.now entry_of) in
-    let is = entry_at entry_of c.args.records.now i c.index-records-near.result entry c.loop-near-test.true c.index-records-near.is c.entry.ensures entry in
-    ids-fit c.args.ids.now c.args.samples records i entry entry below is c.loop-near.lanes c.loop-near.invariant c.requires.within
+    let is = entry_at g.T.RunEntry.entry_of c.args.records.now c.loop-near.near c.index-records-near.result c.entry.result.now c.loop-near-test.true c.index-records-near.is c.entry.ensures c.entry.result.now in
+    ids-fit c.args.ids.now c.args.samples _ c.loop-near.near _ _ (omega (arith, c.loop-near-test.true, length-map c.args.records.now g.T.RunEntry.entry_of)) is c.loop-near.lanes c.loop-near.invariant c.requires.within
 
 pub loop-near-preserved : goal.loop-near-preserved
 loop-near-preserved g c =
-    let entry_of = g.T.RunEntry.entry_of in
-    let records = map entry_of c.args.records.now in
-    let entry = c.entry.result.now in
-    let i = c.loop-near.near in
-    let below : i < length records = omega (arith, c.loop-near-test.true, length-map c.args.records.now entry_of) in
-    let is = entry_at entry_of c.args.records.now i c.index-records-near.result entry c.loop-near-test.true c.index-records-near.is c.entry.ensures entry in
-    ids-more c.args.ids.now c.args.samples records i entry entry below is c.loop-near.lanes c.loop-near.invariant c.add_record.new.lanes c.add_record.ensures.value
+    let is = entry_at g.T.RunEntry.entry_of c.args.records.now c.loop-near.near c.index-records-near.result c.entry.result.now c.loop-near-test.true c.index-records-near.is c.entry.ensures c.entry.result.now in
+    ids-more c.args.ids.now c.args.samples _ c.loop-near.near _ _ (omega (arith, c.loop-near-test.true, length-map c.args.records.now g.T.RunEntry.entry_of)) is c.loop-near.lanes c.loop-near.invariant c.add_record.new.lanes c.add_record.ensures.value
 
 pub returns : goal.returns
 returns g c =

@@ -1,5 +1,4 @@
-use Rattle.std.proofs.Common.{◌≡◌, ◌∙◌, ap, length, replicate, sym}
-use Rattle.std.proofs.lemmas.Bool.{ne_eqb}
+use Rattle.std.proofs.Common.{◌≡◌, ◌∙◌, ap, length, replicate, sym, ne_eqb}
 use Rattle.kt_tree.specs.Tree.{beneath, policy_loss}
 use Rattle.kt_shares.proofs.RowLemmas.{nothing-shared, only-share, top-is}
 use Rattle.kt_shares.proofs.row.shares_of.Goals as goal

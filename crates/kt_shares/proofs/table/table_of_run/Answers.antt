@@ -1,54 +1,45 @@
-use Rattle.std.proofs.Common.{◌≡◌, List, ℕ, map, subst}
+use Rattle.std.proofs.Common.{◌≡◌, ◌+◌, IfOk, List, Result, ℕ, map, subst}
 use Rattle.std.proofs.lemmas.Result.{IfOk-weaker}
 use Rattle.kt_stream.specs.declared.entry.LossRecord.{LossRecord}
+use Rattle.kt_runs.specs.RunLosses.{AreWithin}
 use Rattle.kt_tree.specs.Tree.{Tree}
-use Rattle.kt_fmtree.specs.Parts.{IsProgramme}
+use Rattle.kt_fmtree.specs.Parts.{HasProgramme, IsProgramme, Parts}
+use Rattle.kt_lanes.specs.Climbed.{AreLosses}
 use Rattle.kt_shares.specs.Layers.{key_of}
+use Rattle.kt_shares.specs.Row.{Shared}
 use Rattle.kt_shares.specs.Table.{table_for}
 use Rattle.kt_shares.specs.Taken.{AreIdLanes}
 use Rattle.kt_shares.proofs.IdLemmas.{ids-losses}
 use Rattle.kt_shares.proofs.table.table_of_run.Goals as goal
 
+module _ (parts : Parts) (ids : List ℕ) (ids_are : ids ≡ parts.ids) (samples : ℕ) (records : List LossRecord) (lanes : List (List ℕ)) (are : AreIdLanes ids samples records lanes) where
+  by_ids : AreIdLanes parts.ids samples records lanes
+  by_ids = subst (λ (ids : List ℕ). AreIdLanes ids samples records lanes) ids_are are
+
+  -- the lanes of a programme's ids can be carried up
+  carried : HasProgramme parts → AreWithin records → AreLosses parts (samples + 1) lanes
+  carried has within = ids-losses has.tree parts has.is samples records lanes by_ids within
+
+  -- and what is made of them is made of the run
+  of-run : {E : Type 0} (answer : Result (List Shared) E) (rule : ℕ) (keys : List (ℕ × ℕ)) → IfOk answer (λ table. (tree : Tree) (records : List LossRecord) → IsProgramme tree parts → AreIdLanes parts.ids samples records lanes → table ≡ table_for tree rule samples records keys) → IfOk answer (λ table. (tree : Tree) → IsProgramme tree parts → table ≡ table_for tree rule samples records keys)
+  of-run answer rule keys all =
+      IfOk-weaker answer (λ table. (tree : Tree) (records : List LossRecord) → IsProgramme tree parts → AreIdLanes parts.ids samples records lanes → table ≡ table_for tree rule samples records keys)
+      (λ table. (tree : Tree) → IsProgramme tree parts → table ≡ table_for tree rule samples records keys) (λ table all tree is. all tree records is by_ids) all
+
 pub table_by_lanes-requires-clause-lanes : goal.table_by_lanes-requires-clause-lanes
 table_by_lanes-requires-clause-lanes g c =
-    let records = g.R.RunLosses.records_of c.args.run.now in
-    let parts = c.args.programme.now in
-    let kept = c.is_of_a_tree.ensures.kept in
-    let lanes = c.in-Some.lanes.now in
-    let by_ids = subst (λ (ids : List ℕ). AreIdLanes ids c.args.samples records lanes) c.ids-ids.ensures.value c.in-Some.ensures.value in
-    ids-losses kept.tree parts kept.is c.args.samples records lanes by_ids c.requires.within
+    carried c.args.programme.now _ c.ids-ids.ensures.value c.args.samples (g.R.RunLosses.records_of c.args.run.now) c.in-Some.lanes.now c.in-Some.ensures.value c.is_of_a_tree.ensures.kept c.requires.within
 
 pub returns-in-Some : goal.returns-in-Some
-returns-in-Some g c =
-    let records = g.R.RunLosses.records_of c.args.run.now in
-    let parts = c.args.programme.now in
-    let lanes = c.in-Some.lanes.now in
-    let by_ids = subst (λ (ids : List ℕ). AreIdLanes ids c.args.samples records lanes) c.ids-ids.ensures.value c.in-Some.ensures.value in
-    record {
-      value =
-          IfOk-weaker c.table_by_lanes.result
-          (λ table. (tree : Tree) (records : List LossRecord) → IsProgramme tree parts → AreIdLanes parts.ids c.args.samples records lanes → table ≡ table_for tree c.args.rule c.args.samples records (map key_of c.args.layers.now))
-          (λ table. (tree : Tree) → IsProgramme tree parts → table ≡ table_for tree c.args.rule c.args.samples records (map key_of c.args.layers.now)) (λ table all tree is. all tree records is by_ids) c.table_by_lanes.ensures.value;
-    }
+returns-in-Some g c = record {
+  value = of-run c.args.programme.now _ c.ids-ids.ensures.value c.args.samples (g.R.RunLosses.records_of c.args.run.now) c.in-Some.lanes.now c.in-Some.ensures.value c.table_by_lanes.result c.args.rule (map key_of c.args.layers.now) c.table_by_lanes.ensures.value;
+}
 
 pub table_by_lanes-requires-2-clause-lanes : goal.table_by_lanes-requires-2-clause-lanes
 table_by_lanes-requires-2-clause-lanes g c =
-    let records = g.R.RunLosses.records_of c.args.run.now in
-    let parts = c.args.programme.now in
-    let kept = c.is_of_a_tree.ensures.kept in
-    let lanes = c.in_ok-lanes.lanes in
-    let by_ids = subst (λ (ids : List ℕ). AreIdLanes ids c.args.samples records lanes) c.ids-ids.ensures.value c.in_ok-lanes.ensures.value in
-    ids-losses kept.tree parts kept.is c.args.samples records lanes by_ids c.requires.within
+    carried c.args.programme.now _ c.ids-ids.ensures.value c.args.samples (g.R.RunLosses.records_of c.args.run.now) c.in_ok-lanes.lanes c.in_ok-lanes.ensures.value c.is_of_a_tree.ensures.kept c.requires.within
 
 pub returns : goal.returns
-returns g c =
-    let records = g.R.RunLosses.records_of c.args.run.now in
-    let parts = c.args.programme.now in
-    let lanes = c.in_ok-lanes.lanes in
-    let by_ids = subst (λ (ids : List ℕ). AreIdLanes ids c.args.samples records lanes) c.ids-ids.ensures.value c.in_ok-lanes.ensures.value in
-    record {
-      value =
-          IfOk-weaker c.table_by_lanes-2.result
-          (λ table. (tree : Tree) (records : List LossRecord) → IsProgramme tree parts → AreIdLanes parts.ids c.args.samples records lanes → table ≡ table_for tree c.args.rule c.args.samples records (map key_of c.args.layers.now))
-          (λ table. (tree : Tree) → IsProgramme tree parts → table ≡ table_for tree c.args.rule c.args.samples records (map key_of c.args.layers.now)) (λ table all tree is. all tree records is by_ids) c.table_by_lanes-2.ensures.value;
-    }
+returns g c = record {
+  value = of-run c.args.programme.now _ c.ids-ids.ensures.value c.args.samples (g.R.RunLosses.records_of c.args.run.now) c.in_ok-lanes.lanes c.in_ok-lanes.ensures.value c.table_by_lanes-2.result c.args.rule (map key_of c.args.layers.now) c.table_by_lanes-2.ensures.value;
+}

@@ -1,24 +1,13 @@
-use Rattle.std.proofs.Common.{◌<◌, ◌∙◌, length, slice_index_or, ap, arith}
-use Rattle.std.proofs.lemmas.List.{get_or_read}
-use Rattle.kt_shares.specs.LaneRun.{LaneRun}
-use Rattle.kt_shares.specs.LossLanes.{lane_of, no_head}
-use Rattle.kt_shares.specs.declared.heads.LossHead.{LossHead}
-use Rattle.kt_shares.proofs.LossLanesLemmas.{kept-deviation, records-at, records-length}
+use Rattle.std.proofs.Common.{slice_index_or, arith}
+use Rattle.kt_shares.specs.LossLanes.{lane_of}
+use Rattle.kt_shares.proofs.LossLanesLemmas.{head-below, kept-deviation, read-record}
 use Rattle.kt_shares.proofs.loss_lanes.LossLanes.deviation.Goals as goal
 
 pub index-requires : goal.index-requires
-index-requires c =
-    let kept = c.self.inside in
-    omega (arith, kept.heads.ok, c.requires.place, ap (λ (run : LaneRun). length run.records) c.self.view_is, records-length kept.heads.items kept.lanes)
+index-requires c = omega (arith, c.self.inside.heads.ok, head-below c.self.inside c.args.self.now c.self.view_is c.args.place c.requires.place)
 
 pub returns : goal.returns
 returns c =
-    let kept = c.self.inside in
-    let place = c.args.place in
-    let below : place < length kept.heads.items = omega (arith, c.requires.place, ap (λ (run : LaneRun). length run.records) c.self.view_is, records-length kept.heads.items kept.lanes) in
-    record {
-      value = λ d.
-          ap (λ (head : LossHead). head.deviation) (get_or_read kept.heads.items place c.index.result.now below c.index.ensures no_head)
-          ∙ kept-deviation (slice_index_or c.args.self.now.records place d) (slice_index_or kept.heads.items place no_head) (lane_of kept.lanes (slice_index_or kept.heads.items place no_head))
-          (records-at kept.heads.items kept.lanes place below d ∙ ap (λ (run : LaneRun). slice_index_or run.records place d) c.self.view_is);
-    }
+    let head = c.index.result.now in
+    let is = read-record c.self.inside c.args.self.now c.self.view_is c.args.place c.requires.place head c.index.ensures in
+    record { value = λ d. kept-deviation (slice_index_or c.args.self.now.records c.args.place d) head (lane_of c.self.inside.lanes head) (is d) }

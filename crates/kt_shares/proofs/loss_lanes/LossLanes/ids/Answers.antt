@@ -1,5 +1,4 @@
-use Rattle.std.proofs.Common.{[], ap, arith, ◌∙◌}
-use Rattle.std.proofs.lemmas.List.{take_all}
+use Rattle.std.proofs.Common.{[], ap, arith, ◌∙◌, take_all}
 use Rattle.kt_stream.specs.declared.entry.LossRecord.{LossRecord}
 use Rattle.kt_shares.specs.Shares.{ids_of}
 use Rattle.kt_shares.proofs.LossLanesLemmas.{ids-next}

@@ -1,5 +1,4 @@
-use Rattle.std.proofs.Common.{[], arith, ◌∙◌}
-use Rattle.std.proofs.lemmas.List.{take_all}
+use Rattle.std.proofs.Common.{[], arith, ◌∙◌, take_all}
 use Rattle.kt_stream.specs.declared.entry.LossRecord.{LossRecord}
 use Rattle.kt_shares.proofs.LossLanesLemmas.{records-next}
 use Rattle.kt_shares.proofs.loss_lanes.LossLanes.to_records.Goals as goal

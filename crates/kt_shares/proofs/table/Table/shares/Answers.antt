@@ -1,24 +1,12 @@
-use Rattle.std.proofs.Common.{◌<◌, ◌∙◌, length, map, slice_index, ap, sym, subst, arith}
-use Rattle.std.specs.Prelude.{All}
-use Rattle.kt_shares.specs.Row.{Shared}
+use Rattle.std.proofs.Common.{arith}
 use Rattle.kt_shares.proofs.TableLemmas.{shares-are, shares-inside, table-long}
 use Rattle.kt_shares.proofs.table.Table.shares.Goals as goal
 
 pub lane-requires : goal.lane-requires
-lane-requires c =
-    let kept = c.self.inside in
-    let all = subst (All (λ row. c.args.place < length row.shares)) (sym c.self.view_is) c.requires.place in
-    record { place = shares-inside kept.shares kept.policies kept.rows c.self.invariant.some c.args.place all }
+lane-requires c = record { place = shares-inside c.self.inside c.self.invariant c.args.self.now c.self.view_is c.args.place c.requires.place }
 
 pub returns-clause-value : goal.returns-clause-value
-returns-clause-value c =
-    let kept = c.self.inside in
-    let all = subst (All (λ row. c.args.place < length row.shares)) (sym c.self.view_is) c.requires.place in
-    let inside = shares-inside kept.shares kept.policies kept.rows c.self.invariant.some c.args.place all in
-    shares-are kept.shares kept.policies kept.rows c.self.invariant.some c.self.invariant.shares c.args.place inside c.lane.result.now c.lane.ensures.value
-    ∙ ap (map (λ (row : Shared). slice_index row.shares c.args.place)) c.self.view_is
+returns-clause-value c = shares-are c.self.inside c.self.invariant c.args.self.now c.self.view_is c.args.place c.lane.result.now c.requires.place c.lane.ensures.value
 
 pub returns-clause-most : goal.returns-clause-most
-returns-clause-most c =
-    let kept = c.self.inside in
-    omega (arith, ap length c.self.view_is, table-long kept.shares kept.policies kept.rows c.self.invariant.some, c.self.invariant.most)
+returns-clause-most c = omega (arith, table-long c.self.inside c.self.invariant c.args.self.now c.self.view_is, c.self.invariant.most)
