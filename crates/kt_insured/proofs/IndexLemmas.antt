@@ -1,12 +1,10 @@
 -- The outputs that are found by their units are those that have a place.
-use Rattle.std.proofs.Common.{◌≡◌, ℕ, ◌&&◌, Bool, true, false, cond, nat_eq, List, [], ◌∷◌, ◌++◌, Option, Some, None, length, map, refl, sym, ap, ◌∙◌, append-nil}
+use Rattle.std.proofs.Common.{◌≡◌, ℕ, ◌&&◌, Bool, true, false, cond, nat_eq, List, [], ◌∷◌, ◌++◌, Option, Some, None, length, map, refl, sym, ap, ◌∙◌, append-nil, option_map, slice_get, eqb-true}
 use Rattle.std.proofs.Math.Path.{fun_ext}
-use Rattle.std.specs.Prelude.{option_map, slice_get}
 use Rattle.std.specs.Cmp.{nat_eq_equiv}
 use Rattle.std.specs.List.{cons_option, filter, filter_map, flat_map, range_with_len, zip}
 use Rattle.std.specs.Map.{lookup}
 use Rattle.std.specs.Option.{option_or}
-use Rattle.std.proofs.lemmas.Bool.{eqb-true}
 use Rattle.kt_rec.specs.Rising.{IsRising}
 use Rattle.kt_rec.specs.declared.financial.FmXref.{FmXref}
 use Rattle.kt_keys.specs.Keys.{same_pair}

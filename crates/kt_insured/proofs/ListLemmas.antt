@@ -1,10 +1,8 @@
 -- Lists that are looked up, and lists behind each other.
-use Rattle.std.proofs.Common.{◌≡◌, ℕ, zero, suc, ◌+◌, ◌-◌, ◌<◌, ◌≤◌, Bool, true, false, cond, List, [], ◌∷◌, ◌++◌, Option, Some, None, length, map, take, drop, slice_index, slice_index_or, refl, sym, ap, ◌∙◌, arith, add-one, append_assoc, append-nil, drop-cons}
-use Rattle.std.specs.Prelude.{unwrap_or}
+use Rattle.std.proofs.Common.{◌≡◌, ℕ, suc, ◌+◌, ◌-◌, ◌<◌, ◌≤◌, Bool, true, false, cond, List, [], ◌∷◌, ◌++◌, Option, Some, None, length, take, slice_index, slice_index_or, refl, sym, ap, ◌∙◌, arith, append-nil, unwrap_or}
 use Rattle.std.specs.List.{cons_option, filter_map, range_with_len, zip}
 use Rattle.std.specs.Map.{lookup}
 use Rattle.std.specs.Option.{option_or}
-use Rattle.std.proofs.lemmas.List.{map-append, take_more}
 use Rattle.kt_shares.specs.RowLaws.{made-more}
 
 -- ---- lookups

@@ -1,11 +1,9 @@
 -- What stands at the place of an output in a row of shares is its loss.
-use Rattle.std.proofs.Common.{◌≡◌, ℕ, ◌&&◌, ◌||◌, Bool, true, false, cond, nat_eq, List, [], ◌∷◌, ◌++◌, Option, Some, None, length, map, refl, sym, ap, ◌∙◌, arith}
-use Rattle.std.specs.Prelude.{unwrap_or}
+use Rattle.std.proofs.Common.{◌≡◌, ℕ, ◌&&◌, ◌||◌, Bool, true, false, cond, nat_eq, List, [], ◌∷◌, ◌++◌, Option, Some, None, length, map, refl, sym, ap, ◌∙◌, arith, unwrap_or, eqb-true}
 use Rattle.std.specs.Cmp.{nat_eq_equiv}
 use Rattle.std.specs.List.{flat_map, list_any, zip}
 use Rattle.std.specs.Map.{lookup}
 use Rattle.std.specs.Option.{option_or}
-use Rattle.std.proofs.lemmas.Bool.{eqb-true}
 use Rattle.std.proofs.lemmas.Grind.{flat_map-append}
 use Rattle.std.proofs.lemmas.List.{length-append, length-map}
 use Rattle.kt_keys.specs.Keys.{same_pair}
@@ -61,18 +59,14 @@ module _ (tree : Tree) (losses : ℕ → ℕ) (rule : ℕ) where
     abbrev found : List ((ℕ × ℕ) × ℕ) → Option ℕ
     found all = lookup (same_pair (agg, layer)) all
 
+    absent : (b : Bool) → None ≡ cond {A = Option ℕ} b None None
+    absent true = refl
+    absent false = refl
+
     -- what is found among the owners of one layer
     in-owners : (other : ℕ) (ids amounts : List ℕ) → found (zip (map (λ owner. (owner, other)) ids) amounts) ≡ cond (nat_eq layer other) (lookup (nat_eq agg) (zip ids amounts)) None
-    in-owners other [] amounts = by (nat_eq layer other)
-      where
-        by : (b : Bool) → None ≡ cond {A = Option ℕ} b None None
-        by true = refl
-        by false = refl
-    in-owners other (id ∷ ids) [] = by (nat_eq layer other)
-      where
-        by : (b : Bool) → None ≡ cond {A = Option ℕ} b None None
-        by true = refl
-        by false = refl
+    in-owners other [] amounts = absent (nat_eq layer other)
+    in-owners other (id ∷ ids) [] = absent (nat_eq layer other)
     in-owners other (id ∷ ids) (amount ∷ amounts) = by (nat_eq agg id) (nat_eq layer other) (in-owners other ids amounts)
       where
         by : (a b : Bool) → found (zip (map (λ owner. (owner, other)) ids) amounts) ≡ cond b (lookup (nat_eq agg) (zip ids amounts)) None → cond (a && b) (Some amount) (found (zip (map (λ owner. (owner, other)) ids) amounts)) ≡ cond b (cond a (Some amount) (lookup (nat_eq agg) (zip ids amounts))) None

@@ -1,6 +1,5 @@
 -- The rows of all sidx, and what they give for outputs and layers.
-use Rattle.std.proofs.Common.{◌≡◌, ℕ, suc, ◌+◌, ◌-◌, ◌<◌, ℤ, pos, List, [], ◌∷◌, Option, Some, None, length, map, slice_index, slice_index_or, refl, sym, ap, subst, ◌∙◌, arith}
-use Rattle.std.specs.Prelude.{All, option_map, unwrap_or}
+use Rattle.std.proofs.Common.{◌≡◌, ℕ, suc, ◌+◌, ◌-◌, ◌<◌, ℤ, pos, List, [], ◌∷◌, Option, Some, None, length, map, slice_index, slice_index_or, refl, sym, ap, subst, ◌∙◌, arith, All, option_map, unwrap_or}
 use Rattle.std.specs.List.{AllByRecursion, cons_option, filter_map, range_with_len, sum, sum_by}
 use Rattle.std.proofs.lemmas.List.{get_or-map, length-map}
 use Rattle.kt_keys.specs.Keys.{same_pair}

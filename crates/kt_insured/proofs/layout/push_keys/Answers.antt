@@ -1,6 +1,4 @@
-use Rattle.std.proofs.Common.{◌++◌, ◌∙◌, ℕ, List, ap, arith, map, refl, sym}
-use Rattle.std.proofs.lemmas.Bool.{ne_eqb}
-use Rattle.std.proofs.lemmas.List.{take_all}
+use Rattle.std.proofs.Common.{◌++◌, ◌∙◌, ℕ, List, ap, arith, map, refl, sym, ne_eqb, take_all}
 use Rattle.kt_fmtree.specs.LoopLaws.{behind-goes}
 use Rattle.kt_insured.proofs.KeyLemmas.{keys-shared}
 use Rattle.kt_insured.proofs.layout.push_keys.Goals as goal

@@ -1,5 +1,4 @@
-use Rattle.std.proofs.Common.{◌∙◌, List, ap, map, refl, subst, sym}
-use Rattle.std.specs.Prelude.{slice_get}
+use Rattle.std.proofs.Common.{◌∙◌, List, ap, map, refl, subst, sym, slice_get}
 use Rattle.kt_rec.specs.Rising.{IsRising}
 use Rattle.kt_insured.specs.declared.outlets.Outlet.{Outlet}
 use Rattle.kt_insured.specs.Outlets.{found}

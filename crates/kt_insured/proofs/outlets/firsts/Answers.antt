@@ -1,5 +1,4 @@
-use Rattle.std.proofs.Common.{◌∙◌, ap, arith}
-use Rattle.std.proofs.lemmas.List.{take_all}
+use Rattle.std.proofs.Common.{◌∙◌, ap, arith, take_all}
 use Rattle.kt_insured.specs.Outlets.{found}
 use Rattle.kt_insured.proofs.OutletLemmas.{kept-more, kept-none, kept-same}
 use Rattle.kt_insured.proofs.outlets.firsts.Goals as goal

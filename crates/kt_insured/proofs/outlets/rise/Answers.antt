@@ -1,5 +1,4 @@
-use Rattle.std.proofs.Common.{List, arith, map, subst}
-use Rattle.std.proofs.lemmas.List.{take_all}
+use Rattle.std.proofs.Common.{List, arith, map, subst, take_all}
 use Rattle.kt_rec.specs.Rising.{IsRising}
 use Rattle.kt_insured.specs.declared.outlets.Outlet.{Outlet}
 use Rattle.kt_insured.proofs.OutletLemmas.{rising-more, rising-none}

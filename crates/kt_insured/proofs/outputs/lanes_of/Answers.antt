@@ -1,7 +1,5 @@
-use Rattle.std.proofs.Common.{◌<◌, ◌∙◌, ◌++◌, [], List, length, slice_index_or, ap, sym, subst}
-use Rattle.std.specs.Prelude.{All}
+use Rattle.std.proofs.Common.{◌<◌, ◌∙◌, ◌++◌, [], List, length, slice_index_or, ap, sym, subst, All, take_all}
 use Rattle.std.specs.List.{cons_option, filter_map}
-use Rattle.std.proofs.lemmas.List.{take_all}
 use Rattle.std.proofs.lemmas.List.Elements.{All-from_recursion}
 use Rattle.kt_shares.specs.Row.{Shared}
 use Rattle.kt_shares.specs.RowLaws.{made-more}

@@ -1,5 +1,4 @@
-use Rattle.std.proofs.Common.{◌≡◌, ◌++◌, ◌∙◌, drop, length, take, arith}
-use Rattle.std.proofs.lemmas.List.{length-append, length-take-le}
+use Rattle.std.proofs.Common.{◌≡◌, ◌++◌, ◌∙◌, drop, length, take, arith, length-append, length-take-le}
 use Rattle.kt_shares.specs.WrittenLaws.{put-more}
 use Rattle.kt_insured.specs.Table.{record_in}
 use Rattle.kt_insured.specs.declared.outlets.Outlet.{Outlet}

@@ -1,5 +1,4 @@
-use Rattle.std.proofs.Common.{◌≡◌, ◌∙◌, ℕ, List, ap, sym, subst}
-use Rattle.std.specs.Prelude.{All}
+use Rattle.std.proofs.Common.{◌≡◌, ◌∙◌, ℕ, List, ap, sym, subst, All}
 use Rattle.kt_stream.specs.Losses.{IsLoss}
 use Rattle.kt_stream.specs.declared.entry.LossRecord.{LossRecord}
 use Rattle.kt_tree.specs.Struck.{is_struck, struck}
@@ -27,18 +26,16 @@ returns-clause-records g c =
     let entries = g.R.RunLosses.records_of c.args.run.now in
     let outputs = c.args.portfolio.now.rows.fm_xref in
     c.in_ok-made.ensures.records (struck tree c.deref.result.now) (c.in_ok-programme.ensures.value tree c.requires.structure)
-    ∙ (ap (λ rule. insured_records (struck tree c.deref.result.now) rule c.args.samples outputs entries) c.in_ok-layout.ensures.rule
-    ∙ (ap (λ (ids : List ℕ). insured_records (struck tree ids) c.args.rule c.args.samples outputs entries) (c.deref.ensures.value ∙ c.in_ok-ids.ensures.value)
-    ∙ records-struck tree c.requires.structure.is c.args.rule c.args.samples entries outputs))
+    ∙ ((λ i. insured_records (struck tree ((c.deref.ensures.value ∙ c.in_ok-ids.ensures.value) i)) (c.in_ok-layout.ensures.rule i) c.args.samples outputs entries)
+    ∙ records-struck tree c.requires.structure.is c.args.rule c.args.samples entries outputs)
 
 pub returns-clause-layers : goal.returns-clause-layers
 returns-clause-layers g c =
     let tree = tree_of c.args.portfolio.now.rows 0 in
     let entries = g.R.RunLosses.records_of c.args.run.now in
     c.in_ok-made.ensures.layers (struck tree c.deref.result.now) (c.in_ok-programme.ensures.value tree c.requires.structure)
-    ∙ (ap (λ rule. layer_sums (struck tree c.deref.result.now) rule c.args.samples entries) c.in_ok-layout.ensures.rule
-    ∙ (ap (λ (ids : List ℕ). layer_sums (struck tree ids) c.args.rule c.args.samples entries) (c.deref.ensures.value ∙ c.in_ok-ids.ensures.value)
-    ∙ sums-struck tree c.requires.structure.is c.args.rule c.args.samples entries))
+    ∙ ((λ i. layer_sums (struck tree ((c.deref.ensures.value ∙ c.in_ok-ids.ensures.value) i)) (c.in_ok-layout.ensures.rule i) c.args.samples entries)
+    ∙ sums-struck tree c.requires.structure.is c.args.rule c.args.samples entries)
 
 pub returns-clause-conserved : goal.returns-clause-conserved
 returns-clause-conserved g c =

@@ -26,6 +26,5 @@ returns-clause-ok g c =
     let outputs = c.args.portfolio.now.rows.fm_xref in
     c.in_ok-put_of.ensures.ok (struck tree c.deref.result.now) (c.in_ok-programme.ensures.value tree c.requires.structure)
     ∙ ap (λ (made : List LossRecord). c.args.out.now ++ flat_map loss_bytes made)
-    (ap (λ rule. insured_records (struck tree c.deref.result.now) rule c.args.samples outputs entries) c.in_ok-layout.ensures.rule
-    ∙ (ap (λ (ids : List ℕ). insured_records (struck tree ids) c.args.rule c.args.samples outputs entries) (c.deref.ensures.value ∙ c.in_ok-ids.ensures.value)
-    ∙ records-struck tree c.requires.structure.is c.args.rule c.args.samples entries outputs))
+    ((λ i. insured_records (struck tree ((c.deref.ensures.value ∙ c.in_ok-ids.ensures.value) i)) (c.in_ok-layout.ensures.rule i) c.args.samples outputs entries)
+    ∙ records-struck tree c.requires.structure.is c.args.rule c.args.samples entries outputs)
