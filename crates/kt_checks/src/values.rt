@@ -1,6 +1,5 @@
 //! The checks of values: of insured values, damage bins, probabilities and periods.
 ghost use Rattle.std.specs.Prelude.{◌≡◌, ℕ, map, nat_eq, nat_lt, unwrap_or, IfOk};
-ghost use Rattle.std.specs.HashMap.{get};
 ghost use Rattle.std.specs.Map.{lookup};
 ghost use Rattle.kt_rec.specs.Rows.{rows_of};
 ghost use Rattle.kt_keys.specs.Keys.{same_pair};
@@ -8,17 +7,17 @@ ghost use Rattle.kt_keys.specs.UnitTable.{value_of};
 ghost use Rattle.kt_keys.specs.FirstRow.{first_where, above_at};
 ghost use Rattle.kt_checks.specs.TableChecks.{sum_above_at, value_above_at, value_check, bad_bin_at, bin_check, probability_check, period_check};
 
-use kt_keys::{Need, Refusal, UnitTable, base, first_above, first_values, has_base, has_both};
+use kt_keys::{Need, Refusal, UnitTable, base, first_above, has_base, has_both};
 use kt_rec::{Coverage, DamageBin, Item, Occurrence, Table, Tables, Vulnerability};
 use std::alloc::{AllocError, Global};
-use std::collections::HashMap;
 
-/// The insured value of each coverage in cents: that of its first row. The error is want of memory.
-pub fn tivs(alloc: Global, coverages: &[Coverage]) -> Result<HashMap<u32, u64>, AllocError>
-    ensures value { IfOk result (λ tivs. (coverage : ℕ) → get nat_eq tivs coverage ≡ lookup (nat_eq coverage) (map (λ row. (row.coverage_id, row.tiv)) coverages.now)) }
+/// The insured value of each coverage in cents, as a unit of level 0: that of its first row. The error is want of memory.
+pub fn tivs(alloc: Global, coverages: &[Coverage]) -> Result<UnitTable<u64>, AllocError>
+    ensures value { IfOk result (λ tivs. (coverage : ℕ) → value_of tivs (0, coverage) ≡ lookup (nat_eq coverage) (map (λ row. (row.coverage_id, row.tiv)) coverages.now)) }
 {
-    let values = values_of(alloc, coverages)?;
-    first_values(alloc, &values)
+    let units = coverage_units(alloc, coverages)?;
+    let values = UnitTable::new(alloc, &units)?;
+    Ok(values)
 }
 
 /// The first item at which the insured values so far add to more than 10^14 cents.
@@ -29,18 +28,8 @@ fn value_above(
 ) -> Result<Option<u64>, AllocError>
     ensures value { IfOk result (λ row. row ≡ value_above_at coverages.now items.now) }
 {
-    let values = value_units(alloc, coverages)?;
+    let values = tivs(alloc, coverages)?;
     Ok(sum_above(&values, items))
-}
-
-/// The coverages with their values.
-fn values_of(alloc: Global, coverages: &[Coverage]) -> Result<Vec<(u32, u64)>, AllocError>
-    ensures value { IfOk result (λ values. values.items ≡ map (λ row. (row.coverage_id, row.tiv)) coverages.now) }
-{
-    coverages
-        .iter()
-        .map(|row| (row.coverage_id, row.tiv))
-        .collect(alloc)
 }
 
 /// The coverages with their values, as units of level 0.
@@ -54,15 +43,6 @@ fn coverage_units(
         .iter()
         .map(|row| ((0, row.coverage_id), row.tiv))
         .collect(alloc)
-}
-
-/// The value of each coverage, as a unit of level 0: that of its first row.
-fn value_units(alloc: Global, coverages: &[Coverage]) -> Result<UnitTable<u64>, AllocError>
-    ensures value { IfOk result (λ values. (coverage : ℕ) → value_of values (0, coverage) ≡ lookup (nat_eq coverage) (map (λ row. (row.coverage_id, row.tiv)) coverages.now)) }
-{
-    let units = coverage_units(alloc, coverages)?;
-    let values = UnitTable::new(alloc, &units)?;
-    Ok(values)
 }
 
 /// The first item at which the values of the coverages so far, one for each item, add to more than 10^14 cents.

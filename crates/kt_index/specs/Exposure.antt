@@ -1,7 +1,8 @@
 -- The coverages of summaries, and what they are worth.
 use Rattle.std.specs.Prelude.{◌≡◌, ℕ, ◌<◌, ◌^◌, ◌&&◌, nat_eq, Bool, List, unwrap_or}
 use Rattle.std.specs.List.{IsDistinct, list_any, sum_by}
-use Rattle.std.specs.HashMap.{HashMap, get}
+use Rattle.kt_keys.specs.UnitTable.{value_of}
+use Rattle.kt_keys.specs.declared.unit_table.UnitTable.{UnitTable}
 use Rattle.kt_index.specs.declared.exposure.SummaryUnit.{SummaryUnit}
 use Rattle.kt_index.specs.declared.exposure.UnitCoverage.{UnitCoverage}
 
@@ -13,9 +14,9 @@ unit_covers pairs unit coverage = list_any (λ pair. nat_eq pair.unit unit && na
 abbrev pub summary_covers : List SummaryUnit → List UnitCoverage → ℕ × ℕ → ℕ → Bool
 summary_covers rows pairs key coverage = list_any (λ row. nat_eq row.set key.0 && nat_eq row.summary key.1 && unit_covers pairs row.unit coverage) rows
 
--- the insured value of a coverage, 0 where it is unknown
-abbrev pub value_in : {S : Type 0} → HashMap ℕ ℕ S → ℕ → ℕ
-value_in tivs coverage = unwrap_or (get nat_eq tivs coverage) 0
+-- the insured value of a coverage, which is a unit of level 0, and 0 where it is unknown
+abbrev pub value_in : UnitTable ℕ → ℕ → ℕ
+value_in tivs coverage = unwrap_or (value_of tivs (0, coverage)) 0
 
 -- a total is the sum of the values of those that pass a test, each once
 pub record IsTotalOf (test : ℕ → Bool) (value : ℕ → ℕ) (total : ℕ) : Type 0 where

@@ -11,7 +11,7 @@ ghost use Rattle.kt_index.specs.Exposure.{AreOfOneSummary, summary_covers, value
 use crate::by_key::{ByKey, Keyed, rows_near};
 use crate::keys::pair_key;
 use crate::once::keep_once;
-use kt_keys::first_values;
+use kt_keys::{UnitTable, first_values};
 use std::alloc::{AllocError, Global};
 use std::collections::HashMap;
 
@@ -70,52 +70,52 @@ fn is_of(row: &SummaryUnit, set: u32, summary: u32) -> bool
     row.set == set && row.summary == summary
 }
 
-/// The coverages of a summary of a set, one for each row and pair.
-fn all_coverages(
-    alloc: Global,
+/// Puts the coverages of a summary of a set, one for each row and pair, into a list in place of what was there.
+fn list_coverages(
     rows: &[SummaryUnit],
     pairs: &ByKey<UnitCoverage>,
     set: u32,
     summary: u32,
-) -> Result<Vec<u32>, AllocError>
-    ensures value { IfOk result (λ found. (coverage : ℕ) → list_any (nat_eq coverage) found.items ≡ summary_covers rows.now pairs.now (set, summary) coverage) }
+    found: &mut Vec<u32>,
+) -> Result<(), AllocError>
+    ensures value { IfOk result (λ _. (coverage : ℕ) → list_any (nat_eq coverage) found.new.items ≡ summary_covers rows.now pairs.now (set, summary) coverage) }
 {
-    let mut found = Vec::with_capacity(alloc, rows.len())?;
+    found.clear();
     for row in rows {
         if is_of(row, set, summary) {
-            push_coverages(&mut found, pairs.of(u64::from(row.unit)))?;
+            push_coverages(found, pairs.of(u64::from(row.unit)))?;
         }
     }
-    Ok(found)
+    Ok(())
 }
 
 /// What coverages are worth together.
-fn value_of(tivs: &HashMap<u32, u64>, coverages: &[u32]) -> u64
+fn value_of(tivs: &UnitTable<u64>, coverages: &[u32]) -> u64
     requires values { AddsUp (value_in tivs.now) }
     requires distinct { IsDistinct nat_eq coverages.now }
     ensures value { result ≡ sum_by (value_in tivs.now) coverages.now }
 {
     coverages
         .iter()
-        .map(|coverage| tivs.get(coverage).copied().unwrap_or(0))
+        .map(|coverage| tivs.of(0, *coverage).unwrap_or(0))
         .sum()
 }
 
-/// What the coverages of a summary of a set are worth.
+/// What the coverages of a summary of a set are worth. They are listed where those of other summaries were.
 fn summary_value(
-    alloc: Global,
     rows: &[SummaryUnit],
     pairs: &ByKey<UnitCoverage>,
-    tivs: &HashMap<u32, u64>,
+    tivs: &UnitTable<u64>,
     set: u32,
     summary: u32,
+    coverages: &mut Vec<u32>,
 ) -> Result<u64, AllocError>
     requires { AddsUp (value_in tivs.now) }
     ensures value { IfOk result (IsTotalOf (summary_covers rows.now pairs.now (set, summary)) (value_in tivs.now)) }
 {
-    let mut coverages = all_coverages(alloc, rows, pairs, set, summary)?;
-    keep_once(&mut coverages);
-    Ok(value_of(tivs, &coverages))
+    list_coverages(rows, pairs, set, summary, coverages)?;
+    keep_once(coverages);
+    Ok(value_of(tivs, coverages))
 }
 
 /// The exposures of the summaries of rows, one after the other: for each pair of a set and a summary, what the coverages of its
@@ -124,7 +124,7 @@ pub fn exposure_list(
     alloc: Global,
     rows: Vec<SummaryUnit>,
     pairs: Vec<UnitCoverage>,
-    tivs: &HashMap<u32, u64>,
+    tivs: &UnitTable<u64>,
 ) -> Result<Vec<((u32, u32), u64)>, AllocError>
     requires { AddsUp (value_in tivs.now) }
     ensures value { IfOk result (λ totals. (key : ℕ × ℕ) → IsTotalOf (summary_covers rows.items pairs.items key) (value_in tivs.now) (unwrap_or (lookup (same_pair key) totals.items) 0)) }
@@ -150,7 +150,7 @@ pub fn exposures(
     alloc: Global,
     rows: Vec<SummaryUnit>,
     pairs: Vec<UnitCoverage>,
-    tivs: &HashMap<u32, u64>,
+    tivs: &UnitTable<u64>,
 ) -> Result<HashMap<(u32, u32), u64>, AllocError>
     requires { AddsUp (value_in tivs.now) }
     ensures value { IfOk result (λ totals. (key : ℕ × ℕ) → IsTotalOf (summary_covers rows.items pairs.items key) (value_in tivs.now) (unwrap_or (get same_pair totals key) 0)) }
@@ -186,18 +186,19 @@ fn totals_of(
     alloc: Global,
     rows: &ByKey<SummaryUnit>,
     pairs: &ByKey<UnitCoverage>,
-    tivs: &HashMap<u32, u64>,
+    tivs: &UnitTable<u64>,
 ) -> Result<Vec<((u32, u32), u64)>, AllocError>
     requires { AddsUp (value_in tivs.now) }
     ensures value { IfOk result (λ totals. (key : ℕ × ℕ) → IsTotalOf (summary_covers rows.now pairs.now key) (value_in tivs.now) (unwrap_or (lookup (same_pair key) totals.items) 0)) }
 {
     let mut totals: Vec<((u32, u32), u64)> = Vec::new(alloc);
+    let mut coverages = Vec::new(alloc);
     let all = rows.as_slice();
     for (place, row) in all.iter().enumerate() {
         let (set, summary) = (row.set, row.summary);
         if !goes_on(all, place) {
             let group = group_at(rows, place, row.key());
-            let value = summary_value(alloc, group, pairs, tivs, set, summary)?;
+            let value = summary_value(group, pairs, tivs, set, summary, &mut coverages)?;
             totals.push(((set, summary), value))?;
         }
     }

@@ -1,5 +1,5 @@
 -- What the coverages beneath a unit are worth is the sum over the distinct coverages beneath it.
-use Rattle.std.proofs.Common.{◌≡◌, ℕ, zero, suc, ◌+◌, ◌≤◌, ◌<◌, Bool, true, false, cond, List, [], ◌∷◌, ◌++◌, map, refl, ap, sym, subst, ◌∙◌, nat_eq, Option, None, Some, arith, append-nil, append_assoc, ◌-◌}
+use Rattle.std.proofs.Common.{◌≡◌, ℕ, zero, suc, ◌+◌, ◌≤◌, ◌<◌, Bool, true, false, cond, List, [], ◌∷◌, map, refl, ap, sym, subst, ◌∙◌, nat_eq, Option, None, Some, arith}
 use Rattle.std.proofs.Math.Path.{fun_ext}
 use Rattle.std.specs.Prelude.{◌&&◌, ◌||◌}
 use Rattle.std.specs.List.{IsDistinct, AllByRecursion, flat_map, list_any, sum_by}
@@ -83,22 +83,6 @@ own-covers coverages unit coverage member = by (nat_eq unit coverage) refl
     by : (b : Bool) → nat_eq unit coverage ≡ b → unit_covers (map own_pair coverages) unit coverage ≡ b
     by true is = subst (λ n. unit_covers (map own_pair coverages) n coverage ≡ true) (sym (eqb-true unit coverage is)) (own-yes coverages coverage member)
     by false is = own-no coverages unit coverage is
-
--- ---- a climb, step by step
-
-pub climb-ends : (next : ℕ × ℕ → Option ℕ) (levels level unit coverage : ℕ) (rows all : List SummaryUnit) → 0 < levels → None ≡ next (level, unit) → rows ++ climb_rows next levels level unit coverage ≡ all → rows ≡ all
-climb-ends next zero level unit coverage rows all some none so_far = absurd (omega arith)
-climb-ends next (suc levels) level unit coverage rows all some none so_far =
-    sym (append-nil rows) ∙ (ap (λ found. rows ++ row_and level coverage found (λ reached. climb_rows next levels (level + 1) reached coverage)) none ∙ so_far)
-
-pub climb-goes : (next : ℕ × ℕ → Option ℕ) (levels level unit coverage reached : ℕ) (rows more all : List SummaryUnit) → 0 < levels → Some reached ≡ next (level, unit) → rows ++ climb_rows next levels level unit coverage ≡ all → more ≡ rows ++ record { set = level; summary = reached; unit = coverage } ∷ [] → more ++ climb_rows next (levels - 1) (level + 1) reached coverage ≡ all
-climb-goes next zero level unit coverage reached rows more all some found so_far more_is = absurd (omega arith)
-climb-goes next (suc levels) level unit coverage reached rows more all some found so_far more_is =
-    let less : suc levels - 1 ≡ levels = omega arith in
-    ap (λ n. more ++ climb_rows next n (level + 1) reached coverage) less
-    ∙ (ap (λ rs. rs ++ climb_rows next levels (level + 1) reached coverage) more_is
-    ∙ (append_assoc rows (record { set = level; summary = reached; unit = coverage } ∷ []) (climb_rows next levels (level + 1) reached coverage)
-    ∙ (ap (λ at. rows ++ row_and level coverage at (λ r. climb_rows next levels (level + 1) r coverage)) found ∙ so_far)))
 
 -- ---- what is found is what lies beneath
 

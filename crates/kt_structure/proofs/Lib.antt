@@ -7,3 +7,4 @@ pub mod RisingLemmas
 pub mod TermLemmas
 pub mod StruckLemmas
 pub mod MadeLemmas
+pub mod LevelLemmas

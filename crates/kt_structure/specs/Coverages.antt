@@ -1,5 +1,5 @@
 -- The coverages beneath units, as rows of units with coverages.
-use Rattle.std.specs.Prelude.{ℕ, zero, suc, ◌+◌, List, [], ◌∷◌, Option, Some, None}
+use Rattle.std.specs.Prelude.{ℕ, zero, suc, ◌+◌, List, [], ◌∷◌, Option, Some, None, option_map}
 use Rattle.kt_rec.specs.declared.exposure.Coverage.{Coverage}
 use Rattle.kt_index.specs.declared.exposure.SummaryUnit.{SummaryUnit}
 use Rattle.kt_index.specs.declared.exposure.UnitCoverage.{UnitCoverage}
@@ -22,6 +22,14 @@ covered_rows next top id (Some coverage) = climb_rows next top 1 id coverage
 -- those of an id with its coverage
 abbrev pub rows_for : (ℕ × ℕ → Option ℕ) → ℕ → ℕ × Option ℕ → List SummaryUnit
 rows_for next top pair = covered_rows next top pair.0 pair.1
+
+-- an id with its coverage, where it has one, as a unit of level 0
+abbrev pub start_row : ℕ × Option ℕ → Option SummaryUnit
+start_row pair = option_map (λ coverage. record { set = 0; summary = pair.0; unit = coverage }) pair.1
+
+-- the unit of a level that the losses of a unit below go to, where they go to one, with the same coverage
+abbrev pub row_up : (ℕ × ℕ → Option ℕ) → ℕ → SummaryUnit → Option SummaryUnit
+row_up next level row = option_map (λ unit. record { set = level; summary = unit; unit = row.unit }) (next (level, row.summary))
 
 -- a coverage with itself
 abbrev pub own_pair : Coverage → UnitCoverage

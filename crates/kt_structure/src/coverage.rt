@@ -1,16 +1,17 @@
 //! What the distinct coverages beneath units are worth.
 //! The rule: docs/FINANCIAL_MODULE.md, "Levels".
-ghost use Rattle.std.specs.Prelude.{◌≡◌, ◌≤◌, ◌++◌, ℕ, length, nat_eq, map, unwrap_or, All, IfOk, OnOk};
-ghost use Rattle.std.specs.List.{IsDistinct, flat_map};
+ghost use Rattle.std.specs.Prelude.{◌≡◌, ◌≤◌, Bool, ℕ, length, nat_eq, map, unwrap_or, All, IfOk};
+ghost use Rattle.std.specs.List.{IsDistinct, filter_map, flat_map, list_any};
 ghost use Rattle.std.specs.Map.{lookup};
 ghost use Rattle.std.specs.HashMap.{get};
 ghost use Rattle.kt_rec.specs.Ranges.{IsCoverage};
 ghost use Rattle.kt_rec.specs.Rows.{rows_of};
 ghost use Rattle.kt_keys.specs.UnitTable.{value_of};
+ghost use Rattle.kt_index.specs.declared.exposure.SummaryUnit.{SummaryUnit};
 ghost use Rattle.kt_index.specs.Exposure.{IsTotalOf, summary_covers};
 ghost use Rattle.kt_checks.specs.TableChecks.{tiv_of};
 ghost use Rattle.kt_tree.specs.Programme.{coverage_of, covered_ids};
-ghost use Rattle.kt_structure.specs.Coverages.{climb_rows, rows_for, own_pair};
+ghost use Rattle.kt_structure.specs.Coverages.{own_pair, row_up, rows_for, start_row};
 
 use kt_checks::tivs as coverage_tivs;
 use kt_index::{SummaryUnit, UnitCoverage, exposure_list};
@@ -97,47 +98,70 @@ pub(crate) fn covered_ids(
     }
 }
 
-/// Adds the units that an id's losses come to, level by level, with its coverage.
-fn push_climb(
-    next: &UnitTable<u32>,
-    top: u32,
-    id: u32,
-    coverage: u32,
-    rows: &mut Vec<SummaryUnit>,
-) -> Result<(), AllocError>
-    ensures ok { OnOk result (rows.new.items ≡ rows.old.items ++ climb_rows (value_of next.now) top 1 id coverage) }
+/// An id with its coverage, where it has one, as a unit of level 0.
+fn start_row(pair: &(u32, Option<u32>)) -> Option<SummaryUnit>
+    ensures value { result ≡ start_row pair.now }
 {
-    let mut unit = id;
-    for below in 0..top {
-        match next.of(below + 1, unit) {
-            None => return Ok(()),
-            Some(reached) => {
-                unit = reached;
-                rows.push(SummaryUnit {
-                    set: below + 1,
-                    summary: unit,
-                    unit: coverage,
-                })?;
-            }
-        }
-    }
-    Ok(())
+    let coverage = pair.1?;
+    Some(SummaryUnit {
+        set: 0,
+        summary: pair.0,
+        unit: coverage,
+    })
 }
 
-/// The units that the losses of ids come to, level by level, with the coverages of the ids.
+/// The ids that have coverages, as units of level 0.
+fn start_rows(alloc: Global, covered: &[(u32, Option<u32>)]) -> Result<Vec<SummaryUnit>, AllocError>
+    ensures value { IfOk result (λ rows. rows.items ≡ filter_map start_row covered.now) }
+{
+    covered
+        .iter()
+        .filter_map(|pair| start_row(pair))
+        .collect(alloc)
+}
+
+/// The unit of a level that the losses of a unit below go to, where they go to one, with the same coverage.
+fn row_up(next: &UnitTable<u32>, level: u32, row: &SummaryUnit) -> Option<SummaryUnit>
+    ensures value { result ≡ row_up (value_of next.now) level row.now }
+{
+    let unit = next.of(level, row.summary)?;
+    Some(SummaryUnit {
+        set: level,
+        summary: unit,
+        unit: row.unit,
+    })
+}
+
+/// The units of a level that the losses of units below go to, with the same coverages.
+fn rows_up(
+    alloc: Global,
+    next: &UnitTable<u32>,
+    level: u32,
+    rows: &[SummaryUnit],
+) -> Result<Vec<SummaryUnit>, AllocError>
+    ensures value { IfOk result (λ higher. higher.items ≡ filter_map (row_up (value_of next.now) level) rows.now) }
+{
+    rows.iter()
+        .filter_map(|row| row_up(next, level, row))
+        .collect(alloc)
+}
+
+/// The units that the losses of ids come to, with the coverages of the ids. They stand level by level, so that they are in the order
+/// of their levels and units already, where ids and units are numbered alike.
 fn climbs(
     alloc: Global,
     next: &UnitTable<u32>,
     top: u32,
     covered: &[(u32, Option<u32>)],
 ) -> Result<Vec<SummaryUnit>, AllocError>
-    ensures value { IfOk result (λ rows. rows.items ≡ flat_map (rows_for (value_of next.now) top) covered.now) }
+    ensures value { IfOk result (λ rows. (test : SummaryUnit → Bool) → list_any test rows.items ≡ list_any test (flat_map (rows_for (value_of next.now) top) covered.now)) }
 {
     let mut rows = Vec::with_capacity(alloc, covered.len().saturating_mul(top as usize))?;
-    for pair in covered {
-        if let (id, Some(coverage)) = *pair {
-            push_climb(next, top, id, coverage, &mut rows)?;
-        }
+    let mut here = start_rows(alloc, covered)?;
+    for below in 0..top {
+        let higher = rows_up(alloc, next, below + 1, &here)?;
+        rows.extend_from_slice(&higher)?;
+        here = higher;
     }
     Ok(rows)
 }

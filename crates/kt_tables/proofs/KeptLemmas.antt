@@ -1,9 +1,10 @@
 -- What is kept for the lookups, from what makes it.
 use Rattle.std.proofs.Common.{◌≡◌, ◌∙◌, ℕ, List, map, ap, subst, sym, nat_eq, Result, Ok, Err, HashMap, BuildHasherDefault, FoldHasher}
-use Rattle.std.specs.HashMap.{get}
 use Rattle.std.specs.Map.{lookup}
 use Rattle.std.specs.Result.{IfOk}
 use Rattle.kt_rec.specs.Rows.{Rows}
+use Rattle.kt_keys.specs.UnitTable.{value_of}
+use Rattle.kt_keys.specs.declared.unit_table.UnitTable.{UnitTable}
 use Rattle.kt_rec.specs.declared.exposure.Coverage.{Coverage}
 use Rattle.kt_rec.specs.declared.perspective.Perspective.{Perspective}
 use Rattle.kt_rec.specs.declared.perspective.Perspective.TheVariants.{Il, Ri}
@@ -13,7 +14,7 @@ use Rattle.kt_tables.specs.Lookups.{summary_rows}
 use Rattle.kt_tables.specs.Kept.{AreExposures, AreSummaries, AreSummariesOf, AreTivs}
 
 -- the insured values, made of the table of coverages
-pub tivs_made : {S : Type 0} (rows : Rows) (list : List Coverage) (tivs : HashMap ℕ ℕ S) → list ≡ rows.coverages → ((coverage : ℕ) → get nat_eq tivs coverage ≡ lookup (nat_eq coverage) (map (λ row. (row.coverage_id, row.tiv)) list)) → AreTivs rows tivs
+pub tivs_made : (rows : Rows) (list : List Coverage) (tivs : UnitTable ℕ) → list ≡ rows.coverages → ((coverage : ℕ) → value_of tivs (0, coverage) ≡ lookup (nat_eq coverage) (map (λ row. (row.coverage_id, row.tiv)) list)) → AreTivs rows tivs
 tivs_made rows list tivs is known = λ coverage. known coverage ∙ ap (λ (found : List Coverage). lookup (nat_eq coverage) (map (λ row. (row.coverage_id, row.tiv)) found)) is
 
 -- the summaries of rows, with the exposures of a perspective, are those of the perspective

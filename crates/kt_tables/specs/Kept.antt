@@ -7,6 +7,8 @@ use Rattle.std.specs.HashMap.{HashMap, get}
 use Rattle.std.specs.HashSet.{contains}
 use Rattle.kt_rec.specs.Rows.{Rows, rows_of}
 use Rattle.kt_keys.specs.Keys.{same_pair}
+use Rattle.kt_keys.specs.UnitTable.{value_of}
+use Rattle.kt_keys.specs.declared.unit_table.UnitTable.{UnitTable}
 use Rattle.kt_checks.specs.TableChecks.{tiv_of}
 use Rattle.kt_index.specs.Exposure.{AddsUp}
 use Rattle.kt_checks.specs.SummaryChecks.{CountsSummaries}
@@ -39,8 +41,8 @@ pub record AreSummaries (rows : List SummaryUnit) (summaries : Summaries) : Type
   pub by_id : (key : ℕ) → filter (λ row. nat_eq (unit_key row) key) summaries.by_id ≡ filter (λ row. nat_eq (unit_key row) key) (map unit_summary rows)
 
 -- the insured value of each coverage is that of its first row
-abbrev pub AreTivs : {S : Type 0} → Rows → HashMap ℕ ℕ S → Type 0
-AreTivs rows tivs = (coverage : ℕ) → get nat_eq tivs coverage ≡ lookup (nat_eq coverage) (map (λ row. (row.coverage_id, row.tiv)) rows.coverages)
+abbrev pub AreTivs : Rows → UnitTable ℕ → Type 0
+AreTivs rows tivs = (coverage : ℕ) → value_of tivs (0, coverage) ≡ lookup (nat_eq coverage) (map (λ row. (row.coverage_id, row.tiv)) rows.coverages)
 
 -- the rows of each event are those of the occurrence table, in table order
 abbrev pub AreOccurrences : Rows → List Occurrence → Type 0

@@ -106,7 +106,7 @@ pub(crate) fn item_exposures(
     alloc: Global,
     tables: &Tables,
     rows: &[SummaryUnit],
-    tivs: &HashMap<u32, u64>,
+    tivs: &UnitTable<u64>,
 ) -> Result<HashMap<(u32, u32), u64>, AllocError>
     requires addable { AreAddable (rows_of tables.now) }
     requires rows { rows.now ≡ item_summary_rows (rows_of tables.now) }
@@ -124,7 +124,7 @@ pub(crate) fn output_exposures(
     tables: &Tables,
     rule: u32,
     rows: &[SummaryUnit],
-    tivs: &HashMap<u32, u64>,
+    tivs: &UnitTable<u64>,
 ) -> Result<HashMap<(u32, u32), u64>, AllocError>
     requires addable { AreAddable (rows_of tables.now) }
     requires rows { rows.now ≡ output_summary_rows (rows_of tables.now) }

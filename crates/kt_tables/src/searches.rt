@@ -107,12 +107,7 @@ impl Portfolio {
     pub fn tiv(&self, coverage: u32) -> u64
         ensures value { result ≡ tiv_of self.now.rows.coverages coverage }
     {
-        self.lookups
-            .summaries
-            .tivs
-            .get(&coverage)
-            .copied()
-            .unwrap_or(0)
+        self.lookups.summaries.tivs.of(0, coverage).unwrap_or(0)
     }
 
     /// The random number of an event, a group and a sample from 1 on, in parts per million. The table of random numbers

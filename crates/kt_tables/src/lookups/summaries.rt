@@ -8,15 +8,15 @@ use crate::columns::parts_of;
 use crate::exposures::{item_exposures, output_exposures};
 use crate::summaries::Summaries;
 use kt_checks::tivs;
+use kt_keys::UnitTable;
 use kt_rec::Tables;
 use std::alloc::{AllocError, Global};
-use std::collections::HashMap;
 
 /// The lookups of the insured values of coverages, and of the summaries that add them.
 #[derive(Drop)]
 pub(crate) struct SummaryLookups {
-    /// The insured value of each coverage.
-    pub(crate) tivs: HashMap<u32, u64>,
+    /// The insured value of each coverage, as a unit of level 0.
+    pub(crate) tivs: UnitTable<u64>,
     /// The summaries of items.
     pub(crate) of_items: Summaries,
     /// The summaries of outputs.
@@ -24,11 +24,7 @@ pub(crate) struct SummaryLookups {
 }
 
 /// The summaries of items.
-fn of_items(
-    alloc: Global,
-    tables: &Tables,
-    tivs: &HashMap<u32, u64>,
-) -> Result<Summaries, AllocError>
+fn of_items(alloc: Global, tables: &Tables, tivs: &UnitTable<u64>) -> Result<Summaries, AllocError>
     requires addable { AreAddable (rows_of tables.now) }
     requires tivs { AreTivs (rows_of tables.now) tivs.now }
     ensures value { IfOk result (λ found. (rule : ℕ) → AreSummariesOf perspective.Gul (rows_of tables.now) rule found) }
@@ -43,7 +39,7 @@ fn of_outputs(
     alloc: Global,
     tables: &Tables,
     rule: u32,
-    tivs: &HashMap<u32, u64>,
+    tivs: &UnitTable<u64>,
 ) -> Result<Summaries, AllocError>
     requires addable { AreAddable (rows_of tables.now) }
     requires tivs { AreTivs (rows_of tables.now) tivs.now }

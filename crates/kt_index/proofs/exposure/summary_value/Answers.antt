@@ -11,7 +11,7 @@ returns c = record {
   value = record {
     ids = c.deref.result.now;
     distinct = subst (IsDistinct nat_eq) (sym c.deref.ensures.value) (distinct-from_rising _ c.keep_once.ensures.rising);
-    passing = λ id. ap (λ (ids : List ℕ). list_any (nat_eq id) ids) c.deref.ensures.value ∙ (c.keep_once.ensures.same id ∙ c.in_ok-coverages.ensures.value id);
+    passing = λ id. ap (λ (ids : List ℕ). list_any (nat_eq id) ids) c.deref.ensures.value ∙ (c.keep_once.ensures.same id ∙ c.in_ok-list_coverages.ensures.value id);
     is = c.value_of.ensures.value;
   };
 }

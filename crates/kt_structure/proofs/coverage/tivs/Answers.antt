@@ -1,14 +1,14 @@
 use Rattle.std.proofs.Common.{◌∙◌, ℕ, List, Option, ap, map, unwrap_or, subst, sym}
 use Rattle.std.proofs.Math.Path.{fun_ext}
-use Rattle.std.specs.List.{flat_map}
+use Rattle.std.specs.List.{flat_map, list_any}
 use Rattle.std.specs.Map.{lookup}
 use Rattle.kt_keys.specs.Keys.{same_pair}
 use Rattle.kt_keys.specs.UnitTable.{value_of}
 use Rattle.kt_index.specs.Exposure.{AddsUp, IsTotalOf, summary_covers, value_in}
-use Rattle.kt_index.specs.declared.exposure.SummaryUnit.{SummaryUnit}
 use Rattle.kt_index.specs.declared.exposure.UnitCoverage.{UnitCoverage}
 use Rattle.kt_structure.specs.Coverages.{rows_for, own_pair}
 use Rattle.kt_checks.specs.Worth.{values-few}
+use Rattle.kt_structure.proofs.LevelLemmas.{total-among}
 use Rattle.kt_structure.proofs.coverage.tivs.Goals as goal
 
 pub exposure_list-requires : goal.exposure_list-requires
@@ -23,7 +23,7 @@ returns c = record {
       let pairs = map own_pair c.args.coverages.now in
       let total = unwrap_or (value_of c.in_ok-found.found key) 0 in
       subst (λ (value : ℕ → ℕ). IsTotalOf (summary_covers rows pairs key) value total) (fun_ext (λ (id : ℕ). ap (λ found. unwrap_or found 0) (c.in_ok-values.ensures.value id)))
-      (subst (λ (all : List SummaryUnit). IsTotalOf (summary_covers all pairs key) (value_in c.in_ok-values.values) total) (c.in_ok-rows.ensures.value ∙ ap (flat_map (rows_for next c.args.top)) c.deref.ensures.value)
+      (total-among pairs key (value_in c.in_ok-values.values) total c.in_ok-rows.rows.items rows (λ test. c.in_ok-rows.ensures.value test ∙ ap (λ ids. list_any test (flat_map (rows_for next c.args.top) ids)) c.deref.ensures.value)
       (subst (λ (all : List UnitCoverage). IsTotalOf (summary_covers c.in_ok-rows.rows.items all key) (value_in c.in_ok-values.values) total) c.in_ok-pairs.ensures.value
       (subst (λ (found : Option ℕ). IsTotalOf (summary_covers c.in_ok-rows.rows.items c.in_ok-pairs.pairs.items key) (value_in c.in_ok-values.values) (unwrap_or found 0)) (sym (c.in_ok-found.ensures.value key ∙ ap (lookup (same_pair key)) c.deref-2.ensures.value))
       (c.in_ok-totals.ensures.value key))));

@@ -2,7 +2,7 @@ use Rattle.std.proofs.Common.{◌∙◌, ap}
 use Rattle.std.specs.Map.{lookup}
 use Rattle.kt_keys.specs.Keys.{same_pair}
 use Rattle.kt_checks.proofs.UnitLemmas.{worth-known}
-use Rattle.kt_checks.proofs.values.value_units.Goals as goal
+use Rattle.kt_checks.proofs.values.tivs.Goals as goal
 
 pub returns : goal.returns
 returns c = record {
