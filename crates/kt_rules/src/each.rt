@@ -13,6 +13,9 @@ use crate::steps::{Step, bounded_part_of, part_of};
 use crate::table::steps_of;
 use kt_money::ppm_of;
 
+/// The share that leaves the whole loss, in parts per million.
+const WHOLE: u32 = 1_000_000;
+
 /// Of a loss what a franchise leaves.
 #[inline]
 fn from_franchise(amount: u64, loss: u64) -> u64
@@ -29,10 +32,14 @@ fn from_reverse_franchise(amount: u64, loss: u64) -> u64
     if loss > amount { 0 } else { loss }
 }
 
-/// Of each loss what a deductible or an attachment leaves.
+/// Of each loss what a deductible or an attachment leaves. Where it is 0, nothing is touched.
+#[tactic(auto, using(crate::proofs::EachLemmas::nothing_deducted))]
 fn deduct_each(amount: u64, losses: &mut [u64])
     ensures value { IsEach (λ loss. (deduct amount (untouched loss)).loss) losses.old losses.new }
 {
+    if amount == 0 {
+        return;
+    }
     for k in 0..losses.len() {
         losses[k] = losses[k].saturating_sub(amount);
     }
@@ -47,12 +54,16 @@ fn limit_each(amount: u64, losses: &mut [u64])
     }
 }
 
-/// Of each loss what a share leaves.
+/// Of each loss what a share leaves. Where it is the whole, nothing is touched.
+#[tactic(auto, using(crate::proofs::EachLemmas::whole_shared))]
 fn share_each(share: u32, losses: &mut [u64])
     requires share { share ≤ 1000000 }
     requires few { (k : ℕ) → k < length losses.old → slice_index losses.old k ≤ 10 ^ 16 }
     ensures value { IsEach (λ loss. (shared share (untouched loss)).loss) losses.old losses.new }
 {
+    if share == WHOLE {
+        return;
+    }
     for k in 0..losses.len() {
         losses[k] = ppm_of(losses[k], share);
     }
