@@ -3,7 +3,7 @@ use Rattle.std.specs.Prelude.{◌≡◌, ◌≢◌, ◌⊎◌, ℕ, zero, suc, �
 use Rattle.std.specs.List.{sum}
 use Rattle.std.proofs.Common.{inl, inr, slice_set, refl, sym, ap, subst, ◌∙◌, arith}
 use Rattle.std.proofs.lemmas.Bool.{cases_eq}
-use Rattle.std.proofs.lemmas.List.{get_or-set_same, get_or-set_other, length-set, length-drop, length-take-le, map-append, take_all, take_more, take-map, drop-map, get_or-drop, get_or-map, get_or-take}
+use Rattle.std.proofs.lemmas.List.{get_or-set_same, get_or-set_other, length-set, length-drop, length-take-le, map-append, map-set, take_all, take_more, take-map, drop-map, get_or-drop, get_or-map, get_or-take}
 use Rattle.std.proofs.lemmas.List.Sums.{sum_by-append, sum_by-cons, sum_by-take-le}
 use Rattle.kt_lanes.specs.Lanes.{column, AreWide, AreLanes, IsLane}
 
@@ -40,6 +40,12 @@ lanes-more width count before now amount lanes more lane are is more_is same = r
       ∙ (ap (λ front. front ++ slice_index lane k ∷ []) (are.each k below)
       ∙ (ap (λ n. before k ++ n ∷ []) (is.each k below) ∙ same k below)));
 }
+
+-- both are wide
+pub wide-both : (width : ℕ) (lanes more : List (List ℕ)) → AreWide width lanes → AreWide width more → AreWide width (lanes ++ more)
+wide-both width [] more one other = other
+wide-both width (lane ∷ lanes) more one other =
+    All-first (λ (each : List ℕ). length each ≡ width) lane (lanes ++ more) (one zero lane (omega arith)) (wide-both width lanes more (λ k d below. one (suc k) d (omega arith)) other)
 
 -- the same amounts otherwise
 pub lanes-are : (width count other : ℕ) (before now : ℕ → List ℕ) (lanes : List (List ℕ)) → AreLanes width count before lanes → count ≡ other → ((k : ℕ) → k < width → before k ≡ now k) → AreLanes width other now lanes
@@ -100,6 +106,19 @@ column-sum-more k i lanes d below =
 pub column-sum-le : (k i : ℕ) (lanes : List (List ℕ)) → sum (column k (take i lanes)) ≤ sum (column k lanes)
 column-sum-le k i lanes =
     subst (λ ns. sum ns ≤ sum (column k lanes)) (take-map (λ (one : List ℕ). slice_index one k) i lanes) (sum_by-take-le (λ (n : ℕ). n) (column k lanes) i)
+
+-- ---- one lane in the place of another
+
+module _ (width place : ℕ) (lanes : List (List ℕ)) (wide : AreWide width lanes) (below : place < length lanes) (lane : List ℕ) where
+  pub set-wide : length lane ≡ width → AreWide width (slice_set lanes place lane)
+  set-wide long = λ j d inside. by j d inside (cases_eq j place)
+    where
+      by : (j : ℕ) (d : List ℕ) → j < length (slice_set lanes place lane) → (j ≡ place) ⊎ (j ≢ place) → length (slice_index_or (slice_set lanes place lane) j d) ≡ width
+      by j d inside (inl same) = ap (λ n. length (slice_index_or (slice_set lanes place lane) n d)) same ∙ (ap (λ (one : List ℕ). length one) (get_or-set_same lanes place lane d below) ∙ long)
+      by j d inside (inr differ) = ap (λ (one : List ℕ). length one) (get_or-set_other lanes place j lane d differ) ∙ wide j d (omega (arith, inside, length-set lanes place lane))
+
+  pub set-column : (k : ℕ) → column k (slice_set lanes place lane) ≡ slice_set (column k lanes) place (slice_index lane k)
+  set-column k = map-set (λ (one : List ℕ). slice_index one k) lanes place lane
 
 -- ---- sums of lanes side by side
 

@@ -8,7 +8,6 @@ use Rattle.std.proofs.lemmas.List.{get_or-replicate, length-map, length-replicat
 use Rattle.std.proofs.lemmas.List.Sums.{sum_by-cons}
 use Rattle.kt_money.specs.Sharing.{share_to, share_of, shares_after, share_out}
 use Rattle.kt_money.specs.SharingLaws.{share_out-adds, share_to-le}
-use Rattle.kt_alloc.specs.DownLaws.{shares-length}
 use Rattle.kt_lanes.specs.Lanes.{column, AreWide, AreLanes, IsLane}
 use Rattle.kt_lanes.specs.LaneLaws.{All-first, All-more, column-at, column-sum-le, column-sum-more, lanes-are, lanes-more, lanes-none}
 use Rattle.kt_lanes.specs.Shares.{weight_or_one, ArePaid, CanPay, CanShare, AreSharing, AreSharingBehind}
@@ -16,6 +15,11 @@ use Rattle.kt_lanes.specs.SideBySide.{AreBehind}
 use Rattle.kt_lanes.specs.WeightLaws.{weight-few, weight-most, weight-same, weight-some}
 
 -- ---- shares, one by one
+
+-- there are as many as weights
+shares-count : (total weights given : ℕ) (further : List ℕ) → length (shares_after total weights given further) ≡ length further
+shares-count total weights given [] = refl
+shares-count total weights given (w ∷ further) = ap suc (shares-count total weights (given + w) further)
 
 -- the share in a place
 share-at : (total weights given : ℕ) (further : List ℕ) (at : ℕ) → at < length further → slice_index (shares_after total weights given further) at ≡ share_of total weights (given + sum (take at further)) (slice_index further at)
@@ -28,7 +32,7 @@ share-at total weights given (w ∷ further) (suc at) below =
 -- one more share
 shares-more : (total : ℕ) (weights : List ℕ) (at : ℕ) → at < length weights → take at (share_out total weights) ++ share_of total (sum weights) (sum (take at weights)) (slice_index weights at) ∷ [] ≡ take (at + 1) (share_out total weights)
 shares-more total weights at below =
-    let long : length (share_out total weights) ≡ length weights = shares-length total (sum weights) 0 weights in
+    let long : length (share_out total weights) ≡ length weights = shares-count total (sum weights) 0 weights in
     let e : 0 + sum (take at weights) ≡ sum (take at weights) = omega arith in
     let here = share-at total (sum weights) 0 weights at below ∙ ap (λ g. share_of total (sum weights) g (slice_index weights at)) e in
     ap (λ s. take at (share_out total weights) ++ s ∷ []) (sym here) ∙ sym (take_more (share_out total weights) at 0 (omega (arith, below, long)))
@@ -72,7 +76,7 @@ module _ (totals : List ℕ) (children : List (List ℕ)) where
   sharing-ends : (at : ℕ) (paid : List ℕ) (shares : List (List ℕ)) → at ≡ length children → AreSharing totals children at paid shares → AreLanes (length totals) (length children) (λ k. share_out (slice_index totals k) (column k children)) shares
   sharing-ends at paid shares at_is so_far =
       lanes-are (length totals) at (length children) (λ k. take at (share_out (slice_index totals k) (column k children))) (λ k. share_out (slice_index totals k) (column k children)) shares so_far.shares_are at_is
-      (λ k below. take_all at (share_out (slice_index totals k) (column k children)) (omega (arith, at_is, shares-length (slice_index totals k) (sum (column k children)) 0 (column k children), length-map children (λ (lane : List ℕ). slice_index lane k))))
+      (λ k below. take_all at (share_out (slice_index totals k) (column k children)) (omega (arith, at_is, shares-count (slice_index totals k) (sum (column k children)) 0 (column k children), length-map children (λ (lane : List ℕ). slice_index lane k))))
 
   -- what the first children are paid in all at a sidx
   abbrev paid_at : ℕ → ℕ → ℕ

@@ -28,7 +28,7 @@ pub trait Amounts {
 
 /// The amounts of a lane.
 #[derive(Clone, Copy)]
-pub(crate) struct OneLane<'a> {
+pub struct OneLane<'a> {
     /// The lane.
     pub lane: &'a [u64],
 }

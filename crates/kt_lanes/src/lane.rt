@@ -1,13 +1,18 @@
 //! Lanes, element by element.
 //! The rules: docs/FINANCIAL_MODULE.md, "Levels".
-ghost use Rattle.std.specs.Prelude.{◌≡◌, ℕ, ◌+◌, ◌<◌, ◌≤◌, ◌^◌, length, replicate, take, drop, slice_index};
+ghost use Rattle.std.specs.Prelude.{◌≡◌, ℕ, ◌+◌, ◌<◌, ◌≤◌, ◌^◌, length, replicate, take, drop, slice_index, IfOk};
 ghost use Rattle.std.specs.List.{sum};
-ghost use Rattle.kt_rules.specs.LossAlone.{loss_after};
-ghost use Rattle.kt_rules.specs.Profiles.{IsProfile};
 ghost use Rattle.kt_lanes.specs.Lanes.{column, AreWide, IsLane};
 
 use crate::lanes::Lanes;
-use kt_rules::{Profile, apply_each};
+use std::alloc::{AllocError, Global};
+
+/// A lane of so many sidx without an amount. An error is want of memory.
+pub fn no_amounts(alloc: Global, width: usize) -> Result<Vec<u64>, AllocError>
+    ensures value { IfOk result (λ lane. lane.items ≡ replicate width 0) }
+{
+    vec![in alloc; 0; width]
+}
 
 /// Puts 0 in the place of each amount of a lane.
 pub(crate) fn clear(lane: &mut [u64])
@@ -40,7 +45,7 @@ fn add_both(first: &[u64], second: &[u64], sums: &mut [u64])
 }
 
 /// Puts the amounts of lanes side by side, added sidx by sidx, in the place of what a lane has. The first two are added at once.
-pub(crate) fn sum_lanes(lanes: &Lanes, start: usize, count: usize, sums: &mut [u64])
+pub fn sum_lanes(lanes: &Lanes, start: usize, count: usize, sums: &mut [u64])
     requires within { start + count ≤ length lanes.now }
     requires wide { AreWide (length sums.old) lanes.now }
     requires few { (k : ℕ) → k < length sums.old → sum (column k (take count (drop start lanes.now))) ≤ 10 ^ 16 }
@@ -60,14 +65,4 @@ pub(crate) fn sum_lanes(lanes: &Lanes, start: usize, count: usize, sums: &mut [u
     for at in 2..count {
         add_to(sums, lanes.lane(start + at));
     }
-}
-
-/// What a profile leaves of each loss of a lane.
-pub(crate) fn apply_lane(profile: &Profile, tiv: u64, lane: &mut [u64])
-    requires profile { IsProfile profile.now }
-    requires value { tiv ≤ 10 ^ 14 }
-    requires few { (k : ℕ) → k < length lane.old → slice_index lane.old k ≤ 10 ^ 16 }
-    ensures value { IsLane (length lane.old) (λ k. loss_after profile.now tiv (slice_index lane.old k)) lane.new }
-{
-    apply_each(profile, tiv, lane);
 }

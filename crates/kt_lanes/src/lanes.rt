@@ -5,7 +5,7 @@ ghost use Rattle.kt_lanes.specs.Lanes.{AreLanes, AreWide, IsLane};
 ghost use Rattle.kt_lanes.specs.SideBySide.{HasMore, IsAdded, IsLessened};
 
 use crate::amounts::{Amounts, OneLane};
-use kt_alloc::zeros;
+use crate::lane::no_amounts;
 use std::alloc::{AllocError, Global};
 use std::marker::Model;
 
@@ -79,7 +79,7 @@ impl Lanes {
         ensures value { IfOk result (λ lanes. AreLanes width count (λ k. replicate count 0) lanes) }
     {
         let size = size_of(count, width)?;
-        let amounts = zeros(alloc, size)?;
+        let amounts = no_amounts(alloc, size)?;
         Ok(Lanes {
             width,
             count,
@@ -88,7 +88,7 @@ impl Lanes {
     }
 
     /// Takes all lanes out. The room that they had stays.
-    pub(crate) fn clear(&mut self)
+    pub fn clear(&mut self)
         ensures value { self.new ≡ [] }
     {
         self.amounts.clear();

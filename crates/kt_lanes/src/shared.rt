@@ -1,12 +1,10 @@
-//! The types of this crate may be sent to threads and shared by them.
-use crate::climbing::Climbed;
+//! The type of this crate may be sent to threads and shared by them.
 use crate::lanes::Lanes;
 
 /// Takes what may be sent to threads and shared by them.
 fn is_shared<T: Send + Sync>(_: &T) {}
 
-/// Each type once.
-pub(crate) fn are_shared(climbed: &Climbed, lanes: &Lanes) {
-    is_shared(climbed);
+/// The type.
+pub(crate) fn are_shared(lanes: &Lanes) {
     is_shared(lanes);
 }

@@ -7,11 +7,10 @@ ghost use Rattle.kt_lanes.specs.Lanes.{column, AreWide, IsLane};
 ghost use Rattle.kt_lanes.specs.Shares.{CanShare, HasRoom};
 ghost use Rattle.kt_lanes.specs.SideBySide.{AreBehind};
 
-use crate::lane::{clear, sum_lanes};
+use crate::lane::{clear, no_amounts, sum_lanes};
 use crate::lanes::Lanes;
 use crate::parts::{fill_weights, find_ratios, pay_next};
 use crate::split::split_totals;
-use kt_alloc::zeros;
 use std::alloc::{AllocError, Global};
 
 /// Room to share totals out: amounts in cents, sidx by sidx.
@@ -40,11 +39,11 @@ fn no_ratios(alloc: Global, width: usize) -> Result<Vec<f64>, AllocError>
 pub fn room_of(alloc: Global, width: usize) -> Result<Room, AllocError>
     ensures room { IfOk result (HasRoom width) }
 {
-    let weights = zeros(alloc, width)?;
+    let weights = no_amounts(alloc, width)?;
     let ratios = no_ratios(alloc, width)?;
-    let upto = zeros(alloc, width)?;
-    let paid = zeros(alloc, width)?;
-    let share = zeros(alloc, width)?;
+    let upto = no_amounts(alloc, width)?;
+    let paid = no_amounts(alloc, width)?;
+    let share = no_amounts(alloc, width)?;
     Ok(Room {
         weights,
         ratios,
@@ -135,7 +134,7 @@ fn push_shares(
 
 /// Puts totals in cents, shared out over lanes side by side, sidx by sidx, behind others. No total is above what these lanes have
 /// in all, so the last has what the others leave. An error is want of memory.
-pub(crate) fn share_lanes(
+pub fn share_lanes(
     totals: &[u64],
     lanes: &Lanes,
     start: usize,
@@ -179,7 +178,7 @@ pub(crate) fn share_lanes(
 
 /// Puts totals in cents, shared out over lanes side by side, behind others, as `share_lanes`, where there are three lanes or more and
 /// what they have in all is known, sidx by sidx. An error is want of memory.
-pub(crate) fn share_summed(
+pub fn share_summed(
     totals: &[u64],
     lanes: &Lanes,
     start: usize,

@@ -22,8 +22,7 @@ use Rattle.kt_fmtree.specs.PartsLaws.{beneath-are}
 use Rattle.kt_shares.specs.Layers.{IsTopLayer, key_of}
 use Rattle.kt_shares.specs.HoldsLaws.{holds-more}
 use Rattle.kt_shares.specs.LookupLaws.{same-place, zip-append}
-use Rattle.kt_lanes.specs.ByIdLaws.{set-column, set-wide}
-use Rattle.kt_lanes.specs.LaneLaws.{column-at}
+use Rattle.kt_lanes.specs.LaneLaws.{column-at, set-column, set-wide}
 use Rattle.kt_lanes.specs.Lanes.{AreLanes, AreWide, IsLane, column}
 use Rattle.kt_shares.specs.Row.{Shared, no_shares, row_for}
 use Rattle.kt_shares.specs.Shares.{layers_of, part_of_id, shares, taken_loss}

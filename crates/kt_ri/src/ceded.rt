@@ -9,7 +9,8 @@ ghost use Rattle.kt_shares.specs.Less.{IsPlaceIn, amount_in};
 ghost use Rattle.kt_ri.specs.Ceded.{AreCeded, AreCededShares, AreRows, HasShares};
 
 use crate::ceding::CedingProgramme;
-use kt_lanes::{Lanes, are_in_turn};
+use kt_lanes::Lanes;
+use kt_levels::are_in_turn;
 use kt_shares::{RunLosses, Table};
 use std::alloc::{AllocError, Global};
 

@@ -6,7 +6,7 @@ use Rattle.kt_fmtree.specs.Carried.{loss_by}
 use Rattle.kt_fmtree.specs.Parts.{Parts, IsProgramme}
 use Rattle.kt_lanes.specs.Lanes.{AreWide, column}
 use Rattle.kt_lanes.specs.LaneLaws.{All-more}
-use Rattle.kt_lanes.specs.Policies.{IsPolicy}
+use Rattle.kt_levels.specs.Policies.{IsPolicy}
 use Rattle.kt_shares.specs.ByLanes.{AreLayers}
 use Rattle.kt_shares.specs.Layers.{IsTopLayer}
 use Rattle.kt_shares.specs.Shares.{shares}

@@ -13,7 +13,7 @@ use Rattle.kt_tree.specs.Sums.{sum_by-below}
 use Rattle.kt_tree.specs.Tree.{Tree}
 use Rattle.kt_fmtree.specs.Carried.{loss_by}
 use Rattle.kt_fmtree.specs.Parts.{Parts, IsProgramme}
-use Rattle.kt_lanes.specs.Climbed.{AreLosses}
+use Rattle.kt_levels.specs.Climbed.{AreLosses}
 use Rattle.kt_lanes.specs.Lanes.{AreLanes, column}
 use Rattle.kt_shares.specs.Shares.{id_loss, taken_loss}
 use Rattle.kt_shares.specs.SharesLaws.{cond-le, ids-few}

@@ -6,9 +6,9 @@ ghost use Rattle.kt_tree.specs.Tree.{Tree};
 ghost use Rattle.kt_fmtree.specs.Carried.{loss_by};
 ghost use Rattle.kt_fmtree.specs.Parts.{IsProgramme};
 ghost use Rattle.kt_lanes.specs.Lanes.{AreWide, column};
-ghost use Rattle.kt_lanes.specs.Climbed.{IsClimbed};
-ghost use Rattle.kt_lanes.specs.Policies.{HasSums, IsPolicy, IsTopBase};
-ghost use Rattle.kt_lanes.specs.Down.{HasLevelRoom};
+ghost use Rattle.kt_levels.specs.Climbed.{IsClimbed};
+ghost use Rattle.kt_levels.specs.Policies.{HasSums, IsPolicy, IsTopBase};
+ghost use Rattle.kt_levels.specs.Down.{HasLevelRoom};
 ghost use Rattle.kt_shares.specs.declared.layers.TopLayer.{TopLayer};
 ghost use Rattle.kt_shares.specs.Layers.{IsTopLayer};
 ghost use Rattle.kt_shares.specs.Shares.{shares};
@@ -17,8 +17,9 @@ ghost use Rattle.kt_shares.specs.ByLanes.{AreLayers, IsPlainLayer};
 use crate::layers::TopLayer;
 use kt_alloc::zeros;
 use kt_fmtree::Programme;
-use kt_lanes::{
-    Climbed, Lanes, LevelRoom, TopSums, allocate_lanes, layer_looks_back, level_room_of, no_sums,
+use kt_lanes::Lanes;
+use kt_levels::{
+    Climbed, LevelRoom, TopSums, allocate_lanes, layer_looks_back, level_room_of, no_sums,
     policy_lane,
 };
 use std::alloc::{AllocError, Global};

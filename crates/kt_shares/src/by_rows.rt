@@ -2,7 +2,7 @@
 //! The rules: docs/FINANCIAL_MODULE.md, "Calculation rules", "Insured losses".
 ghost use Rattle.std.specs.Prelude.{◌≡◌, ◌+◌, ◌≤◌, ◌<◌, ◌∷◌, [], ℕ, List, Vec, length, map, All, IfOk, OnOk, slice_index_or};
 ghost use Rattle.std.specs.List.{AllByRecursion};
-ghost use Rattle.kt_lanes.specs.Climbed.{AreLosses};
+ghost use Rattle.kt_levels.specs.Climbed.{AreLosses};
 ghost use Rattle.kt_lanes.specs.Lanes.{AreLanes, column};
 ghost use Rattle.kt_shares.specs.Layers.{IsTopLayer};
 ghost use Rattle.kt_shares.specs.ByLanes.{AreLayers, AreLong, AreRows, amounts_at, row_in};

@@ -19,7 +19,8 @@ use crate::heads::{
 use crate::less::lessened;
 use crate::pairs::record_pairs;
 use crate::run_losses::{RunLosses, event_of_run};
-use kt_lanes::{Lanes, add_by_id};
+use kt_lanes::Lanes;
+use kt_levels::add_by_id;
 use kt_stream::{LossRecord, Records};
 use std::alloc::{AllocError, Global};
 use std::marker::Model;

@@ -13,7 +13,8 @@ ghost use Rattle.kt_shares.specs.Shares.{ids_of};
 ghost use Rattle.kt_shares.specs.Table.{row_place};
 ghost use Rattle.kt_shares.specs.Taken.{AreIdLanes};
 
-use kt_lanes::{Amounts, Lanes, add_amounts_by_id};
+use kt_lanes::{Amounts, Lanes};
+use kt_levels::add_amounts_by_id;
 use kt_runs::{RunEntry, place_of};
 use kt_stream::{LossRecord, Pair};
 use std::alloc::{AllocError, Global};

@@ -1,6 +1,6 @@
 use Rattle.std.proofs.Common.{◌≡◌, length, take}
-use Rattle.kt_lanes.specs.Down.{HasLevelRoom}
-use Rattle.kt_lanes.specs.Policies.{HasSums}
+use Rattle.kt_levels.specs.Down.{HasLevelRoom}
+use Rattle.kt_levels.specs.Policies.{HasSums}
 use Rattle.kt_shares.specs.ByLanes.{AreLayers}
 use Rattle.kt_shares.proofs.by_lanes.layer_lanes.Given as goal
 

@@ -4,7 +4,7 @@ use Rattle.kt_stream.specs.declared.entry.LossRecord.{LossRecord}
 use Rattle.kt_runs.specs.RunLosses.{AreWithin}
 use Rattle.kt_tree.specs.Tree.{Tree}
 use Rattle.kt_fmtree.specs.Parts.{HasProgramme, IsProgramme, Parts}
-use Rattle.kt_lanes.specs.Climbed.{AreLosses}
+use Rattle.kt_levels.specs.Climbed.{AreLosses}
 use Rattle.kt_shares.specs.Layers.{key_of}
 use Rattle.kt_shares.specs.Row.{Shared}
 use Rattle.kt_shares.specs.Table.{table_for}

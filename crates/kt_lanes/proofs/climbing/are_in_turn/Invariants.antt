@@ -1,6 +1,0 @@
-use Rattle.std.proofs.Common.{◌≡◌, take}
-use Rattle.std.specs.List.{range_with_len}
-use Rattle.kt_lanes.proofs.climbing.are_in_turn.Given as goal
-
-abbrev pub invariant-loop-at : goal.invariant-loop-at
-invariant-loop-at l = take l.at l.places ≡ range_with_len 0 l.at

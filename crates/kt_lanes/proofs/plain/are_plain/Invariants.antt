@@ -1,6 +1,0 @@
-use Rattle.std.proofs.Common.{take}
-use Rattle.kt_lanes.specs.Climbed.{ArePlain}
-use Rattle.kt_lanes.proofs.plain.are_plain.Given as goal
-
-abbrev pub invariant-loop-node : goal.invariant-loop-node
-invariant-loop-node l = ArePlain (take l.node-index l.nodes)

@@ -1,0 +1,67 @@
+use Rattle.std.proofs.Common.{◌≡◌, ◌≤◌, ◌<◌, ◌^◌, ◌∙◌, List, length, map, slice_index, refl, ap, sym, subst}
+use Rattle.std.specs.List.{All, flat_map, sum_by}
+use Rattle.std.proofs.lemmas.List.{length-map}
+use Rattle.kt_tree.specs.Sharing.{part_of}
+use Rattle.kt_fmtree.specs.Parts.{units_at}
+use Rattle.kt_alloc.specs.Placed.{unit_parts}
+use Rattle.kt_alloc.specs.declared.part.PlacedPart.{PlacedPart}
+use Rattle.kt_lanes.specs.Lanes.{column}
+use Rattle.kt_levels.specs.Down.{amounts_of, child_places, given_losses, placed_at}
+use Rattle.kt_levels.specs.DownLaws.{children-within, places-given}
+use Rattle.kt_lanes.specs.BehindLaws.{behind-are, lanes-behind}
+use Rattle.kt_levels.specs.ByIdLaws.{own-amounts}
+use Rattle.kt_levels.proofs.by_id.push_by_id.Goals as goal
+
+pub place_children-requires-clause-within : goal.place_children-requires-clause-within
+place_children-requires-clause-within c = subst (All (λ place. place < length c.args.nodes.now)) (sym c.deref.ensures.value) c.requires.can.within
+
+pub place_children-requires-clause-fits : goal.place_children-requires-clause-fits
+place_children-requires-clause-fits c = λ k d inside. (c.requires.can.can k d inside).within
+
+pub are_in_order-requires : goal.are_in_order-requires
+are_in_order-requires c =
+    let places = c.in_ok-place_children.ensures.value ∙ ap (flat_map (child_places c.args.nodes.now)) c.deref.ensures.value in
+    record {
+      places =
+          subst (All (λ place. place < length c.args.programme.now.leaves)) (sym (c.deref-2.ensures.value ∙ places))
+          (subst (λ n. All (λ place. place < n) (flat_map (child_places c.args.nodes.now) c.args.room.now.parts.places.items)) c.requires.leaves (children-within c.args.width c.args.nodes.now c.args.below.now c.args.room.now.parts c.requires.can));
+    }
+
+pub returns-then-are_in_order-clause-value : goal.returns-then-are_in_order-clause-value
+returns-then-are_in_order-clause-value c =
+    let width = c.args.width in
+    let nodes = c.args.nodes.now in
+    let below = c.args.below.now in
+    let parts = c.args.room.now.parts in
+    let ids = c.args.ids.now in
+    let units = units_at c.args.programme.now 0 in
+    let places = flat_map (child_places nodes) parts.places.items in
+    let made = c.deref-2.ensures.value ∙ (c.in_ok-place_children.ensures.value ∙ ap (flat_map (child_places nodes)) c.deref.ensures.value) in
+    let same : map (slice_index units) places ≡ ids = ap (map (slice_index units)) (sym made) ∙ c.are_in_order.ensures.value c.if-are_in_order.true in
+    behind-are width (length places) (length ids) (λ k. amounts_of (flat_map (given_losses nodes (column k below)) (placed_at k parts))) (λ k. map (part_of (unit_parts units (flat_map (given_losses nodes (column k below)) (placed_at k parts)))) ids) c.args.out.now c.push_given.new.out c.in_ok-push_given.ensures.value
+    (sym (length-map places (slice_index units)) ∙ ap length same)
+    (λ k less. own-amounts units ids c.requires.rising places same (flat_map (given_losses nodes (column k below)) (placed_at k parts)) (places-given width nodes below parts c.requires.can k))
+
+pub added_by_id-requires-clause-places : goal.added_by_id-requires-clause-places
+added_by_id-requires-clause-places c =
+    subst (All (λ place. place < length c.args.programme.now.leaves)) (sym c.in_ok-level_by_unit.ensures.places)
+    (subst (λ n. All (λ place. place < n) (flat_map (child_places c.args.nodes.now) c.args.room.now.parts.places.items)) c.requires.leaves (children-within c.args.width c.args.nodes.now c.args.below.now c.args.room.now.parts c.requires.can))
+
+pub added_by_id-requires-clause-few : goal.added_by_id-requires-clause-few
+added_by_id-requires-clause-few c = λ k less. subst (λ (parts : List PlacedPart). sum_by (λ part. part.amount) parts ≤ 10 ^ 17) (sym (c.in_ok-level_by_unit.ensures.value k less)) (c.requires.few k less)
+
+pub append-requires-clause-more : goal.append-requires-clause-more
+append-requires-clause-more c = c.in_ok-found.ensures.value.wide
+
+pub returns-clause-value : goal.returns-clause-value
+returns-clause-value c =
+    let width = c.args.width in
+    let nodes = c.args.nodes.now in
+    let below = c.args.below.now in
+    let parts = c.args.room.now.parts in
+    let ids = c.args.ids.now in
+    let units = units_at c.args.programme.now 0 in
+    let given = c.level_by_unit.new.given in
+    behind-are width (length ids) (length ids) (λ k. map (part_of (unit_parts units (placed_at k given))) ids) (λ k. map (part_of (unit_parts units (flat_map (given_losses nodes (column k below)) (placed_at k parts)))) ids) c.args.out.now c.append.new.self
+    (lanes-behind width (length ids) (λ k. map (part_of (unit_parts units (placed_at k given))) ids) c.in_ok-found.found c.args.out.now c.append.new.self c.in_ok-found.ensures.value c.in_ok-append.ensures.ok) refl
+    (λ k less. ap (λ (all : List PlacedPart). map (part_of (unit_parts units all)) ids) (c.in_ok-level_by_unit.ensures.value k less))

@@ -1,0 +1,10 @@
+pub mod Units
+pub mod Climbed
+pub mod ClimbedLaws
+pub mod Down
+pub mod DownLaws
+pub mod GivenLaws
+pub mod ByIdLaws
+pub mod Policies
+pub mod PoliciesLaws
+pub mod LevelsLaws

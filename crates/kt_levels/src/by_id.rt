@@ -1,0 +1,268 @@
+//! Lanes of units, by rising id.
+//! The rule: docs/FINANCIAL_MODULE.md, "Allocation".
+ghost use Rattle.std.specs.Prelude.{◌≡◌, true, false, ℕ, ◌+◌, ◌≤◌, ◌<◌, ◌^◌, ◌∷◌, [], length, map, slice_index, slice_index_or, All, IfOk, OnOk};
+ghost use Rattle.std.specs.List.{flat_map, sum, sum_by};
+ghost use Rattle.kt_rec.specs.Rising.{IsRising};
+ghost use Rattle.kt_tree.specs.Sharing.{part_of};
+ghost use Rattle.kt_fmtree.specs.Carried.{row_of};
+ghost use Rattle.kt_fmtree.specs.Parts.{units_at};
+ghost use Rattle.kt_alloc.specs.Placed.{levels_down, node_at, unit_parts};
+ghost use Rattle.kt_alloc.specs.ById.{with_more};
+ghost use Rattle.kt_lanes.specs.Lanes.{column, AreWide, AreLanes, IsLane};
+ghost use Rattle.kt_levels.specs.Units.{child_losses, losses_of};
+ghost use Rattle.kt_levels.specs.Climbed.{IsClimbed, carried_at};
+ghost use Rattle.kt_lanes.specs.SideBySide.{AreBehind};
+ghost use Rattle.kt_levels.specs.Down.{ArePlaced, CanGiveBy, GivesAt, HasLevelRoom, given_losses, placed_at};
+
+use crate::climbing::{Climbed, lanes_at};
+use crate::down::{
+    LevelRoom, PlacedLanes, level_by_unit, place_children, push_given, push_given_of,
+};
+use kt_alloc::id_at;
+use kt_fmtree::{Node, Programme};
+use kt_lanes::{Amounts, Lanes, OneLane};
+use std::alloc::{AllocError, Global};
+
+/// Adds amounts to the lane of an id, which stands in this place.
+fn add_at<A: Amounts>(ids: &[u32], found: &mut Lanes, place: usize, id: u32, more: &A)
+    requires rising { IsRising ids.now }
+    requires same { length found.old ≡ length ids.now }
+    requires good { A.IsGood more.now }
+    requires wide { AreWide (A.width more.now) found.old }
+    requires few { (k place : ℕ) → k < A.width more.now → place < length ids.now → slice_index (column k found.old) place + A.amount more.now k < 2 ^ 64 }
+    requires within { place < length ids.now }
+    requires here { slice_index ids.now place ≡ id }
+    ensures value { AreLanes (A.width more.now) (length ids.now) (λ k. with_more ids.now (column k found.old) id (A.amount more.now k)) found.new }
+{
+    found.add_amounts(place, more);
+}
+
+/// Adds amounts in cents to the lane of an id, if it is among these. It is looked for in a place first: ids stand in the order of the
+/// tree mostly.
+pub fn add_amounts_by_id<A: Amounts>(ids: &[u32], found: &mut Lanes, near: usize, id: u32, more: &A)
+    requires rising { IsRising ids.now }
+    requires same { length found.old ≡ length ids.now }
+    requires good { A.IsGood more.now }
+    requires wide { AreWide (A.width more.now) found.old }
+    requires few { (k place : ℕ) → k < A.width more.now → place < length ids.now → slice_index (column k found.old) place + A.amount more.now k < 2 ^ 64 }
+    ensures value { AreLanes (A.width more.now) (length ids.now) (λ k. with_more ids.now (column k found.old) id (A.amount more.now k)) found.new }
+{
+    if near < ids.len() && ids[near] == id {
+        add_at(ids, found, near, id, more);
+        return;
+    }
+    if let Ok(place) = ids.binary_search(&id) {
+        add_at(ids, found, place, id, more);
+    }
+}
+
+/// Adds a lane to that of an id, if it is among these. It is looked for in a place first: ids stand in the order of the tree
+/// mostly.
+pub fn add_by_id(ids: &[u32], found: &mut Lanes, near: usize, id: u32, lane: &[u64])
+    requires rising { IsRising ids.now }
+    requires same { length found.old ≡ length ids.now }
+    requires wide { AreWide (length lane.now) found.old }
+    requires few { (k place : ℕ) → k < length lane.now → place < length ids.now → slice_index (column k found.old) place + slice_index lane.now k < 2 ^ 64 }
+    ensures value { AreLanes (length lane.now) (length ids.now) (λ k. with_more ids.now (column k found.old) id (slice_index lane.now k)) found.new }
+{
+    add_amounts_by_id(ids, found, near, id, &OneLane { lane });
+}
+
+/// What each of rising ids has of amounts of units of level 0, added unit by unit. An error is want of memory.
+fn added_by_id(
+    alloc: Global,
+    programme: &Programme,
+    ids: &[u32],
+    width: usize,
+    parts: &PlacedLanes,
+) -> Result<Lanes, AllocError>
+    requires rising { IsRising ids.now }
+    requires parts { ArePlaced width parts.now }
+    requires places { All (λ place. place < length programme.now.leaves) parts.now.places.items }
+    requires few { (k : ℕ) → k < width → sum_by (λ part. part.amount) (placed_at k parts.now) ≤ 10 ^ 17 }
+    ensures value { IfOk result (λ found. AreLanes width (length ids.now) (λ k. map (part_of (unit_parts (units_at programme.now 0) (placed_at k parts.now))) ids.now) found) }
+{
+    let mut found = Lanes::zeros(alloc, ids.len(), width)?;
+    for (near, place) in parts.places.iter().enumerate() {
+        add_by_id(
+            ids,
+            &mut found,
+            near,
+            id_at(programme, *place),
+            parts.lanes.lane(near),
+        );
+    }
+    Ok(found)
+}
+
+/// Whether the units in places of level 0 are these ids, in their order.
+fn are_in_order(programme: &Programme, ids: &[u32], places: &[usize]) -> bool
+    requires places { All (λ place. place < length programme.now.leaves) places.now }
+    ensures value { result ≡ true → map (slice_index (units_at programme.now 0)) places.now ≡ ids.now }
+{
+    if places.len() != ids.len() {
+        return false;
+    }
+    for at in 0..places.len() {
+        if id_at(programme, places[at]) != ids[at] {
+            return false;
+        }
+    }
+    true
+}
+
+/// Puts what amounts of units give to rising ids, the units below them, behind other lanes, id by id. An error is want of memory.
+fn push_by_id(
+    alloc: Global,
+    programme: &Programme,
+    ids: &[u32],
+    width: usize,
+    nodes: &[Node],
+    below: &Lanes,
+    room: &mut LevelRoom,
+    out: &mut Lanes,
+) -> Result<(), AllocError>
+    requires rising { IsRising ids.now }
+    requires can { CanGiveBy width nodes.now below.now room.old.parts }
+    requires leaves { length below.now ≡ length programme.now.leaves }
+    requires few { (k : ℕ) → k < width → sum_by (λ part. part.amount) (flat_map (given_losses nodes.now (column k below.now)) (placed_at k room.old.parts)) ≤ 10 ^ 17 }
+    requires room { HasLevelRoom width room.old }
+    requires out { AreWide width out.old }
+    ensures room { OnOk result (HasLevelRoom width room.new) }
+    ensures value { OnOk result (AreBehind width (length ids.now) (λ k. map (part_of (unit_parts (units_at programme.now 0) (flat_map (given_losses nodes.now (column k below.now)) (placed_at k room.old.parts)))) ids.now) out.old out.new) }
+{
+    place_children(nodes, below, &room.parts.places, &mut room.given.places)?;
+    if are_in_order(programme, ids, &room.given.places) {
+        push_given(nodes, width, below, &mut room.room, &room.parts, out)?;
+        return Ok(());
+    }
+    level_by_unit(
+        nodes,
+        width,
+        below,
+        &mut room.room,
+        &room.parts,
+        &mut room.given,
+    )?;
+    let found = added_by_id(alloc, programme, ids, width, &room.given)?;
+    out.append(width, &found)?;
+    Ok(())
+}
+
+/// Puts what the amounts of one unit, in a place of its level, give to rising ids behind other lanes, as `push_by_id`, where what the
+/// unit's children have in all is known. An error is want of memory.
+fn push_one_by_id(
+    alloc: Global,
+    programme: &Programme,
+    ids: &[u32],
+    width: usize,
+    nodes: &[Node],
+    below: &Lanes,
+    place: usize,
+    sums: &[u64],
+    room: &mut LevelRoom,
+    out: &mut Lanes,
+) -> Result<(), AllocError>
+    requires rising { IsRising ids.now }
+    requires can { CanGiveBy width nodes.now below.now room.old.parts }
+    requires places { room.old.parts.places.items ≡ place ∷ [] }
+    requires sums { IsLane width (λ k. sum (child_losses (column k below.now) (node_at nodes.now place))) sums.now }
+    requires leaves { length below.now ≡ length programme.now.leaves }
+    requires few { (k : ℕ) → k < width → sum_by (λ part. part.amount) (flat_map (given_losses nodes.now (column k below.now)) (placed_at k room.old.parts)) ≤ 10 ^ 17 }
+    requires room { HasLevelRoom width room.old }
+    requires out { AreWide width out.old }
+    ensures room { OnOk result (HasLevelRoom width room.new) }
+    ensures value { OnOk result (AreBehind width (length ids.now) (λ k. map (part_of (unit_parts (units_at programme.now 0) (flat_map (given_losses nodes.now (column k below.now)) (placed_at k room.old.parts)))) ids.now) out.old out.new) }
+{
+    if nodes[place].width < 3 {
+        push_by_id(alloc, programme, ids, width, nodes, below, room, out)?;
+        return Ok(());
+    }
+    place_children(nodes, below, &room.parts.places, &mut room.given.places)?;
+    if are_in_order(programme, ids, &room.given.places) {
+        push_given_of(
+            nodes,
+            width,
+            below,
+            place,
+            sums,
+            &mut room.room,
+            &room.parts,
+            out,
+        )?;
+        return Ok(());
+    }
+    push_by_id(alloc, programme, ids, width, nodes, below, room, out)?;
+    Ok(())
+}
+
+/// Puts what amounts of the units of level 1 give to rising ids behind other lanes, id by id. An error is want of memory.
+pub(crate) fn ids_down(
+    alloc: Global,
+    programme: &Programme,
+    lanes: &Lanes,
+    climbed: &Climbed,
+    ids: &[u32],
+    room: &mut LevelRoom,
+    out: &mut Lanes,
+) -> Result<(), AllocError>
+    requires climbed { IsClimbed programme.now lanes.now climbed.now }
+    requires rising { IsRising ids.now }
+    requires gives { GivesAt programme.now lanes.now climbed.now.width 1 room.old }
+    requires out { AreWide climbed.now.width out.old }
+    ensures room { OnOk result (HasLevelRoom climbed.now.width room.new) }
+    ensures value { OnOk result (AreBehind climbed.now.width (length ids.now) (λ k. map (part_of (unit_parts (units_at programme.now 0) (levels_down false programme.now.levels (carried_at programme.now lanes.now k).rows 1 (placed_at k room.old.parts)))) ids.now) out.old out.new) }
+{
+    programme.is_of_a_tree();
+    let below = lanes_at(lanes, &climbed.levels, 0);
+    push_by_id(
+        alloc,
+        programme,
+        ids,
+        climbed.width,
+        programme.nodes_above(0),
+        below,
+        room,
+        out,
+    )?;
+    Ok(())
+}
+
+/// Puts what the amounts of one unit, in a place of level 1, give to rising ids behind other lanes, as `ids_down`, where what the ids
+/// have in all is known. An error is want of memory.
+pub(crate) fn ids_of_one(
+    alloc: Global,
+    programme: &Programme,
+    lanes: &Lanes,
+    climbed: &Climbed,
+    ids: &[u32],
+    place: usize,
+    sums: &[u64],
+    room: &mut LevelRoom,
+    out: &mut Lanes,
+) -> Result<(), AllocError>
+    requires climbed { IsClimbed programme.now lanes.now climbed.now }
+    requires rising { IsRising ids.now }
+    requires gives { GivesAt programme.now lanes.now climbed.now.width 1 room.old }
+    requires places { room.old.parts.places.items ≡ place ∷ [] }
+    requires sums { IsLane climbed.now.width (λ k. sum (child_losses (losses_of (row_of programme.now (column k lanes.now) 0)) (node_at (slice_index_or programme.now.levels 0 []) place))) sums.now }
+    requires out { AreWide climbed.now.width out.old }
+    ensures room { OnOk result (HasLevelRoom climbed.now.width room.new) }
+    ensures value { OnOk result (AreBehind climbed.now.width (length ids.now) (λ k. map (part_of (unit_parts (units_at programme.now 0) (levels_down false programme.now.levels (carried_at programme.now lanes.now k).rows 1 (placed_at k room.old.parts)))) ids.now) out.old out.new) }
+{
+    programme.is_of_a_tree();
+    let below = lanes_at(lanes, &climbed.levels, 0);
+    push_one_by_id(
+        alloc,
+        programme,
+        ids,
+        climbed.width,
+        programme.nodes_above(0),
+        below,
+        place,
+        sums,
+        room,
+        out,
+    )?;
+    Ok(())
+}

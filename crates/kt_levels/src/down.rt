@@ -1,0 +1,332 @@
+//! Amounts of units given down a programme by lanes, level by level.
+//! The rule: docs/FINANCIAL_MODULE.md, "Allocation".
+ghost use Rattle.std.specs.Prelude.{◌≡◌, ◌+◌, ◌-◌, ◌≤◌, ◌<◌, ◌^◌, ◌++◌, ◌∷◌, [], ℕ, true, false, length, map, All, IfOk, OnOk, slice_index, slice_index_or};
+ghost use Rattle.std.specs.List.{flat_map, range_with_len, sum};
+ghost use Rattle.kt_money.specs.Sharing.{share_out};
+ghost use Rattle.kt_fmtree.specs.Carried.{row_of};
+ghost use Rattle.kt_alloc.specs.Placed.{levels_down, node_at};
+ghost use Rattle.kt_lanes.specs.Lanes.{column, AreWide, IsLane};
+ghost use Rattle.kt_levels.specs.Units.{CanTake, child_losses, losses_of};
+ghost use Rattle.kt_levels.specs.Climbed.{IsClimbed, carried_at};
+ghost use Rattle.kt_lanes.specs.Shares.{HasRoom};
+ghost use Rattle.kt_lanes.specs.SideBySide.{AreBehind};
+ghost use Rattle.kt_levels.specs.Down.{ArePlaced, CanGiveBy, GivesAt, HasLevelRoom, amounts_of, child_places, given_losses, placed_at};
+
+use crate::climbing::{Climbed, lanes_at};
+use kt_fmtree::{Node, Programme};
+use kt_lanes::{Lanes, Room, room_of, share_lanes, share_summed};
+use std::alloc::{AllocError, Global};
+use std::mem::swap;
+
+/// Amounts of units in places of their level, a lane each.
+#[derive(Drop)]
+pub struct PlacedLanes {
+    /// The places of the units, in the order of the tree.
+    pub places: Vec<usize>,
+    /// Their amounts in cents, sidx by sidx.
+    pub lanes: Lanes,
+}
+
+/// Room to give amounts down a programme: it is kept from layer to layer, so that no list is made for one layer or level.
+#[derive(Drop)]
+pub struct LevelRoom {
+    /// Room to share one amount out.
+    pub room: Room,
+    /// What units of a level have.
+    pub parts: PlacedLanes,
+    /// What they give to those of the level below.
+    pub given: PlacedLanes,
+}
+
+/// No amounts of units.
+fn no_parts(alloc: Global) -> PlacedLanes {
+    PlacedLanes {
+        places: Vec::new(alloc),
+        lanes: Lanes::new(alloc),
+    }
+}
+
+/// Room to give lanes of so many sidx down. An error is want of memory.
+pub fn level_room_of(alloc: Global, width: usize) -> Result<LevelRoom, AllocError>
+    ensures room { IfOk result (HasLevelRoom width) }
+{
+    let room = room_of(alloc, width)?;
+    Ok(LevelRoom {
+        room,
+        parts: no_parts(alloc),
+        given: no_parts(alloc),
+    })
+}
+
+/// Puts places side by side behind others.
+fn push_places(start: usize, width: usize, places: &mut Vec<usize>) -> Result<(), AllocError>
+    requires { start + width < 2 ^ 64 }
+    ensures value { OnOk result (places.new.items ≡ places.old.items ++ range_with_len start width) }
+{
+    for at in 0..width {
+        places.push(start + at)?;
+    }
+    Ok(())
+}
+
+/// Puts the places of the children of units in the place of others. They stand within so many places.
+pub(crate) fn place_children(
+    nodes: &[Node],
+    below: &Lanes,
+    parts: &[usize],
+    places: &mut Vec<usize>,
+) -> Result<(), AllocError>
+    requires within { All (λ place. place < length nodes.now) parts.now }
+    requires fits { All (λ node. node.start + node.width ≤ length below.now) nodes.now }
+    ensures value { OnOk result (places.new.items ≡ flat_map (child_places nodes.now) parts.now) }
+{
+    let _all = below.len();
+    places.clear();
+    for part in parts {
+        let node = &nodes[*part];
+        push_places(node.start, node.width, places)?;
+    }
+    Ok(())
+}
+
+/// Puts what a unit gives to its children behind other lanes.
+fn push_shares_of(
+    node: &Node,
+    below: &Lanes,
+    totals: &[u64],
+    room: &mut Room,
+    out: &mut Lanes,
+) -> Result<(), AllocError>
+    requires can { CanTake (length totals.now) below.now node.now }
+    requires wide { AreWide (length totals.now) below.now }
+    requires backed { (k : ℕ) → k < length totals.now → slice_index totals.now k ≤ sum (child_losses (column k below.now) node.now) }
+    requires room { HasRoom (length totals.now) room.old }
+    requires out { AreWide (length totals.now) out.old }
+    ensures room { HasRoom (length totals.now) room.new }
+    ensures value { OnOk result (AreBehind (length totals.now) node.now.width (λ k. share_out (slice_index totals.now k) (child_losses (column k below.now) node.now)) out.old out.new) }
+{
+    share_lanes(totals, below, node.start, node.width, room, out)?;
+    Ok(())
+}
+
+/// Puts what amounts of the units of a level give to those of the level below behind other lanes, unit by unit. An error is want of
+/// memory.
+pub(crate) fn push_given(
+    nodes: &[Node],
+    width: usize,
+    below: &Lanes,
+    room: &mut Room,
+    parts: &PlacedLanes,
+    out: &mut Lanes,
+) -> Result<(), AllocError>
+    requires can { CanGiveBy width nodes.now below.now parts.now }
+    requires room { HasRoom width room.old }
+    requires out { AreWide width out.old }
+    ensures room { OnOk result (HasRoom width room.new) }
+    ensures value { OnOk result (AreBehind width (length (flat_map (child_places nodes.now) parts.now.places.items)) (λ k. amounts_of (flat_map (given_losses nodes.now (column k below.now)) (placed_at k parts.now))) out.old out.new) }
+{
+    for (at, place) in parts.places.iter().enumerate() {
+        push_shares_of(&nodes[*place], below, parts.lanes.lane(at), room, out)?;
+    }
+    Ok(())
+}
+
+/// Puts what amounts of the units of a level give to those of the level below in the place of what stood there, unit by unit. An
+/// error is want of memory.
+pub(crate) fn level_by_unit(
+    nodes: &[Node],
+    width: usize,
+    below: &Lanes,
+    room: &mut Room,
+    parts: &PlacedLanes,
+    given: &mut PlacedLanes,
+) -> Result<(), AllocError>
+    requires can { CanGiveBy width nodes.now below.now parts.now }
+    requires room { HasRoom width room.old }
+    ensures room { OnOk result (HasRoom width room.new) }
+    ensures given { OnOk result (ArePlaced width given.new) }
+    ensures places { OnOk result (given.new.places.items ≡ flat_map (child_places nodes.now) parts.now.places.items) }
+    ensures value { OnOk result ((k : ℕ) → k < width → placed_at k given.new ≡ flat_map (given_losses nodes.now (column k below.now)) (placed_at k parts.now)) }
+{
+    place_children(nodes, below, &parts.places, &mut given.places)?;
+    given.lanes.clear();
+    push_given(nodes, width, below, room, parts, &mut given.lanes)?;
+    Ok(())
+}
+
+/// Whether the units in places have an only child each.
+fn are_single(nodes: &[Node], places: &[usize]) -> bool
+    requires places { All (λ place. place < length nodes.now) places.now }
+    ensures single { result ≡ true → All (λ place. (node_at nodes.now place).width ≡ 1) places.now }
+{
+    for place in places {
+        if nodes[*place].width != 1 {
+            return false;
+        }
+    }
+    true
+}
+
+/// Puts the places of the first children of the units in places in the place of others. An error is want of memory.
+fn place_starts(nodes: &[Node], places: &[usize], starts: &mut Vec<usize>) -> Result<(), AllocError>
+    requires places { All (λ place. place < length nodes.now) places.now }
+    ensures value { OnOk result (starts.new.items ≡ map (λ place. (node_at nodes.now place).start) places.now) }
+{
+    starts.clear();
+    for place in places {
+        starts.push(nodes[*place].start)?;
+    }
+    Ok(())
+}
+
+/// Puts what amounts of the units of a level give to those of the level below in the place of these amounts: only children have them
+/// whole, as they are. An error is want of memory.
+fn level_down(
+    nodes: &[Node],
+    width: usize,
+    below: &Lanes,
+    room: &mut LevelRoom,
+) -> Result<(), AllocError>
+    requires can { CanGiveBy width nodes.now below.now room.old.parts }
+    requires room { HasLevelRoom width room.old }
+    ensures room { OnOk result (HasLevelRoom width room.new) }
+    ensures given { OnOk result (ArePlaced width room.new.parts) }
+    ensures value { OnOk result ((k : ℕ) → k < width → placed_at k room.new.parts ≡ flat_map (given_losses nodes.now (column k below.now)) (placed_at k room.old.parts)) }
+{
+    if are_single(nodes, &room.parts.places) {
+        place_starts(nodes, &room.parts.places, &mut room.given.places)?;
+        swap(&mut room.parts.places, &mut room.given.places);
+        return Ok(());
+    }
+    level_by_unit(
+        nodes,
+        width,
+        below,
+        &mut room.room,
+        &room.parts,
+        &mut room.given,
+    )?;
+    swap(&mut room.parts, &mut room.given);
+    Ok(())
+}
+
+/// Puts what the amounts of one unit, in a place of its level, give to its children behind other lanes, as `push_given`, where these are
+/// three or more and what they have in all is known. An error is want of memory.
+pub(crate) fn push_given_of(
+    nodes: &[Node],
+    width: usize,
+    below: &Lanes,
+    place: usize,
+    sums: &[u64],
+    room: &mut Room,
+    parts: &PlacedLanes,
+    out: &mut Lanes,
+) -> Result<(), AllocError>
+    requires can { CanGiveBy width nodes.now below.now parts.now }
+    requires places { parts.now.places.items ≡ place ∷ [] }
+    requires some { 2 < (node_at nodes.now place).width }
+    requires sums { IsLane width (λ k. sum (child_losses (column k below.now) (node_at nodes.now place))) sums.now }
+    requires room { HasRoom width room.old }
+    requires out { AreWide width out.old }
+    ensures room { OnOk result (HasRoom width room.new) }
+    ensures value { OnOk result (AreBehind width (length (flat_map (child_places nodes.now) parts.now.places.items)) (λ k. amounts_of (flat_map (given_losses nodes.now (column k below.now)) (placed_at k parts.now))) out.old out.new) }
+{
+    let node = &nodes[place];
+    let totals = parts.lanes.lane(0);
+    share_summed(totals, below, node.start, node.width, sums, room, out)?;
+    Ok(())
+}
+
+/// Puts what the amounts of one unit, in a place of its level, give to its children in the place of these amounts, as `level_down`, where
+/// what the children have in all is known. An error is want of memory.
+fn level_by_sums(
+    nodes: &[Node],
+    width: usize,
+    below: &Lanes,
+    place: usize,
+    sums: &[u64],
+    room: &mut LevelRoom,
+) -> Result<(), AllocError>
+    requires can { CanGiveBy width nodes.now below.now room.old.parts }
+    requires places { room.old.parts.places.items ≡ place ∷ [] }
+    requires sums { IsLane width (λ k. sum (child_losses (column k below.now) (node_at nodes.now place))) sums.now }
+    requires room { HasLevelRoom width room.old }
+    ensures room { OnOk result (HasLevelRoom width room.new) }
+    ensures given { OnOk result (ArePlaced width room.new.parts) }
+    ensures value { OnOk result ((k : ℕ) → k < width → placed_at k room.new.parts ≡ flat_map (given_losses nodes.now (column k below.now)) (placed_at k room.old.parts)) }
+{
+    if nodes[place].width < 3 {
+        level_down(nodes, width, below, room)?;
+        return Ok(());
+    }
+    place_children(nodes, below, &room.parts.places, &mut room.given.places)?;
+    room.given.lanes.clear();
+    push_given_of(
+        nodes,
+        width,
+        below,
+        place,
+        sums,
+        &mut room.room,
+        &room.parts,
+        &mut room.given.lanes,
+    )?;
+    swap(&mut room.parts, &mut room.given);
+    Ok(())
+}
+
+/// Gives amounts of the units of a level down to those of level 1. An error is want of memory.
+pub(crate) fn lanes_down(
+    programme: &Programme,
+    lanes: &Lanes,
+    climbed: &Climbed,
+    level: usize,
+    room: &mut LevelRoom,
+) -> Result<(), AllocError>
+    requires climbed { IsClimbed programme.now lanes.now climbed.now }
+    requires some { 1 ≤ level }
+    requires gives { GivesAt programme.now lanes.now climbed.now.width level room.old }
+    ensures gives { OnOk result (GivesAt programme.now lanes.now climbed.now.width 1 room.new) }
+    ensures value { OnOk result ((k : ℕ) → k < climbed.now.width → levels_down false programme.now.levels (carried_at programme.now lanes.now k).rows 1 (placed_at k room.new.parts) ≡ levels_down false programme.now.levels (carried_at programme.now lanes.now k).rows level (placed_at k room.old.parts)) }
+{
+    if level == 1 {
+        return Ok(());
+    }
+    programme.is_of_a_tree();
+    let next = level - 1;
+    let below = lanes_at(lanes, &climbed.levels, next);
+    level_down(programme.nodes_above(next), climbed.width, below, room)?;
+    lanes_down(programme, lanes, climbed, next, room)?;
+    Ok(())
+}
+
+/// Gives amounts of one unit, in a place of its level, down to the units of level 1, as `lanes_down`, where what its children have in all
+/// is known. An error is want of memory.
+pub(crate) fn unit_down(
+    programme: &Programme,
+    lanes: &Lanes,
+    climbed: &Climbed,
+    level: usize,
+    place: usize,
+    sums: &[u64],
+    room: &mut LevelRoom,
+) -> Result<(), AllocError>
+    requires climbed { IsClimbed programme.now lanes.now climbed.now }
+    requires some { 1 ≤ level }
+    requires gives { GivesAt programme.now lanes.now climbed.now.width level room.old }
+    requires places { room.old.parts.places.items ≡ place ∷ [] }
+    requires sums { IsLane climbed.now.width (λ k. sum (child_losses (losses_of (row_of programme.now (column k lanes.now) (level - 1))) (node_at (slice_index_or programme.now.levels (level - 1) []) place))) sums.now }
+    ensures gives { OnOk result (GivesAt programme.now lanes.now climbed.now.width 1 room.new) }
+    ensures value { OnOk result ((k : ℕ) → k < climbed.now.width → levels_down false programme.now.levels (carried_at programme.now lanes.now k).rows 1 (placed_at k room.new.parts) ≡ levels_down false programme.now.levels (carried_at programme.now lanes.now k).rows level (placed_at k room.old.parts)) }
+{
+    if level == 1 {
+        return Ok(());
+    }
+    programme.is_of_a_tree();
+    let next = level - 1;
+    let below = lanes_at(lanes, &climbed.levels, next);
+    let nodes = programme.nodes_above(next);
+    level_by_sums(nodes, climbed.width, below, place, sums, room)?;
+    lanes_down(programme, lanes, climbed, next, room)?;
+    Ok(())
+}

@@ -1,0 +1,10 @@
+//! The type of this crate may be sent to threads and shared by them.
+use crate::climbing::Climbed;
+
+/// Takes what may be sent to threads and shared by them.
+fn is_shared<T: Send + Sync>(_: &T) {}
+
+/// The type.
+pub(crate) fn are_shared(climbed: &Climbed) {
+    is_shared(climbed);
+}
