@@ -1,9 +1,9 @@
 -- Laws of lanes: one more lane, one more amount.
-use Rattle.std.specs.Prelude.{◌≡◌, ◌≢◌, ◌⊎◌, ℕ, zero, suc, ◌+◌, ◌<◌, ◌≤◌, ◌^◌, List, [], ◌∷◌, ◌++◌, All, length, take, drop, slice_index, slice_index_or}
+use Rattle.std.specs.Prelude.{◌≡◌, ◌≢◌, ◌⊎◌, ℕ, zero, suc, ◌+◌, ◌<◌, ◌≤◌, List, [], ◌∷◌, ◌++◌, All, length, take, drop, slice_index, slice_index_or}
 use Rattle.std.specs.List.{sum}
 use Rattle.std.proofs.Common.{inl, inr, slice_set, refl, sym, ap, subst, ◌∙◌, arith}
 use Rattle.std.proofs.lemmas.Bool.{cases_eq}
-use Rattle.std.proofs.lemmas.List.{get_or-set_same, get_or-set_other, length-set, length-drop, length-take-le, map-append, map-set, take_all, take_more, take-map, drop-map, get_or-drop, get_or-map, get_or-take}
+use Rattle.std.proofs.lemmas.List.{get_or-set_same, get_or-set_other, length-set, length-drop, length-take-le, map-append, map-set, take-take, take_all, take_more, take-map, drop-map, get_or-drop, get_or-map, get_or-take}
 use Rattle.std.proofs.lemmas.List.Sums.{sum_by-append, sum_by-cons, sum_by-take-le}
 use Rattle.kt_lanes.specs.Lanes.{column, AreWide, AreLanes, IsLane}
 
@@ -122,56 +122,54 @@ module _ (width place : ℕ) (lanes : List (List ℕ)) (wide : AreWide width lan
 
 -- ---- sums of lanes side by side
 
-module _ (width : ℕ) (lanes : List (List ℕ)) (start count : ℕ) where
-  -- the first has its own amounts
-  pub first-lane : AreWide width lanes → 0 < count → start + count ≤ length lanes → (lane : List ℕ) → lane ≡ slice_index_or lanes start lane → IsLane width (λ k. sum (column k (take 1 (take count (drop start lanes))))) lane
-  first-lane wide some within lane lane_is = record {
-    wide = ap (λ (one : List ℕ). length one) lane_is ∙ wide start lane (omega (arith, some, within));
-    each = λ k below. first k count (drop start lanes) some (omega (arith, some, within, length-drop start lanes)) (inside k);
-  }
-    where
-      inside : (k : ℕ) → slice_index_or (drop start lanes) 0 lane ≡ lane
-      inside k = get_or-drop start lanes 0 lane ∙ (let e : start + 0 ≡ start = omega arith in ap (λ n. slice_index_or lanes n lane) e ∙ sym lane_is)
+module _ (lanes : List (List ℕ)) (start : ℕ) where
+  -- what so many of them have at a sidx
+  abbrev pub sum_at : ℕ → ℕ → ℕ
+  sum_at count k = sum (column k (take count (drop start lanes)))
 
-      single : (n : ℕ) → n ≡ sum (n ∷ [])
-      single n = omega (arith, sum_by-cons (λ (m : ℕ). m) n [])
+  -- fewer have no more
+  pub sum-le : (some count : ℕ) → some ≤ count → (k : ℕ) → sum_at some k ≤ sum_at count k
+  sum-le some count within k =
+      subst (λ (some_of : List (List ℕ)). sum (column k some_of) ≤ sum_at count k) (take-take some count (drop start lanes) within) (column-sum-le k some (take count (drop start lanes)))
 
-      first : (k count : ℕ) (rest : List (List ℕ)) → 0 < count → 0 < length rest → slice_index_or rest 0 lane ≡ lane → slice_index lane k ≡ sum (column k (take 1 (take count rest)))
-      first k zero rest some other same = absurd (omega (arith, some))
-      first k (suc count) [] some other same = absurd (omega (arith, other))
-      first k (suc count) (one ∷ rest) some other same = ap (λ (l : List ℕ). slice_index l k) (sym same) ∙ single (slice_index one k)
+  -- one lane more
+  pub sum-next : (count at : ℕ) → at ≡ start + count → (next : ℕ) → next ≡ count + 1 → at < length lanes → (lane : List ℕ) → lane ≡ slice_index_or lanes at lane → (k : ℕ) → sum_at next k ≡ sum_at count k + slice_index lane k
+  sum-next count at at_is next next_is within lane lane_is k =
+      let here : slice_index_or (drop start lanes) count lane ≡ lane = get_or-drop start lanes count lane ∙ (ap (λ n. slice_index_or lanes n lane) (sym at_is) ∙ sym lane_is) in
+      ap (λ n. sum_at n k) next_is
+      ∙ (column-sum-more k count (drop start lanes) lane (omega (arith, within, at_is, length-drop start lanes)) ∙ ap (λ (one : List ℕ). sum_at count k + slice_index one k) here)
 
-  module _ (within : start + count ≤ length lanes) (few : (k : ℕ) → k < width → sum (column k (take count (drop start lanes))) ≤ 10 ^ 16) (at : ℕ) (below : at < count) (lane : List ℕ) (lane_is : lane ≡ slice_index_or lanes (start + at) lane) (sums : List ℕ) (so_far : IsLane width (λ k. sum (column k (take at (take count (drop start lanes))))) sums) where
-    more : (k : ℕ) → sum (column k (take (at + 1) (take count (drop start lanes)))) ≡ sum (column k (take at (take count (drop start lanes)))) + slice_index lane k
-    more k =
-        column-sum-more k at (take count (drop start lanes)) lane (omega (arith, below, part-count start count lanes within))
-        ∙ ap (λ (one : List ℕ). sum (column k (take at (take count (drop start lanes)))) + slice_index one k) (part-at start count lanes at lane below ∙ sym lane_is)
+  module _ (count at : ℕ) (at_is : at ≡ start + count) (end : ℕ) where
+    -- two more
+    pub sum-two : end ≡ count + 2 → start + end ≤ length lanes → (first second : List ℕ) → first ≡ slice_index_or lanes at first → second ≡ slice_index_or lanes (at + 1) second → (k : ℕ) → sum_at end k ≡ sum_at count k + (slice_index first k + slice_index second k)
+    sum-two end_is within first second first_is second_is k =
+        omega (
+          arith,
+          sum-next count at at_is (count + 1) refl (omega (arith, at_is, end_is, within)) first first_is k,
+          sum-next (count + 1) (at + 1) (omega (arith, at_is)) end (omega (arith, end_is)) (omega (arith, at_is, end_is, within)) second second_is k,
+        )
 
-    -- the next lane fits
-    pub sums-fit : (k : ℕ) → k < width → slice_index sums k + slice_index lane k < 2 ^ 64
-    sums-fit k inside = omega (arith, so_far.each k inside, more k, column-sum-le k (at + 1) (take count (drop start lanes)), few k inside)
+module _ (lanes : List (List ℕ)) (start count at : ℕ) (at_is : at ≡ start + count) (end : ℕ) where
+  -- three more
+  pub sum-three : end ≡ count + 3 → start + end ≤ length lanes → (first second : List ℕ) → first ≡ slice_index_or lanes at first → second ≡ slice_index_or lanes (at + 1) second → (third : List ℕ) → third ≡ slice_index_or lanes (at + 2) third
+      → (k : ℕ) → sum_at lanes start end k ≡ sum_at lanes start count k + (slice_index first k + slice_index second k + slice_index third k)
+  sum-three end_is within first second first_is second_is third third_is k =
+      omega (
+        arith,
+        sum-two lanes start count at at_is (count + 2) refl (omega (arith, end_is, within)) first second first_is second_is k,
+        sum-next lanes start (count + 2) (at + 2) (omega (arith, at_is)) end (omega (arith, end_is)) (omega (arith, at_is, end_is, within)) third third_is k,
+      )
 
-    -- it is added
-    pub sums-more : (now : List ℕ) → IsLane (length sums) (λ k. slice_index sums k + slice_index lane k) now → IsLane width (λ k. sum (column k (take (at + 1) (take count (drop start lanes))))) now
-    sums-more now now_is = record {
-      wide = now_is.wide ∙ so_far.wide;
-      each = λ k inside. omega (arith, now_is.each k (subst (λ n. k < n) (sym so_far.wide) inside), so_far.each k inside, more k);
-    }
-
-  -- all of them
-  pub sums-end : (at : ℕ) → count ≤ at → (sums : List ℕ) → IsLane width (λ k. sum (column k (take at (take count (drop start lanes))))) sums → IsLane width (λ k. sum (column k (take count (drop start lanes)))) sums
-  sums-end at past sums are = record {
-    wide = are.wide;
-    each = λ k inside. are.each k inside ∙ ap (λ all. sum (column k all)) (take_all at (take count (drop start lanes)) (few count (drop start lanes) past));
-  }
-    where
-      few : (n : ℕ) (xs : List (List ℕ)) → n ≤ at → length (take n xs) ≤ at
-      few n xs enough = omega (arith, enough, most n xs)
-        where
-          most : (n : ℕ) (xs : List (List ℕ)) → length (take n xs) ≤ n
-          most zero xs = omega arith
-          most (suc n) [] = omega arith
-          most (suc n) (x ∷ xs) = omega (arith, most n xs)
+module _ (lanes : List (List ℕ)) (start count at : ℕ) (at_is : at ≡ start + count) (end : ℕ) where
+  -- four more
+  pub sum-four : end ≡ count + 4 → start + end ≤ length lanes → (first second : List ℕ) → first ≡ slice_index_or lanes at first → second ≡ slice_index_or lanes (at + 1) second → (third : List ℕ) → third ≡ slice_index_or lanes (at + 2) third
+      → (fourth : List ℕ) → fourth ≡ slice_index_or lanes (at + 3) fourth → (k : ℕ) → sum_at lanes start end k ≡ sum_at lanes start count k + (slice_index first k + slice_index second k + slice_index third k + slice_index fourth k)
+  sum-four end_is within first second first_is second_is third third_is fourth fourth_is k =
+      omega (
+        arith,
+        sum-three lanes start count at at_is (count + 3) refl (omega (arith, end_is, within)) first second first_is second_is third third_is k,
+        sum-next lanes start (count + 3) (at + 3) (omega (arith, at_is)) end (omega (arith, end_is)) (omega (arith, at_is, end_is, within)) fourth fourth_is k,
+      )
 
 -- ---- one lane
 

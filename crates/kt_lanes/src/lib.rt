@@ -10,9 +10,11 @@ mod quotient;
 mod shared;
 mod shares;
 mod split;
+mod sums;
 mod tested;
 
 pub use amounts::{Amounts, OneLane};
-pub use lane::{no_amounts, sum_lanes};
+pub use lane::no_amounts;
 pub use lanes::Lanes;
 pub use shares::{Room, room_of, share_lanes, share_summed};
+pub use sums::sum_lanes;

@@ -7,10 +7,11 @@ ghost use Rattle.kt_lanes.specs.Lanes.{column, AreWide, IsLane};
 ghost use Rattle.kt_lanes.specs.Shares.{CanShare, HasRoom};
 ghost use Rattle.kt_lanes.specs.SideBySide.{AreBehind};
 
-use crate::lane::{clear, no_amounts, sum_lanes};
+use crate::lane::{clear, no_amounts};
 use crate::lanes::Lanes;
 use crate::parts::{fill_weights, find_ratios, pay_next};
 use crate::split::split_totals;
+use crate::sums::sum_lanes;
 use std::alloc::{AllocError, Global};
 
 /// Room to share totals out: amounts in cents, sidx by sidx.
