@@ -23,9 +23,9 @@ use Rattle.kt_fmtree.specs.declared.node.Node.{Node}
 use Rattle.kt_alloc.specs.DownLaws.{shares-length}
 use Rattle.kt_alloc.specs.Placed.{weights, amounts_for, parts_from, children_of, no_node, node_at, given_by, level_down}
 use Rattle.kt_alloc.specs.declared.part.PlacedPart.{PlacedPart}
-use Rattle.kt_lanes.specs.Lanes.{column, AreLanes, AreWide}
+use Rattle.kt_lanes.specs.Lanes.{column, AreLanes}
 use Rattle.kt_levels.specs.Units.{losses_of, child_losses}
-use Rattle.kt_lanes.specs.LaneLaws.{All-first, column-at}
+use Rattle.kt_lanes.specs.LaneLaws.{column-at}
 use Rattle.kt_levels.specs.Climbed.{HasPlainUnits}
 use Rattle.kt_levels.specs.ClimbedLaws.{child_losses-of, node_carry-loss}
 use Rattle.kt_levels.specs.Down.{placed, placed_at, amounts_of, child_places, ArePlaced, CanGiveBy, given_losses, AreBacked}

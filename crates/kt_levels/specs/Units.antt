@@ -1,6 +1,6 @@
 -- What units carry, and what their terms leave of the losses of their children.
 -- The rules: docs/FINANCIAL_MODULE.md, "Levels".
-use Rattle.std.specs.Prelude.{◌≡◌, ℕ, ◌+◌, ◌<◌, ◌≤◌, ◌^◌, List, length, map, take, drop}
+use Rattle.std.specs.Prelude.{ℕ, ◌+◌, ◌<◌, ◌≤◌, ◌^◌, List, length, map, take, drop}
 use Rattle.std.specs.List.{sum}
 use Rattle.kt_rules.specs.LossAlone.{loss_after}
 use Rattle.kt_rules.specs.Profiles.{IsProfile}
