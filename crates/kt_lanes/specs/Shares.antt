@@ -77,4 +77,4 @@ pub record HasRoom (width : ℕ) (room : Room) : Type 0 where
   pub ratios : length room.ratios.items ≡ width
   pub upto : length room.upto.items ≡ width
   pub paid : length room.paid.items ≡ width
-  pub share : length room.share.items ≡ width
+  pub due : length room.due.items ≡ width

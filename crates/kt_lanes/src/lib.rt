@@ -16,5 +16,5 @@ mod tested;
 pub use amounts::{Amounts, OneLane};
 pub use lane::no_amounts;
 pub use lanes::Lanes;
-pub use shares::{Room, room_of, share_lanes, share_summed};
+pub use shares::{Room, room_of, share_lanes};
 pub use sums::sum_lanes;

@@ -8,7 +8,7 @@ use Rattle.kt_fmtree.specs.Parts.{Parts}
 use Rattle.kt_fmtree.specs.declared.node.Node.{Node}
 use Rattle.kt_alloc.specs.Placed.{CanShare, node_at, parts_from}
 use Rattle.kt_alloc.specs.declared.part.PlacedPart.{PlacedPart}
-use Rattle.kt_lanes.specs.Lanes.{column, AreWide}
+use Rattle.kt_lanes.specs.Lanes.{column, AreWide, IsLane}
 use Rattle.kt_levels.specs.Units.{CanTake, child_losses, losses_of}
 use Rattle.kt_lanes.specs.Shares.{HasRoom}
 use Rattle.kt_lanes.specs.SideBySide.{AreBehind}
@@ -52,6 +52,15 @@ pub record CanGiveBy (width : ℕ) (nodes : List Node) (below : List (List ℕ))
   pub placed : ArePlaced width parts
   pub within : All (λ place. place < length nodes) parts.places.items
   pub backed : (k : ℕ) → k < width → AreBacked nodes (column k below) (placed_at k parts)
+
+-- a lane has what the children of each of some units carry in all
+abbrev pub AreSumsOf : ℕ → List Node → List (List ℕ) → List ℕ → List ℕ → Type 0
+AreSumsOf width nodes below places sums = All (λ place. IsLane width (λ k. sum (child_losses (column k below) (node_at nodes place))) sums) places
+
+-- and that of each of some units of the level above one
+abbrev pub AreLevelSums : Parts → List (List ℕ) → ℕ → ℕ → List ℕ → List ℕ → Type 0
+AreLevelSums parts lanes width level places sums =
+    All (λ place. IsLane width (λ k. sum (child_losses (losses_of (row_of parts (column k lanes) level)) (node_at (slice_index_or parts.levels level []) place))) sums) places
 
 -- lanes of what the first so many units give stand behind others
 abbrev pub AreGivenBehind : ℕ → List Node → List (List ℕ) → PlacedLanes → ℕ → List (List ℕ) → List (List ℕ) → Type 0

@@ -1,23 +1,19 @@
-//! Lanes of units, by rising id.
+//! Lanes of units, by rising id; and amounts of units given down a programme to the ids.
 //! The rule: docs/FINANCIAL_MODULE.md, "Allocation".
-ghost use Rattle.std.specs.Prelude.{◌≡◌, true, false, ℕ, ◌+◌, ◌≤◌, ◌<◌, ◌^◌, ◌∷◌, [], length, map, slice_index, slice_index_or, All, IfOk, OnOk};
-ghost use Rattle.std.specs.List.{flat_map, sum, sum_by};
+ghost use Rattle.std.specs.Prelude.{◌≡◌, true, false, ℕ, ◌+◌, ◌-◌, ◌≤◌, ◌<◌, ◌^◌, ◌∷◌, [], length, map, slice_index, slice_index_or, All, IfOk, IfSome, OnOk};
+ghost use Rattle.std.specs.List.{flat_map, sum_by};
 ghost use Rattle.kt_rec.specs.Rising.{IsRising};
 ghost use Rattle.kt_tree.specs.Sharing.{part_of};
-ghost use Rattle.kt_fmtree.specs.Carried.{row_of};
 ghost use Rattle.kt_fmtree.specs.Parts.{units_at};
-ghost use Rattle.kt_alloc.specs.Placed.{levels_down, node_at, unit_parts};
+ghost use Rattle.kt_alloc.specs.Placed.{levels_down, unit_parts};
 ghost use Rattle.kt_alloc.specs.ById.{with_more};
-ghost use Rattle.kt_lanes.specs.Lanes.{column, AreWide, AreLanes, IsLane};
-ghost use Rattle.kt_levels.specs.Units.{child_losses, losses_of};
+ghost use Rattle.kt_lanes.specs.Lanes.{column, AreWide, AreLanes};
 ghost use Rattle.kt_levels.specs.Climbed.{IsClimbed, carried_at};
 ghost use Rattle.kt_lanes.specs.SideBySide.{AreBehind};
-ghost use Rattle.kt_levels.specs.Down.{ArePlaced, CanGiveBy, GivesAt, HasLevelRoom, given_losses, placed_at};
+ghost use Rattle.kt_levels.specs.Down.{ArePlaced, AreLevelSums, AreSumsOf, CanGiveBy, GivesAt, HasLevelRoom, given_losses, placed_at};
 
 use crate::climbing::{Climbed, lanes_at};
-use crate::down::{
-    LevelRoom, PlacedLanes, level_by_unit, place_children, push_given, push_given_of,
-};
+use crate::down::{LevelRoom, PlacedLanes, level_by_unit, level_down, place_children, push_given};
 use kt_alloc::id_at;
 use kt_fmtree::{Node, Programme};
 use kt_lanes::{Amounts, Lanes, OneLane};
@@ -111,7 +107,8 @@ fn are_in_order(programme: &Programme, ids: &[u32], places: &[usize]) -> bool
     true
 }
 
-/// Puts what amounts of units give to rising ids, the units below them, behind other lanes, id by id. An error is want of memory.
+/// Puts what amounts of units give to rising ids, the units below them, behind other lanes, id by id. What the ids below each have in all
+/// may be known. An error is want of memory.
 fn push_by_id(
     alloc: Global,
     programme: &Programme,
@@ -119,11 +116,13 @@ fn push_by_id(
     width: usize,
     nodes: &[Node],
     below: &Lanes,
+    sums: Option<&[u64]>,
     room: &mut LevelRoom,
     out: &mut Lanes,
 ) -> Result<(), AllocError>
     requires rising { IsRising ids.now }
     requires can { CanGiveBy width nodes.now below.now room.old.parts }
+    requires sums { IfSome sums (λ all. AreSumsOf width nodes.now below.now room.old.parts.places.items all.now) }
     requires leaves { length below.now ≡ length programme.now.leaves }
     requires few { (k : ℕ) → k < width → sum_by (λ part. part.amount) (flat_map (given_losses nodes.now (column k below.now)) (placed_at k room.old.parts)) ≤ 10 ^ 17 }
     requires room { HasLevelRoom width room.old }
@@ -133,13 +132,14 @@ fn push_by_id(
 {
     place_children(nodes, below, &room.parts.places, &mut room.given.places)?;
     if are_in_order(programme, ids, &room.given.places) {
-        push_given(nodes, width, below, &mut room.room, &room.parts, out)?;
+        push_given(nodes, width, below, sums, &mut room.room, &room.parts, out)?;
         return Ok(());
     }
     level_by_unit(
         nodes,
         width,
         below,
+        sums,
         &mut room.room,
         &room.parts,
         &mut room.given,
@@ -149,120 +149,38 @@ fn push_by_id(
     Ok(())
 }
 
-/// Puts what the amounts of one unit, in a place of its level, give to rising ids behind other lanes, as `push_by_id`, where what the
-/// unit's children have in all is known. An error is want of memory.
-fn push_one_by_id(
-    alloc: Global,
-    programme: &Programme,
-    ids: &[u32],
-    width: usize,
-    nodes: &[Node],
-    below: &Lanes,
-    place: usize,
-    sums: &[u64],
-    room: &mut LevelRoom,
-    out: &mut Lanes,
-) -> Result<(), AllocError>
-    requires rising { IsRising ids.now }
-    requires can { CanGiveBy width nodes.now below.now room.old.parts }
-    requires places { room.old.parts.places.items ≡ place ∷ [] }
-    requires sums { IsLane width (λ k. sum (child_losses (column k below.now) (node_at nodes.now place))) sums.now }
-    requires leaves { length below.now ≡ length programme.now.leaves }
-    requires few { (k : ℕ) → k < width → sum_by (λ part. part.amount) (flat_map (given_losses nodes.now (column k below.now)) (placed_at k room.old.parts)) ≤ 10 ^ 17 }
-    requires room { HasLevelRoom width room.old }
-    requires out { AreWide width out.old }
-    ensures room { OnOk result (HasLevelRoom width room.new) }
-    ensures value { OnOk result (AreBehind width (length ids.now) (λ k. map (part_of (unit_parts (units_at programme.now 0) (flat_map (given_losses nodes.now (column k below.now)) (placed_at k room.old.parts)))) ids.now) out.old out.new) }
-{
-    if nodes[place].width < 3 {
-        push_by_id(alloc, programme, ids, width, nodes, below, room, out)?;
-        return Ok(());
-    }
-    place_children(nodes, below, &room.parts.places, &mut room.given.places)?;
-    if are_in_order(programme, ids, &room.given.places) {
-        push_given_of(
-            nodes,
-            width,
-            below,
-            place,
-            sums,
-            &mut room.room,
-            &room.parts,
-            out,
-        )?;
-        return Ok(());
-    }
-    push_by_id(alloc, programme, ids, width, nodes, below, room, out)?;
-    Ok(())
-}
-
-/// Puts what amounts of the units of level 1 give to rising ids behind other lanes, id by id. An error is want of memory.
+/// Gives amounts of the units of a level down to rising ids, level by level, and puts what these have behind other lanes, id by id. What
+/// the children of each of the units have in all may be known. An error is want of memory.
 pub(crate) fn ids_down(
     alloc: Global,
     programme: &Programme,
     lanes: &Lanes,
     climbed: &Climbed,
     ids: &[u32],
+    level: usize,
+    sums: Option<&[u64]>,
     room: &mut LevelRoom,
     out: &mut Lanes,
 ) -> Result<(), AllocError>
     requires climbed { IsClimbed programme.now lanes.now climbed.now }
     requires rising { IsRising ids.now }
-    requires gives { GivesAt programme.now lanes.now climbed.now.width 1 room.old }
+    requires some { 1 ≤ level }
+    requires gives { GivesAt programme.now lanes.now climbed.now.width level room.old }
+    requires sums { IfSome sums (λ all. AreLevelSums programme.now lanes.now climbed.now.width (level - 1) room.old.parts.places.items all.now) }
     requires out { AreWide climbed.now.width out.old }
     ensures room { OnOk result (HasLevelRoom climbed.now.width room.new) }
-    ensures value { OnOk result (AreBehind climbed.now.width (length ids.now) (λ k. map (part_of (unit_parts (units_at programme.now 0) (levels_down false programme.now.levels (carried_at programme.now lanes.now k).rows 1 (placed_at k room.old.parts)))) ids.now) out.old out.new) }
+    ensures value { OnOk result (AreBehind climbed.now.width (length ids.now) (λ k. map (part_of (unit_parts (units_at programme.now 0) (levels_down false programme.now.levels (carried_at programme.now lanes.now k).rows level (placed_at k room.old.parts)))) ids.now) out.old out.new) }
 {
     programme.is_of_a_tree();
-    let below = lanes_at(lanes, &climbed.levels, 0);
-    push_by_id(
-        alloc,
-        programme,
-        ids,
-        climbed.width,
-        programme.nodes_above(0),
-        below,
-        room,
-        out,
-    )?;
-    Ok(())
-}
-
-/// Puts what the amounts of one unit, in a place of level 1, give to rising ids behind other lanes, as `ids_down`, where what the ids
-/// have in all is known. An error is want of memory.
-pub(crate) fn ids_of_one(
-    alloc: Global,
-    programme: &Programme,
-    lanes: &Lanes,
-    climbed: &Climbed,
-    ids: &[u32],
-    place: usize,
-    sums: &[u64],
-    room: &mut LevelRoom,
-    out: &mut Lanes,
-) -> Result<(), AllocError>
-    requires climbed { IsClimbed programme.now lanes.now climbed.now }
-    requires rising { IsRising ids.now }
-    requires gives { GivesAt programme.now lanes.now climbed.now.width 1 room.old }
-    requires places { room.old.parts.places.items ≡ place ∷ [] }
-    requires sums { IsLane climbed.now.width (λ k. sum (child_losses (losses_of (row_of programme.now (column k lanes.now) 0)) (node_at (slice_index_or programme.now.levels 0 []) place))) sums.now }
-    requires out { AreWide climbed.now.width out.old }
-    ensures room { OnOk result (HasLevelRoom climbed.now.width room.new) }
-    ensures value { OnOk result (AreBehind climbed.now.width (length ids.now) (λ k. map (part_of (unit_parts (units_at programme.now 0) (levels_down false programme.now.levels (carried_at programme.now lanes.now k).rows 1 (placed_at k room.old.parts)))) ids.now) out.old out.new) }
-{
-    programme.is_of_a_tree();
-    let below = lanes_at(lanes, &climbed.levels, 0);
-    push_one_by_id(
-        alloc,
-        programme,
-        ids,
-        climbed.width,
-        programme.nodes_above(0),
-        below,
-        place,
-        sums,
-        room,
-        out,
-    )?;
+    let next = level - 1;
+    let width = climbed.width;
+    let below = lanes_at(lanes, &climbed.levels, next);
+    let nodes = programme.nodes_above(next);
+    if next == 0 {
+        push_by_id(alloc, programme, ids, width, nodes, below, sums, room, out)?;
+        return Ok(());
+    }
+    level_down(nodes, width, below, sums, room)?;
+    ids_down(alloc, programme, lanes, climbed, ids, next, None, room, out)?;
     Ok(())
 }

@@ -1,20 +1,17 @@
-//! Amounts of units given down a programme by lanes, level by level.
+//! Amounts of units given down by lanes, from a level to the next one below.
 //! The rule: docs/FINANCIAL_MODULE.md, "Allocation".
-ghost use Rattle.std.specs.Prelude.{◌≡◌, ◌+◌, ◌-◌, ◌≤◌, ◌<◌, ◌^◌, ◌++◌, ◌∷◌, [], ℕ, true, false, length, map, All, IfOk, OnOk, slice_index, slice_index_or};
+ghost use Rattle.std.specs.Prelude.{◌≡◌, ◌+◌, ◌-◌, ◌≤◌, ◌<◌, ◌^◌, ◌++◌, ◌∷◌, [], ℕ, true, false, length, map, All, IfOk, IfSome, OnOk, slice_index, slice_index_or};
 ghost use Rattle.std.specs.List.{flat_map, range_with_len, sum};
 ghost use Rattle.kt_money.specs.Sharing.{share_out};
-ghost use Rattle.kt_fmtree.specs.Carried.{row_of};
-ghost use Rattle.kt_alloc.specs.Placed.{levels_down, node_at};
+ghost use Rattle.kt_alloc.specs.Placed.{node_at};
 ghost use Rattle.kt_lanes.specs.Lanes.{column, AreWide, IsLane};
-ghost use Rattle.kt_levels.specs.Units.{CanTake, child_losses, losses_of};
-ghost use Rattle.kt_levels.specs.Climbed.{IsClimbed, carried_at};
+ghost use Rattle.kt_levels.specs.Units.{CanTake, child_losses};
 ghost use Rattle.kt_lanes.specs.Shares.{HasRoom};
 ghost use Rattle.kt_lanes.specs.SideBySide.{AreBehind};
-ghost use Rattle.kt_levels.specs.Down.{ArePlaced, CanGiveBy, GivesAt, HasLevelRoom, amounts_of, child_places, given_losses, placed_at};
+ghost use Rattle.kt_levels.specs.Down.{ArePlaced, AreSumsOf, CanGiveBy, HasLevelRoom, amounts_of, child_places, given_losses, placed_at};
 
-use crate::climbing::{Climbed, lanes_at};
-use kt_fmtree::{Node, Programme};
-use kt_lanes::{Lanes, Room, room_of, share_lanes, share_summed};
+use kt_fmtree::Node;
+use kt_lanes::{Lanes, Room, room_of, share_lanes};
 use std::alloc::{AllocError, Global};
 use std::mem::swap;
 
@@ -89,59 +86,65 @@ pub(crate) fn place_children(
     Ok(())
 }
 
-/// Puts what a unit gives to its children behind other lanes.
+/// Puts what a unit gives to its children behind other lanes. What these have in all may be known.
 fn push_shares_of(
     node: &Node,
     below: &Lanes,
     totals: &[u64],
+    sums: Option<&[u64]>,
     room: &mut Room,
     out: &mut Lanes,
 ) -> Result<(), AllocError>
     requires can { CanTake (length totals.now) below.now node.now }
     requires wide { AreWide (length totals.now) below.now }
     requires backed { (k : ℕ) → k < length totals.now → slice_index totals.now k ≤ sum (child_losses (column k below.now) node.now) }
+    requires sums { IfSome sums (λ all. IsLane (length totals.now) (λ k. sum (child_losses (column k below.now) node.now)) all.now) }
     requires room { HasRoom (length totals.now) room.old }
     requires out { AreWide (length totals.now) out.old }
     ensures room { HasRoom (length totals.now) room.new }
     ensures value { OnOk result (AreBehind (length totals.now) node.now.width (λ k. share_out (slice_index totals.now k) (child_losses (column k below.now) node.now)) out.old out.new) }
 {
-    share_lanes(totals, below, node.start, node.width, room, out)?;
+    share_lanes(totals, below, node.start, node.width, sums, room, out)?;
     Ok(())
 }
 
-/// Puts what amounts of the units of a level give to those of the level below behind other lanes, unit by unit. An error is want of
-/// memory.
+/// Puts what amounts of the units of a level give to those of the level below behind other lanes, unit by unit. What the children of each
+/// have in all may be known. An error is want of memory.
 pub(crate) fn push_given(
     nodes: &[Node],
     width: usize,
     below: &Lanes,
+    sums: Option<&[u64]>,
     room: &mut Room,
     parts: &PlacedLanes,
     out: &mut Lanes,
 ) -> Result<(), AllocError>
     requires can { CanGiveBy width nodes.now below.now parts.now }
+    requires sums { IfSome sums (λ all. AreSumsOf width nodes.now below.now parts.now.places.items all.now) }
     requires room { HasRoom width room.old }
     requires out { AreWide width out.old }
     ensures room { OnOk result (HasRoom width room.new) }
     ensures value { OnOk result (AreBehind width (length (flat_map (child_places nodes.now) parts.now.places.items)) (λ k. amounts_of (flat_map (given_losses nodes.now (column k below.now)) (placed_at k parts.now))) out.old out.new) }
 {
     for (at, place) in parts.places.iter().enumerate() {
-        push_shares_of(&nodes[*place], below, parts.lanes.lane(at), room, out)?;
+        push_shares_of(&nodes[*place], below, parts.lanes.lane(at), sums, room, out)?;
     }
     Ok(())
 }
 
-/// Puts what amounts of the units of a level give to those of the level below in the place of what stood there, unit by unit. An
-/// error is want of memory.
+/// Puts what amounts of the units of a level give to those of the level below in the place of what stood there, unit by unit, as
+/// `push_given`. An error is want of memory.
 pub(crate) fn level_by_unit(
     nodes: &[Node],
     width: usize,
     below: &Lanes,
+    sums: Option<&[u64]>,
     room: &mut Room,
     parts: &PlacedLanes,
     given: &mut PlacedLanes,
 ) -> Result<(), AllocError>
     requires can { CanGiveBy width nodes.now below.now parts.now }
+    requires sums { IfSome sums (λ all. AreSumsOf width nodes.now below.now parts.now.places.items all.now) }
     requires room { HasRoom width room.old }
     ensures room { OnOk result (HasRoom width room.new) }
     ensures given { OnOk result (ArePlaced width given.new) }
@@ -150,7 +153,7 @@ pub(crate) fn level_by_unit(
 {
     place_children(nodes, below, &parts.places, &mut given.places)?;
     given.lanes.clear();
-    push_given(nodes, width, below, room, parts, &mut given.lanes)?;
+    push_given(nodes, width, below, sums, room, parts, &mut given.lanes)?;
     Ok(())
 }
 
@@ -180,14 +183,16 @@ fn place_starts(nodes: &[Node], places: &[usize], starts: &mut Vec<usize>) -> Re
 }
 
 /// Puts what amounts of the units of a level give to those of the level below in the place of these amounts: only children have them
-/// whole, as they are. An error is want of memory.
-fn level_down(
+/// whole, as they are. What the children of each have in all may be known. An error is want of memory.
+pub(crate) fn level_down(
     nodes: &[Node],
     width: usize,
     below: &Lanes,
+    sums: Option<&[u64]>,
     room: &mut LevelRoom,
 ) -> Result<(), AllocError>
     requires can { CanGiveBy width nodes.now below.now room.old.parts }
+    requires sums { IfSome sums (λ all. AreSumsOf width nodes.now below.now room.old.parts.places.items all.now) }
     requires room { HasLevelRoom width room.old }
     ensures room { OnOk result (HasLevelRoom width room.new) }
     ensures given { OnOk result (ArePlaced width room.new.parts) }
@@ -202,131 +207,11 @@ fn level_down(
         nodes,
         width,
         below,
+        sums,
         &mut room.room,
         &room.parts,
         &mut room.given,
     )?;
     swap(&mut room.parts, &mut room.given);
-    Ok(())
-}
-
-/// Puts what the amounts of one unit, in a place of its level, give to its children behind other lanes, as `push_given`, where these are
-/// three or more and what they have in all is known. An error is want of memory.
-pub(crate) fn push_given_of(
-    nodes: &[Node],
-    width: usize,
-    below: &Lanes,
-    place: usize,
-    sums: &[u64],
-    room: &mut Room,
-    parts: &PlacedLanes,
-    out: &mut Lanes,
-) -> Result<(), AllocError>
-    requires can { CanGiveBy width nodes.now below.now parts.now }
-    requires places { parts.now.places.items ≡ place ∷ [] }
-    requires some { 2 < (node_at nodes.now place).width }
-    requires sums { IsLane width (λ k. sum (child_losses (column k below.now) (node_at nodes.now place))) sums.now }
-    requires room { HasRoom width room.old }
-    requires out { AreWide width out.old }
-    ensures room { OnOk result (HasRoom width room.new) }
-    ensures value { OnOk result (AreBehind width (length (flat_map (child_places nodes.now) parts.now.places.items)) (λ k. amounts_of (flat_map (given_losses nodes.now (column k below.now)) (placed_at k parts.now))) out.old out.new) }
-{
-    let node = &nodes[place];
-    let totals = parts.lanes.lane(0);
-    share_summed(totals, below, node.start, node.width, sums, room, out)?;
-    Ok(())
-}
-
-/// Puts what the amounts of one unit, in a place of its level, give to its children in the place of these amounts, as `level_down`, where
-/// what the children have in all is known. An error is want of memory.
-fn level_by_sums(
-    nodes: &[Node],
-    width: usize,
-    below: &Lanes,
-    place: usize,
-    sums: &[u64],
-    room: &mut LevelRoom,
-) -> Result<(), AllocError>
-    requires can { CanGiveBy width nodes.now below.now room.old.parts }
-    requires places { room.old.parts.places.items ≡ place ∷ [] }
-    requires sums { IsLane width (λ k. sum (child_losses (column k below.now) (node_at nodes.now place))) sums.now }
-    requires room { HasLevelRoom width room.old }
-    ensures room { OnOk result (HasLevelRoom width room.new) }
-    ensures given { OnOk result (ArePlaced width room.new.parts) }
-    ensures value { OnOk result ((k : ℕ) → k < width → placed_at k room.new.parts ≡ flat_map (given_losses nodes.now (column k below.now)) (placed_at k room.old.parts)) }
-{
-    if nodes[place].width < 3 {
-        level_down(nodes, width, below, room)?;
-        return Ok(());
-    }
-    place_children(nodes, below, &room.parts.places, &mut room.given.places)?;
-    room.given.lanes.clear();
-    push_given_of(
-        nodes,
-        width,
-        below,
-        place,
-        sums,
-        &mut room.room,
-        &room.parts,
-        &mut room.given.lanes,
-    )?;
-    swap(&mut room.parts, &mut room.given);
-    Ok(())
-}
-
-/// Gives amounts of the units of a level down to those of level 1. An error is want of memory.
-pub(crate) fn lanes_down(
-    programme: &Programme,
-    lanes: &Lanes,
-    climbed: &Climbed,
-    level: usize,
-    room: &mut LevelRoom,
-) -> Result<(), AllocError>
-    requires climbed { IsClimbed programme.now lanes.now climbed.now }
-    requires some { 1 ≤ level }
-    requires gives { GivesAt programme.now lanes.now climbed.now.width level room.old }
-    ensures gives { OnOk result (GivesAt programme.now lanes.now climbed.now.width 1 room.new) }
-    ensures value { OnOk result ((k : ℕ) → k < climbed.now.width → levels_down false programme.now.levels (carried_at programme.now lanes.now k).rows 1 (placed_at k room.new.parts) ≡ levels_down false programme.now.levels (carried_at programme.now lanes.now k).rows level (placed_at k room.old.parts)) }
-{
-    if level == 1 {
-        return Ok(());
-    }
-    programme.is_of_a_tree();
-    let next = level - 1;
-    let below = lanes_at(lanes, &climbed.levels, next);
-    level_down(programme.nodes_above(next), climbed.width, below, room)?;
-    lanes_down(programme, lanes, climbed, next, room)?;
-    Ok(())
-}
-
-/// Gives amounts of one unit, in a place of its level, down to the units of level 1, as `lanes_down`, where what its children have in all
-/// is known. An error is want of memory.
-pub(crate) fn unit_down(
-    programme: &Programme,
-    lanes: &Lanes,
-    climbed: &Climbed,
-    level: usize,
-    place: usize,
-    sums: &[u64],
-    room: &mut LevelRoom,
-) -> Result<(), AllocError>
-    requires climbed { IsClimbed programme.now lanes.now climbed.now }
-    requires some { 1 ≤ level }
-    requires gives { GivesAt programme.now lanes.now climbed.now.width level room.old }
-    requires places { room.old.parts.places.items ≡ place ∷ [] }
-    requires sums { IsLane climbed.now.width (λ k. sum (child_losses (losses_of (row_of programme.now (column k lanes.now) (level - 1))) (node_at (slice_index_or programme.now.levels (level - 1) []) place))) sums.now }
-    ensures gives { OnOk result (GivesAt programme.now lanes.now climbed.now.width 1 room.new) }
-    ensures value { OnOk result ((k : ℕ) → k < climbed.now.width → levels_down false programme.now.levels (carried_at programme.now lanes.now k).rows 1 (placed_at k room.new.parts) ≡ levels_down false programme.now.levels (carried_at programme.now lanes.now k).rows level (placed_at k room.old.parts)) }
-{
-    if level == 1 {
-        return Ok(());
-    }
-    programme.is_of_a_tree();
-    let next = level - 1;
-    let below = lanes_at(lanes, &climbed.levels, next);
-    let nodes = programme.nodes_above(next);
-    level_by_sums(nodes, climbed.width, below, place, sums, room)?;
-    lanes_down(programme, lanes, climbed, next, room)?;
     Ok(())
 }

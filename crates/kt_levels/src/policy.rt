@@ -13,9 +13,9 @@ ghost use Rattle.kt_levels.specs.Down.{ArePlaced, HasLevelRoom, placed_at};
 ghost use Rattle.kt_levels.specs.Policies.{HasSums, IsPolicy, IsTopBase};
 ghost use Rattle.kt_lanes.specs.SideBySide.{AreBehind};
 
-use crate::by_id::{ids_down, ids_of_one};
+use crate::by_id::ids_down;
 use crate::climbing::{Climbed, add_children, apply_lane, lanes_at, lanes_in};
-use crate::down::{LevelRoom, PlacedLanes, unit_down};
+use crate::down::{LevelRoom, PlacedLanes};
 use kt_fmtree::{Programme, places_of};
 use kt_lanes::{Lanes, no_amounts, share_lanes};
 use std::alloc::{AllocError, Global};
@@ -139,7 +139,7 @@ fn shared_at_once(
     let places = places_of(alloc, programme.ids(), programme.beneath(node))?;
     let losses = lanes_in(alloc, climbed.width, &places, lanes)?;
     let count = losses.len();
-    share_lanes(policy, &losses, 0, count, &mut room.room, out)?;
+    share_lanes(policy, &losses, 0, count, None, &mut room.room, out)?;
     Ok(())
 }
 
@@ -179,23 +179,15 @@ fn shared_down(
     ensures value { OnOk result ((tree : Tree) → IsProgramme tree programme.now → AreBehind climbed.now.width (length (beneath tree (slice_index tree.tops node))) (λ k. shared_down tree (loss_by tree.ids (column k lanes.now)) (slice_index tree.tops node) layer) out.old out.new) }
 {
     programme.is_of_a_tree();
-    let place = node as usize;
-    place_top(place, policy, &mut room.parts)?;
-    let depth = programme.depth();
-    if depth == 1 {
-        let ids = programme.beneath(node);
-        ids_of_one(
-            alloc, programme, lanes, climbed, ids, place, sums, room, out,
-        )?;
-        return Ok(());
-    }
-    unit_down(programme, lanes, climbed, depth, place, sums, room)?;
+    place_top(node as usize, policy, &mut room.parts)?;
     ids_down(
         alloc,
         programme,
         lanes,
         climbed,
         programme.beneath(node),
+        programme.depth(),
+        Some(sums),
         room,
         out,
     )?;

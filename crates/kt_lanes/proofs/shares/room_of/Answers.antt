@@ -9,6 +9,6 @@ returns c = record {
     ratios = c.in_ok-ratios.ensures.wide;
     upto = ap length c.in_ok-upto.ensures.value ∙ length-replicate c.args.width 0;
     paid = ap length c.in_ok-paid.ensures.value ∙ length-replicate c.args.width 0;
-    share = ap length c.in_ok-share.ensures.value ∙ length-replicate c.args.width 0;
+    due = ap length c.in_ok-due.ensures.value ∙ length-replicate c.args.width 0;
   };
 }

@@ -1,10 +1,11 @@
 use Rattle.std.proofs.Common.{◌≡◌, ◌≤◌, ◌<◌, ◌∙◌, ℕ, List, length, slice_index, slice_index_or, ap, sym, subst, arith}
 use Rattle.std.specs.List.{sum}
+use Rattle.std.proofs.lemmas.Option.{IfSome_then}
 use Rattle.std.proofs.lemmas.List.{get_or_default}
 use Rattle.kt_money.specs.Sharing.{share_out}
 use Rattle.kt_fmtree.specs.declared.node.Node.{Node}
 use Rattle.kt_alloc.specs.Placed.{no_node, node_at}
-use Rattle.kt_lanes.specs.Lanes.{AreWide, column}
+use Rattle.kt_lanes.specs.Lanes.{AreWide, IsLane, column}
 use Rattle.kt_levels.specs.Units.{CanTake, child_losses}
 use Rattle.kt_lanes.specs.Shares.{HasRoom}
 use Rattle.kt_lanes.specs.SideBySide.{AreBehind}
@@ -50,6 +51,14 @@ push_shares_of-requires-clause-backed c =
     λ k less.
     subst (λ (one : Node). slice_index lane k ≤ sum (child_losses (column k c.args.below.now) one)) (sym (node-is at))
     (backed-here c.args.width c.args.parts.now c.requires.can.placed c.loop-at.at (inside at) k c.args.nodes.now (column k c.args.below.now) (c.requires.can.backed k (subst (λ n. k < n) (long at) less)) lane c.lane.ensures.value)
+
+pub push_shares_of-requires-clause-sums : goal.push_shares_of-requires-clause-sums
+push_shares_of-requires-clause-sums c =
+    let at = (goal.at.push_shares_of-requires-clause-sums c).After-lane in
+    IfSome_then c.args.sums c.requires.sums
+    (λ all are.
+    subst (λ n. IsLane n (λ k. sum (child_losses (column k c.args.below.now) (slice_index_or c.args.nodes.now (slice_index c.deref-place-items.result.now c.loop-at.at) none))) all.now) (sym (long at))
+    (subst (λ (one : Node). IsLane c.args.width (λ k. sum (child_losses (column k c.args.below.now) one)) all.now) (sym (node-is at)) (are c.loop-at.at 0 (inside at))))
 
 pub push_shares_of-requires-clause-room : goal.push_shares_of-requires-clause-room
 push_shares_of-requires-clause-room c = subst (λ n. HasRoom n c.loop-at.room) (sym (long (goal.at.push_shares_of-requires-clause-room c).After-lane)) c.loop-at.invariant.room

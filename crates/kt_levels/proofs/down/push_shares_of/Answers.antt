@@ -1,11 +1,17 @@
-use Rattle.std.proofs.Common.{◌≤◌, ◌^◌, ℕ, List, length, slice_index, drop, take, refl, sym, ap, subst}
+use Rattle.std.proofs.Common.{◌∙◌, ◌≤◌, ◌^◌, ℕ, List, length, slice_index, drop, take, refl, sym, ap, subst}
 use Rattle.std.specs.List.{sum}
+use Rattle.std.proofs.lemmas.Option.{IfSome_then}
 use Rattle.kt_money.specs.Sharing.{share_out}
 use Rattle.kt_lanes.specs.Lanes.{column}
 use Rattle.kt_levels.specs.Units.{child_losses}
 use Rattle.kt_lanes.specs.LaneLaws.{column-part}
 use Rattle.kt_lanes.specs.BehindLaws.{behind-are}
 use Rattle.kt_levels.proofs.down.push_shares_of.Goals as goal
+
+pub share_lanes-requires-clause-sums : goal.share_lanes-requires-clause-sums
+share_lanes-requires-clause-sums c =
+    IfSome_then c.args.sums c.requires.sums
+    (λ all are. record { wide = are.wide; each = λ k less. are.each k less ∙ ap sum (sym (column-part k c.args.node.now.start c.args.node.now.width c.args.below.now)) })
 
 pub share_lanes-requires-clause-few : goal.share_lanes-requires-clause-few
 share_lanes-requires-clause-few c = λ k less.

@@ -3,12 +3,11 @@ use Rattle.std.proofs.Common.{◌≡◌, ℕ, ◌+◌, ◌<◌, ◌^◌, length,
 use Rattle.kt_money.specs.Sharing.{share_to}
 use Rattle.kt_lanes.specs.LaneLaws.{IsWritten}
 use Rattle.kt_lanes.specs.Shares.{less_wrapped}
-use Rattle.kt_lanes.proofs.parts.pay_likely.Given as goal
+use Rattle.kt_lanes.proofs.parts.share_likely.Given as goal
 
 abbrev pub invariant-loop-k : goal.invariant-loop-k
 invariant-loop-k l = record {
   upto : IsWritten (length l.totals) l.k (λ j. slice_index l.fn.upto j + slice_index l.lane j) (slice_index l.fn.upto) l.upto;
-  paid : IsWritten (length l.totals) l.k (λ j. slice_index l.fn.share j) (slice_index l.fn.paid) l.paid;
-  share : IsWritten (length l.totals) l.k (λ j. less_wrapped (slice_index l.fn.share j) (slice_index l.fn.paid j)) (slice_index l.fn.share) l.share;
-  right : l.wrong < 2 ^ 32 → (j : ℕ) → j < l.k → slice_index l.fn.share j ≡ share_to (slice_index l.totals j) (slice_index l.weights j) (slice_index l.fn.upto j + slice_index l.lane j);
+  share : IsWritten (length l.totals) l.k (λ j. less_wrapped (slice_index l.due j) (slice_index l.fn.paid j)) (slice_index l.fn.paid) l.paid;
+  right : l.wrong < 2 ^ 32 → (j : ℕ) → j < l.k → slice_index l.due j ≡ share_to (slice_index l.totals j) (slice_index l.weights j) (slice_index l.fn.upto j + slice_index l.lane j);
 }
