@@ -27,6 +27,14 @@ fn push_kind(
     rows[place.row].push_kind(found, mean, maxima)
 }
 
+/// As many amounts of samples as the row at a place may have.
+fn room_of(rows: &[Row], place: &SummaryRow) -> usize {
+    if place.row >= rows.len() {
+        return 0;
+    }
+    rows[place.row].room()
+}
+
 /// Appends the amounts of samples of the row at a place, each to a list of its own: that of the last to the first list, and that of the
 /// sample before to each other.
 fn put_samples(lists: &mut [AmountList], rows: &[Row], place: &SummaryRow, last: u32, maxima: bool)
@@ -69,11 +77,24 @@ fn add_period(sums: &mut [u128], rows: &[Row], place: &SummaryRow, maxima: bool)
 }
 
 impl SummaryCells<'_> {
+    /// As many amounts as there may be: a mean of each row, or of its samples as many as it has room for. Of this room only what is needed
+    /// is ever touched.
+    fn kind_room(&self, mean: bool) -> usize {
+        if mean {
+            return self.places.len();
+        }
+        let mut room = 0usize;
+        for place in self.places {
+            room = room.saturating_add(room_of(self.rows, place));
+        }
+        room
+    }
+
     /// The amounts of the means, or those of all samples. An error is want of memory.
     pub fn kind_amounts(&self, alloc: Global, mean: bool) -> Result<Vec<u64>, OutOfMemory>
         ensures { IfOk result (λ found. found.items ≡ amounts_of self.now.maxima (of_kind mean) (group_entries self.now)) }
     {
-        let mut found = Vec::new(alloc);
+        let mut found = Vec::with_capacity(alloc, self.kind_room(mean))?;
         for place in self.places {
             push_kind(&mut found, self.rows, place, mean, self.maxima)?;
         }

@@ -32,9 +32,9 @@ impl Keyed for SummaryRow {
 #[derive(Drop)]
 pub struct SetCells<'a> {
     /// Whose losses.
-    pub(crate) perspective: Perspective,
+    pub perspective: Perspective,
     /// The summary set.
-    pub(crate) set: u32,
+    pub set: u32,
     /// All rows.
     pub(crate) rows: &'a [Row],
     /// The rows of the set that have cells, by summary.
@@ -42,9 +42,9 @@ pub struct SetCells<'a> {
     /// Their summaries, by rising id.
     pub(crate) ids: Vec<u32>,
     /// The number of periods.
-    pub(crate) periods: u32,
+    pub periods: u32,
     /// The number of samples.
-    pub(crate) samples: u32,
+    pub samples: u32,
 }
 
 /// A summary's cells, and what a table takes of them.

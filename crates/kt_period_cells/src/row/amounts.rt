@@ -140,6 +140,14 @@ impl Row {
         has_placed(self.places.as_slice())
     }
 
+    /// As many cells as there may be: those that are listed, or a place for each sample.
+    pub(crate) fn room(&self) -> usize {
+        if self.places.is_empty() {
+            return self.listed.len();
+        }
+        self.places.len()
+    }
+
     /// Appends the amounts of the mean, or those of all samples. An error is want of memory.
     pub(crate) fn push_kind(
         &self,
