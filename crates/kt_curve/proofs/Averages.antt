@@ -10,13 +10,14 @@ use Rattle.kt_rec.specs.declared.periods.Occurrence.{Occurrence}
 use Rattle.kt_stream.specs.declared.entry.Pair.{Pair}
 use Rattle.kt_period_cells.specs.declared.cell.Cell.{Cell}
 use Rattle.kt_period_cells.specs.Losses.{KeyLoss, Added, total, all_losses, losses_of, pair_losses, is_added, loss_at}
-use Rattle.kt_curve.specs.Grid.{summary_ids, HasSet, keys_for, mean_sidx, sample_sidx, moments_of, by_summary}
+use Rattle.kt_curve.specs.Grid.{summary_ids, HasSet, by_summary}
 use Rattle.kt_period_cells.specs.Sets.{summary_entries}
 use Rattle.kt_period_cells.specs.Standing.{Standing, cell_at, total_in}
 use Rattle.kt_period_cells.specs.Amounts.{amount_at}
-use Rattle.kt_curve.specs.Average.{aal_row, aal_rows, average_annual_loss_rows}
+use Rattle.kt_curve.specs.Average.{aal_rows, average_annual_loss_rows}
+use Rattle.kt_curve.specs.OwnTables.{averages_agree}
 use Rattle.kt_period_cells.specs.TotalLaws.{added_some}
-use Rattle.kt_curve.proofs.Ids.{ids_of_standing, totals_of_standing, flat_map_each}
+use Rattle.kt_curve.proofs.Ids.{amounts_of_standing, ids_of_standing, flat_map_each}
 
 -- ---- losses are above 0
 
@@ -40,18 +41,12 @@ losses_positive history =
 
 -- ---- the rows
 
--- rows of the same amounts
-rows_same : (p : Perspective) (s n samples u : ℕ) (f g : CellKey → ℕ) → map f (keys_for p s u mean_sidx n) ≡ map g (keys_for p s u mean_sidx n) → map f (keys_for p s u (sample_sidx samples) n) ≡ map g (keys_for p s u (sample_sidx samples) n) →
-    aal_rows p s n samples f u ≡ aal_rows p s n samples g u
-rows_same p s n samples u f g means others =
-    λ i. aal_row u 1 (moments_of n (means i)) ++ aal_row u 2 (moments_of (n * samples) (others i))
-
 -- the rows of the entries of a set are those of the losses for which they stand
 pub rows_of_standing : (p : Perspective) (s n samples : ℕ) (history : List Added) (es part : List (CellKey × Cell)) → Standing (all_losses history) es → HasSet p s part es →
     by_summary p s (λ summary group. aal_rows p s n samples (amount_at false group) summary) part ≡ average_annual_loss_rows p s n samples (all_losses history)
 rows_of_standing p s n samples history es part stands has_set =
     flat_map_each (λ summary. aal_rows p s n samples (λ key. total_in (cell_at (summary_entries summary part) key)) summary) (aal_rows p s n samples (total (all_losses history)))
-    (λ summary. rows_same p s n samples summary _ (total (all_losses history)) (totals_of_standing p s summary n (all_losses history) es part mean_sidx stands has_set) (totals_of_standing p s summary n (all_losses history) es part (sample_sidx samples) stands has_set))
+    (λ summary. averages_agree p s p summary _ (total (all_losses history)) (amounts_of_standing false p s summary (all_losses history) es part stands has_set) n samples)
     (summary_ids p s (keys_of part))
     ∙ ap (flat_map (aal_rows p s n samples (total (all_losses history)))) (ids_of_standing p s (all_losses history) es part stands has_set (losses_positive history))
 

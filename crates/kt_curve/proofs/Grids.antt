@@ -1,6 +1,7 @@
 -- Sums over all keys of a grid, zeros included, are sums over the entries alone.
 use Rattle.std.proofs.Common.{◌≡◌, ⊎_elim, ℕ, zero, suc, ◌+◌, ◌*◌, ◌<◌, ◌≤◌, List, [], ◌∷◌, length, map, get_or, add-mul, length-append, arith, refl, sym, ap, ◌∙◌, cond, Bool, true, false, ◌&&◌, sum_by, nat_eq, All, ℤ, pos, negsuc, Option, Some, None, int_eq}
 use Rattle.std.specs.List.{IsDistinct, AllByRecursion, filter, range_with_len}
+use Rattle.std.proofs.lemmas.List.{length-map}
 use Rattle.std.proofs.lemmas.List.Concat.{flat_map-cons}
 use Rattle.std.specs.Map.{keys_of}
 use Rattle.std.proofs.lemmas.List.Sums.{sum_by-cons, sum_by-append}
@@ -14,6 +15,7 @@ use Rattle.kt_rec.specs.declared.perspective.Perspective.{Perspective}
 use Rattle.kt_rec.specs.declared.perspective.CellKey.{CellKey}
 use Rattle.kt_period_cells.specs.declared.cell.Cell.{Cell}
 use Rattle.kt_period_cells.specs.Losses.{same_key, one_if, key_of}
+use Rattle.kt_curve.specs.Exceedance.{sidx_values}
 use Rattle.kt_curve.specs.Grid.{keys_for, sidx_of_kind}
 use Rattle.kt_period_cells.specs.Sets.{is_mean, same_bool, of_kind, IsGroup}
 use Rattle.kt_period_cells.specs.Standing.{cell_at, sidx_in_range, FitsCells}
@@ -205,3 +207,7 @@ length_keys p s u n (x ∷ sidxs) =
     let b = length_keys p s u n sidxs in
     let both : length (map (key_of p s u x) (range_with_len 1 n)) + length (keys_for p s u sidxs n) ≡ n + length sidxs * n = omega (arith, a, b) in
     both ∙ (let e : n + length sidxs * n ≡ suc (length sidxs) * n = omega arith in e))
+
+-- a sidx has a value in each period
+pub length_values : (p : Perspective) (s n u : ℕ) (amount : CellKey → ℕ) (sidx : ℤ) → length (sidx_values p s n amount u sidx) ≡ n
+length_values p s n u amount sidx = length-map (keys_for p s u (sidx ∷ []) n) amount ∙ length_keys p s u n (sidx ∷ []) ∙ omega arith

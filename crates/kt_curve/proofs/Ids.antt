@@ -1,11 +1,10 @@
 -- The summary ids of entries are those of the losses for which they stand, and so are the amounts.
 use Rattle.std.proofs.Common.{◌≡◌, ◌≢◌, ℕ, ◌+◌, ◌≤◌, List, [], ◌∷◌, ◌++◌, map, arith, refl, sym, ap, ◌∙◌, cond, Bool, true, false, ◌&&◌, ◌||◌, nat_eq, All, ℤ, Some, None}
-use Rattle.std.specs.List.{flat_map, list_any, range_with_len}
+use Rattle.std.specs.List.{flat_map, list_any}
 use Rattle.std.specs.Map.{keys_of}
 use Rattle.std.proofs.lemmas.Bool.Decides.{Decides-eqb}
 use Rattle.std.proofs.lemmas.List.Elements.{All-head, All-tail}
-use Rattle.std.proofs.lemmas.List.Concat.{flat_map-cons}
-use Rattle.std.proofs.lemmas.List.{map-append}
+use Rattle.std.proofs.Math.Path.{fun_ext}
 use Rattle.std.proofs.lemmas.List.Sums.{sum_by-cons}
 use Rattle.std.proofs.lemmas.Map.Entries.{lookup-filter-keys}
 use Rattle.kt_rec.specs.Rising.{IsRising, put, put-member, put-rising, rising-unique}
@@ -14,11 +13,14 @@ use Rattle.kt_rec.specs.declared.perspective.CellKey.{CellKey}
 use Rattle.kt_period_cells.specs.declared.cell.Cell.{Cell}
 use Rattle.kt_period_cells.specs.Losses.{KeyLoss, same_key, same_perspective, key_of, total, maximum}
 use Rattle.kt_period_cells.specs.Sets.{in_set, summary_entries}
-use Rattle.kt_curve.specs.Grid.{summary_ids, keys_for, HasSet}
-use Rattle.kt_period_cells.specs.Standing.{Standing, cell_at, cell_of, total_in}
+use Rattle.kt_curve.specs.Grid.{summary_ids, HasSet}
+use Rattle.kt_period_cells.specs.Standing.{Standing, cell_at, cell_of, total_in, maximum_in}
 use Rattle.kt_period_cells.specs.SummaryRows.{of_summary}
 use Rattle.kt_period_cells.specs.SameKeys.{same_exact, same_itself, same_perspective_itself, bool_same}
-use Rattle.kt_period_cells.specs.TotalLaws.{cell_some, total_of_cell}
+use Rattle.kt_period_cells.specs.TotalLaws.{cell_some, total_of_cell, maximum_of_cell, maximum-le-total}
+use Rattle.kt_period_cells.specs.Amounts.{amount_in}
+use Rattle.kt_curve.specs.Exceedance.{amount_of}
+use Rattle.kt_curve.specs.OwnTables.{Agree}
 
 -- a key of the set is in it
 pub is_in_set : (p : Perspective) (s : ℕ) (key : CellKey) → key.perspective ≡ p → key.set ≡ s → in_set p s key ≡ true
@@ -161,26 +163,15 @@ cell_in_summary p s u x t es part has_set =
     (λ k same. ap (λ key. nat_eq key.summary u) (sym (same_exact (key_of p s u x t) k same)) ∙ (Decides-eqb u u).1 refl) part
     ∙ has_set (key_of p s u x t) (is_in_set p s (key_of p s u x t) refl refl)
 
--- amounts that are the same at each key of a summary
-pub keys_for_same : (f g : CellKey → ℕ) (p : Perspective) (s u n : ℕ) (sidxs : List ℤ) → ((x : ℤ) (t : ℕ) → f (key_of p s u x t) ≡ g (key_of p s u x t)) → map f (keys_for p s u sidxs n) ≡ map g (keys_for p s u sidxs n)
-keys_for_same f g p s u n [] same = refl
-keys_for_same f g p s u n (x ∷ sidxs) same =
-    ap (map f) (flat_map-cons (λ sidx. map (key_of p s u sidx) (range_with_len 1 n)) x sidxs) ∙ map-append f (map (key_of p s u x) (range_with_len 1 n)) (keys_for p s u sidxs n)
-    ∙ (λ i. periods (range_with_len 1 n) i ++ keys_for_same f g p s u n sidxs same i)
-    ∙ sym (map-append g (map (key_of p s u x) (range_with_len 1 n)) (keys_for p s u sidxs n)) ∙ sym (ap (map g) (flat_map-cons (λ sidx. map (key_of p s u sidx) (range_with_len 1 n)) x sidxs))
-  where
-    periods : (ts : List ℕ) → map f (map (key_of p s u x) ts) ≡ map g (map (key_of p s u x) ts)
-    periods [] = refl
-    periods (t ∷ ts) = λ i. same x t i ∷ periods ts i
-
--- the totals of a summary's entries are those of the losses
-pub totals_of_standing : (p : Perspective) (s u n : ℕ) (losses : List KeyLoss) (es part : List (CellKey × Cell)) (sidxs : List ℤ) → Standing losses es → HasSet p s part es →
-    map (λ key. total_in (cell_at (summary_entries u part) key)) (keys_for p s u sidxs n) ≡ map (total losses) (keys_for p s u sidxs n)
-totals_of_standing p s u n losses es part sidxs stands has_set =
-    keys_for_same (λ key. total_in (cell_at (summary_entries u part) key)) (total losses) p s u n sidxs
-    (λ x t. ap total_in (cell_in_summary p s u x t es part has_set ∙ stands.cells (key_of p s u x t)) ∙ total_of_cell (total losses (key_of p s u x t)) (maximum losses (key_of p s u x t)))
+-- what the entries of a summary have at its keys are the amounts of the losses
+pub amounts_of_standing : (maxima : Bool) (p : Perspective) (s u : ℕ) (losses : List KeyLoss) (es part : List (CellKey × Cell)) → Standing losses es → HasSet p s part es →
+    Agree p s p u (λ key. amount_in maxima (cell_at (summary_entries u part) key)) (amount_of maxima losses)
+amounts_of_standing true p s u losses es part stands has_set = λ x t.
+    ap maximum_in (cell_in_summary p s u x t es part has_set ∙ stands.cells (key_of p s u x t))
+    ∙ maximum_of_cell (total losses (key_of p s u x t)) (maximum losses (key_of p s u x t)) (λ none. omega (arith, none, maximum-le-total losses (key_of p s u x t)))
+amounts_of_standing false p s u losses es part stands has_set = λ x t.
+    ap total_in (cell_in_summary p s u x t es part has_set ∙ stands.cells (key_of p s u x t)) ∙ total_of_cell (total losses (key_of p s u x t)) (maximum losses (key_of p s u x t))
 
 -- texts that are the same for each
 pub flat_map_each : {X : Type 0} (f g : X → List ℕ) → ((x : X) → f x ≡ g x) → (xs : List X) → flat_map f xs ≡ flat_map g xs
-flat_map_each f g same [] = refl
-flat_map_each f g same (x ∷ xs) = flat_map-cons f x xs ∙ (λ i. same x i ++ flat_map_each f g same xs i) ∙ sym (flat_map-cons g x xs)
+flat_map_each {X = X} f g same xs = ap (λ (text : X → List ℕ). flat_map text xs) (fun_ext same)

@@ -11,3 +11,4 @@ pub mod Exceedances
 pub mod SetTexts
 pub mod Gathered
 pub mod RankMeans
+pub mod SampleLists

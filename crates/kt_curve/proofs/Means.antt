@@ -1,5 +1,5 @@
 -- The samples' means in each period and at each rank, from sums by place.
-use Rattle.std.proofs.Common.{◌≡◌, ℕ, zero, suc, ◌+◌, ◌-◌, ◌*◌, ◌<◌, ◌≤◌, List, [], ◌∷◌, map, length, get_or, arith, refl, sym, ap, ◌∙◌, cond, add-mul, Bool, true, false, All, ℤ, pos, Some, sum, sum_by}
+use Rattle.std.proofs.Common.{◌≡◌, ℕ, zero, suc, ◌+◌, ◌-◌, ◌*◌, ◌^◌, ◌<◌, ◌≤◌, List, [], ◌∷◌, map, length, get_or, arith, refl, sym, ap, ◌∙◌, cond, add-mul, Bool, true, false, All, ℤ, pos, Some, sum, sum_by}
 use Rattle.std.specs.List.{filter, range_with_len}
 use Rattle.std.proofs.lemmas.List.Sums.{sum_by-le, sum-map}
 use Rattle.std.proofs.lemmas.List.FromFn.{length-map-range_with_len, sum_by-map-range_with_len_more}
@@ -71,9 +71,9 @@ period_most p s n samples u group maxima t is =
 
 -- the sums by place are within their bounds
 pub sums_most : (p : Perspective) (s n samples u : ℕ) (group : List (CellKey × Cell)) (maxima : Bool) (sums : List ℕ) → IsGroup p s n samples u group → length sums ≡ n →
-    ((place : ℕ) → place < n → get_or sums place 0 ≡ sum (amounts_of maxima (of_period (place + 1)) group)) → All (λ total. total ≤ samples * most_total) sums
+    ((place : ℕ) → place < n → get_or sums place 0 ≡ sum (amounts_of maxima (of_period (place + 1)) group)) → All (λ total. total ≤ samples * (2 ^ 64 - 1)) sums
 sums_most p s n samples u group maxima sums is len at =
-    all_places (samples * most_total) sums (λ i inside. rw (at i (omega (arith, inside, len))) (period_most p s n samples u group maxima (i + 1) is))
+    all_places (samples * (2 ^ 64 - 1)) sums (λ i inside. omega (arith, at i (omega (arith, inside, len)), period_most p s n samples u group maxima (i + 1) is))
 
 -- their means are those of the periods
 pub means_of_periods : (p : Perspective) (s n samples u : ℕ) (group : List (CellKey × Cell)) (maxima : Bool) (sums : List ℕ) → IsGroup p s n samples u group → length sums ≡ n →
@@ -84,12 +84,6 @@ means_of_periods p s n samples u group maxima sums is len at =
     (λ i inside. at i inside ∙ ap (λ t. sum (amounts_of maxima (of_period t) group)) (let e : i + 1 ≡ 1 + i = omega arith in e) ∙ period_amounts p s n samples u group maxima (1 + i) is)
 
 -- ---- the means of the ranks
-
--- the loss of a rank in falling values that are within a bound
-pub rank_most : (m : ℕ) (xs : List ℕ) (place : ℕ) → All (λ x. x ≤ m) xs → get_or xs place 0 ≤ m
-rank_most m [] place all = omega arith
-rank_most m (x ∷ xs) zero all = All-head (λ x. x ≤ m) x xs all
-rank_most m (x ∷ xs) (suc place) all = rank_most m xs place (All-tail (λ x. x ≤ m) x xs all)
 
 -- the sums of one sample more
 pub sample_more : (f : ℤ → ℕ) (sample old new : ℕ) → 1 ≤ sample → old ≡ sum_by f (map pos (range_with_len 1 (sample - 1))) → new ≡ old + f (pos sample) → new ≡ sum_by f (map pos (range_with_len 1 ((sample + 1) - 1)))

@@ -13,12 +13,11 @@ use Rattle.std.proofs.Math.Nat.{mul-div-le}
 use Rattle.kt_money.specs.Rounding.{half_up}
 use Rattle.kt_rec.specs.declared.perspective.CellKey.{CellKey}
 use Rattle.kt_rec.specs.declared.perspective.Perspective.{Perspective}
-use Rattle.kt_period_cells.specs.Standing.{most_total}
 use Rattle.kt_curve.specs.Exceedance.{falling, ranked_loss, rank_means, sidx_values}
 use Rattle.kt_curve.specs.Grid.{keys_for, sample_sidx}
-use Rattle.kt_curve.specs.Ranks.{AreFalling, Falls, HasLosses, curve_ranks}
-use Rattle.kt_curve.proofs.Grids.{length_keys}
-use Rattle.kt_curve.proofs.Ranking.{falls_falling, falls_next, has_fall, loss_is_ranked}
+use Rattle.kt_curve.specs.Ranks.{Falls, HasLosses, curve_ranks}
+use Rattle.kt_curve.proofs.Grids.{length_values}
+use Rattle.kt_curve.proofs.Ranking.{falls_falling, falls_next, loss_is_ranked}
 use Rattle.kt_curve.proofs.Selecting.{all_asked, length_falling}
 
 -- ---- means
@@ -89,8 +88,7 @@ module _ (p : Perspective) (s n samples u : ℕ) (amount : CellKey → ℕ) (som
     where
       none : (sidx : ℤ) → ranked_loss (values_of sidx) rank ≡ 0
       none sidx =
-          let many : length (values_of sidx) ≡ n = length-map (keys_for p s u (sidx ∷ []) n) amount ∙ length_keys p s u n (sidx ∷ []) ∙ omega arith in
-          get_or_past (falling (values_of sidx)) rank 0 (omega (arith, past, many, length_falling (values_of sidx)))
+          get_or_past (falling (values_of sidx)) rank 0 (omega (arith, past, length_values p s n u amount sidx, length_falling (values_of sidx)))
 
   -- the loss of a rank among the means is the mean of the losses of that rank
   mean_ranked : (rank : ℕ) → ranked_loss (rank_means p s n samples amount u) rank ≡ half_up (sum_of rank) samples
@@ -112,22 +110,6 @@ module _ (p : Perspective) (s n samples u : ℕ) (amount : CellKey → ℕ) (som
 -- ---- at their places
 
 -- where the losses of the ranks that a curve asks for stand at their places, so do the two of each return period
-pub placed_asked : (placed whole ranks losses returns : List ℕ) (count : ℕ) → IsPermutation (curve_ranks count returns) ranks → losses ≡ map (ranked_loss whole) ranks → All (λ loss. loss ≤ most_total) losses →
-    All (λ rank. get_or placed rank 0 ≡ ranked_loss whole rank) ranks → All (λ period. period ≤ count → HasLosses placed whole count period × AreFalling placed count period) returns
-placed_asked placed whole ranks losses returns count moved is low at = λ k d inside less.
-    let both = asked k d inside less in
-    let has : HasLosses placed whole count (get_or returns k d) = (both.0.0, both.1.0) in
-    (has, (has_fall placed whole count (get_or returns k d) has, rw both.0.0 both.0.1))
-  where
-    IsPlaced : ℕ → Type 0
-    IsPlaced rank = (get_or placed rank 0 ≡ ranked_loss whole rank) × (ranked_loss whole rank ≤ most_total)
-
-    within : (i d : ℕ) → i < length ranks → ranked_loss whole (get_or ranks i d) ≤ most_total
-    within i d inside =
-        let same : get_or losses i 0 ≡ ranked_loss whole (get_or ranks i d) = ap (λ xs. get_or xs i 0) is ∙ get_or-map (ranked_loss whole) ranks i d 0 inside in
-        let long : length losses ≡ length ranks = ap length is ∙ length-map ranks (ranked_loss whole) in
-        let bound : get_or losses i 0 ≤ most_total = low i 0 (omega (arith, inside, long)) in
-        omega (arith, same, bound)
-
-    asked : All (λ period. period ≤ count → IsPlaced (count / period - 1) × IsPlaced (count / period)) returns
-    asked = all_asked IsPlaced count returns (All-permutation IsPlaced ranks (curve_ranks count returns) (IsPermutation-sym (curve_ranks count returns) ranks moved) (λ i d inside. (at i d inside, within i d inside)))
+pub placed_asked : (placed whole ranks returns : List ℕ) (count : ℕ) → IsPermutation (curve_ranks count returns) ranks → All (λ rank. get_or placed rank 0 ≡ ranked_loss whole rank) ranks → All (λ period. period ≤ count → HasLosses placed whole count period) returns
+placed_asked placed whole ranks returns count moved at =
+    all_asked (λ rank. get_or placed rank 0 ≡ ranked_loss whole rank) count returns (All-permutation (λ rank. get_or placed rank 0 ≡ ranked_loss whole rank) ranks (curve_ranks count returns) (IsPermutation-sym (curve_ranks count returns) ranks moved) at)

@@ -156,27 +156,14 @@ weight-le count period rank some is =
     omega (arith, mul-le rank (period * (rank + 1) - count) rank period (omega arith) one)
 
 -- where a part of the fall is added, the loss stays below the greater one
-pub between-le : (count period rank upper lower : ℕ) → 1 ≤ period → 1 ≤ count → rank ≡ count / period → lower ≤ upper → rank * (period * (rank + 1) - count) * (upper - lower) / count ≤ upper - lower
-between-le count period rank upper lower some more is falls =
-    part-le (rank * (period * (rank + 1) - count)) (upper - lower) count more (weight-le count period rank some is)
-
--- the loss of the rank before is no lower
-pub falls_before : (xs : List ℕ) (k : ℕ) → Falls xs → get_or xs k 0 ≤ get_or xs (k - 1) 0
-falls_before xs zero falls = omega arith
-falls_before xs (suc k) falls = falls_at (suc k - 1) (omega arith)
-  where
-    falls_at : (j : ℕ) → j ≡ k → get_or xs (suc k) 0 ≤ get_or xs j 0
-    falls_at j is = rw is (falls_next xs k falls)
+pub between-le : (count period rank fall : ℕ) → 1 ≤ period → 1 ≤ count → rank ≡ count / period → rank * (period * (rank + 1) - count) * fall / count ≤ fall
+between-le count period rank fall some more is = part-le (rank * (period * (rank + 1) - count)) fall count more (weight-le count period rank some is)
 
 -- values with the same ranks have the same losses at each
 pub ranked_same : (xs ys : List ℕ) → SameRanks xs ys → (k : ℕ) → ranked_loss xs k ≡ ranked_loss ys k
 ranked_same xs ys same = loss_is_ranked (falling xs) ys (falls_falling xs) (λ v some. reaching_moved xs (falling xs) (falling_moves xs) v ∙ same v some)
 
 -- ---- the loss of a return period
-
--- of its two losses the later one is no greater
-pub has_fall : (found values : List ℕ) (count period : ℕ) → HasLosses found values count period → get_or found (count / period) 0 ≤ get_or found (count / period - 1) 0
-has_fall found values count period has = rw (has.0, has.1) (falls_before (falling values) (count / period) (falls_falling values))
 
 -- the loss of a return period, from its two losses
 pub loss_from_ranked : (count period f result upper lower : ℕ) (found values : List ℕ) → HasLosses found values count period → f ≡ period → upper ≡ get_or found (count / f - 1) 0 → lower ≡ get_or found (count / f) 0 →

@@ -12,11 +12,9 @@ use Rattle.std.proofs.lemmas.List.{take_rest, take_more, flat_map_more, get_or_d
 use Rattle.std.proofs.lemmas.List.Elements.{All-head, All-tail, All-nil, All-cons, All-from_get_or}
 use Rattle.std.proofs.lemmas.List.Sorted.{ranks_by, IsStrictWeakOrder-flip, IsPermutation-cons, IsPermutation-append, length_permutation, All-permutation}
 use Rattle.std.proofs.lemmas.Map.Keys.{ge_from_not_lt}
-use Rattle.kt_period_cells.specs.Standing.{most_total}
-use Rattle.kt_curve.specs.Ranks.{Falls, HasLosses, curve_ranks}
+use Rattle.kt_curve.specs.Ranks.{Falls, curve_ranks}
 use Rattle.kt_curve.specs.Exceedance.{falling, ranked_loss, exceedance_loss, lec_row, curve_rows}
 use Rattle.kt_curve.proofs.Ranking.{falling_moves, falls_falling, reaching_moved, split_falls, loss_is_ranked, ranked_same}
-use Rattle.kt_curve.proofs.Means.{rank_most}
 
 -- there are as many falling values
 pub length_falling : (xs : List ℕ) → length (falling xs) ≡ length xs
@@ -116,11 +114,6 @@ all_asked P count (r ∷ returns) all =
     others false all = all
 
 -- ---- the rows of a curve
-
--- the greater of the two losses of a return period is within the bound of the values
-pub has_most : (found values : List ℕ) (count period : ℕ) → All (λ value. value ≤ most_total) values → HasLosses found values count period → get_or found (count / period - 1) 0 ≤ most_total
-has_most found values count period most has =
-    rw has.0 (rank_most most_total (falling values) (count / period - 1) (All-permutation (λ value. value ≤ most_total) values (falling values) (falling_moves values) most))
 
 -- the rows of one return period more
 pub rows_more : (summary column count : ℕ) (whole returns : List ℕ) (i loss : ℕ) (base out new : List ℕ) → i < length returns → get_or returns i 0 ≤ count → loss ≡ exceedance_loss count whole (get_or returns i 0) →

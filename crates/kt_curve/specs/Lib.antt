@@ -2,6 +2,8 @@ pub mod Grid
 pub mod Average
 pub mod Ranks
 pub mod Exceedance
+pub mod LossesOfSamples
+pub mod SetsOfCurves
 pub mod Examples
 pub mod CurveExamples
 pub mod OwnLosses

@@ -3,7 +3,6 @@
 use Rattle.std.specs.Prelude.{ℕ, ◌-◌, ◌/◌, ◌≤◌, ◌≡◌, List, [], ◌∷◌, All, sum_by, nat_le, if◌then◌else◌}
 use Rattle.std.specs.List.{flat_map, slice_index}
 use Rattle.kt_period_cells.specs.Losses.{one_if}
-use Rattle.kt_period_cells.specs.Standing.{most_total}
 use Rattle.kt_curve.specs.Exceedance.{ranked_loss}
 
 -- how many values are at least this one
@@ -28,7 +27,3 @@ curve_ranks count returns = flat_map (λ return. if nat_le return count then (co
 abbrev pub HasLosses : List ℕ → List ℕ → ℕ → ℕ → Type 0
 HasLosses found values count return =
     (slice_index found (count / return - 1) ≡ ranked_loss values (count / return - 1)) × (slice_index found (count / return) ≡ ranked_loss values (count / return))
-
--- the losses at the places of the two ranks of a return period fall, and are within the greatest total
-abbrev pub AreFalling : List ℕ → ℕ → ℕ → Type 0
-AreFalling found count return = (slice_index found (count / return) ≤ slice_index found (count / return - 1)) × (slice_index found (count / return - 1) ≤ most_total)

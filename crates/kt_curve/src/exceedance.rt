@@ -1,10 +1,8 @@
 //! The rows of one exceedance curve.
 //! The rules: docs/CALCULATION.md, "Exceedance curves"; docs/OUTPUTS.md, "Exceedance curve tables".
 ghost use Rattle.std.specs.Prelude.{◌≡◌, ◌+◌, ◌-◌, ◌*◌, ◌/◌, ◌≤◌, ◌<◌, ◌^◌, ℕ, List, ◌++◌, length, All, OnOk};
-ghost use Rattle.std.specs.List.{slice_index};
-ghost use Rattle.kt_period_cells.specs.Standing.{most_total};
 ghost use Rattle.kt_curve.specs.Exceedance.{loss_between, lec_row, curve_rows, exceedance_loss};
-ghost use Rattle.kt_curve.specs.Ranks.{AreFalling, HasLosses, SameRanks};
+ghost use Rattle.kt_curve.specs.Ranks.{HasLosses, SameRanks};
 
 use crate::ranks::{loss_of_rank, place_losses};
 use kt_money::{Bytes, OutOfMemory, Row};
@@ -16,12 +14,10 @@ fn between(count: u64, period: u32, rank: u64, upper: u64, lower: u64) -> u64
     requires count { count ≤ 10 ^ 8 }
     requires within { period ≤ count }
     requires rank { rank ≡ count / period }
-    requires upper { upper ≤ most_total }
-    requires falls { lower ≤ upper }
     ensures value { result ≡ loss_between count period rank upper lower }
 {
     let weight = rank * (u64::from(period) * (rank + 1) - count);
-    let part = u128::from(weight) * u128::from(upper - lower) / u128::from(count);
+    let part = u128::from(weight) * u128::from(upper.saturating_sub(lower)) / u128::from(count);
     lower + part as u64
 }
 
@@ -30,8 +26,6 @@ fn exceedance_loss(ranked: &[u64], count: u64, period: u32) -> u64
     requires some { 1 ≤ period }
     requires count { count ≤ 10 ^ 8 }
     requires within { period ≤ count }
-    requires falls { slice_index ranked.now (count / period) ≤ slice_index ranked.now (count / period - 1) }
-    requires most { slice_index ranked.now (count / period - 1) ≤ most_total }
     ensures value { (values : List ℕ) → HasLosses ranked.now values count period → result ≡ exceedance_loss count values period }
 {
     let rank = count / u64::from(period);
@@ -74,7 +68,6 @@ pub(crate) fn append_rows(
 ) -> Result<(), OutOfMemory>
     requires count { count ≤ 10 ^ 8 }
     requires returns { All (λ period. 1 ≤ period) returns.now }
-    requires falls { All (λ period. period ≤ count → AreFalling ranked.now count period) returns.now }
     ensures ok { OnOk result ((values : List ℕ) → All (λ period. period ≤ count → HasLosses ranked.now values count period) returns.now → out.new ≡ out.old ++ curve_rows summary column count values returns.now) }
 {
     for period in returns {
@@ -99,7 +92,6 @@ pub(crate) fn append_values(
     returns: &[u32],
 ) -> Result<(), OutOfMemory>
     requires count { count ≤ 10 ^ 8 }
-    requires most { All (λ value. value ≤ most_total) values.old }
     requires returns { All (λ period. 1 ≤ period) returns.now }
     ensures ok { OnOk result ((whole : List ℕ) → SameRanks values.old whole → out.new ≡ out.old ++ curve_rows summary column count whole returns.now) }
 {

@@ -1,14 +1,13 @@
-//! The full and wheat curves of a summary.
+//! The full curves of a summary.
 //! The rules: docs/CALCULATION.md, "Kinds of exceedance curves"; docs/OUTPUTS.md, "Exceedance curve tables".
-ghost use Rattle.std.specs.Prelude.{◌≡◌, ◌+◌, ◌*◌, ◌≤◌, ◌++◌, map, pos, if◌then◌else◌, All, OnOk, true};
+ghost use Rattle.std.specs.Prelude.{◌≡◌, ◌*◌, ◌≤◌, ◌++◌, map, if◌then◌else◌, All, OnOk};
 ghost use Rattle.kt_curve.specs.Grid.{keys_for, sidx_of_kind};
 ghost use Rattle.kt_period_cells.specs.Amounts.{amount_at};
 ghost use Rattle.kt_period_cells.specs.SummaryRows.{group_entries, IsSummary};
-ghost use Rattle.kt_curve.specs.Exceedance.{full_rows, wheat_rows, curve_rows, sidx_values};
+ghost use Rattle.kt_curve.specs.Exceedance.{full_rows, curve_rows};
 
 use crate::average::count_of;
 use crate::exceedance::append_values;
-use crate::sample_amounts::SampleAmounts;
 use kt_money::{Bytes, OutOfMemory};
 use kt_period_cells::SummaryCells;
 use std::alloc::Global;
@@ -52,50 +51,4 @@ pub(crate) fn append_full(
 {
     append_kind(out, alloc, group, 1, true, returns)?;
     append_kind(out, alloc, group, 2, false, returns)
-}
-
-/// Appends the rows of one sample's curve. An error is want of memory.
-fn append_sample(
-    out: &mut Bytes,
-    alloc: Global,
-    group: &SummaryCells<'_>,
-    samples: &mut SampleAmounts<'_>,
-    sample: u32,
-    returns: &[u32],
-) -> Result<(), OutOfMemory>
-    requires group { IsSummary group.now }
-    requires samples { samples.old ≡ group.now }
-    requires sample { 1 ≤ sample }
-    requires returns { All (λ period. 1 ≤ period) returns.now }
-    ensures ok { OnOk result (out.new ≡ out.old ++ curve_rows group.now.summary sample group.now.periods (sidx_values group.now.perspective group.now.set group.now.periods (amount_at group.now.maxima (group_entries group.now)) group.now.summary (pos sample)) returns.now) }
-    ensures samples { samples.new ≡ samples.old }
-{
-    let mut values = samples.take(alloc, sample)?;
-    append_values(
-        out,
-        alloc,
-        group.summary,
-        sample,
-        u64::from(group.periods),
-        values.as_mut_slice(),
-        returns,
-    )
-}
-
-/// Appends the rows of the curves of all samples. An error is want of memory.
-pub(crate) fn append_wheat(
-    out: &mut Bytes,
-    alloc: Global,
-    group: &SummaryCells<'_>,
-    returns: &[u32],
-) -> Result<(), OutOfMemory>
-    requires group { IsSummary group.now }
-    requires returns { All (λ period. 1 ≤ period) returns.now }
-    ensures ok { OnOk result (out.new ≡ out.old ++ wheat_rows group.now.perspective group.now.set group.now.periods group.now.samples (amount_at group.now.maxima (group_entries group.now)) returns.now group.now.summary) }
-{
-    let mut samples = SampleAmounts::of(alloc, group);
-    for sample in 1..group.samples + 1 {
-        append_sample(out, alloc, group, &mut samples, sample, returns)?;
-    }
-    Ok(())
 }

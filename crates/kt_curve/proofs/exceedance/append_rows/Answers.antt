@@ -7,12 +7,6 @@ use Rattle.kt_curve.proofs.exceedance.append_rows.Goals as goal
 pub exceedance_loss-loss-requires-clause-some : goal.exceedance_loss-loss-requires-clause-some
 exceedance_loss-loss-requires-clause-some c = grind (arith, common_steps)
 
-pub exceedance_loss-loss-requires-clause-falls : goal.exceedance_loss-loss-requires-clause-falls
-exceedance_loss-loss-requires-clause-falls c = (c.requires.falls c.loop-period.period-index 0 c.loop-period-test.true (omega (arith, c.if-from-count.false, c.from.ensures))).0
-
-pub exceedance_loss-loss-requires-clause-most : goal.exceedance_loss-loss-requires-clause-most
-exceedance_loss-loss-requires-clause-most c = (c.requires.falls c.loop-period.period-index 0 c.loop-period-test.true (omega (arith, c.if-from-count.false, c.from.ensures))).1
-
 pub loop-period-preserved : goal.loop-period-preserved
 loop-period-preserved c = λ values has.
     let low : get_or c.args.returns.now c.loop-period.period-index 0 ≤ c.args.count = omega (arith, c.if-from-count.false, c.from.ensures) in

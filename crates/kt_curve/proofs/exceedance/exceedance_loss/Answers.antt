@@ -2,12 +2,6 @@
 use Rattle.kt_curve.proofs.Ranking.{loss_from_ranked}
 use Rattle.kt_curve.proofs.exceedance.exceedance_loss.Goals as goal
 
-pub between-requires-clause-falls : goal.between-requires-clause-falls
-between-requires-clause-falls c = rw (c.loss_of_rank-upper.ensures.value, c.loss_of_rank-lower.ensures.value, c.from.ensures) c.requires.falls
-
-pub between-requires-clause-upper : goal.between-requires-clause-upper
-between-requires-clause-upper c = rw (c.loss_of_rank-upper.ensures.value, c.from.ensures) c.requires.most
-
 pub returns : goal.returns
 returns c = record {
   value = λ values has. loss_from_ranked c.args.count c.args.period c.from.result c.between.result c.loss_of_rank-upper.result c.loss_of_rank-lower.result c.args.ranked.now values has c.from.ensures

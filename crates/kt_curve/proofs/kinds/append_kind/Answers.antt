@@ -5,12 +5,8 @@ use Rattle.kt_period_cells.specs.Sets.{of_kind}
 use Rattle.kt_period_cells.specs.Amounts.{amount_at, amounts_of}
 use Rattle.kt_curve.specs.Grid.{keys_for, sidx_of_kind}
 use Rattle.kt_period_cells.specs.Outcomes.{on_more}
-use Rattle.kt_curve.proofs.Curves.{ranks_of_kind, amounts_most, ranks_of_equal, rows_of_count}
+use Rattle.kt_curve.proofs.Curves.{ranks_of_kind, ranks_of_equal, rows_of_count}
 use Rattle.kt_curve.proofs.kinds.append_kind.Goals as goal
-
-pub append_values-requires-clause-most : goal.append_values-requires-clause-most
-append_values-requires-clause-most c =
-    rw (c.as_mut_slice.ensures.value, c.in_ok-values.ensures) (amounts_most c.args.group.now.perspective c.args.group.now.set _ _ _ _ c.args.group.now.maxima (of_kind c.args.mean) c.requires.group.cells)
 
 pub returns : goal.returns
 returns c = record {
