@@ -47,7 +47,7 @@ fn calls_from<R: Threads + Sync, X: Send + Drop, F: Fn(usize) -> X + Sync>(
 /// What the calls with the numbers below `count` answer, in their order, each in a thread of its own where one can be made. An error is
 /// want of memory. The calling thread makes all threads, one after the other, and makes the last call itself: a thread that a new
 /// one makes is often put beside it, while another processor stands idle.
-pub(crate) fn calls_beside<R: Threads + Sync, X: Send + Drop, F: Fn(usize) -> X + Sync>(
+pub fn calls_beside<R: Threads + Sync, X: Send + Drop, F: Fn(usize) -> X + Sync>(
     rt: &R,
     alloc: Global,
     count: usize,

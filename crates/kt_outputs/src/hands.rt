@@ -37,8 +37,9 @@ fn whole_text<F, T: Texts<F>>(alloc: Global, file: &F, texts: &T) -> Result<Byte
     Ok(text)
 }
 
-/// The place of the next of so many files, the last first, which no hand has claimed; `None` once each is claimed.
-fn claim(claimed: &AtomicUsize, count: usize) -> Option<usize>
+/// The place of the next of so many pieces of work, as files, the last first, which no hand has claimed; `None` once each is claimed.
+/// `claimed` begins with 0.
+pub fn claim(claimed: &AtomicUsize, count: usize) -> Option<usize>
     ensures within { IfSome result (λ place. place < count) }
 {
     let before = claimed.fetch_add(1, Ordering::SeqCst);

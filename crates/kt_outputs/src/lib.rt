@@ -12,6 +12,8 @@ mod texts;
 
 pub use appending::append_texts;
 pub use beside::append_texts_beside;
+pub use calls::calls_beside;
 pub use creating::create_files;
+pub use hands::claim;
 pub use named::Named;
 pub use texts::Texts;
