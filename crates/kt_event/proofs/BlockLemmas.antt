@@ -1,14 +1,12 @@
 -- The summaries of the perspectives of a run, one behind the other.
-use Rattle.std.proofs.Common.{◌≡◌, ℕ, true, false, List, [], ◌∷◌, ◌++◌, map, refl, sym, ap, ◌∙◌, append_assoc, append-nil, None, Some}
+use Rattle.std.proofs.Common.{◌≡◌, ℕ, true, List, [], ◌∷◌, ◌++◌, map, refl, sym, ap, ◌∙◌, append_assoc, append-nil}
 use Rattle.std.specs.List.{filter, flat_map, range_with_len}
 use Rattle.std.proofs.lemmas.List.{map-append}
 use Rattle.kt_event.specs.Losses.{block_of_losses, layers_up_to, losses_of, set_summaries, summaries_of}
 use Rattle.kt_event.specs.Needs.{chain_need}
-use Rattle.kt_event.specs.Plan.{HasBase}
 use Rattle.kt_keys.specs.declared.need.Need.{Need}
 use Rattle.kt_event.specs.Terms.{has_insured, has_net, net_sets, output_perspectives, run_sets, sets_of, summary_set}
 use Rattle.kt_event.specs.declared.block.Summaries.{Summaries}
-use Rattle.kt_event.specs.declared.plan.Base.{Base}
 use Rattle.kt_event.specs.declared.terms.SummarySet.{SummarySet}
 use Rattle.kt_event.specs.declared.terms.Terms.{Terms}
 use Rattle.kt_insured.specs.Insured.{layer_sums}

@@ -1,53 +1,29 @@
--- The summary sets of a perspective, one more at a time.
-use Rattle.std.proofs.Common.{◌≡◌, ℕ, zero, suc, ◌+◌, Bool, true, false, cond, List, [], ◌∷◌, ◌++◌, map, refl, sym, ap, ◌∙◌, append_assoc, append-nil, arith}
-use Rattle.std.specs.List.{filter, range_with_len}
-use Rattle.std.proofs.lemmas.List.{map-append}
-use Rattle.std.proofs.lemmas.List.Elements.{filter-append}
-use Rattle.kt_event.specs.Losses.{set_if}
+-- The summaries of sets, which stand behind others.
+use Rattle.std.proofs.Common.{◌≡◌, ℕ, List, ◌++◌, map, sym, ◌∙◌}
+use Rattle.std.specs.Prelude.{All}
+use Rattle.std.proofs.lemmas.List.Elements.{All-map, recursion_from_All}
+use Rattle.kt_event.specs.Losses.{AreSummaries, summaries_of}
 use Rattle.kt_event.specs.Terms.{summary_set}
 use Rattle.kt_event.specs.declared.block.Summaries.{Summaries}
-use Rattle.kt_event.specs.declared.terms.SummarySet.{SummarySet}
+use Rattle.kt_fmtree.specs.CarriedLaws.{map-map}
 use Rattle.kt_rec.specs.Rows.{Rows}
 use Rattle.kt_rec.specs.declared.perspective.Perspective.{Perspective}
-use Rattle.kt_tables.specs.Lookups.{has_summary_set}
+use Rattle.kt_stream.specs.Summary.{IsSummary}
+use Rattle.kt_stream.specs.declared.entry.LossRecord.{LossRecord}
+use Rattle.kt_sum.specs.SetSums.{set_records}
+use Rattle.kt_sum.specs.declared.set_records.SetRecords.{SetRecords}
+use Rattle.kt_tree.specs.Sums.{each_append}
 
--- a number more
-range-more : (a n : ℕ) → range_with_len a (suc n) ≡ range_with_len a n ++ (a + n) ∷ []
-range-more a zero = let same : a ≡ a + 0 = omega arith in ap (λ (x : ℕ). x ∷ []) same
-range-more a (suc n) = let same : a + 1 + n ≡ a + suc n = omega arith in ap (λ (xs : List ℕ). a ∷ xs) (range-more (a + 1) n ∙ ap (λ (x : ℕ). range_with_len (a + 1) n ++ x ∷ []) same)
+-- the summaries of a set of a perspective
+abbrev pub of_set : Perspective → SetRecords → Summaries
+of_set perspective one = record { perspective = perspective; set = one.set; records = one.records }
 
-module _ (rows : Rows) (perspective : Perspective) (made : SummarySet → Summaries) where
-  -- what is made of the first so many sets
-  abbrev pub upto : ℕ → List Summaries
-  upto many = map made (map (summary_set perspective) (filter (has_summary_set perspective rows) (range_with_len 1 many)))
+-- those that are made for numbers of sets are those of the sets
+pub sets_made : (rows : Rows) (perspective : Perspective) (rule : ℕ) (losses : List LossRecord) (numbers : List ℕ) → map (of_set perspective) (map (set_records perspective rows rule losses) numbers) ≡ map (summaries_of rows rule losses) (map (summary_set perspective) numbers)
+sets_made rows perspective rule losses numbers = map-map (of_set perspective) (set_records perspective rows rule losses) numbers ∙ sym (map-map (summaries_of rows rule losses) (summary_set perspective) numbers)
 
-  -- a set more
-  one_more : (place : ℕ) (there : Bool) → has_summary_set perspective rows (place + 1) ≡ there → upto (place + 1) ≡ upto place ++ set_if there made (summary_set perspective (place + 1))
-  one_more place there is =
-      let next : place + 1 ≡ suc place = omega arith in
-      let last_number : 1 + place ≡ place + 1 = omega arith in
-      let numbers : range_with_len 1 (place + 1) ≡ range_with_len 1 place ++ (place + 1) ∷ [] = ap (range_with_len 1) next ∙ range-more 1 place ∙ ap (λ (x : ℕ). range_with_len 1 place ++ x ∷ []) last_number in
-      ap (λ (xs : List ℕ). map made (map (summary_set perspective) (filter (has_summary_set perspective rows) xs))) numbers
-      ∙ ap (λ (xs : List ℕ). map made (map (summary_set perspective) xs)) (filter-append (has_summary_set perspective rows) (range_with_len 1 place) ((place + 1) ∷ []))
-      ∙ ap (λ (xs : List SummarySet). map made xs) (map-append (summary_set perspective) (filter (has_summary_set perspective rows) (range_with_len 1 place)) (filter (has_summary_set perspective rows) ((place + 1) ∷ [])))
-      ∙ map-append made (map (summary_set perspective) (filter (has_summary_set perspective rows) (range_with_len 1 place))) (map (summary_set perspective) (filter (has_summary_set perspective rows) ((place + 1) ∷ [])))
-      ∙ ap (λ (xs : List Summaries). upto place ++ xs) (last is)
-    where
-      last : {there : Bool} → has_summary_set perspective rows (place + 1) ≡ there → map made (map (summary_set perspective) (filter (has_summary_set perspective rows) ((place + 1) ∷ []))) ≡ set_if there made (summary_set perspective (place + 1))
-      last {there = true} is = ap (λ (b : Bool). map made (map (summary_set perspective) (cond b ((place + 1) ∷ []) []))) is
-      last {there = false} is = ap (λ (b : Bool). map made (map (summary_set perspective) (cond b ((place + 1) ∷ []) []))) is
-
-  -- the summaries of a set more are put behind others
-  pub put_more : (place : ℕ) (before now new : List Summaries) → now ≡ before ++ upto place → new ≡ now ++ set_if (has_summary_set perspective rows (place + 1)) made (summary_set perspective (place + 1)) → new ≡ before ++ upto (place + 1)
-  put_more place before now new is more =
-      more ∙ ap (λ (xs : List Summaries). xs ++ set_if (has_summary_set perspective rows (place + 1)) made (summary_set perspective (place + 1))) is
-      ∙ append_assoc before (upto place) (set_if (has_summary_set perspective rows (place + 1)) made (summary_set perspective (place + 1)))
-      ∙ ap (λ (xs : List Summaries). before ++ xs) (sym (one_more place (has_summary_set perspective rows (place + 1)) refl))
-
-  -- no set yet
-  pub none_put : (before : List Summaries) → before ≡ before ++ upto 0
-  none_put before = sym (append-nil before)
-
-  -- all sets
-  pub all_put : (place : ℕ) (before now : List Summaries) → place ≡ 9 → now ≡ before ++ upto place → now ≡ before ++ upto 9
-  all_put place before now is all = all ∙ ap (λ (many : ℕ). before ++ upto many) is
+-- their records are those of a stream
+pub sets_good : (samples : ℕ) (perspective : Perspective) (before : List Summaries) (made : List SetRecords) → AreSummaries samples before → All (λ one. All (IsSummary samples) one.records) made → AreSummaries samples (before ++ map (of_set perspective) made)
+sets_good samples perspective before made good all =
+    each_append (λ (one : Summaries). All (IsSummary samples) one.records) before (map (of_set perspective) made) good
+    (recursion_from_All (λ (one : Summaries). All (IsSummary samples) one.records) (map (of_set perspective) made) (All-map (λ (one : Summaries). All (IsSummary samples) one.records) (of_set perspective) made all))

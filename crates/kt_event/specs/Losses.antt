@@ -1,6 +1,6 @@
 -- The losses of one event, stage after stage, and their summaries.
 -- The rules: docs/CALCULATION.md; docs/FINANCIAL_MODULE.md.
-use Rattle.std.specs.Prelude.{ℕ, Bool, cond, All, List, [], ◌∷◌, map, Option, Some, None, Result, Ok, Err}
+use Rattle.std.specs.Prelude.{ℕ, All, List, [], map, Option, Some, None, Result, Ok, Err}
 use Rattle.std.specs.List.{AllByRecursion, range_with_len}
 use Rattle.kt_gul.specs.GroundUp.{ground_up_records}
 use Rattle.kt_insured.specs.Insured.{insured_records, layer_sums}
@@ -49,10 +49,6 @@ losses_of terms rows losses Ri = net_of terms rows (insured_of terms rows losses
 -- the summaries of losses in a set of their perspective, by an allocation rule
 abbrev pub summaries_of : Rows → ℕ → List LossRecord → SummarySet → Summaries
 summaries_of rows rule losses set = record { perspective = set.perspective; set = set.set; records = run_summaries set.perspective rows rule set.set losses }
-
--- the summaries of a set as a list, where it is there
-abbrev pub set_if : Bool → (SummarySet → Summaries) → SummarySet → List Summaries
-set_if there made set = cond there (made set ∷ []) []
 
 -- the summaries of an event in a set, by its ground-up losses
 abbrev pub set_summaries : Terms → Rows → List LossRecord → SummarySet → Summaries

@@ -43,9 +43,13 @@ pub record AreTerms (terms : Terms) : Type 0 where
 abbrev pub summary_set : Perspective → ℕ → SummarySet
 summary_set perspective set = record { perspective = perspective; set = set }
 
+-- the numbers of the summary sets that a perspective has, rising
+abbrev pub set_numbers : Rows → Perspective → List ℕ
+set_numbers rows perspective = filter (has_summary_set perspective rows) (range_with_len 1 9)
+
 -- the summary sets that a perspective has, rising
 abbrev pub sets_of : Rows → Perspective → List SummarySet
-sets_of rows perspective = map (summary_set perspective) (filter (has_summary_set perspective rows) (range_with_len 1 9))
+sets_of rows perspective = map (summary_set perspective) (set_numbers rows perspective)
 
 -- those of net losses, where a run has some
 abbrev pub net_sets : Rows → Perspective → List SummarySet

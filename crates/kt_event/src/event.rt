@@ -7,13 +7,13 @@ ghost use Rattle.kt_rec.specs.declared.foot_rows.ModelStop.TheVariants.{OutOfMem
 ghost use Rattle.kt_runs.specs.RunLosses.{AreWithin, run_loss};
 ghost use Rattle.kt_stream.specs.Losses.{IsLoss};
 ghost use Rattle.kt_stream.specs.Pairs.{IsId};
-ghost use Rattle.kt_event.specs.Losses.{AreSummaries, block_of_losses, event_result, ground_up_of, insured_of, layers_up_to, set_if, set_summaries, summaries_of};
+ghost use Rattle.kt_event.specs.Losses.{AreSummaries, block_of_losses, event_result, ground_up_of, insured_of, layers_up_to, set_summaries, summaries_of};
 ghost use Rattle.kt_event.specs.Plan.{IsBase, IsOrMemory, IsPlan, terms_of};
-ghost use Rattle.kt_event.specs.Terms.{has_insured, has_net, net_sets, output_perspectives, sets_of, summary_set};
-ghost use Rattle.kt_tables.specs.Lookups.{has_summary_set};
+ghost use Rattle.kt_event.specs.Terms.{has_insured, has_net, net_sets, output_perspectives, sets_of};
 
 use crate::block::{EventBlock, Summaries};
 use crate::plan::{Base, Plan};
+use crate::sets::set_numbers;
 use kt_gul::ground_up_lanes;
 use kt_gul::laws::ground_up_losses_are_within;
 use kt_insured::laws::insured_losses_are_within;
@@ -24,40 +24,9 @@ use kt_rec::{FootRow, ModelStop, Perspective};
 use kt_ri::reinsure_lanes;
 use kt_shares::LossLanes;
 use kt_stream::Records;
-use kt_sum::summarise_lanes;
+use kt_sum::summarise_sets;
 use kt_tables::Portfolio;
 use std::alloc::{AllocError, Global};
-
-/// The number of summary sets that a perspective may have.
-const SETS: u32 = 9;
-
-/// Puts the summaries of losses in a set behind others, where their perspective has it.
-fn put_set(
-    alloc: Global,
-    portfolio: &Portfolio,
-    samples: u32,
-    perspective: Perspective,
-    set: u32,
-    losses: &LossLanes,
-    made: &mut Records<Summaries>,
-) -> Result<(), AllocError>
-    requires samples { samples ≤ 1000 }
-    requires rows { losses.now.rows ≡ samples + 1 }
-    requires losses { All (IsLoss samples) losses.now.records }
-    requires within { AreWithin losses.now.records }
-    ensures ok { OnOk result (made.new ≡ made.old ++ set_if (has_summary_set perspective portfolio.now.rows set) (summaries_of portfolio.now.rows portfolio.now.need.rule losses.now.records) (summary_set perspective set)) }
-    ensures good { AreSummaries samples made.old → OnOk result (AreSummaries samples made.new) }
-{
-    if portfolio.has_set(perspective, set) {
-        let records = summarise_lanes(alloc, portfolio, samples, perspective, set, losses)?;
-        made.push(Summaries {
-            perspective,
-            set,
-            records,
-        })?;
-    }
-    Ok(())
-}
 
 /// Puts the summaries of losses behind others: those of each set that their perspective has, by rising set.
 fn put_summaries(
@@ -76,16 +45,14 @@ fn put_summaries(
     ensures ok { OnOk result (made.new ≡ made.old ++ map (summaries_of portfolio.now.rows portfolio.now.need.rule losses.now.records) (sets_of portfolio.now.rows perspective)) }
     ensures good { OnOk result (AreSummaries samples made.new) }
 {
-    for place in 0..SETS {
-        put_set(
-            alloc,
-            portfolio,
-            samples,
+    let sets = set_numbers(alloc, portfolio, perspective)?;
+    let summaries = summarise_sets(alloc, portfolio, samples, perspective, &sets, losses)?;
+    for one in summaries {
+        made.push(Summaries {
             perspective,
-            place + 1,
-            losses,
-            made,
-        )?;
+            set: one.set,
+            records: one.records,
+        })?;
     }
     Ok(())
 }

@@ -5,6 +5,7 @@ mod block;
 mod event;
 mod needs;
 mod plan;
+mod sets;
 mod shared;
 mod terms;
 
@@ -12,4 +13,5 @@ pub use block::{EventBlock, Summaries};
 pub use event::event_block;
 pub use needs::chain_need;
 pub use plan::Plan;
+pub use sets::set_numbers;
 pub use terms::{SummarySet, Terms};

@@ -5,3 +5,4 @@ pub mod OneRunLemmas
 pub mod SumsLemmas
 pub mod RunSumsLemmas
 pub mod LaneSumsLemmas
+pub mod SetSumsLemmas

@@ -1,4 +1,5 @@
 pub mod Summaries
 pub mod Adding
 pub mod RunSummaries
+pub mod SetSums
 pub mod Examples

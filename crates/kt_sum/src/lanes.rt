@@ -1,83 +1,115 @@
-//! The summaries of a run whose losses are kept by lanes.
+//! The summaries of a run whose losses are kept by lanes, in several sets at once.
 //! The rule: docs/CALCULATION.md, "Summaries".
-ghost use Rattle.std.specs.Prelude.{◌≡◌, ℕ, ◌+◌, ◌≤◌, length, map, All, Option, IfOk};
-ghost use Rattle.kt_rec.specs.Rising.{IsRising};
+ghost use Rattle.std.specs.Prelude.{◌≡◌, ℕ, ◌+◌, ◌<◌, ◌≤◌, length, map, All, Option, IfOk};
 ghost use Rattle.kt_stream.specs.Losses.{IsLoss};
 ghost use Rattle.kt_stream.specs.Summary.{IsSummary};
 ghost use Rattle.kt_runs.specs.RunLosses.{AreWithin};
-ghost use Rattle.kt_sum.specs.RunSummaries.{IsReadyRow, IsSumOf, IsThere, IsZeroRow};
-ghost use Rattle.kt_sum.specs.Summaries.{run_summaries};
+ghost use Rattle.kt_sum.specs.SetSums.{AreReady, HoldLanes, set_records};
+ghost use Rattle.kt_tables.specs.Lookups.{summary_in};
 
-use crate::rows::add_lane_entry;
-use crate::run::{found_of, made_of, rising_of};
-use crate::set_run::SetRun;
-use crate::span::Span;
-use crate::summary_sums::{FIRST, SummarySums, no_sums};
+use crate::set_records::SetRecords;
+use crate::set_sums::SetSums;
 use kt_rec::Perspective;
 use kt_shares::LossLanes;
-use kt_stream::{Records, SummaryRecord};
 use kt_tables::Portfolio;
 use std::alloc::{AllocError, Global};
 
-/// Adds the losses of lanes to the sums of the summaries that were found for their ids, which begin at sidx -2.
-fn add_lanes(rows: &mut [SummarySums], summaries: &[u32], found: &[Option<u32>], losses: &LossLanes)
-    requires rising { IsRising summaries.now }
-    requires rows { map (λ row. row.summary) rows.old ≡ summaries.now }
-    requires there { All (IsThere summaries.now) found.now }
-    requires found { length found.now ≡ length losses.now.records }
-    requires losses { AreWithin losses.now.records }
-    requires some { 1 ≤ losses.now.rows }
-    requires ready { All (IsReadyRow (losses.now.rows + 2)) rows.old }
-    requires zeros { All (IsZeroRow (losses.now.rows + 2)) rows.old }
-    ensures rows { map (λ row. row.summary) rows.new ≡ summaries.now }
-    ensures ready { All (IsReadyRow (losses.now.rows + 2)) rows.new }
-    ensures sums { (find : ℕ → Option ℕ) → found.now ≡ map (λ entry. find entry.id) losses.now.records → All (IsSumOf 2147483646 (losses.now.rows + 2) find losses.now.records) rows.new }
-{
-    let mut near = 0;
-    for place in 0..losses.len() {
-        near = add_lane_entry(
-            rows,
-            summaries,
-            found[place],
-            near,
-            losses.deviation(place),
-            losses.lane(place),
-        );
-    }
-}
-
-/// The records that `summarise` makes, for the records that lanes stand for, in a run with so many samples. An error is want of memory.
-pub fn summarise_lanes(
+/// Sums of 0 for the summaries that each of some sets has for the ids of lanes, in a run with so many samples. An error is want of
+/// memory.
+fn no_set_sums(
     alloc: Global,
     portfolio: &Portfolio,
     samples: u32,
     perspective: Perspective,
-    set: u32,
+    sets: &[u32],
     losses: &LossLanes,
-) -> Result<Records<SummaryRecord>, AllocError>
+) -> Result<Vec<SetSums>, AllocError>
+    requires rows { losses.now.rows ≡ samples + 1 }
+    ensures sets { IfOk result (λ sums. map (λ one. one.set) sums.items ≡ sets.now) }
+    ensures ready { IfOk result (λ sums. All (AreReady losses.now) sums.items) }
+    ensures none { IfOk result (λ sums. All (HoldLanes (summary_in perspective portfolio.now.rows) losses.now 0) sums.items) }
+{
+    let ids = losses.ids(alloc)?;
+    let width = samples as usize + 3;
+    let mut sums = Vec::with_capacity(alloc, sets.len())?;
+    for set in sets {
+        sums.push(SetSums::new(alloc, portfolio, perspective, *set, width, &ids)?)?;
+    }
+    Ok(sums)
+}
+
+/// Adds the lane in a place to the sums of each set.
+fn add_lane_to_each(sums: &mut [SetSums], losses: &LossLanes, place: usize)
+    requires place { place < length losses.now.records }
+    requires some { 1 ≤ losses.now.rows }
+    requires within { AreWithin losses.now.records }
+    requires ready { All (AreReady losses.now) sums.old }
+    ensures sets { map (λ one. one.set) sums.new ≡ map (λ one. one.set) sums.old }
+    ensures ready { All (AreReady losses.now) sums.new }
+    ensures more { (find : ℕ → ℕ → Option ℕ) → All (HoldLanes find losses.now place) sums.old → All (HoldLanes find losses.now (place + 1)) sums.new }
+{
+    for at in 0..sums.len() {
+        sums[at].add(losses, place);
+    }
+}
+
+/// Adds all lanes to the sums of each set, lane by lane: each is read once for all sets.
+fn add_lanes(sums: &mut [SetSums], losses: &LossLanes)
+    requires some { 1 ≤ losses.now.rows }
+    requires within { AreWithin losses.now.records }
+    requires ready { All (AreReady losses.now) sums.old }
+    ensures sets { map (λ one. one.set) sums.new ≡ map (λ one. one.set) sums.old }
+    ensures ready { All (AreReady losses.now) sums.new }
+    ensures all { (find : ℕ → ℕ → Option ℕ) → All (HoldLanes find losses.now 0) sums.old → All (HoldLanes find losses.now (length losses.now.records)) sums.new }
+{
+    for place in 0..losses.len() {
+        add_lane_to_each(sums, losses, place);
+    }
+}
+
+/// The records of the sums of sets to which all lanes were added, set by set. An error is want of memory.
+fn records_of_sets(
+    alloc: Global,
+    portfolio: &Portfolio,
+    samples: u32,
+    perspective: Perspective,
+    sums: &[SetSums],
+    losses: &LossLanes,
+) -> Result<Vec<SetRecords>, AllocError>
+    requires samples { samples ≤ 1000 }
+    requires rows { losses.now.rows ≡ samples + 1 }
+    requires losses { All (IsLoss samples) losses.now.records }
+    requires within { AreWithin losses.now.records }
+    requires ready { All (AreReady losses.now) sums.now }
+    requires all { All (HoldLanes (summary_in perspective portfolio.now.rows) losses.now (length losses.now.records)) sums.now }
+    ensures value { IfOk result (λ made. made.items ≡ map (set_records perspective portfolio.now.rows portfolio.now.need.rule losses.now.records) (map (λ one. one.set) sums.now)) }
+    ensures good { IfOk result (λ made. All (λ one. All (IsSummary samples) one.records) made.items) }
+{
+    let mut made = Vec::with_capacity(alloc, sums.len())?;
+    for one in sums {
+        made.push(one.to_records(alloc, portfolio, samples, perspective, losses)?)?;
+    }
+    Ok(made)
+}
+
+/// The records of the summaries of each of some sets, which `summarise` makes for the records that lanes stand for, in a run with so
+/// many samples. The lanes are gone through once for all sets. An error is want of memory.
+pub fn summarise_sets(
+    alloc: Global,
+    portfolio: &Portfolio,
+    samples: u32,
+    perspective: Perspective,
+    sets: &[u32],
+    losses: &LossLanes,
+) -> Result<Vec<SetRecords>, AllocError>
     requires samples { samples ≤ 1000 }
     requires rows { losses.now.rows ≡ samples + 1 }
     requires records { All (IsLoss samples) losses.now.records }
     requires losses { AreWithin losses.now.records }
-    ensures value { IfOk result (λ made. made ≡ run_summaries perspective portfolio.now.rows portfolio.now.need.rule set losses.now.records) }
-    ensures good { IfOk result (λ made. All (IsSummary samples) made) }
+    ensures value { IfOk result (λ made. made.items ≡ map (set_records perspective portfolio.now.rows portfolio.now.need.rule losses.now.records) sets.now) }
+    ensures good { IfOk result (λ made. All (λ one. All (IsSummary samples) one.records) made.items) }
 {
-    portfolio.keeps_summaries();
-    let run = SetRun {
-        portfolio,
-        perspective,
-        set,
-        event: losses.first_event(),
-    };
-    let span = Span {
-        least: FIRST,
-        width: samples as usize + 3,
-    };
-    let ids = losses.ids(alloc)?;
-    let found = found_of(alloc, &portfolio.set_summaries(perspective, set), &ids)?;
-    let summaries = rising_of(alloc, &found)?;
-    let mut rows = no_sums(alloc, span.width, &summaries)?;
-    add_lanes(&mut rows, &summaries, &found, losses);
-    let made = made_of(alloc, &run, span, &rows)?;
-    Ok(Records::from_vec(made))
+    let mut sums = no_set_sums(alloc, portfolio, samples, perspective, sets, losses)?;
+    add_lanes(&mut sums, losses);
+    records_of_sets(alloc, portfolio, samples, perspective, &sums, losses)
 }

@@ -7,10 +7,13 @@ pub mod laws;
 mod rows;
 mod run;
 mod run_summaries;
+mod set_records;
 mod set_run;
+mod set_sums;
 mod span;
 mod summary_sums;
 
-pub use lanes::summarise_lanes;
+pub use lanes::summarise_sets;
 pub use run::summarise;
 pub use run_summaries::RunSummaries;
+pub use set_records::SetRecords;
