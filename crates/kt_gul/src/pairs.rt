@@ -9,31 +9,6 @@ use kt_stream::{END, Pair, write_pair};
 /// The length of a pair in bytes.
 const PAIR: usize = 12;
 
-/// The sidx at a place.
-#[inline]
-fn sidx_at(place: usize) -> i32
-    requires { place ≤ 1001 }
-    ensures value { result ≡ sidx_at place }
-{
-    match place {
-        0 => -2,
-        1 => -1,
-        later => (later as u32 - 1).cast_signed(),
-    }
-}
-
-/// The pair of a loss at a place.
-#[inline]
-fn pair_at(place: usize, loss: u64) -> Pair
-    requires { place ≤ 1001 }
-    ensures value { result ≡ record { sidx = sidx_at place; loss = loss } }
-{
-    Pair {
-        sidx: sidx_at(place),
-        loss,
-    }
-}
-
 /// 1 for a loss above 0, else 0.
 #[inline]
 fn one_if(loss: u64) -> usize
@@ -70,10 +45,12 @@ pub(crate) fn write_row(bytes: &mut [u8], row: &[u64], samples: u32) -> usize
     ensures within { result ≤ length bytes.old }
     ensures room { length bytes.new ≡ length bytes.old }
 {
-    write_pair(bytes, 0, &pair_at(0, row[0]));
-    let mut used = one_if(row[0]);
-    write_pair(bytes, PAIR * used, &pair_at(1, row[1]));
-    used += one_if(row[1]);
+    let loss = row[0];
+    write_pair(bytes, 0, &Pair { sidx: -2, loss });
+    let mut used = one_if(loss);
+    let loss = row[1];
+    write_pair(bytes, PAIR * used, &Pair { sidx: -1, loss });
+    used += one_if(loss);
     for place in 2..samples as usize + 2 {
         let loss = row[place];
         write_pair(bytes, PAIR * used, &sample_pair(place, loss));
