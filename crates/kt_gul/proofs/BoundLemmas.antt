@@ -17,9 +17,9 @@ use Rattle.kt_stream.specs.declared.entry.Bin.{Bin}
 use Rattle.kt_stream.specs.declared.entry.Cdf.{Cdf}
 use Rattle.kt_tables.specs.Lookups.{random_of}
 use Rattle.kt_gul.specs.GroundUp.{bins_of, coverage_total, total_before, final_loss, ground_up_loss, has_pair, item_tiv, raw_loss}
-use Rattle.kt_gul.specs.ItemMoments.{damage_deviation, means_behind, squares_behind}
-use Rattle.kt_gul.specs.SampledLoss.{falls_into, loss_in_bin, loss_behind}
-use Rattle.kt_gul.proofs.SampleLemmas.{damage_within, lowest-le, part_within, ppm_part-le}
+use Rattle.kt_damage.specs.ItemMoments.{damage_deviation, means_behind, squares_behind}
+use Rattle.kt_damage.specs.SampledLoss.{falls_into, loss_in_bin, loss_behind}
+use Rattle.kt_damage.proofs.SampleLemmas.{damage_within, lowest-le, part_within, ppm_part-le}
 
 -- ---- samples
 

@@ -19,8 +19,8 @@ use Rattle.kt_stream.specs.declared.entry.LossRecord.{LossRecord}
 use Rattle.kt_gul.specs.declared.struck.StruckItem.{StruckItem}
 use Rattle.kt_rec.specs.declared.hazard.DamageBin.{DamageBin}
 use Rattle.kt_tables.specs.Lookups.{random_of}
-use Rattle.kt_gul.specs.SampledLoss.{sampled_loss}
-use Rattle.kt_gul.specs.ItemMoments.{mean_loss, loss_deviation}
+use Rattle.kt_damage.specs.SampledLoss.{sampled_loss}
+use Rattle.kt_damage.specs.ItemMoments.{mean_loss, loss_deviation}
 use Rattle.kt_gul.specs.GroundUp.{item_tiv, has_pair, bins_of, loss_by, raw_loss, coverage_total, total_before, item_record}
 use Rattle.kt_gul.specs.Coverage.{IsGroup, IsStruck, group_total}
 use Rattle.kt_gul.specs.StruckItems.{AreInOrder, has_cdf, item_of}

@@ -9,7 +9,7 @@ use Rattle.kt_rec.specs.declared.hazard.DamageBin.{DamageBin}
 use Rattle.kt_rec.specs.declared.hazard.Random.{Random}
 use Rattle.kt_stream.specs.declared.entry.Bin.{Bin}
 use Rattle.kt_tables.specs.Lookups.{random_place, random_of}
-use Rattle.kt_gul.specs.SampledLoss.{sampled_loss}
+use Rattle.kt_damage.specs.SampledLoss.{sampled_loss}
 use Rattle.kt_gul.specs.GroundUp.{item_tiv, loss_by}
 use Rattle.kt_gul.specs.ItemLosses.{AreMade}
 

@@ -1,7 +1,5 @@
 pub mod FrontLemmas
-pub mod SampleLemmas
-pub mod StepLemmas
-pub mod MomentLemmas
+pub mod TableLemmas
 pub mod RandomLemmas
 pub mod ItemLemmas
 pub mod PairLemmas

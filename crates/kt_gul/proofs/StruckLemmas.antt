@@ -13,12 +13,12 @@ use Rattle.kt_rec.specs.declared.exposure.Item.{Item}
 use Rattle.kt_checks.specs.TableChecks.{tiv_of}
 use Rattle.kt_stream.specs.Bins.{IsCdf}
 use Rattle.kt_stream.specs.declared.entry.Cdf.{Cdf}
-use Rattle.kt_gul.specs.declared.moments.DamageMoments.{DamageMoments}
+use Rattle.kt_damage.specs.declared.moments.DamageMoments.{DamageMoments}
 use Rattle.kt_gul.specs.declared.struck.StruckItem.{StruckItem}
 use Rattle.kt_gul.specs.GroundUp.{has_pair, bins_of, item_tiv}
 use Rattle.kt_gul.specs.Coverage.{IsStruck}
-use Rattle.kt_gul.specs.ItemLosses.{AreMoments}
-use Rattle.kt_gul.specs.Sampled.{CanSample}
+use Rattle.kt_damage.specs.DamageMoments.{AreMoments}
+use Rattle.kt_damage.specs.Sampled.{CanSample}
 use Rattle.kt_gul.specs.StruckItems.{AreCdfs, AreStruck, AreInOrder, cdf_key, has_cdf, item_of, struck_key}
 
 -- an insured value is at most 10^14

@@ -6,8 +6,8 @@ use Rattle.kt_stream.specs.declared.entry.Cdf.{Cdf}
 use Rattle.kt_gul.specs.declared.struck.StruckItem.{StruckItem}
 use Rattle.kt_gul.specs.declared.sums.Scratch.{Scratch}
 use Rattle.kt_gul.specs.GroundUp.{item_tiv, bins_of, raw_loss, coverage_total, total_before}
-use Rattle.kt_gul.specs.ItemLosses.{AreMoments}
-use Rattle.kt_gul.specs.Sampled.{CanSample}
+use Rattle.kt_damage.specs.DamageMoments.{AreMoments}
+use Rattle.kt_damage.specs.Sampled.{CanSample}
 
 -- numbers, one for each place
 pub record IsRow (loss : ℕ → ℕ) (width : ℕ) (losses : List ℕ) : Type 0 where

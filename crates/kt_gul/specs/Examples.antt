@@ -6,8 +6,8 @@ use Rattle.kt_rec.specs.declared.hazard.DamageBin.{DamageBin}
 use Rattle.kt_stream.specs.declared.entry.Bin.{Bin}
 use Rattle.kt_tables.specs.Lookups.{random_place}
 use Rattle.kt_gul.specs.GroundUp.{cut_loss}
-use Rattle.kt_gul.specs.SampledLoss.{sampled_loss}
-use Rattle.kt_gul.specs.ItemMoments.{mean_loss, loss_deviation}
+use Rattle.kt_damage.specs.SampledLoss.{sampled_loss}
+use Rattle.kt_damage.specs.ItemMoments.{mean_loss, loss_deviation}
 
 -- no damage, up to a half, and up to the whole
 dictionary : List DamageBin

@@ -11,8 +11,8 @@ use Rattle.kt_stream.specs.declared.entry.Cdf.{Cdf}
 use Rattle.kt_stream.specs.declared.entry.LossRecord.{LossRecord}
 use Rattle.kt_stream.specs.declared.entry.Pair.{Pair}
 use Rattle.kt_tables.specs.Lookups.{random_of}
-use Rattle.kt_gul.specs.SampledLoss.{sampled_loss}
-use Rattle.kt_gul.specs.ItemMoments.{mean_loss, loss_deviation}
+use Rattle.kt_damage.specs.SampledLoss.{sampled_loss}
+use Rattle.kt_damage.specs.ItemMoments.{mean_loss, loss_deviation}
 
 -- ---- the losses of an item
 

@@ -1,9 +1,7 @@
-pub mod SampledLoss
-pub mod ItemMoments
+pub use Rattle.kt_damage.specs.SampledLoss
+pub use Rattle.kt_damage.specs.ItemMoments
 pub mod GroundUp
-pub mod Sampled
-pub mod Steps
-pub mod MomentSums
+pub mod StepTables
 pub mod ItemLosses
 pub mod Coverage
 pub mod Sums

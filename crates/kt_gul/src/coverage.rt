@@ -6,7 +6,7 @@ ghost use Rattle.kt_rec.specs.declared.table.Table.TheVariants as table;
 ghost use Rattle.kt_keys.specs.Refusals.{is_loaded};
 ghost use Rattle.kt_checks.specs.TableChecks.{tiv_of};
 ghost use Rattle.kt_gul.specs.GroundUp.{StandsInFront, item_tiv, raw_loss, item_record};
-ghost use Rattle.kt_gul.specs.Steps.{AreTables};
+ghost use Rattle.kt_gul.specs.StepTables.{AreTables};
 ghost use Rattle.kt_gul.specs.Coverage.{IsRow, IsScratch, IsStruck, IsGroup, group_total};
 
 use crate::cut::cut_row;

@@ -10,7 +10,7 @@ ghost use Rattle.kt_stream.specs.Pairs.{IsId};
 ghost use Rattle.kt_gul.specs.declared.struck.StruckItem.{StruckItem};
 ghost use Rattle.kt_gul.specs.GroundUp.{StandsInFront, item_record, ground_up_records};
 ghost use Rattle.kt_gul.specs.StruckItems.{AreCdfs, AreInOrder, id_of, item_of};
-ghost use Rattle.kt_gul.specs.Steps.{AreTables};
+ghost use Rattle.kt_gul.specs.StepTables.{AreTables};
 ghost use Rattle.kt_gul.specs.Groups.{IsGroupEnd};
 
 use crate::coverage::push_coverage;

@@ -7,7 +7,7 @@ ghost use Rattle.kt_gul.specs.StruckItems.{AreCdfs, AreStruck, id_of};
 ghost use Rattle.std.specs.List.Sorted.{IsNonDecreasingBy};
 
 use crate::held::HeldCdf;
-use crate::moments::{DamageMoments, damage_moments};
+use kt_damage::{DamageMoments, damage_moments};
 use kt_index::{Keyed, pair_key};
 use kt_rec::Item;
 use kt_tables::Portfolio;

@@ -3,13 +3,13 @@
 ghost use Rattle.std.specs.Prelude.{◌≡◌, ◌+◌, ◌-◌, ◌*◌, ◌<◌, ◌≤◌, length, take, drop, All, IfOk, OnOk};
 ghost use Rattle.kt_rec.specs.Ranges.{IsDamageBin};
 ghost use Rattle.kt_stream.specs.Bins.{IsCdf};
-ghost use Rattle.kt_gul.specs.SampledLoss.{sampled_loss};
-ghost use Rattle.kt_gul.specs.Sampled.{CanSample};
-ghost use Rattle.kt_gul.specs.Steps.{AreSteps, AreTables};
+ghost use Rattle.kt_damage.specs.SampledLoss.{sampled_loss};
+ghost use Rattle.kt_damage.specs.Sampled.{CanSample};
+ghost use Rattle.kt_damage.specs.Steps.{AreSteps};
+ghost use Rattle.kt_gul.specs.StepTables.{AreTables};
 
 use crate::held::HeldCdf;
-use crate::sampling::{damage_before, end_before, sampled_loss};
-use crate::steps::{Step, bin_step, end_step};
+use kt_damage::{Step, bin_step, damage_before, end_before, end_step, sampled_loss};
 use kt_rec::DamageBin;
 use kt_stream::Bin;
 use std::alloc::{AllocError, Global};

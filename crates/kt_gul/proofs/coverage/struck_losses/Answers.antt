@@ -2,10 +2,11 @@
 use Rattle.std.proofs.Common.{◌≡◌, List, length, sym, subst, slice_index_or}
 use Rattle.kt_stream.specs.declared.entry.Bin.{Bin}
 use Rattle.kt_stream.specs.declared.entry.Cdf.{Cdf}
-use Rattle.kt_gul.specs.declared.steps.Step.{Step}
+use Rattle.kt_damage.specs.declared.steps.Step.{Step}
 use Rattle.kt_gul.specs.declared.tables.StepTable.{StepTable}
 use Rattle.kt_gul.specs.Coverage.{IsStruck}
-use Rattle.kt_gul.specs.Steps.{AreSteps, AreTables, IsTable}
+use Rattle.kt_damage.specs.Steps.{AreSteps}
+use Rattle.kt_gul.specs.StepTables.{AreTables, IsTable}
 use Rattle.kt_rec.specs.Rows.{Rows}
 use Rattle.kt_gul.specs.declared.struck.StruckItem.{StruckItem}
 use Rattle.kt_gul.proofs.coverage.struck_losses.Goals as goal

@@ -3,8 +3,8 @@ use Rattle.std.proofs.lemmas.Grind.{common_steps}
 use Rattle.kt_tables.specs.Lookups.{random_place}
 use Rattle.kt_gul.specs.GroundUp.{loss_by}
 use Rattle.kt_gul.proofs.BoundLemmas.{loss_behind-le}
-use Rattle.kt_gul.specs.ItemMoments.{damage_deviation}
-use Rattle.kt_gul.proofs.StepLemmas.{deviation_few}
+use Rattle.kt_damage.specs.ItemMoments.{damage_deviation}
+use Rattle.kt_damage.proofs.StepLemmas.{deviation_few}
 use Rattle.kt_gul.proofs.ItemLemmas.{made_first, sample_is, made_more}
 use Rattle.kt_gul.proofs.item.item_losses.Goals as goal
 

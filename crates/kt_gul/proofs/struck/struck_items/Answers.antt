@@ -2,7 +2,7 @@ use Rattle.std.proofs.Common.{List, sym, subst, ap, ◌∙◌, ◌++◌, map}
 use Rattle.kt_stream.specs.declared.entry.Bin.{Bin}
 use Rattle.kt_rec.specs.declared.exposure.Item.{Item}
 use Rattle.kt_gul.specs.declared.struck.StruckItem.{StruckItem}
-use Rattle.kt_gul.specs.ItemLosses.{AreMoments}
+use Rattle.kt_damage.specs.DamageMoments.{AreMoments}
 use Rattle.kt_gul.specs.StruckItems.{AreStruck}
 use Rattle.kt_gul.proofs.StruckLemmas.{struck_none, struck_more}
 use Rattle.kt_gul.proofs.struck.struck_items.Goals as goal

@@ -2,11 +2,11 @@ use Rattle.std.proofs.Common.{List, length, subst, sym, arith}
 use Rattle.std.proofs.lemmas.List.Elements.{All-push}
 use Rattle.kt_rec.specs.declared.hazard.DamageBin.{DamageBin}
 use Rattle.kt_stream.specs.declared.entry.Bin.{Bin}
-use Rattle.kt_gul.specs.declared.steps.Step.{Step}
-use Rattle.kt_gul.specs.SampledLoss.{sampled_loss}
-use Rattle.kt_gul.specs.Steps.{IsStep, AreSteps}
-use Rattle.kt_gul.proofs.SampleLemmas.{damage_before-le}
-use Rattle.kt_gul.proofs.StepLemmas.{end_is_step, end_within}
+use Rattle.kt_damage.specs.declared.steps.Step.{Step}
+use Rattle.kt_damage.specs.SampledLoss.{sampled_loss}
+use Rattle.kt_damage.specs.Steps.{IsStep, AreSteps}
+use Rattle.kt_damage.proofs.SampleLemmas.{damage_before-le}
+use Rattle.kt_damage.proofs.StepLemmas.{end_is_step, end_within}
 use Rattle.kt_gul.proofs.tables.push_end.Goals as goal
 
 pub end_step-requires-clause-whole : goal.end_step-requires-clause-whole

@@ -2,11 +2,11 @@ use Rattle.std.proofs.Common.{List, subst, sym}
 use Rattle.std.proofs.lemmas.List.Elements.{All-push}
 use Rattle.kt_rec.specs.declared.hazard.DamageBin.{DamageBin}
 use Rattle.kt_stream.specs.declared.entry.Bin.{Bin}
-use Rattle.kt_gul.specs.declared.steps.Step.{Step}
-use Rattle.kt_gul.specs.SampledLoss.{sampled_loss}
-use Rattle.kt_gul.specs.Steps.{IsStep, AreSteps}
-use Rattle.kt_gul.proofs.SampleLemmas.{bin_within}
-use Rattle.kt_gul.proofs.StepLemmas.{bin_is_step, end_at_most}
+use Rattle.kt_damage.specs.declared.steps.Step.{Step}
+use Rattle.kt_damage.specs.SampledLoss.{sampled_loss}
+use Rattle.kt_damage.specs.Steps.{IsStep, AreSteps}
+use Rattle.kt_damage.proofs.SampleLemmas.{bin_within}
+use Rattle.kt_damage.proofs.StepLemmas.{bin_is_step, end_at_most}
 use Rattle.kt_gul.proofs.tables.push_step.Goals as goal
 
 pub bin_step-requires-clause-whole : goal.bin_step-requires-clause-whole

@@ -1,10 +1,11 @@
 use Rattle.std.proofs.Common.{ℕ, ◌≡◌, ◌++◌, List, length, subst, sym, ap, ◌∙◌, arith}
 use Rattle.kt_stream.specs.declared.entry.Bin.{Bin}
 use Rattle.kt_stream.specs.declared.entry.Cdf.{Cdf}
-use Rattle.kt_gul.specs.declared.steps.Step.{Step}
-use Rattle.kt_gul.specs.Sampled.{CanSample}
-use Rattle.kt_gul.specs.Steps.{AreSteps, AreTables}
-use Rattle.kt_gul.proofs.StepLemmas.{tables_more}
+use Rattle.kt_damage.specs.declared.steps.Step.{Step}
+use Rattle.kt_damage.specs.Sampled.{CanSample}
+use Rattle.kt_damage.specs.Steps.{AreSteps}
+use Rattle.kt_gul.specs.StepTables.{AreTables}
+use Rattle.kt_gul.proofs.TableLemmas.{tables_more}
 use Rattle.kt_gul.proofs.tables.tables_of.Goals as goal
 
 pub steps_of-requires : goal.steps_of-requires

@@ -1,5 +1,5 @@
 -- The steps of the distributions so far.
-use Rattle.kt_gul.specs.Steps.{AreTables}
+use Rattle.kt_gul.specs.StepTables.{AreTables}
 use Rattle.kt_gul.proofs.tables.tables_of.Given as goal
 
 abbrev pub invariant-loop-cdf : goal.invariant-loop-cdf

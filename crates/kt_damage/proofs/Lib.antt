@@ -1,0 +1,3 @@
+pub mod SampleLemmas
+pub mod StepLemmas
+pub mod MomentLemmas

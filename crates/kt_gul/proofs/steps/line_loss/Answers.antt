@@ -1,9 +1,0 @@
-use Rattle.std.proofs.Common.{ap, ◌∙◌}
-use Rattle.kt_gul.specs.Steps.{line_loss}
-use Rattle.kt_gul.proofs.StepLemmas.{words_of}
-use Rattle.kt_gul.proofs.steps.line_loss.Goals as goal
-
-pub returns : goal.returns
-returns c = record {
-  value = words_of c.from-value.result c.args.damage 4611686018427387904 ∙ ap (λ tiv. line_loss tiv c.args.damage) c.from-value.ensures;
-}
