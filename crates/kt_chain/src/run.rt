@@ -29,7 +29,7 @@ use crate::rounds::{Run, all_rounds};
 use kt_ends::{ToolStop, write_stop};
 use kt_event::Plan;
 use kt_files::laws::names_are_distinct;
-use kt_files::{Endings, Headings, OutputFile, output_files};
+use kt_files::{Endings, Headings, OutputFile, output_files, shared_curves};
 use kt_loop::keep_memory;
 use kt_out::{Fault, Gate, Inputs, Outputs};
 use kt_outputs::{append_texts, append_texts_beside, create_files};
@@ -50,7 +50,8 @@ fn begin<R, G, O: Outputs>(run: &Run<'_, R, G>, outputs: &mut O) -> Result<(), F
     append_texts(run.alloc, outputs, run.files, &Headings)
 }
 
-/// Writes the tables over all periods at the end of the files. Those of as many files as the run has workers are made side by side.
+/// Writes the tables over all periods at the end of the files. Those of as many files as the run has workers are made side by side, and before
+/// them, side by side as well, what the curves of each set share.
 fn finish<R: Threads + Sync, G, O: Outputs>(
     run: &Run<'_, R, G>,
     fold: &RunFold<'_>,
@@ -61,18 +62,19 @@ fn finish<R: Threads + Sync, G, O: Outputs>(
 {
     run.has_files();
     names_are_distinct();
-    let endings = Endings {
-        portfolio: fold.portfolio(),
-        cells: fold.cells(),
+    let workers = run.workers as usize;
+    let portfolio = fold.portfolio();
+    let cells = fold.cells();
+    let last = run.plan.terms().last;
+    let Ok(curves) = shared_curves(run.rt, run.alloc, portfolio, cells, last, workers) else {
+        return Err(Fault::OutOfMemory);
     };
-    append_texts_beside(
-        run.rt,
-        run.alloc,
-        outputs,
-        run.files,
-        &endings,
-        run.workers as usize,
-    )
+    let endings = Endings {
+        portfolio,
+        cells,
+        curves: curves.as_slice(),
+    };
+    append_texts_beside(run.rt, run.alloc, outputs, run.files, &endings, workers)
 }
 
 /// Makes the files of a run, carries its events through all stages round by round, and writes the tables over all periods.

@@ -3,74 +3,87 @@
 ghost use Rattle.std.specs.Prelude.{◌≡◌, ◌++◌, List, OnOk};
 ghost use Rattle.kt_period_cells.specs.Losses.{Added, all_losses};
 ghost use Rattle.kt_period_cells.specs.Standing.{StandsFor};
-ghost use Rattle.kt_files.specs.Endings.{AreEndings};
+ghost use Rattle.kt_files.specs.EndTexts.{AreEndTexts};
 ghost use Rattle.kt_files.specs.Parts.{end_text, table_end};
 ghost use Rattle.kt_periods.specs.PeriodTables.{table_text};
+ghost use Rattle.kt_periods.specs.declared.table.PeriodTable.TheVariants.{AverageAnnualLoss, ExceedanceCurve};
 ghost use Rattle.kt_tables.specs.Lookups.{return_periods_of};
 
+use crate::curves::{curves_of, find};
 use crate::file::{OutputFile, SetTable};
+use kt_curve::{SetCurves, takes_maxima};
 use kt_event::SummarySet;
 use kt_money::{Bytes, OutOfMemory};
 use kt_outputs::Texts;
 use kt_period_cells::Cells;
-use kt_periods::{PeriodTable, append_table};
+use kt_periods::{PeriodTable, append_curve, append_table};
+use kt_rec::Curve;
 use kt_tables::Portfolio;
 
-/// Appends a table over all periods of a summary set, at the return periods of the portfolio where it is a curve. An error is
-/// want of memory.
-fn push_period_table(
+/// Appends the average annual losses of a summary set. An error is want of memory.
+fn push_averages(
     out: &mut Bytes,
     portfolio: &Portfolio,
     cells: &Cells,
     set: SummarySet,
-    kind: PeriodTable,
 ) -> Result<(), OutOfMemory>
-    ensures { (history : List Added) → StandsFor history cells.now → OnOk result (out.new ≡ out.old ++ table_text kind set.perspective set.set cells.now.periods cells.now.samples (return_periods_of portfolio.now.rows) (all_losses history)) }
+    ensures { (history : List Added) → StandsFor history cells.now → OnOk result (out.new ≡ out.old ++ table_text AverageAnnualLoss set.perspective set.set cells.now.periods cells.now.samples (return_periods_of portfolio.now.rows) (all_losses history)) }
 {
     portfolio.is_valid();
     let returns = portfolio.return_periods();
-    append_table(out, kind, cells, set.perspective, set.set, returns)
+    append_table(
+        out,
+        PeriodTable::AverageAnnualLoss,
+        cells,
+        set.perspective,
+        set.set,
+        returns,
+    )
+}
+
+/// Appends an exceedance curve of a summary set, at the return periods of the portfolio: from what the curves of the set share, which is made
+/// here where it was not made before. An error is want of memory.
+fn push_curve(
+    out: &mut Bytes,
+    endings: &Endings<'_>,
+    set: SummarySet,
+    curve: Curve,
+) -> Result<(), OutOfMemory>
+    ensures { (history : List Added) → AreEndTexts history endings.now → OnOk result (out.new ≡ out.old ++ table_text (ExceedanceCurve curve) set.perspective set.set endings.now.cells.now.periods endings.now.cells.now.samples (return_periods_of endings.now.portfolio.now.rows) (all_losses history)) }
+{
+    let maxima = takes_maxima(curve);
+    match find(endings.curves, set, maxima) {
+        Some(shared) => append_curve(out, curve, shared),
+        None => {
+            let own = curves_of(endings.portfolio, endings.cells, set, maxima)?;
+            append_curve(out, curve, &own)
+        }
+    }
 }
 
 /// Appends what comes at the end of a table of a summary set: the whole table where it is one over all periods. An error is want
 /// of memory.
 fn push_table(
     out: &mut Bytes,
-    portfolio: &Portfolio,
-    cells: &Cells,
+    endings: &Endings<'_>,
     set: SummarySet,
     table: SetTable,
 ) -> Result<(), OutOfMemory>
-    ensures { (history : List Added) → AreEndings history portfolio.now.rows cells.now → OnOk result (out.new ≡ out.old ++ table_end cells.now.samples portfolio.now.rows set table history) }
+    ensures { (history : List Added) → AreEndTexts history endings.now → OnOk result (out.new ≡ out.old ++ table_end endings.now.cells.now.samples endings.now.portfolio.now.rows set table history) }
 {
     match table {
         SetTable::EventLoss | SetTable::PeriodLoss => Ok(()),
-        SetTable::AverageAnnualLoss => {
-            push_period_table(out, portfolio, cells, set, PeriodTable::AverageAnnualLoss)
-        }
-        SetTable::ExceedanceCurve(curve) => {
-            push_period_table(
-                out,
-                portfolio,
-                cells,
-                set,
-                PeriodTable::ExceedanceCurve(curve),
-            )
-        }
+        SetTable::AverageAnnualLoss => push_averages(out, endings.portfolio, endings.cells, set),
+        SetTable::ExceedanceCurve(curve) => push_curve(out, endings, set, curve),
     }
 }
 
 /// Appends what comes behind the last event in a file. An error is want of memory.
-fn push_ending(
-    out: &mut Bytes,
-    portfolio: &Portfolio,
-    cells: &Cells,
-    file: OutputFile,
-) -> Result<(), OutOfMemory>
-    ensures { (history : List Added) → AreEndings history portfolio.now.rows cells.now → OnOk result (out.new ≡ out.old ++ end_text cells.now.samples portfolio.now.rows history file) }
+fn push_ending(out: &mut Bytes, endings: &Endings<'_>, file: OutputFile) -> Result<(), OutOfMemory>
+    ensures { (history : List Added) → AreEndTexts history endings.now → OnOk result (out.new ≡ out.old ++ end_text endings.now.cells.now.samples endings.now.portfolio.now.rows history file) }
 {
     match file {
-        OutputFile::OfSet(set, table) => push_table(out, portfolio, cells, set, table),
+        OutputFile::OfSet(set, table) => push_table(out, endings, set, table),
         OutputFile::Layers => Ok(()),
     }
 }
@@ -82,17 +95,19 @@ pub struct Endings<'a> {
     pub portfolio: &'a Portfolio,
     /// The cells of all records, over the periods of the portfolio.
     pub cells: &'a Cells,
+    /// What curves of these cells share, as `shared_curves` makes it; what is not among these is made where it is wanted.
+    pub curves: &'a [SetCurves<'a>],
 }
 
 impl<'a> Texts<OutputFile> for Endings<'a> {
     ghost use Rattle.std.specs.Prelude.{List, [], ◌∷◌};
     ghost use Rattle.kt_period_cells.specs.Losses.{Added};
-    ghost use Rattle.kt_files.specs.Endings.{AreEndings};
+    ghost use Rattle.kt_files.specs.EndTexts.{AreEndTexts};
     ghost use Rattle.kt_files.specs.Parts.{end_text};
 
     ghost Start = { List Added };
 
-    ghost are_of = { λ history texts. AreEndings history texts.portfolio.now.rows texts.cells.now };
+    ghost are_of = { λ history texts. AreEndTexts history texts };
 
     ghost pieces_of = { λ history texts file. end_text texts.cells.now.samples texts.portfolio.now.rows history file ∷ [] };
 
@@ -102,7 +117,7 @@ impl<'a> Texts<OutputFile> for Endings<'a> {
 
     fn push(&self, file: &OutputFile, piece: usize, out: &mut Bytes) -> Result<(), OutOfMemory> {
         if piece == 0 {
-            push_ending(out, self.portfolio, self.cells, *file)
+            push_ending(out, self, *file)
         } else {
             Ok(())
         }

@@ -2,6 +2,7 @@
 #![tactic(auto)]
 
 mod blocks;
+mod curves;
 mod endings;
 mod file;
 mod headings;
@@ -12,6 +13,7 @@ mod names;
 mod sets;
 
 pub use blocks::push_block;
+pub use curves::shared_curves;
 pub use endings::Endings;
 pub use file::{OutputFile, SetTable};
 pub use headings::Headings;

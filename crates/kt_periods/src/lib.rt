@@ -13,5 +13,5 @@ mod tools;
 pub use event_losses::write_event_losses;
 pub use period_losses::write_period_losses;
 pub use stop::cell_stop;
-pub use table::{PeriodTable, append_table};
+pub use table::{PeriodTable, append_curve, append_table};
 pub use tools::{write_average_annual_losses, write_exceedance_curve};

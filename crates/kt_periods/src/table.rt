@@ -1,11 +1,15 @@
 //! The tables over all periods, and their texts.
 //! The rules: docs/OUTPUTS.md, "Average annual loss table" and "Exceedance curve tables".
-ghost use Rattle.std.specs.Prelude.{◌≡◌, ◌≤◌, ◌++◌, List, All, OnOk};
+ghost use Rattle.std.specs.Prelude.{◌≡◌, ◌≤◌, ◌++◌, ℕ, List, All, OnOk};
+ghost use Rattle.kt_rec.specs.declared.perspective.Perspective.{Perspective};
 ghost use Rattle.kt_period_cells.specs.Losses.{Added, all_losses};
-ghost use Rattle.kt_period_cells.specs.Standing.{StandsFor};
+ghost use Rattle.kt_period_cells.specs.Standing.{KeptCells, StandsFor};
+ghost use Rattle.kt_curve.specs.Exceedance.{takes_maxima};
+ghost use Rattle.kt_curve.specs.SetsOfCurves.{AreCurvesOf};
 ghost use Rattle.kt_periods.specs.PeriodTables.{table_text};
+ghost use Rattle.kt_periods.specs.declared.table.PeriodTable.TheVariants.{ExceedanceCurve};
 
-use kt_curve::{aal_heading, aal_text, lec_heading, lec_text};
+use kt_curve::{SetCurves, aal_heading, aal_text, lec_heading, lec_text};
 use kt_money::{Bytes, OutOfMemory};
 use kt_period_cells::Cells;
 use kt_rec::{Curve, Perspective};
@@ -42,4 +46,17 @@ pub fn append_table(
             lec_text(out, cells, perspective, set, curve, returns)
         }
     }
+}
+
+/// Appends the names of a curve's columns, and then its rows, from what the curves of its set share. An error is want of memory; then
+/// some of the table may stand behind what was there.
+pub fn append_curve(
+    out: &mut Bytes,
+    curve: Curve,
+    shared: &SetCurves<'_>,
+) -> Result<(), OutOfMemory>
+    ensures ok { (kept : KeptCells) (perspective : Perspective) (set : ℕ) (returns : List ℕ) (history : List Added) → AreCurvesOf kept perspective set (takes_maxima curve) returns shared.now → StandsFor history kept → OnOk result (out.new ≡ out.old ++ table_text (ExceedanceCurve curve) perspective set kept.periods kept.samples returns (all_losses history)) }
+{
+    out.append(lec_heading(curve))?;
+    shared.append(out, curve)
 }
