@@ -1,4 +1,3 @@
-pub mod Sets
 pub mod OutputFiles
 pub mod Parts
 pub mod Endings
