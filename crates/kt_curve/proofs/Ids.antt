@@ -1,5 +1,5 @@
 -- The summary ids of entries are those of the losses for which they stand, and so are the amounts.
-use Rattle.std.proofs.Common.{◌≡◌, ◌≢◌, ℕ, ◌+◌, ◌≤◌, List, [], ◌∷◌, ◌++◌, map, arith, refl, sym, ap, ◌∙◌, cond, Bool, true, false, ◌&&◌, ◌||◌, nat_eq, All, ℤ, Some, None}
+use Rattle.std.proofs.Common.{◌≡◌, ◌≢◌, ℕ, ◌+◌, ◌≤◌, List, [], ◌∷◌, map, arith, refl, sym, ap, ◌∙◌, cond, Bool, true, false, ◌&&◌, ◌||◌, nat_eq, All, ℤ, Some, None}
 use Rattle.std.specs.List.{flat_map, list_any}
 use Rattle.std.specs.Map.{keys_of}
 use Rattle.std.proofs.lemmas.Bool.Decides.{Decides-eqb}

@@ -1,18 +1,16 @@
 -- The losses of samples and of summaries, which stand one behind the other in one list.
-use Rattle.std.proofs.Common.{◌≡◌, ℕ, zero, suc, ◌+◌, ◌-◌, ◌*◌, ◌<◌, ◌≤◌, List, [], ◌∷◌, ◌++◌, map, length, get_or, take, drop, arith, sym, ap, subst, ◌∙◌, Bool, pos, length-append}
+use Rattle.std.proofs.Common.{◌≡◌, ℕ, zero, suc, ◌+◌, ◌-◌, ◌*◌, ◌<◌, ◌≤◌, List, [], ◌∷◌, map, length, get_or, take, drop, arith, sym, ap, ◌∙◌, Bool, pos, length-append}
 use Rattle.std.specs.List.{flat_map, range_with_len}
 use Rattle.std.proofs.Math.Path.{fun_ext}
 use Rattle.std.proofs.lemmas.List.{take_at, drop_at, drop-drop, length-map}
 use Rattle.std.proofs.lemmas.List.Concat.{flat_map-cons}
 use Rattle.std.proofs.lemmas.List.FromFn.{get_or-range_with_len, length-range_with_len}
-use Rattle.kt_rec.specs.declared.perspective.CellKey.{CellKey}
 use Rattle.kt_period_cells.specs.Amounts.{amount_at, amounts_of, of_sample}
 use Rattle.kt_period_cells.specs.SummaryRows.{IsSummary, group_entries, part_entries}
-use Rattle.kt_period_cells.specs.declared.cell.Cell.{Cell}
 use Rattle.kt_period_cells.specs.declared.group.SetCells.{SetCells}
 use Rattle.kt_period_cells.specs.declared.group.SummaryCells.{SummaryCells}
 use Rattle.kt_curve.specs.Exceedance.{ranked_loss, sidx_values}
-use Rattle.kt_curve.specs.LossesOfSamples.{AreSampleLosses, HasSummary, group_losses, losses_of_samples, set_losses}
+use Rattle.kt_curve.specs.LossesOfSamples.{AreSampleLosses, HasSummary, group_losses, losses_of_samples}
 use Rattle.kt_curve.specs.Ranks.{SameRanks}
 use Rattle.kt_curve.specs.declared.sample_losses.SampleLosses.{SampleLosses}
 use Rattle.kt_curve.proofs.Curves.{ranks_of_equal, ranks_of_sample}

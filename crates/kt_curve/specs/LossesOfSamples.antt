@@ -1,6 +1,6 @@
 -- The losses of ranks in each sample of the summaries of a set.
 -- The rules: docs/CALCULATION.md, "Kinds of exceedance curves".
-use Rattle.std.specs.Prelude.{Bool, true, false, ℕ, ◌+◌, ◌*◌, ◌≤◌, ◌≡◌, pos, List, ◌++◌, map, length, take, drop, All}
+use Rattle.std.specs.Prelude.{Bool, true, false, ℕ, ◌+◌, ◌*◌, ◌≤◌, ◌≡◌, pos, List, map, length, take, drop}
 use Rattle.std.specs.List.{flat_map, range_with_len}
 use Rattle.std.specs.List.Sorted.{IsPermutation}
 use Rattle.kt_rec.specs.declared.perspective.Perspective.{Perspective}
@@ -8,8 +8,7 @@ use Rattle.kt_rec.specs.declared.perspective.CellKey.{CellKey}
 use Rattle.kt_rec.specs.declared.curve.Curve.{Curve}
 use Rattle.kt_rec.specs.declared.curve.Curve.TheVariants.{WheatAep, WheatOep, WheatmeanAep, WheatmeanOep}
 use Rattle.kt_period_cells.specs.Amounts.{amount_at}
-use Rattle.kt_period_cells.specs.SummaryRows.{IsOwnSet, IsPart, group_entries, part_entries}
-use Rattle.kt_period_cells.specs.Standing.{KeptCells}
+use Rattle.kt_period_cells.specs.SummaryRows.{group_entries, part_entries}
 use Rattle.kt_period_cells.specs.declared.group.SetCells.{SetCells}
 use Rattle.kt_period_cells.specs.declared.group.SummaryCells.{SummaryCells}
 use Rattle.kt_curve.specs.Exceedance.{ranked_loss, sidx_values}

@@ -1,5 +1,5 @@
 -- The formula stays within its types.
-use Rattle.std.proofs.Common.{◌-◌, ◌*◌, ◌/◌, ◌≤◌, arith}
+use Rattle.std.proofs.Common.{◌*◌, ◌/◌, ◌≤◌, arith}
 use Rattle.kt_curve.proofs.Ranking.{between-le}
 use Rattle.kt_curve.proofs.exceedance.between.Goals as goal
 

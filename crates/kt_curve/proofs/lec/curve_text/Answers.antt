@@ -1,9 +1,4 @@
 -- The rows of a set.
-use Rattle.std.proofs.Common.{ℕ, List, Bool, ◌++◌, subst, ◌≡◌}
-use Rattle.std.specs.List.{flat_map}
-use Rattle.kt_period_cells.specs.Amounts.{amount_at}
-use Rattle.kt_period_cells.specs.SummaryRows.{part_entries}
-use Rattle.kt_curve.specs.Exceedance.{lec_rows}
 use Rattle.kt_curve.proofs.Averages.{fresh_text}
 use Rattle.kt_curve.proofs.SetTexts.{curve_text}
 use Rattle.kt_curve.proofs.lec.curve_text.Goals as goal

@@ -1,6 +1,4 @@
 -- Each sum is within its bound.
-use Rattle.std.proofs.Common.{arith}
-use Rattle.std.proofs.lemmas.Grind.{common_steps}
 use Rattle.kt_curve.proofs.mean_curves.means.Goals as goal
 
 pub mean-requires-clause-most : goal.mean-requires-clause-most

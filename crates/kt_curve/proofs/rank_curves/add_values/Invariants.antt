@@ -1,5 +1,5 @@
 -- The first values are added.
-use Rattle.std.proofs.Common.{◌≡◌, ◌+◌, ◌-◌, ◌^◌, ◌<◌, ◌≤◌, ℕ, length, slice_index}
+use Rattle.std.proofs.Common.{◌≡◌, ◌+◌, ◌<◌, ◌≤◌, ℕ, length, slice_index}
 use Rattle.kt_curve.proofs.rank_curves.add_values.Given as goal
 
 abbrev pub invariant-loop-place : goal.invariant-loop-place

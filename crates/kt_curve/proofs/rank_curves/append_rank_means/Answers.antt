@@ -1,11 +1,11 @@
 -- The means stand at the places of the ranks that are asked for.
-use Rattle.std.proofs.Common.{◌≡◌, List, ℕ, map, length, sym, ap, ◌∙◌}
+use Rattle.std.proofs.Common.{◌≡◌, List, ℕ, length, sym, ap, ◌∙◌}
 use Rattle.std.proofs.lemmas.List.{length-map}
 use Rattle.std.proofs.lemmas.List.FromFn.{length-map-range_with_len}
 use Rattle.kt_period_cells.specs.SummaryRows.{group_entries}
 use Rattle.kt_period_cells.specs.Amounts.{amount_at}
 use Rattle.kt_period_cells.specs.Outcomes.{on_more}
-use Rattle.kt_curve.specs.Exceedance.{rank_means, ranked_loss}
+use Rattle.kt_curve.specs.Exceedance.{rank_means}
 use Rattle.kt_curve.proofs.Curves.{rows_of_count}
 use Rattle.kt_curve.proofs.rank_curves.append_rank_means.Goals as goal
 

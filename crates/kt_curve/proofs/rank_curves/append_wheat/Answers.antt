@@ -1,14 +1,13 @@
 -- The rows of one sample more.
-use Rattle.std.proofs.Common.{◌≡◌, ◌-◌, ◌*◌, ℕ, List, length, take, drop, sym, ap, ◌∙◌, arith, pos}
+use Rattle.std.proofs.Common.{◌≡◌, ℕ, List, length, sym, ap, ◌∙◌, arith, pos}
 use Rattle.std.proofs.lemmas.List.{length-map}
 use Rattle.kt_period_cells.specs.SummaryRows.{group_entries}
 use Rattle.kt_period_cells.specs.Amounts.{amount_at}
-use Rattle.kt_curve.specs.Exceedance.{curve_rows, ranked_loss, sidx_values}
+use Rattle.kt_curve.specs.Exceedance.{curve_rows, sidx_values}
 use Rattle.kt_curve.specs.LossesOfSamples.{group_losses}
-use Rattle.kt_curve.specs.Ranks.{curve_ranks}
 use Rattle.kt_curve.proofs.Curves.{rows_of_count, samples_more, samples_all}
 use Rattle.kt_curve.proofs.Grids.{length_values}
-use Rattle.kt_curve.proofs.SampleLists.{own_losses, sample_there, sample_within}
+use Rattle.kt_curve.proofs.SampleLists.{sample_there, sample_within}
 use Rattle.kt_curve.proofs.rank_curves.append_wheat.Goals as goal
 
 pub of_summary-losses-requires : goal.of_summary-losses-requires

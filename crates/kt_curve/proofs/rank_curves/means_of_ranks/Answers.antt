@@ -17,7 +17,7 @@ means-requires-clause-most c = all_places (c.args.group.now.samples * (2 ^ 64 - 
 pub returns : goal.returns
 returns c = record {
   value =
-    let group = c.args.group.now in
-    if_ok _ _ c.means.result (λ found is. is ∙ ranked_means group.perspective group.set group.periods group.samples group.summary (amount_at group.maxima (group_entries group)) c.requires.group.cells.some_samples
-    c.add_samples.new.sums c.args.ranks.now c.add_samples.ensures.len c.add_samples.ensures.sums) c.means.ensures.value;
+      let group = c.args.group.now in
+      if_ok _ _ c.means.result (λ found is. is ∙ ranked_means group.perspective group.set group.periods group.samples group.summary (amount_at group.maxima (group_entries group)) c.requires.group.cells.some_samples
+      c.add_samples.new.sums c.args.ranks.now c.add_samples.ensures.len c.add_samples.ensures.sums) c.means.ensures.value;
 }

@@ -11,7 +11,7 @@ returns c = record {
   value = record {
     asked = rw c.from.ensures at c.in_ok-ranks.ensures.same;
     losses =
-      c.in_ok-append_summaries.ensures.ok ∙ ap (λ none. none ++ set_losses c.as_slice.result.now c.args.part.now c.args.maxima c.summaries-summaries.result.now) c.in_ok-losses.ensures.items
-      ∙ (λ i. set_losses (c.as_slice.ensures.value i) c.args.part.now c.args.maxima (c.summaries-summaries.ensures.value i));
+        c.in_ok-append_summaries.ensures.ok ∙ ap (λ none. none ++ set_losses c.as_slice.result.now c.args.part.now c.args.maxima c.summaries-summaries.result.now) c.in_ok-losses.ensures.items
+        ∙ (λ i. set_losses (c.as_slice.ensures.value i) c.args.part.now c.args.maxima (c.summaries-summaries.ensures.value i));
   };
 }
