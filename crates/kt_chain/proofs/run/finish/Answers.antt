@@ -1,4 +1,4 @@
-use Rattle.std.proofs.Common.{◌++◌, List, ap, sym, subst, refl, ℕ}
+use Rattle.std.proofs.Common.{◌++◌, List, ap, sym, subst, refl}
 use Rattle.std.specs.Prelude.{All}
 use Rattle.kt_curve.specs.SetsOfCurves.{AreSomeCurves, KeptCurves}
 use Rattle.kt_files.specs.declared.file.OutputFile.{OutputFile}
