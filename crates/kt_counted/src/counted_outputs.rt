@@ -40,7 +40,7 @@ impl CountedOutputs {
     }
 
     /// The counts of the bytes that the name stands for, or `None` where it was neither created nor appended to.
-    #[tactic(auto, using(kt_out::proofs::NamedFilesLemmas::file_changes))]
+    #[tactic(auto, using(kt_kept_files::proofs::NamedFilesLemmas::file_changes))]
     pub fn counts(&self, name: &[u8]) -> Option<Counts>
         ensures { result ≡ option_map counts_of (bytes_of self.now name.now) }
     {
@@ -51,7 +51,7 @@ impl CountedOutputs {
     }
 
     /// Makes the name stand for no bytes.
-    #[tactic(auto, using(kt_out::proofs::NamedFilesLemmas::file_changes))]
+    #[tactic(auto, using(kt_kept_files::proofs::NamedFilesLemmas::file_changes))]
     fn empty(&mut self, name: &[u8]) -> Result<(), AllocError>
         ensures ok { OnOk result (self.new ≡ with_file self.old name.now []) }
 
@@ -71,7 +71,7 @@ impl CountedOutputs {
     }
 
     /// Adds the piece behind what the name stands for, and behind nothing where it is new.
-    #[tactic(auto, using(kt_out::proofs::NamedFilesLemmas::file_changes))]
+    #[tactic(auto, using(kt_kept_files::proofs::NamedFilesLemmas::file_changes))]
     fn extend(&mut self, name: &[u8], piece: &[u8]) -> Result<(), AllocError>
         ensures ok { OnOk result (self.new ≡ with_file self.old name.now (written_so_far (bytes_of self.old) name.now ++ piece.now)) }
 

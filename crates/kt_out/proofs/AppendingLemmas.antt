@@ -4,7 +4,7 @@ use Rattle.std.specs.Prelude.{unwrap_or}
 use Rattle.std.proofs.Math.Seq.{take-add}
 use Rattle.std.proofs.lemmas.List.{append-nil}
 use Rattle.kt_out.specs.Appending.{lengthened, AppendsText, appends_twice}
-use Rattle.kt_out.specs.NamedFiles.{FileMap}
+use Rattle.kt_kept_files.specs.NamedFiles.{FileMap}
 use Rattle.kt_out.specs.OutputFiles.{Appends}
 use Rattle.kt_out.specs.declared.fault.Fault.{Fault}
 

@@ -1,3 +1,2 @@
-pub mod NamedFilesLemmas
 pub mod WritingLemmas
 pub mod AppendingLemmas

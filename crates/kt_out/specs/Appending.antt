@@ -3,7 +3,7 @@
 use Rattle.std.proofs.Common.{refl, sym, ap, ◌∙◌, append_assoc}
 use Rattle.std.proofs.lemmas.List.{append-nil}
 use Rattle.std.specs.Prelude.{◌≡◌, ◌≢◌, ℕ, List, [], ◌∷◌, ◌++◌, Option, None, Some, Result, Ok, Err, IsSomeAnd, unwrap_or}
-use Rattle.kt_out.specs.NamedFiles.{FileMap}
+use Rattle.kt_kept_files.specs.NamedFiles.{FileMap}
 
 -- what a name stands for once a text was added: an empty text adds nothing, not even the name
 abbrev pub lengthened : Option (List ℕ) → List ℕ → Option (List ℕ)

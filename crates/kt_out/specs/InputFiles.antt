@@ -3,8 +3,8 @@ use Rattle.std.specs.Prelude.{◌≡◌, ℕ, ◌-◌, ◌<◌, ◌≤◌, List,
 use Rattle.kt_out.specs.declared.fault.Absent.{Absent}
 use Rattle.kt_out.specs.declared.fault.Absent.TheVariants.{Failed, Missing, OutOfMemory}
 use Rattle.kt_out.specs.declared.fault.Fault.{Fault}
-use Rattle.kt_out.specs.Counts.{one_more, Rose}
-use Rattle.kt_out.specs.NamedFiles.{FileMap}
+use Rattle.kt_kept_files.specs.Counts.{one_more, Rose}
+use Rattle.kt_kept_files.specs.NamedFiles.{FileMap}
 
 -- what each name stands for, where it is known, how many calls have failed, and how many have asked for a name that is not held
 pub record InputsState : Type 0 where

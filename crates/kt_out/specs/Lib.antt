@@ -1,8 +1,9 @@
-pub mod Counts
+pub use Rattle.kt_kept_files.specs.Counts
+pub use Rattle.kt_kept_files.specs.NamedFiles
+pub use Rattle.kt_kept_files.specs.Calls
 pub mod Adapters
 pub mod Reading
 pub mod Writing
-pub mod NamedFiles
 pub mod InputFiles
 pub mod OutputFiles
 pub mod Appending

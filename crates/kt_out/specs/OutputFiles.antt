@@ -1,7 +1,8 @@
 -- Output files as contracts see them, and what their calls leave.
-use Rattle.std.specs.Prelude.{◌≡◌, ◌≢◌, ◌⊎◌, ℕ, List, [], ◌++◌, take, Option, None, Some, Result, Ok, Err, unwrap_or, IsSomeAnd}
-use Rattle.kt_out.specs.Counts.{one_more, Rose}
-use Rattle.kt_out.specs.NamedFiles.{FileMap}
+use Rattle.std.specs.Prelude.{◌≡◌, ◌⊎◌, ℕ, List, [], ◌++◌, take, Option, None, Some, Result, Ok, Err, IsSomeAnd}
+use Rattle.kt_kept_files.specs.Counts.{one_more, Rose}
+use Rattle.kt_kept_files.specs.NamedFiles.{FileMap}
+pub use Rattle.kt_kept_files.specs.NamedFiles.{Sets, written_so_far}
 use Rattle.kt_out.specs.declared.fault.Fault.{Fault}
 use Rattle.kt_out.specs.declared.fault.Fault.TheVariants.{Failed, OutOfMemory}
 
@@ -16,18 +17,9 @@ CountsOutput before now (Ok done) = now ≡ before
 CountsOutput before now (Err Failed) = Rose before now
 CountsOutput before now (Err OutOfMemory) = now ≡ before
 
--- a name stands for these bytes now, and every other name for what it stood for
-pub record Sets (files : FileMap) (name bytes : List ℕ) (now : FileMap) : Type 0 where
-  pub this_name : now name ≡ Some bytes
-  pub other_names : (other : List ℕ) → other ≢ name → now other ≡ files other
-
 -- every name stands for what it stood for
 abbrev pub SameFiles : FileMap → FileMap → Type 0
 SameFiles files now = (name : List ℕ) → now name ≡ files name
-
--- what a name stands for once its file is written on: nothing where it is not held
-abbrev pub written_so_far : FileMap → List ℕ → List ℕ
-written_so_far files name = unwrap_or (files name) []
 
 -- what the making of an empty file did: the files before and after it, the name, and the answer
 abbrev pub Creates : {T E : Type 0} → Option FileMap → Option FileMap → List ℕ → Result T E → Type 0

@@ -1,6 +1,6 @@
 -- A source as contracts see it, and what one read does to it.
 use Rattle.std.specs.Prelude.{◌≡◌, ◌↔◌, ℕ, ◌≤◌, List, [], ◌++◌, length, take, drop, Option, None, Some, Result, Ok, Err}
-use Rattle.kt_out.specs.Counts.{Rose}
+use Rattle.kt_kept_files.specs.Counts.{Rose}
 
 -- the bytes that reads will give from here on, where they are known, and how many reads have failed
 pub record SourceState : Type 0 where

@@ -1,6 +1,6 @@
 -- A sink as contracts see it, and what writes do to it.
 use Rattle.std.specs.Prelude.{◌≡◌, ℕ, ◌≤◌, List, ◌++◌, length, take, Option, None, Some, Result, Ok, Err}
-use Rattle.kt_out.specs.Counts.{Rose}
+use Rattle.kt_kept_files.specs.Counts.{Rose}
 use Rattle.kt_out.specs.declared.fault.Fault.{Fault}
 use Rattle.kt_out.specs.declared.fault.Fault.TheVariants.{Failed, OutOfMemory}
 

@@ -1,11 +1,8 @@
 //! The objects in memory, for tests and for what is made inside the program.
-mod calls;
-mod files;
 mod mem_inputs;
 mod mem_outputs;
 mod mem_sink;
 mod mem_source;
-mod named_bytes;
 mod sure_inputs;
 mod sure_outputs;
 mod sure_sink;

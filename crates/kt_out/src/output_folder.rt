@@ -3,7 +3,7 @@ ghost use Rattle.std.specs.Prelude.{◌<◌, ◌≤◌, length, IfOk, IfSome};
 
 use crate::Fault;
 use crate::std_streams::write_some;
-use std::alloc::{AllocError, Global};
+use std::alloc::Global;
 use std::fs::{File, Files, OpenOptions};
 use std::io::ErrorKind;
 use std::{fs, io};
@@ -100,19 +100,11 @@ fn place_of<F: Drop>(files: &[OpenOutput<F>], name: &[u8]) -> Option<usize>
     files.iter().position(|file| file.name.as_slice() == name)
 }
 
-// The path of a file of the folder. A name that is no text is a fault.
+// The path of a file of the folder: the folder, a slash and the name. A name that is no text is a fault.
 fn path_of(alloc: Global, name: &[u8]) -> Result<String, Fault> {
     let Ok(name) = str::from_utf8(name) else {
         return Err(Fault::Failed);
     };
-    match joined_path(alloc, name) {
-        Ok(path) => Ok(path),
-        Err(_) => Err(Fault::OutOfMemory),
-    }
-}
-
-// The folder, a slash and a name. The error is want of memory.
-fn joined_path(alloc: Global, name: &str) -> Result<String, AllocError> {
     let mut path = String::new(alloc);
     path.push_str(FOLDER)?;
     path.push_str("/")?;

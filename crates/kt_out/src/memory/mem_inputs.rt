@@ -1,13 +1,13 @@
 //! Input files in memory that fail in the calls that they are told to.
 ghost use Rattle.std.specs.Prelude.{◌≡◌, ◌<◌, ◌≤◌, ◌++◌, ◌∷◌, [], Some, length, OnErr, OnOk};
 ghost use Rattle.kt_out.specs.InputFiles.{InFile, ReadsAt};
-ghost use Rattle.kt_out.specs.MemoryObjects.{IsReadOrMemory, after_read, after_size, fails_next, no_calls, read_or_fault, size_or_fault};
-ghost use Rattle.kt_out.specs.NamedFiles.{bytes_of, with_file};
+ghost use Rattle.kt_kept_files.specs.Calls.{fails_next, no_calls};
+ghost use Rattle.kt_out.specs.MemoryObjects.{IsReadOrMemory, after_read, after_size, read_or_fault, size_or_fault};
+ghost use Rattle.kt_kept_files.specs.NamedFiles.{bytes_of, with_file};
 ghost use Rattle.kt_out.specs.OutputFiles.{Sets};
 
-use super::calls::{Calls, moved_bytes};
-use super::files::Files;
 use crate::{Absent, Fault, InputCall, Inputs};
+use kt_kept_files::{Calls, Files, moved_bytes};
 use kt_rec::Name;
 use std::alloc::{AllocError, Global};
 use std::marker::Model;
@@ -71,7 +71,7 @@ impl MemInputs {
     }
 
     /// Makes the name stand for these bytes, whatever it stood for.
-    #[tactic(auto, using(crate::proofs::NamedFilesLemmas::file_names))]
+    #[tactic(auto, using(kt_kept_files::proofs::NamedFilesLemmas::file_names))]
     pub fn add(&mut self, name: &[u8], bytes: &[u8]) -> Result<(), AllocError>
         ensures ok { OnOk result (Sets (bytes_of self.old.files) name.now bytes.now (bytes_of self.new.files)) }
         ensures exact { OnOk result (self.new ≡ record self.old { files = with_file self.old.files name.now bytes.now }) }

@@ -1,13 +1,13 @@
 //! Output files in memory that fail in the calls that they are told to.
 ghost use Rattle.std.specs.Prelude.{◌≡◌, ◌↔◌, ◌<◌, ◌≤◌, ◌++◌, [], Some, length, min, slice_get, take, IfOk, IsErrOf, IsTrue, OnErr, OnOk};
 ghost use Rattle.std.specs.Option.{option_copied, option_map};
-ghost use Rattle.kt_out.specs.MemoryObjects.{after_call, fails_next, no_calls, outputs_state};
-ghost use Rattle.kt_out.specs.NamedFiles.{bytes_of, with_file, HaveDistinctNames};
+ghost use Rattle.kt_kept_files.specs.Calls.{after_call, fails_next, no_calls};
+ghost use Rattle.kt_out.specs.MemoryObjects.{outputs_state};
+ghost use Rattle.kt_kept_files.specs.NamedFiles.{bytes_of, with_file, HaveDistinctNames};
 ghost use Rattle.kt_out.specs.OutputFiles.{Appends, Creates, CountsOutput, written_so_far};
 
-use super::calls::{Calls, moved_bytes};
-use super::files::Files;
 use crate::{Fault, Outputs};
+use kt_kept_files::{Calls, Files, moved_bytes};
 use std::alloc::Global;
 use std::marker::Model;
 

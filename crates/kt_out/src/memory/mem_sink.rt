@@ -1,10 +1,11 @@
 //! A sink in memory that fails in the calls that it is told to.
 ghost use Rattle.std.specs.Prelude.{◌≡◌, ◌↔◌, ◌<◌, ◌≤◌, [], length, min, IfOk, IsErrOf, IsTrue};
-ghost use Rattle.kt_out.specs.MemoryObjects.{fails_next, after_call, no_calls, sink_state};
+ghost use Rattle.kt_kept_files.specs.Calls.{fails_next, after_call, no_calls};
+ghost use Rattle.kt_out.specs.MemoryObjects.{sink_state};
 ghost use Rattle.kt_out.specs.Writing.{Writes};
 
-use super::calls::{Calls, moved_bytes};
 use crate::{Fault, Sink};
+use kt_kept_files::{Calls, moved_bytes};
 use std::alloc::Global;
 use std::marker::Model;
 

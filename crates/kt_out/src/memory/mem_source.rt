@@ -1,10 +1,11 @@
 //! A source in memory that fails in the calls that it is told to.
 ghost use Rattle.std.specs.Prelude.{◌≡◌, ◌↔◌, ◌<◌, ◌≤◌, length, min, IfOk, IsErr, IsTrue, OnErr};
-ghost use Rattle.kt_out.specs.MemoryObjects.{fails_next, after_call, no_calls, source_state};
+ghost use Rattle.kt_kept_files.specs.Calls.{fails_next, after_call, no_calls};
+ghost use Rattle.kt_out.specs.MemoryObjects.{source_state};
 ghost use Rattle.kt_out.specs.Reading.{Reads};
 
-use super::calls::{Calls, moved_bytes};
 use crate::{Failed, Source};
+use kt_kept_files::{Calls, moved_bytes};
 use std::marker::Model;
 
 /// A source in memory. It fails in listed calls, and one call moves a limited number of bytes.

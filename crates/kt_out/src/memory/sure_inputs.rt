@@ -1,13 +1,13 @@
 //! Input files in memory that never fail.
 ghost use Rattle.std.specs.Prelude.{◌≡◌, ◌-◌, ◌<◌, ◌≤◌, [], Ok, Some, length, min, ok_or, is_some, if◌then◌else◌, unwrap_or, OnErr, OnOk};
 ghost use Rattle.std.specs.Option.{option_map};
-ghost use Rattle.kt_out.specs.Counts.{one_more};
+ghost use Rattle.kt_kept_files.specs.Counts.{one_more};
 ghost use Rattle.kt_out.specs.InputFiles.{InFile, ReadsAt};
-ghost use Rattle.kt_out.specs.NamedFiles.{bytes_of, with_file};
+ghost use Rattle.kt_kept_files.specs.NamedFiles.{bytes_of, with_file};
 ghost use Rattle.kt_out.specs.OutputFiles.{Sets};
 
-use super::files::Files;
 use crate::{Absent, Fault, Inputs};
+use kt_kept_files::Files;
 use std::alloc::{AllocError, Global};
 use std::marker::Model;
 
@@ -38,7 +38,7 @@ impl SureInputs {
     }
 
     /// Makes the name stand for these bytes, whatever it stood for.
-    #[tactic(auto, using(crate::proofs::NamedFilesLemmas::file_names))]
+    #[tactic(auto, using(kt_kept_files::proofs::NamedFilesLemmas::file_names))]
     pub fn add(&mut self, name: &[u8], bytes: &[u8]) -> Result<(), AllocError>
         ensures ok { OnOk result (Sets (bytes_of self.old.files) name.now bytes.now (bytes_of self.new.files)) }
         ensures exact { OnOk result (self.new ≡ record self.old { files = with_file self.old.files name.now bytes.now }) }

@@ -1,11 +1,11 @@
 //! Output files in memory that never fail.
 ghost use Rattle.std.specs.Prelude.{◌≡◌, ◌<◌, ◌++◌, [], Some, length, slice_get, IfErr, IfOk, OnErr, OnOk};
 ghost use Rattle.std.specs.Option.{option_copied, option_map};
-ghost use Rattle.kt_out.specs.NamedFiles.{bytes_of, with_file, HaveDistinctNames};
+ghost use Rattle.kt_kept_files.specs.NamedFiles.{bytes_of, with_file, HaveDistinctNames};
 ghost use Rattle.kt_out.specs.OutputFiles.{Appends, Creates, written_so_far};
 
-use super::files::Files;
 use crate::{Fault, Outputs};
+use kt_kept_files::Files;
 use std::alloc::Global;
 use std::marker::Model;
 
@@ -18,7 +18,7 @@ pub struct SureOutputs {
 
 impl Model for SureOutputs {
     ghost use Rattle.std.specs.Prelude.{List};
-    ghost use Rattle.kt_out.specs.NamedFiles.{File};
+    ghost use Rattle.kt_kept_files.specs.NamedFiles.{File};
 
     ghost Value = { List File };
 
@@ -68,7 +68,7 @@ impl Outputs for SureOutputs {
     }
 
     /// Makes the name stand for no bytes; its only error is want of memory.
-    #[tactic(auto, using(crate::proofs::NamedFilesLemmas::file_names))]
+    #[tactic(auto, using(kt_kept_files::proofs::NamedFilesLemmas::file_names))]
     fn create(&mut self, name: &[u8]) -> Result<(), Fault>
         ensures ok { Creates (Some (bytes_of self.old)) (Some (bytes_of self.new)) name.now result }
         ensures exact { OnOk result (self.new ≡ with_file self.old name.now []) }
@@ -82,7 +82,7 @@ impl Outputs for SureOutputs {
     }
 
     /// Adds the whole piece; its only error is want of memory.
-    #[tactic(auto, using(crate::proofs::NamedFilesLemmas::file_names))]
+    #[tactic(auto, using(kt_kept_files::proofs::NamedFilesLemmas::file_names))]
     fn append(&mut self, name: &[u8], piece: &[u8]) -> Result<usize, Fault>
         requires { 0 < length piece.now }
 

@@ -1,6 +1,6 @@
 use Rattle.std.proofs.Common.{length, arith}
 use Rattle.std.proofs.lemmas.List.{take_all}
-use Rattle.kt_out.proofs.NamedFilesLemmas.{Sets-changed}
+use Rattle.kt_kept_files.proofs.NamedFilesLemmas.{Sets-changed}
 use Rattle.kt_counted.proofs.counted_outputs.CountedOutputsOutputs.append.Goals as goal
 
 pub returns-clause-moved : goal.returns-clause-moved

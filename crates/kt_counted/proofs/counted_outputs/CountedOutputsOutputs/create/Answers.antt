@@ -1,4 +1,4 @@
-use Rattle.kt_out.proofs.NamedFilesLemmas.{Sets-changed}
+use Rattle.kt_kept_files.proofs.NamedFilesLemmas.{Sets-changed}
 use Rattle.kt_counted.proofs.counted_outputs.CountedOutputsOutputs.create.Goals as goal
 
 pub returns-clause-ok : goal.returns-clause-ok

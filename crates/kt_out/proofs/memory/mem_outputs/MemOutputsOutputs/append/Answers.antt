@@ -1,4 +1,4 @@
-use Rattle.kt_out.proofs.NamedFilesLemmas.{Sets-changed}
+use Rattle.kt_kept_files.proofs.NamedFilesLemmas.{Sets-changed}
 use Rattle.kt_out.proofs.memory.mem_outputs.MemOutputsOutputs.append.Goals as goal
 
 pub returns-clause-moved : goal.returns-clause-moved

@@ -1,4 +1,4 @@
-use Rattle.kt_out.proofs.NamedFilesLemmas.{Sets-changed}
+use Rattle.kt_kept_files.proofs.NamedFilesLemmas.{Sets-changed}
 use Rattle.kt_out.proofs.memory.sure_outputs.SureOutputsOutputs.create.Goals as goal
 
 pub returns-clause-ok : goal.returns-clause-ok

@@ -13,7 +13,7 @@ pub struct NamedBytes {
 }
 
 impl Model for NamedBytes {
-    ghost use Rattle.kt_out.specs.NamedFiles.{File};
+    ghost use Rattle.kt_kept_files.specs.NamedFiles.{File};
 
     ghost Value = { File };
 

@@ -1,10 +1,10 @@
 -- The changed list has distinct names, as the list before it has.
 use Rattle.std.proofs.Common.{◌≡◌, ◌++◌, slice_set, arith}
 use Rattle.std.proofs.lemmas.Grind.{common_steps}
-use Rattle.kt_out.specs.NamedFiles.{bytes_of, with_file}
-use Rattle.kt_out.specs.OutputFiles.{written_so_far}
-use Rattle.kt_out.proofs.NamedFilesLemmas.{HaveDistinctNames-with_file, file_changes}
-use Rattle.kt_out.proofs.memory.files.Files.append.Goals as goal
+use Rattle.kt_kept_files.specs.NamedFiles.{bytes_of, with_file}
+use Rattle.kt_kept_files.specs.NamedFiles.{written_so_far}
+use Rattle.kt_kept_files.proofs.NamedFilesLemmas.{HaveDistinctNames-with_file, file_changes}
+use Rattle.kt_kept_files.proofs.files.Files.append.Goals as goal
 
 pub invariant_of-self : goal.invariant_of-self
 invariant_of-self c =

@@ -1,6 +1,6 @@
 //! The calls of an object in memory: which of them fail, and how many bytes one moves.
 ghost use Rattle.std.specs.Prelude.{◌≡◌, ◌<◌, ◌≤◌, min};
-ghost use Rattle.kt_out.specs.MemoryObjects.{fails_next, after_call, after_pass, no_calls};
+ghost use Rattle.kt_kept_files.specs.Calls.{fails_next, after_call, after_pass, no_calls};
 
 use std::marker::Model;
 
@@ -15,7 +15,7 @@ pub struct Calls {
 
 impl Model for Calls {
     ghost use Rattle.std.specs.Prelude.{◌<◌};
-    ghost use Rattle.kt_out.specs.MemoryObjects.{CallsSoFar};
+    ghost use Rattle.kt_kept_files.specs.Calls.{CallsSoFar};
 
     ghost Value = { CallsSoFar };
 

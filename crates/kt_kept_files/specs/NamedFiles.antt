@@ -1,5 +1,5 @@
 -- Files by name: a map from names to bytes, and a list of named files in the order in which they came.
-use Rattle.std.specs.Prelude.{◌≡◌, ℕ, ◌<◌, List, [], ◌∷◌, length, slice_index_or, true, false, if◌then◌else◌, Option, None, Some}
+use Rattle.std.specs.Prelude.{◌≡◌, ◌≢◌, ℕ, ◌<◌, List, [], ◌∷◌, length, slice_index_or, true, false, if◌then◌else◌, Option, None, Some, unwrap_or}
 use Rattle.std.specs.Str.{bytes_eq}
 
 -- what each name stands for, and None where it is not held
@@ -10,6 +10,15 @@ FileMap = List ℕ → Option (List ℕ)
 pub record File : Type 0 where
   pub name : List ℕ
   pub bytes : List ℕ
+
+-- a name stands for these bytes now, and every other name for what it stood for
+pub record Sets (files : FileMap) (name bytes : List ℕ) (now : FileMap) : Type 0 where
+  pub this_name : now name ≡ Some bytes
+  pub other_names : (other : List ℕ) → other ≢ name → now other ≡ files other
+
+-- what a name stands for once its file is written on: nothing where it is not held
+abbrev pub written_so_far : FileMap → List ℕ → List ℕ
+written_so_far files name = unwrap_or (files name) []
 
 -- the bytes of the first file with a name
 abbrev pub bytes_of : List File → FileMap

@@ -3,8 +3,8 @@ use Rattle.std.proofs.Common.{◌≡◌, ◌≢◌, ◌⊎◌, ℕ, zero, suc, L
 use Rattle.std.proofs.lemmas.Bool.{false≢true, cases_Bool}
 use Rattle.std.specs.Str.{bytes_eq}
 use Rattle.std.proofs.lemmas.Slice.Eq.{bytes_eq-Decides}
-use Rattle.kt_out.specs.NamedFiles.{File, bytes_of, with_file, HaveDistinctNames, IsNewName, IsPlaceOf}
-use Rattle.kt_out.specs.OutputFiles.{Sets}
+use Rattle.kt_kept_files.specs.NamedFiles.{File, bytes_of, with_file, HaveDistinctNames, IsNewName, IsPlaceOf}
+use Rattle.kt_kept_files.specs.NamedFiles.{Sets}
 
 -- a file with a name and some bytes
 abbrev pub file_with : List ℕ → List ℕ → File

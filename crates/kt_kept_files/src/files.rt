@@ -1,10 +1,10 @@
 //! Files in memory: a list of names and their bytes, in the order in which the names came.
 ghost use Rattle.std.specs.Prelude.{◌≡◌, ◌<◌, ◌++◌, [], Some, length, slice_get, MatchOption, OnErr, OnOk};
 ghost use Rattle.std.specs.Option.{option_copied, option_map};
-ghost use Rattle.kt_out.specs.NamedFiles.{bytes_of, with_file, HaveDistinctNames, IsNewName, IsPlaceOf};
-ghost use Rattle.kt_out.specs.OutputFiles.{written_so_far};
+ghost use Rattle.kt_kept_files.specs.NamedFiles.{bytes_of, with_file, HaveDistinctNames, IsNewName, IsPlaceOf};
+ghost use Rattle.kt_kept_files.specs.NamedFiles.{written_so_far};
 
-use super::named_bytes::NamedBytes;
+use crate::named_bytes::NamedBytes;
 use std::alloc::{AllocError, Global};
 use std::marker::Model;
 
@@ -17,7 +17,7 @@ pub struct Files {
 
 impl Model for Files {
     ghost use Rattle.std.specs.Prelude.{List};
-    ghost use Rattle.kt_out.specs.NamedFiles.{File, HaveDistinctNames};
+    ghost use Rattle.kt_kept_files.specs.NamedFiles.{File, HaveDistinctNames};
 
     ghost Value = { List File };
 
