@@ -11,5 +11,6 @@ pub mod TotalLemmas
 pub mod WithinLemmas
 pub mod OrderLemmas
 pub mod OutletLemmas
+pub mod SlotLemmas
 pub mod StruckLemmas
 pub mod IndexLemmas

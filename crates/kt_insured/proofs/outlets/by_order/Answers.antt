@@ -1,0 +1,18 @@
+use Rattle.std.proofs.Common.{◌∙◌, List, ap, sym, slice_get}
+use Rattle.kt_insured.specs.declared.outlets.Outlet.{Outlet}
+use Rattle.kt_insured.specs.Outlets.{found}
+use Rattle.kt_insured.proofs.IndexLemmas.{first-found}
+use Rattle.kt_insured.proofs.outlets.by_order.Goals as goal
+
+pub returns : goal.returns
+returns c = record {
+  value = record {
+    rises = c.in_ok-kept.ensures.value.rises;
+    same = λ id.
+        c.in_ok-kept.ensures.value.same id
+        ∙ (ap (found id) c.as_slice.ensures.value
+        ∙ (sym (first-found (λ (outlet : Outlet). outlet.id) id c.in_ok-sorted.sorted)
+        ∙ (ap (λ (rows : List Outlet). slice_get rows 0) (c.in_ok-sorted.ensures.kept id)
+        ∙ first-found (λ (outlet : Outlet). outlet.id) id c.args.outlets.items)));
+  };
+}
