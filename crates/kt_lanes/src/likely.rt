@@ -68,7 +68,7 @@ fn floats_of_sums(first: &[u64], second: &[u64], at: usize) -> f64x4
 fn rounded_down(x: f64x4) -> u64x4 {
     let raise = f64x4::splat(RAISE);
     let raised = x + raise;
-    let bits = raised.simd_ge(raise).select(raised, raise).to_bits();
+    let bits = raised.simd_gt(raise).select(raised, raise).to_bits();
     (bits >> u64x4::splat(FRACTION_BITS)) & u64x4::splat(NARROW - 1)
 }
 

@@ -53,7 +53,7 @@ pub(crate) const LIFT: f64 = 4_503_599_627_370_496.0;
 fn at_least_lift(x: f64) -> f64
     ensures number { is_nan result ≡ false }
 {
-    if x >= LIFT { x } else { LIFT }
+    if x > LIFT { x } else { LIFT }
 }
 
 /// A number from 0 to 2^51, to the nearest whole number; of any other, some number. Where 2^52 is added to it, the whole number
