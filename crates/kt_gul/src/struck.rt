@@ -72,7 +72,7 @@ pub(crate) fn struck_items(
     ensures value { IfOk result (λ struck. AreStruck portfolio.now.rows cdfs.now (length cdfs.now) struck.items) }
 {
     portfolio.is_valid();
-    let mut struck = Vec::new(alloc);
+    let mut struck = Vec::with_capacity(alloc, cdfs.len())?;
     for (place, cdf) in cdfs.iter().enumerate() {
         let moments = damage_moments(cdf.bins());
         let items = portfolio.items_of(cdf.areaperil(), cdf.vulnerability());

@@ -108,6 +108,15 @@ fn steps_of(
     Ok(steps)
 }
 
+/// As many steps as distributions have at the most: one for each bin, and one behind them.
+fn most_steps(cdfs: &[HeldCdf<'_>]) -> usize {
+    let mut most = cdfs.len();
+    for cdf in cdfs {
+        most = most.saturating_add(cdf.bins().len());
+    }
+    most
+}
+
 /// The steps of distributions, in their order. An error is want of memory.
 pub(crate) fn tables_of(
     alloc: Global,
@@ -119,7 +128,7 @@ pub(crate) fn tables_of(
     ensures value { IfOk result (λ all. AreTables dictionary.now cdfs.now (length cdfs.now) all.tables.items all.steps.items) }
 {
     let mut tables = Vec::with_capacity(alloc, cdfs.len())?;
-    let mut steps = Vec::new(alloc);
+    let mut steps = Vec::with_capacity(alloc, most_steps(cdfs))?;
     let mut own = Vec::new(alloc);
     for cdf in cdfs {
         own = steps_of(dictionary, cdf.bins(), own)?;

@@ -47,7 +47,7 @@ fn layers_by_top(alloc: Global, programme: &Programme) -> Result<Vec<TopLayer>, 
     ensures value { IfOk result (λ found. found.items ≡ layers_from programme.now.layers 0 programme.now.tops) }
 {
     let tops = programme.tops();
-    let mut found = Vec::new(alloc);
+    let mut found = Vec::with_capacity(alloc, tops.len())?;
     for (place, top) in tops.iter().enumerate() {
         let node = place as u32;
         push_layers(node, *top, programme.layers(node), &mut found)?;

@@ -84,7 +84,7 @@ impl<'a> Plan<'a> {
         ensures below { IfOk result (λ made. made.1.items ≡ flat_map (kids self.now level) units.now) }
     {
         let mut nodes = Vec::with_capacity(alloc, units.len())?;
-        let mut below = Vec::with_capacity(alloc, units.len())?;
+        let mut below = Vec::with_capacity(alloc, self.links.as_slice().len())?;
         let mut near = 0;
         for unit in units {
             self.push_unit(alloc, level, *unit, &mut near, &mut nodes, &mut below)?;

@@ -8,7 +8,7 @@ use Rattle.kt_gul.proofs.StruckLemmas.{struck_none, struck_more}
 use Rattle.kt_gul.proofs.struck.struck_items.Goals as goal
 
 pub loop-place-init : goal.loop-place-init
-loop-place-init c = subst (λ (struck : List StruckItem). AreStruck c.args.portfolio.now.rows c.args.cdfs.now 0 struck) (sym c.new-struck.ensures.items) (struck_none c.args.portfolio.now.rows c.args.cdfs.now)
+loop-place-init c = subst (λ (struck : List StruckItem). AreStruck c.args.portfolio.now.rows c.args.cdfs.now 0 struck) (sym c.in_ok-struck.ensures.items) (struck_none c.args.portfolio.now.rows c.args.cdfs.now)
 
 pub loop-place-preserved : goal.loop-place-preserved
 loop-place-preserved c =
