@@ -6,3 +6,4 @@ pub mod SumsLemmas
 pub mod RunSumsLemmas
 pub mod LaneSumsLemmas
 pub mod SetSumsLemmas
+pub mod TotalLemmas

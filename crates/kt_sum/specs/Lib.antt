@@ -1,5 +1,6 @@
 pub mod Summaries
 pub mod Adding
 pub mod RunSummaries
+pub mod Totals
 pub mod SetSums
 pub mod Examples

@@ -12,6 +12,7 @@ mod set_run;
 mod set_sums;
 mod span;
 mod summary_sums;
+mod totals;
 
 pub use lanes::summarise_sets;
 pub use run::summarise;

@@ -1,4 +1,4 @@
-use Rattle.std.proofs.Common.{◌≡◌, ◌+◌, ◌∙◌, ℕ, List, length, ap, sym, subst, arith}
+use Rattle.std.proofs.Common.{◌≡◌, ◌+◌, ◌∙◌, ℕ, Bool, List, cond, length, take, ap, sym, subst, arith}
 use Rattle.std.specs.Prelude.{All}
 use Rattle.std.specs.List.{filter_map}
 use Rattle.std.proofs.lemmas.List.{take_all}
@@ -34,7 +34,7 @@ returns c =
     let exposure = exposure_of c.args.perspective rows rule it.set in
     let there = found_there find it.summaries.items it.found.items records c.requires.all.found c.requires.ready.there in
     let are = subst (λ (n : ℕ). All (IsSumOf 2147483646 n find records) it.rows.items) (wide c.args.losses.now.rows samples c.requires.rows)
-    (subst (λ (done : List LossRecord). All (IsSumOf 2147483646 (c.args.losses.now.rows + 2) find done) it.rows.items) (take_all (length records) records (omega arith)) c.requires.all.sums) in
+    (subst (λ (done : List LossRecord). All (IsSumOf 2147483646 (c.args.losses.now.rows + 2) find done) it.rows.items) (ap (λ (b : Bool). take (cond b 0 (length records)) records) c.requires.done ∙ take_all (length records) records (omega arith)) c.requires.all.sums) in
     let made : c.from_vec.result ≡ run_summaries c.args.perspective rows rule it.set records =
     c.from_vec.ensures.value ∙ (c.in_ok-made.ensures.value ∙ (ap (λ (rows : List SummarySums). filter_map (record_of c.first_event.result exposure 2147483646) rows) c.deref.ensures.value
     ∙ run_records find exposure records 2147483646 (samples + 3) (stream_places samples records c.requires.samples c.requires.losses) c.first_event.result c.first_event.ensures.value it.summaries.items c.requires.ready.rising there it.rows.items c.requires.ready.rows_are are)) in
