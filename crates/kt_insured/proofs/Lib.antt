@@ -11,6 +11,5 @@ pub mod TotalLemmas
 pub mod WithinLemmas
 pub mod OrderLemmas
 pub mod OutletLemmas
-pub mod SlotLemmas
 pub mod StruckLemmas
 pub mod IndexLemmas

@@ -1,5 +1,5 @@
 -- The worked examples of docs/FINANCIAL_MODULE.md on insured losses, by computing.
-use Rattle.std.specs.Prelude.{◌≡◌, ℕ, pos, List, [], ◌∷◌, None, Some}
+use Rattle.std.specs.Prelude.{◌≡◌, ℕ, pos, List, [], ◌∷◌}
 use Rattle.std.proofs.Common.{refl}
 use Rattle.kt_rec.specs.declared.financial.FmXref.{FmXref}
 use Rattle.kt_rules.specs.Rules.{rule_of}
@@ -8,9 +8,7 @@ use Rattle.kt_tree.specs.Programme.{tree_of}
 use Rattle.kt_tree.specs.ExampleRows.{two_layers, given_back}
 use Rattle.kt_shares.specs.Shares.{taken_loss}
 use Rattle.kt_insured.specs.Insured.{insured_records, layer_sums}
-use Rattle.kt_insured.specs.Outlets.{firsts_from}
 use Rattle.kt_insured.specs.Whole.{outputs_loss, records_loss}
-use Rattle.kt_insured.specs.declared.outlets.Outlet.{Outlet}
 
 -- a row of the outputs
 abbrev output : ℕ → ℕ → ℕ → FmXref
@@ -64,11 +62,3 @@ first_records = refl
 back : insured_records (tree_of given_back 0) 2 1 item_outputs (sampled 1 5000 ∷ sampled 2 5000 ∷ []) ≡ sampled 1 3500 ∷ sampled 3 3500 ∷ []
 unfolding given_back item_outputs sampled rule_of
 back = refl
-
--- an output with a place in a row of shares
-abbrev outlet : ℕ → ℕ → Outlet
-outlet id place = record { id = id; place = place }
-
--- of the outputs 3 to 5 the first places: 5 comes before 3, and twice; 4 does not come
-first_places : firsts_from 3 3 (outlet 5 0 ∷ outlet 3 1 ∷ outlet 5 2 ∷ []) ≡ Some (outlet 3 1) ∷ None ∷ Some (outlet 5 0) ∷ []
-first_places = refl

@@ -1,6 +1,5 @@
 -- Outlets by rising id, each id once.
-use Rattle.std.specs.Prelude.{◌≡◌, ℕ, ◌+◌, ◌<◌, ◌≤◌, nat_eq, List, Option, map}
-use Rattle.std.specs.List.{AllByRecursion, range_with_len}
+use Rattle.std.specs.Prelude.{◌≡◌, ℕ, nat_eq, List, Option, map}
 use Rattle.std.specs.Map.{lookup}
 use Rattle.kt_rec.specs.Rising.{IsRising}
 use Rattle.kt_insured.specs.declared.outlets.Outlet.{Outlet}
@@ -13,11 +12,3 @@ found id outlets = lookup (nat_eq id) (map (λ outlet. (outlet.id, outlet)) outl
 pub record AreFirsts (outlets kept : List Outlet) : Type 0 where
   pub rises : IsRising (map (λ outlet. outlet.id) kept)
   pub same : (id : ℕ) → found id kept ≡ found id outlets
-
--- the ids of outlets are among so many from a least one on
-abbrev pub AreWithin : ℕ → ℕ → List Outlet → Type 0
-AreWithin least count outlets = AllByRecursion (λ outlet. (least ≤ outlet.id) × (outlet.id < least + count)) outlets
-
--- the first outlet of each of so many ids from a least one on
-abbrev pub firsts_from : ℕ → ℕ → List Outlet → List (Option Outlet)
-firsts_from least count outlets = map (λ id. found id outlets) (range_with_len least count)
