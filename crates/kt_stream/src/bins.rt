@@ -33,10 +33,7 @@ fn bin_at(left: u32, before: u64, bytes: &[u8], at: u64) -> Read<Bin, Misfit>
     }
     let prob_to = u64_of(bytes);
     let low = lowest_of(left, before);
-    let wrong = Misfit {
-        at,
-        cause: RecordCause::Prob,
-    };
+    let wrong = Misfit::new(at, RecordCause::Prob);
     if let Some(misfit) = outside(low, 1_002_001_000_000, wrong, prob_to) {
         return Read::Wrong(misfit);
     }
@@ -44,10 +41,7 @@ fn bin_at(left: u32, before: u64, bytes: &[u8], at: u64) -> Read<Bin, Misfit>
         return Read::Short;
     }
     let mean = u32_of(&bytes[8..]);
-    let wrong = Misfit {
-        at: at + 8,
-        cause: RecordCause::Mean,
-    };
+    let wrong = Misfit::new(at + 8, RecordCause::Mean);
     if let Some(misfit) = outside(0, 1_000_000, wrong, mean as u64) {
         return Read::Wrong(misfit);
     }

@@ -65,10 +65,7 @@ fn front_at(most: u32, bytes: &[u8], at: u64) -> Read<CdfFront, Misfit>
         return Read::Short;
     }
     let bins = u32_of(&bytes[12..]);
-    let wrong = Misfit {
-        at: at + 12,
-        cause: RecordCause::Bins,
-    };
+    let wrong = Misfit::new(at + 12, RecordCause::Bins);
     if let Some(misfit) = outside(1, most_bins(most), wrong, bins as u64) {
         return Read::Wrong(misfit);
     }

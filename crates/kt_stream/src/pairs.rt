@@ -30,15 +30,7 @@ const LOSS_LIMIT: u64 = 10_000_000_000_000_000;
 pub fn id_fault(at: u64, x: u32) -> Option<Misfit>
     ensures { result ≡ between 1 2147483647 (misfit at Id) x }
 {
-    outside(
-        1,
-        2_147_483_647,
-        Misfit {
-            at,
-            cause: RecordCause::Id,
-        },
-        x as u64,
-    )
+    outside(1, 2_147_483_647, Misfit::new(at, RecordCause::Id), x as u64)
 }
 
 /// The place of a sidx among the whole numbers from -2 up, from 0.
@@ -58,18 +50,12 @@ fn sidx_fault(samples: u32, least: u32, at: u64, word: u32) -> Option<Misfit>
         return outside(
             least as u64,
             samples as u64 + 2,
-            Misfit {
-                at,
-                cause: RecordCause::Sidx,
-            },
+            Misfit::new(at, RecordCause::Sidx),
             order(word) as u64,
         );
     }
     if least == 0 {
-        return Some(Misfit {
-            at,
-            cause: RecordCause::Empty,
-        });
+        return Some(Misfit::new(at, RecordCause::Empty));
     }
     None
 }
@@ -79,25 +65,9 @@ fn loss_fault(word: u32, at: u64, loss: u64) -> Option<Misfit>
     ensures { result ≡ loss_judge word at loss }
 {
     if word == 0 {
-        return outside(
-            0,
-            0,
-            Misfit {
-                at,
-                cause: RecordCause::End,
-            },
-            loss,
-        );
+        return outside(0, 0, Misfit::new(at, RecordCause::End), loss);
     }
-    outside(
-        1,
-        LOSS_LIMIT,
-        Misfit {
-            at,
-            cause: RecordCause::Loss,
-        },
-        loss,
-    )
+    outside(1, LOSS_LIMIT, Misfit::new(at, RecordCause::Loss), loss)
 }
 
 /// Whether this is a pair, and no end pair, with which nothing is wrong. The bounds are compared in place

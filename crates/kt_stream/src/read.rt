@@ -1,5 +1,8 @@
 //! What reading at a place in a stream gives, and what can be wrong with a field.
 //! The rules: docs/STREAMS.md, "Records".
+ghost use Rattle.std.specs.Prelude.{◌≡◌};
+ghost use Rattle.kt_stream.specs.Pairs.{misfit};
+
 use crate::stop::RecordCause;
 
 /// A wrong field of a record: the byte at which it begins, and what is wrong with it.
@@ -9,6 +12,16 @@ pub struct Misfit {
     pub at: u64,
     /// What is wrong with it.
     pub cause: RecordCause,
+}
+
+impl Misfit {
+    /// A field that begins at a byte and is wrong for this cause.
+    #[inline]
+    pub(crate) fn new(at: u64, cause: RecordCause) -> Misfit
+        ensures { result ≡ misfit at cause }
+    {
+        Misfit { at, cause }
+    }
 }
 
 /// A wrong field of a header.

@@ -52,10 +52,7 @@ fn front_at(bytes: &[u8], at: u64) -> Read<SummaryFront, Misfit>
         return Read::Short;
     }
     let exposure = u64_of(&bytes[8..]);
-    let wrong = Misfit {
-        at: at + 8,
-        cause: RecordCause::Exposure,
-    };
+    let wrong = Misfit::new(at + 8, RecordCause::Exposure);
     if let Some(misfit) = outside(0, 100_000_000_000_000, wrong, exposure) {
         return Read::Wrong(misfit);
     }
