@@ -11,6 +11,7 @@ ghost use Rattle.kt_period_cells.specs.Amounts.{amount_at};
 ghost use Rattle.kt_period_cells.specs.SummaryRows.{group_entries, part_entries, IsPart, IsSummary};
 ghost use Rattle.kt_curve.specs.Average.{aal_heading_text, aal_row, aal_rows, average_annual_loss_rows};
 
+use kt_amounts::kind_amounts;
 use kt_money::{Bytes, MeanSd, OutOfMemory, Row, mean_sd};
 use kt_period_cells::{Cells, SetCells, SummaryCells};
 use kt_rec::Perspective;
@@ -61,7 +62,7 @@ fn group_moments(alloc: Global, group: &SummaryCells<'_>, mean: bool) -> Result<
     requires { IsSummary group.now }
     ensures { IfOk result (λ moments. moments ≡ moments_of (if mean then group.now.periods else group.now.periods * group.now.samples) (map (amount_at group.now.maxima (group_entries group.now)) (keys_for group.now.perspective group.now.set group.now.summary (sidx_of_kind mean group.now.samples) group.now.periods))) }
 {
-    let amounts = group.kind_amounts(alloc, mean)?;
+    let amounts = kind_amounts(group, alloc, mean)?;
     let count = count_of(group.periods, group.samples, mean);
     Ok(moments(amounts.as_slice(), count))
 }

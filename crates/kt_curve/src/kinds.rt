@@ -8,6 +8,7 @@ ghost use Rattle.kt_curve.specs.Exceedance.{full_rows, curve_rows};
 
 use crate::average::count_of;
 use crate::exceedance::append_values;
+use kt_amounts::kind_amounts;
 use kt_money::{Bytes, OutOfMemory};
 use kt_period_cells::SummaryCells;
 use std::alloc::Global;
@@ -25,7 +26,7 @@ fn append_kind(
     requires returns { All (λ period. 1 ≤ period) returns.now }
     ensures ok { OnOk result (out.new ≡ out.old ++ curve_rows group.now.summary column (if mean then group.now.periods else group.now.periods * group.now.samples) (map (amount_at group.now.maxima (group_entries group.now)) (keys_for group.now.perspective group.now.set group.now.summary (sidx_of_kind mean group.now.samples) group.now.periods)) returns.now) }
 {
-    let mut values = group.kind_amounts(alloc, mean)?;
+    let mut values = kind_amounts(group, alloc, mean)?;
     let count = count_of(group.periods, group.samples, mean);
     append_values(
         out,

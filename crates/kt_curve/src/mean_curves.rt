@@ -7,6 +7,7 @@ ghost use Rattle.kt_period_cells.specs.SummaryRows.{group_entries, IsSummary};
 ghost use Rattle.kt_curve.specs.Exceedance.{curve_rows, period_means};
 
 use crate::exceedance::append_values;
+use kt_amounts::add_periods;
 use kt_money::{Bytes, OutOfMemory, div_half_up};
 use kt_period_cells::SummaryCells;
 use std::alloc::Global;
@@ -75,6 +76,6 @@ pub(crate) fn append_period_means(
 {
     let mut zeros = vec![in alloc; 0u128; group.periods as usize]?;
     let sums = zeros.as_mut_slice();
-    group.add_periods(sums);
+    add_periods(group, sums);
     append_means(out, alloc, group, sums, returns)
 }

@@ -4,8 +4,9 @@ ghost use Rattle.std.specs.Prelude.{◌≡◌, ◌≤◌, IfOk, IfSome};
 ghost use Rattle.kt_period_cells.specs.Amounts.{amounts_of, of_sample};
 ghost use Rattle.kt_period_cells.specs.SummaryRows.{group_entries, IsSummary};
 
+use kt_amounts::{AmountList, samples_down};
 use kt_money::OutOfMemory;
-use kt_period_cells::{AmountList, SummaryCells};
+use kt_period_cells::SummaryCells;
 use std::alloc::Global;
 use std::marker::Model;
 
@@ -25,7 +26,7 @@ pub(crate) struct SampleAmounts<'a> {
 }
 
 impl<'a> Model for SampleAmounts<'a> {
-    ghost use Rattle.kt_period_cells.specs.Amounts.{AreSamplesDown};
+    ghost use Rattle.kt_amounts.specs.AmountLists.{AreSamplesDown};
     ghost use Rattle.kt_period_cells.specs.SummaryRows.{group_entries};
     ghost use Rattle.kt_period_cells.specs.declared.group.SummaryCells.{SummaryCells};
 
@@ -76,7 +77,7 @@ impl<'a> SampleAmounts<'a> {
             .saturating_add(AT_ONCE - 1)
             .min(self.cells.samples)
             .max(sample);
-        let mut lists = self.cells.samples_down(alloc, last, last - sample + 1)?;
+        let mut lists = samples_down(&self.cells, alloc, last, last - sample + 1)?;
         let Some(found) = lists.pop() else {
             unreachable!()
         };

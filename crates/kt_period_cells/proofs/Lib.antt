@@ -14,9 +14,9 @@ pub mod Spots
 pub mod Parts
 pub mod SetEntries
 pub mod SetRows
-pub mod RowAmounts
-pub mod ListsOfSamples
+pub mod ListEdits
 pub mod RoomLemmas
 pub mod SameLosses
 pub mod RaisedRows
 pub mod IdLists
+pub mod FreshRows

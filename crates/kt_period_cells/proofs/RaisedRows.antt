@@ -54,7 +54,7 @@ wide_length samples [] some wide = absurd (omega (arith, some))
 wide_length samples (x ∷ cs) some wide = wide
 
 -- a row in place of another that stood in place of a third
-set_again : {X : Type 0} (xs : List X) (i : ℕ) (x y : X) → set (set xs i x) i y ≡ set xs i y
+pub set_again : {X : Type 0} (xs : List X) (i : ℕ) (x y : X) → set (set xs i x) i y ≡ set xs i y
 set_again [] i x y = refl
 set_again (z ∷ xs) zero x y = refl
 set_again (z ∷ xs) (suc i) x y = ap (λ ys. z ∷ ys) (set_again xs i x y)

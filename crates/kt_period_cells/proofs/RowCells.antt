@@ -1,5 +1,5 @@
 -- What is found among the cells of a row, and where the cell of a sample stands.
-use Rattle.std.proofs.Common.{◌≡◌, ◌≢◌, ℕ, zero, suc, ◌<◌, ◌≤◌, [], ◌∷◌, length, get_or, set, arith, refl, sym, ap, ◌∙◌, cond, Result, Ok, Err, Some, None, IfOk, IfErr}
+use Rattle.std.proofs.Common.{◌≡◌, ◌≢◌, ℕ, zero, suc, ◌<◌, ◌≤◌, [], ◌∷◌, length, get_or, set, arith, refl, sym, ap, cond, Result, Ok, Err, Some, None, IfOk, IfErr}
 use Rattle.std.specs.Prelude.{nat_eq}
 use Rattle.std.specs.List.{insert}
 use Rattle.std.specs.List.Sorted.{IsSearchInRange, IsBinarySearchResult, IsNonDecreasingBy}
@@ -8,7 +8,6 @@ use Rattle.std.proofs.lemmas.Cmp.{ranked}
 use Rattle.std.proofs.lemmas.List.Sorted.{IsNonDecreasingBy-from_default}
 use Rattle.std.proofs.lemmas.Bool.Decides.{nat_tests}
 use Rattle.kt_period_cells.specs.declared.cell.Cell.{Cell}
-use Rattle.std.proofs.lemmas.List.{get_or_default}
 use Rattle.kt_period_cells.specs.RowCells.{SampleCells, cell_in, sample_at, IsRising, IsAt, IsGap}
 
 -- no cell

@@ -1,5 +1,5 @@
 -- What an edit of one cell of a row does.
-use Rattle.std.proofs.Common.{◌≡◌, ℕ, zero, suc, ◌+◌, ◌-◌, ◌<◌, ◌≤◌, [], ◌∷◌, length, set, arith, refl, sym, ap, ◌∙◌, subst, cond, Result, Ok, Err, Some, None, Option, OnErr}
+use Rattle.std.proofs.Common.{◌≡◌, ℕ, zero, suc, ◌+◌, ◌-◌, ◌<◌, ◌≤◌, [], ◌∷◌, length, set, arith, sym, ap, ◌∙◌, subst, cond, Result, Ok, Err, Some, None, Option, OnErr}
 use Rattle.std.specs.Prelude.{true, false, nat_eq, nat_le}
 use Rattle.std.specs.List.{insert, remove}
 use Rattle.std.proofs.lemmas.List.Edits.{length-insert, get_or-insert_below, get_or-insert_at, get_or-insert_above, get_or-remove_below, get_or-remove_above, length-remove}

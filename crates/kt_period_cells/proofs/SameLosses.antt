@@ -1,8 +1,10 @@
 -- The losses of a record in another order: row by row in place of pair by pair.
-use Rattle.std.proofs.Common.{◌≡◌, ℕ, zero, suc, ◌+◌, ◌<◌, ◌≤◌, List, [], ◌∷◌, ◌++◌, map, arith, refl, sym, ap, ◌∙◌, append_assoc, cond}
+use Rattle.std.proofs.Common.{◌≡◌, ℕ, zero, suc, ◌+◌, ◌<◌, ◌≤◌, List, [], ◌∷◌, ◌++◌, length, map, take, get_or, arith, refl, sym, ap, ◌∙◌, append_assoc, append-nil, cond}
 use Rattle.std.specs.Prelude.{Bool, true, false, ◌&&◌, not, max, nat_lt, nat_eq, nat_le, Some, None}
 use Rattle.std.specs.List.{flat_map}
 use Rattle.std.proofs.lemmas.List.Sums.{sum_by-cons, sum_by-append}
+use Rattle.std.proofs.lemmas.Grind.{flat_map-append}
+use Rattle.std.proofs.lemmas.List.{take_more}
 use Rattle.std.proofs.lemmas.List.Concat.{flat_map-cons}
 use Rattle.std.proofs.lemmas.Bool.Decides.{nat_tests}
 use Rattle.kt_rec.specs.declared.perspective.Perspective.{Perspective}
@@ -194,6 +196,15 @@ module _ (p : Perspective) (s u : ℕ) where
       rw (flat_map-cons (in_row pairs) spot spots)
       (same_then (in_rows pairs (spot ∷ spots)) (in_row pairs spot ++ in_rows pairs spots) (in_row pairs spot ++ flat_map (in_row pairs) spots) (row_apart spot spots pairs)
       (same_behind (in_row pairs spot) (in_rows pairs spots) (flat_map (in_row pairs) spots) (row_by_row pairs spots)))
+
+  -- those in one row more, behind others
+  pub spots_more : (pairs : List Pair) (spots : List Spot) (i : ℕ) (d : Spot) (before : List KeyLoss) → i < length spots →
+      before ++ flat_map (in_row pairs) (take (i + 1) spots) ≡ (before ++ flat_map (in_row pairs) (take i spots)) ++ in_row pairs (get_or spots i d)
+  spots_more pairs spots i d before within =
+      let spot : Spot = get_or spots i d in
+      ap (λ (xs : List Spot). before ++ flat_map (in_row pairs) xs) (take_more spots i d within)
+      ∙ ap (λ (ls : List KeyLoss). before ++ ls) (flat_map-append (in_row pairs) (take i spots) (spot ∷ []) ∙ ap (λ (ls : List KeyLoss). flat_map (in_row pairs) (take i spots) ++ ls) (flat_map-cons (in_row pairs) spot [] ∙ append-nil (in_row pairs spot)))
+      ∙ sym (append_assoc before (flat_map (in_row pairs) (take i spots)) (in_row pairs spot))
 
 -- ---- no loss is refused where the whole is within the limits
 

@@ -1,9 +1,9 @@
 //! The total and the maximum of one key, which losses are added to them, and why cells refuse a record.
 //! The rules: docs/CALCULATION.md, "Periods".
-ghost use Rattle.std.specs.Prelude.{◌≡◌, Some};
+ghost use Rattle.std.specs.Prelude.{◌≡◌};
 ghost use Rattle.std.specs.List.{list_any};
-ghost use Rattle.kt_period_cells.specs.Amounts.{amount_in, sample_of};
-ghost use Rattle.kt_period_cells.specs.Losses.{is_added, one_if};
+ghost use Rattle.kt_period_cells.specs.Amounts.{sample_of};
+ghost use Rattle.kt_period_cells.specs.Losses.{is_added};
 ghost use Rattle.kt_period_cells.specs.SummaryRows.{has_total};
 
 use kt_rec::CellKey;
@@ -11,11 +11,11 @@ use kt_stream::Pair;
 
 /// The losses of one key, in cents.
 #[derive(Clone, Copy)]
-pub(crate) struct Cell {
-    /// The sum of the losses.
-    pub(crate) total: u64,
-    /// The greatest of them.
-    pub(crate) maximum: u64,
+pub struct Cell {
+    /// The sum of the losses, in cents, at most 10^15. A total of 0 is no cell.
+    pub total: u64,
+    /// The greatest of them, in cents.
+    pub maximum: u64,
 }
 
 /// A loss that was added to the cell of its key, so that it can be taken back.
@@ -50,28 +50,12 @@ pub enum CellStop {
     OutOfMemory,
 }
 
-/// The maximum of a cell, or its total, in cents.
-#[inline]
-pub(crate) fn amount(cell: &Cell, maxima: bool) -> u64
-    ensures value { result ≡ amount_in maxima (Some cell.now) }
-{
-    if maxima { cell.maximum } else { cell.total }
-}
-
 /// Whether a place has a cell: its total is above 0.
 #[inline]
-pub(crate) fn has_total(cell: &Cell) -> bool
+pub fn has_total(cell: &Cell) -> bool
     ensures value { result ≡ has_total cell.now }
 {
     cell.total != 0
-}
-
-/// 1 for yes, 0 for no.
-#[inline]
-pub(crate) fn one_if(is_there: bool) -> usize
-    ensures value { result ≡ one_if is_there }
-{
-    if is_there { 1 } else { 0 }
 }
 
 /// The sample of a sidx with cells, and 0 for the mean.

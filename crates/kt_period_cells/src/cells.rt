@@ -5,10 +5,11 @@ ghost use Rattle.kt_period_cells.specs.Losses.{Added};
 ghost use Rattle.kt_period_cells.specs.Standing.{StandsFor};
 ghost use Rattle.kt_period_cells.specs.Journal.{Adds};
 ghost use Rattle.kt_period_cells.specs.SummaryRows.{IsOwnSet};
+ghost use Rattle.kt_period_cells.specs.Ready.{AreReady};
 
 use crate::cell::{CellStop, adds_any};
 use crate::group::SetCells;
-use crate::rows::Rows;
+use crate::rows::{ReadyRows, Rows};
 use kt_money::OutOfMemory;
 use kt_rec::{Occurrence, Perspective};
 use kt_stream::SummaryRecord;
@@ -20,6 +21,9 @@ use std::marker::Model;
 #[derive(Drop)]
 pub struct Cells {
     rows: Rows,
+    /// How many records came with ready rows, and of how many of them the rows were taken over.
+    offered: u64,
+    adopted: u64,
 }
 
 impl Model for Cells {
@@ -42,6 +46,8 @@ impl Cells {
     {
         Cells {
             rows: Rows::new(alloc, periods, samples),
+            offered: 0,
+            adopted: 0,
         }
     }
 
@@ -89,6 +95,47 @@ impl Cells {
                 Err(stop)
             }
         }
+    }
+
+    /// Adds a record as `add` does, with rows that were made of its losses: where the cells have none of the rows of its occurrences yet,
+    /// they take these.
+    pub fn add_ready(
+        &mut self,
+        perspective: Perspective,
+        set: u32,
+        entry: &SummaryRecord,
+        at: &[Occurrence],
+        ready: ReadyRows,
+    ) -> Result<(), CellStop>
+        requires periods { All (λ occurrence. (1 ≤ occurrence.period_no) × (occurrence.period_no ≤ self.old.periods)) at.now }
+        requires sidx { All (λ pair. pair.sidx ≤ℤ pos self.old.samples) entry.now.pairs }
+        requires losses { All (λ pair. pair.loss ≤ 10 ^ 16) entry.now.pairs }
+        requires ready { AreReady entry.now.pairs ready }
+        ensures added { (history : List Added) → StandsFor history self.old → Adds history (record { perspective = perspective; set = set; entry = entry.now; at = at.now }) result self.new }
+        ensures size { (self.new.periods ≡ self.old.periods) × (self.new.samples ≡ self.old.samples) }
+    {
+        let mut ready = ready;
+        if !ready.is_empty() {
+            self.offered = self.offered.saturating_add(1);
+            let spots = match self.rows.spots(perspective, set, entry.summary, at, false) {
+                Ok(spots) => spots,
+                Err(_) => return Err(CellStop::OutOfMemory),
+            };
+            if self
+                .rows
+                .adopt_all(entry.pairs.as_slice(), spots.as_slice(), &mut ready)
+            {
+                self.adopted = self.adopted.saturating_add(1);
+                return Ok(());
+            }
+        }
+        self.add(perspective, set, entry, at)
+    }
+
+    /// Whether ready rows are worth their making: the cells took over those of half of the records that came with some. What is added is
+    /// the same with them and without.
+    pub fn wants_ready(&self) -> bool {
+        self.offered / 2 <= self.adopted
     }
 
     /// The cells of a perspective and set, by summary. An error is want of memory.

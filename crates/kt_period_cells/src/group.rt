@@ -13,11 +13,11 @@ use std::alloc::Global;
 
 /// A row of a summary.
 #[derive(Clone, Copy, Drop)]
-pub(crate) struct SummaryRow {
+pub struct SummaryRow {
     /// The summary id.
     pub(crate) summary: u32,
-    /// The place of the row.
-    pub(crate) row: usize,
+    /// The place of the row among all rows.
+    pub row: usize,
 }
 
 impl Keyed for SummaryRow {
@@ -57,9 +57,9 @@ pub struct SummaryCells<'a> {
     /// The summary id.
     pub summary: u32,
     /// All rows.
-    pub(crate) rows: &'a [Row],
+    pub rows: &'a [Row],
     /// Which of them are the summary's.
-    pub(crate) places: &'a [SummaryRow],
+    pub places: &'a [SummaryRow],
     /// The number of periods.
     pub periods: u32,
     /// The number of samples.

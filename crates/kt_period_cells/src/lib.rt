@@ -1,8 +1,6 @@
 //! Period totals and maxima of summary records.
 #![tactic(auto)]
 
-mod amount_list;
-mod amounts;
 mod cell;
 mod cells;
 mod group;
@@ -12,7 +10,8 @@ mod row_key;
 mod rows;
 mod shared;
 
-pub use amount_list::AmountList;
-pub use cell::CellStop;
+pub use cell::{Cell, CellStop, has_total};
 pub use cells::Cells;
-pub use group::{SetCells, SummaryCells};
+pub use group::{SetCells, SummaryCells, SummaryRow};
+pub use row::{Row, placed_cell};
+pub use rows::ReadyRows;

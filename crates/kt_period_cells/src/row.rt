@@ -1,25 +1,28 @@
 //! A row of cells: what one summary has in one period.
 //! The rules: docs/CALCULATION.md, "Periods".
 ghost use Rattle.std.specs.Prelude.{◌≡◌, ◌⊎◌, ◌+◌, ◌≤◌, [], IfOk, IfSome, OnOk, OnErr, Some, None, true, is_some, length};
+ghost use Rattle.std.specs.List.{list_any};
 ghost use Rattle.kt_period_cells.specs.RowCells.{AreLow, HasBound, IsRising, HasPlace, IsWide, Changes, Lowers, cell_in, cells_of, placed};
 ghost use Rattle.kt_period_cells.specs.Standing.{most_total};
+ghost use Rattle.kt_period_cells.specs.SummaryRows.{has_any, has_total};
+ghost use Rattle.kt_period_cells.specs.Ready.{IsFresh};
 
-use crate::cell::Cell;
+use crate::cell::{Cell, has_total};
 use crate::raising::MOST_TOTAL;
-use crate::row_key::RowKey;
+use crate::row_key::{RowKey, index_key};
 use kt_money::OutOfMemory;
 use std::alloc::Global;
 
-mod amounts;
 mod listed;
 mod room;
 mod widening;
 
 use listed::{listed_cell, place};
 
-/// What a summary has in a period: its cells by rising sample, that of the mean being 0. It may have none.
+/// What a summary has in a period: its cells by rising sample, that of the mean being 0. It may have none. They are listed, or each sample
+/// has a place.
 #[derive(Drop)]
-pub(crate) struct Row {
+pub struct Row {
     /// Which row.
     pub(crate) key: RowKey,
     /// Where the next listed cell is looked for first.
@@ -38,8 +41,8 @@ const NO_CELL: Cell = Cell {
     maximum: 0,
 };
 
-/// The cell of a sample among the cells of all samples.
-fn placed_cell(places: &[Cell], sample: u32) -> Option<Cell>
+/// The cell of a sample among the places of all samples, that of the mean being 0.
+pub fn placed_cell(places: &[Cell], sample: u32) -> Option<Cell>
     ensures value { result ≡ cell_in (placed 0 places.now) sample }
 {
     let at = sample as usize;
@@ -48,6 +51,13 @@ fn placed_cell(places: &[Cell], sample: u32) -> Option<Cell>
     }
     let cell = places[at];
     if cell.total == 0 { None } else { Some(cell) }
+}
+
+/// Whether one of the places has a cell.
+fn has_placed(places: &[Cell]) -> bool
+    ensures value { result ≡ list_any has_total places.now }
+{
+    places.iter().any(has_total)
 }
 
 /// Places for the mean and so many samples, without cells. An error is want of memory.
@@ -73,6 +83,7 @@ impl Row {
         ensures cells { IfOk result (λ row. cells_of row ≡ []) }
         ensures wide { IfOk result (λ row. IsWide samples row.places.items) }
         ensures bound { IfOk result HasBound }
+        ensures placed { wide ≡ true → IfOk result (λ row. (length row.places.items ≡ samples + 1) × AreLow 0 row.places.items) }
     {
         let places = if wide {
             no_cells(alloc, samples)?
@@ -88,8 +99,49 @@ impl Row {
         })
     }
 
-    /// The cell of a sample.
-    pub(crate) fn cell(&self, sample: u32) -> Option<Cell>
+    /// Whether it is the row of a key and has no cells.
+    pub(crate) fn is_fresh(&self, key: RowKey) -> bool
+        ensures { result ≡ true → IsFresh key self.now }
+    {
+        index_key(self.key) == index_key(key) && self.places.is_empty() && self.listed.is_empty()
+    }
+
+    /// The period, from 1.
+    #[inline]
+    pub fn period(&self) -> u32
+        ensures value { result ≡ self.now.key.period }
+    {
+        self.key.period
+    }
+
+    /// The places of the mean and of all samples, where there are any: a total of 0 is no cell.
+    #[inline]
+    pub fn places(&self) -> &[Cell]
+        ensures value { result.now ≡ self.now.places.items }
+    {
+        self.places.as_slice()
+    }
+
+    /// The cells by rising sample, each with its sample, that of the mean being 0, where there are no places.
+    #[inline]
+    pub fn listed(&self) -> &[(u32, Cell)]
+        ensures value { result.now ≡ self.now.listed.items }
+    {
+        self.listed.as_slice()
+    }
+
+    /// Whether the row has a cell.
+    pub(crate) fn has_cells(&self) -> bool
+        ensures value { result ≡ has_any (cells_of self.now) }
+    {
+        if self.places.is_empty() {
+            return !self.listed.is_empty();
+        }
+        has_placed(self.places.as_slice())
+    }
+
+    /// The cell of a sample, that of the mean being 0.
+    pub fn cell(&self, sample: u32) -> Option<Cell>
         requires { IsRising (cells_of self.now) }
         ensures value { result ≡ cell_in (cells_of self.now) sample }
     {

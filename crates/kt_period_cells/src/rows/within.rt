@@ -41,7 +41,7 @@ fn added_loss(pair: &Pair) -> u64
 }
 
 /// The sum of the losses that are added up, where it is at most the greatest total.
-fn small_sum(pairs: &[Pair]) -> Option<u64>
+pub(super) fn small_sum(pairs: &[Pair]) -> Option<u64>
     requires { All (λ pair. pair.loss ≤ 10 ^ 16) pairs.now }
     ensures { IfSome result (λ sum. (sum ≡ added_sum pairs.now) × (sum ≤ most_total)) }
 {
@@ -54,7 +54,7 @@ fn small_sum(pairs: &[Pair]) -> Option<u64>
 
 impl Rows {
     /// Whether there is room for so many cells more in each of so many rows.
-    fn has_cells_room(&self, count: usize, pairs: usize) -> bool
+    pub(super) fn has_cells_room(&self, count: usize, pairs: usize) -> bool
         ensures value { result ≡ true → length (entries_of self.now.rows) + count * pairs ≤ most_cells }
     {
         self.held as u128 + count as u128 * pairs as u128 <= MOST_CELLS as u128
@@ -124,7 +124,7 @@ impl Rows {
     }
 
     /// The total of each cell is within its limit.
-    fn keeps_totals(&self)
+    pub(super) fn keeps_totals(&self)
         ensures { (key : CellKey) → total_in (cell_at (entries_of self.now.rows) key) ≤ most_total }
     {
         let _held = self.held;

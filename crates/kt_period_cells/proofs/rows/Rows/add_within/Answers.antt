@@ -1,9 +1,6 @@
 -- The losses of a record, row by row.
-use Rattle.std.proofs.Common.{◌≡◌, ◌+◌, ◌-◌, ◌*◌, ◌≤◌, ℕ, List, [], ◌∷◌, ◌++◌, length, take, take_all, get_or, arith, add-mul, refl, ap, sym, ◌∙◌, append_assoc, append-nil}
+use Rattle.std.proofs.Common.{◌≡◌, ◌+◌, ◌-◌, ◌*◌, ◌≤◌, ℕ, List, ◌++◌, length, take, take_all, get_or, arith, add-mul, refl, ap, ◌∙◌, append-nil}
 use Rattle.std.specs.List.{flat_map}
-use Rattle.std.proofs.lemmas.Grind.{flat_map-append}
-use Rattle.std.proofs.lemmas.List.{take_more}
-use Rattle.std.proofs.lemmas.List.Concat.{flat_map-cons}
 use Rattle.std.proofs.lemmas.List.Elements.{All-get_or}
 use Rattle.std.proofs.lemmas.Nat.{mul-le}
 use Rattle.kt_period_cells.specs.declared.rows.Spot.{Spot}
@@ -14,7 +11,7 @@ use Rattle.kt_period_cells.specs.Standing.{Standing}
 use Rattle.kt_period_cells.specs.SummaryRows.{row_at}
 use Rattle.kt_period_cells.proofs.RaisedRows.{clear_in_order}
 use Rattle.kt_period_cells.proofs.RoomLemmas.{roomy_less, roomy_same, one_less}
-use Rattle.kt_period_cells.proofs.SameLosses.{in_row, in_rows, row_by_row}
+use Rattle.kt_period_cells.proofs.SameLosses.{in_row, in_rows, row_by_row, spots_more}
 use Rattle.kt_period_cells.proofs.rows.Rows.add_within.Goals as goal
 
 -- no spot
@@ -64,11 +61,7 @@ loop-spot-preserved c =
           let f : Spot → List KeyLoss = in_row p s u c.args.pairs.now in
           let here : IsSpot p s u (row_keys c.loop-spot.self.rows) spot = rw now.rows (All-get_or (IsSpot p s u (row_keys c.args.self.now.rows)) c.args.spots.now i none c.loop-spot-test.true at) in
           let all = c.add_spot.ensures.step p s u (before ++ flat_map f (take i c.args.spots.now)) here (now.step p s u before at stands) in
-          let same : before ++ flat_map f (take (i + 1) c.args.spots.now) ≡ (before ++ flat_map f (take i c.args.spots.now)) ++ f spot =
-          ap (λ (xs : List Spot). before ++ flat_map f xs) (take_more c.args.spots.now i none c.loop-spot-test.true)
-          ∙ ap (λ (ls : List KeyLoss). before ++ ls) (flat_map-append f (take i c.args.spots.now) (spot ∷ []) ∙ ap (λ (ls : List KeyLoss). flat_map f (take i c.args.spots.now) ++ ls) (flat_map-cons f spot [] ∙ append-nil (f spot)))
-          ∙ sym (append_assoc before (flat_map f (take i c.args.spots.now)) (f spot)) in
-          rw same all;
+          rw (spots_more p s u c.args.pairs.now c.args.spots.now i none before c.loop-spot-test.true) all;
     }
 
 pub returns-clause-step : goal.returns-clause-step

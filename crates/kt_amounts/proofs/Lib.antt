@@ -1,0 +1,2 @@
+pub mod RowAmounts
+pub mod ListsOfSamples
