@@ -1,4 +1,5 @@
 mod ListLemmas
+mod ReadyLemmas
 mod AddedLemmas
 mod PassLemmas
 mod PartLemmas

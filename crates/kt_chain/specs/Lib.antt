@@ -4,6 +4,7 @@ pub mod Reached
 pub mod Outcome
 pub mod Rounds
 pub mod FoldKeeps
+pub mod ReadyParts
 pub mod Runs
 pub mod RoundRows
 pub mod RunLaws

@@ -9,16 +9,19 @@ ghost use Rattle.kt_stream.specs.Summary.{IsSummary};
 ghost use Rattle.kt_tables.specs.Portfolio.{KeepsPeriods};
 ghost use Rattle.kt_chain.specs.Events.{block_added, summaries_added};
 ghost use Rattle.kt_chain.specs.FoldKeeps.{KeepsFront, KeepsWhole};
+ghost use Rattle.kt_chain.specs.ReadyParts.{AreReadyBlocks, AreReadyRecords, IsReadyBlock};
 ghost use Rattle.kt_keys.specs.Refusals.{is_loaded};
 ghost use Rattle.kt_rec.specs.declared.table.Table.TheVariants as table;
 ghost use Rattle.kt_chain.specs.Rounds.{AddsAll, AddsBlocks, IsGoodPart, fold_refusal};
 ghost use Rattle.kt_periods.specs.Adding.{cell_refusal as refusal_of_cells};
 
 use crate::part::{PartBlock, RefusedRow};
+use crate::ready::{ReadyBlock, ReadyBlocks, ReadyPart, ReadyRecords};
+use crate::ready_list::ReadyList;
 use kt_ends::Refusal;
 use kt_event::{EventBlock, Summaries};
 use kt_part::Fold;
-use kt_period_cells::{CellStop, Cells};
+use kt_period_cells::{CellStop, Cells, ReadyRows};
 use kt_tables::Portfolio;
 use std::alloc::Global;
 use std::marker::Model;
@@ -75,21 +78,30 @@ pub(crate) struct BlockStop {
     pub(crate) stop: FoldStop,
 }
 
-/// Adds the records of the summaries of a set, with the occurrences of their events.
+/// Adds the records of the summaries of a set, with the occurrences of their events, and with the ready rows that were made for them.
 fn add_summaries(
     portfolio: &Portfolio,
     cells: &mut Cells,
     summaries: &Summaries,
+    mut ready: ReadyRecords,
 ) -> Result<(), FoldStop>
     requires periods { KeepsPeriods portfolio.now.rows }
     requires same { cells.old.periods ≡ portfolio.now.rows.periods }
     requires good { All (IsSummary cells.old.samples) summaries.now.records }
+    requires ready { AreReadyRecords summaries.now ready }
     ensures added { (history : List Added) → StandsFor history cells.old → AddsAll history (summaries_added portfolio.now.rows summaries.now) cells.new result }
     ensures size { (cells.new.periods ≡ cells.old.periods) × (cells.new.samples ≡ cells.old.samples) }
 {
     for entry in summaries.records.as_slice() {
         let occurrences = portfolio.occurrences(entry.event);
-        if let Err(stop) = cells.add(summaries.perspective, summaries.set, entry, occurrences) {
+        let own = ready.next(ReadyRows::none(cells.alloc()));
+        if let Err(stop) = cells.add_ready(
+            summaries.perspective,
+            summaries.set,
+            entry,
+            occurrences,
+            own,
+        ) {
             return Err(FoldStop::Cell {
                 event: entry.event,
                 stop,
@@ -100,15 +112,22 @@ fn add_summaries(
 }
 
 /// Adds the records of an event's block, set by set.
-fn add_block(portfolio: &Portfolio, cells: &mut Cells, block: &EventBlock) -> Result<(), FoldStop>
+fn add_block(
+    portfolio: &Portfolio,
+    cells: &mut Cells,
+    block: &EventBlock,
+    mut ready: ReadyBlock,
+) -> Result<(), FoldStop>
     requires periods { KeepsPeriods portfolio.now.rows }
     requires same { cells.old.periods ≡ portfolio.now.rows.periods }
     requires good { AreSummaries cells.old.samples block.now.summaries }
+    requires ready { IsReadyBlock block.now ready }
     ensures added { (history : List Added) → StandsFor history cells.old → AddsAll history (block_added portfolio.now.rows block.now) cells.new result }
     ensures size { (cells.new.periods ≡ cells.old.periods) × (cells.new.samples ≡ cells.old.samples) }
 {
     for summaries in block.summaries.as_slice() {
-        if let Err(stop) = add_summaries(portfolio, cells, summaries) {
+        let own = ready.next(ReadyList::none(cells.alloc()));
+        if let Err(stop) = add_summaries(portfolio, cells, summaries, own) {
             return Err(stop);
         }
     }
@@ -120,16 +139,19 @@ fn add_blocks(
     portfolio: &Portfolio,
     cells: &mut Cells,
     blocks: &[EventBlock],
+    mut ready: ReadyBlocks,
 ) -> Result<(), BlockStop>
     requires periods { KeepsPeriods portfolio.now.rows }
     requires same { cells.old.periods ≡ portfolio.now.rows.periods }
     requires good { AllByRecursion (λ block. AreSummaries cells.old.samples block.summaries) blocks.now }
+    requires ready { AreReadyBlocks blocks.now ready }
     ensures added { (history : List Added) → StandsFor history cells.old → AddsBlocks portfolio.now.rows history blocks.now cells.new result }
     ensures within { IfErr result (λ at. at.place ≤ length blocks.now) }
     ensures size { (cells.new.periods ≡ cells.old.periods) × (cells.new.samples ≡ cells.old.samples) }
 {
     for place in 0..blocks.len() {
-        if let Err(stop) = add_block(portfolio, cells, &blocks[place]) {
+        let own = ready.next(ReadyList::none(cells.alloc()));
+        if let Err(stop) = add_block(portfolio, cells, &blocks[place], own) {
             return Err(BlockStop { place, stop });
         }
     }
@@ -198,6 +220,11 @@ impl<'a> RunFold<'a> {
         self.samples
     }
 
+    /// Whether the parts of the next round are to come with ready rows: those of the rounds before were of use. It changes no output.
+    pub(crate) fn ahead(&self) -> bool {
+        self.cells.wants_ready()
+    }
+
     /// The parts that are kept.
     pub(crate) fn kept(&self) -> &[PartBlock]
         ensures { result.now ≡ self.now.kept }
@@ -242,7 +269,7 @@ impl<'a> RunFold<'a> {
     }
 }
 
-impl<'a> Fold<PartBlock> for RunFold<'a> {
+impl<'a> Fold<ReadyPart> for RunFold<'a> {
     ghost use Rattle.kt_chain.specs.Rounds.{FitsFold, FoldStart, StandsBehind, StopsBehind};
 
     type Stop = FoldStop;
@@ -255,11 +282,17 @@ impl<'a> Fold<PartBlock> for RunFold<'a> {
 
     ghost fits = { FitsFold };
 
-    fn take(&mut self, _k: u32, block: PartBlock) -> Result<(), FoldStop> {
+    fn take(&mut self, _k: u32, block: ReadyPart) -> Result<(), FoldStop> {
         self.portfolio.keeps_periods();
-        match add_blocks(self.portfolio, &mut self.cells, block.blocks.as_slice()) {
-            Ok(()) => self.keep_whole(block),
-            Err(at) => Err(self.keep_front(block, at)),
+        let (part, ready) = block.split();
+        match add_blocks(
+            self.portfolio,
+            &mut self.cells,
+            part.blocks.as_slice(),
+            ready,
+        ) {
+            Ok(()) => self.keep_whole(part),
+            Err(at) => Err(self.keep_front(part, at)),
         }
     }
 }

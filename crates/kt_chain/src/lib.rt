@@ -5,6 +5,8 @@ mod fold;
 pub mod laws;
 mod options;
 mod part;
+mod ready;
+mod ready_list;
 mod rounds;
 mod rows;
 mod run;

@@ -109,6 +109,7 @@ fn fold_round<R: Threads + Sync, G: Gate + Sync>(
         plan: run.plan,
         given,
         batch: run.batch,
+        ahead: fold.ahead(),
     };
     let (claims, mut pass) = Claims::new(run.alloc, run.workers)?;
     match run_round(

@@ -1,6 +1,7 @@
 //! What workers and the fold hold may be sent to threads and shared by them.
 use crate::fold::{FoldStop, RunFold};
 use crate::part::PartBlock;
+use crate::ready::ReadyPart;
 use crate::work::RoundWork;
 use kt_out::Open;
 
@@ -12,10 +13,12 @@ pub(crate) fn are_shared(
     work: &RoundWork<'_, Open>,
     fold: &RunFold<'_>,
     part: &PartBlock,
+    ready: &ReadyPart,
     stop: &FoldStop,
 ) {
     is_shared(work);
     is_shared(fold);
     is_shared(part);
+    is_shared(ready);
     is_shared(stop);
 }

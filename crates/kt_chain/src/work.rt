@@ -8,6 +8,7 @@ ghost use Rattle.kt_stream.specs.Pairs.{IsId};
 ghost use Rattle.kt_chain.specs.Rounds.{part_count, part_events, part_of};
 
 use crate::part::{PartBlock, RefusedRow};
+use crate::ready::ReadyPart;
 use kt_event::{Plan, event_block};
 use kt_load::RoundRows;
 use kt_out::Gate;
@@ -28,6 +29,8 @@ pub(crate) struct RoundWork<'a, G> {
     pub(crate) plan: &'a Plan,
     pub(crate) given: &'a RoundRows,
     pub(crate) batch: u32,
+    /// Whether the ready rows of the records are made.
+    pub(crate) ahead: bool,
 }
 
 impl<'a, G> Model for RoundWork<'a, G> {
@@ -115,21 +118,23 @@ impl<'a, G: Gate> Work for RoundWork<'a, G> {
     ghost use Rattle.std.specs.Prelude.{length};
     ghost use Rattle.kt_chain.specs.Rounds.{IsPart, part_count};
 
-    type Block = PartBlock;
+    type Block = ReadyPart;
 
     ghost gives = { IsPart };
 
     ghost most = { λ work. part_count work.batch (length work.given) };
 
-    fn work(&self, k: u32) -> Result<PartBlock, AllocError> {
+    fn work(&self, k: u32) -> Result<ReadyPart, AllocError> {
         self.gate.pass(k);
-        part_of(
+        let part = part_of(
             self.alloc,
             self.portfolio,
             self.plan,
             self.given,
             self.batch,
             k,
-        )
+        )?;
+        let samples = self.plan.terms().samples;
+        ReadyPart::new(self.alloc, self.portfolio, samples, part, self.ahead)
     }
 }

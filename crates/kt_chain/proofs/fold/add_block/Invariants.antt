@@ -1,9 +1,10 @@
--- The summaries so far are added.
-use Rattle.std.proofs.Common.{◌≡◌, List, take}
+-- The summaries so far are added, and what is left of the ready rows is made for the others.
+use Rattle.std.proofs.Common.{◌≡◌, List, drop, take}
 use Rattle.std.specs.List.{flat_map}
 use Rattle.kt_period_cells.specs.Losses.{Added}
 use Rattle.kt_period_cells.specs.Standing.{StandsFor}
 use Rattle.kt_chain.specs.Events.{summaries_added}
+use Rattle.kt_chain.specs.ReadyParts.{AreMadeFor, AreReadyRecords}
 use Rattle.kt_chain.proofs.FoldLemmas.{HasAdded}
 use Rattle.kt_chain.proofs.fold.add_block.Given as goal
 
@@ -12,4 +13,5 @@ invariant-loop-summaries l = record {
   added : (history : List Added) → StandsFor history l.fn.cells → HasAdded history (flat_map (summaries_added l.portfolio.rows) (take l.summaries-index l.block.summaries)) l.cells;
   periods : l.cells.periods ≡ l.fn.cells.periods;
   samples : l.cells.samples ≡ l.fn.cells.samples;
+  ready : AreMadeFor AreReadyRecords l.ready (drop l.summaries-index l.block.summaries);
 }

@@ -1,8 +1,9 @@
--- The blocks so far are added.
-use Rattle.std.proofs.Common.{◌≡◌, List, take}
+-- The blocks so far are added, and what is left of the ready rows is made for the others.
+use Rattle.std.proofs.Common.{◌≡◌, List, drop, take}
 use Rattle.kt_period_cells.specs.Losses.{Added}
 use Rattle.kt_period_cells.specs.Standing.{StandsFor}
 use Rattle.kt_chain.specs.Events.{blocks_added}
+use Rattle.kt_chain.specs.ReadyParts.{AreMadeFor, IsReadyBlock}
 use Rattle.kt_chain.proofs.FoldLemmas.{HasAdded}
 use Rattle.kt_chain.proofs.fold.add_blocks.Given as goal
 
@@ -11,4 +12,5 @@ invariant-loop-place l = record {
   added : (history : List Added) → StandsFor history l.fn.cells → HasAdded history (blocks_added l.portfolio.rows (take l.place l.blocks)) l.cells;
   periods : l.cells.periods ≡ l.fn.cells.periods;
   samples : l.cells.samples ≡ l.fn.cells.samples;
+  ready : AreMadeFor IsReadyBlock l.ready (drop l.place l.blocks);
 }
