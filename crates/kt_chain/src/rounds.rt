@@ -109,7 +109,8 @@ fn fold_round<R: Threads + Sync, G: Gate + Sync>(
         plan: run.plan,
         given,
         batch: run.batch,
-        ahead: fold.ahead(),
+        // One worker alone gains nothing by it: the rows and the records would only stand between each other in memory.
+        ahead: 1 < run.workers && fold.ahead(),
     };
     let (claims, mut pass) = Claims::new(run.alloc, run.workers)?;
     match run_round(
