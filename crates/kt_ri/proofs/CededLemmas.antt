@@ -1,16 +1,14 @@
 -- What the places of ids have of a row of shares is what the ids cede.
-use Rattle.std.proofs.Common.{◌≡◌, ℕ, zero, suc, ◌+◌, ◌<◌, ◌≤◌, ◌^◌, Bool, true, false, cond, nat_eq, List, [], ◌∷◌, ◌++◌, ◌⊎◌, inl, inr, replicate, length, map, slice_index, slice_index_or, slice_set, take, refl, sym, ap, subst, ◌∙◌, arith}
+use Rattle.std.proofs.Common.{◌≡◌, ℕ, ◌+◌, ◌<◌, ◌≤◌, ◌^◌, Bool, true, false, cond, nat_eq, List, [], ◌∷◌, ◌++◌, ◌⊎◌, inl, inr, length, map, slice_index, slice_index_or, refl, sym, ap, subst, ◌∙◌, arith}
 use Rattle.std.specs.Prelude.{All, unwrap_or, Some}
 use Rattle.std.specs.Cmp.{nat_eq_equiv}
 use Rattle.std.specs.List.{AllByRecursion, IsDistinct, flat_map, filter, list_any, sum, sum_by, zip}
 use Rattle.std.specs.Map.{lookup}
 use Rattle.std.proofs.lemmas.Bool.{eqb-true}
-use Rattle.std.proofs.lemmas.List.{get_or-map, length-append, length-map, length-set, take_all}
+use Rattle.std.proofs.lemmas.List.{length-append, length-map}
 use Rattle.std.proofs.lemmas.List.Elements.{recursion_from_All}
-use Rattle.std.proofs.lemmas.List.Sums.{sum_by-append, sum_by-cons, sum_by-take-le, sum_by_more}
-use Rattle.std.proofs.lemmas.Slice.Zip.{get_or-zip}
+use Rattle.std.proofs.lemmas.List.Sums.{sum_by-append, sum_by-cons}
 use Rattle.kt_stream.specs.declared.entry.LossRecord.{LossRecord}
-use Rattle.kt_runs.specs.Adding.{Holds}
 use Rattle.kt_runs.specs.RunLosses.{AreWithin}
 use Rattle.kt_runs.specs.Sidx.{sidx_at}
 use Rattle.kt_rec.specs.Rising.{IsRising}
@@ -20,17 +18,17 @@ use Rattle.kt_tree.specs.Tree.{Tree, IsTree, beneath, comes_to, policy_loss}
 use Rattle.kt_fmtree.specs.Parts.{Parts, IsProgramme}
 use Rattle.kt_fmtree.specs.PartsLaws.{beneath-are}
 use Rattle.kt_shares.specs.Layers.{IsTopLayer, key_of}
-use Rattle.kt_shares.specs.HoldsLaws.{holds-more}
 use Rattle.kt_shares.specs.LookupLaws.{same-place, zip-append}
-use Rattle.kt_lanes.specs.LaneLaws.{column-at, set-column, set-wide}
-use Rattle.kt_lanes.specs.Lanes.{AreLanes, AreWide, IsLane, column}
+use Rattle.kt_lanes.specs.Lanes.{AreWide, column}
 use Rattle.kt_shares.specs.Row.{Shared, no_shares, row_for}
 use Rattle.kt_shares.specs.Shares.{layers_of, part_of_id, shares, taken_loss}
 use Rattle.kt_shares.specs.SharesLaws.{length-allocated, taken-few}
 use Rattle.kt_shares.specs.Table.{row_at, row_place, table_for}
 use Rattle.kt_shares.specs.TableLaws.{each-row, row-is, table-length}
 use Rattle.kt_shares.specs.declared.layers.TopLayer.{TopLayer}
-use Rattle.kt_ri.specs.Ceded.{AreCededShares, AreRows, HasShares, share_at, shares_at}
+use Rattle.kt_ceded.specs.Ceded.{AreCededShares, HasShares, share_at}
+use Rattle.kt_ceded.specs.CededLaws.{ceded-all}
+use Rattle.kt_ri.specs.Ceded.{AreRows}
 use Rattle.kt_ri.specs.Ceding.{AreLayers, ArePlaces, HasFewLayers, owners_of}
 use Rattle.kt_ri.specs.Reinsurance.{ceded_at, ceded_loss}
 use Rattle.kt_ri.proofs.FewLemmas.{ceded-le}
@@ -153,93 +151,6 @@ module _ (tree : Tree) (parts : Parts) (is : IsProgramme tree parts) (places : L
     within = are.within;
     few = λ place below. omega (arith, ceded-is place below, ceded-le tree parts is few losses most rule (slice_index parts.ids place));
   }
-
--- ---- the amounts of a row, share by share
-
--- as many pairs as keys
-pub length-paired : (keys amounts : List ℕ) → length amounts ≡ length keys → length (zip keys amounts) ≡ length keys
-length-paired [] amounts same = refl
-length-paired (key ∷ keys) [] same = absurd (omega arith)
-length-paired (key ∷ keys) (amount ∷ amounts) same = ap suc (length-paired keys amounts (omega arith))
-
-module _ (width : ℕ) (places shares : List ℕ) (has : HasShares width places shares) where
-  -- what a place has of so many shares
-  abbrev so_far : ℕ → ℕ → ℕ
-  so_far k place = sum_by (λ (pair : ℕ × ℕ). cond (nat_eq pair.0 place) pair.1 0) (take k (zip places shares))
-
-  module _ (k : ℕ) (below : k < length places) (ceded : List ℕ) (held : Holds width (so_far k) ceded) where
-    -- with one more
-    share-more : (place : ℕ) → so_far (k + 1) place ≡ so_far k place + cond (nat_eq (slice_index places k) place) (slice_index shares k) 0
-    share-more place =
-        sum_by_more (λ (pair : ℕ × ℕ). cond (nat_eq pair.0 place) pair.1 0) (zip places shares) k (0, 0) (omega (arith, length-paired places shares has.many))
-        ∙ ap (λ (pair : ℕ × ℕ). so_far k place + cond (nat_eq pair.0 place) pair.1 0) (get_or-zip places shares k (0, 0) below (omega (arith, has.many)))
-
-    pub ceded-set : Holds width (so_far (k + 1)) (slice_set ceded (slice_index places k) (slice_index_or ceded (slice_index places k) 0 + slice_index shares k))
-    ceded-set = holds-more width (so_far k) (so_far (k + 1)) ceded held (slice_index places k) (slice_index shares k) (has.within k 0 below) share-more
-
-    -- it fits
-    pub ceded-fits : slice_index_or ceded (slice_index places k) 0 + slice_index shares k < 2 ^ 64
-    ceded-fits =
-        let place = slice_index places k in
-        omega (
-          arith,
-          held.each place (has.within k 0 below),
-          share-more place,
-          ap (λ b. cond b (slice_index shares k) 0) (nat_eq_equiv.refl place),
-          sum_by-take-le (λ (pair : ℕ × ℕ). cond (nat_eq pair.0 place) pair.1 0) (zip places shares) (k + 1),
-          has.few place (has.within k 0 below),
-        )
-
-  -- all of them
-  pub ceded-all : (k : ℕ) → length places ≤ k → (ceded : List ℕ) → Holds width (so_far k) ceded → Holds width (share_at places shares) ceded
-  ceded-all k past ceded held = record {
-    width_is = held.width_is;
-    each = λ place inside. held.each place inside ∙ ap (sum_by (λ (pair : ℕ × ℕ). cond (nat_eq pair.0 place) pair.1 0)) (take_all k (zip places shares) (omega (arith, length-paired places shares has.many)));
-  }
-
--- ---- lane by lane
-
-module _ (width : ℕ) (places : List ℕ) (table : List Shared) where
-  module _ (has : All (λ row. HasShares width places row.shares) table) (k : ℕ) (below : k < length places) (ceded : List (List ℕ)) (so_far : AreCededShares width places table k ceded) (place : ℕ) (place_is : place ≡ slice_index places k) (before : List ℕ) (before_is : before ≡ slice_index_or ceded place before) (lane : List ℕ) (lane_is : lane ≡ map (λ (row : Shared). slice_index row.shares k) table) where
-    fits-in : (row : ℕ) → row < length table → HasShares width places (row_at table row).shares
-    fits-in row inside = has row no_shares inside
-
-    old : (row : ℕ) → row < length table → place < length ceded → slice_index before row ≡ slice_index (column row ceded) place
-    old row inside within = ap (λ (one : List ℕ). slice_index one row) before_is ∙ sym (column-at row place ceded before within)
-
-    more : (row : ℕ) → row < length table → slice_index lane row ≡ slice_index (row_at table row).shares k
-    more row inside = ap (λ all. slice_index all row) lane_is ∙ get_or-map (λ (row : Shared). slice_index row.shares k) table row no_shares 0 inside
-
-    module _ (within : place < length ceded) where
-      pub before-wide : length before ≡ length table
-      before-wide = ap (λ (one : List ℕ). length one) before_is ∙ so_far.wide place before within
-
-      -- its lane has as many rows
-      pub lane-wide : length lane ≡ length before
-      lane-wide = ap length lane_is ∙ (length-map table (λ (row : Shared). slice_index row.shares k) ∙ sym before-wide)
-
-      -- the next share fits
-      pub lane-fits : (row : ℕ) → row < length before → slice_index before row + slice_index lane row < 2 ^ 64
-      lane-fits row less =
-          let inside : row < length table = omega (arith, less, before-wide) in
-          let fits = ceded-fits width places (row_at table row).shares (fits-in row inside) k below (column row ceded) (so_far.each row inside) in
-          omega (arith, old row inside within, more row inside, ap (slice_index (column row ceded)) place_is, fits)
-
-      -- with it
-      pub lane-more : (now : List ℕ) → IsLane (length before) (λ row. slice_index before row + slice_index lane row) now → (all : List (List ℕ)) → all ≡ slice_set ceded place now → AreCededShares width places table (k + 1) all
-      lane-more now now_is all all_is = record {
-        count_is = ap length all_is ∙ (length-set ceded place now ∙ so_far.count_is);
-        wide = subst (AreWide (length table)) (sym all_is) (set-wide (length table) place ceded so_far.wide within now (now_is.wide ∙ before-wide));
-        each = λ row inside.
-            let set = ceded-set width places (row_at table row).shares (fits-in row inside) k below (column row ceded) (so_far.each row inside) in
-            let amount : slice_index now row ≡ slice_index (column row ceded) (slice_index places k) + slice_index (row_at table row).shares k =
-            omega (arith, now_is.each row (omega (arith, inside, before-wide)), old row inside within, more row inside, ap (slice_index (column row ceded)) place_is) in
-            subst (Holds width (shares_at places (row_at table row).shares (k + 1)))
-            (sym (ap (column row) all_is
-            ∙ (set-column (length table) place ceded so_far.wide within now row
-            ∙ (ap (slice_set (column row ceded) place) amount ∙ ap (λ n. slice_set (column row ceded) n (slice_index (column row ceded) (slice_index places k) + slice_index (row_at table row).shares k)) place_is))))
-            set;
-      }
 
 -- ---- the rows of a run
 

@@ -1,20 +1,16 @@
 -- The pairs that are left of pairs with rising sidx are those of the net losses of all rows.
-use Rattle.std.proofs.Common.{◌≡◌, ◌≢◌, ◌⊎◌, inl, inr, ℕ, zero, suc, ◌+◌, ◌-◌, ◌<◌, ◌≤◌, true, cond, ℤ, pos, negsuc, List, [], ◌∷◌, Option, Some, None, length, slice_index, slice_index_or, refl, sym, ap, subst, ◌∙◌, arith}
+use Rattle.std.proofs.Common.{◌≡◌, ◌≢◌, ◌⊎◌, inl, inr, ℕ, zero, suc, ◌+◌, ◌-◌, ◌≤◌, true, cond, ℤ, negsuc, List, [], ◌∷◌, Option, slice_index, refl, sym, ap, subst, ◌∙◌, arith}
 use Rattle.std.specs.List.{AllByRecursion, cons_option, filter_map, range_with_len}
 use Rattle.std.proofs.lemmas.Bool.{cases_eq}
 use Rattle.std.proofs.lemmas.Bool.Decides.{Decides-int_eq}
-use Rattle.std.proofs.lemmas.Int.{ints}
 use Rattle.kt_stream.specs.declared.entry.LossRecord.{LossRecord}
 use Rattle.kt_stream.specs.declared.entry.Pair.{Pair}
-use Rattle.kt_stream.specs.Pairs.{ArePairs, IsPair, IsSidx, RisingSidx}
-use Rattle.kt_lanes.specs.LaneLaws.{column-at}
-use Rattle.kt_lanes.specs.Lanes.{AreWide, IsLane}
-use Rattle.kt_runs.specs.Adding.{Holds}
+use Rattle.kt_stream.specs.Pairs.{ArePairs, IsPair, RisingSidx}
+use Rattle.kt_lanes.specs.Lanes.{IsLane}
 use Rattle.kt_runs.specs.RunLosses.{loss_of}
-use Rattle.kt_runs.specs.Sidx.{pair_of, pairs_of, place_of, sidx_at}
+use Rattle.kt_runs.specs.Sidx.{pair_of, pairs_of, sidx_at}
 use Rattle.kt_tree.specs.Tree.{Tree}
 use Rattle.kt_fmtree.specs.Parts.{Parts, IsProgramme}
-use Rattle.kt_shares.specs.HoldsLaws.{apart}
 use Rattle.kt_shares.specs.Less.{amount_in}
 use Rattle.kt_shares.specs.RowLaws.{pairs-agree, sample-place}
 use Rattle.kt_shares.specs.Shares.{insured_range}

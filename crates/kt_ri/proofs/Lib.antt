@@ -1,7 +1,6 @@
 pub mod PlaceLemmas
 pub mod FewLemmas
 pub mod CededLemmas
-pub mod TurnLemmas
 pub mod NetLemmas
 mod SidxRowLemmas
 pub mod LeftLemmas

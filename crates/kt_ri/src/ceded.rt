@@ -1,60 +1,18 @@
 //! What the ids of a programme cede of the losses of a run.
 //! The rule: docs/FINANCIAL_MODULE.md, "Reinsurance".
-ghost use Rattle.std.specs.Prelude.{◌≡◌, ◌⊎◌, ◌+◌, ◌≤◌, ◌<◌, All, IfOk, length};
+ghost use Rattle.std.specs.Prelude.{◌≡◌, ◌⊎◌, ◌+◌, ◌≤◌, All, IfOk, length};
 ghost use Rattle.kt_stream.specs.Losses.{IsLoss};
 ghost use Rattle.kt_runs.specs.Adding.{Holds};
 ghost use Rattle.kt_runs.specs.RunLosses.{AreWithin};
 ghost use Rattle.kt_lanes.specs.Lanes.{AreWide, IsLane};
 ghost use Rattle.kt_shares.specs.Less.{IsPlaceIn, amount_in};
-ghost use Rattle.kt_ri.specs.Ceded.{AreCeded, AreCededShares, AreRows, HasShares};
+ghost use Rattle.kt_ri.specs.Ceded.{AreCeded, AreRows};
 
 use crate::ceding::CedingProgramme;
+use kt_ceded::ceded_lanes;
 use kt_lanes::Lanes;
-use kt_levels::are_in_turn;
-use kt_shares::{RunLosses, Table};
+use kt_shares::RunLosses;
 use std::alloc::{AllocError, Global};
-
-/// The shares of a table, added by the places of their ids, row by row.
-fn added_lanes(
-    alloc: Global,
-    width: usize,
-    rows: usize,
-    places: &[usize],
-    table: &Table,
-) -> Result<Lanes, AllocError>
-    requires rows { length table.now ≡ rows }
-    requires within { All (λ place. place < width) places.now }
-    requires shares { All (λ row. HasShares width places.now row.shares) table.now }
-    ensures value { IfOk result (λ ceded. AreCededShares width places.now table.now (length places.now) ceded) }
-{
-    let mut ceded = Lanes::zeros(alloc, width, rows)?;
-    for k in 0..places.len() {
-        ceded.add(places[k], table.shares(k));
-    }
-    Ok(ceded)
-}
-
-/// What so many ids have of the shares of a table, by the places of the ids: the shares as they stand where each id has one, in their
-/// order.
-fn ceded_lanes(
-    alloc: Global,
-    width: usize,
-    rows: usize,
-    places: &[usize],
-    table: Table,
-) -> Result<Lanes, AllocError>
-    requires some { 1 ≤ rows }
-    requires rows { length table ≡ rows }
-    requires within { All (λ place. place < width) places.now }
-    requires shares { All (λ row. HasShares width places.now row.shares) table }
-    ensures value { IfOk result (λ ceded. AreCededShares width places.now table (length places.now) ceded) }
-{
-    if are_in_turn(places, width) {
-        return Ok(table.into_shares());
-    }
-    let ceded = added_lanes(alloc, width, rows, places, &table)?;
-    Ok(ceded)
-}
 
 /// What the ids of a programme cede of the losses of a run, at the mean and at each sample: a lane for each id.
 pub(crate) fn ceded_of<R: RunLosses>(

@@ -1,8 +1,8 @@
 use Rattle.std.proofs.Common.{◌<◌, ◌+◌, ◌∙◌, [], length, refl, slice_index, slice_index_or, sym, subst, arith}
 use Rattle.std.proofs.lemmas.List.{get_or_default}
 use Rattle.kt_lanes.specs.Lanes.{AreWide, IsLane}
-use Rattle.kt_ri.proofs.CededLemmas.{before-wide, lane-fits, lane-more, lane-wide}
-use Rattle.kt_ri.proofs.ceded.added_lanes.Goals as goal
+use Rattle.kt_ceded.proofs.AddedLemmas.{before-wide, lane-fits, lane-more, lane-wide}
+use Rattle.kt_ceded.proofs.ceded.added_lanes.Goals as goal
 
 pub add-requires-clause-place : goal.add-requires-clause-place
 add-requires-clause-place c = omega (arith, c.requires.within c.loop-k.k 0 c.loop-k-test.true, c.loop-k.invariant.count_is)

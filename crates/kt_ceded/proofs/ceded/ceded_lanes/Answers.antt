@@ -1,6 +1,6 @@
 use Rattle.std.proofs.Common.{arith}
-use Rattle.kt_ri.proofs.TurnLemmas.{turn-lanes}
-use Rattle.kt_ri.proofs.ceded.ceded_lanes.Goals as goal
+use Rattle.kt_ceded.proofs.TurnLemmas.{turn-lanes}
+use Rattle.kt_ceded.proofs.ceded.ceded_lanes.Goals as goal
 
 pub returns-then-are_in_turn : goal.returns-then-are_in_turn
 returns-then-are_in_turn c = record {

@@ -11,8 +11,8 @@ use Rattle.kt_runs.specs.Adding.{Holds}
 use Rattle.kt_shares.specs.HoldsLaws.{apart}
 use Rattle.kt_shares.specs.Row.{Shared, no_shares}
 use Rattle.kt_shares.specs.Table.{row_at}
-use Rattle.kt_ri.specs.Ceded.{AreCededShares, HasShares, share_at, shares_at}
-use Rattle.kt_ri.proofs.CededLemmas.{length-paired}
+use Rattle.kt_ceded.specs.Ceded.{AreCededShares, HasShares, share_at, shares_at}
+use Rattle.kt_ceded.specs.CededLaws.{length-paired}
 
 -- a place before all of them has no share
 share-before : (from n place : ℕ) (shares : List ℕ) → place < from → share_at (range_with_len from n) shares place ≡ 0

@@ -1,0 +1,2 @@
+pub mod Ceded
+pub mod CededLaws
