@@ -13,8 +13,8 @@ use Rattle.kt_curve.specs.Grid.{keys_for, sidx_of_kind}
 use Rattle.kt_period_cells.specs.Sets.{of_kind, IsGroup}
 use Rattle.kt_period_cells.specs.Standing.{cell_at, most_total, FitsCells, sidx_in_range}
 use Rattle.kt_period_cells.specs.Amounts.{amount_in, amounts_of, of_sample}
-use Rattle.kt_curve.specs.Exceedance.{curve_rows}
-use Rattle.kt_curve.specs.Ranks.{SameRanks, reaching}
+use Rattle.kt_ranks.specs.RankedLosses.{curve_rows}
+use Rattle.kt_ranks.specs.Ranks.{SameRanks, reaching}
 use Rattle.kt_curve.proofs.Grids.{group_sum_by, kind_times, single_times, times}
 use Rattle.kt_curve.proofs.Moments.{no_amount, sum_by_map}
 

@@ -2,8 +2,6 @@ pub mod Grids
 pub mod Moments
 pub mod Ids
 pub mod Averages
-pub mod Ranking
-pub mod Selecting
 pub mod Curves
 pub mod Periods
 pub mod Means

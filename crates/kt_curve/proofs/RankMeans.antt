@@ -13,12 +13,13 @@ use Rattle.std.proofs.Math.Nat.{mul-div-le}
 use Rattle.kt_money.specs.Rounding.{half_up}
 use Rattle.kt_rec.specs.declared.perspective.CellKey.{CellKey}
 use Rattle.kt_rec.specs.declared.perspective.Perspective.{Perspective}
-use Rattle.kt_curve.specs.Exceedance.{falling, ranked_loss, rank_means, sidx_values}
+use Rattle.kt_ranks.specs.RankedLosses.{falling, ranked_loss}
+use Rattle.kt_curve.specs.Exceedance.{rank_means, sidx_values}
 use Rattle.kt_curve.specs.Grid.{sample_sidx}
-use Rattle.kt_curve.specs.Ranks.{Falls, HasLosses, curve_ranks}
+use Rattle.kt_ranks.specs.Ranks.{Falls, HasLosses, curve_ranks}
 use Rattle.kt_curve.proofs.Grids.{length_values}
-use Rattle.kt_curve.proofs.Ranking.{falls_falling, falls_next, loss_is_ranked}
-use Rattle.kt_curve.proofs.Selecting.{all_asked, length_falling}
+use Rattle.kt_ranks.specs.RankLaws.{falls_falling, falls_next, loss_is_ranked}
+use Rattle.kt_ranks.specs.SelectLaws.{all_asked, length_falling}
 
 -- ---- means
 

@@ -9,13 +9,14 @@ use Rattle.kt_period_cells.specs.Amounts.{amount_at, amounts_of, of_sample}
 use Rattle.kt_period_cells.specs.SummaryRows.{IsSummary, group_entries, part_entries}
 use Rattle.kt_period_cells.specs.declared.group.SetCells.{SetCells}
 use Rattle.kt_period_cells.specs.declared.group.SummaryCells.{SummaryCells}
-use Rattle.kt_curve.specs.Exceedance.{ranked_loss, sidx_values}
+use Rattle.kt_ranks.specs.RankedLosses.{ranked_loss}
+use Rattle.kt_curve.specs.Exceedance.{sidx_values}
 use Rattle.kt_curve.specs.LossesOfSamples.{AreSampleLosses, HasSummary, group_losses, losses_of_samples}
-use Rattle.kt_curve.specs.Ranks.{SameRanks}
+use Rattle.kt_ranks.specs.Ranks.{SameRanks}
 use Rattle.kt_curve.specs.declared.sample_losses.SampleLosses.{SampleLosses}
 use Rattle.kt_curve.proofs.Curves.{ranks_of_equal, ranks_of_sample}
 use Rattle.kt_curve.proofs.Gathered.{taken_of}
-use Rattle.kt_curve.proofs.Ranking.{ranked_same}
+use Rattle.kt_ranks.specs.RankLaws.{ranked_same}
 
 -- ---- lists of one length
 

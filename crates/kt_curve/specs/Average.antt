@@ -1,17 +1,14 @@
 -- The average annual loss of each summary: the mean and the deviation of its totals over all periods, zeros included.
 -- The rules: docs/CALCULATION.md, "Average annual loss".
 use Rattle.std.specs.Prelude.{ℕ, ◌*◌, List, [], ◌∷◌, ◌++◌, map, codes}
-use Rattle.std.specs.List.{flat_map, join_with_byte}
+use Rattle.std.specs.List.{flat_map}
 use Rattle.kt_money.specs.NumberText.{count_text, money_text}
 use Rattle.kt_money.specs.declared.moments.MeanSd.{MeanSd}
 use Rattle.kt_rec.specs.declared.perspective.Perspective.{Perspective}
 use Rattle.kt_rec.specs.declared.perspective.CellKey.{CellKey}
 use Rattle.kt_period_cells.specs.Losses.{KeyLoss, total}
+use Rattle.kt_ranks.specs.RankedLosses.{table_line}
 use Rattle.kt_curve.specs.Grid.{mean_sidx, sample_sidx, keys_for, moments_of, summary_ids}
-
--- a line of a table: its fields with a comma between each two, and an LF
-abbrev pub table_line : List (List ℕ) → List ℕ
-table_line fields = join_with_byte 44 fields ++ 10 ∷ []
 
 -- the names of the columns
 abbrev pub aal_heading_text : List ℕ

@@ -1,8 +1,7 @@
--- Exceedance curves: the loss that is reached once in so many periods, by ranking losses.
+-- Exceedance curves: which losses are ranked, by the kind of the curve.
 -- The rules: docs/CALCULATION.md, "Exceedance curves", "Kinds of exceedance curves".
-use Rattle.std.specs.Prelude.{Bool, true, false, ℕ, ◌+◌, ◌-◌, ◌*◌, ◌/◌, ℤ, pos, List, [], ◌∷◌, ◌++◌, map, sum_by, codes, nat_le, if◌then◌else◌}
-use Rattle.std.specs.List.{flat_map, range_with_len, slice_index}
-use Rattle.kt_money.specs.NumberText.{count_text, money_text}
+use Rattle.std.specs.Prelude.{Bool, true, false, ℕ, ◌*◌, ℤ, pos, List, [], ◌∷◌, ◌++◌, map, sum_by, codes, if◌then◌else◌}
+use Rattle.std.specs.List.{flat_map, range_with_len}
 use Rattle.kt_money.specs.Rounding.{half_up}
 use Rattle.kt_rec.specs.declared.perspective.Perspective.{Perspective}
 use Rattle.kt_rec.specs.declared.perspective.CellKey.{CellKey}
@@ -10,32 +9,7 @@ use Rattle.kt_rec.specs.declared.curve.Curve.{Curve}
 use Rattle.kt_rec.specs.declared.curve.Curve.TheVariants.{FullAep, FullOep, SampleAep, SampleOep, WheatAep, WheatOep, WheatmeanAep, WheatmeanOep}
 use Rattle.kt_period_cells.specs.Losses.{KeyLoss, total, maximum, key_of}
 use Rattle.kt_curve.specs.Grid.{mean_sidx, sample_sidx, keys_for, summary_ids}
-use Rattle.kt_curve.specs.Average.{table_line}
-
--- a value put in its place among falling ones
-abbrev pub with_value : ℕ → List ℕ → List ℕ
-with_value value [] = value ∷ []
-with_value value (first ∷ later) = if nat_le first value then value ∷ first ∷ later else first ∷ with_value value later
-
--- values in falling order
-abbrev pub falling : List ℕ → List ℕ
-falling [] = []
-falling (value ∷ values) = with_value value (falling values)
-
--- the loss of a rank, counted from 0: the greatest has rank 0; 0 behind the last
-abbrev pub ranked_loss : List ℕ → ℕ → ℕ
-ranked_loss values rank = slice_index (falling values) rank
-
--- the loss of a return period among so many ranked losses: with j the whole quotient of the two, what lies between the loss
--- of rank j and the one behind it
-abbrev pub loss_between : ℕ → ℕ → ℕ → ℕ → ℕ → ℕ
-loss_between count return rank upper lower = lower + rank * (return * (rank + 1) - count) * (upper - lower) / count
-
--- the loss of a return period that is at most the number of values
-abbrev pub exceedance_loss : ℕ → List ℕ → ℕ → ℕ
-exceedance_loss count values return =
-    let rank = count / return in
-    loss_between count return rank (ranked_loss values (rank - 1)) (ranked_loss values rank)
+use Rattle.kt_ranks.specs.RankedLosses.{curve_rows, ranked_loss}
 
 -- the names of the columns of a curve, and of one for each sidx
 abbrev pub lec_heading_text : Bool → List ℕ
@@ -47,15 +21,6 @@ abbrev pub by_sidx : Curve → Bool
 by_sidx WheatAep = true
 by_sidx WheatOep = true
 by_sidx other = false
-
--- a row: the summary id, the type or the sidx, the return period and its loss
-abbrev pub lec_row : ℕ → ℕ → ℕ → ℕ → List ℕ
-lec_row summary column return loss = table_line (count_text summary ∷ count_text column ∷ count_text return ∷ money_text loss ∷ [])
-
--- the rows of one curve: a row for each return period that is at most the number of values, in their order
-abbrev pub curve_rows : ℕ → ℕ → ℕ → List ℕ → List ℕ → List ℕ
-curve_rows summary column count values returns =
-    flat_map (λ return. if nat_le return count then lec_row summary column return (exceedance_loss count values return) else []) returns
 
 -- what a curve ranks of a period: the maxima for an oep curve, else the totals
 abbrev pub takes_maxima : Curve → Bool

@@ -1,6 +1,5 @@
 pub mod Grid
 pub mod Average
-pub mod Ranks
 pub mod Exceedance
 pub mod LossesOfSamples
 pub mod SetsOfCurves

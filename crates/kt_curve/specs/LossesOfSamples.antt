@@ -11,8 +11,9 @@ use Rattle.kt_period_cells.specs.Amounts.{amount_at}
 use Rattle.kt_period_cells.specs.SummaryRows.{group_entries, part_entries}
 use Rattle.kt_period_cells.specs.declared.group.SetCells.{SetCells}
 use Rattle.kt_period_cells.specs.declared.group.SummaryCells.{SummaryCells}
-use Rattle.kt_curve.specs.Exceedance.{ranked_loss, sidx_values}
-use Rattle.kt_curve.specs.Ranks.{curve_ranks}
+use Rattle.kt_ranks.specs.RankedLosses.{ranked_loss}
+use Rattle.kt_curve.specs.Exceedance.{sidx_values}
+use Rattle.kt_ranks.specs.Ranks.{curve_ranks}
 use Rattle.kt_curve.specs.declared.sample_losses.SampleLosses.{SampleLosses}
 
 -- whether a curve is made of the losses that each sample has at the ranks: a curve for each sample, or that of their means

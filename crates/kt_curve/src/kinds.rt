@@ -4,13 +4,14 @@ ghost use Rattle.std.specs.Prelude.{◌≡◌, ◌*◌, ◌≤◌, ◌++◌, map
 ghost use Rattle.kt_curve.specs.Grid.{keys_for, sidx_of_kind};
 ghost use Rattle.kt_period_cells.specs.Amounts.{amount_at};
 ghost use Rattle.kt_period_cells.specs.SummaryRows.{group_entries, IsSummary};
-ghost use Rattle.kt_curve.specs.Exceedance.{full_rows, curve_rows};
+ghost use Rattle.kt_ranks.specs.RankedLosses.{curve_rows};
+ghost use Rattle.kt_curve.specs.Exceedance.{full_rows};
 
 use crate::average::count_of;
-use crate::exceedance::append_values;
 use kt_amounts::kind_amounts;
 use kt_money::{Bytes, OutOfMemory};
 use kt_period_cells::SummaryCells;
+use kt_ranks::append_values;
 use std::alloc::Global;
 
 /// Appends the rows of one type of a full curve. An error is want of memory.

@@ -2,13 +2,11 @@
 #![tactic(auto)]
 
 mod average;
-mod exceedance;
 mod kinds;
 pub mod laws;
 mod lec;
 mod mean_curves;
 mod rank_curves;
-mod ranks;
 mod sample_amounts;
 mod sample_losses;
 mod set_curves;

@@ -4,12 +4,13 @@ ghost use Rattle.std.specs.Prelude.{◌≡◌, ◌-◌, ◌*◌, ◌≤◌, ◌^
 ghost use Rattle.kt_money.specs.Rounding.{half_up};
 ghost use Rattle.kt_period_cells.specs.Amounts.{amount_at};
 ghost use Rattle.kt_period_cells.specs.SummaryRows.{group_entries, IsSummary};
-ghost use Rattle.kt_curve.specs.Exceedance.{curve_rows, period_means};
+ghost use Rattle.kt_ranks.specs.RankedLosses.{curve_rows};
+ghost use Rattle.kt_curve.specs.Exceedance.{period_means};
 
-use crate::exceedance::append_values;
 use kt_amounts::add_periods;
 use kt_money::{Bytes, OutOfMemory, div_half_up};
 use kt_period_cells::SummaryCells;
+use kt_ranks::append_values;
 use std::alloc::Global;
 
 /// The means of sums over the samples, to the nearest cent, halves up. An error is want of memory.

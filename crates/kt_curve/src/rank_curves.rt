@@ -5,16 +5,16 @@ ghost use Rattle.std.specs.List.Sorted.{IsPermutation};
 ghost use Rattle.kt_curve.specs.Grid.{sample_sidx};
 ghost use Rattle.kt_period_cells.specs.Amounts.{amount_at};
 ghost use Rattle.kt_period_cells.specs.SummaryRows.{group_entries, IsSummary};
-ghost use Rattle.kt_curve.specs.Exceedance.{curve_rows, ranked_loss, rank_means, sidx_values, wheat_rows};
+ghost use Rattle.kt_ranks.specs.RankedLosses.{curve_rows, ranked_loss};
+ghost use Rattle.kt_curve.specs.Exceedance.{rank_means, sidx_values, wheat_rows};
 ghost use Rattle.kt_curve.specs.LossesOfSamples.{HasSummary, group_losses};
-ghost use Rattle.kt_curve.specs.Ranks.{curve_ranks};
+ghost use Rattle.kt_ranks.specs.Ranks.{curve_ranks};
 
-use crate::exceedance::append_rows;
 use crate::mean_curves::means;
-use crate::ranks::put_losses;
 use crate::sample_losses::{SampleLosses, list_at};
 use kt_money::{Bytes, OutOfMemory};
 use kt_period_cells::SummaryCells;
+use kt_ranks::{append_rows, put_losses};
 use std::alloc::Global;
 
 /// Appends the rows of a curve of as many values as there are places, of which the losses of the ranks that it asks for are these. What

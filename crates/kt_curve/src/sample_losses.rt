@@ -3,12 +3,12 @@
 ghost use Rattle.std.specs.Prelude.{◌≡◌, ◌+◌, ◌*◌, ◌≤◌, ◌++◌, true, All, IfOk, OnOk, take, drop, length};
 ghost use Rattle.kt_period_cells.specs.SummaryRows.{IsPart, IsSummary};
 ghost use Rattle.kt_curve.specs.LossesOfSamples.{AreSampleLosses, group_losses, ranks_samples, set_losses};
-ghost use Rattle.kt_curve.specs.Ranks.{Falls};
+ghost use Rattle.kt_ranks.specs.Ranks.{Falls};
 
-use crate::ranks::{append_ranked, ranks_of};
 use crate::sample_amounts::SampleAmounts;
 use kt_money::OutOfMemory;
 use kt_period_cells::{SetCells, SummaryCells};
+use kt_ranks::{append_ranked, ranks_of};
 use kt_rec::Curve;
 use std::alloc::Global;
 

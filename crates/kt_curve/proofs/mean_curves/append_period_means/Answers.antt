@@ -2,7 +2,7 @@
 use Rattle.std.proofs.Common.{ℕ, ◌++◌, ◌+◌, ◌*◌, ◌^◌, ◌<◌, ◌≤◌, ap, ◌∙◌, arith}
 use Rattle.kt_period_cells.specs.Standing.{most_total}
 use Rattle.kt_period_cells.specs.SummaryRows.{group_entries}
-use Rattle.kt_curve.specs.Exceedance.{curve_rows}
+use Rattle.kt_ranks.specs.RankedLosses.{curve_rows}
 use Rattle.kt_period_cells.specs.Outcomes.{on_more}
 use Rattle.kt_curve.proofs.Means.{period_most, sums_most, means_of_periods}
 use Rattle.kt_curve.proofs.mean_curves.append_period_means.Goals as goal

@@ -3,7 +3,8 @@ use Rattle.std.proofs.Common.{◌≡◌, ◌-◌, ◌*◌, ◌^◌, ◌≤◌, �
 use Rattle.std.specs.List.{range_with_len}
 use Rattle.kt_period_cells.specs.SummaryRows.{group_entries}
 use Rattle.kt_period_cells.specs.Amounts.{amount_at}
-use Rattle.kt_curve.specs.Exceedance.{ranked_loss, sidx_values}
+use Rattle.kt_ranks.specs.RankedLosses.{ranked_loss}
+use Rattle.kt_curve.specs.Exceedance.{sidx_values}
 use Rattle.kt_curve.proofs.rank_curves.add_samples.Given as goal
 
 abbrev pub invariant-loop-sample : goal.invariant-loop-sample

@@ -3,7 +3,8 @@ use Rattle.std.proofs.Common.{◌≡◌, ℕ, List, length, sym, ap, ◌∙◌, 
 use Rattle.std.proofs.lemmas.List.{length-map}
 use Rattle.kt_period_cells.specs.SummaryRows.{group_entries}
 use Rattle.kt_period_cells.specs.Amounts.{amount_at}
-use Rattle.kt_curve.specs.Exceedance.{curve_rows, sidx_values}
+use Rattle.kt_ranks.specs.RankedLosses.{curve_rows}
+use Rattle.kt_curve.specs.Exceedance.{sidx_values}
 use Rattle.kt_curve.specs.LossesOfSamples.{group_losses}
 use Rattle.kt_curve.proofs.Curves.{rows_of_count, samples_more, samples_all}
 use Rattle.kt_curve.proofs.Grids.{length_values}

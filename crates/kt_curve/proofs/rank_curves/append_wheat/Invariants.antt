@@ -3,7 +3,8 @@ use Rattle.std.proofs.Common.{◌≡◌, ◌-◌, ◌++◌, length, pos}
 use Rattle.std.specs.List.{flat_map, range_with_len}
 use Rattle.kt_period_cells.specs.SummaryRows.{group_entries}
 use Rattle.kt_period_cells.specs.Amounts.{amount_at}
-use Rattle.kt_curve.specs.Exceedance.{curve_rows, sidx_values}
+use Rattle.kt_ranks.specs.RankedLosses.{curve_rows}
+use Rattle.kt_curve.specs.Exceedance.{sidx_values}
 use Rattle.kt_curve.proofs.rank_curves.append_wheat.Given as goal
 
 abbrev pub invariant-loop-sample : goal.invariant-loop-sample

@@ -1,0 +1,4 @@
+pub mod RankedLosses
+pub mod Ranks
+pub mod RankLaws
+pub mod SelectLaws
