@@ -28,7 +28,7 @@ use Rattle.kt_chain.specs.Events.{RunInput, all_added}
 use Rattle.kt_chain.specs.Files.{event_text, files_upto, files_whole, text_upto, text_whole}
 use Rattle.kt_chain.specs.Outcome.{chain_outcome, event_refusal, reached_outcome, run_reaches}
 use Rattle.kt_chain.specs.Reached.{AreDone, Passes, Reached, StopsAt, all_reached, done_reached, earlier_are_done, stop_reached}
-use Rattle.kt_chain.specs.Rounds.{FoldState}
+use Rattle.kt_fold.specs.Folds.{FoldState}
 use Rattle.kt_chain.specs.Runs.{GoesOn, IsFolded, IsRunOf, MakesSome, RoundGoes, RoundMakes, RunMakes, RunSays, RunShares}
 use Rattle.kt_chain.proofs.TextLemmas.{same_files}
 

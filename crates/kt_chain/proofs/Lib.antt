@@ -1,13 +1,9 @@
-mod ListLemmas
-mod ReadyLemmas
 mod AddedLemmas
 mod PassLemmas
 mod PartLemmas
 mod RowLemmas
 mod WorkLemmas
-mod FoldLemmas
 mod TextLemmas
-mod TakeLemmas
 mod RoundLemmas
 mod StepLemmas
 mod EndLemmas

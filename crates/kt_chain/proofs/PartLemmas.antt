@@ -13,10 +13,11 @@ use Rattle.kt_rec.specs.declared.foot_rows.ModelStop.{ModelStop}
 use Rattle.kt_rec.specs.declared.foot_rows.ModelStop.TheVariants as stop
 use Rattle.kt_tree.specs.Sums.{each_append}
 use Rattle.kt_chain.specs.Outcome.{row_refusal}
-use Rattle.kt_chain.specs.Rounds.{IsPart, IsWhole, RoundParts, before_part, blocks_of, given_block, part_events, part_of}
+use Rattle.kt_chain.specs.Rounds.{IsPart, RoundParts, before_part, given_block, part_events, part_of}
+use Rattle.kt_fold.specs.Folds.{IsWhole, blocks_of}
 use Rattle.kt_load.specs.EventRows.{EventRows}
-use Rattle.kt_chain.specs.declared.part.PartBlock.{PartBlock}
-use Rattle.kt_chain.specs.declared.part.RefusedRow.{RefusedRow}
+use Rattle.kt_fold.specs.declared.part.PartBlock.{PartBlock}
+use Rattle.kt_fold.specs.declared.part.RefusedRow.{RefusedRow}
 
 -- how a refused row refuses the run
 abbrev pub row_is : RefusedRow → Refusal

@@ -14,7 +14,8 @@ use Rattle.kt_chain.specs.Outcome.{event_refusal, row_refusal}
 use Rattle.kt_chain.specs.Reached.{Passes, StopsAt, both_pass, none_passes, one_passes, one_stops, stops_behind}
 use Rattle.kt_chain.specs.Rounds.{HasRows, given_block}
 use Rattle.kt_load.specs.EventRows.{EventRows, ids_of}
-use Rattle.kt_chain.proofs.AddedLemmas.{added_of_both, added_of_one, none_of_first}
+use Rattle.kt_chain.proofs.AddedLemmas.{added_of_both, added_of_one}
+use Rattle.kt_fold.specs.AddedLaws.{none_of_first}
 
 module _ (run : RunInput) where
   -- the footprint rows of an event are not refused

@@ -14,19 +14,21 @@ use Rattle.kt_rec.specs.FootRows.{first_refused_row}
 use Rattle.kt_rec.specs.Rows.{Rows}
 use Rattle.kt_rec.specs.declared.hazard.FootRow.{FootRow}
 use Rattle.kt_tree.specs.Sums.{each_append}
-use Rattle.kt_chain.specs.Events.{RunInput, all_added, block_added, block_of, blocks_added, event_added}
+use Rattle.kt_chain.specs.Events.{RunInput, all_added, block_of, event_added}
+use Rattle.kt_fold.specs.Added.{block_added, blocks_added}
 use Rattle.kt_chain.specs.Outcome.{event_refusal, row_refusal}
 use Rattle.kt_chain.specs.Reached.{Passes, StopsAt}
-use Rattle.kt_chain.specs.Rounds.{FoldStart, FoldState, HasRows, HasStopped, IsPart, IsReason, IsWhy, RoundParts, StandsBehind, StopsBehind, StopsBy, blocks_of, fold_refusal, given_block, part_count, part_events, part_of, with_blocks}
+use Rattle.kt_chain.specs.Rounds.{HasRows, IsPart, IsWhy, RoundParts, given_block, part_count, part_events, part_of}
+use Rattle.kt_fold.specs.Folds.{FoldStart, FoldState, HasStopped, IsReason, StandsBehind, StopsBehind, StopsBy, blocks_of, fold_refusal, with_blocks}
 use Rattle.kt_load.specs.EventRows.{EventRows, ids_of}
 use Rattle.kt_chain.specs.Runs.{AreGivenRows, FoldsTo, IsFolded}
-use Rattle.kt_chain.specs.declared.fold.FoldStop.{FoldStop}
-use Rattle.kt_chain.specs.declared.part.PartBlock.{PartBlock}
-use Rattle.kt_chain.specs.declared.part.RefusedRow.{RefusedRow}
+use Rattle.kt_fold.specs.declared.fold.FoldStop.{FoldStop}
+use Rattle.kt_fold.specs.declared.part.PartBlock.{PartBlock}
+use Rattle.kt_fold.specs.declared.part.RefusedRow.{RefusedRow}
 use Rattle.kt_chain.proofs.AddedLemmas.{added_of_blocks, added_of_both}
 use Rattle.kt_chain.proofs.PartLemmas.{IsBehind, IsClearRows, events_from, split_part, whole_parts}
 use Rattle.kt_chain.proofs.PassLemmas.{block_by_rows, blocks_by_rows, clear_event, clear_events, events_pass, stops_by_records, stops_by_rows}
-use Rattle.kt_chain.proofs.TakeLemmas.{blocks_more}
+use Rattle.kt_fold.specs.AddedLaws.{blocks_more}
 
 -- what the fold begins with behind the events that are done
 abbrev pub start_of : RunInput → List ℕ → FoldStart

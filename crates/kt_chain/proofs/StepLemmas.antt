@@ -30,7 +30,7 @@ use Rattle.kt_chain.specs.Files.{event_text, files_upto, text_upto}
 use Rattle.kt_chain.specs.Outcome.{event_refusal}
 use Rattle.kt_chain.specs.Reached.{AreDone, Passes, StopsAt, both_pass, done_behind, done_with_more, earlier_are_done, none_passes, passed_are_done, reached_are_done, stops_with_more}
 use Rattle.kt_chain.specs.Reached.{stops_behind as stops_later}
-use Rattle.kt_chain.specs.Rounds.{FoldState}
+use Rattle.kt_fold.specs.Folds.{FoldState}
 use Rattle.kt_load.specs.EventRows.{EventRows, ids_of}
 use Rattle.kt_chain.specs.Runs.{AreGivenRows, CountsRead, FoldEnds, FoldsTo, GoesOn, IsFolded, IsRunOf, MakesSome, RoundGoes, RoundMakes, RunShares}
 use Rattle.kt_chain.proofs.TextLemmas.{same_files}

@@ -15,8 +15,8 @@ use Rattle.kt_outputs.specs.Files.{Makes, file_with, files_with}
 use Rattle.kt_outputs.specs.Texts.{joined, no_text}
 use Rattle.kt_rec.specs.Rows.{Rows}
 use Rattle.kt_chain.specs.RoundRows.{PartRows, part_text}
-use Rattle.kt_chain.specs.Rounds.{blocks_of}
-use Rattle.kt_chain.specs.declared.part.PartBlock.{PartBlock}
+use Rattle.kt_fold.specs.Folds.{blocks_of}
+use Rattle.kt_fold.specs.declared.part.PartBlock.{PartBlock}
 
 -- files with the same texts are the same
 pub same_files : {F : Type 0} (name text other : F → List ℕ) → ((file : F) → text file ≡ other file) → (files : List F) → files_with name text files ≡ files_with name other files

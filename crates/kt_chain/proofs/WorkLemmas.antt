@@ -11,7 +11,7 @@ use Rattle.kt_rec.specs.declared.foot_rows.ModelStop.TheVariants as stop
 use Rattle.kt_rec.specs.declared.foot_rows.RowCause.{RowCause}
 use Rattle.kt_chain.specs.Rounds.{before_part, given_block, part_of}
 use Rattle.kt_load.specs.EventRows.{EventRows}
-use Rattle.kt_chain.specs.declared.part.PartBlock.{PartBlock}
+use Rattle.kt_fold.specs.declared.part.PartBlock.{PartBlock}
 
 -- a part behind other blocks
 abbrev pub behind : List EventBlock → PartBlock → PartBlock

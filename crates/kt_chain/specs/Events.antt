@@ -1,18 +1,16 @@
 -- What each event of a run gives: its block, and what of it the tables over all periods add up.
 -- The rules: docs/CALCULATION.md, "Periods"; docs/OUTPUTS.md, "Files of a run".
-use Rattle.std.specs.Prelude.{ℕ, List, [], map, unwrap_or}
+use Rattle.std.specs.Prelude.{ℕ, List, [], unwrap_or}
 use Rattle.std.specs.List.{flat_map}
 use Rattle.kt_period_cells.specs.Losses.{Added}
 use Rattle.kt_event.specs.Losses.{event_block_of}
 use Rattle.kt_event.specs.declared.block.EventBlock.{EventBlock}
-use Rattle.kt_event.specs.declared.block.Summaries.{Summaries}
 use Rattle.kt_event.specs.declared.terms.Terms.{Terms}
 use Rattle.kt_load.specs.EventRows.{event_rows, footprint_name}
 use Rattle.kt_out.specs.NamedFiles.{FileMap}
 use Rattle.kt_rec.specs.Rows.{Rows}
 use Rattle.kt_rec.specs.declared.hazard.FootRow.{FootRow}
-use Rattle.kt_stream.specs.declared.entry.SummaryRecord.{SummaryRecord}
-use Rattle.kt_tables.specs.Lookups.{occurrences_of}
+use Rattle.kt_fold.specs.Added.{block_added}
 
 -- what a run is made of: its terms, the rows of its tables, and the bytes of the footprint's file
 pub record RunInput : Type 0 where
@@ -31,22 +29,6 @@ foot_of run event = event_rows run.rows run.footprint event
 -- what an event gives: its summaries in each set, and the sums of its layers
 abbrev pub block_of : RunInput → ℕ → EventBlock
 block_of run event = event_block_of run.terms run.rows event (foot_of run event)
-
--- a summary record with its set, and the occurrences of its event
-abbrev pub record_added : Rows → Summaries → SummaryRecord → Added
-record_added rows summaries entry = record { perspective = summaries.perspective; set = summaries.set; entry = entry; at = occurrences_of rows entry.event }
-
--- the records of summaries of a set
-abbrev pub summaries_added : Rows → Summaries → List Added
-summaries_added rows summaries = map (record_added rows summaries) summaries.records
-
--- the records of an event's block, set by set
-abbrev pub block_added : Rows → EventBlock → List Added
-block_added rows block = flat_map (summaries_added rows) block.summaries
-
--- the records of blocks, one after the other
-abbrev pub blocks_added : Rows → List EventBlock → List Added
-blocks_added rows blocks = flat_map (block_added rows) blocks
 
 -- the records of an event
 abbrev pub event_added : RunInput → ℕ → List Added

@@ -3,8 +3,6 @@ pub mod Files
 pub mod Reached
 pub mod Outcome
 pub mod Rounds
-pub mod FoldKeeps
-pub mod ReadyParts
 pub mod Runs
 pub mod RoundRows
 pub mod RunLaws

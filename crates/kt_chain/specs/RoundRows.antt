@@ -5,8 +5,8 @@ use Rattle.std.specs.List.{AllByRecursion, flat_map}
 use Rattle.kt_files.specs.Parts.{block_text}
 use Rattle.kt_files.specs.declared.file.OutputFile.{OutputFile}
 use Rattle.kt_rec.specs.Rows.{Rows}
-use Rattle.kt_chain.specs.Rounds.{IsGoodPart}
-use Rattle.kt_chain.specs.declared.part.PartBlock.{PartBlock}
+use Rattle.kt_fold.specs.Folds.{IsGoodPart}
+use Rattle.kt_fold.specs.declared.part.PartBlock.{PartBlock}
 
 -- the parts of a round, with the samples and the rows by which their rows are made
 pub record PartRows : Type 0 where

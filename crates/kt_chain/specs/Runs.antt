@@ -26,7 +26,8 @@ use Rattle.kt_chain.specs.Events.{RunInput, all_added, block_of}
 use Rattle.kt_chain.specs.Files.{files_upto}
 use Rattle.kt_chain.specs.Outcome.{chain_outcome, event_refusal}
 use Rattle.kt_chain.specs.Reached.{AreDone, Passes, StopsAt}
-use Rattle.kt_chain.specs.Rounds.{FoldState, HasRows, blocks_of}
+use Rattle.kt_chain.specs.Rounds.{HasRows}
+use Rattle.kt_fold.specs.Folds.{FoldState, blocks_of}
 
 -- a run's input is what these input files hold: its rows are those of the tables, its footprint is their file's
 pub record IsRunOf (held : Option FileMap) (terms : Terms) (rows : Rows) (run : RunInput) : Type 0 where

@@ -36,7 +36,8 @@ use Rattle.kt_stream.specs.declared.entry.SummaryRecord.{SummaryRecord}
 use Rattle.kt_stream.specs.declared.kind.Head.{Head}
 use Rattle.kt_tables.specs.Lookups.{event_ids, occurrences_of, return_periods_of}
 use Rattle.kt_chain.specs.DoneLaws.{RefusesNothing, refuses_nothing}
-use Rattle.kt_chain.specs.Events.{RunInput, all_added, block_of, event_added, foot_of, record_added, summaries_added}
+use Rattle.kt_chain.specs.Events.{RunInput, all_added, block_of, event_added, foot_of}
+use Rattle.kt_fold.specs.Added.{record_added, summaries_added}
 use Rattle.kt_chain.specs.Files.{text_whole}
 use Rattle.kt_chain.specs.Outcome.{chain_outcome}
 use Rattle.kt_chain.specs.RunLaws.{averages_empty, curves_empty}

@@ -1,12 +1,8 @@
 //! A run of all stages over a portfolio: its events round by round, and the files that it makes.
 #![tactic(auto)]
 
-mod fold;
 pub mod laws;
 mod options;
-mod part;
-mod ready;
-mod ready_list;
 mod rounds;
 mod rows;
 mod run;

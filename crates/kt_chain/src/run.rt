@@ -23,13 +23,13 @@ ghost use Rattle.kt_chain.specs.Outcome.{chain_outcome};
 ghost use Rattle.kt_chain.specs.Rounds.{IsRunStop};
 ghost use Rattle.kt_chain.specs.Runs.{Counts, IsRunOf, RunMakes, RunSays, chain_uses};
 
-use crate::fold::RunFold;
 use crate::options::ChainOptions;
 use crate::rounds::{Run, all_rounds};
 use kt_ends::{ToolStop, write_stop};
 use kt_event::Plan;
 use kt_files::laws::names_are_distinct;
 use kt_files::{Endings, Headings, OutputFile, output_files, shared_curves};
+use kt_fold::RunFold;
 use kt_loop::keep_memory;
 use kt_out::{Fault, Gate, Inputs, Outputs};
 use kt_outputs::{append_texts, append_texts_beside, create_files};

@@ -1,7 +1,4 @@
-//! What workers and the fold hold may be sent to threads and shared by them.
-use crate::fold::{FoldStop, RunFold};
-use crate::part::PartBlock;
-use crate::ready::ReadyPart;
+//! What workers hold may be sent to threads and shared by them.
 use crate::work::RoundWork;
 use kt_out::Open;
 
@@ -9,16 +6,6 @@ use kt_out::Open;
 fn is_shared<T: Send + Sync>(_: &T) {}
 
 /// Each type once.
-pub(crate) fn are_shared(
-    work: &RoundWork<'_, Open>,
-    fold: &RunFold<'_>,
-    part: &PartBlock,
-    ready: &ReadyPart,
-    stop: &FoldStop,
-) {
+pub(crate) fn are_shared(work: &RoundWork<'_, Open>) {
     is_shared(work);
-    is_shared(fold);
-    is_shared(part);
-    is_shared(ready);
-    is_shared(stop);
 }

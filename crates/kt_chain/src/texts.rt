@@ -5,9 +5,9 @@ ghost use Rattle.std.specs.List.{AllByRecursion, flat_map};
 ghost use Rattle.kt_event.specs.Losses.{AreSummaries};
 ghost use Rattle.kt_files.specs.Parts.{block_text};
 
-use crate::part::PartBlock;
 use kt_event::EventBlock;
 use kt_files::{OutputFile, push_block};
+use kt_fold::PartBlock;
 use kt_money::{Bytes, OutOfMemory};
 use kt_outputs::Texts;
 use kt_tables::Portfolio;

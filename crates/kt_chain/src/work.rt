@@ -7,9 +7,8 @@ ghost use Rattle.kt_event.specs.Plan.{IsPlan, terms_of};
 ghost use Rattle.kt_stream.specs.Pairs.{IsId};
 ghost use Rattle.kt_chain.specs.Rounds.{part_count, part_events, part_of};
 
-use crate::part::{PartBlock, RefusedRow};
-use crate::ready::ReadyPart;
 use kt_event::{Plan, event_block};
+use kt_fold::{PartBlock, ReadyPart, RefusedRow};
 use kt_load::RoundRows;
 use kt_out::Gate;
 use kt_part::Work;

@@ -1,10 +1,11 @@
 use Rattle.std.proofs.Common.{◌∙◌, ◌+◌, ◌*◌, ◌-◌, ◌/◌, ◌≤◌, [], ℕ, List, ◌≡◌, Err, length, ap, sym, subst}
-use Rattle.kt_chain.specs.declared.fold.FoldStop.{FoldStop}
+use Rattle.kt_fold.specs.declared.fold.FoldStop.{FoldStop}
 use Rattle.kt_part.specs.Folding.{RoundEnds}
 use Rattle.kt_part.specs.declared.round.RoundStop.{RoundStop}
 use Rattle.kt_chain.proofs.RoundLemmas.{begins, enough, few_parts, round_passes, round_stopped, start_of, why_answered}
 use Rattle.kt_chain.specs.Events.{RunInput}
-use Rattle.kt_chain.specs.Rounds.{IsGoodPart, IsPart, RoundParts, StandsBehind, StopsBehind, fold_refusal, part_count}
+use Rattle.kt_chain.specs.Rounds.{IsPart, RoundParts, part_count}
+use Rattle.kt_fold.specs.Folds.{IsGoodPart, StandsBehind, StopsBehind, fold_refusal}
 use Rattle.kt_chain.specs.Runs.{AreGivenRows, FoldsTo, IsFolded, RunShares}
 use Rattle.kt_load.specs.EventRows.{ids_of}
 use Rattle.kt_event.specs.Plan.{terms_of}

@@ -6,7 +6,7 @@ use Rattle.kt_keys.specs.Refusals.{is_loaded}
 use Rattle.kt_rec.specs.Rows.{Rows}
 use Rattle.kt_rec.specs.declared.table.Table.TheVariants as table
 use Rattle.kt_tables.specs.Lookups.{event_ids}
-use Rattle.kt_chain.specs.Rounds.{FoldState}
+use Rattle.kt_fold.specs.Folds.{FoldState}
 use Rattle.kt_chain.specs.Runs.{IsFolded, RoundGoes, RoundMakes, RunMakes, RunShares}
 use Rattle.kt_chain.proofs.EndLemmas.{all_makes, all_says, begins_in_part, begun, first_fold, part_makes, stop_makes, stop_says}
 use Rattle.kt_chain.proofs.StepLemmas.{files_of_run}

@@ -1,0 +1,4 @@
+mod ListLemmas
+mod ReadyLemmas
+mod FoldLemmas
+mod TakeLemmas

@@ -1,0 +1,5 @@
+pub mod Added
+pub mod Folds
+pub mod AddedLaws
+pub mod FoldKeeps
+pub mod ReadyParts

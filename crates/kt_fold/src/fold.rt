@@ -1,0 +1,298 @@
+//! What takes the parts of a round: it adds the records of their blocks to the periods, and keeps the blocks.
+//! The rules: docs/CALCULATION.md, "Periods"; docs/REFUSALS.md, "Order".
+ghost use Rattle.std.specs.Prelude.{◌≡◌, ◌≤◌, [], List, All, IfErr, length, true};
+ghost use Rattle.std.specs.List.{AllByRecursion};
+ghost use Rattle.kt_period_cells.specs.Losses.{Added};
+ghost use Rattle.kt_period_cells.specs.Standing.{StandsFor};
+ghost use Rattle.kt_event.specs.Losses.{AreSummaries};
+ghost use Rattle.kt_stream.specs.Summary.{IsSummary};
+ghost use Rattle.kt_tables.specs.Portfolio.{KeepsPeriods};
+ghost use Rattle.kt_fold.specs.Added.{block_added, summaries_added};
+ghost use Rattle.kt_fold.specs.FoldKeeps.{KeepsFront, KeepsWhole};
+ghost use Rattle.kt_fold.specs.ReadyParts.{AreReadyBlocks, AreReadyRecords, IsReadyBlock};
+ghost use Rattle.kt_keys.specs.Refusals.{is_loaded};
+ghost use Rattle.kt_rec.specs.declared.table.Table.TheVariants as table;
+ghost use Rattle.kt_fold.specs.Folds.{AddsAll, AddsBlocks, IsGoodPart, fold_refusal};
+ghost use Rattle.kt_periods.specs.Adding.{cell_refusal as refusal_of_cells};
+
+use crate::part::{PartBlock, RefusedRow};
+use crate::ready::{ReadyBlock, ReadyBlocks, ReadyPart, ReadyRecords};
+use crate::ready_list::ReadyList;
+use kt_ends::Refusal;
+use kt_event::{EventBlock, Summaries};
+use kt_part::Fold;
+use kt_period_cells::{CellStop, Cells, ReadyRows};
+use kt_tables::Portfolio;
+use std::alloc::Global;
+use std::marker::Model;
+
+/// Why a fold stopped.
+#[derive(Drop)]
+pub enum FoldStop {
+    /// A record of an event passes a limit, or memory is wanting for its cells.
+    Cell {
+        /// The event.
+        event: u32,
+        /// Why.
+        stop: CellStop,
+    },
+    /// A footprint row is refused.
+    Row(RefusedRow),
+    /// Want of memory.
+    OutOfMemory,
+}
+
+impl FoldStop {
+    /// Why it refuses the run; `None` where memory was wanting.
+    pub fn refusal(self) -> Option<Refusal>
+        ensures { result ≡ fold_refusal self }
+    {
+        match self {
+            FoldStop::Cell { event, stop } => cell_refusal(event, stop),
+            FoldStop::Row(row) => Some(row.refusal()),
+            FoldStop::OutOfMemory => None,
+        }
+    }
+}
+
+/// How a record of an event is refused by the cells; `None` where memory was wanting.
+fn cell_refusal(event: u32, stop: CellStop) -> Option<Refusal>
+    ensures { result ≡ refusal_of_cells event stop }
+{
+    match stop {
+        CellStop::Cells { held } => Some(Refusal::Cells { event, held }),
+        CellStop::Period { key, held, more } => Some(Refusal::Period {
+            event,
+            key,
+            held,
+            more,
+        }),
+        CellStop::OutOfMemory => None,
+    }
+}
+
+/// Why adding blocks stopped, and how many were added before.
+#[derive(Drop)]
+pub(crate) struct BlockStop {
+    pub(crate) place: usize,
+    pub(crate) stop: FoldStop,
+}
+
+/// Adds the records of the summaries of a set, with the occurrences of their events, and with the ready rows that were made for them.
+fn add_summaries(
+    portfolio: &Portfolio,
+    cells: &mut Cells,
+    summaries: &Summaries,
+    mut ready: ReadyRecords,
+) -> Result<(), FoldStop>
+    requires periods { KeepsPeriods portfolio.now.rows }
+    requires same { cells.old.periods ≡ portfolio.now.rows.periods }
+    requires good { All (IsSummary cells.old.samples) summaries.now.records }
+    requires ready { AreReadyRecords summaries.now ready }
+    ensures added { (history : List Added) → StandsFor history cells.old → AddsAll history (summaries_added portfolio.now.rows summaries.now) cells.new result }
+    ensures size { (cells.new.periods ≡ cells.old.periods) × (cells.new.samples ≡ cells.old.samples) }
+{
+    for entry in summaries.records.as_slice() {
+        let occurrences = portfolio.occurrences(entry.event);
+        let own = ready.next(ReadyRows::none(cells.alloc()));
+        if let Err(stop) = cells.add_ready(
+            summaries.perspective,
+            summaries.set,
+            entry,
+            occurrences,
+            own,
+        ) {
+            return Err(FoldStop::Cell {
+                event: entry.event,
+                stop,
+            });
+        }
+    }
+    Ok(())
+}
+
+/// Adds the records of an event's block, set by set.
+fn add_block(
+    portfolio: &Portfolio,
+    cells: &mut Cells,
+    block: &EventBlock,
+    mut ready: ReadyBlock,
+) -> Result<(), FoldStop>
+    requires periods { KeepsPeriods portfolio.now.rows }
+    requires same { cells.old.periods ≡ portfolio.now.rows.periods }
+    requires good { AreSummaries cells.old.samples block.now.summaries }
+    requires ready { IsReadyBlock block.now ready }
+    ensures added { (history : List Added) → StandsFor history cells.old → AddsAll history (block_added portfolio.now.rows block.now) cells.new result }
+    ensures size { (cells.new.periods ≡ cells.old.periods) × (cells.new.samples ≡ cells.old.samples) }
+{
+    for summaries in block.summaries.as_slice() {
+        let own = ready.next(ReadyList::none(cells.alloc()));
+        if let Err(stop) = add_summaries(portfolio, cells, summaries, own) {
+            return Err(stop);
+        }
+    }
+    Ok(())
+}
+
+/// Adds the records of blocks, one after the other, up to the first that stops it.
+fn add_blocks(
+    portfolio: &Portfolio,
+    cells: &mut Cells,
+    blocks: &[EventBlock],
+    mut ready: ReadyBlocks,
+) -> Result<(), BlockStop>
+    requires periods { KeepsPeriods portfolio.now.rows }
+    requires same { cells.old.periods ≡ portfolio.now.rows.periods }
+    requires good { AllByRecursion (λ block. AreSummaries cells.old.samples block.summaries) blocks.now }
+    requires ready { AreReadyBlocks blocks.now ready }
+    ensures added { (history : List Added) → StandsFor history cells.old → AddsBlocks portfolio.now.rows history blocks.now cells.new result }
+    ensures within { IfErr result (λ at. at.place ≤ length blocks.now) }
+    ensures size { (cells.new.periods ≡ cells.old.periods) × (cells.new.samples ≡ cells.old.samples) }
+{
+    for place in 0..blocks.len() {
+        let own = ready.next(ReadyList::none(cells.alloc()));
+        if let Err(stop) = add_block(portfolio, cells, &blocks[place], own) {
+            return Err(BlockStop { place, stop });
+        }
+    }
+    Ok(())
+}
+
+/// The losses of all records that were added, and the parts of the round that is under way. Contracts see the rows of the tables,
+/// the cells and the parts.
+#[derive(Drop)]
+pub struct RunFold<'a> {
+    portfolio: &'a Portfolio,
+    samples: u32,
+    cells: Cells,
+    kept: Vec<PartBlock>,
+}
+
+impl<'a> Model for RunFold<'a> {
+    ghost use Rattle.kt_fold.specs.Folds.{FoldState};
+    ghost use Rattle.kt_fold.specs.FoldKeeps.{IsFold};
+
+    ghost Value = { FoldState };
+
+    ghost view = { λ f. record { rows = f.portfolio.now.rows; cells = f.cells; kept = f.kept.items } };
+
+    ghost invariant = { λ f. IsFold f.portfolio.now f.samples f.cells f.kept.items };
+}
+
+impl<'a> RunFold<'a> {
+    /// No record was added yet.
+    pub fn new(alloc: Global, portfolio: &'a Portfolio, samples: u32) -> RunFold<'a>
+        requires loaded { is_loaded portfolio.now.need 0 table.Occurrence ≡ true }
+        requires some { 1 ≤ samples }
+        requires few { samples ≤ 1000 }
+        ensures value { result ≡ record { rows = portfolio.now.rows; cells = record { periods = portfolio.now.rows.periods; samples = samples; entries = [] }; kept = [] } }
+    {
+        portfolio.keeps_periods();
+        RunFold {
+            portfolio,
+            samples,
+            cells: Cells::new(alloc, portfolio.periods(), samples),
+            kept: Vec::new(alloc),
+        }
+    }
+
+    /// The losses of all records that were added.
+    pub fn cells(&self) -> &Cells
+        ensures { result.now ≡ self.now.cells }
+    {
+        &self.cells
+    }
+
+    /// The portfolio of its tables.
+    pub fn portfolio(&self) -> &'a Portfolio
+        ensures { result.now.rows ≡ self.now.rows }
+    {
+        self.portfolio
+    }
+
+    /// The number of samples of the cells.
+    pub fn samples(&self) -> u32
+        ensures value { result ≡ self.now.cells.samples }
+        ensures range { (1 ≤ result) × (result ≤ 1000) }
+        ensures periods { self.now.cells.periods ≡ self.now.rows.periods }
+        ensures good { AllByRecursion (IsGoodPart self.now.cells.samples) self.now.kept }
+    {
+        self.samples
+    }
+
+    /// Whether the parts of the next round are to come with ready rows: those of the rounds before were of use. It changes no output.
+    pub fn ahead(&self) -> bool {
+        self.cells.wants_ready()
+    }
+
+    /// The parts that are kept.
+    pub fn kept(&self) -> &[PartBlock]
+        ensures { result.now ≡ self.now.kept }
+    {
+        &self.kept
+    }
+
+    /// Keeps no part any more.
+    pub fn let_go(&mut self)
+        ensures { self.new ≡ record self.old { kept = [] } }
+    {
+        self.kept.clear();
+    }
+
+    /// Keeps a part whose blocks were added, and stops where a row was refused behind them.
+    fn keep_whole(&mut self, part: PartBlock) -> Result<(), FoldStop>
+        requires good { IsGoodPart self.old.cells.samples part }
+        ensures { KeepsWhole self.old part result self.new }
+    {
+        let refused = part.refused;
+        if self.kept.push(part).is_err() {
+            return Err(FoldStop::OutOfMemory);
+        }
+        match refused {
+            Some(row) => Err(FoldStop::Row(row)),
+            None => Ok(()),
+        }
+    }
+
+    /// Keeps the blocks of a part that were added, and stops behind them.
+    fn keep_front(&mut self, part: PartBlock, at: BlockStop) -> FoldStop
+        requires within { at.place ≤ length part.blocks }
+        requires good { IsGoodPart self.old.cells.samples part }
+        ensures { KeepsFront self.old part at result self.new }
+    {
+        let mut part = part;
+        part.blocks.truncate(at.place);
+        if self.kept.push(part).is_err() {
+            return FoldStop::OutOfMemory;
+        }
+        at.stop
+    }
+}
+
+impl<'a> Fold<ReadyPart> for RunFold<'a> {
+    ghost use Rattle.kt_fold.specs.Folds.{FitsFold, FoldStart, StandsBehind, StopsBehind};
+
+    type Stop = FoldStop;
+
+    ghost Start = { FoldStart };
+
+    ghost stands = { StandsBehind };
+
+    ghost stopped = { StopsBehind };
+
+    ghost fits = { FitsFold };
+
+    fn take(&mut self, _k: u32, block: ReadyPart) -> Result<(), FoldStop> {
+        self.portfolio.keeps_periods();
+        let (part, ready) = block.split();
+        match add_blocks(
+            self.portfolio,
+            &mut self.cells,
+            part.blocks.as_slice(),
+            ready,
+        ) {
+            Ok(()) => self.keep_whole(part),
+            Err(at) => Err(self.keep_front(part, at)),
+        }
+    }
+}

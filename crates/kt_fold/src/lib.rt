@@ -1,0 +1,13 @@
+//! The fold of a run: it takes the parts of its rounds in their order, adds the records of their blocks to the periods, and keeps the
+//! blocks.
+#![tactic(auto)]
+
+mod fold;
+mod part;
+mod ready;
+mod ready_list;
+mod shared;
+
+pub use fold::{FoldStop, RunFold};
+pub use part::{PartBlock, RefusedRow};
+pub use ready::ReadyPart;
