@@ -9,15 +9,18 @@ ghost use Rattle.kt_stream.specs.Losses.{IsLoss};
 ghost use Rattle.kt_stream.specs.Pairs.{IsId};
 ghost use Rattle.kt_event.specs.Losses.{AreSummaries, block_of_losses, event_result, ground_up_of, insured_of, layers_up_to, set_summaries, summaries_of};
 ghost use Rattle.kt_event.specs.Plan.{IsBase, IsOrMemory, IsPlan, terms_of};
-ghost use Rattle.kt_event.specs.Terms.{has_insured, has_net, net_sets, output_perspectives, sets_of};
+ghost use Rattle.kt_event.specs.Terms.{AreTerms, has_insured, has_net, net_sets, output_perspectives, sets_of};
+ghost use Rattle.kt_insured.specs.Insured.{insured_records, layer_sums};
+ghost use Rattle.kt_tree.specs.Programme.{tree_of};
 
 use crate::block::{EventBlock, Summaries};
 use crate::plan::{Base, Plan};
 use crate::sets::set_numbers;
+use crate::terms::Terms;
 use kt_gul::ground_up_lanes;
 use kt_gul::laws::ground_up_losses_are_within;
 use kt_insured::laws::insured_losses_are_within;
-use kt_insured::{LayerSum, insured_lanes};
+use kt_insured::{InsuredLanes, LayerSum, insured_lanes};
 use kt_model::distributions;
 use kt_model::laws::distributions_are_of_a_stream;
 use kt_rec::{FootRow, ModelStop, Perspective};
@@ -88,6 +91,38 @@ fn put_net_summaries(
     Ok(())
 }
 
+/// The insured losses of an event and the sums of its layers, by its ground-up losses. These are put in turn, so that their lanes are taken
+/// as they stand, and let go: their memory serves the next stage.
+fn insured_by(
+    alloc: Global,
+    portfolio: &Portfolio,
+    terms: &Terms,
+    base: &Base,
+    losses: LossLanes,
+) -> Result<InsuredLanes, AllocError>
+    requires terms { AreTerms terms.now }
+    requires base { IsBase portfolio.now.rows base.now }
+    requires rows { losses.rows ≡ terms.now.samples + 1 }
+    requires losses { All (IsLoss terms.now.samples) losses.records }
+    requires within { AreWithin losses.records }
+    ensures rows { IfOk result (λ made. made.losses.rows ≡ terms.now.samples + 1) }
+    ensures records { IfOk result (λ made. made.losses.records ≡ insured_records (tree_of portfolio.now.rows 0) terms.now.rule terms.now.samples portfolio.now.rows.fm_xref losses.records) }
+    ensures layers { IfOk result (λ made. made.layers ≡ layer_sums (tree_of portfolio.now.rows 0) terms.now.rule terms.now.samples losses.records) }
+    ensures good { IfOk result (λ made. All (IsLoss terms.now.samples) made.losses.records) }
+{
+    let turned = losses.in_turn(alloc)?;
+    let made = insured_lanes(
+        alloc,
+        portfolio,
+        &base.structure,
+        &base.outputs,
+        terms.samples,
+        terms.rule,
+        &turned,
+    )?;
+    Ok(made)
+}
+
 /// Puts the summaries of the insured losses of an event behind others, and those of its net losses, and answers the sums of the
 /// layers.
 fn put_insured_summaries(
@@ -95,31 +130,23 @@ fn put_insured_summaries(
     portfolio: &Portfolio,
     plan: &Plan,
     base: &Base,
-    losses: &LossLanes,
+    losses: LossLanes,
     made: &mut Records<Summaries>,
 ) -> Result<Records<LayerSum>, AllocError>
     requires plan { IsPlan portfolio.now plan.now }
     requires base { IsBase portfolio.now.rows base.now }
     requires insured { has_insured (terms_of plan.now).last ≡ true }
-    requires rows { losses.now.rows ≡ (terms_of plan.now).samples + 1 }
-    requires losses { All (IsLoss (terms_of plan.now).samples) losses.now.records }
-    requires within { (sidx : ℤ) → run_loss sidx losses.now.records ≤ 200000000000000 }
+    requires rows { losses.rows ≡ (terms_of plan.now).samples + 1 }
+    requires losses { All (IsLoss (terms_of plan.now).samples) losses.records }
+    requires within { (sidx : ℤ) → run_loss sidx losses.records ≤ 200000000000000 }
     requires good { AreSummaries (terms_of plan.now).samples made.old }
-    ensures layers { IfOk result (λ layers. layers ≡ layers_up_to (terms_of plan.now).last (terms_of plan.now) portfolio.now.rows losses.now.records) }
-    ensures ok { OnOk result (made.new ≡ made.old ++ map (set_summaries (terms_of plan.now) portfolio.now.rows losses.now.records) (flat_map (sets_of portfolio.now.rows) (output_perspectives (terms_of plan.now).last))) }
+    ensures layers { IfOk result (λ layers. layers ≡ layers_up_to (terms_of plan.now).last (terms_of plan.now) portfolio.now.rows losses.records) }
+    ensures ok { OnOk result (made.new ≡ made.old ++ map (set_summaries (terms_of plan.now) portfolio.now.rows losses.records) (flat_map (sets_of portfolio.now.rows) (output_perspectives (terms_of plan.now).last))) }
     ensures good { OnOk result (AreSummaries (terms_of plan.now).samples made.new) }
 {
     let terms = &plan.terms;
     insured_losses_are_within(portfolio);
-    let insured = insured_lanes(
-        alloc,
-        portfolio,
-        &base.structure,
-        &base.outputs,
-        terms.samples,
-        terms.rule,
-        losses,
-    )?;
+    let insured = insured_by(alloc, portfolio, terms, base, losses)?;
     put_summaries(
         alloc,
         portfolio,
@@ -137,16 +164,16 @@ fn put_output_summaries(
     alloc: Global,
     portfolio: &Portfolio,
     plan: &Plan,
-    losses: &LossLanes,
+    losses: LossLanes,
     made: &mut Records<Summaries>,
 ) -> Result<Records<LayerSum>, AllocError>
     requires plan { IsPlan portfolio.now plan.now }
-    requires rows { losses.now.rows ≡ (terms_of plan.now).samples + 1 }
-    requires losses { All (IsLoss (terms_of plan.now).samples) losses.now.records }
-    requires within { (sidx : ℤ) → run_loss sidx losses.now.records ≤ 200000000000000 }
+    requires rows { losses.rows ≡ (terms_of plan.now).samples + 1 }
+    requires losses { All (IsLoss (terms_of plan.now).samples) losses.records }
+    requires within { (sidx : ℤ) → run_loss sidx losses.records ≤ 200000000000000 }
     requires good { AreSummaries (terms_of plan.now).samples made.old }
-    ensures layers { IfOk result (λ layers. layers ≡ layers_up_to (terms_of plan.now).last (terms_of plan.now) portfolio.now.rows losses.now.records) }
-    ensures ok { OnOk result (made.new ≡ made.old ++ map (set_summaries (terms_of plan.now) portfolio.now.rows losses.now.records) (flat_map (sets_of portfolio.now.rows) (output_perspectives (terms_of plan.now).last))) }
+    ensures layers { IfOk result (λ layers. layers ≡ layers_up_to (terms_of plan.now).last (terms_of plan.now) portfolio.now.rows losses.records) }
+    ensures ok { OnOk result (made.new ≡ made.old ++ map (set_summaries (terms_of plan.now) portfolio.now.rows losses.records) (flat_map (sets_of portfolio.now.rows) (output_perspectives (terms_of plan.now).last))) }
     ensures good { OnOk result (AreSummaries (terms_of plan.now).samples made.new) }
 {
     match &plan.base {
@@ -164,13 +191,13 @@ fn block_of(
     portfolio: &Portfolio,
     plan: &Plan,
     event: u32,
-    losses: &LossLanes,
+    losses: LossLanes,
 ) -> Result<EventBlock, AllocError>
     requires plan { IsPlan portfolio.now plan.now }
-    requires rows { losses.now.rows ≡ (terms_of plan.now).samples + 1 }
-    requires losses { All (IsLoss (terms_of plan.now).samples) losses.now.records }
-    requires within { (sidx : ℤ) → run_loss sidx losses.now.records ≤ 200000000000000 }
-    ensures value { IfOk result (λ block. block ≡ block_of_losses (terms_of plan.now) portfolio.now.rows event losses.now.records) }
+    requires rows { losses.rows ≡ (terms_of plan.now).samples + 1 }
+    requires losses { All (IsLoss (terms_of plan.now).samples) losses.records }
+    requires within { (sidx : ℤ) → run_loss sidx losses.records ≤ 200000000000000 }
+    ensures value { IfOk result (λ block. block ≡ block_of_losses (terms_of plan.now) portfolio.now.rows event losses.records) }
     ensures good { IfOk result (λ block. AreSummaries (terms_of plan.now).samples block.summaries) }
 {
     let mut summaries = Records::new(alloc);
@@ -179,7 +206,7 @@ fn block_of(
         portfolio,
         plan.terms.samples,
         Perspective::Gul,
-        losses,
+        &losses,
         &mut summaries,
     )?;
     let layers = put_output_summaries(alloc, portfolio, plan, losses, &mut summaries)?;
@@ -239,6 +266,6 @@ pub fn event_block(
     ensures good { IfOk result (λ block. AreSummaries (terms_of plan.now).samples block.summaries) }
 {
     let losses = event_losses(alloc, portfolio, plan, event, rows)?;
-    let block = block_of(alloc, portfolio, plan, event, &losses)?;
+    let block = block_of(alloc, portfolio, plan, event, losses)?;
     Ok(block)
 }

@@ -10,10 +10,10 @@ pub returns-clause-value : goal.returns-clause-value
 returns-clause-value c =
     let terms = c.args.plan.now.terms in
     let rows = c.args.portfolio.now.rows in
-    block_is terms rows c.args.losses.now.records c.args.event c.put_output_summaries.new.made c.in_ok-layers.layers
-    (all_summaries terms rows c.args.losses.now.records c.put_summaries.new.made c.put_output_summaries.new.made
+    block_is terms rows c.args.losses.records c.args.event c.put_output_summaries.new.made c.in_ok-layers.layers
+    (all_summaries terms rows c.args.losses.records c.put_summaries.new.made c.put_output_summaries.new.made
     (c.in_ok-put_summaries.ensures.ok
-    ∙ ap (λ (before : List Summaries). before ++ map (summaries_of rows c.args.portfolio.now.need.rule c.args.losses.now.records) (sets_of rows Gul)) c.new-summaries.ensures.value
-    ∙ of_perspective terms rows c.args.losses.now.records Gul c.args.portfolio.now.need.rule c.args.losses.now.records (rule_is terms c.args.portfolio.now.need c.requires.plan.need) refl)
+    ∙ ap (λ (before : List Summaries). before ++ map (summaries_of rows c.args.portfolio.now.need.rule c.args.losses.records) (sets_of rows Gul)) c.new-summaries.ensures.value
+    ∙ of_perspective terms rows c.args.losses.records Gul c.args.portfolio.now.need.rule c.args.losses.records (rule_is terms c.args.portfolio.now.need c.requires.plan.need) refl)
     c.in_ok-layers.ensures.ok)
     c.in_ok-layers.ensures.layers
