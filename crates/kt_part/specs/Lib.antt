@@ -7,4 +7,3 @@ pub mod Arrivals
 pub mod Lanes
 pub mod Claimed
 pub mod Gathering
-pub mod Stepping

@@ -1,18 +1,10 @@
 -- The answers of the first call and of the others.
-use Rattle.std.proofs.Common.{rules, arith, ◌≡◌, [], ◌∷◌, length, length-append, ap, sym, ◌∙◌}
+use Rattle.std.proofs.Common.{arith, length, length-append, ap}
 use Rattle.std.proofs.lemmas.Result.{IfOk-at_ok}
 use Rattle.std.specs.Fn.{FnReturns}
 use Rattle.std.specs.Fork.Halves.{GivesFrom}
-use Rattle.kt_outputs.proofs.CallLemmas.{of_one, of_both}
+use Rattle.kt_outputs.proofs.CallLemmas.{of_both}
 use Rattle.kt_outputs.proofs.calls.+calls.Goals as goal
-
-pub returns-then-count-eq1 : goal.returns-then-count-eq1
-returns-then-count-eq1 g t c =
-    let one : c.push.new.self.items ≡ c.call.result ∷ [] = search rules in
-    record {
-      len = ap length one ∙ sym c.if-count-eq1.true;
-      each = of_one (λ i r. FnReturns g.F.Fn c.args.call.now (i, tt) r) c.args.from c.args.count c.call.result c.push.new.self.items c.if-count-eq1.true one (search rules);
-    }
 
 pub returns : goal.returns
 returns g t c =
