@@ -110,7 +110,7 @@ fn fold_round<R: Threads + Sync, G: Gate + Sync>(
         plan: run.plan,
         given,
         batch: run.batch,
-        // One worker alone gains nothing by it: the rows and the records would only stand between each other in memory.
+        // One worker alone gains nothing by it: the cells and the records would only stand between each other in memory.
         ahead: 1 < run.workers && fold.ahead(),
     };
     let (claims, mut pass) = Claims::new(run.alloc, run.workers)?;

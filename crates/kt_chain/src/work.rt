@@ -28,7 +28,7 @@ pub(crate) struct RoundWork<'a, G> {
     pub(crate) plan: &'a Plan,
     pub(crate) given: &'a RoundRows,
     pub(crate) batch: u32,
-    /// Whether the ready rows of the records are made.
+    /// Whether the cells of each event by itself are made, so that the fold can take them over.
     pub(crate) ahead: bool,
 }
 

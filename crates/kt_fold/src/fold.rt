@@ -5,23 +5,21 @@ ghost use Rattle.std.specs.List.{AllByRecursion};
 ghost use Rattle.kt_period_cells.specs.Losses.{Added};
 ghost use Rattle.kt_period_cells.specs.Standing.{StandsFor};
 ghost use Rattle.kt_event.specs.Losses.{AreSummaries};
-ghost use Rattle.kt_stream.specs.Summary.{IsSummary};
 ghost use Rattle.kt_tables.specs.Portfolio.{KeepsPeriods};
-ghost use Rattle.kt_fold.specs.Added.{block_added, summaries_added};
 ghost use Rattle.kt_fold.specs.FoldKeeps.{KeepsFront, KeepsWhole};
-ghost use Rattle.kt_fold.specs.ReadyParts.{AreReadyBlocks, AreReadyRecords, IsReadyBlock};
+ghost use Rattle.kt_fold.specs.ReadyParts.{AreReadyBlocks};
 ghost use Rattle.kt_keys.specs.Refusals.{is_loaded};
 ghost use Rattle.kt_rec.specs.declared.table.Table.TheVariants as table;
-ghost use Rattle.kt_fold.specs.Folds.{AddsAll, AddsBlocks, IsGoodPart, fold_refusal};
+ghost use Rattle.kt_fold.specs.Folds.{AddsBlocks, IsGoodPart, fold_refusal};
 ghost use Rattle.kt_periods.specs.Adding.{cell_refusal as refusal_of_cells};
 
+use crate::adding::add_ready;
 use crate::part::{PartBlock, RefusedRow};
-use crate::ready::{ReadyBlock, ReadyBlocks, ReadyPart, ReadyRecords};
-use crate::ready_list::ReadyList;
+use crate::ready::{ReadyBlocks, ReadyPart};
 use kt_ends::Refusal;
-use kt_event::{EventBlock, Summaries};
+use kt_event::EventBlock;
 use kt_part::Fold;
-use kt_period_cells::{CellStop, Cells, ReadyRows};
+use kt_period_cells::{CellStop, Cells};
 use kt_tables::Portfolio;
 use std::alloc::Global;
 use std::marker::Model;
@@ -78,62 +76,6 @@ pub(crate) struct BlockStop {
     pub(crate) stop: FoldStop,
 }
 
-/// Adds the records of the summaries of a set, with the occurrences of their events, and with the ready rows that were made for them.
-fn add_summaries(
-    portfolio: &Portfolio,
-    cells: &mut Cells,
-    summaries: &Summaries,
-    mut ready: ReadyRecords,
-) -> Result<(), FoldStop>
-    requires periods { KeepsPeriods portfolio.now.rows }
-    requires same { cells.old.periods ≡ portfolio.now.rows.periods }
-    requires good { All (IsSummary cells.old.samples) summaries.now.records }
-    requires ready { AreReadyRecords summaries.now ready }
-    ensures added { (history : List Added) → StandsFor history cells.old → AddsAll history (summaries_added portfolio.now.rows summaries.now) cells.new result }
-    ensures size { (cells.new.periods ≡ cells.old.periods) × (cells.new.samples ≡ cells.old.samples) }
-{
-    for entry in summaries.records.as_slice() {
-        let occurrences = portfolio.occurrences(entry.event);
-        let own = ready.next(ReadyRows::none(cells.alloc()));
-        if let Err(stop) = cells.add_ready(
-            summaries.perspective,
-            summaries.set,
-            entry,
-            occurrences,
-            own,
-        ) {
-            return Err(FoldStop::Cell {
-                event: entry.event,
-                stop,
-            });
-        }
-    }
-    Ok(())
-}
-
-/// Adds the records of an event's block, set by set.
-fn add_block(
-    portfolio: &Portfolio,
-    cells: &mut Cells,
-    block: &EventBlock,
-    mut ready: ReadyBlock,
-) -> Result<(), FoldStop>
-    requires periods { KeepsPeriods portfolio.now.rows }
-    requires same { cells.old.periods ≡ portfolio.now.rows.periods }
-    requires good { AreSummaries cells.old.samples block.now.summaries }
-    requires ready { IsReadyBlock block.now ready }
-    ensures added { (history : List Added) → StandsFor history cells.old → AddsAll history (block_added portfolio.now.rows block.now) cells.new result }
-    ensures size { (cells.new.periods ≡ cells.old.periods) × (cells.new.samples ≡ cells.old.samples) }
-{
-    for summaries in block.summaries.as_slice() {
-        let own = ready.next(ReadyList::none(cells.alloc()));
-        if let Err(stop) = add_summaries(portfolio, cells, summaries, own) {
-            return Err(stop);
-        }
-    }
-    Ok(())
-}
-
 /// Adds the records of blocks, one after the other, up to the first that stops it.
 fn add_blocks(
     portfolio: &Portfolio,
@@ -150,8 +92,8 @@ fn add_blocks(
     ensures size { (cells.new.periods ≡ cells.old.periods) × (cells.new.samples ≡ cells.old.samples) }
 {
     for place in 0..blocks.len() {
-        let own = ready.next(ReadyList::none(cells.alloc()));
-        if let Err(stop) = add_block(portfolio, cells, &blocks[place], own) {
+        let own = ready.next(None);
+        if let Err(stop) = add_ready(portfolio, cells, &blocks[place], own) {
             return Err(BlockStop { place, stop });
         }
     }
@@ -220,9 +162,9 @@ impl<'a> RunFold<'a> {
         self.samples
     }
 
-    /// Whether the parts of the next round are to come with ready rows: those of the rounds before were of use. It changes no output.
+    /// Whether the parts of the next round are to come with ready cells: those of the rounds before were of use. It changes no output.
     pub fn ahead(&self) -> bool {
-        self.cells.wants_ready()
+        self.cells.wants_more()
     }
 
     /// The parts that are kept.

@@ -2,6 +2,7 @@
 //! blocks.
 #![tactic(auto)]
 
+mod adding;
 mod fold;
 mod part;
 mod ready;

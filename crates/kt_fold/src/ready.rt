@@ -1,30 +1,36 @@
-//! Rows of the periods' cells that are made for the records of a part before the part is folded.
+//! The periods' cells of the events of a part, each by itself, which are made before the part is folded.
 //! The rules: docs/ARCHITECTURE.md, "A run of all stages".
-ghost use Rattle.std.specs.Prelude.{◌≡◌, ◌≤◌, All, IfOk};
+ghost use Rattle.std.specs.Prelude.{◌≡◌, ◌≤◌, All, IfOk, true};
 ghost use Rattle.std.specs.List.{AllByRecursion};
 ghost use Rattle.kt_event.specs.Losses.{AreSummaries};
-ghost use Rattle.kt_stream.specs.Summary.{IsSummary};
-ghost use Rattle.kt_fold.specs.ReadyParts.{AreReadyBlocks, AreReadyRecords, IsReadyBlock};
+ghost use Rattle.kt_keys.specs.Refusals.{is_loaded};
+ghost use Rattle.kt_rec.specs.declared.table.Table.TheVariants as table;
+ghost use Rattle.kt_fold.specs.ReadyParts.{AreReadyBlocks, IsOfEvent, IsReadyBlock};
 ghost use Rattle.kt_fold.specs.Folds.{IsGoodPart};
 
+use crate::adding::add_block;
 use crate::part::PartBlock;
 use crate::ready_list::ReadyList;
 use kt_event::{EventBlock, Summaries};
-use kt_period_cells::ReadyRows;
+use kt_period_cells::Cells;
+use kt_rec::Occurrence;
 use kt_tables::Portfolio;
 use std::alloc::{AllocError, Global};
 use std::marker::Model;
 
-/// The ready rows of the records of summaries.
-pub(crate) type ReadyRecords = ReadyList<ReadyRows>;
+/// The cells of the records of an event's block alone, and the occurrences of the event in which they are.
+#[derive(Drop)]
+pub(crate) struct ReadyBlock {
+    /// The cells.
+    pub(crate) cells: Cells,
+    /// The occurrences.
+    pub(crate) at: Vec<Occurrence>,
+}
 
-/// The ready rows of the records of an event's block, summaries by summaries.
-pub(crate) type ReadyBlock = ReadyList<ReadyRecords>;
+/// The cells of blocks, block by block, each by itself; `None` for a block of which none were made.
+pub(crate) type ReadyBlocks = ReadyList<Option<ReadyBlock>>;
 
-/// The ready rows of the records of blocks, block by block.
-pub(crate) type ReadyBlocks = ReadyList<ReadyBlock>;
-
-/// A part with ready rows of its records, as far as they were made. Contracts see the part.
+/// A part with ready cells of its blocks, as far as they were made. Contracts see the part.
 #[derive(Drop)]
 pub struct ReadyPart {
     part: PartBlock,
@@ -42,10 +48,10 @@ impl Model for ReadyPart {
     ghost invariant = { λ p. AreReadyBlocks p.part.blocks p.ready };
 }
 
-/// The most cells for which the ready rows of a part have places: 4 MiB of them.
+/// The most cells for which the rows of ready cells of a part have places: 4 MiB of them.
 const MOST_READY_CELLS: u64 = 1 << 18;
 
-/// For how many cells the ready rows of the records of blocks may have places.
+/// For how many cells the rows of ready cells of blocks may have places.
 fn cells_of_rows(portfolio: &Portfolio, samples: u32, blocks: &[EventBlock]) -> u64 {
     let mut rows = 0u64;
     for block in blocks {
@@ -59,8 +65,9 @@ fn cells_of_rows(portfolio: &Portfolio, samples: u32, blocks: &[EventBlock]) -> 
 }
 
 impl ReadyPart {
-    /// A part with the ready rows of all its records where they are to be made ahead and are not too many, and with none otherwise. The
-    /// records are those of a stream with so many samples, at most 1,000. An error is want of memory.
+    /// A part with the cells of each of its blocks where they are to be made ahead and are not too many, and with none otherwise. The
+    /// occurrences of the portfolio are loaded, and the records are those of a stream with so many samples, from 1 to 1,000. An error is
+    /// want of memory.
     pub fn new(
         alloc: Global,
         portfolio: &Portfolio,
@@ -68,6 +75,8 @@ impl ReadyPart {
         part: PartBlock,
         ahead: bool,
     ) -> Result<ReadyPart, AllocError>
+        requires loaded { is_loaded portfolio.now.need 0 table.Occurrence ≡ true }
+        requires some { 1 ≤ samples }
         requires few { samples ≤ 1000 }
         requires good { IsGoodPart samples part }
         ensures { IfOk result (λ made. made ≡ part) }
@@ -82,7 +91,7 @@ impl ReadyPart {
         Ok(ReadyPart { part, ready })
     }
 
-    /// The part, and the ready rows of its records.
+    /// The part, and the ready cells of its blocks.
     pub(crate) fn split(self) -> (PartBlock, ReadyBlocks)
         ensures part { result.0 ≡ self }
         ensures ready { AreReadyBlocks self.blocks result.1 }
@@ -91,59 +100,65 @@ impl ReadyPart {
     }
 }
 
-/// The ready rows of the records of summaries.
-fn ready_records(
-    alloc: Global,
-    portfolio: &Portfolio,
-    samples: u32,
-    summaries: &Summaries,
-) -> Result<ReadyRecords, AllocError>
-    requires few { samples ≤ 1000 }
-    requires good { All (IsSummary samples) summaries.now.records }
-    ensures { IfOk result (AreReadyRecords summaries.now) }
+/// Whether all records of summaries are of an event.
+fn are_of(summaries: &Summaries, event: u32) -> bool
+    ensures { result ≡ true → All (λ entry. entry.event ≡ event) summaries.now.records }
 {
-    let mut ready = ReadyList::none(alloc);
     for entry in summaries.records.as_slice() {
-        let occurrences = portfolio.occurrences(entry.event);
-        let own = ReadyRows::of_record(
-            alloc,
-            samples,
-            summaries.perspective,
-            summaries.set,
-            entry,
-            occurrences,
-        )?;
-        ready.push(own)?;
+        if entry.event != event {
+            return false;
+        }
     }
-    Ok(ready)
+    true
 }
 
-/// The ready rows of the records of an event's block.
+/// Whether all records of an event's block are of the event.
+fn is_of_event(block: &EventBlock) -> bool
+    ensures { result ≡ true → IsOfEvent block.now }
+{
+    for summaries in block.summaries.as_slice() {
+        if !are_of(summaries, block.event) {
+            return false;
+        }
+    }
+    true
+}
+
+/// The cells of the records of an event's block alone; `None` where one of them is refused. An error is want of memory.
 fn ready_block(
     alloc: Global,
     portfolio: &Portfolio,
     samples: u32,
     block: &EventBlock,
-) -> Result<ReadyBlock, AllocError>
+) -> Result<Option<ReadyBlock>, AllocError>
+    requires loaded { is_loaded portfolio.now.need 0 table.Occurrence ≡ true }
+    requires some { 1 ≤ samples }
     requires few { samples ≤ 1000 }
     requires good { AreSummaries samples block.now.summaries }
     ensures { IfOk result (IsReadyBlock block.now) }
 {
-    let mut ready = ReadyList::none(alloc);
-    for summaries in block.summaries.as_slice() {
-        let own = ready_records(alloc, portfolio, samples, summaries)?;
-        ready.push(own)?;
+    if !is_of_event(block) {
+        return Ok(None);
     }
-    Ok(ready)
+    portfolio.keeps_periods();
+    let mut cells = Cells::new(alloc, portfolio.periods(), samples);
+    if let Err(_) = add_block(portfolio, &mut cells, block) {
+        return Ok(None);
+    }
+    let mut at = Vec::new(alloc);
+    at.extend_from_slice(portfolio.occurrences(block.event))?;
+    Ok(Some(ReadyBlock { cells, at }))
 }
 
-/// The ready rows of the records of blocks.
+/// The cells of blocks, each by itself.
 fn ready_blocks(
     alloc: Global,
     portfolio: &Portfolio,
     samples: u32,
     blocks: &[EventBlock],
 ) -> Result<ReadyBlocks, AllocError>
+    requires loaded { is_loaded portfolio.now.need 0 table.Occurrence ≡ true }
+    requires some { 1 ≤ samples }
     requires few { samples ≤ 1000 }
     requires good { AllByRecursion (λ block. AreSummaries samples block.summaries) blocks.now }
     ensures { IfOk result (AreReadyBlocks blocks.now) }

@@ -19,4 +19,4 @@ pub mod RoomLemmas
 pub mod SameLosses
 pub mod RaisedRows
 pub mod IdLists
-pub mod FreshRows
+pub mod Joined

@@ -1,5 +1,5 @@
 -- Adding one loss to cells, and what is noted of it so that it can be taken back.
-use Rattle.std.specs.Prelude.{◌≡◌, ◌⊎◌, ◌≤◌, List, [], ◌∷◌, ◌++◌, map, Result, Ok, Err, Some, None}
+use Rattle.std.specs.Prelude.{◌≡◌, ◌⊎◌, ◌≤◌, Bool, true, false, List, [], ◌∷◌, ◌++◌, map, Result, Ok, Err, Some, None}
 use Rattle.kt_rec.specs.declared.perspective.CellKey.{CellKey}
 use Rattle.kt_period_cells.specs.declared.cell.Cell.{Cell}
 use Rattle.kt_period_cells.specs.declared.cell.Change.{Change}
@@ -60,3 +60,10 @@ GoesOn before done further (Err stop) changes entries = ((stop ≡ cell_stop.Out
 abbrev pub Adds : List Added → Added → Result Unit CellStop → KeptCells → Type 0
 Adds history added (Ok done) kept = (first_stop (all_losses history) (losses_of added) ≡ None) × StandsFor (history ++ added ∷ []) kept
 Adds history added (Err stop) kept = ((stop ≡ cell_stop.OutOfMemory) ⊎ (first_stop (all_losses history) (losses_of added) ≡ Some stop)) × StandsFor history kept
+
+-- what is done with the cells of further records: the cells stand for these too, none of which is refused, or they stand for the list as it
+-- was
+abbrev pub TakesOver : {E : Type 0} → List Added → List Added → Result Bool E → KeptCells → Type 0
+TakesOver history more (Ok true) kept = (first_stop (all_losses history) (all_losses more) ≡ None) × StandsFor (history ++ more) kept
+TakesOver history more (Ok false) kept = StandsFor history kept
+TakesOver history more (Err error) kept = StandsFor history kept

@@ -10,4 +10,3 @@ pub mod Sets
 pub mod Amounts
 pub mod SummaryRows
 pub mod Room
-pub mod Ready

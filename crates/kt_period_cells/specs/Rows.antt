@@ -73,6 +73,15 @@ abbrev pub Apart : List RowKey → Type 0
 Apart [] = Unit {0}
 Apart (first ∷ rest) = (place_of first rest ≡ None) × Apart rest
 
+-- none of these keys is among others
+abbrev pub AreAbsent : List RowKey → List RowKey → Type 0
+AreAbsent [] rows = Unit {0}
+AreAbsent (first ∷ rest) rows = (place_of first rows ≡ None) × AreAbsent rest rows
+
+-- an index finds each of these rows, and no other
+abbrev pub IsIndexOf : List (IndexKey × ℕ) → List Row → Type 0
+IsIndexOf index rows = (row : RowKey) → lookup (same_index (index_key row)) index ≡ place_of row (row_keys rows)
+
 -- rows as contracts see them: for so many periods and samples
 pub record KeptRows : Type 0 where
   pub periods : ℕ
@@ -87,7 +96,7 @@ pub record IsTable (periods samples held : ℕ) (index : List (IndexKey × ℕ))
   pub few_samples : samples ≤ 1000
   pub fits : All (RowFits periods samples) rows
   pub bounds : All HasBound rows
-  pub found : (row : RowKey) → lookup (same_index (index_key row)) index ≡ place_of row (row_keys rows)
+  pub found : IsIndexOf index rows
   pub apart : Apart (row_keys rows)
   pub count : held ≡ length (entries_of rows)
 

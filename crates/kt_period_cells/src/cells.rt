@@ -3,13 +3,12 @@
 ghost use Rattle.std.specs.Prelude.{◌≡◌, ◌≤◌, ◌^◌, pos, ◌≤ℤ◌, List, [], All, IfOk};
 ghost use Rattle.kt_period_cells.specs.Losses.{Added};
 ghost use Rattle.kt_period_cells.specs.Standing.{StandsFor};
-ghost use Rattle.kt_period_cells.specs.Journal.{Adds};
+ghost use Rattle.kt_period_cells.specs.Journal.{Adds, TakesOver};
 ghost use Rattle.kt_period_cells.specs.SummaryRows.{IsOwnSet};
-ghost use Rattle.kt_period_cells.specs.Ready.{AreReady};
 
 use crate::cell::{CellStop, adds_any};
 use crate::group::SetCells;
-use crate::rows::{ReadyRows, Rows};
+use crate::rows::Rows;
 use kt_money::OutOfMemory;
 use kt_rec::{Occurrence, Perspective};
 use kt_stream::SummaryRecord;
@@ -21,9 +20,9 @@ use std::marker::Model;
 #[derive(Drop)]
 pub struct Cells {
     rows: Rows,
-    /// How many records came with ready rows, and of how many of them the rows were taken over.
+    /// How many other cells were offered, and the rows of how many of them were taken over.
     offered: u64,
-    adopted: u64,
+    taken: u64,
 }
 
 impl Model for Cells {
@@ -47,7 +46,7 @@ impl Cells {
         Cells {
             rows: Rows::new(alloc, periods, samples),
             offered: 0,
-            adopted: 0,
+            taken: 0,
         }
     }
 
@@ -97,45 +96,25 @@ impl Cells {
         }
     }
 
-    /// Adds a record as `add` does, with rows that were made of its losses: where the cells have none of the rows of its occurrences yet,
-    /// they take these.
-    pub fn add_ready(
-        &mut self,
-        perspective: Perspective,
-        set: u32,
-        entry: &SummaryRecord,
-        at: &[Occurrence],
-        ready: ReadyRows,
-    ) -> Result<(), CellStop>
-        requires periods { All (λ occurrence. (1 ≤ occurrence.period_no) × (occurrence.period_no ≤ self.old.periods)) at.now }
-        requires sidx { All (λ pair. pair.sidx ≤ℤ pos self.old.samples) entry.now.pairs }
-        requires losses { All (λ pair. pair.loss ≤ 10 ^ 16) entry.now.pairs }
-        requires ready { AreReady entry.now.pairs ready }
-        ensures added { (history : List Added) → StandsFor history self.old → Adds history (record { perspective = perspective; set = set; entry = entry.now; at = at.now }) result self.new }
+    /// Adds the records of other cells by taking over their rows, and answers whether it did: it does where these cells have none of the
+    /// rows, both are for as many periods and samples, and there is room for the cells of both. Where it does not the cells stand for what
+    /// they stood for before, as after want of memory, which is the error.
+    pub fn take_over(&mut self, other: Cells) -> Result<bool, OutOfMemory>
+        ensures taken { (history more : List Added) → StandsFor history self.old → StandsFor more other → TakesOver history more result self.new }
         ensures size { (self.new.periods ≡ self.old.periods) × (self.new.samples ≡ self.old.samples) }
     {
-        let mut ready = ready;
-        if !ready.is_empty() {
-            self.offered = self.offered.saturating_add(1);
-            let spots = match self.rows.spots(perspective, set, entry.summary, at, false) {
-                Ok(spots) => spots,
-                Err(_) => return Err(CellStop::OutOfMemory),
-            };
-            if self
-                .rows
-                .adopt_all(entry.pairs.as_slice(), spots.as_slice(), &mut ready)
-            {
-                self.adopted = self.adopted.saturating_add(1);
-                return Ok(());
-            }
+        self.offered = self.offered.saturating_add(1);
+        let is_taken = self.rows.take_over(other.rows)?;
+        if is_taken {
+            self.taken = self.taken.saturating_add(1);
         }
-        self.add(perspective, set, entry, at)
+        Ok(is_taken)
     }
 
-    /// Whether ready rows are worth their making: the cells took over those of half of the records that came with some. What is added is
-    /// the same with them and without.
-    pub fn wants_ready(&self) -> bool {
-        self.offered / 2 <= self.adopted
+    /// Whether it is worth while to make the cells of records by themselves, so that their rows can be taken over: those of half of the cells
+    /// that were offered were.
+    pub fn wants_more(&self) -> bool {
+        self.offered / 2 <= self.taken
     }
 
     /// The cells of a perspective and set, by summary. An error is want of memory.

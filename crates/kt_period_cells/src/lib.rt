@@ -14,4 +14,3 @@ pub use cell::{Cell, CellStop, has_total};
 pub use cells::Cells;
 pub use group::{SetCells, SummaryCells, SummaryRow};
 pub use row::{Row, placed_cell};
-pub use rows::ReadyRows;

@@ -5,11 +5,10 @@ ghost use Rattle.std.specs.List.{list_any};
 ghost use Rattle.kt_period_cells.specs.RowCells.{AreLow, HasBound, IsRising, HasPlace, IsWide, Changes, Lowers, cell_in, cells_of, placed};
 ghost use Rattle.kt_period_cells.specs.Standing.{most_total};
 ghost use Rattle.kt_period_cells.specs.SummaryRows.{has_any, has_total};
-ghost use Rattle.kt_period_cells.specs.Ready.{IsFresh};
 
 use crate::cell::{Cell, has_total};
 use crate::raising::MOST_TOTAL;
-use crate::row_key::{RowKey, index_key};
+use crate::row_key::RowKey;
 use kt_money::OutOfMemory;
 use std::alloc::Global;
 
@@ -97,13 +96,6 @@ impl Row {
             places,
             most: 0,
         })
-    }
-
-    /// Whether it is the row of a key and has no cells.
-    pub(crate) fn is_fresh(&self, key: RowKey) -> bool
-        ensures { result ≡ true → IsFresh key self.now }
-    {
-        index_key(self.key) == index_key(key) && self.places.is_empty() && self.listed.is_empty()
     }
 
     /// The period, from 1.

@@ -13,13 +13,9 @@ use std::collections::HashMap;
 use std::marker::Model;
 
 mod adding;
-mod adopting;
 mod gathering;
-mod ready;
+mod taking;
 mod within;
-
-pub(crate) use ready::ReadyRow;
-pub use ready::ReadyRows;
 
 /// The cells of all keys, in rows: a row has those of one summary in one period.
 #[derive(Drop)]
@@ -53,11 +49,6 @@ pub(crate) struct Spot {
     pub(crate) row: usize,
 }
 
-/// Whether pairs are so many that a row has a place for each sample: a quarter of the samples.
-fn is_wide(pairs: &[Pair], samples: u32) -> bool {
-    pairs.len() >= samples as usize / 4
-}
-
 impl Rows {
     /// No rows yet, for so many periods and samples. Asks for no memory.
     pub(crate) fn new(alloc: Global, periods: u32, samples: u32) -> Self
@@ -82,9 +73,9 @@ impl Rows {
         self.alloc
     }
 
-    /// Whether a record with these pairs begins rows with a place for each sample.
+    /// Whether a record with these pairs begins rows with a place for each sample: so it does with as many as a quarter of the samples.
     pub(crate) fn is_wide(&self, pairs: &[Pair]) -> bool {
-        is_wide(pairs, self.samples)
+        pairs.len() >= self.samples as usize / 4
     }
 
     /// Where a row stands.

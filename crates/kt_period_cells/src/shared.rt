@@ -1,12 +1,11 @@
 //! The types of this crate may be sent to threads and shared by them.
 use crate::cell::CellStop;
 use crate::cells::Cells;
-use crate::rows::ReadyRows;
 
 /// Names types that may be sent to threads and shared by them.
 fn are_shared<T: Send + Sync>() {}
 
 /// Each type once.
 pub(crate) fn cells_are_shared() {
-    are_shared::<(Cells, CellStop, ReadyRows)>();
+    are_shared::<(Cells, CellStop)>();
 }

@@ -41,7 +41,7 @@ fn added_loss(pair: &Pair) -> u64
 }
 
 /// The sum of the losses that are added up, where it is at most the greatest total.
-pub(super) fn small_sum(pairs: &[Pair]) -> Option<u64>
+fn small_sum(pairs: &[Pair]) -> Option<u64>
     requires { All (λ pair. pair.loss ≤ 10 ^ 16) pairs.now }
     ensures { IfSome result (λ sum. (sum ≡ added_sum pairs.now) × (sum ≤ most_total)) }
 {

@@ -1,14 +1,18 @@
-use Rattle.std.proofs.Common.{◌+◌, List, sym, subst}
-use Rattle.kt_fold.specs.ReadyParts.{AreReadyRecords}
-use Rattle.kt_fold.proofs.ListLemmas.{same_place}
-use Rattle.kt_fold.proofs.ReadyLemmas.{MadeUpto, made_all, one_made}
+-- The cells of a block stand for its records, wherever its event has the same occurrences.
+use Rattle.std.proofs.Common.{◌≡◌, ◌++◌, ◌∙◌, [], List, ap, refl, sym, subst}
+use Rattle.kt_period_cells.specs.Losses.{Added}
+use Rattle.kt_period_cells.specs.Standing.{StandsFor}
+use Rattle.kt_rec.specs.declared.periods.Occurrence.{Occurrence}
+use Rattle.kt_tables.specs.Lookups.{occurrences_of}
+use Rattle.kt_fold.proofs.ReadyLemmas.{block_same}
 use Rattle.kt_fold.proofs.ready.ready_block.Goals as goal
 
-pub loop-summaries-preserved : goal.loop-summaries-preserved
-loop-summaries-preserved c =
-    let at = same_place c.as_slice-summaries-items.result.now c.args.block.now.summaries c.loop-summaries.summaries-index c.summaries-item.result c.as_slice-summaries-items.ensures.value c.loop-summaries-test.true c.summaries-item.is in
-    subst (λ (made : List _). MadeUpto AreReadyRecords made c.args.block.now.summaries (c.loop-summaries.summaries-index + 1)) (sym c.in_ok-push.ensures)
-    (one_made AreReadyRecords c.args.block.now.summaries c.loop-summaries.summaries-index c.summaries-item.result at.0 at.1 c.loop-summaries.ready c.in_ok-own.own c.in_ok-own.ensures c.loop-summaries.invariant)
-
 pub returns : goal.returns
-returns c = made_all AreReadyRecords c.loop-summaries.ready c.args.block.now.summaries c.loop-summaries.summaries-index c.loop-summaries.invariant
+returns c = λ rows at_is.
+    let own = c.args.portfolio.now.rows in
+    let block = c.args.block.now in
+    let same : occurrences_of own block.event ≡ occurrences_of rows block.event =
+    sym (at_is ∙ c.in_ok-extend_from_slice.ensures.items ∙ ap (λ (at : List Occurrence). at ++ c.occurrences.result.now) c.new-at.ensures.items ∙ c.occurrences.ensures.value) in
+    let empty : StandsFor [] c.new-cells.result = subst (StandsFor []) (sym c.new-cells.ensures.value) (record { cells = λ key. refl; count = refl }) in
+    let added = c.in_default.ensures.added [] empty in
+    subst (λ (added : List Added). StandsFor added c.add_block.new.cells) (block_same own rows block (c.if-not-is_of_event.ensures refl) same) added.1

@@ -1,0 +1,6 @@
+-- The first occurrences are the same.
+use Rattle.std.proofs.Common.{◌≡◌, take}
+use Rattle.kt_fold.proofs.adding.are_same.Given as goal
+
+abbrev pub invariant-loop-at : goal.invariant-loop-at
+invariant-loop-at l = take l.at l.one ≡ take l.at l.other
