@@ -2,6 +2,7 @@
 //! What it is for: README.md.
 
 use kt_out::Gate;
+use std::hint::spin_loop;
 use std::sync::atomic::{AtomicU64, Ordering};
 
 /// Holds each part of a round until all parts of its group have begun, or until some part has looked for them so often in vain. The
@@ -59,13 +60,15 @@ impl GroupGate {
         bits_from(part - part % size, size)
     }
 
-    /// Looks until these parts have begun or some part has looked in vain; false where the limit comes first.
+    /// Looks until these parts have begun or some part has looked in vain; false where the limit comes first. The processor pauses after each
+    /// look, so that the limit leaves seconds, and not a tenth of one, for a thread to come to a processor on a busy machine.
     fn sees(&self, group: u64) -> bool {
         for _ in 0..self.limit {
             let begun = self.begun.load(Ordering::SeqCst);
             if begun & group == group || self.vain.load(Ordering::SeqCst) != 0 {
                 return true;
             }
+            spin_loop();
         }
         false
     }
