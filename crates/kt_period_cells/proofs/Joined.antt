@@ -16,9 +16,9 @@ use Rattle.kt_period_cells.specs.Rows.{Apart, AreAbsent, IsIndexOf, IsTable, ent
 use Rattle.kt_period_cells.specs.SameKeys.{same_itself}
 use Rattle.kt_period_cells.specs.Standing.{Standing, cell_at, cell_of, most_cells, most_total, total_in}
 use Rattle.kt_period_cells.specs.TotalLaws.{cell_some, loss_for}
-use Rattle.kt_period_cells.proofs.Places.{keys_push, length_keys, not_first, place_push}
+use Rattle.kt_period_cells.proofs.Places.{keys_push, length_keys, not_first, place_more}
 use Rattle.kt_period_cells.proofs.RaisedRows.{clear_in_order}
-use Rattle.kt_period_cells.proofs.RowKeys.{row_exact, row_itself, same_row_back}
+use Rattle.kt_period_cells.proofs.RowKeys.{row_exact, same_row_back}
 use Rattle.kt_period_cells.proofs.SameLosses.{maximum_append, opened_append, same_list, total_append, total_first}
 use Rattle.kt_period_cells.proofs.Tables.{found_append, nowhere, or_none}
 
@@ -106,21 +106,8 @@ index_more index new_index rows i row rest within is around apart found puts = �
     let more : take (i + 1) rows ≡ front ++ row ∷ [] = take_more rows i row within ∙ ap (λ (r : Row). front ++ r ∷ []) (sym is) in
     let many : length (row_keys front) ≡ i = length_keys front ∙ length-take-le i rows (omega (arith, within)) in
     let missing : place_of row.key (row_keys front) ≡ None = front_apart (row_keys front) row.key (row_keys rest) (subst Apart (ap row_keys around ∙ keys_append front (row ∷ rest)) apart) in
-    puts (index_key q) ∙ ap (cond (same_row row.key q) (Some i)) (found q) ∙ by_test q (same_row row.key q) refl many missing
-    ∙ sym (ap (λ (rs : List Row). place_of q (row_keys rs)) more ∙ ap (place_of q) (keys_push front row row.key refl) ∙ place_push q (row_keys front) row.key)
-  where
-    or_none_place : (o : Option ℕ) → option_or o None ≡ o
-    or_none_place (Some x) = refl
-    or_none_place None = refl
-
-    by_test : (q : RowKey) (b : Bool) → same_row row.key q ≡ b → length (row_keys (take i rows)) ≡ i → place_of row.key (row_keys (take i rows)) ≡ None →
-        cond b (Some i) (place_of q (row_keys (take i rows))) ≡ option_or (place_of q (row_keys (take i rows))) (cond (same_row q row.key) (Some (length (row_keys (take i rows)))) None)
-    by_test q true same many missing =
-        let key_is : row.key ≡ q = row_exact row.key q same in
-        let none_there : place_of q (row_keys (take i rows)) ≡ None = subst (λ (k : RowKey). place_of k (row_keys (take i rows)) ≡ None) key_is missing in
-        let back : same_row q row.key ≡ true = subst (λ (k : RowKey). same_row q k ≡ true) (sym key_is) (row_itself q) in
-        rw (none_there, back, many) refl
-    by_test q false other many missing = rw (same_row_back row.key q other) (sym (or_none_place (place_of q (row_keys (take i rows)))))
+    puts (index_key q) ∙ ap (cond (same_row row.key q) (Some i)) (found q) ∙ ap (λ n. cond (same_row row.key q) (Some n) (place_of q (row_keys front))) (sym many) ∙ place_more row.key q (row_keys front) missing
+    ∙ sym (ap (λ (rs : List Row). place_of q (row_keys rs)) more ∙ ap (place_of q) (keys_push front row row.key refl))
 
 -- ---- the table
 

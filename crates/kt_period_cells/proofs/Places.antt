@@ -1,5 +1,5 @@
 -- Where rows stand among others, also after one is put in the place of another, or behind all.
-use Rattle.std.proofs.Common.{◌≡◌, ℕ, zero, suc, ◌<◌, List, [], ◌∷◌, ◌++◌, length, get_or, set, arith, refl, sym, ap, ◌∙◌, cond, Some, None, Option}
+use Rattle.std.proofs.Common.{◌≡◌, ℕ, zero, suc, ◌<◌, List, [], ◌∷◌, ◌++◌, length, get_or, set, arith, refl, sym, ap, ◌∙◌, subst, cond, Some, None, Option}
 use Rattle.std.specs.Prelude.{Bool, true, false}
 use Rattle.std.specs.Option.{option_map, option_or}
 use Rattle.std.proofs.lemmas.List.{map-append}
@@ -71,6 +71,22 @@ place_push key (first ∷ keys) more =
     by_test false (Some i) c new is = ap (option_map suc) is
     by_test false None true new is = ap (option_map suc) is
     by_test false None false new is = ap (option_map suc) is
+
+-- where a row stands once one that is none of them was put behind the others, as an index answers that notes its place
+pub place_more : (key q : RowKey) (keys : List RowKey) → place_of key keys ≡ None → cond (same_row key q) (Some (length keys)) (place_of q keys) ≡ place_of q (keys ++ key ∷ [])
+place_more key q keys missing = by_test (same_row key q) refl ∙ sym (place_push q keys key)
+  where
+    or_none : (o : Option ℕ) → option_or o None ≡ o
+    or_none (Some x) = refl
+    or_none None = refl
+
+    by_test : (b : Bool) → same_row key q ≡ b → cond b (Some (length keys)) (place_of q keys) ≡ option_or (place_of q keys) (cond (same_row q key) (Some (length keys)) None)
+    by_test true same =
+        let key_is_q : key ≡ q = row_exact key q same in
+        let none_there : place_of q keys ≡ None = subst (λ (k : RowKey). place_of k keys ≡ None) key_is_q missing in
+        let back : same_row q key ≡ true = subst (λ (k : RowKey). same_row k key ≡ true) key_is_q (row_itself key) in
+        rw (none_there, back) refl
+    by_test false other = rw (same_row_back key q other) (sym (or_none (place_of q keys)))
 
 -- a new row stands apart from the others
 pub apart_push : (keys : List RowKey) (more : RowKey) → Apart keys → place_of more keys ≡ None → Apart (keys ++ more ∷ [])

@@ -1,7 +1,6 @@
 -- The bounds of rows and of a table, after one row changed or was put behind the others.
 use Rattle.std.proofs.Common.{◌≡◌, ℕ, suc, ◌+◌, ◌<◌, ◌≤◌, ◌⊎◌, inl, inr, List, [], ◌∷◌, ◌++◌, length, map, get_or, set, arith, refl, sym, ap, ◌∙◌, subst, cond, Some, None, Option}
 use Rattle.std.specs.Prelude.{ℤ, Bool, true, false, All, nat_eq, IfSome}
-use Rattle.std.specs.Option.{option_or}
 use Rattle.std.proofs.lemmas.Bool.Decides.{nat_tests}
 use Rattle.std.proofs.lemmas.List.Elements.{All-set, All-append, All-cons, All-nil, All-head, All-tail, All-get_or}
 use Rattle.std.specs.Map.{lookup}
@@ -13,8 +12,8 @@ use Rattle.kt_period_cells.specs.Standing.{sidx_in_range, total_in, maximum_in, 
 use Rattle.kt_period_cells.specs.Amounts.{sample_of}
 use Rattle.kt_period_cells.specs.RowCells.{AreLow, HasBound, cells_of, IsWide, SampleCells, cell_in, listed_or_placed, placed, with_place, RowFits, CellFits, Changes}
 use Rattle.kt_period_cells.specs.Rows.{index_key, same_index, same_row, row_keys, place_of, key_in, entries_of, IsTable}
-use Rattle.kt_period_cells.proofs.RowKeys.{row_exact, row_itself, same_row_back, sample_within}
-use Rattle.kt_period_cells.proofs.Places.{keys_set, place_push, apart_push, keys_push, length_keys}
+use Rattle.kt_period_cells.proofs.RowKeys.{sample_within}
+use Rattle.kt_period_cells.proofs.Places.{keys_set, place_more, apart_push, keys_push, length_keys}
 use Rattle.kt_period_cells.proofs.Tables.{length_set, entries_push, entries_same}
 
 -- a row within its bounds, after one of its cells changed
@@ -107,7 +106,7 @@ table_push periods samples held index new_index rows key new table missing first
       few_samples = table.few_samples;
       fits = All-append (RowFits periods samples) rows (new ∷ []) table.fits (All-cons (RowFits periods samples) new [] fits (All-nil _));
       bounds = All-append HasBound rows (new ∷ []) table.bounds (All-cons HasBound new [] bound (All-nil _));
-      found = λ row. rw keys (found (index_key row) ∙ ap (cond (same_row key row) (Some (length rows))) (table.found row) ∙ by_test row (same_row key row) refl ∙ sym (place_push row (row_keys rows) key));
+      found = λ row. rw keys (found (index_key row) ∙ ap (cond (same_row key row) (Some (length rows))) (table.found row) ∙ ap (λ n. cond (same_row key row) (Some n) (place_of row (row_keys rows))) (sym (length_keys rows)) ∙ place_more key row (row_keys rows) missing);
       apart = rw keys (apart_push (row_keys rows) key table.apart missing);
       count = table.count ∙ ap length (sym (entries_push rows new empty));
     }
@@ -120,18 +119,6 @@ table_push periods samples held index new_index rows key new table missing first
       rising = rw empty (λ i j less within. absurd (omega (arith, within)));
       cells = rw empty (All-nil (CellFits samples));
     }
-
-    by_test : (row : RowKey) (b : Bool) → same_row key row ≡ b → cond b (Some (length rows)) (place_of row (row_keys rows)) ≡ option_or (place_of row (row_keys rows)) (cond (same_row row key) (Some (length (row_keys rows))) None)
-    by_test row true same =
-        let key_is_row : key ≡ row = row_exact key row same in
-        let none_there : place_of row (row_keys rows) ≡ None = subst (λ (k : RowKey). place_of k (row_keys rows) ≡ None) key_is_row missing in
-        let back : same_row row key ≡ true = subst (λ (k : RowKey). same_row row k ≡ true) (sym key_is_row) (row_itself row) in
-        rw (none_there, back, length_keys rows) refl
-    by_test row false other = rw (same_row_back key row other) (sym (or_none_place (place_of row (row_keys rows))))
-      where
-        or_none_place : (o : Option ℕ) → option_or o None ≡ o
-        or_none_place (Some x) = refl
-        or_none_place None = refl
 
 -- with the cells of one row in other places
 pub table_widened : (periods samples held : ℕ) (index : List (IndexKey × ℕ)) (rows : List Row) (i : ℕ) (old new : Row) → IsTable periods samples held index rows → i < length rows → old ≡ get_or rows i old →
