@@ -96,7 +96,9 @@ pub fn shared_curves<'a, R: Threads + Sync>(
 ) -> Result<Vec<SetCurves<'a>>, OutOfMemory>
     ensures { AreHandCurves cells.now (return_periods_of portfolio.now.rows) result }
 {
-    let found = run_sets(alloc, portfolio, last)?;
+    let mut found = run_sets(alloc, portfolio, last)?;
+    // The last place is claimed first: so the set with the most rows is not what all hands wait for.
+    found.sort_by_key(|set| cells.share_of(set.perspective, set.set))?;
     let sets = found.as_slice();
     let claimed = AtomicUsize::new(0);
     let hands = calls_beside(

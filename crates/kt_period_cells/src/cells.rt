@@ -117,6 +117,12 @@ impl Cells {
         self.offered / 2 <= self.taken
     }
 
+    /// About which share of all rows of cells a perspective and set have: how many they have of up to 512 rows that are evenly spread over
+    /// all. Who makes tables of several sets can begin with the greatest; no table depends on it.
+    pub fn share_of(&self, perspective: Perspective, set: u32) -> usize {
+        self.rows.share_of(perspective, set)
+    }
+
     /// The cells of a perspective and set, by summary. An error is want of memory.
     pub fn of_set(&self, perspective: Perspective, set: u32) -> Result<SetCells<'_>, OutOfMemory>
         ensures { IfOk result (IsOwnSet self.now perspective set) }

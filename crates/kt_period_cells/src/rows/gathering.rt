@@ -11,7 +11,20 @@ use kt_index::ByKey;
 use kt_money::OutOfMemory;
 use kt_rec::Perspective;
 
+/// How many rows, or somewhat fewer, a share of the rows is told by.
+const SAMPLED_ROWS: usize = 512;
+
 impl Rows {
+    /// About which share of the rows a perspective and set have: how many they have of up to 512 rows that are evenly spread over all.
+    pub(crate) fn share_of(&self, perspective: Perspective, set: u32) -> usize {
+        let step = self.rows.len() / SAMPLED_ROWS + 1;
+        self.rows
+            .iter()
+            .step_by(step)
+            .filter(|row| row.key.perspective == perspective && row.key.set == set)
+            .count()
+    }
+
     /// The rows of a perspective and set that have cells, in their order. An error is want of memory.
     fn gathered(&self, perspective: Perspective, set: u32) -> Result<Vec<SummaryRow>, OutOfMemory>
         ensures { IfOk result (λ found. found.items ≡ places_from 0 perspective set self.now.rows) }
