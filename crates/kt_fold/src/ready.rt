@@ -124,7 +124,8 @@ fn is_of_event(block: &EventBlock) -> bool
     true
 }
 
-/// The cells of the records of an event's block alone; `None` where one of them is refused. An error is want of memory.
+/// The cells of the records of an event's block alone; `None` where one of them is refused, or memory for the cells is wanting. An error is
+/// want of memory for the occurrences.
 fn ready_block(
     alloc: Global,
     portfolio: &Portfolio,

@@ -61,7 +61,8 @@ impl GroupGate {
     }
 
     /// Looks until these parts have begun or some part has looked in vain; false where the limit comes first. The processor pauses after each
-    /// look, so that the limit leaves seconds, and not a tenth of one, for a thread to come to a processor on a busy machine.
+    /// look, so that the limit leaves a second or more, and not a third of one, for a thread to come to a processor on a busy
+    /// machine.
     fn sees(&self, group: u64) -> bool {
         for _ in 0..self.limit {
             let begun = self.begun.load(Ordering::SeqCst);
