@@ -1,18 +1,20 @@
 //! The losses of a run behind one stage.
 //! The rule: docs/FINANCIAL_MODULE.md, "Reinsurance".
-ghost use Rattle.std.specs.Prelude.{◌≡◌, ◌⊎◌, ◌+◌, ◌≤◌, map, All, IfOk};
+ghost use Rattle.std.specs.Prelude.{◌≡◌, ◌⊎◌, ◌+◌, ◌≤◌, ℕ, length, map, All, IfOk, true, false};
 ghost use Rattle.kt_stream.specs.Losses.{IsLoss};
 ghost use Rattle.kt_runs.specs.RunLosses.{AreWithin};
 ghost use Rattle.kt_tree.specs.Tree.{Tree};
 ghost use Rattle.kt_fmtree.specs.Parts.{IsProgramme};
 ghost use Rattle.kt_tree.specs.Struck.{struck};
 ghost use Rattle.kt_shares.specs.Shares.{ids_of};
+ghost use Rattle.kt_ri.specs.Ceded.{AreCeded, AreRows, records_behind};
 ghost use Rattle.kt_ri.specs.Stages.{HasStage, IsStage};
 ghost use Rattle.kt_ri.specs.Reinsurance.{ceded_records, net_records};
 
 use crate::ceded::ceded_of;
 use crate::ceding::{CedingProgramme, ceding_of};
 use crate::net::{lanes_behind, lanes_left};
+use kt_lanes::Lanes;
 use kt_runs::RunEntry;
 use kt_shares::{Listed, LossLanes, RunLosses};
 use kt_stream::{LossRecord, Records};
@@ -118,6 +120,48 @@ pub(crate) fn net_behind<R: RunLosses>(
     Ok(made)
 }
 
+/// What is left of the records of a run, or what their ids cede, as records.
+fn records_behind<R: RunLosses>(
+    alloc: Global,
+    stage: &CedingProgramme,
+    samples: u32,
+    ceded: &Lanes,
+    run: &R,
+    left: bool,
+) -> Result<Records<LossRecord>, AllocError>
+    requires samples { samples ≤ 1000 }
+    requires rows { AreRows (length stage.now.ids) samples ceded.now }
+    requires has_rows { R.has_rows samples run.now }
+    requires records { All (IsLoss samples) (R.records_of run.now) }
+    requires within { AreWithin (R.records_of run.now) }
+    ensures value { IfOk result (λ made. (tree : Tree) (rule : ℕ) → IsProgramme tree stage.now → AreCeded stage.now rule samples (R.records_of run.now) ceded.now → made ≡ records_behind left tree rule samples (R.records_of run.now)) }
+{
+    let lanes = lanes_behind(alloc, stage, samples, ceded, run, left)?;
+    let made = lanes.to_records(alloc)?;
+    Ok(made)
+}
+
+/// What is left of the records of a run, and what their ids cede.
+fn both_behind<R: RunLosses>(
+    alloc: Global,
+    stage: &CedingProgramme,
+    samples: u32,
+    ceded: &Lanes,
+    run: &R,
+) -> Result<Reinsured, AllocError>
+    requires samples { samples ≤ 1000 }
+    requires rows { AreRows (length stage.now.ids) samples ceded.now }
+    requires has_rows { R.has_rows samples run.now }
+    requires records { All (IsLoss samples) (R.records_of run.now) }
+    requires within { AreWithin (R.records_of run.now) }
+    ensures net { IfOk result (λ made. (tree : Tree) (rule : ℕ) → IsProgramme tree stage.now → AreCeded stage.now rule samples (R.records_of run.now) ceded.now → made.net ≡ records_behind true tree rule samples (R.records_of run.now)) }
+    ensures ceded { IfOk result (λ made. (tree : Tree) (rule : ℕ) → IsProgramme tree stage.now → AreCeded stage.now rule samples (R.records_of run.now) ceded.now → made.ceded ≡ records_behind false tree rule samples (R.records_of run.now)) }
+{
+    let net = records_behind(alloc, stage, samples, ceded, run, true)?;
+    let given = records_behind(alloc, stage, samples, ceded, run, false)?;
+    Ok(Reinsured { net, ceded: given })
+}
+
 /// What a stage cedes of the losses of one run by allocation rule 1 or 2, and what is left of them, at the mean and at each
 /// sample. Sidx -2 is dropped, and a record without a loss is left out. An id that the programme does not name cedes nothing. The
 /// losses of the run add to at most 10^16 cents at each sidx. An error is want of memory.
@@ -141,10 +185,6 @@ pub fn one_stage<T: RunEntry>(
     let run = Listed { records };
     let ceding = ceding_for(alloc, stage, &run)?;
     let shares = ceded_of(alloc, &ceding, samples, rule, &run)?;
-    let net = lanes_behind(alloc, &ceding, samples, &shares, &run, true)?;
-    let ceded = lanes_behind(alloc, &ceding, samples, &shares, &run, false)?;
-    Ok(Reinsured {
-        net: net.to_records(alloc)?,
-        ceded: ceded.to_records(alloc)?,
-    })
+    let made = both_behind(alloc, &ceding, samples, &shares, &run)?;
+    Ok(made)
 }

@@ -8,12 +8,12 @@ use Rattle.kt_ri.proofs.reinsured.one_stage.Goals as goal
 pub returns-clause-net : goal.returns-clause-net
 returns-clause-net g c = λ tree is.
     let records = map g.T.RunEntry.entry_of c.args.records.now in
-    c.in_ok-to_records.ensures.value ∙ (c.in_ok-net.ensures.value (struck tree (ids_of records)) c.args.rule (c.in_ok-ceding.ensures.value tree is) c.in_ok-shares.ensures.value ∙ behind-struck tree is.is.is c.args.rule c.args.samples records true)
+    c.in_ok-made.ensures.net (struck tree (ids_of records)) c.args.rule (c.in_ok-ceding.ensures.value tree is) c.in_ok-shares.ensures.value ∙ behind-struck tree is.is.is c.args.rule c.args.samples records true
 
 pub returns-clause-ceded : goal.returns-clause-ceded
 returns-clause-ceded g c = λ tree is.
     let records = map g.T.RunEntry.entry_of c.args.records.now in
-    c.in_ok-to_records-2.ensures.value ∙ (c.in_ok-ceded.ensures.value (struck tree (ids_of records)) c.args.rule (c.in_ok-ceding.ensures.value tree is) c.in_ok-shares.ensures.value ∙ behind-struck tree is.is.is c.args.rule c.args.samples records false)
+    c.in_ok-made.ensures.ceded (struck tree (ids_of records)) c.args.rule (c.in_ok-ceding.ensures.value tree is) c.in_ok-shares.ensures.value ∙ behind-struck tree is.is.is c.args.rule c.args.samples records false
 
 pub returns-clause-good : goal.returns-clause-good
 returns-clause-good g c =
