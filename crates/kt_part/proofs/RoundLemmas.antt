@@ -1,6 +1,10 @@
 -- The blocks of a round, one more at a time.
-use Rattle.std.proofs.Common.{◌≡◌, ℕ, suc, ◌+◌, List, [], ◌∷◌, ◌++◌, length, refl, sym, ap, subst, ◌∙◌, append_assoc, append-nil, arith}
-use Rattle.kt_part.specs.Folding.{AreGiven, Folded}
+use Rattle.std.proofs.Common.{◌≡◌, ℕ, suc, ◌+◌, List, [], ◌∷◌, ◌++◌, length, Result, Ok, Err, refl, sym, ap, subst, ◌∙◌, append_assoc, append-nil, arith}
+use Rattle.kt_part.specs.Claimed.{ClaimsAfter, HasClaimed}
+use Rattle.kt_part.specs.Folding.{AreGiven, Folded, FoldedSome}
+use Rattle.kt_part.specs.declared.laws.Pass.{Pass}
+use Rattle.kt_part.specs.declared.round.RoundStop.{RoundStop}
+use Rattle.kt_part.specs.declared.round.RoundStop.TheVariants.{Fold, OutOfMemory}
 
 -- one block more is given for the next number
 given-more : {B : Type 0} (gives : ℕ → B → Type 0) (first : ℕ) (blocks : List B) (block : B) → AreGiven gives first blocks → gives (first + length blocks) block → AreGiven gives first (blocks ++ block ∷ [])
@@ -11,6 +15,10 @@ module _ {B : Type 0} (gives : ℕ → B → Type 0) (before : List B) where
   -- no block yet
   pub none : (stands : List B → Type 0) → stands before → Folded gives stands before 0
   none stands stand = record { blocks = []; many = refl; given = tt; stand = subst stands (sym (append-nil before)) stand }
+
+  -- nor is one taken where memory is wanting before the first
+  pub none-yet : (stands : List B → Type 0) → stands before → FoldedSome gives stands before
+  none-yet stands stand = record { count = 0; folded = none stands stand }
 
   -- one block more is taken
   pub one-more : (stands now : List B → Type 0) (count : ℕ) (folded : Folded gives stands before count) (block : B) → gives count block → now ((before ++ folded.blocks) ++ block ∷ []) → Folded gives now before (count + 1)
@@ -24,3 +32,9 @@ module _ {B : Type 0} (gives : ℕ → B → Type 0) (before : List B) where
       more : (blocks : List B) → suc (length blocks) ≡ length (blocks ++ block ∷ [])
       more [] = refl
       more (one ∷ blocks) = ap suc (more blocks)
+
+-- a pass that has claimed each number has done so however the round ends
+pub claimed-after : {S : Type 0} (workers bound : ℕ) (pass : Pass) (result : Result (Unit {0}) (RoundStop S)) → HasClaimed workers bound pass → ClaimsAfter workers bound pass result
+claimed-after workers bound pass (Ok done) claimed = claimed
+claimed-after workers bound pass (Err (Fold number stop)) claimed = claimed
+claimed-after workers bound pass (Err OutOfMemory) claimed = tt

@@ -1,7 +1,14 @@
-use Rattle.std.proofs.Common.{◌≡◌, ℕ, subst, arith}
+use Rattle.std.proofs.Common.{◌≡◌, ℕ, ap, length, subst, arith}
 use Rattle.kt_part.specs.Gathering.{AreGathered}
 use Rattle.kt_part.proofs.GatherLemmas.{gathered-more, claimed-all, never-spoiled, all-held}
 use Rattle.kt_part.proofs.gather.gather.Goals as goal
+
+pub unreachable-requires : goal.unreachable-requires
+unreachable-requires g c = let left = c.loop-worker.invariant.arms_left in let none = c.in_default.ensures.cases.0 in omega (arith, c.loop-worker-test.true)
+
+pub unreachable-requires-in_default-pop : goal.unreachable-requires-in_default-pop
+unreachable-requires-in_default-pop g c =
+    let left = c.loop-worker.invariant.arms_left in let many = c.loop-worker.invariant.paired.many in let none = c.in_default-pop.ensures.cases.0 in omega (arith, c.loop-worker-test.true)
 
 pub loop-worker-preserved : goal.loop-worker-preserved
 loop-worker-preserved g c =

@@ -1,5 +1,6 @@
 use Rattle.std.proofs.Common.{length, false, drop, refl, rules}
 use Rattle.kt_part.proofs.GatherLemmas.{begun}
+use Rattle.kt_part.proofs.RoundLemmas.{claimed-after, none-yet}
 use Rattle.kt_part.proofs.round.run_round.Goals as goal
 
 pub gather-reorder-requires-clause-begun : goal.gather-reorder-requires-clause-begun
@@ -8,3 +9,18 @@ gather-reorder-requires-clause-begun g c κs within =
     begun (g.W.Work.gives c.args.work.now) c.args.count c.args.claims.now c.args.workers arms.items c.as_mut_slice.result.now now (drop (length now) arms.items) ends.items c.as_mut_slice-2.result.now now' (drop (length now') ends.items) arms.len ends.len
     c.make_lanes.new.pass (record { reorder = c.in-Ok-new.reorder; is_spoiled = false; arrived = 0 }) c.run_beside.new.inbox c.in-Ok.ensures.lanes c.in-Ok.ensures.given c.as_mut_slice.ensures.value c.as_mut_slice-2.ensures.value
     (search rules) (search rules) (search rules) (search rules) c.run_beside.ensures.worked c.run_beside.ensures.same c.run_beside.ensures.come c.in-Ok-new.ensures.next refl c.in-Ok-new.ensures.empty
+
+pub returns-clause-round : goal.returns-clause-round
+returns-clause-round g c = c.fold_held.ensures.round
+
+pub returns-clause-fits : goal.returns-clause-fits
+returns-clause-fits g c = c.fold_held.ensures.fits
+
+pub returns-clause-claims : goal.returns-clause-claims
+returns-clause-claims g c = claimed-after c.args.workers c.args.count c.gather-reorder.new.pass c.fold_held.result c.gather-reorder.ensures.claimed
+
+pub returns-in_default-clause-round : goal.returns-in_default-clause-round
+returns-in_default-clause-round g c start before = none-yet (g.W.Work.gives c.args.work.now) before (g.F.Fold.stands start c.args.fold.now)
+
+pub returns-in_default-new-clause-round : goal.returns-in_default-new-clause-round
+returns-in_default-new-clause-round g c start before = none-yet (g.W.Work.gives c.args.work.now) before (g.F.Fold.stands start c.args.fold.now)
