@@ -19,8 +19,8 @@ impl Rows {
     pub(crate) fn share_of(&self, perspective: Perspective, set: u32) -> usize {
         let step = self.rows.len() / SAMPLED_ROWS + 1;
         self.rows
-            .iter()
-            .step_by(step)
+            .chunks(step)
+            .filter_map(|rows| rows.first())
             .filter(|row| row.key.perspective == perspective && row.key.set == set)
             .count()
     }
