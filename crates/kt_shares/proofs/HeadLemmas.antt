@@ -3,7 +3,7 @@ use Rattle.std.proofs.Common.{◌≡◌, ◌≢◌, ◌⊎◌, ℕ, ◌+◌, ◌
 use Rattle.std.specs.Cmp.{nat_eq_equiv}
 use Rattle.std.specs.List.{AllByRecursion}
 use Rattle.std.proofs.lemmas.Bool.{cases_eq}
-use Rattle.std.proofs.lemmas.List.{ext_get_or, get_or-map, get_or-set_other, get_or-set_same, length-map, length-set}
+use Rattle.std.proofs.lemmas.List.{ext_get_or, get_or-map, get_or-set_other, get_or-set_same, get_or_default, length-map, length-set}
 use Rattle.std.proofs.lemmas.List.Elements.{All-map, recursion_from_All}
 use Rattle.std.proofs.lemmas.List.Sums.{sum_by-cons}
 use Rattle.kt_rec.specs.Rising.{IsRising}
@@ -14,7 +14,7 @@ use Rattle.kt_fmtree.specs.CarriedLaws.{map-map}
 use Rattle.kt_lanes.specs.Lanes.{AreWide, column}
 use Rattle.kt_shares.specs.HoldsLaws.{apart}
 use Rattle.kt_shares.specs.LaneRun.{LaneRun}
-use Rattle.kt_shares.specs.LossLanes.{AreInTurn, AreLossLanes, HaveLanes, head_at, head_record, lane_of, lane_record, lane_records, no_head, run_of}
+use Rattle.kt_shares.specs.LossLanes.{AreApart, AreInTurn, AreLossLanes, HaveLanes, head_at, head_record, lane_of, lane_record, lane_records, no_head, place_at, run_of}
 use Rattle.kt_shares.specs.LossLanesLaws.{with-row}
 use Rattle.kt_shares.specs.Shares.{id_loss, ids_of}
 use Rattle.kt_shares.specs.Table.{row_place}
@@ -70,6 +70,19 @@ pub lanes-wide : (rows : ℕ) (heads : List LossHead) (lanes : List (List ℕ)) 
 lanes-wide rows heads lanes have wide = All-map (λ (lane : List ℕ). length lane ≡ rows) (lane_of lanes) heads (λ k d below. wide (slice_index_or heads k d).place [] (have k d below))
 
 module _ (heads turned : List LossHead) (many : length turned ≡ length heads) (each : (k : ℕ) → k < length heads → slice_index_or turned k no_head ≡ head_at (slice_index_or heads k no_head) k) where
+  -- the place of each head is its own
+  turned-place : (k : ℕ) → k < length turned → place_at turned k ≡ k
+  turned-place k within = ap (λ (head : LossHead). head.place) (each k (omega (arith, within, many)))
+
+  -- so heads whose places are their own have different lanes
+  pub turned-apart : AreApart turned
+  turned-apart k within = let here = turned-place k (omega (arith, within)) in let next = turned-place (k + 1) within in omega (arith, here, next)
+
+  -- and each has one of as many
+  pub turned-have : (lanes : List (List ℕ)) → length lanes ≡ length heads → HaveLanes lanes turned
+  turned-have lanes as_many k default within =
+      let same = ap (λ (head : LossHead). head.place) (get_or_default turned k default no_head within) in let own = turned-place k within in omega (arith, within, many, as_many, same, own)
+
   module _ (lanes made : List (List ℕ)) (made_is : made ≡ map (lane_of lanes) heads) where
     lane-here : (k : ℕ) → k < length heads → slice_index_or made k [] ≡ lane_of lanes (slice_index_or heads k no_head)
     lane-here k inside = ap (λ (all : List (List ℕ)). slice_index_or all k []) made_is ∙ get_or-map (lane_of lanes) heads k no_head [] inside

@@ -1,8 +1,9 @@
 -- What layers have at one sidx.
-use Rattle.std.proofs.Common.{◌≡◌, ℕ, Bool, true, false, cond, nat_eq, List, [], ◌∷◌, ◌++◌, length, map, replicate, slice_index, refl, sym, ap, ◌∙◌, arith, append-nil}
-use Rattle.std.specs.List.{flat_map, sum}
+use Rattle.std.proofs.Common.{◌≡◌, ℕ, Bool, true, false, cond, nat_eq, List, [], ◌∷◌, ◌++◌, ◌<◌, length, map, replicate, slice_index, slice_index_or, refl, sym, ap, ◌∙◌, arith, append-nil}
+use Rattle.std.specs.List.{AllByRecursion, flat_map, sum}
 use Rattle.std.proofs.lemmas.Grind.{flat_map-append}
 use Rattle.std.proofs.lemmas.List.{length-append, map-append}
+use Rattle.std.proofs.lemmas.List.Elements.{All-from_recursion}
 use Rattle.std.proofs.lemmas.List.Sums.{sum_by-cons}
 use Rattle.kt_tree.specs.Sharing.{allocated}
 use Rattle.kt_tree.specs.SharingLaws.{allocated-sum}
@@ -17,6 +18,10 @@ use Rattle.kt_shares.specs.declared.layers.TopLayer.{TopLayer}
 -- the top of a layer
 pub top-is : (tree : Tree) (parts : Parts) → IsProgramme tree parts → (one : TopLayer) → IsTopLayer parts one → slice_index tree.tops one.node ≡ one.top
 top-is tree parts is one within = ap (λ tops. slice_index tops one.node) (sym is.tops_are) ∙ within.top_is
+
+-- and each of some layers is one of its top
+pub layer-at : (parts : Parts) (layers : List TopLayer) → AllByRecursion (IsTopLayer parts) layers → (place : ℕ) → place < length layers → IsTopLayer parts (slice_index_or layers place (record { node = 0; top = 0; layer = 0 }))
+layer-at parts layers all place within = All-from_recursion (IsTopLayer parts) layers all place (record { node = 0; top = 0; layer = 0 }) within
 
 -- by rule 0 the policy loss stays whole
 pub shares-whole : (tree : Tree) (losses : ℕ → ℕ) (rule top layer : ℕ) → rule ≡ 0 → shares tree losses rule top layer ≡ policy_loss tree losses top layer ∷ []
@@ -52,7 +57,11 @@ only-share tree is losses rule top layer other one policy policy_is =
     by (amount ∷ []) long adds = let same : policy ≡ amount = omega (arith, sum_by-cons (λ (n : ℕ). n) amount []) in ap (λ n. n ∷ []) same
     by (amount ∷ other ∷ amounts) long adds = absurd (omega arith)
 
--- a row of one more layer
+-- a row of no layer
+pub row-none : (tree : Tree) (losses : ℕ → ℕ) (rule : ℕ) (all policies : List ℕ) → all ≡ [] → policies ≡ [] → HasRow tree losses rule [] all policies
+row-none tree losses rule all policies no_shares no_policies = record { shares_are = no_shares; policies_are = no_policies }
+
+-- and of one more layer
 pub row-more : (tree : Tree) (losses : ℕ → ℕ) (rule : ℕ) (layers : List TopLayer) (one : TopLayer) (all policies made all_now policies_now : List ℕ) (policy : ℕ) → HasRow tree losses rule layers all policies → made ≡ shares tree losses rule one.top one.layer → policy ≡ policy_loss tree losses one.top one.layer → all_now ≡ all ++ made → policies_now ≡ policies ++ policy ∷ []
     → HasRow tree losses rule (layers ++ one ∷ []) all_now policies_now
 row-more tree losses rule layers one all policies made all_now policies_now policy so_far made_is policy_is all_is policies_is = record {

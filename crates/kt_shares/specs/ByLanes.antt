@@ -7,8 +7,11 @@ use Rattle.kt_tree.specs.Tree.{Tree}
 use Rattle.kt_fmtree.specs.Carried.{loss_by}
 use Rattle.kt_fmtree.specs.Parts.{Parts, IsProgramme}
 use Rattle.kt_lanes.specs.Lanes.{AreWide, column}
+use Rattle.kt_levels.specs.Down.{HasLevelRoom}
+use Rattle.kt_levels.specs.Policies.{HasSums}
 use Rattle.kt_shares.specs.Row.{HasRow}
 use Rattle.kt_shares.specs.declared.by_lanes.LayerLanes.{LayerLanes}
+use Rattle.kt_shares.specs.declared.by_lanes.LayerRoom.{LayerRoom}
 use Rattle.kt_shares.specs.declared.by_rows.LayerRows.{LayerRows}
 use Rattle.kt_shares.specs.declared.layers.TopLayer.{TopLayer}
 
@@ -21,6 +24,12 @@ pub record AreLayers (parts : Parts) (lanes : List (List ℕ)) (width rule : ℕ
   pub shares_wide : AreWide width made.shares
   pub policies_wide : AreWide width made.policies
   pub rows : (tree : Tree) → IsProgramme tree parts → (k : ℕ) → k < width → HasRow tree (loss_by tree.ids (column k lanes)) rule layers (column k made.shares) (column k made.policies)
+
+-- there is room for what a layer has at so many sidx, from the lanes of the losses of the ids
+pub record HasLayerRoom (parts : Parts) (lanes : List (List ℕ)) (width : ℕ) (room : LayerRoom) : Type 0 where
+  pub sums : HasSums parts lanes width room.sums
+  pub levels : HasLevelRoom width room.levels
+  pub policies : length room.policies.items ≡ width
 
 -- each row has so many amounts
 abbrev pub AreLong : ℕ → List (Vec ℕ Global) → Type 0

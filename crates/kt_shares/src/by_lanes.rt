@@ -4,15 +4,15 @@ ghost use Rattle.std.specs.Prelude.{◌≡◌, ◌≤◌, ◌<◌, ◌++◌, ℕ
 ghost use Rattle.std.specs.List.{AllByRecursion};
 ghost use Rattle.kt_tree.specs.Tree.{Tree};
 ghost use Rattle.kt_fmtree.specs.Carried.{loss_by};
-ghost use Rattle.kt_fmtree.specs.Parts.{IsProgramme};
+ghost use Rattle.kt_fmtree.specs.Parts.{IsProgramme, Parts};
 ghost use Rattle.kt_lanes.specs.Lanes.{AreWide, column};
 ghost use Rattle.kt_levels.specs.Climbed.{IsClimbed};
-ghost use Rattle.kt_levels.specs.Policies.{HasSums, IsPolicy, IsTopBase};
+ghost use Rattle.kt_levels.specs.Policies.{IsPolicy, IsTopBase};
 ghost use Rattle.kt_levels.specs.Down.{HasLevelRoom};
 ghost use Rattle.kt_shares.specs.declared.layers.TopLayer.{TopLayer};
 ghost use Rattle.kt_shares.specs.Layers.{IsTopLayer};
 ghost use Rattle.kt_shares.specs.Shares.{shares};
-ghost use Rattle.kt_shares.specs.ByLanes.{AreLayers, IsPlainLayer};
+ghost use Rattle.kt_shares.specs.ByLanes.{AreLayers, HasLayerRoom, IsPlainLayer};
 
 use crate::layers::TopLayer;
 use kt_alloc::zeros;
@@ -82,8 +82,32 @@ fn push_shares(
     Ok(())
 }
 
-/// Puts what a layer has behind what others have. Its policy losses stand in the place of what a lane had, and what
-/// comes to its top in the place of other sums. An error is want of memory.
+/// Room for what one layer after the other has.
+#[derive(Drop)]
+struct LayerRoom {
+    /// What comes to its top.
+    sums: TopSums,
+    /// What is given down from its top.
+    levels: LevelRoom,
+    /// Its policy losses in cents, sidx by sidx.
+    policies: Vec<u64>,
+}
+
+/// Room for a layer at so many sidx. An error is want of memory.
+fn layer_room(alloc: Global, width: usize) -> Result<LayerRoom, AllocError>
+    ensures room { IfOk result (λ room. (parts : Parts) (lanes : List (List ℕ)) → HasLayerRoom parts lanes width room) }
+{
+    let sums = no_sums(alloc, width)?;
+    let levels = level_room_of(alloc, width)?;
+    let policies = zeros(alloc, width)?;
+    Ok(LayerRoom {
+        sums,
+        levels,
+        policies,
+    })
+}
+
+/// Puts what a layer has behind what others have. The room is filled anew. An error is want of memory.
 fn push_layer(
     alloc: Global,
     programme: &Programme,
@@ -91,9 +115,7 @@ fn push_layer(
     climbed: &Climbed,
     rule: u32,
     one: TopLayer,
-    sums: &mut TopSums,
-    room: &mut LevelRoom,
-    policies: &mut [u64],
+    room: &mut LayerRoom,
     made: &mut LayerLanes,
 ) -> Result<(), AllocError>
     requires rule { rule ≤ 2 }
@@ -102,16 +124,18 @@ fn push_layer(
     requires climbed { IsClimbed programme.now lanes.now climbed.now }
     requires shares_wide { AreWide climbed.now.width made.old.shares }
     requires policies_wide { AreWide climbed.now.width made.old.policies }
-    requires sums { HasSums programme.now lanes.now climbed.now.width sums.old }
-    requires room { HasLevelRoom climbed.now.width room.old }
-    requires policies { length policies.old ≡ climbed.now.width }
-    ensures sums { OnOk result (HasSums programme.now lanes.now climbed.now.width sums.new) }
-    ensures room { OnOk result (HasLevelRoom climbed.now.width room.new) }
-    ensures policies { OnOk result (length policies.new ≡ climbed.now.width) }
+    requires room { HasLayerRoom programme.now lanes.now climbed.now.width room.old }
+    ensures room { OnOk result (HasLayerRoom programme.now lanes.now climbed.now.width room.new) }
     ensures value { OnOk result ((before : List TopLayer) → AreLayers programme.now lanes.now climbed.now.width rule before made.old → AreLayers programme.now lanes.now climbed.now.width rule (before ++ one ∷ []) made.new) }
 {
     policy_lane(
-        programme, lanes, climbed, one.node, one.layer, sums, policies,
+        programme,
+        lanes,
+        climbed,
+        one.node,
+        one.layer,
+        &mut room.sums,
+        &mut room.policies,
     );
     push_shares(
         alloc,
@@ -120,12 +144,12 @@ fn push_layer(
         climbed,
         rule,
         one,
-        sums.sums(),
-        room,
-        policies,
+        room.sums.sums(),
+        &mut room.levels,
+        &room.policies,
         &mut made.shares,
     )?;
-    made.policies.push(policies)?;
+    made.policies.push(&room.policies)?;
     Ok(())
 }
 
@@ -175,21 +199,10 @@ pub(crate) fn layer_lanes(
 {
     let count = share_count(programme, rule, layers);
     let mut made = no_layers(alloc, count, layers.len(), climbed.width)?;
-    let mut sums = no_sums(alloc, climbed.width)?;
-    let mut room = level_room_of(alloc, climbed.width)?;
-    let mut policies = zeros(alloc, climbed.width)?;
+    let mut room = layer_room(alloc, climbed.width)?;
     for one in layers {
         push_layer(
-            alloc,
-            programme,
-            lanes,
-            climbed,
-            rule,
-            *one,
-            &mut sums,
-            &mut room,
-            &mut policies,
-            &mut made,
+            alloc, programme, lanes, climbed, rule, *one, &mut room, &mut made,
         )?;
     }
     Ok(made)

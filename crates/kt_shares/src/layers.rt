@@ -61,6 +61,5 @@ pub fn top_layers(alloc: Global, programme: &Programme) -> Result<Vec<TopLayer>,
     ensures keys { IfOk result (λ found. (tree : Tree) → IsProgramme tree programme.now → map key_of found.items ≡ layers_of tree) }
     ensures within { IfOk result (λ found. AllByRecursion (IsTopLayer programme.now) found.items) }
 {
-    let found = layers_by_top(alloc, programme)?;
-    Ok(found)
+    layers_by_top(alloc, programme)
 }

@@ -121,8 +121,7 @@ impl LossLanes {
         if !has_losses(deviation, lane) {
             return Ok(());
         }
-        self.keep(event, id, deviation, lane)?;
-        Ok(())
+        self.keep(event, id, deviation, lane)
     }
 
     /// Puts the record of a lane behind the others. An error is want of memory; the records are then as they were, though the lane may be

@@ -48,20 +48,16 @@ fn shares_of(
     ensures value { IfOk result (λ made. (tree : Tree) (loss : ℕ → ℕ) → IsProgramme tree programme.now → AreCarried tree loss programme.now levels.now → made.items ≡ shares tree loss rule one.top one.layer) }
 {
     if rule == 0 {
-        let made = whole(alloc, policy)?;
-        return Ok(made);
+        return whole(alloc, policy);
     }
     let ids = programme.beneath(one.node);
     if policy == 0 {
-        let none = zeros(alloc, ids.len())?;
-        return Ok(none);
+        return zeros(alloc, ids.len());
     }
     if ids.len() == 1 {
-        let made = whole(alloc, policy)?;
-        return Ok(made);
+        return whole(alloc, policy);
     }
-    let made = allocate(alloc, programme, levels, one.node, one.layer, rule)?;
-    Ok(made)
+    allocate(alloc, programme, levels, one.node, one.layer, rule)
 }
 
 /// What layers have, from what is carried up to their tops.

@@ -158,11 +158,9 @@ fn lanes_of(
 {
     if has_plain_units(programme) && are_plain(programme, layers) {
         let climbed = climb(alloc, programme, width, lanes)?;
-        let made = layer_lanes(alloc, programme, lanes, &climbed, rule, layers)?;
-        return Ok(made);
+        return layer_lanes(alloc, programme, lanes, &climbed, rule, layers);
     }
-    let made = lanes_by_rows(alloc, programme, width, lanes, rule, layers)?;
-    Ok(made)
+    lanes_by_rows(alloc, programme, width, lanes, rule, layers)
 }
 
 /// What layers of a programme have of the losses of a run, whose ids have these lanes.

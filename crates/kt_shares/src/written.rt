@@ -46,8 +46,7 @@ pub fn put_pairs(
     if used == 0 {
         return Ok(());
     }
-    append_record(out, &loss_front(event, id), &room[..used])?;
-    Ok(())
+    append_record(out, &loss_front(event, id), &room[..used])
 }
 
 /// Appends the record of an event and an id with the pairs of a lane of losses in cents, where one is above 0, as it stands in a
@@ -66,6 +65,5 @@ pub(crate) fn put_lane(
     ensures unchanged { OnErr result (out.new ≡ out.old) }
 {
     let used = write_lane(room, lane);
-    put_pairs(event, id, room, used, out)?;
-    Ok(())
+    put_pairs(event, id, room, used, out)
 }

@@ -1,4 +1,5 @@
 use Rattle.std.proofs.Common.{◌∙◌, ◌++◌, List, ap}
+use Rattle.std.proofs.lemmas.Result.{IfOk-weaker}
 use Rattle.kt_stream.specs.declared.entry.LossRecord.{LossRecord}
 use Rattle.kt_shares.specs.Table.{pairs_with}
 use Rattle.kt_shares.proofs.LossLanesLemmas.{record-none, record-some}
@@ -9,5 +10,8 @@ returns-then-not-has_losses-clause-ok c = record-none c.args.event c.args.id (pa
 
 pub returns-clause-ok : goal.returns-clause-ok
 returns-clause-ok c =
-    c.in_ok-keep.ensures.ok
-    ∙ ap (λ (more : List LossRecord). c.args.self.now.records ++ more) (record-some c.args.event c.args.id (pairs_with c.args.deviation c.args.lane.now) (c.has_losses.ensures.some c.if-not-has_losses.false))
+    IfOk-weaker c.keep.result _ _
+    (λ (_ : Unit {0}) kept.
+    kept
+    ∙ ap (λ (more : List LossRecord). c.args.self.now.records ++ more) (record-some c.args.event c.args.id (pairs_with c.args.deviation c.args.lane.now) (c.has_losses.ensures.some c.if-not-has_losses.false)))
+    c.keep.ensures.ok
