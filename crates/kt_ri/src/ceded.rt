@@ -32,14 +32,13 @@ pub(crate) fn ceded_of<R: RunLosses>(
 {
     stage.is_ceding();
     let table = stage.table(alloc, samples, rule, run)?;
-    let ceded = ceded_lanes(
+    ceded_lanes(
         alloc,
         stage.ids().len(),
         samples as usize + 1,
         stage.places(),
         table,
-    )?;
-    Ok(ceded)
+    )
 }
 
 /// The lane of what an id cedes, whose place may be absent: then it is that of nothing.

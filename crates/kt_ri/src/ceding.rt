@@ -1,6 +1,7 @@
 //! A programme that cedes losses.
 //! The rule: docs/FINANCIAL_MODULE.md, "Reinsurance".
 ghost use Rattle.std.specs.Prelude.{◌≡◌, ◌≤◌, All, IfOk};
+ghost use Rattle.kt_rec.specs.Rising.{IsRising};
 ghost use Rattle.kt_stream.specs.Losses.{IsLoss};
 ghost use Rattle.kt_runs.specs.RunLosses.{AreWithin};
 ghost use Rattle.kt_tree.specs.Tree.{Tree};
@@ -35,13 +36,26 @@ impl Model for CedingProgramme {
     ghost invariant = { IsKept };
 }
 
+/// The layers of the tops of a programme, by top and then by layer, and the places of the ids that have the shares of their policy losses.
+fn layers_and_places(
+    alloc: Global,
+    programme: &Programme,
+) -> Result<(Vec<TopLayer>, Vec<usize>), AllocError>
+    requires rising { IsRising programme.now.tops }
+    ensures layers { IfOk result (λ made. AreLayers programme.now made.0.items) }
+    ensures places { IfOk result (λ made. ArePlaces programme.now made.1.items) }
+{
+    let layers = top_layers(alloc, programme)?;
+    let places = owner_places(alloc, programme, &layers)?;
+    Ok((layers, places))
+}
+
 /// A programme with what its layers cede to.
 pub(crate) fn ceding_of(alloc: Global, programme: Programme) -> Result<CedingProgramme, AllocError>
     requires few { HasFewLayers programme }
     ensures value { IfOk result (λ made. made ≡ programme) }
 {
-    let layers = top_layers(alloc, &programme)?;
-    let places = owner_places(alloc, &programme, &layers)?;
+    let (layers, places) = layers_and_places(alloc, &programme)?;
     Ok(CedingProgramme {
         programme,
         layers,
@@ -89,8 +103,7 @@ impl CedingProgramme {
         ensures value { IfOk result (λ table. (tree : Tree) → IsProgramme tree self.now → table ≡ table_for tree rule samples (R.records_of run.now) (layers_of tree)) }
     {
         let layers = self.layers();
-        let table = table_of_run(alloc, &self.programme, samples, rule, layers, run)?;
-        Ok(table)
+        table_of_run(alloc, &self.programme, samples, rule, layers, run)
     }
 
     /// The layers of its tops, by top and then by layer.

@@ -133,6 +133,5 @@ pub(crate) fn lanes_left(
 {
     stage.is_ceding();
     let places = record_places(alloc, stage.ids(), &losses)?;
-    let made = losses.less(alloc, ceded, &places)?;
-    Ok(made)
+    losses.less(alloc, ceded, &places)
 }

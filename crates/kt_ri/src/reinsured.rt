@@ -41,8 +41,7 @@ pub(crate) fn ceding_for<R: RunLosses>(
 {
     let ids = run.id_list(alloc)?;
     let programme = stage.programme(alloc, &ids)?;
-    let made = ceding_of(alloc, programme)?;
-    Ok(made)
+    ceding_of(alloc, programme)
 }
 
 /// What a stage leaves of losses that are kept by lanes, in the place of the losses.
@@ -66,8 +65,7 @@ fn net_in_turn(
 {
     let ceding = ceding_for(alloc, stage, &losses)?;
     let ceded = ceded_of(alloc, &ceding, samples, rule, &losses)?;
-    let made = lanes_left(alloc, &ceding, samples, &ceded, losses)?;
-    Ok(made)
+    lanes_left(alloc, &ceding, samples, &ceded, losses)
 }
 
 /// What a stage leaves of losses that are kept by lanes. They are put in turn first, so that the stage takes them as they stand, and what
@@ -91,8 +89,7 @@ pub(crate) fn net_in_place(
     ensures within { IfOk result (λ made. AreWithin made.records) }
 {
     let turned = losses.in_turn(alloc)?;
-    let made = net_in_turn(alloc, stage, samples, rule, turned)?;
-    Ok(made)
+    net_in_turn(alloc, stage, samples, rule, turned)
 }
 
 /// What a stage leaves of the losses of a run, by lanes.
@@ -116,8 +113,7 @@ pub(crate) fn net_behind<R: RunLosses>(
 {
     let ceding = ceding_for(alloc, stage, run)?;
     let ceded = ceded_of(alloc, &ceding, samples, rule, run)?;
-    let made = lanes_behind(alloc, &ceding, samples, &ceded, run, true)?;
-    Ok(made)
+    lanes_behind(alloc, &ceding, samples, &ceded, run, true)
 }
 
 /// What is left of the records of a run, or what their ids cede, as records.
@@ -137,8 +133,7 @@ fn records_behind<R: RunLosses>(
     ensures value { IfOk result (λ made. (tree : Tree) (rule : ℕ) → IsProgramme tree stage.now → AreCeded stage.now rule samples (R.records_of run.now) ceded.now → made ≡ records_behind left tree rule samples (R.records_of run.now)) }
 {
     let lanes = lanes_behind(alloc, stage, samples, ceded, run, left)?;
-    let made = lanes.to_records(alloc)?;
-    Ok(made)
+    lanes.to_records(alloc)
 }
 
 /// What is left of the records of a run, and what their ids cede.
@@ -185,6 +180,5 @@ pub fn one_stage<T: RunEntry>(
     let run = Listed { records };
     let ceding = ceding_for(alloc, stage, &run)?;
     let shares = ceded_of(alloc, &ceding, samples, rule, &run)?;
-    let made = both_behind(alloc, &ceding, samples, &shares, &run)?;
-    Ok(made)
+    both_behind(alloc, &ceding, samples, &shares, &run)
 }

@@ -88,12 +88,10 @@ pub fn reinsure(
     ensures within { IfOk result (λ net. AreWithin net) }
 {
     let [first, later @ ..] = stages else {
-        let copy = copy_of(alloc, records)?;
-        return Ok(copy);
+        return copy_of(alloc, records);
     };
     let run = Listed { records };
     let made = net_behind(alloc, first, samples, 2, &run)?;
     let net = reinsure_lanes(alloc, later, samples, made)?;
-    let left = net.to_records(alloc)?;
-    Ok(left)
+    net.to_records(alloc)
 }

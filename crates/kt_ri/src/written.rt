@@ -113,6 +113,5 @@ pub fn put_net<T: RunEntry>(
     let run = Listed { records };
     let ceding = ceding_for(alloc, stage, &run)?;
     let ceded = ceded_of(alloc, &ceding, samples, rule, &run)?;
-    put_behind(alloc, &ceding, samples, &ceded, records, out)?;
-    Ok(())
+    put_behind(alloc, &ceding, samples, &ceded, records, out)
 }

@@ -1,4 +1,5 @@
 use Rattle.std.proofs.Common.{◌∙◌, List, ℕ, subst, sym}
+use Rattle.std.proofs.lemmas.Result.{IfOk-weaker}
 use Rattle.kt_tree.specs.Struck.{struck}
 use Rattle.kt_fmtree.specs.Parts.{Parts, IsProgramme}
 use Rattle.kt_ri.proofs.FewLemmas.{struck-few}
@@ -14,7 +15,10 @@ ceding_of-requires g c =
 
 pub returns : goal.returns
 returns g c = record {
-  value = λ tree is.
-      let struck_is : IsProgramme (struck tree c.deref.result.now) c.in_ok-made.made = subst (λ (parts : Parts). IsProgramme (struck tree c.deref.result.now) parts) (sym c.in_ok-made.ensures.value) (c.in_ok-programme.ensures.value tree is.is) in
-      subst (λ (ids : List ℕ). IsProgramme (struck tree ids) c.in_ok-made.made) (c.deref.ensures.value ∙ c.in_ok-ids.ensures.value) struck_is;
+  value =
+      IfOk-weaker c.ceding_of.result _ _
+      (λ (made : Parts) made_is tree is.
+      let struck_is : IsProgramme (struck tree c.deref.result.now) made = subst (λ (parts : Parts). IsProgramme (struck tree c.deref.result.now) parts) (sym made_is) (c.in_ok-programme.ensures.value tree is.is) in
+      subst (λ (ids : List ℕ). IsProgramme (struck tree ids) made) (c.deref.ensures.value ∙ c.in_ok-ids.ensures.value) struck_is)
+      c.ceding_of.ensures.value;
 }
