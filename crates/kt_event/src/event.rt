@@ -111,7 +111,7 @@ fn insured_by(
     ensures good { IfOk result (λ made. All (IsLoss terms.now.samples) made.losses.records) }
 {
     let turned = losses.in_turn(alloc)?;
-    let made = insured_lanes(
+    insured_lanes(
         alloc,
         portfolio,
         &base.structure,
@@ -119,8 +119,7 @@ fn insured_by(
         terms.samples,
         terms.rule,
         &turned,
-    )?;
-    Ok(made)
+    )
 }
 
 /// Puts the summaries of the insured losses of an event behind others, and those of its net losses, and answers the sums of the
@@ -178,8 +177,7 @@ fn put_output_summaries(
 {
     match &plan.base {
         Some(base) => {
-            let layers = put_insured_summaries(alloc, portfolio, plan, base, losses, made)?;
-            Ok(layers)
+            put_insured_summaries(alloc, portfolio, plan, base, losses, made)
         }
         None => Ok(Records::new(alloc)),
     }
