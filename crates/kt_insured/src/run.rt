@@ -1,13 +1,15 @@
 //! The insured losses of a run, and the sums of its layers.
 //! The rule: docs/FINANCIAL_MODULE.md, "Insured losses".
-ghost use Rattle.std.specs.Prelude.{◌≡◌, ◌+◌, ◌≤◌, ◌++◌, map, All, IfOk, OnErr, OnOk};
+ghost use Rattle.std.specs.Prelude.{◌≡◌, ◌+◌, ◌≤◌, ◌++◌, List, map, All, IfOk, OnErr, OnOk};
 ghost use Rattle.std.specs.List.{flat_map};
 ghost use Rattle.kt_stream.specs.Losses.{IsLoss, loss_bytes};
+ghost use Rattle.kt_rec.specs.declared.financial.FmXref.{FmXref};
 ghost use Rattle.kt_runs.specs.RunLosses.{AreWithin};
 ghost use Rattle.kt_tree.specs.Programme.{tree_of};
+ghost use Rattle.kt_tree.specs.Struck.{struck};
 ghost use Rattle.kt_tree.specs.Tree.{Tree};
 ghost use Rattle.kt_fmtree.specs.Parts.{IsProgramme};
-ghost use Rattle.kt_structure.specs.Structure.{IsStructure, kept_by};
+ghost use Rattle.kt_structure.specs.Structure.{HasStructure, IsStructure, kept_by};
 ghost use Rattle.kt_insured.specs.Index.{AreIndexed};
 ghost use Rattle.kt_insured.specs.Insured.{insured_records, layer_sums};
 ghost use Rattle.kt_insured.specs.Layout.{IsLayout};
@@ -24,6 +26,25 @@ use kt_shares::{Listed, RunLosses, event_of_run, ids_of, table_of, table_of_run}
 use kt_structure::Structure;
 use kt_tables::Portfolio;
 use std::alloc::{AllocError, Global};
+
+/// The programme of the units that ids with losses come to, and how its layers are laid out to outputs by an allocation rule from 0 to 2.
+/// An error is want of memory.
+fn programme_for(
+    alloc: Global,
+    structure: &Structure,
+    outputs: &OutputIndex,
+    rule: u32,
+    ids: &[u32],
+) -> Result<(Programme, Layout), AllocError>
+    requires structure { HasStructure (kept_by structure.now) }
+    ensures programme { IfOk result (λ made. (tree : Tree) → IsStructure tree (kept_by structure.now) → IsProgramme (struck tree ids.now) made.0) }
+    ensures rule { IfOk result (λ made. made.1.rule ≡ rule) }
+    ensures layout { IfOk result (λ made. (tree : Tree) (all : List FmXref) → IsProgramme tree made.0 → AreIndexed all outputs.now → IsLayout tree all made.0 made.1) }
+{
+    let programme = structure.programme(alloc, ids)?;
+    let layout = Layout::new(alloc, outputs, &programme, rule)?;
+    Ok((programme, layout))
+}
 
 /// The insured losses of a run, by a programme of the ids that have losses.
 fn lanes_by<R: RunLosses>(
@@ -82,10 +103,8 @@ pub fn insured_lanes<R: RunLosses>(
 {
     portfolio.is_valid();
     let ids = run.id_list(alloc)?;
-    let programme = structure.programme(alloc, &ids)?;
-    let layout = Layout::new(alloc, outputs, &programme, rule)?;
-    let made = lanes_by(alloc, portfolio, &programme, &layout, samples, run)?;
-    Ok(made)
+    let (programme, layout) = programme_for(alloc, structure, outputs, rule, &ids)?;
+    lanes_by(alloc, portfolio, &programme, &layout, samples, run)
 }
 
 /// The insured losses of the records of one run, by an allocation rule from 0 to 2, and the sums of the layers over the samples.
@@ -144,8 +163,7 @@ fn put_of<T: RunEntry>(
     let event = event_of(records);
     let layers = layout.layers();
     let table = table_of(alloc, programme, samples, layout.rule(), layers, records)?;
-    put_records(alloc, event, &table, layout.outlets(), out)?;
-    Ok(())
+    put_records(alloc, event, &table, layout.outlets(), out)
 }
 
 /// Appends the insured losses of the records of one run as they stand in a stream: the records of `insured`, which says what must
@@ -170,8 +188,6 @@ pub fn put_insured<T: RunEntry>(
     ensures unchanged { OnErr result (out.new ≡ out.old) }
 {
     let ids = ids_of(alloc, records)?;
-    let programme = structure.programme(alloc, &ids)?;
-    let layout = Layout::new(alloc, outputs, &programme, rule)?;
-    put_of(alloc, portfolio, &programme, &layout, samples, records, out)?;
-    Ok(())
+    let (programme, layout) = programme_for(alloc, structure, outputs, rule, &ids)?;
+    put_of(alloc, portfolio, &programme, &layout, samples, records, out)
 }
