@@ -1,4 +1,4 @@
-use Rattle.std.proofs.Common.{◌∙◌, ◌≤◌, ◌++◌, ◌+◌, All, ℕ, List, sym, subst}
+use Rattle.std.proofs.Common.{◌∙◌, ◌≤◌, ◌++◌, All, ℕ, List, sym, subst}
 use Rattle.kt_periods.specs.Fitting.{fits_periods}
 use Rattle.kt_rec.specs.declared.periods.Occurrence.{Occurrence}
 use Rattle.kt_fold.proofs.ListLemmas.{same_place}
