@@ -91,6 +91,26 @@ fn added_by_id(
     Ok(found)
 }
 
+/// Puts what each of rising ids has of amounts of units of level 0 behind other lanes, id by id. An error is want of memory.
+fn push_added(
+    alloc: Global,
+    programme: &Programme,
+    ids: &[u32],
+    width: usize,
+    parts: &PlacedLanes,
+    out: &mut Lanes,
+) -> Result<(), AllocError>
+    requires rising { IsRising ids.now }
+    requires parts { ArePlaced width parts.now }
+    requires places { All (λ place. place < length programme.now.leaves) parts.now.places.items }
+    requires few { (k : ℕ) → k < width → sum_by (λ part. part.amount) (placed_at k parts.now) ≤ 10 ^ 17 }
+    requires out { AreWide width out.old }
+    ensures value { OnOk result (AreBehind width (length ids.now) (λ k. map (part_of (unit_parts (units_at programme.now 0) (placed_at k parts.now))) ids.now) out.old out.new) }
+{
+    let found = added_by_id(alloc, programme, ids, width, parts)?;
+    out.append(width, &found)
+}
+
 /// Whether the units in places of level 0 are these ids, in their order.
 fn are_in_order(programme: &Programme, ids: &[u32], places: &[usize]) -> bool
     requires places { All (λ place. place < length programme.now.leaves) places.now }
@@ -132,8 +152,7 @@ fn push_by_id(
 {
     place_children(nodes, below, &room.parts.places, &mut room.given.places)?;
     if are_in_order(programme, ids, &room.given.places) {
-        push_given(nodes, width, below, sums, &mut room.room, &room.parts, out)?;
-        return Ok(());
+        return push_given(nodes, width, below, sums, &mut room.room, &room.parts, out);
     }
     level_by_unit(
         nodes,
@@ -144,9 +163,7 @@ fn push_by_id(
         &room.parts,
         &mut room.given,
     )?;
-    let found = added_by_id(alloc, programme, ids, width, &room.given)?;
-    out.append(width, &found)?;
-    Ok(())
+    push_added(alloc, programme, ids, width, &room.given, out)
 }
 
 /// Gives amounts of the units of a level down to rising ids, level by level, and puts what these have behind other lanes, id by id. What

@@ -1,6 +1,6 @@
 //! Lanes carried up a programme, level by level.
 //! The rules: docs/FINANCIAL_MODULE.md, "Levels".
-ghost use Rattle.std.specs.Prelude.{◌≡◌, ◌+◌, ◌≤◌, ◌<◌, ◌^◌, ℕ, [], true, length, map, All, IfOk, slice_index, slice_index_or};
+ghost use Rattle.std.specs.Prelude.{◌≡◌, ◌+◌, ◌≤◌, ◌<◌, ◌^◌, ℕ, [], true, length, map, All, IfOk, OnOk, slice_index, slice_index_or};
 ghost use Rattle.std.specs.List.{range_with_len, sum};
 ghost use Rattle.kt_rules.specs.LossAlone.{loss_after};
 ghost use Rattle.kt_rules.specs.Profiles.{IsProfile};
@@ -8,6 +8,7 @@ ghost use Rattle.kt_fmtree.specs.Parts.{units_at};
 ghost use Rattle.kt_lanes.specs.Lanes.{column, AreWide, AreLanes, IsLane};
 ghost use Rattle.kt_levels.specs.Units.{CanTake, child_losses, unit_loss};
 ghost use Rattle.kt_levels.specs.Climbed.{HasPlainUnits, AreLevel, AreLosses, IsClimbed, leaf_lanes, level_lanes};
+ghost use Rattle.kt_levels.specs.ClimbedLaws.{HasLevels};
 
 use kt_fmtree::{Node, Programme};
 use kt_lanes::{Lanes, no_amounts, sum_lanes};
@@ -183,6 +184,27 @@ fn next_lanes(
     Ok(row)
 }
 
+/// Puts the lanes of a level behind those of all levels below it. An error is want of memory.
+fn push_level(
+    alloc: Global,
+    programme: &Programme,
+    width: usize,
+    lanes: &Lanes,
+    level: usize,
+    levels: &mut Levels,
+) -> Result<(), AllocError>
+    requires losses { AreLosses programme.now width lanes.now }
+    requires plain { HasPlainUnits programme.now }
+    requires level { level < length programme.now.levels }
+    requires levels { HasLevels programme.now lanes.now width level levels.old }
+    ensures levels { OnOk result (HasLevels programme.now lanes.now width (level + 1) levels.new) }
+{
+    let below = lanes_at(lanes, levels, level - 1);
+    let row = next_lanes(alloc, programme, width, lanes, level - 1, below)?;
+    levels.rows.push(row)?;
+    Ok(())
+}
+
 /// The losses of units of a programme, carried up from lanes of the ids by rising number, of so many sidx each. The losses of
 /// all ids add to at most 10^16 cents at each sidx, and the rules see the losses alone. An error is want of memory.
 pub fn climb(
@@ -201,15 +223,7 @@ pub fn climb(
     let rows = Vec::with_capacity(alloc, programme.depth())?;
     let mut levels = Levels { leaves, rows };
     for level in 1..programme.depth() {
-        let row = next_lanes(
-            alloc,
-            programme,
-            width,
-            lanes,
-            level - 1,
-            lanes_at(lanes, &levels, level - 1),
-        )?;
-        levels.rows.push(row)?;
+        push_level(alloc, programme, width, lanes, level, &mut levels)?;
     }
     Ok(Climbed { width, levels })
 }

@@ -182,6 +182,22 @@ fn place_starts(nodes: &[Node], places: &[usize], starts: &mut Vec<usize>) -> Re
     Ok(())
 }
 
+/// Puts the places of the first children of units in the place of those of the units, and leaves the amounts as they are. An error is
+/// want of memory.
+fn starts_down(
+    nodes: &[Node],
+    parts: &mut PlacedLanes,
+    given: &mut PlacedLanes,
+) -> Result<(), AllocError>
+    requires within { All (λ place. place < length nodes.now) parts.old.places.items }
+    ensures lanes { parts.new.lanes ≡ parts.old.lanes }
+    ensures value { OnOk result (parts.new.places.items ≡ map (λ place. (node_at nodes.now place).start) parts.old.places.items) }
+{
+    place_starts(nodes, &parts.places, &mut given.places)?;
+    swap(&mut parts.places, &mut given.places);
+    Ok(())
+}
+
 /// Puts what amounts of the units of a level give to those of the level below in the place of these amounts: only children have them
 /// whole, as they are. What the children of each have in all may be known. An error is want of memory.
 pub(crate) fn level_down(
@@ -199,9 +215,7 @@ pub(crate) fn level_down(
     ensures value { OnOk result ((k : ℕ) → k < width → placed_at k room.new.parts ≡ flat_map (given_losses nodes.now (column k below.now)) (placed_at k room.old.parts)) }
 {
     if are_single(nodes, &room.parts.places) {
-        place_starts(nodes, &room.parts.places, &mut room.given.places)?;
-        swap(&mut room.parts.places, &mut room.given.places);
-        return Ok(());
+        return starts_down(nodes, &mut room.parts, &mut room.given);
     }
     level_by_unit(
         nodes,

@@ -139,8 +139,7 @@ fn shared_at_once(
     let places = places_of(alloc, programme.ids(), programme.beneath(node))?;
     let losses = lanes_in(alloc, climbed.width, &places, lanes)?;
     let count = losses.len();
-    share_lanes(policy, &losses, 0, count, None, &mut room.room, out)?;
-    Ok(())
+    share_lanes(policy, &losses, 0, count, None, &mut room.room, out)
 }
 
 /// Puts the policy losses as those of a top in the place of what units have.

@@ -1,5 +1,6 @@
 use Rattle.std.proofs.Common.{◌≡◌, ◌≤◌, ◌<◌, ◌^◌, ◌∙◌, take, drop, arith, ℕ, List, [], length, map, slice_index, slice_index_or, sym, ap, subst}
 use Rattle.std.specs.List.{All, sum}
+use Rattle.std.proofs.lemmas.Result.{on_ok_weaker}
 use Rattle.kt_money.specs.Sharing.{share_out}
 use Rattle.kt_lanes.specs.Lanes.{AreLanes, AreWide, column}
 use Rattle.kt_lanes.specs.LaneLaws.{part-all}
@@ -58,14 +59,16 @@ share_lanes-requires-clause-backed c = λ k less.
     subst (λ (each : List (List ℕ)). slice_index c.args.policy.now k ≤ sum (column k each)) (sym (all-are at)) (few at k less).0
 
 pub returns-clause-room : goal.returns-clause-room
-returns-clause-room c = subst (λ n. HasRoom n c.share_lanes.new.room) c.requires.policy.wide c.share_lanes.ensures.room
+returns-clause-room c = on_ok_weaker c.share_lanes.result (λ shares. subst (λ n. HasRoom n c.share_lanes.new.room) c.requires.policy.wide c.share_lanes.ensures.room) c.share_lanes.ensures.value
 
 pub returns-clause-value : goal.returns-clause-value
 returns-clause-value c =
     let at = (goal.at.returns-clause-value c).After-len-count in
     let lanes = c.in_ok-losses.losses in
     let policy = c.args.policy.now in
-    let shares = subst (λ n. AreBehind (length policy) n (λ k. share_out (slice_index policy k) (column k (take c.len-count.result (drop 0 lanes)))) c.args.out.now c.share_lanes.new.out) c.len-count.ensures.value c.in_ok-share_lanes.ensures.value in
+    on_ok_weaker c.share_lanes.result (λ behind.
+    let shares = subst (λ n. AreBehind (length policy) n (λ k. share_out (slice_index policy k) (column k (take c.len-count.result (drop 0 lanes)))) c.args.out.now c.share_lanes.new.out) c.len-count.ensures.value behind in
     at-once c.args.programme.now c.is_of_a_tree.ensures.kept c.args.lanes.now c.args.climbed.now c.requires.climbed c.args.node c.requires.node c.args.layer policy c.requires.policy c.in_ok-places.places.items (places-within at) (places-found at) lanes (losses-are at) c.args.out.now c.share_lanes.new.out
     (subst (λ n. AreBehind n (length lanes) (λ k. share_out (slice_index policy k) (column k lanes)) c.args.out.now c.share_lanes.new.out) c.requires.policy.wide
-    (subst (λ (each : List (List ℕ)). AreBehind (length policy) (length lanes) (λ k. share_out (slice_index policy k) (column k each)) c.args.out.now c.share_lanes.new.out) (all-are at) shares))
+    (subst (λ (each : List (List ℕ)). AreBehind (length policy) (length lanes) (λ k. share_out (slice_index policy k) (column k each)) c.args.out.now c.share_lanes.new.out) (all-are at) shares)))
+    c.share_lanes.ensures.value
