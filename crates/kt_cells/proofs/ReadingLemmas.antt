@@ -21,7 +21,7 @@ behind-nil (Ok more) = refl
 behind-nil (Err e) = refl
 
 -- a result in front of the rest goes behind what is there
-behind-in_front : {A E : Type 0} (before : List A) (x : A) (rest : Result (List A) E) → behind before (in_front x rest) ≡ behind (before ++ x ∷ []) rest
+pub behind-in_front : {A E : Type 0} (before : List A) (x : A) (rest : Result (List A) E) → behind before (in_front x rest) ≡ behind (before ++ x ∷ []) rest
 behind-in_front before x (Ok more) = ap Ok (sym (append_assoc before (x ∷ []) more))
 behind-in_front before x (Err e) = refl
 

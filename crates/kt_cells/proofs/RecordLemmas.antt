@@ -4,12 +4,13 @@ use Rattle.std.specs.Prelude.{Result, Ok, Err, slice_set, Bool, true, ◌==◌, 
 use Rattle.std.proofs.lemmas.Bool.{ne_eqb}
 use Rattle.std.proofs.lemmas.Bool.Decides.{nat_tests}
 use Rattle.std.proofs.lemmas.List.{at_drop_all, at_drop_more, length-take-le}
+use Rattle.std.proofs.lemmas.Grind.{take-set_at}
 use Rattle.std.proofs.Math.Nat.{div-eq-sub-div, mod-eq-sub-mod, div-eq_of_lt, mod-eq_of_lt, mul-div_cancel, mul-mod_left}
 use Rattle.byteorder.specs.Endian.{little_number}
 use Rattle.byteorder.specs.Numbers.{little_from-take}
 use Rattle.kt_cells.specs.Kinds.{under, width, in_range}
 use Rattle.kt_cells.specs.Ranges.{IsRow, AreRows}
-use Rattle.kt_cells.specs.Reading.{and_then, and_then-ok, in_front, not_below, value_from, rule_after, row_values, table_rows}
+use Rattle.kt_cells.specs.Reading.{and_then, and_then-ok, behind, in_front, not_below, value_from, rule_after, row_values, table_rows}
 use Rattle.kt_cells.specs.Records.{record_width, record_fields, records_in, field_value, record_rows, records_behind, record_count, whole_records}
 use Rattle.kt_cells.specs.declared.kind.Kind.{Kind}
 use Rattle.kt_cells.specs.declared.stop.Cause.{Cause}
@@ -18,7 +19,7 @@ use Rattle.kt_cells.specs.declared.stop.TableStop.TheVariants.{Bad, CutRecord}
 use Rattle.kt_cells.proofs.KindLemmas.{kind-facts, field_value-range}
 use Rattle.kt_cells.proofs.RangeLemmas.{AreRead, not_below-above, length-rows, row-read, row-range, rows-range, rows-read, read-rows, in_order-any}
 use Rattle.kt_cells.specs.Fronts.{RowRead}
-use Rattle.kt_cells.proofs.ReadingLemmas.{row-more, row-stops, table_rows-row, table_rows-stops}
+use Rattle.kt_cells.proofs.ReadingLemmas.{behind-in_front, row-more, row-stops, table_rows-row, table_rows-stops}
 
 -- a record takes at most eight bytes a column
 pub record_width-most : (kinds : List Kind) → record_width kinds ≤ 8 * length kinds
@@ -140,6 +141,18 @@ module _ (before first : ℕ) (kinds : List Kind) (bytes : List ℕ) where
 
   pub record-cut : 0 < length bytes → length bytes < record_width kinds → records_behind before first kinds bytes ≡ Err (CutRecord (before + 1))
   record-cut some short = record-last short ∙ rw (ne_eqb (length bytes) 0 (λ none. omega arith)) refl
+
+-- bytes that are not none are some
+pub some-left : (size : ℕ) → false ≡ (size == 0) → 0 < size
+some-left size left = grind (arith, nat_tests)
+
+-- a record more is read as a row
+pub rows-more : (before first : ℕ) (kinds : List Kind) (left rest : List ℕ) (rows : List (List ℕ)) (count : ℕ) (values : List ℕ) (all : Result (List (List ℕ)) TableStop) → count < length rows → all ≡ behind (take count rows) (records_behind (before + count) first kinds left)
+    → records_behind (before + count) first kinds left ≡ in_front values (records_behind (before + count + 1) first kinds rest)
+    → all ≡ behind (take (count + 1) (slice_set rows count values)) (records_behind (before + (count + 1)) first kinds rest)
+rows-more before first kinds left rest rows count values all room so_far next =
+    let place : before + (count + 1) ≡ before + count + 1 = omega arith in
+    rw (place, take-set_at rows count (count + 1) values refl room) (so_far ∙ ap (behind (take count rows)) next ∙ behind-in_front (take count rows) values _)
 
 -- the rows of records are those behind none
 pub behind-none : (first : ℕ) (kinds : List Kind) (bytes : List ℕ) → records_behind 0 first kinds bytes ≡ record_rows first kinds bytes

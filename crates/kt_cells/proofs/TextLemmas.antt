@@ -1,5 +1,5 @@
 -- The rows of a text: their ranges, what a sink takes of one, and how far one is read field by field.
-use Rattle.std.proofs.Common.{◌≡◌, ◌<◌, ℕ, Bool, List, length, sym, ◌+◌, ◌≤◌, true, false, [], ◌∷◌, ◌++◌, take, drop, get_or, refl, ap, ◌∙◌, arith, length-append, append_assoc}
+use Rattle.std.proofs.Common.{◌≡◌, ◌<◌, ◌*◌, ℕ, Bool, List, length, sym, ◌+◌, ◌≤◌, true, false, [], ◌∷◌, ◌++◌, take, drop, get_or, refl, ap, ◌∙◌, arith, length-append, append_assoc}
 use Rattle.std.specs.Prelude.{Result, Ok, Err, OnOk, IfErr, slice_set, ◌==◌, ◌≢◌}
 use Rattle.kt_text.specs.Rows.{csv_rows}
 use Rattle.kt_cells.specs.Laws.{TextsAreInRange}
@@ -89,6 +89,18 @@ module _ {kinds : List Kind} {floor : ℕ} {text values : List ℕ} {done rule l
   -- there is no column more
   pub plain-all : columns ≡ done → length kinds ≡ columns → HasRow kinds floor text values rest
   plain-all all width = plain-end (rw (eq-eqb done columns (sym all)) at now) (sym all ∙ sym width)
+
+-- where some columns are not all, there is one more
+pub column-more : (done columns : ℕ) → done ≤ columns → columns ≢ done → done < columns
+column-more done columns now more = omega arith
+
+-- columns that are not less are all
+pub columns-all : (done columns : ℕ) → columns ≤ done → done ≤ columns → columns ≡ done
+columns-all done columns few now = omega arith
+
+-- a row with few columns is small
+pub few-columns : (columns : ℕ) → columns ≤ 5 → (columns * 2 < 9223372036854775808) × (columns * 8 < 9223372036854775808) × (columns < 100)
+few-columns columns few = (omega arith, omega arith, omega arith)
 
 -- the rows that are left are handed over, and so are all
 pub all-over : {S A : Type 0} (takes_to : S → List (List ℕ) → S → Type 0) (start now end : S) (all left : Result (List (List ℕ)) TableStop) (result : Result A TableStop) → HandsFront (TakesMore takes_to start now) all left

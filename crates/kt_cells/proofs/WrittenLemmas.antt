@@ -1,6 +1,6 @@
 -- Records and headers that are written are read back, and slices of records give slices of their rows.
-use Rattle.std.proofs.Common.{◌≡◌, ℕ, zero, suc, ◌+◌, ◌-◌, ◌*◌, ◌≤◌, List, [], ◌∷◌, ◌++◌, length, take, drop, refl, ap, ◌∙◌, arith, append_assoc, length-append, length-drop, drop-drop}
-use Rattle.std.specs.Prelude.{Ok}
+use Rattle.std.proofs.Common.{◌≡◌, ◌<◌, ℕ, zero, suc, ◌+◌, ◌-◌, ◌*◌, ◌≤◌, List, [], ◌∷◌, ◌++◌, length, take, drop, refl, ap, ◌∙◌, arith, append_assoc, length-append, length-drop, drop-drop}
+use Rattle.std.specs.Prelude.{Err, Ok, ◌≢◌}
 use Rattle.std.proofs.lemmas.Bool.Decides.{nat_tests}
 use Rattle.std.proofs.lemmas.List.{take_at, drop_at, take-take, drop-take, length-take-le}
 use Rattle.std.proofs.Math.Nat.{div-mul-le_self, mul-le-mul_right}
@@ -13,6 +13,7 @@ use Rattle.kt_cells.specs.Ranges.{IsRow, AreRows}
 use Rattle.kt_cells.specs.Reading.{rule_after, at_place}
 use Rattle.kt_cells.specs.Records.{record_width, record_fields, records_in, record_bytes, records_bytes, record_count, field_value}
 use Rattle.kt_cells.specs.declared.kind.Kind.{Kind}
+use Rattle.kt_cells.specs.declared.stop.TableStop.TheVariants.{NotProfile, WrongTable, WrongVersion}
 use Rattle.kt_cells.proofs.KindLemmas.{number-read_back}
 use Rattle.kt_cells.proofs.RangeLemmas.{IsRead, AreRead}
 use Rattle.kt_cells.proofs.RecordLemmas.{records-rows, rows-records, records_counted}
@@ -110,6 +111,28 @@ pub header_by : (number least most : ℕ) (bytes : List ℕ) → 16 ≤ length b
     → header_extra number least most bytes ≡ at_place 0 0 (within least most (number_at 12 bytes))
 unfolding header_extra
 header_by number least most bytes long marked numbered versioned = grind (arith, nat_tests)
+
+-- too few bytes are no header
+pub header_short : (number least most : ℕ) (bytes : List ℕ) → length bytes < 16 → Err NotProfile ≡ header_extra number least most bytes
+unfolding header_extra
+header_short number least most bytes short = grind (arith, nat_tests)
+
+module _ (number least most : ℕ) (bytes : List ℕ) (long : 16 ≤ length bytes) where
+  -- neither is another mark
+  pub header_unmarked : little_number 4 bytes ≢ mark → Err NotProfile ≡ header_extra number least most bytes
+  unfolding header_extra
+  header_unmarked other = grind (arith, nat_tests)
+
+  module _ (marked : little_number 4 bytes ≡ mark) where
+    -- a header of another table
+    pub header_of_other : number_at 4 bytes ≢ number → Err (WrongTable (number_at 4 bytes)) ≡ header_extra number least most bytes
+    unfolding header_extra
+    header_of_other other = grind (arith, nat_tests)
+
+    -- a header of another version
+    pub header_unversioned : number_at 4 bytes ≡ number → number_at 8 bytes ≢ version → Err (WrongVersion (number_at 8 bytes)) ≡ header_extra number least most bytes
+    unfolding header_extra
+    header_unversioned numbered other = grind (arith, nat_tests)
 
 -- a header is read back
 pub headers-read_back : HeadersAreReadBack
