@@ -8,3 +8,4 @@ pub mod TermLemmas
 pub mod StruckLemmas
 pub mod MadeLemmas
 pub mod LevelLemmas
+pub mod KeptLemmas

@@ -3,7 +3,7 @@ use Rattle.std.proofs.Common.{◌≡◌, ℕ, zero, suc, ◌+◌, ◌-◌, ◌<�
 use Rattle.std.specs.Cmp.{nat_eq_equiv}
 use Rattle.std.proofs.lemmas.Bool.{cases_eq}
 use Rattle.std.proofs.lemmas.Bool.Decides.{nat_tests}
-use Rattle.std.proofs.lemmas.List.{map-append, get_or_push}
+use Rattle.std.proofs.lemmas.List.{map-append, get_or_push, drop_all}
 use Rattle.std.proofs.lemmas.List.Elements.{All-from_recursion}
 use Rattle.std.proofs.Math.ListN.{get_or-append}
 use Rattle.std.specs.List.{All, AllByRecursion, flat_map}
@@ -38,6 +38,21 @@ building-goes plan level units place nodes more below further inside so_far more
           ∙ (append_assoc below _ _
           ∙ (ap (λ us. below ++ flat_map (kids plan level) us) (sym next) ∙ so_far.below_are));
     }
+
+-- at the beginning nothing stands there
+pub building-begins : (plan : Plan) (level : ℕ) (units : List ℕ) (nodes : List Node) (below : List ℕ) → nodes ≡ [] → below ≡ [] → IsBuilding plan level units 0 nodes below
+building-begins plan level units nodes below nodes_are below_are = record {
+  nodes_are = ap (λ ns. ns ++ nodes_from plan level (length below) units) nodes_are ∙ ap (λ bs. nodes_from plan level (length bs) units) below_are;
+  below_are = ap (λ bs. bs ++ flat_map (kids plan level) units) below_are;
+}
+
+-- at the end all nodes of the level stand there
+pub nodes-end : (plan : Plan) (level : ℕ) (units : List ℕ) (place : ℕ) (nodes : List Node) (below : List ℕ) → length units ≤ place → IsBuilding plan level units place nodes below → nodes ≡ nodes_from plan level 0 units
+nodes-end plan level units place nodes below behind so_far = sym (append-nil nodes) ∙ (ap (λ us. nodes ++ nodes_from plan level (length below) us) (sym (drop_all place units behind)) ∙ so_far.nodes_are)
+
+-- and all units below
+pub below-end : (plan : Plan) (level : ℕ) (units : List ℕ) (place : ℕ) (nodes : List Node) (below : List ℕ) → length units ≤ place → IsBuilding plan level units place nodes below → below ≡ flat_map (kids plan level) units
+below-end plan level units place nodes below behind so_far = sym (append-nil below) ∙ (ap (λ us. below ++ flat_map (kids plan level) us) (sym (drop_all place units behind)) ∙ so_far.below_are)
 
 -- the levels below, and then a level
 pub levels-push : {V : Type 0} (g : V → List Node) (plan : Plan) (level : ℕ) (units below : List ℕ) (old after all : List V) (nodes : V) → 0 < level → map g after ≡ map g old ++ build_levels plan (level - 1) below → below ≡ flat_map (kids plan level) units → g nodes ≡ nodes_from plan level 0 units → all ≡ after ++ nodes ∷ [] → map g all ≡ map g old ++ build_levels plan level units

@@ -74,11 +74,10 @@ impl Structure {
         ensures value { IfOk result (λ made. (tree : Tree) → IsStructure tree (kept_by self.now) → IsProgramme (struck tree ids.now) made) }
     {
         let (rows, ends) = climb(alloc, &self.next, self.top_level, ids)?;
-        let taken = taken(alloc, &self.next, ids)?;
         let reached = reached(alloc, &ends)?;
         let links = by_key(rows)?;
         let by_top = by_key(ends)?;
-        let made = self.made(alloc, &links, &by_top, taken, reached)?;
-        Ok(made)
+        let taken = taken(alloc, &self.next, ids)?;
+        self.made(alloc, &links, &by_top, taken, reached)
     }
 }

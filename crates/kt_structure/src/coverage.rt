@@ -79,8 +79,7 @@ fn covered_outputs(
     ensures value { IfOk result (λ covered. covered.items ≡ map (λ row. (row.output_id, coverage_of items.now row.agg_id)) outputs.now) }
 {
     let found = item_coverages(alloc, items)?;
-    let covered = output_pairs(alloc, &found, outputs)?;
-    Ok(covered)
+    output_pairs(alloc, &found, outputs)
 }
 
 /// The ids whose losses may come in, with their coverages.
@@ -197,6 +196,5 @@ pub(crate) fn tivs(
     let pairs = own_pairs(alloc, coverages)?;
     let values = coverage_tivs(alloc, coverages)?;
     let totals = exposure_list(alloc, rows, pairs, &values)?;
-    let found = UnitTable::new(alloc, &totals)?;
-    Ok(found)
+    UnitTable::new(alloc, &totals)
 }

@@ -152,6 +152,14 @@ fn push_while_rising(links: &[Link], below: &mut Vec<u32>) -> Result<bool, Alloc
     Ok(true)
 }
 
+/// The children of links, rising.
+fn risen(alloc: Global, links: &[Link]) -> Result<Vec<u32>, AllocError>
+    ensures value { IfOk result (λ ids. ids.items ≡ rising (map (λ row. row.child) links.now)) }
+{
+    let ids = children_of(alloc, links)?;
+    rising(ids)
+}
+
 /// Puts the children of links, rising, behind others.
 fn push_children(alloc: Global, links: &[Link], below: &mut Vec<u32>) -> Result<(), AllocError>
     ensures ok { OnOk result (below.new.items ≡ below.old.items ++ rising (map (λ row. row.child) links.now)) }
@@ -161,9 +169,8 @@ fn push_children(alloc: Global, links: &[Link], below: &mut Vec<u32>) -> Result<
         return Ok(());
     }
     below.truncate(before);
-    let ids = rising(children_of(alloc, links)?)?;
-    below.extend_from_slice(&ids)?;
-    Ok(())
+    let ids = risen(alloc, links)?;
+    below.extend_from_slice(&ids)
 }
 
 /// Puts the units whose losses come to a unit of a level, rising, behind others, and tells how many they are. Their links are

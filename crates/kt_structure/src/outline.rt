@@ -1,6 +1,6 @@
 //! The tops of a programme, their layers, and the ids beneath them.
 //! The rule: docs/FINANCIAL_MODULE.md, "Levels".
-ghost use Rattle.std.specs.Prelude.{◌≡◌, ◌++◌, ℕ, nat_eq, List, length, map, is_some, IfOk, OnOk};
+ghost use Rattle.std.specs.Prelude.{◌≡◌, ◌++◌, ℕ, None, Some, cond, nat_eq, List, length, map, is_some, IfOk, OnOk};
 ghost use Rattle.std.specs.List.{filter};
 ghost use Rattle.kt_tree.specs.Programme.{or_first};
 ghost use Rattle.kt_structure.specs.Plan.{found_terms, layer_link, link_key, linked};
@@ -42,8 +42,7 @@ pub(crate) fn taken(
     ensures value { IfOk result (λ taken. taken.items ≡ rising (filter (λ id. is_some (value_of next.now (1, id))) ids.now)) }
 {
     let taken = among(alloc, next, ids)?;
-    let taken = rising(taken)?;
-    Ok(taken)
+    rising(taken)
 }
 
 /// The units that links lead to.
@@ -58,8 +57,7 @@ pub(crate) fn reached(alloc: Global, links: &[Link]) -> Result<Vec<u32>, AllocEr
     ensures value { IfOk result (λ units. units.items ≡ rising (map (λ row. row.unit) links.now)) }
 {
     let units = units_of(alloc, links)?;
-    let units = rising(units)?;
-    Ok(units)
+    rising(units)
 }
 
 /// The link of a layer to its unit.
@@ -80,15 +78,24 @@ fn is_at(row: &FmPolicytc, level: u32) -> bool
     row.level_id == level
 }
 
+/// The link of a layer to its unit, where it is of a level.
+fn link_at(row: &FmPolicytc, level: u32) -> Option<Link>
+    ensures value { result ≡ cond (nat_eq row.now.level_id level) (Some (layer_link row.now)) None }
+{
+    if is_at(row, level) {
+        Some(layer_link(row))
+    } else {
+        None
+    }
+}
+
 /// The links of the layers of the units of a level.
 fn layer_rows(alloc: Global, policytc: &[FmPolicytc], level: u32) -> Result<Vec<Link>, AllocError>
     ensures value { IfOk result (λ links. links.items ≡ map layer_link (filter (λ row. nat_eq row.level_id level) policytc.now)) }
 {
     policytc
         .iter()
-        .copied()
-        .filter(|row| is_at(row, level))
-        .map(|row| layer_link(&row))
+        .filter_map(|row| link_at(row, level))
         .collect(alloc)
 }
 

@@ -46,8 +46,8 @@ pub(crate) fn structure_at(
     let next = next_units(alloc, rows)?;
     let covered = covered_ids(alloc, tables, stage)?;
     let worth = tivs(alloc, &next, top_level, covered, &tables.coverages)?;
-    let terms = Terms::new(alloc, policytc(tables, stage), profile(tables, stage))?;
     let layers = layer_links(alloc, policytc(tables, stage), top_level)?;
+    let terms = Terms::new(alloc, policytc(tables, stage), profile(tables, stage))?;
     Ok(Structure {
         top_level,
         next,
@@ -66,7 +66,6 @@ impl Structure {
         ensures value { IfOk result (λ made. IsStructure (tree_of portfolio.now.rows stage) (kept_by made)) }
     {
         portfolio.is_valid();
-        let made = structure_at(alloc, portfolio.tables(), stage)?;
-        Ok(made)
+        structure_at(alloc, portfolio.tables(), stage)
     }
 }

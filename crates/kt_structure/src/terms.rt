@@ -1,6 +1,6 @@
 //! The terms of the layers of units.
 //! The rule: docs/FINANCIAL_MODULE.md, "Policy losses".
-ghost use Rattle.std.specs.Prelude.{◌≡◌, ℕ, map, nat_eq, not, All, IfOk};
+ghost use Rattle.std.specs.Prelude.{◌≡◌, ℕ, None, Some, cond, map, nat_eq, not, All, IfOk};
 ghost use Rattle.std.specs.List.{filter};
 ghost use Rattle.std.specs.Map.{lookup};
 ghost use Rattle.std.specs.HashMap.{get};
@@ -55,16 +55,36 @@ fn is_first(row: &FmPolicytc) -> bool
     row.layer_id == 1
 }
 
+/// The profile of a row for its unit, where it is of layer 1.
+fn first_pair(row: &FmPolicytc) -> Option<((u32, u32), u32)>
+    ensures value { result ≡ cond (nat_eq row.now.layer_id 1) (Some (first_pair row.now)) None }
+{
+    if is_first(row) {
+        Some(((row.level_id, row.agg_id), row.policytc_id))
+    } else {
+        None
+    }
+}
+
 /// The profiles of the first layers of units.
 fn first_pairs(alloc: Global, policytc: &[FmPolicytc]) -> Result<Vec<((u32, u32), u32)>, AllocError>
     ensures value { IfOk result (λ pairs. pairs.items ≡ map first_pair (filter (λ row. nat_eq row.layer_id 1) policytc.now)) }
 {
     policytc
         .iter()
-        .copied()
-        .filter(|row| is_first(row))
-        .map(|row| ((row.level_id, row.agg_id), row.policytc_id))
+        .filter_map(|row| first_pair(row))
         .collect(alloc)
+}
+
+/// The profile of a row for its unit, where it is of another layer.
+fn other_pair(row: &FmPolicytc) -> Option<((u32, u32, u32), u32)>
+    ensures value { result ≡ cond (not (nat_eq row.now.layer_id 1)) (Some (unit_pair row.now)) None }
+{
+    if is_first(row) {
+        None
+    } else {
+        Some(((row.layer_id, row.level_id, row.agg_id), row.policytc_id))
+    }
 }
 
 /// The profiles of the other layers of units.
@@ -76,9 +96,7 @@ fn other_pairs(
 {
     policytc
         .iter()
-        .copied()
-        .filter(|row| !is_first(row))
-        .map(|row| ((row.layer_id, row.level_id, row.agg_id), row.policytc_id))
+        .filter_map(|row| other_pair(row))
         .collect(alloc)
 }
 
@@ -87,8 +105,7 @@ fn first_layers(alloc: Global, policytc: &[FmPolicytc]) -> Result<UnitTable<u32>
     ensures value { IfOk result (λ values. (key : ℕ × ℕ) → value_of values key ≡ lookup (same_pair key) (map first_pair (filter (λ row. nat_eq row.layer_id 1) policytc.now))) }
 {
     let pairs = first_pairs(alloc, policytc)?;
-    let table = UnitTable::new(alloc, &pairs)?;
-    Ok(table)
+    UnitTable::new(alloc, &pairs)
 }
 
 /// The profile that each pair of key and profile has first.
@@ -109,8 +126,7 @@ fn other_layers(
     ensures value { IfOk result (λ values. (key : ℕ × ℕ × ℕ) → get same_triple values key ≡ lookup (same_triple key) (map unit_pair (filter (λ row. not (nat_eq row.layer_id 1)) policytc.now))) }
 {
     let pairs = other_pairs(alloc, policytc)?;
-    let values = unit_values(alloc, &pairs)?;
-    Ok(values)
+    unit_values(alloc, &pairs)
 }
 
 /// The terms that each profile has in its first row.
@@ -118,6 +134,15 @@ fn id_values(alloc: Global, pairs: &[(u32, Profile)]) -> Result<HashMap<u32, Pro
     ensures value { IfOk result (λ values. (key : ℕ) → get nat_eq values key ≡ lookup (nat_eq key) pairs.now) }
 {
     first_values(alloc, pairs)
+}
+
+/// The terms that each profile has in its first row, by its id.
+fn id_terms(alloc: Global, profiles: &[FmProfile]) -> Result<HashMap<u32, Profile>, AllocError>
+    requires { All IsFmProfile profiles.now }
+    ensures value { IfOk result (λ values. (key : ℕ) → get nat_eq values key ≡ lookup (nat_eq key) (map (λ row. (row.policytc_id, profile_of row)) profiles.now)) }
+{
+    let pairs = id_pairs(alloc, profiles)?;
+    id_values(alloc, &pairs)
 }
 
 impl Terms {
@@ -130,10 +155,9 @@ impl Terms {
         requires { All IsFmProfile profiles.now }
         ensures value { IfOk result (AreTerms policytc.now profiles.now) }
     {
-        let first = first_layers(alloc, policytc)?;
+        let by_id = id_terms(alloc, profiles)?;
         let others = other_layers(alloc, policytc)?;
-        let ids = id_pairs(alloc, profiles)?;
-        let by_id = id_values(alloc, &ids)?;
+        let first = first_layers(alloc, policytc)?;
         Ok(Terms {
             first,
             others,

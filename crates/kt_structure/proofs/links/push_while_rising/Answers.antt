@@ -21,6 +21,9 @@ loop-link-preserved c =
       | else-floor-child w ↦ rw (w.below-is, w.floor-is) (pushed-same before links i c.loop-link.floor c.loop-link.below.items (link_to 0 0 0) c.loop-link-test.true here (omega (arith, w.if-floor-child.false, c.if-child-floor.false, c.from-child.ensures)))
     ]
 
+pub returns-then-child-floor-clause-behind : goal.returns-then-child-floor-clause-behind
+returns-then-child-floor-clause-behind c = front-stays c.args.below.now.items _ _ c.loop-link.invariant.are
+
 pub returns : goal.returns
 returns c =
     let before = c.args.below.now.items in

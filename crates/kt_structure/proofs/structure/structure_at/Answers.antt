@@ -23,9 +23,9 @@ returns c =
     let next_is = fun_ext units_are in
     record {
       value = structure-made rows c.args.stage c.requires.ready _ c.in_ok-terms.terms c.in_ok-layers.layers top_is next_is refl
-          (subst (λ (policytc : List FmPolicytc). AreTerms policytc (profiles_of rows c.args.stage) c.in_ok-terms.terms) c.policytc.ensures.value (subst (λ (profiles : List FmProfile). AreTerms c.policytc.result.now profiles c.in_ok-terms.terms) c.profile.ensures.value c.in_ok-terms.ensures.value))
+          (subst (λ (policytc : List FmPolicytc). AreTerms policytc (profiles_of rows c.args.stage) c.in_ok-terms.terms) c.policytc-2.ensures.value (subst (λ (profiles : List FmProfile). AreTerms c.policytc-2.result.now profiles c.in_ok-terms.terms) c.profile.ensures.value c.in_ok-terms.ensures.value))
           (λ level unit least most.
           tivs-beneath rows c.args.stage c.requires.ready (value_of c.in_ok-next.next) c.top_level-top_level.result c.in_ok-covered.covered.items c.deref.result.now next_is top_is c.in_ok-covered.ensures.value c.deref.ensures.value (λ key. unwrap_or (value_of c.in_ok-worth.worth key) 0) c.in_ok-worth.ensures.value level unit least most)
           refl
-          (subst (λ (policytc : List FmPolicytc). (key : ℕ) → filter (λ row. nat_eq (link_key row) key) c.in_ok-layers.layers ≡ filter (λ row. nat_eq (link_key row) key) (map layer_link (filter (λ row. nat_eq row.level_id c.top_level-top_level.result) policytc))) c.policytc-2.ensures.value c.in_ok-layers.ensures.kept);
+          (subst (λ (policytc : List FmPolicytc). (key : ℕ) → filter (λ row. nat_eq (link_key row) key) c.in_ok-layers.layers ≡ filter (λ row. nat_eq (link_key row) key) (map layer_link (filter (λ row. nat_eq row.level_id c.top_level-top_level.result) policytc))) c.policytc.ensures.value c.in_ok-layers.ensures.kept);
     }

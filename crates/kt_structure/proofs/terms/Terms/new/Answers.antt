@@ -1,6 +1,4 @@
-use Rattle.std.proofs.Common.{◌∙◌, nat_eq, ap}
 use Rattle.std.specs.HashMap.{get}
-use Rattle.std.specs.Map.{lookup}
 use Rattle.kt_keys.specs.Keys.{same_triple}
 use Rattle.kt_keys.specs.UnitTable.{value_of}
 use Rattle.kt_structure.proofs.TermLemmas.{units-found}
@@ -10,6 +8,6 @@ pub returns : goal.returns
 returns c = record {
   value = record {
     units = units-found c.args.policytc.now (value_of c.in_ok-first.first) (get same_triple c.in_ok-others.others) c.in_ok-first.ensures.value c.in_ok-others.ensures.value;
-    ids = λ id. c.in_ok-by_id.ensures.value id ∙ ap (lookup (nat_eq id)) (c.deref.ensures.value ∙ c.in_ok-ids.ensures.value);
+    ids = c.in_ok-by_id.ensures.value;
   };
 }
