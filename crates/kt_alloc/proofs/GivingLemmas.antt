@@ -1,8 +1,9 @@
 -- Lemmas on what a unit gives to its children.
-use Rattle.std.proofs.Common.{◌≡◌, ℕ, zero, suc, ◌+◌, ◌*◌, ◌<◌, ◌≤◌, Bool, true, false, cond, nat_eq, List, [], ◌∷◌, ◌++◌, length, map, drop, get_or, refl, sym, ap, ◌∙◌, arith, drop-cons, add-one, append_assoc, append-nil, ◌⊎◌, inl, inr}
+use Rattle.std.proofs.Common.{◌≡◌, ℕ, zero, suc, ◌+◌, ◌*◌, ◌<◌, ◌≤◌, Bool, true, false, cond, nat_eq, List, [], ◌∷◌, ◌++◌, length, map, drop, get_or, refl, sym, ap, ◌∙◌, arith, drop-cons, add-one, append_assoc, append-nil}
 use Rattle.std.specs.List.{sum, sum_by}
 use Rattle.std.proofs.Math.Nat.{div-zero}
 use Rattle.std.proofs.lemmas.Bool.{eqb-true}
+use Rattle.std.proofs.lemmas.List.{drop_all}
 use Rattle.std.proofs.lemmas.List.Sums.{sum_by-cons, sum-map}
 use Rattle.kt_money.specs.Sharing.{Sharing, share_of, shares_after, share_out}
 use Rattle.kt_rules.specs.Amounts.{total}
@@ -119,3 +120,9 @@ sharing-goes children start amount old now more carried all sharing after at sha
           ∙ ap (λ g. share ∷ shares_after (due amount all) all g (map (weight carried) (drop (at + 1) children))) (sym given)))
           so_far.parts_are more_is;
     }
+
+-- at the end all shares stand there
+pub sharing-ends : (children : List Carry) (start amount : ℕ) (old now : List PlacedPart) (carried all : ℕ) (sharing : Sharing) (at : ℕ) → length children ≤ at → IsSharingOut children start amount old now carried all sharing at → now ≡ old ++ parts_from start (share_out amount (weights children))
+sharing-ends children start amount old now carried all sharing at behind so_far =
+    sym (append-nil now)
+    ∙ (ap (λ left. now ++ parts_from (start + at) (shares_after (due amount all) all sharing.given (map (weight carried) left))) (sym (drop_all at children behind)) ∙ so_far.parts_are)

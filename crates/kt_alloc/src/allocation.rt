@@ -33,8 +33,7 @@ fn leaf_parts(
         place: node as usize,
         amount,
     })?;
-    let parts = levels_down(alloc, programme, levels, whole, programme.depth(), top)?;
-    Ok(parts)
+    levels_down(alloc, programme, levels, whole, programme.depth(), top)
 }
 
 /// The ground-up losses of the ids beneath a top, by rising id.
@@ -49,8 +48,7 @@ fn losses_beneath(
     ensures value { IfOk result (λ losses. (tree : Tree) (loss : ℕ → ℕ) → IsProgramme tree programme.now → AreCarried tree loss programme.now levels.now → losses.items ≡ map loss (beneath tree (slice_index tree.tops node))) }
 {
     let parts = leaf_parts(alloc, programme, levels, true, node, 0)?;
-    let losses = parts_by_id(alloc, programme, programme.beneath(node), &parts)?;
-    Ok(losses)
+    parts_by_id(alloc, programme, programme.beneath(node), &parts)
 }
 
 /// The policy loss of a layer of a top, which is at most 10^16 cents.
@@ -79,8 +77,7 @@ fn shared_at_once(
 {
     let policy = policy_of(programme, levels, node, layer);
     let losses = losses_beneath(alloc, programme, levels, node)?;
-    let amounts = shares(alloc, policy, &losses)?;
-    Ok(amounts)
+    shares(alloc, policy, &losses)
 }
 
 /// A policy loss, shared down to the ids beneath by what was carried.
@@ -98,8 +95,7 @@ fn shared_down(
 {
     let policy = policy_of(programme, levels, node, layer);
     let parts = leaf_parts(alloc, programme, levels, false, node, policy)?;
-    let amounts = parts_by_id(alloc, programme, programme.beneath(node), &parts)?;
-    Ok(amounts)
+    parts_by_id(alloc, programme, programme.beneath(node), &parts)
 }
 
 /// A policy loss, shared back by a rule.
@@ -117,11 +113,9 @@ fn shared_back(
     ensures value { IfOk result (λ amounts. (tree : Tree) (loss : ℕ → ℕ) → IsProgramme tree programme.now → AreCarried tree loss programme.now levels.now → amounts.items ≡ allocated tree loss rule (slice_index tree.tops node) layer) }
 {
     if rule == 1 {
-        let amounts = shared_at_once(alloc, programme, levels, node, layer)?;
-        return Ok(amounts);
+        return shared_at_once(alloc, programme, levels, node, layer);
     }
-    let amounts = shared_down(alloc, programme, levels, node, layer)?;
-    Ok(amounts)
+    shared_down(alloc, programme, levels, node, layer)
 }
 
 /// What each id beneath a top gets, by rising id, of the policy loss in cents of a layer of the top, whose place among the tops
@@ -143,6 +137,5 @@ pub fn allocate(
     ensures conserved { IfOk result (λ amounts. (tree : Tree) (loss : ℕ → ℕ) → IsProgramme tree programme.now → AreCarried tree loss programme.now levels.now → sum amounts.items ≡ policy_loss tree loss (slice_index tree.tops node) layer) }
     ensures none { IfOk result (λ amounts. (tree : Tree) (loss : ℕ → ℕ) → IsProgramme tree programme.now → AreCarried tree loss programme.now levels.now → (place : ℕ) → loss (slice_index (beneath tree (slice_index tree.tops node)) place) ≡ 0 → slice_index amounts.items place ≡ 0) }
 {
-    let amounts = shared_back(alloc, programme, levels, node, layer, rule)?;
-    Ok(amounts)
+    shared_back(alloc, programme, levels, node, layer, rule)
 }

@@ -66,6 +66,5 @@ pub(crate) fn levels_down(
         whole,
         &parts,
     )?;
-    let last = levels_down(alloc, programme, levels, whole, next, given)?;
-    Ok(last)
+    levels_down(alloc, programme, levels, whole, next, given)
 }

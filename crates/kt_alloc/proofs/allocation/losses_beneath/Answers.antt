@@ -1,4 +1,5 @@
 use Rattle.std.proofs.Common.{◌∙◌, ◌≤◌, ◌^◌, true, arith}
+use Rattle.std.proofs.lemmas.Result.{IfOk-weaker}
 use Rattle.kt_alloc.specs.AllocateLaws.{beneath-rises, leaves-places, whole-parts-few, losses-are}
 use Rattle.kt_alloc.proofs.allocation.losses_beneath.Goals as goal
 
@@ -15,5 +16,5 @@ parts_by_id-requires-clause-few c = whole-parts-few c.args.programme.now c.args.
 
 pub returns : goal.returns
 returns c = record {
-  value = λ tree loss is are. losses-are c.args.programme.now c.args.levels.now c.requires.levels c.args.node c.requires.node tree loss is are c.deref.result.now c.beneath.result.now _ (c.deref.ensures.value ∙ c.in_ok-parts.ensures.value) c.beneath.ensures.value c.in_ok-losses.ensures.value;
+  value = IfOk-weaker c.parts_by_id.result _ _ (λ losses known tree loss is are. losses-are c.args.programme.now c.args.levels.now c.requires.levels c.args.node c.requires.node tree loss is are c.deref.result.now c.beneath.result.now _ (c.deref.ensures.value ∙ c.in_ok-parts.ensures.value) c.beneath.ensures.value known) c.parts_by_id.ensures.value;
 }

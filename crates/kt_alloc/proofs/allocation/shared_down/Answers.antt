@@ -1,4 +1,5 @@
 use Rattle.std.proofs.Common.{◌∙◌, false}
+use Rattle.std.proofs.lemmas.Result.{IfOk-weaker}
 use Rattle.kt_alloc.specs.AllocateLaws.{beneath-rises, leaves-places, shared-few, down-are}
 use Rattle.kt_alloc.proofs.allocation.shared_down.Goals as goal
 
@@ -13,7 +14,7 @@ parts_by_id-requires-clause-few c = shared-few c.args.programme.now c.args.level
 
 pub returns : goal.returns
 returns c = record {
-  value = λ tree loss is are.
+  value = IfOk-weaker c.parts_by_id.result _ _ (λ amounts known tree loss is are.
       down-are c.args.programme.now c.args.levels.now c.requires.levels c.args.node c.args.layer c.policy_of-policy.result c.requires.node c.policy_of-policy.ensures.few tree loss is are (c.policy_of-policy.ensures.value tree loss is are) c.deref.result.now c.beneath.result.now _
-      (c.deref.ensures.value ∙ c.in_ok-parts.ensures.value) c.beneath.ensures.value c.in_ok-amounts.ensures.value;
+      (c.deref.ensures.value ∙ c.in_ok-parts.ensures.value) c.beneath.ensures.value known) c.parts_by_id.ensures.value;
 }

@@ -1,4 +1,5 @@
 use Rattle.std.proofs.Common.{◌≡◌, ◌∙◌, ◌-◌, ◌<◌, suc, List, length, ap, sym, subst, arith, slice_index_or, []}
+use Rattle.std.proofs.lemmas.Result.{IfOk-weaker}
 use Rattle.std.specs.List.{All, AllByRecursion}
 use Rattle.kt_rules.specs.declared.carry.Carry.{Carry}
 use Rattle.kt_fmtree.specs.Carried.{CanCarry}
@@ -31,4 +32,4 @@ pub returns : goal.returns
 returns t c =
     let next : c.args.level ≡ suc (c.args.level - 1) = omega arith in
     let given = c.in_ok-given.ensures.value ∙ (ap (λ (nodes : List Node). level_down c.args.whole nodes c.row.result.now c.deref.result.now) c.nodes_above.ensures.value ∙ (ap (λ (row : List Carry). level_down c.args.whole (slice_index_or c.args.programme.now.levels (c.args.level - 1) []) row c.deref.result.now) c.row.ensures.value ∙ ap (level_down c.args.whole (slice_index_or c.args.programme.now.levels (c.args.level - 1) []) (slice_index_or c.args.levels.now.rows (c.args.level - 1) [])) c.deref.ensures.value)) in
-    record { value = levels-next c.args.whole c.args.programme.now.levels c.args.levels.now.rows c.args.level (c.args.level - 1) next c.args.parts.items c.in_ok-given.given.items _ given c.in_ok-last.ensures.value }
+    record { value = IfOk-weaker c.levels_down.result _ _ (λ last known. levels-next c.args.whole c.args.programme.now.levels c.args.levels.now.rows c.args.level (c.args.level - 1) next c.args.parts.items c.in_ok-given.given.items _ given known) c.levels_down.ensures.value }

@@ -1,6 +1,6 @@
 use Rattle.std.proofs.Common.{◌+◌, ◌∙◌, ℕ, ap, arith}
 use Rattle.kt_money.specs.Sharing.{share_of}
-use Rattle.kt_alloc.proofs.GivingLemmas.{sharing-begins, sharing-fits, sharing-goes}
+use Rattle.kt_alloc.proofs.GivingLemmas.{sharing-begins, sharing-ends, sharing-fits, sharing-goes}
 use Rattle.kt_alloc.proofs.giving.push_shares.Goals as goal
 
 pub loop-at-init : goal.loop-at-init
@@ -16,3 +16,8 @@ loop-at-preserved c =
     sharing-goes c.args.children.now c.args.start c.args.amount c.args.parts.now.items c.loop-at.parts.items c.push.new.self.items c.added-all.result.loss c.weight-weights.result sharing c.next_share-share.new.sharing c.loop-at.at c.next_share-share.result _ c.loop-at-test.true c.loop-at.invariant
     (c.next_share-share.ensures.value ∙ ap (share_of sharing.total sharing.weights sharing.given) c.weight.ensures.value)
     (c.next_share-share.ensures.given ∙ ap (λ (n : ℕ). record sharing { given = sharing.given + n }) c.weight.ensures.value) c.in_ok-push.ensures.items
+
+pub returns : goal.returns
+returns c = record {
+  value = sharing-ends c.args.children.now c.args.start c.args.amount c.args.parts.now.items c.loop-at.parts.items c.added-all.result.loss c.weight-weights.result c.loop-at.sharing c.loop-at.at c.loop-at-test.false c.loop-at.invariant;
+}
