@@ -1,12 +1,13 @@
 -- The pairs of losses, place by place.
-use Rattle.std.proofs.Common.{◌≡◌, ℕ, zero, suc, ◌+◌, ◌<◌, ◌≤◌, ◌*◌, pos, List, [], ◌∷◌, ◌++◌, length, take, drop, refl, sym, ap, arith, ◌∙◌, add-one, append-nil, append_assoc}
+use Rattle.std.proofs.Common.{◌≡◌, ℕ, zero, suc, ◌+◌, ◌<◌, ◌≤◌, ◌*◌, pos, List, [], ◌∷◌, ◌++◌, length, take, drop, refl, subst, sym, ap, arith, ◌∙◌, add-one, append-nil, append_assoc}
 use Rattle.std.specs.List.{filter_map, flat_map, range_with_len, cons_option}
 use Rattle.std.proofs.lemmas.List.{take_at, length-append, length-take-le, flat_map_more}
 use Rattle.std.proofs.lemmas.List.Elements.{filter_map-append}
+use Rattle.kt_stream.specs.Losses.{loss_bytes}
 use Rattle.kt_stream.specs.Pairs.{end_bytes, pair_bytes, pairs_bytes}
 use Rattle.kt_stream.specs.declared.entry.LossRecord.{LossRecord}
 use Rattle.kt_stream.specs.declared.entry.Pair.{Pair}
-use Rattle.kt_gul.specs.GroundUp.{pair_at, pairs_of, sidx_at}
+use Rattle.kt_gul.specs.GroundUp.{pair_at, pairs_of, record_with, sidx_at}
 
 -- one more number of a range
 pub range_more : (a n : ℕ) → range_with_len a (n + 1) ≡ range_with_len a n ++ (a + n) ∷ []
@@ -103,6 +104,11 @@ spelled_more f n (suc less) used more pair bytes written here few is pair_is som
           ∙ (ap (λ front. front ++ pair_bytes pair) here.front_is ∙ (flat_map_more pair_bytes [] pairs pair ∙ ap (flat_map pair_bytes) longer)));
     }
 
+-- the first place
+pub spelled_first : (f : ℕ → ℕ) (loss more : ℕ) (pair : Pair) (bytes written : List ℕ) → length bytes ≡ 12036 → loss ≡ f 0 → pair ≡ record { sidx = sidx_at 0; loss = loss } → (0 < loss → more ≡ 1) → (loss ≡ 0 → more ≡ 0) → length written ≡ length bytes → written ≡ take 0 bytes ++ (pair_bytes pair ++ drop 12 bytes) → IsSpelled f 1 more written
+spelled_first f loss more pair bytes written count is pair_is some none long written_is =
+    subst (λ (used : ℕ). IsSpelled f 1 used written) (omega arith) (spelled_more f 0 loss 0 more pair bytes written (record { count = count; within = omega arith; used_is = refl; front_is = refl }) (omega arith) is pair_is some none long written_is)
+
 -- pairs stand one after the other, with the end pair behind them
 pairs_bytes_are : (pairs : List Pair) → flat_map pair_bytes pairs ++ end_bytes ≡ pairs_bytes pairs
 unfolding pairs_bytes
@@ -128,3 +134,12 @@ no_pairs f samples used n bytes here all none = empty (pairs_of f samples) (ap (
 pub one_by_one : (records : List LossRecord) → flat_map (λ entry. entry ∷ []) records ≡ records
 one_by_one [] = refl
 one_by_one (entry ∷ records) = ap (λ rest. entry ∷ rest) (one_by_one records)
+
+-- the bytes of a record that has pairs are those of its front and of its pairs
+pub record_bytes : (event id : ℕ) (pairs : List Pair) (front : List ℕ) → 0 < length pairs → ((pairs : List Pair) → loss_bytes (record { event = event; id = id; pairs = pairs }) ≡ front ++ pairs_bytes pairs) → flat_map loss_bytes (filter_map (record_with event id) (pairs ∷ [])) ≡ front ++ pairs_bytes pairs
+record_bytes event id [] front some is = absurd (omega (arith, some))
+record_bytes event id (pair ∷ pairs) front some is = append-nil (loss_bytes (record { event = event; id = id; pairs = pair ∷ pairs })) ∙ is (pair ∷ pairs)
+
+-- a record without pairs has no bytes
+pub no_record_bytes : (event id : ℕ) (pairs : List Pair) (before : List ℕ) → pairs ≡ [] → before ≡ before ++ flat_map loss_bytes (filter_map (record_with event id) (pairs ∷ []))
+no_record_bytes event id pairs before none = sym (ap (λ (pairs : List Pair). before ++ flat_map loss_bytes (filter_map (record_with event id) (pairs ∷ []))) none ∙ append-nil before)

@@ -199,6 +199,89 @@ fn push_single<E: Exit>(
     Ok(losses)
 }
 
+/// Appends the records of the struck items of a coverage, by their losses before the cut, which stand one item behind the
+/// other, and the totals of these. The cut is only made where a total passes the insured value.
+fn push_losses<E: Exit>(
+    portfolio: &Portfolio,
+    draw: Draw,
+    tiv: u64,
+    coverage: u32,
+    cdfs: &[HeldCdf<'_>],
+    group: &[StruckItem],
+    losses: &[u64],
+    totals: &[u64],
+    before: &mut [u64],
+    cut: &mut [u64],
+    exit: &mut E,
+) -> Result<(), AllocError>
+    requires value { tiv ≡ tiv_of portfolio.now.rows.coverages coverage }
+    requires few { tiv ≤ 10 ^ 14 }
+    requires samples { draw.samples ≤ 1000 }
+    requires group { IsGroup portfolio.now.rows draw.event cdfs.now coverage group.now }
+    requires losses { losses.now ≡ flat_map (λ struck. map (raw_loss portfolio.now.rows draw.event cdfs.now struck.item) (range_with_len 0 (draw.samples + 2))) group.now }
+    requires totals { IsRow (group_total portfolio.now.rows draw.event cdfs.now group.now) (draw.samples + 2) totals.now }
+    requires before { length before.old ≡ draw.samples + 2 }
+    requires cut { length cut.old ≡ draw.samples + 2 }
+    requires most { (place : ℕ) → place < draw.samples + 2 → group_total portfolio.now.rows draw.event cdfs.now group.now place < 2 ^ 64 }
+    requires takes { E.takes draw.samples exit.old }
+    ensures takes { OnOk result (E.takes draw.samples exit.new) }
+    ensures ok { OnOk result (E.pieces exit.new ≡ E.pieces exit.old ++ flat_map E.spelled (filter_map (item_record portfolio.now.rows draw.samples draw.cut draw.event cdfs.now) (map (λ struck. struck.item) group.now))) }
+
+    ensures front { OnErr result (StandsInFront (E.pieces exit.old) (E.pieces exit.new)) }
+{
+    if passes(draw.cut, totals, tiv) {
+        return push_cut(
+            portfolio, draw, tiv, coverage, cdfs, group, losses, totals, before, cut, exit,
+        );
+    }
+    push_plain(portfolio, draw, coverage, cdfs, group, losses, exit)
+}
+
+/// Appends the records of the struck items of a coverage, which are all those of it, by rising id. The list is empty, and is
+/// handed back with their losses; the rows are written over.
+fn push_group<E: Exit>(
+    portfolio: &Portfolio,
+    draw: Draw,
+    tiv: u64,
+    coverage: u32,
+    cdfs: &[HeldCdf<'_>],
+    tables: &StepTables,
+    group: &[StruckItem],
+    losses: Vec<u64>,
+    totals: &mut [u64],
+    before: &mut [u64],
+    cut: &mut [u64],
+    exit: &mut E,
+) -> Result<Vec<u64>, AllocError>
+    requires loaded { is_loaded portfolio.now.need 0 table.Random ≡ true }
+    requires value { tiv ≡ tiv_of portfolio.now.rows.coverages coverage }
+    requires few { tiv ≤ 10 ^ 14 }
+    requires samples { draw.samples ≤ 1000 }
+    requires group { IsGroup portfolio.now.rows draw.event cdfs.now coverage group.now }
+    requires tables { AreTables portfolio.now.rows.damage_bin_dict cdfs.now (length cdfs.now) tables.now.tables.items tables.now.steps.items }
+    requires empty { losses.items ≡ [] }
+    requires totals { length totals.old ≡ draw.samples + 2 }
+    requires before { length before.old ≡ draw.samples + 2 }
+    requires cut { length cut.old ≡ draw.samples + 2 }
+    requires takes { E.takes draw.samples exit.old }
+    ensures takes { OnOk result (E.takes draw.samples exit.new) }
+    ensures ok { OnOk result (E.pieces exit.new ≡ E.pieces exit.old ++ flat_map E.spelled (filter_map (item_record portfolio.now.rows draw.samples draw.cut draw.event cdfs.now) (map (λ struck. struck.item) group.now))) }
+
+    ensures front { OnErr result (StandsInFront (E.pieces exit.old) (E.pieces exit.new)) }
+{
+    if group.len() == 1 {
+        return push_single(
+            portfolio, draw, tiv, coverage, cdfs, tables, group, losses, exit,
+        );
+    }
+    clear(totals);
+    let losses = group_losses(portfolio, draw, tiv, cdfs, tables, group, totals, losses)?;
+    push_losses(
+        portfolio, draw, tiv, coverage, cdfs, group, &losses, totals, before, cut, exit,
+    )?;
+    Ok(losses)
+}
+
 /// Appends the records of the struck items of a coverage, which are all those of it, by rising id. What is kept for their losses
 /// is handed back.
 pub(crate) fn push_coverage<E: Exit>(
@@ -232,45 +315,20 @@ pub(crate) fn push_coverage<E: Exit>(
         mut cut,
     } = scratch;
     losses.clear();
-    if group.len() == 1 {
-        let losses = push_single(
-            portfolio, draw, tiv, coverage, cdfs, tables, group, losses, exit,
-        )?;
-        return Ok(Scratch {
-            losses,
-            totals,
-            before,
-            cut,
-        });
-    }
-    clear(&mut totals);
-    let losses = group_losses(
+    let losses = push_group(
         portfolio,
         draw,
         tiv,
+        coverage,
         cdfs,
         tables,
         group,
-        &mut totals,
         losses,
+        &mut totals,
+        &mut before,
+        &mut cut,
+        exit,
     )?;
-    if passes(draw.cut, &totals, tiv) {
-        push_cut(
-            portfolio,
-            draw,
-            tiv,
-            coverage,
-            cdfs,
-            group,
-            &losses,
-            &totals,
-            &mut before,
-            &mut cut,
-            exit,
-        )?;
-    } else {
-        push_plain(portfolio, draw, coverage, cdfs, group, &losses, exit)?;
-    }
     Ok(Scratch {
         losses,
         totals,

@@ -174,6 +174,24 @@ fn struck_in_order(
     Ok(struck)
 }
 
+/// The records of the losses of an event by its distributions where they stand, by lanes.
+fn lanes_of_held(
+    portfolio: &Portfolio,
+    draw: Draw,
+    cdfs: &[HeldCdf<'_>],
+) -> Result<LossLanes, AllocError>
+    requires loaded { is_loaded portfolio.now.need 0 table.Random ≡ true }
+    requires samples { draw.samples ≤ 1000 }
+    requires cdfs { AreCdfs (length portfolio.now.rows.damage_bin_dict) cdfs.now }
+    ensures rows { IfOk result (λ lanes. lanes.rows ≡ draw.samples + 1) }
+    ensures value { IfOk result (λ lanes. lanes.records ≡ ground_up_records portfolio.now.rows draw.samples draw.cut draw.event cdfs.now) }
+{
+    portfolio.is_valid();
+    let tables = tables_of(draw.alloc, portfolio.damage_bins(), cdfs)?;
+    let struck = struck_in_order(draw.alloc, portfolio, cdfs)?;
+    lanes_by_id(portfolio, draw, cdfs, &tables, struck.as_slice())
+}
+
 /// The ground-up losses of an event, by lanes, by rising id of the item: of each item its deviation, its mean and so many samples, with
 /// the cut of the losses of a coverage to its insured value or without it. The random numbers must be loaded, and the distributions are
 /// those of the event, of which none has more bins than the dictionary of damage bins. An error is want of memory.
@@ -195,16 +213,13 @@ pub fn ground_up_lanes(
 {
     portfolio.is_valid();
     let cdfs = held_cdfs(alloc, cdfs)?;
-    let tables = tables_of(alloc, portfolio.damage_bins(), &cdfs)?;
-    let struck = struck_in_order(alloc, portfolio, &cdfs)?;
     let draw = Draw {
         alloc,
         samples,
         cut,
         event,
     };
-    let lanes = lanes_by_id(portfolio, draw, &cdfs, &tables, struck.as_slice())?;
-    Ok(lanes)
+    lanes_of_held(portfolio, draw, &cdfs)
 }
 
 /// The records of the ground-up losses of an event, as `ground_up_lanes` says it of lanes. An error is want of memory.
@@ -224,8 +239,52 @@ pub fn ground_up(
     ensures good { IfOk result (λ records. All (IsLoss samples) records) }
 {
     let lanes = ground_up_lanes(alloc, portfolio, samples, cut, event, cdfs)?;
-    let records = lanes.to_records(alloc)?;
-    Ok(records)
+    lanes.to_records(alloc)
+}
+
+/// Appends the bytes of the records of struck items, by rising id, all or none.
+fn put_struck(
+    portfolio: &Portfolio,
+    draw: Draw,
+    cdfs: &[HeldCdf<'_>],
+    tables: &StepTables,
+    struck: &[StruckItem],
+    out: &mut Bytes,
+) -> Result<(), AllocError>
+    requires loaded { is_loaded portfolio.now.need 0 table.Random ≡ true }
+    requires samples { draw.samples ≤ 1000 }
+    requires order { AreInOrder portfolio.now.rows cdfs.now struck.now }
+    requires tables { AreTables portfolio.now.rows.damage_bin_dict cdfs.now (length cdfs.now) tables.now.tables.items tables.now.steps.items }
+    ensures ok { OnOk result (out.new ≡ out.old ++ flat_map loss_bytes (ground_up_records portfolio.now.rows draw.samples draw.cut draw.event cdfs.now)) }
+
+    ensures unchanged { OnErr result (out.new ≡ out.old) }
+{
+    if is_by_id(struck) {
+        return put_written(portfolio, draw, cdfs, tables, struck, out);
+    }
+    let lanes = lanes_by_id(portfolio, draw, cdfs, tables, struck)?;
+    let records = lanes.to_records(draw.alloc)?;
+    put_records(out, records.as_slice())
+}
+
+/// Appends the bytes of the records of an event's losses by its distributions where they stand, all or none.
+fn put_held(
+    portfolio: &Portfolio,
+    draw: Draw,
+    cdfs: &[HeldCdf<'_>],
+    out: &mut Bytes,
+) -> Result<(), AllocError>
+    requires loaded { is_loaded portfolio.now.need 0 table.Random ≡ true }
+    requires samples { draw.samples ≤ 1000 }
+    requires cdfs { AreCdfs (length portfolio.now.rows.damage_bin_dict) cdfs.now }
+    ensures ok { OnOk result (out.new ≡ out.old ++ flat_map loss_bytes (ground_up_records portfolio.now.rows draw.samples draw.cut draw.event cdfs.now)) }
+
+    ensures unchanged { OnErr result (out.new ≡ out.old) }
+{
+    portfolio.is_valid();
+    let tables = tables_of(draw.alloc, portfolio.damage_bins(), cdfs)?;
+    let struck = struck_in_order(draw.alloc, portfolio, cdfs)?;
+    put_struck(portfolio, draw, cdfs, &tables, struck.as_slice(), out)
 }
 
 /// Appends the records of the ground-up losses of an event as they stand in a stream: those of `ground_up`, which says what must
@@ -246,21 +305,12 @@ pub fn put_ground_up<T: CdfEntry>(
 
     ensures unchanged { OnErr result (out.new ≡ out.old) }
 {
-    portfolio.is_valid();
     let cdfs = held_cdfs(alloc, cdfs)?;
-    let tables = tables_of(alloc, portfolio.damage_bins(), &cdfs)?;
-    let struck = struck_in_order(alloc, portfolio, &cdfs)?;
-    let struck = struck.as_slice();
     let draw = Draw {
         alloc,
         samples,
         cut,
         event,
     };
-    if is_by_id(struck) {
-        return put_written(portfolio, draw, &cdfs, &tables, struck, out);
-    }
-    let lanes = lanes_by_id(portfolio, draw, &cdfs, &tables, struck)?;
-    let records = lanes.to_records(alloc)?;
-    put_records(out, records.as_slice())
+    put_held(portfolio, draw, &cdfs, out)
 }

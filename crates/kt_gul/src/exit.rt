@@ -65,8 +65,7 @@ impl Exit for LossLanes {
     ghost takes = { λ samples lanes. lanes.rows ≡ samples + 1 };
 
     fn put(&mut self, draw: Draw, id: u32, row: &[u64]) -> Result<(), AllocError> {
-        self.put_with(draw.event, id, row[0], lane_of(row))?;
-        Ok(())
+        self.put_with(draw.event, id, row[0], lane_of(row))
     }
 }
 
@@ -119,10 +118,10 @@ impl Exit for Written {
 
     fn put(&mut self, draw: Draw, id: u32, row: &[u64]) -> Result<(), AllocError> {
         let used = write_row(self.room.as_mut_slice(), row, draw.samples);
-        if used != 0 {
-            self.out.append(&loss_front(draw.event, id))?;
-            self.out.append(&self.room[..used])?;
+        if used == 0 {
+            return Ok(());
         }
-        Ok(())
+        self.out.append(&loss_front(draw.event, id))?;
+        self.out.append(&self.room[..used])
     }
 }

@@ -117,6 +117,31 @@ fn most_steps(cdfs: &[HeldCdf<'_>]) -> usize {
     most
 }
 
+/// Appends the steps of the distribution at a place, and where they stand. The list is one whose memory is used again.
+fn push_table(
+    dictionary: &[DamageBin],
+    cdfs: &[HeldCdf<'_>],
+    place: usize,
+    own: Vec<Step>,
+    all: &mut StepTables,
+) -> Result<Vec<Step>, AllocError>
+    requires ends { All IsDamageBin dictionary.now }
+    requires cdfs { All (IsCdf (length dictionary.now)) cdfs.now }
+    requires within { place < length cdfs.now }
+    requires tables { AreTables dictionary.now cdfs.now place all.old.tables.items all.old.steps.items }
+    ensures tables { OnOk result (AreTables dictionary.now cdfs.now (place + 1) all.new.tables.items all.new.steps.items) }
+{
+    let own = steps_of(dictionary, cdfs[place].bins(), own)?;
+    let start = all.steps.len();
+    all.steps.extend_from_slice(&own)?;
+    all.tables.push(StepTable {
+        places: places_of(&own),
+        start,
+        end: all.steps.len(),
+    })?;
+    Ok(own)
+}
+
 /// The steps of distributions, in their order. An error is want of memory.
 pub(crate) fn tables_of(
     alloc: Global,
@@ -127,20 +152,15 @@ pub(crate) fn tables_of(
     requires cdfs { All (IsCdf (length dictionary.now)) cdfs.now }
     ensures value { IfOk result (λ all. AreTables dictionary.now cdfs.now (length cdfs.now) all.tables.items all.steps.items) }
 {
-    let mut tables = Vec::with_capacity(alloc, cdfs.len())?;
-    let mut steps = Vec::with_capacity(alloc, most_steps(cdfs))?;
+    let mut all = StepTables {
+        tables: Vec::with_capacity(alloc, cdfs.len())?,
+        steps: Vec::with_capacity(alloc, most_steps(cdfs))?,
+    };
     let mut own = Vec::new(alloc);
-    for cdf in cdfs {
-        own = steps_of(dictionary, cdf.bins(), own)?;
-        let start = steps.len();
-        steps.extend_from_slice(&own)?;
-        tables.push(StepTable {
-            places: places_of(&own),
-            start,
-            end: steps.len(),
-        })?;
+    for place in 0..cdfs.len() {
+        own = push_table(dictionary, cdfs, place, own, &mut all)?;
     }
-    Ok(StepTables { tables, steps })
+    Ok(all)
 }
 
 /// The steps from a place up to but not including another.

@@ -1,12 +1,13 @@
 use Rattle.std.proofs.Common.{List, ◌∙◌, ◌++◌, map, ap, sym, subst, slice_index_or, append-nil, arith}
-use Rattle.std.proofs.lemmas.List.{take_all}
+use Rattle.std.proofs.lemmas.List.{get_or_default, take_all}
+use Rattle.std.proofs.lemmas.Result.{IfOk-from_err}
 use Rattle.std.specs.List.{filter_map, flat_map}
 use Rattle.kt_tables.specs.PortfolioLaws.{items_distinct, items_within}
 use Rattle.kt_gul.specs.declared.struck.StruckItem.{StruckItem}
 use Rattle.kt_gul.specs.Coverage.{IsGroup}
 use Rattle.kt_gul.specs.GroundUp.{item_record}
 use Rattle.kt_gul.specs.StruckItems.{item_of}
-use Rattle.kt_gul.proofs.FrontLemmas.{put_behind, where_refused}
+use Rattle.kt_gul.proofs.FrontLemmas.{nothing_put, put_behind, where_refused}
 use Rattle.kt_gul.proofs.GroupLemmas.{group_is, done_more}
 use Rattle.kt_gul.proofs.event.put_groups.Goals as goal
 
@@ -60,3 +61,30 @@ pub returns-in_err-scratch-2-clause-front : goal.returns-in_err-scratch-2-clause
 returns-in_err-scratch-2-clause-front g c =
     where_refused c.from_residual-in_err-scratch-2.result
     (put_behind (g.E.Exit.pieces c.args.exit.now) _ (g.E.Exit.pieces c.loop-start.exit) (g.E.Exit.pieces c.push_coverage.new.exit) c.loop-start.invariant.done.pieces_are c.in_err-scratch-2.ensures.front)
+
+pub group_end-end-requires-clause-first : goal.group_end-end-requires-clause-first
+group_end-end-requires-clause-first g c d =
+    let none : StruckItem = record { item = record { item_id = 0; coverage_id = 0; areaperil_id = 0; vulnerability_id = 0; group_id = 0 }; cdf = 0; moments = record { mean = 0; deviation = 0 } } in
+    ap (λ (struck : StruckItem). struck.item.coverage_id) (get_or_default c.args.struck.now c.loop-start.start d none c.loop-start-test.true)
+
+pub push_coverage-requires-clause-value : goal.push_coverage-requires-clause-value
+push_coverage-requires-clause-value g c =
+    let none : StruckItem = record { item = record { item_id = 0; coverage_id = 0; areaperil_id = 0; vulnerability_id = 0; group_id = 0 }; cdf = 0; moments = record { mean = 0; deviation = 0 } } in
+    let struck = c.requires.order.each c.loop-start.start none c.loop-start-test.true in
+    struck.ranges.value
+
+pub loop-start-smaller : goal.loop-start-smaller
+loop-start-smaller g c = omega (arith, c.group_end-end.ensures.value.after, c.group_end-end.ensures.value.within)
+
+pub returns-in_err-scratch : goal.returns-in_err-scratch
+returns-in_err-scratch g c = record {
+  takes = IfOk-from_err c.from_residual.result _ c.from_residual.ensures.0;
+  ok = IfOk-from_err c.from_residual.result _ c.from_residual.ensures.0;
+  front = where_refused c.from_residual.result (nothing_put (g.E.Exit.pieces c.args.exit.now));
+}
+
+pub returns-in_err-scratch-2-clause-takes : goal.returns-in_err-scratch-2-clause-takes
+returns-in_err-scratch-2-clause-takes g c = IfOk-from_err c.from_residual-in_err-scratch-2.result _ c.from_residual-in_err-scratch-2.ensures.0
+
+pub returns-in_err-scratch-2-clause-ok : goal.returns-in_err-scratch-2-clause-ok
+returns-in_err-scratch-2-clause-ok g c = IfOk-from_err c.from_residual-in_err-scratch-2.result _ c.from_residual-in_err-scratch-2.ensures.0

@@ -1,5 +1,5 @@
-use Rattle.std.proofs.Common.{◌≡◌, ◌≤◌, ◌^◌, ℕ, List, [], ◌∷◌, ◌++◌, ◌*◌, length, ap, ◌∙◌, arith}
-use Rattle.std.proofs.lemmas.Grind.{common_steps}
+use Rattle.std.proofs.Common.{◌≡◌, ◌≤◌, ◌^◌, ℕ, List, [], ◌∷◌, ◌++◌, ◌*◌, ◌+◌, length, map, ap, subst, ◌∙◌, arith}
+use Rattle.std.specs.List.{range_with_len}
 use Rattle.kt_tables.specs.Lookups.{random_place}
 use Rattle.kt_gul.specs.GroundUp.{loss_by}
 use Rattle.kt_gul.proofs.BoundLemmas.{loss_behind-le}
@@ -45,7 +45,16 @@ loop-sample-init c =
     }
 
 pub random_at-random-requires : goal.random_at-random-requires
-random_at-random-requires c = grind (arith, common_steps)
+random_at-random-requires c = c.loop-sample.invariant.made.within
 
 pub returns : goal.returns
-returns c = grind (arith, common_steps)
+returns c =
+    let here = c.loop-sample.invariant.made in
+    let last = c.loop-sample-test.false in
+    let within = c.loop-sample.auto._sample-end in
+    let all : c.loop-sample._sample ≡ c.args.draw.samples = omega arith in
+    let loss = loss_by c.args.portfolio.now.rows c.args.draw.event c.args.bins.now c.args.struck.now.item in
+    record {
+      value = subst (λ (made : ℕ). c.loop-sample.losses.items ≡ c.args.losses.items ++ map loss (range_with_len 0 (made + 2))) all here.losses_are;
+      most = λ place below. here.most place (omega arith);
+    }

@@ -27,5 +27,5 @@ returns c =
     (rw (c.damage_before-high.ensures.value none) at c.end_step.ensures.value)
     (rw (c.end_before.ensures.value no_bin) at c.end_step.ensures.above) in
     record {
-      steps = subst (λ (steps : List Step). AreSteps c.args.dictionary.now c.args.bins.now steps) (sym c.in_ok-push.ensures.items) (All-push (λ (step : Step). IsStep (λ tiv number. sampled_loss tiv c.args.dictionary.now c.args.bins.now number) step) c.args.steps.now.items c.end_step.result c.requires.steps step);
+      steps = subst (λ (steps : List Step). AreSteps c.args.dictionary.now c.args.bins.now steps) (sym {A = List Step} c.in_ok-push.ensures.items) (All-push (λ (step : Step). IsStep (λ tiv number. sampled_loss tiv c.args.dictionary.now c.args.bins.now number) step) c.args.steps.now.items c.end_step.result c.requires.steps step);
     }

@@ -23,5 +23,5 @@ returns-in_ok-push c =
     let no_bin : Bin = record { prob_to = 0; mean = 0 } in
     let step = bin_is_step c.args.dictionary.now c.args.bins.now c.args.place none no_bin c.in-Some.step c.requires.ranges c.requires.within (rw (c.end_before.ensures.value no_bin) at c.in-Some.ensures.value) in
     record {
-      steps = subst (λ (steps : List Step). AreSteps c.args.dictionary.now c.args.bins.now steps) (sym c.in_ok-push.ensures.items) (All-push (λ (step : Step). IsStep (λ tiv number. sampled_loss tiv c.args.dictionary.now c.args.bins.now number) step) c.args.steps.now.items c.in-Some.step c.requires.steps step);
+      steps = subst (λ (steps : List Step). AreSteps c.args.dictionary.now c.args.bins.now steps) (sym {A = List Step} c.in_ok-push.ensures.items) (All-push (λ (step : Step). IsStep (λ tiv number. sampled_loss tiv c.args.dictionary.now c.args.bins.now number) step) c.args.steps.now.items c.in-Some.step c.requires.steps step);
     }
