@@ -80,8 +80,7 @@ fn in_order(alloc: Global, outputs: &[FmXref]) -> Result<Vec<FmXref>, AllocError
 {
     let rows = by_id(alloc, outputs)?;
     let ids = rising(output_ids(alloc, outputs)?)?;
-    let found = rows_in_order(alloc, &ids, &rows)?;
-    Ok(found)
+    rows_in_order(alloc, &ids, &rows)
 }
 
 /// The output of a row.
