@@ -33,3 +33,24 @@ returns-clause-good c =
 
 pub returns-clause-within : goal.returns-clause-within
 returns-clause-within c = IfOk-weaker c.to_records.result _ _ (λ (left : List LossRecord) left_is. subst AreWithin (sym left_is) c.in_ok-net.ensures.within) c.to_records.ensures.value
+
+pub net_behind-requires-clause-stage : goal.net_behind-requires-clause-stage
+net_behind-requires-clause-stage c = subst HasStage (sym c.first-item.is) (c.requires.stages 0 c.first-item.result (omega (arith, c.in-len1-up.len_at_least)))
+
+pub net_behind-requires-clause-records : goal.net_behind-requires-clause-records
+net_behind-requires-clause-records c = subst (All (IsLoss c.args.samples)) (sym (map-same c.args.records.now)) c.requires.records
+
+pub net_behind-requires-clause-within : goal.net_behind-requires-clause-within
+net_behind-requires-clause-within c = subst AreWithin (sym (map-same c.args.records.now)) c.requires.within
+
+pub returns-in_default-clause-good : goal.returns-in_default-clause-good
+returns-in_default-clause-good c = IfOk-weaker c.copy_of.result _ _ (λ (copy : List LossRecord) copy_is. subst (λ (records : List LossRecord). All (IsLoss c.args.samples) records) (sym copy_is) c.requires.records) c.copy_of.ensures.value
+
+pub returns-in_default-clause-within : goal.returns-in_default-clause-within
+returns-in_default-clause-within c = IfOk-weaker c.copy_of.result _ _ (λ (copy : List LossRecord) copy_is. subst AreWithin (sym copy_is) c.requires.within) c.copy_of.ensures.value
+
+pub reinsure_lanes-requires-clause-records : goal.reinsure_lanes-requires-clause-records
+reinsure_lanes-requires-clause-records c = c.in_ok-made.ensures.good
+
+pub reinsure_lanes-requires-clause-within : goal.reinsure_lanes-requires-clause-within
+reinsure_lanes-requires-clause-within c = c.in_ok-made.ensures.within
