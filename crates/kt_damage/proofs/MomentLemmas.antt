@@ -1,5 +1,6 @@
 -- The sums of a distribution's mean and deviation, bin by bin.
-use Rattle.std.proofs.Common.{◌≡◌, ℕ, ◌+◌, ◌-◌, ◌*◌, ◌≤◌, List, ◌∷◌, length, arith}
+use Rattle.std.proofs.Common.{◌≡◌, ℕ, ◌+◌, ◌-◌, ◌*◌, ◌<◌, ◌≤◌, List, [], ◌∷◌, length, drop, get_or, arith, subst}
+use Rattle.std.proofs.lemmas.List.{drop_all, drop_more}
 use Rattle.std.proofs.lemmas.Nat.{mul-le}
 use Rattle.std.proofs.Math.Nat.{add-mul}
 use Rattle.kt_stream.specs.declared.entry.Bin.{Bin}
@@ -38,3 +39,13 @@ sums_more bins first rest before means squares here = record {
         let up = grown squares before first.prob_to 1000000000000 (first.mean * first.mean) here.squares_within order square in
         let same : (first.prob_to - before) * first.mean * first.mean ≡ (first.prob_to - before) * (first.mean * first.mean) = grind arith in
         omega arith
+
+-- the next bin ends no earlier than those before it, and it is in its ranges
+pub next_within : (bins : List Bin) (i before means squares : ℕ) (none : Bin) → i < length bins → AreSums bins (drop i bins) before means squares → (before ≤ (get_or bins i none).prob_to) × ((get_or bins i none).prob_to ≤ 1002001000000) × ((get_or bins i none).mean ≤ 1000000)
+next_within bins i before means squares none inside sums =
+    let here = subst (λ (rest : List Bin). AreSums bins rest before means squares) (drop_more bins i none inside) sums in
+    (omega (arith, lowest-le (length (drop (i + 1) bins)) before, here.rising.0), here.rising.1, here.rising.2)
+
+-- where no bin is left, the sums are those of all
+pub sums_done : (bins : List Bin) (i before means squares : ℕ) → length bins ≤ i → AreSums bins (drop i bins) before means squares → AreSums bins [] before means squares
+sums_done bins i before means squares past sums = subst (λ (rest : List Bin). AreSums bins rest before means squares) (drop_all i bins past) sums

@@ -1,3 +1,4 @@
 pub mod LossAtLemmas
 pub mod SampleLemmas
 pub mod Seen
+mod LineLemmas

@@ -1,7 +1,7 @@
 -- One file of a list after the other: what the files are after each, and where it ends at one.
-use Rattle.std.proofs.Common.{◌≡◌, ◌⊎◌, ℕ, ◌+◌, ◌<◌, List, [], ◌∷◌, ◌++◌, length, map, take, drop, get_or, Option, None, Some, Ok, Err, refl, sym, ap, subst, ◌∙◌, inl, inr, append_assoc}
+use Rattle.std.proofs.Common.{◌≡◌, ◌⊎◌, ℕ, ◌+◌, ◌<◌, ◌≤◌, List, [], ◌∷◌, ◌++◌, length, map, take, drop, take_all, get_or, Option, None, Some, Ok, Err, refl, sym, ap, subst, ◌∙◌, inl, inr, append_assoc}
 use Rattle.std.specs.Prelude.{IfSome, IsSomeAnd}
-use Rattle.std.proofs.lemmas.List.{take-append-drop}
+use Rattle.std.proofs.lemmas.List.{append-nil, drop_all, take-append-drop}
 use Rattle.kt_out.specs.Appending.{Lengthens, AppendsText, AppendsFront}
 use Rattle.kt_out.specs.NamedFiles.{File, FileMap}
 use Rattle.kt_out.specs.OutputFiles.{OutputsState, Creates, Sets, SameFiles}
@@ -79,6 +79,24 @@ stops_known T E (Some old) after name fault moved = moved
 appends_known : (now after : Option FileMap) (name text : List ℕ) → AppendsText now after name text → IfSome now (λ old. IsSomeAnd after (Lengthens old name text))
 appends_known None after name text moved = tt
 appends_known (Some old) after name text moved = moved
+
+-- ---- before the first file and behind the last
+
+-- what is held is held still where nothing moves
+held_still : (now : Option FileMap) (held : FileMap → Type 0) → IfSome now (λ old. held old → IsSomeAnd now held)
+held_still None held = tt
+held_still (Some old) held = λ is_held. is_held
+
+-- the files are as they are held, before the first is made
+pub nothing_done : (held : List File) (now : OutputsState) (E : Type 0) → Makes {T = Unit {0}} {E = E} held held now now (Ok tt)
+nothing_done held now E = record { files = λ start. held_still now.written (AllMade held start) }
+
+-- behind the last file all have their new texts
+pub all_behind : {F : Type 0} (name new old : F → List ℕ) (i : ℕ) (files : List F) → length files ≤ i → files_midway name new old i files ≡ files_with name new files
+all_behind {F} name new old i files past =
+    ap (λ (left : List F). files_with name new (take i files) ++ files_with name old left) (drop_all i files past)
+    ∙ append-nil (files_with name new (take i files))
+    ∙ ap (λ (done : List F). files_with name new done) (take_all i files past)
 
 -- ---- the making of the file at a place of the list
 

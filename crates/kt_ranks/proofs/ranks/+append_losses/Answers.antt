@@ -4,6 +4,7 @@ use Rattle.std.proofs.lemmas.List.{get_or_past}
 use Rattle.kt_period_cells.specs.Outcomes.{on_more}
 use Rattle.kt_ranks.specs.RankedLosses.{falling}
 use Rattle.kt_ranks.specs.SelectLaws.{losses_more, losses_more_front, length_falling}
+use Rattle.kt_ranks.proofs.RankLemmas.{later_fall, later_fewer}
 use Rattle.kt_ranks.proofs.ranks.+append_losses.Goals as goal
 
 pub returns-in_ok-push : goal.returns-in_ok-push
@@ -19,3 +20,9 @@ returns-in_ok-push-2 t c = record {
       losses_more_front c.args.values.now c.split_at_rank-front.result.0.now c.split_at_rank-front.result.1 c.args.behind c.args.ranks.now c.args.losses.now.items c.push-else-values-place.new.self.items c.append_losses-else-values-place.new.losses.items c.in-len1-up.len_at_least c.requires.falls c.if-values-place.false
       c.split_at_rank-front.ensures.loss c.split_at_rank-front.ensures.front c.in_ok-push-2.ensures.items items) c.append_losses-else-values-place.ensures.ok;
 }
+
+pub append_losses-requires : goal.append_losses-requires
+append_losses-requires t c = (omega (arith, c.decreases, later_fewer c.args.ranks.now c.in-len1-up.len_at_least), later_fall c.args.ranks.now c.in-len1-up.len_at_least c.requires.falls)
+
+pub append_losses-requires-else-values-place : goal.append_losses-requires-else-values-place
+append_losses-requires-else-values-place t c = (omega (arith, c.decreases, later_fewer c.args.ranks.now c.in-len1-up.len_at_least), later_fall c.args.ranks.now c.in-len1-up.len_at_least c.requires.falls)

@@ -1,0 +1,2 @@
+-- The modules of proofs for the ranks.
+mod RankLemmas
