@@ -1,7 +1,7 @@
 -- The layers of tops, one after the other.
-use Rattle.std.proofs.Common.{◌≡◌, ℕ, zero, suc, ◌+◌, ◌<◌, ◌≤◌, true, nat_eq, List, [], ◌∷◌, ◌++◌, length, map, drop, slice_index, slice_index_or, refl, sym, ap, subst, ◌∙◌, arith, drop-cons, add-one, append_assoc}
+use Rattle.std.proofs.Common.{◌≡◌, ℕ, zero, suc, ◌+◌, ◌<◌, ◌≤◌, true, nat_eq, List, [], ◌∷◌, ◌++◌, length, map, drop, slice_index, slice_index_or, refl, sym, ap, subst, ◌∙◌, arith, drop-cons, add-one, append-nil, append_assoc}
 use Rattle.std.specs.List.{AllByRecursion, flat_map, list_any}
-use Rattle.std.proofs.lemmas.List.{get_or-map, map-append}
+use Rattle.std.proofs.lemmas.List.{drop_all, get_or-map, map-append}
 use Rattle.kt_rec.specs.Rising.{IsRising}
 use Rattle.kt_tree.specs.Sums.{each_append, each_member, each_then}
 use Rattle.kt_tree.specs.Tree.{Tree}
@@ -42,6 +42,13 @@ layers-step layers tops found now place top below top_is so_far now_is =
   where
     next : drop place tops ≡ slice_index tops place ∷ drop (place + 1) tops
     next = rw (add-one, drop-cons tops place 0) refl
+
+-- those of all tops, which are those of a programme
+pub layers-end : (parts : Parts) (tops : List ℕ) (found : List TopLayer) (place : ℕ) → length tops ≤ place → found ++ layers_from parts.layers place (drop place tops) ≡ layers_from parts.layers 0 tops → tops ≡ parts.tops → found ≡ layers_from parts.layers 0 parts.tops
+layers-end parts tops found place past so_far tops_are =
+    sym (append-nil found)
+    ∙ (ap (λ rest. found ++ layers_from parts.layers place rest) (sym (drop_all place tops past))
+    ∙ (so_far ∙ ap (layers_from parts.layers 0) tops_are))
 
 module _ (layers : List (List ℕ)) (f : ℕ → List ℕ) where
   -- they are those of the tree

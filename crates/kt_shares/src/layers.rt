@@ -41,10 +41,11 @@ fn push_layers(
     Ok(())
 }
 
-/// The layers of the tops, top by top.
-fn layers_by_top(alloc: Global, programme: &Programme) -> Result<Vec<TopLayer>, AllocError>
+/// The layers of the tops of a programme, by top and then by layer. An error is want of memory.
+pub fn top_layers(alloc: Global, programme: &Programme) -> Result<Vec<TopLayer>, AllocError>
     requires rising { IsRising programme.now.tops }
-    ensures value { IfOk result (λ found. found.items ≡ layers_from programme.now.layers 0 programme.now.tops) }
+    ensures keys { IfOk result (λ found. (tree : Tree) → IsProgramme tree programme.now → map key_of found.items ≡ layers_of tree) }
+    ensures within { IfOk result (λ found. AllByRecursion (IsTopLayer programme.now) found.items) }
 {
     let tops = programme.tops();
     let mut found = Vec::with_capacity(alloc, tops.len())?;
@@ -53,13 +54,4 @@ fn layers_by_top(alloc: Global, programme: &Programme) -> Result<Vec<TopLayer>, 
         push_layers(node, *top, programme.layers(node), &mut found)?;
     }
     Ok(found)
-}
-
-/// The layers of the tops of a programme, by top and then by layer. An error is want of memory.
-pub fn top_layers(alloc: Global, programme: &Programme) -> Result<Vec<TopLayer>, AllocError>
-    requires rising { IsRising programme.now.tops }
-    ensures keys { IfOk result (λ found. (tree : Tree) → IsProgramme tree programme.now → map key_of found.items ≡ layers_of tree) }
-    ensures within { IfOk result (λ found. AllByRecursion (IsTopLayer programme.now) found.items) }
-{
-    layers_by_top(alloc, programme)
 }
