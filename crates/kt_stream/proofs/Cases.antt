@@ -1,5 +1,5 @@
 -- Which answers are different, and what equal answers hold.
-use Rattle.std.proofs.Common.{◌≡◌, Option, Some, None, refl}
+use Rattle.std.proofs.Common.{◌≡◌, Option, Some, None, refl, sym, ap}
 use Rattle.kt_stream.specs.declared.read.Read.{Read}
 use Rattle.kt_stream.specs.declared.read.Read.TheVariants.{Got, Short, Wrong}
 use Rattle.kt_stream.specs.Read.{◌>>=◌, accepted}
@@ -29,6 +29,10 @@ short_not_got x e = cc
 pub wrong_not_got : {A W : Type 0} (m : W) (x : A) → wrong m ≡ got x → ⊥
 wrong_not_got m x e = cc
 
+-- equal wrong fields are one
+pub wrong_is : {A W : Type 0} (m n : W) → wrong {A = A} m ≡ wrong n → m ≡ n
+wrong_is m n e = cc
+
 -- the same of an option
 abbrev pub none : {A : Type 0} → Option A
 none = None
@@ -56,6 +60,18 @@ pub bind_got : {A B W : Type 0} (r : Read A W) (f : A → Read B W) (y : B) → 
 bind_got (Got x) f y e = (x, refl, e)
 bind_got Short f y e = absurd (short_not_got y e)
 bind_got (Wrong m) f y e = absurd (wrong_not_got m y e)
+
+-- a step that was short is short whatever follows it
+pub short_then : {A B C W : Type 0} (r : Read A W) (make : A → B) (f : A → Read C W) → (r >>= λ x. Got (make x)) ≡ Short → (r >>= f) ≡ Short
+short_then {W = W} (Got x) make f e = absurd (short_not_got {W = W} (make x) (sym e))
+short_then Short make f e = refl
+short_then (Wrong m) make f e = absurd cc
+
+-- a step that was wrong is wrong whatever follows it
+pub wrong_then : {A B C W : Type 0} (r : Read A W) (make : A → B) (f : A → Read C W) (m : W) → (r >>= λ x. Got (make x)) ≡ Wrong m → (r >>= f) ≡ Wrong m
+wrong_then (Got x) make f m e = absurd (wrong_not_got m (make x) (sym e))
+wrong_then Short make f m e = absurd cc
+wrong_then {B = B} (Wrong n) make f m e = ap wrong (wrong_is {A = B} n m e)
 
 -- a value that was accepted has nothing wrong with it
 pub accepted_is : {A W : Type 0} (x y : A) (o : Option W) → accepted x o ≡ Got y → (x ≡ y) × (o ≡ None)

@@ -8,7 +8,7 @@ use Rattle.kt_stream.specs.declared.entry.Bin.{Bin}
 use Rattle.kt_stream.specs.declared.entry.Cdf.{Cdf}
 use Rattle.kt_stream.specs.declared.kind.Shape.{Shape}
 use Rattle.kt_stream.specs.declared.read.Misfit.{Misfit}
-use Rattle.kt_stream.specs.declared.read.Read.TheVariants.{Got}
+use Rattle.kt_stream.specs.declared.read.Read.TheVariants.{Got, Short, Wrong}
 use Rattle.kt_stream.specs.declared.stop.RecordCause.TheVariants.{Id, Bins}
 use Rattle.kt_stream.specs.Read.{◌>>=◌, fields_in, fields_then, AreJudged}
 use Rattle.kt_stream.specs.Pairs.{misfit}
@@ -137,6 +137,26 @@ cdf_lawful = record {
   back = λ shape samples cdf rest at few is. cdf_back shape.bins cdf rest at is;
   written = λ shape samples bytes at cdf few are e. (cdf_got shape.bins bytes at cdf e).written are;
 }
+
+-- a distribution whose fields are short is short
+pub cdf_front_short : (most : ℕ) (bytes : List ℕ) (at : ℕ) → cdf_front_in most bytes at ≡ Short → cdf_in most bytes at ≡ Short
+unfolding cdf_in
+cdf_front_short most bytes at e = rw e refl
+
+-- a distribution with a wrong field is wrong
+pub cdf_front_wrong : (most : ℕ) (bytes : List ℕ) (at : ℕ) (wrong : Misfit) → cdf_front_in most bytes at ≡ Wrong wrong → cdf_in most bytes at ≡ Wrong wrong
+unfolding cdf_in
+cdf_front_wrong most bytes at wrong e = rw e refl
+
+-- a distribution whose bins are short is short
+pub cdf_bins_short : (most : ℕ) (bytes : List ℕ) (at : ℕ) (front : CdfFront) → cdf_front_in most bytes at ≡ Got front → bins_in front.bins 0 (drop 16 bytes) (at + 16) ≡ Short → cdf_in most bytes at ≡ Short
+unfolding cdf_in
+cdf_bins_short most bytes at front e b = rw (e, b) refl
+
+-- a distribution with a wrong bin is wrong
+pub cdf_bins_wrong : (most : ℕ) (bytes : List ℕ) (at : ℕ) (front : CdfFront) (wrong : Misfit) → cdf_front_in most bytes at ≡ Got front → bins_in front.bins 0 (drop 16 bytes) (at + 16) ≡ Wrong wrong → cdf_in most bytes at ≡ Wrong wrong
+unfolding cdf_in
+cdf_bins_wrong most bytes at front wrong e b = rw (e, b) refl
 
 -- a distribution whose fields and bins were read
 pub cdf_whole : (most : ℕ) (bytes : List ℕ) (at : ℕ) (front : CdfFront) (bins : List Bin) → cdf_front_in most bytes at ≡ Got front → bins_in front.bins 0 (drop 16 bytes) (at + 16) ≡ Got bins → cdf_in most bytes at ≡ Got (cdf_of front bins)

@@ -1,5 +1,6 @@
 pub mod Cases
 pub mod Fields
+pub mod FieldSteps
 pub mod Sidx
 pub mod PairsRead
 pub mod PairsBack

@@ -4,7 +4,7 @@ use Rattle.std.proofs.lemmas.List.{drop-append-le, length-drop, drop-drop}
 use Rattle.byteorder.specs.Endian.{little_bytes}
 use Rattle.kt_stream.specs.declared.entry.Pair.{Pair}
 use Rattle.kt_stream.specs.declared.read.Misfit.{Misfit}
-use Rattle.kt_stream.specs.declared.read.Read.TheVariants.{Got}
+use Rattle.kt_stream.specs.declared.read.Read.TheVariants.{Got, Short, Wrong}
 use Rattle.kt_stream.specs.Read.{◌>>=◌, Field, fields_in, width_of, fields_then, AreJudged, AreSmall}
 use Rattle.kt_stream.specs.Pairs.{pairs_in, pair_record, ArePairs, pairs_bytes}
 use Rattle.kt_stream.specs.Stream.{Kept, AreBytes}
@@ -57,6 +57,16 @@ pair_record_got fields make samples bytes at entry e =
           front.written are wide ∙ ap (fields_then fields front.values) (pairs.written few (bytes_behind (width_of fields) bytes are)) ∙ fields_before fields front.values (pairs_bytes next.0) (drop (pairs_size next.0) behind)
           ∙ ap (λ (xs : List ℕ). fields_then fields front.values (pairs_bytes next.0) ++ xs) (drop-drop (pairs_size next.0) (width_of fields) bytes);
     }
+
+-- a record whose pairs are short is short
+pub pair_record_short : {E F : Type 0} (fields : List (Field Misfit)) (make : List ℕ → List Pair → E) (front : List ℕ → F) (samples : ℕ) (bytes : List ℕ) (at : ℕ) (y : F) → (fields_in fields [] bytes at >>= λ values. Got (front values)) ≡ Got y
+    → pairs_in (samples + 4) samples 0 (drop (width_of fields) bytes) (at + width_of fields) ≡ Short → pair_record fields make samples bytes at ≡ Short
+pair_record_short fields make front samples bytes at y e p = rw ((bind_got (fields_in fields [] bytes at) (λ values. Got (front values)) y e).1, p) refl
+
+-- a record with a wrong pair is wrong
+pub pair_record_wrong : {E F : Type 0} (fields : List (Field Misfit)) (make : List ℕ → List Pair → E) (front : List ℕ → F) (samples : ℕ) (bytes : List ℕ) (at : ℕ) (y : F) (wrong : Misfit) → (fields_in fields [] bytes at >>= λ values. Got (front values)) ≡ Got y
+    → pairs_in (samples + 4) samples 0 (drop (width_of fields) bytes) (at + width_of fields) ≡ Wrong wrong → pair_record fields make samples bytes at ≡ Wrong wrong
+pair_record_wrong fields make front samples bytes at y wrong e p = rw ((bind_got (fields_in fields [] bytes at) (λ values. Got (front values)) y e).1, p) refl
 
 -- a record is read back
 pub pair_record_back : {E : Type 0} (fields : List (Field Misfit)) (make : List ℕ → List Pair → E) (samples : ℕ) (values : List ℕ) (pairs : List Pair) (rest : List ℕ) (at : ℕ) → samples ≤ 1000

@@ -45,3 +45,19 @@ returns-in-Got-clause-fed g c =
     let now = filled_is pending c.args.block.now.items c.args.upto (rw (← c.self.view_is) at c.requires) in
     let is : header_in r.shape.kind (take (stream_limit - r.start) (take c.args.upto c.args.block.now.items)) ≡ Got c.in-Got.head = sym (rw (c.within_limit.ensures.value, c.as_slice.ensures.value, c.swap.ensures.x_after) at c.in-Got.ensures) in
     rw (← c.self.view_is, c.header_length-self-inside.ensures, c.in_default.is, c.in_default-head.is, c.swap.ensures.x_after) (header_extends g.E.Entry.form r.shape c.in-Got.head r.row _ _ r.start pending (piece_in pending c.args.block.now.items c.args.upto) (take c.args.upto c.args.block.now.items) now c.self.invariant.3.start is)
+
+pub invariant_of-self : goal.invariant_of-self
+invariant_of-self g c =
+    let is = c.self.invariant in
+    (omega arith, is.1, is.2, record { head = is.3.head; start = is.3.start; waits = is.3.waits })
+
+pub invariant_of-self-in-Some-head : goal.invariant_of-self-in-Some-head
+invariant_of-self-in-Some-head g c =
+    let is = c.self.invariant in
+    let head = rw c.in-Some-head.is at is.3.head in
+    rw (c.in_default.is, c.in-Some-head.is, c.swap.ensures.x_after) (omega arith, omega arith, c.requires.within, record { head = head; start = is.3.start; waits = tt })
+
+pub invariant_of-self-in-Wrong : goal.invariant_of-self-in-Wrong
+invariant_of-self-in-Wrong g c =
+    let is = c.self.invariant in
+    rw c.swap.ensures.x_after (omega arith, omega arith, c.requires.within, record { head = is.3.head; start = is.3.start; waits = tt })
