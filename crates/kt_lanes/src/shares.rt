@@ -88,8 +88,7 @@ fn push_two(
     let second = lanes.lane(start + 1);
     split_totals(totals, first, second, parts, rests);
     out.push(parts)?;
-    out.push(rests)?;
-    Ok(())
+    out.push(rests)
 }
 
 /// Puts what lanes side by side have in all, sidx by sidx, in the place of what a lane has: it is added up where it is not known.
@@ -147,8 +146,7 @@ fn push_shares(
         swap(paid, due);
     }
     take_paid(totals, paid);
-    out.push(paid)?;
-    Ok(())
+    out.push(paid)
 }
 
 /// Puts totals in cents, shared out over lanes side by side, sidx by sidx, behind others. No total is above what these lanes have
@@ -176,8 +174,7 @@ pub fn share_lanes(
         return Ok(());
     }
     if count == 1 {
-        out.push(totals)?;
-        return Ok(());
+        return out.push(totals);
     }
     if count == 2 {
         return push_two(totals, lanes, start, &mut room.paid, &mut room.due, out);

@@ -1,8 +1,9 @@
-use Rattle.std.proofs.Common.{◌≡◌, ◌<◌, ◌≤◌, ◌+◌, ◌-◌, ◌++◌, ◌∷◌, [], ◌∙◌, ℕ, List, Vec, Global, ap, drop, length, replicate, slice_index, slice_index_or, subst, take, sym, vec_len, arith, rules}
+use Rattle.std.proofs.Common.{◌≡◌, ◌<◌, ◌≤◌, ◌+◌, ◌-◌, ◌^◌, ◌++◌, ◌∷◌, [], ◌∙◌, ℕ, List, Vec, Global, ap, drop, length, replicate, slice_index, slice_index_or, subst, take, sym, vec_len, arith, rules}
 use Rattle.std.specs.Vec.{with_items}
 use Rattle.std.proofs.lemmas.List.{length-replicate, with_items_is}
+use Rattle.std.proofs.lemmas.Result.{IfOk-weaker}
 use Rattle.std.specs.List.{sum}
-use Rattle.kt_lanes.specs.Lanes.{column, IsLane}
+use Rattle.kt_lanes.specs.Lanes.{column, AreWide, IsLane}
 use Rattle.kt_lanes.specs.LaneLaws.{part-at, part-count}
 use Rattle.kt_lanes.specs.Shares.{weight_or_one, ArePaid, AreSharingBehind, CanPay}
 use Rattle.kt_lanes.specs.SharesLaws.{behind-begins, behind-ends, behind-goes, can-pay, last-enough, next-upto, none-counted, sharing-goes, sharing-last}
@@ -104,5 +105,38 @@ returns-clause-value c =
     let share = c.take_paid.new.paid in
     let left = subst (λ (paid : List ℕ). IsLane (length paid) (λ k. slice_index totals k - slice_index paid k) share) c.deref_mut-2.ensures.value c.take_paid.ensures.value in
     let share_is = kept c.loop-at.paid share left.wide in
-    behind-ends totals children c.loop-at.at c.loop-at.paid.items c.args.out.now c.loop-at.out so_far share c.push-2.new.self (c.in_ok-push-2.ensures.ok ∙ ap (λ (one : List ℕ). c.loop-at.out ++ one ∷ []) (c.deref-2.ensures.value ∙ share_is)) c.args.count many
-    (sharing-last totals children c.requires.can c.loop-at.at last c.loop-at.paid.items so_far.shares so_far.sharing share left)
+    let shared = sharing-last totals children c.requires.can c.loop-at.at last c.loop-at.paid.items so_far.shares so_far.sharing share left in
+    IfOk-weaker c.push-2.result _ _
+    (λ (_ : Unit {0}) pushed. behind-ends totals children c.loop-at.at c.loop-at.paid.items c.args.out.now c.loop-at.out so_far share c.push-2.new.self (pushed ∙ ap (λ (one : List ℕ). c.loop-at.out ++ one ∷ []) (c.deref-2.ensures.value ∙ share_is)) c.args.count many shared)
+    c.push-2.ensures.ok
+
+pub share_next-requires-clause-narrow : goal.share_next-requires-clause-narrow
+share_next-requires-clause-narrow c = λ few k below.
+    let inside : k < length c.args.weights.now = omega (arith, below, c.requires.weights.wide) in
+    subst (λ n. n < 2 ^ 32) (sym (c.fill_weights-bits.ensures.weights.each k inside)) (c.fill_weights-bits.ensures.narrow few k inside)
+
+pub push-requires : goal.push-requires
+push-requires c =
+    let so_far = c.loop-at.invariant.sharing in
+    let share = c.share_next.new.paid in
+    let paid = subst (λ (old : List ℕ). ArePaid c.args.totals.now c.fill_weights-bits.new.weights c.loop-at.upto c.lane-lane.result.now old c.share_next.new.upto c.share_next.new.due share) c.deref_mut-in-loop-at.ensures.value c.share_next.ensures.value in
+    let share_is = kept c.loop-at.paid share (paid.share_is.wide ∙ sym so_far.sharing.paid_is.wide) in
+    record { wide = subst (λ n. AreWide n c.loop-at.out) (sym (ap length (c.deref.ensures.value ∙ share_is) ∙ paid.share_is.wide)) so_far.wide }
+
+pub push-requires-2 : goal.push-requires-2
+push-requires-2 c =
+    let totals = c.args.totals.now in
+    let so_far = c.loop-at.invariant.sharing in
+    let share = c.take_paid.new.paid in
+    let left = subst (λ (paid : List ℕ). IsLane (length paid) (λ k. slice_index totals k - slice_index paid k) share) c.deref_mut-2.ensures.value c.take_paid.ensures.value in
+    let share_is = kept c.loop-at.paid share left.wide in
+    record { wide = subst (λ n. AreWide n c.loop-at.out) (sym (ap length (c.deref-2.ensures.value ∙ share_is) ∙ (left.wide ∙ so_far.sharing.paid_is.wide))) so_far.wide }
+
+pub returns-clause-paid_wide : goal.returns-clause-paid_wide
+returns-clause-paid_wide c =
+    let totals = c.args.totals.now in
+    let so_far = c.loop-at.invariant.sharing in
+    let share = c.take_paid.new.paid in
+    let left = subst (λ (paid : List ℕ). IsLane (length paid) (λ k. slice_index totals k - slice_index paid k) share) c.deref_mut-2.ensures.value c.take_paid.ensures.value in
+    let share_is = kept c.loop-at.paid share left.wide in
+    ap length share_is ∙ (left.wide ∙ so_far.sharing.paid_is.wide)

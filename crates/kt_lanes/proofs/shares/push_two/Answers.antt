@@ -1,4 +1,5 @@
 use Rattle.std.proofs.Common.{◌≡◌, ◌∷◌, [], List, ℕ, drop, length, sym, subst, take, arith}
+use Rattle.std.proofs.lemmas.Result.{IfOk-weaker}
 use Rattle.kt_lanes.specs.Lanes.{AreWide}
 use Rattle.kt_lanes.specs.LaneLaws.{All-more}
 use Rattle.kt_lanes.specs.SplitLaws.{can-split, split-behind, two-lanes}
@@ -32,5 +33,7 @@ returns c =
     let same = children-are (goal.at.returns c).After-lane-second in
     record {
       value =
-          split-behind c.args.totals.now first second children same (can-split c.args.totals.now first second children same c.requires.can) c.split_totals.new.parts c.split_totals.new.rests c.split_totals.ensures.value c.args.out.now c.push.new.self c.push-2.new.self c.in_ok-push.ensures.ok c.in_ok-push-2.ensures.ok;
+          IfOk-weaker c.push-2.result _ _
+          (λ (_ : Unit {0}) pushed. split-behind c.args.totals.now first second children same (can-split c.args.totals.now first second children same c.requires.can) c.split_totals.new.parts c.split_totals.new.rests c.split_totals.ensures.value c.args.out.now c.push.new.self c.push-2.new.self c.in_ok-push.ensures.ok pushed)
+          c.push-2.ensures.ok;
     }

@@ -24,3 +24,9 @@ returns c = record {
   rests_wide = c.loop-k.invariant.wide ∙ sym c.requires.rests_wide;
   value = λ fits. tested-end c.args.totals.now c.args.first.now c.args.second.now c.loop-k.k c.args.rests.now c.args.parts.now c.loop-k.rests c.loop-k-test.false c.requires.parts_wide (c.loop-k.invariant.right fits);
 }
+
+pub wrong_bits-wrong-requires-clause-most : goal.wrong_bits-wrong-requires-clause-most
+wrong_bits-wrong-requires-clause-most c = omega (arith, c.requires.can.backed c.loop-k.k c.loop-k-test.true)
+
+pub wrong_bits-wrong-requires-clause-within : goal.wrong_bits-wrong-requires-clause-within
+wrong_bits-wrong-requires-clause-within c = omega arith
