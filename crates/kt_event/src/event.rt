@@ -176,9 +176,7 @@ fn put_output_summaries(
     ensures good { OnOk result (AreSummaries (terms_of plan.now).samples made.new) }
 {
     match &plan.base {
-        Some(base) => {
-            put_insured_summaries(alloc, portfolio, plan, base, losses, made)
-        }
+        Some(base) => { put_insured_summaries(alloc, portfolio, plan, base, losses, made) }
         None => Ok(Records::new(alloc)),
     }
 }
