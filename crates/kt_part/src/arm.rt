@@ -1,5 +1,5 @@
 //! What a worker does: it claims numbers, makes their blocks and sends them, until a number that it draws is none of the round.
-ghost use Rattle.std.specs.Prelude.{◌≡◌, ◌≤◌, ◌<◌, All, IfSome, length};
+ghost use Rattle.std.specs.Prelude.{◌≤◌, ◌<◌, All, IfSome, length};
 ghost use Rattle.kt_part.specs.Lanes.{HasWorked, HaveWorked, IsReady};
 
 use crate::inbox::{Arm, Item};
@@ -37,13 +37,15 @@ pub(crate) fn run_arm<W: Work>(claims: &Claims, work: &W, count: u32, arm: &mut 
     unreachable!()
 }
 
-/// The only one of these workers.
-pub(crate) fn run_first<W: Work>(claims: &Claims, work: &W, count: u32, arms: &mut [Arm<W::Block>])
+/// The only one of these workers, if there is one.
+pub(crate) fn run_last<W: Work>(claims: &Claims, work: &W, count: u32, arms: &mut [Arm<W::Block>])
     requires few { count ≤ 16 }
     requires most { count ≤ W.most work.now }
-    requires one { length arms.old ≡ 1 }
+    requires one { length arms.old ≤ 1 }
     requires ready { All (IsReady claims.now) arms.old }
     ensures { HaveWorked claims.now (W.gives work.now) count arms.old arms.new }
 {
-    run_arm(claims, work, count, &mut arms[0]);
+    if !arms.is_empty() {
+        run_arm(claims, work, count, &mut arms[0]);
+    }
 }

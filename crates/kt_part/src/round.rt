@@ -1,13 +1,13 @@
 //! A round: blocks are made for the numbers from 0 on, and taken in order.
-ghost use Rattle.std.specs.Prelude.{◌≡◌, ◌<◌, ◌≤◌, ℕ, All, List, length};
+ghost use Rattle.std.specs.Prelude.{◌<◌, ◌≤◌, ℕ, All, List, length};
 ghost use Rattle.std.specs.Thread.{IsSync, IsSend};
 ghost use Rattle.kt_part.specs.Arrivals.{HasCome, all_received};
 ghost use Rattle.kt_part.specs.Claimed.{ClaimsAfter};
 ghost use Rattle.kt_part.specs.Folding.{RoundEnds};
-ghost use Rattle.kt_part.specs.Lanes.{AreSame, HasWorked, HaveWorked, IsReady};
+ghost use Rattle.kt_part.specs.Lanes.{AreSame, HaveWorked, IsReady};
 ghost use Rattle.kt_part.specs.Passes.{IsFresh, IsPassOf};
 
-use crate::arm::{run_arm, run_first};
+use crate::arm::run_last;
 use crate::fold::Fold;
 use crate::gather::{fold_held, gather};
 use crate::inbox::{Arm, Inbox, Lane};
@@ -33,38 +33,8 @@ pub enum RoundStop<S> {
     OutOfMemory,
 }
 
-/// A single worker beside the merger, until both have ended. The calling thread is the worker itself: its memory is at hand.
-fn run_alone<R: Threads + Sync, W: Work + Sync>(
-    rt: &R,
-    claims: &Claims,
-    work: &W,
-    count: u32,
-    arm: &mut Arm<W::Block>,
-    inbox: &mut Inbox<W::Block>,
-    ends: &mut [Lane<W::Block>],
-)
-    requires few { count ≤ 16 }
-    requires most { count ≤ W.most work.now }
-    requires ready { IsReady claims.now arm.old }
-    ensures worked { HasWorked claims.now (W.gives work.now) count arm.old arm.new }
-    ensures same { AreSame ends.old ends.new }
-    ensures come { HasCome inbox.old (all_received ends.old) → HasCome inbox.new (all_received ends.new) }
-{
-    join_mut(
-        rt,
-        &mut ||
-            ensures { AreSame ends.entry.now ends.exit.now × (HasCome inbox.entry.now (all_received ends.entry.now) → HasCome inbox.exit.now (all_received ends.exit.now)) }
-        { merge(count, inbox, ends) },
-        &mut ||
-            requires { (count ≤ 16) × (count ≤ W.most work.now) × IsReady claims.now arm.now }
-            ensures { HasWorked claims.entry.now (W.gives work.entry.now) count arm.entry.now arm.exit.now }
-        { run_arm(claims, work, count, arm) },
-    );
-}
-
-/// Some workers beside the merger, until all have ended: each in a thread of its own where one can be made. The calling thread makes all
-/// threads, one after the other, and is the merger, which soon returns; then it sleeps. Were it a worker, one of the new threads would
-/// often be put beside it, and stay there, while another processor stands idle.
+/// Some workers, until all have ended: the last is the calling thread, whose memory is at hand, each other one has a thread of its own
+/// where one can be made. The calling thread makes all threads, one after the other, before it works.
 #[cycle(workers)]
 fn run_all<R: Threads + Sync, W: Work + Sync>(
     rt: &R,
@@ -72,25 +42,21 @@ fn run_all<R: Threads + Sync, W: Work + Sync>(
     work: &W,
     count: u32,
     arms: &mut [Arm<W::Block>],
-    inbox: &mut Inbox<W::Block>,
-    ends: &mut [Lane<W::Block>],
 )
     requires few { count ≤ 16 }
     requires most { count ≤ W.most work.now }
     requires ready { All (IsReady claims.now) arms.old }
-    ensures worked { HaveWorked claims.now (W.gives work.now) count arms.old arms.new }
-    ensures same { AreSame ends.old ends.new }
-    ensures come { HasCome inbox.old (all_received ends.old) → HasCome inbox.new (all_received ends.new) }
+    ensures { HaveWorked claims.now (W.gives work.now) count arms.old arms.new }
 {
-    if arms.is_empty() {
-        merge(count, inbox, ends);
+    if arms.len() <= 1 {
+        run_last(claims, work, count, arms);
         return;
     }
     let (front, others) = arms.split_at_mut(1);
-    first_beside(rt, claims, work, count, front, others, inbox, ends);
+    first_beside(rt, claims, work, count, front, others);
 }
 
-/// The first worker in a thread of its own where one can be made, beside the others and the merger.
+/// The first worker in a thread of its own where one can be made, beside the others.
 #[cycle(workers)]
 fn first_beside<R: Threads + Sync, W: Work + Sync>(
     rt: &R,
@@ -99,31 +65,28 @@ fn first_beside<R: Threads + Sync, W: Work + Sync>(
     count: u32,
     front: &mut [Arm<W::Block>],
     others: &mut [Arm<W::Block>],
-    inbox: &mut Inbox<W::Block>,
-    ends: &mut [Lane<W::Block>],
 )
     requires few { count ≤ 16 }
     requires most { count ≤ W.most work.now }
-    requires one { length front.old ≡ 1 }
+    requires one { length front.old ≤ 1 }
     requires first { All (IsReady claims.now) front.old }
     requires ready { All (IsReady claims.now) others.old }
     ensures first { HaveWorked claims.now (W.gives work.now) count front.old front.new }
     ensures worked { HaveWorked claims.now (W.gives work.now) count others.old others.new }
-    ensures same { AreSame ends.old ends.new }
-    ensures come { HasCome inbox.old (all_received ends.old) → HasCome inbox.new (all_received ends.new) }
 {
     let mut rest = ||
         requires { IsSync R.row × IsSync W.row × IsSend W.Block.row × (count ≤ 16) × (count ≤ W.most work.now) × All (IsReady claims.now) others.now }
-        ensures { HaveWorked claims.entry.now (W.gives work.entry.now) count others.entry.now others.exit.now × AreSame ends.entry.now ends.exit.now × (HasCome inbox.entry.now (all_received ends.entry.now) → HasCome inbox.exit.now (all_received ends.exit.now)) }
-    { run_all(rt, claims, work, count, others, inbox, ends) };
+        ensures { HaveWorked claims.entry.now (W.gives work.entry.now) count others.entry.now others.exit.now }
+    { run_all(rt, claims, work, count, others) };
     let mut first = ||
-        requires { IsSync W.row × IsSend W.Block.row × (count ≤ 16) × (count ≤ W.most work.now) × (length front.now ≡ 1) × All (IsReady claims.now) front.now }
+        requires { IsSync W.row × IsSend W.Block.row × (count ≤ 16) × (count ≤ W.most work.now) × (length front.now ≤ 1) × All (IsReady claims.now) front.now }
         ensures { HaveWorked claims.entry.now (W.gives work.entry.now) count front.entry.now front.exit.now }
-    { run_first(claims, work, count, front) };
+    { run_last(claims, work, count, front) };
     join_mut(rt, &mut first, &mut rest);
 }
 
-/// The workers beside the merger, until all have ended. A single one is the calling thread.
+/// The workers beside the merger, until all have ended. The merger, which soon returns, has the thread that is made first: that one the
+/// system often puts beside the calling thread, which works, and there it takes nothing from a worker.
 fn run_beside<R: Threads + Sync, W: Work + Sync>(
     rt: &R,
     claims: &Claims,
@@ -140,11 +103,16 @@ fn run_beside<R: Threads + Sync, W: Work + Sync>(
     ensures same { AreSame ends.old ends.new }
     ensures come { HasCome inbox.old (all_received ends.old) → HasCome inbox.new (all_received ends.new) }
 {
-    if arms.len() == 1 {
-        run_alone(rt, claims, work, count, &mut arms[0], inbox, ends);
-    } else {
-        run_all(rt, claims, work, count, arms, inbox, ends);
-    }
+    join_mut(
+        rt,
+        &mut ||
+            ensures { AreSame ends.entry.now ends.exit.now × (HasCome inbox.entry.now (all_received ends.entry.now) → HasCome inbox.exit.now (all_received ends.exit.now)) }
+        { merge(count, inbox, ends) },
+        &mut ||
+            requires { IsSync R.row × IsSync W.row × IsSend W.Block.row × (count ≤ 16) × (count ≤ W.most work.now) × All (IsReady claims.now) arms.now }
+            ensures { HaveWorked claims.entry.now (W.gives work.entry.now) count arms.entry.now arms.exit.now }
+        { run_all(rt, claims, work, count, arms) },
+    );
 }
 
 /// One round: as many workers as `workers` says claim the numbers from 0 up to but not including `count` and make their blocks,
