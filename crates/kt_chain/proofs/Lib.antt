@@ -4,6 +4,7 @@ mod PartLemmas
 mod RowLemmas
 mod WorkLemmas
 mod TextLemmas
+mod TextFoldLemmas
 mod RoundLemmas
 mod StepLemmas
 mod EndLemmas

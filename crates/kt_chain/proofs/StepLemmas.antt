@@ -33,6 +33,8 @@ use Rattle.kt_chain.specs.Reached.{stops_behind as stops_later}
 use Rattle.kt_fold.specs.Folds.{FoldState}
 use Rattle.kt_load.specs.EventRows.{EventRows, ids_of}
 use Rattle.kt_chain.specs.Runs.{AreGivenRows, CountsRead, FoldEnds, FoldsTo, GoesOn, IsFolded, IsRunOf, MakesSome, RoundGoes, RoundMakes, RunShares}
+use Rattle.kt_chain.specs.TextFolds.{KeepsRows}
+use Rattle.kt_chain.specs.declared.text_fold.TextFold.{TextFold}
 use Rattle.kt_chain.proofs.TextLemmas.{same_files}
 
 -- ---- the ids of events with their rows
@@ -71,11 +73,11 @@ files_of_run input run held is files =
 
 -- what the fold of a round does to its events, whose rows were read
 pub folds_to : (input : RunInput) (run : RunShares) (done events : List ℕ) (given : List EventRows) → ids_of given ≡ events → (rows : Rows) → rows ≡ run.portfolio.rows → (held : Option FileMap) → IsRunOf held run.terms run.portfolio.rows input
-    → ((terms : Terms) (other : RunInput) → IsRunOf held terms rows other → AreGivenRows other given) → (old : FoldState) → IsFolded input done old → (refusal : Option Refusal) (fold : FoldState)
-    → ((one : RunInput) (before : List ℕ) → one.terms ≡ run.terms → one.rows ≡ run.portfolio.rows → AreGivenRows one given → IsFolded one before old → FoldsTo one before (ids_of given) refusal fold)
-    → FoldsTo input done events refusal fold
+    → ((terms : Terms) (other : RunInput) → IsRunOf held terms rows other → AreGivenRows other given) → (old : FoldState) → IsFolded input done old → (refusal : Option Refusal) (fold : TextFold)
+    → ((one : RunInput) (before : List ℕ) → one.terms ≡ run.terms → one.rows ≡ run.portfolio.rows → AreGivenRows one given → IsFolded one before old → FoldsTo one before (ids_of given) refusal fold.inner × KeepsRows fold)
+    → FoldsTo input done events refusal fold.inner × KeepsRows fold
 folds_to input run done events given ids rows rows_are held is read old folded refusal fold folds =
-    subst (λ (all : List ℕ). FoldsTo input done all refusal fold) ids
+    subst (λ (all : List ℕ). FoldsTo input done all refusal fold.inner × KeepsRows fold) ids
     (folds input done is.terms_are is.rows_are
     (read run.terms input (subst (λ (r : Rows). IsRunOf held run.terms r input) (sym rows_are) is)) folded)
 

@@ -8,6 +8,7 @@ use Rattle.kt_files.specs.Endings.{AreEndings}
 use Rattle.kt_files.specs.OutputFiles.{output_name}
 use Rattle.kt_files.specs.Parts.{block_text, end_text, head_text}
 use Rattle.kt_files.specs.declared.file.OutputFile.{OutputFile}
+use Rattle.kt_files.specs.declared.made.FileRows.{FileRows}
 use Rattle.kt_out.specs.NamedFiles.{File}
 use Rattle.kt_out.specs.OutputFiles.{OutputsState}
 use Rattle.kt_out.specs.declared.fault.Fault.{Fault}
@@ -35,12 +36,12 @@ pieces_joined samples made file (part ∷ parts) =
     ∙ sym (flat_map-append (block_text made.samples made.rows file) part.blocks (blocks_of parts))
 
 -- the rows of parts were appended to files, which are others by name
-pub kept_made : (inside files : List OutputFile) → inside ≡ files → (samples samples_are : ℕ) → samples ≡ samples_are → (rows rows_are : Rows) → rows ≡ rows_are → (parts kept : List PartBlock) → parts ≡ kept
+pub kept_made : (inside files : List OutputFile) → inside ≡ files → (samples samples_are : ℕ) → samples ≡ samples_are → (rows rows_are : Rows) → rows ≡ rows_are → (parts kept : List PartBlock) → parts ≡ kept → (own : List (List FileRows))
     → (before after : OutputsState) (answer : Result (Unit {0}) Fault) (text : OutputFile → List ℕ)
-    → Makes (files_with output_name text inside) (files_with output_name (λ file. text file ++ joined (map (part_text (record { samples = samples; rows = rows; parts = parts }) file) parts)) inside) before after answer
+    → Makes (files_with output_name text inside) (files_with output_name (λ file. text file ++ joined (map (part_text (record { samples = samples; rows = rows; parts = parts; made = own }) file) parts)) inside) before after answer
     → Makes (files_with output_name text files) (files_with output_name (λ file. text file ++ flat_map (block_text samples_are rows_are file) (blocks_of kept)) files) before after answer
-kept_made inside files files_are samples samples_are same_samples rows rows_are same_rows parts kept same_parts before after answer text made =
-    let made_of : PartRows = record { samples = samples; rows = rows; parts = parts } in
+kept_made inside files files_are samples samples_are same_samples rows rows_are same_rows parts kept same_parts own before after answer text made =
+    let made_of : PartRows = record { samples = samples; rows = rows; parts = parts; made = own } in
     let longer : OutputFile → List ℕ = λ file. text file ++ joined (map (part_text made_of file) parts) in
     let wanted : OutputFile → List ℕ = λ file. text file ++ flat_map (block_text samples_are rows_are file) (blocks_of kept) in
     let same : (file : OutputFile) → longer file ≡ wanted file = λ file.

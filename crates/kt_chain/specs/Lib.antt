@@ -5,6 +5,7 @@ pub mod Outcome
 pub mod Rounds
 pub mod Runs
 pub mod RoundRows
+pub mod TextFolds
 pub mod RunLaws
 pub mod DoneLaws
 pub mod SetRecords

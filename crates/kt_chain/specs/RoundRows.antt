@@ -4,15 +4,17 @@ use Rattle.std.specs.Prelude.{◌≤◌, ℕ, List, map}
 use Rattle.std.specs.List.{AllByRecursion, flat_map}
 use Rattle.kt_files.specs.Parts.{block_text}
 use Rattle.kt_files.specs.declared.file.OutputFile.{OutputFile}
+use Rattle.kt_files.specs.declared.made.FileRows.{FileRows}
 use Rattle.kt_rec.specs.Rows.{Rows}
 use Rattle.kt_fold.specs.Folds.{IsGoodPart}
 use Rattle.kt_fold.specs.declared.part.PartBlock.{PartBlock}
 
--- the parts of a round, with the samples and the rows by which their rows are made
+-- the parts of a round, with the samples and the rows by which their rows are made, and what was made with the first of them
 pub record PartRows : Type 0 where
   pub samples : ℕ
   pub rows : Rows
   pub parts : List PartBlock
+  pub made : List (List FileRows)
 
 -- parts whose rows can be made
 pub record AreGoodParts (samples : ℕ) (parts : List PartBlock) : Type 0 where

@@ -7,6 +7,7 @@ mod rounds;
 mod rows;
 mod run;
 mod shared;
+mod text_fold;
 mod texts;
 mod work;
 

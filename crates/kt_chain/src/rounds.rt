@@ -15,19 +15,21 @@ ghost use Rattle.kt_tables.specs.Lookups.{event_ids};
 ghost use Rattle.kt_chain.specs.Events.{RunInput};
 ghost use Rattle.kt_chain.specs.Rounds.{FitsRun, IsEventRefusal, IsRunStop, IsWhy};
 ghost use Rattle.kt_fold.specs.Folds.{blocks_of, fold_refusal};
+ghost use Rattle.kt_chain.specs.TextFolds.{KeepsRows};
 ghost use Rattle.kt_chain.specs.Runs.{AreGivenRows, Counts, FoldsTo, IsFolded, IsRunOf, RoundGoes, RoundMakes};
 
 use crate::rows::fill_rows;
+use crate::text_fold::TextFold;
 use crate::texts::RoundTexts;
 use crate::work::RoundWork;
 use kt_ends::{Refusal, ToolStop, write_stop};
 use kt_event::Plan;
 use kt_files::OutputFile;
 use kt_files::laws::names_are_distinct;
-use kt_fold::{FoldStop, RunFold};
+use kt_fold::FoldStop;
 use kt_load::RoundRows;
 use kt_out::{Fault, Gate, Inputs, Outputs};
-use kt_outputs::append_texts_beside;
+use kt_outputs::append_texts;
 use kt_part::laws::Claims;
 use kt_part::{RoundStop, run_round};
 use kt_tables::Portfolio;
@@ -90,15 +92,15 @@ fn why_stopped(stop: FoldStop) -> Result<Option<Refusal>, AllocError>
 /// Folds the parts of a round, and answers why one of its events is refused, if one is. An error is want of memory.
 fn fold_round<R: Threads + Sync, G: Gate + Sync>(
     run: &Run<'_, R, G>,
-    fold: &mut RunFold<'_>,
+    fold: &mut TextFold<'_>,
     given: &RoundRows,
 ) -> Result<Option<Refusal>, AllocError>
     requires events { All (λ one. IsId one.event) given.now }
     requires few { length given.now ≤ 16 * run.now.batch }
-    requires fits { FitsRun run.now.terms.samples fold.old }
-    ensures folds { IfOk result (λ refusal. (input : RunInput) (done : List ℕ) → input.terms ≡ run.now.terms → input.rows ≡ run.now.portfolio.rows → AreGivenRows input given.now → IsFolded input done fold.old → FoldsTo input done (ids_of given.now) refusal fold.new) }
+    requires fits { FitsRun run.now.terms.samples fold.old.inner }
+    ensures folds { IfOk result (λ refusal. (input : RunInput) (done : List ℕ) → input.terms ≡ run.now.terms → input.rows ≡ run.now.portfolio.rows → AreGivenRows input given.now → IsFolded input done fold.old.inner → FoldsTo input done (ids_of given.now) refusal fold.new.inner × KeepsRows fold.new) }
     ensures why { IfOk result (λ refusal. IfSome refusal IsEventRefusal) }
-    ensures fits { FitsRun run.now.terms.samples fold.new }
+    ensures fits { FitsRun run.now.terms.samples fold.new.inner }
 {
     run.has_files();
     let batch = run.batch as usize;
@@ -110,9 +112,11 @@ fn fold_round<R: Threads + Sync, G: Gate + Sync>(
         plan: run.plan,
         given,
         batch: run.batch,
-        // One worker alone gains nothing by it: the cells and the records would only stand between each other in memory.
-        ahead: 1 < run.workers && fold.ahead(),
+        // One worker alone gains nothing by either: rows and cells would only stand between the records in memory.
+        files: if 1 < run.workers { run.files } else { &[] },
+        ahead: 1 < run.workers && fold.inner.ahead(),
     };
+    fold.made.clear();
     let (claims, mut pass) = Claims::new(run.alloc, run.workers)?;
     match run_round(
         run.rt,
@@ -130,34 +134,28 @@ fn fold_round<R: Threads + Sync, G: Gate + Sync>(
     }
 }
 
-/// Appends the rows of the parts that are kept to the files, and lets the parts go. The texts of as many files as the run has workers
-/// are made side by side.
-fn write_kept<R: Threads + Sync, G, O: Outputs>(
+/// Appends the rows of the parts that are kept to the files, and lets the parts go. The workers have made the rows, but for those of a part
+/// of which a front alone is kept.
+fn write_kept<R, G, O: Outputs>(
     run: &Run<'_, R, G>,
-    fold: &mut RunFold<'_>,
+    fold: &mut TextFold<'_>,
     outputs: &mut O,
 ) -> Result<(), Fault>
-    requires fits { FitsRun run.now.terms.samples fold.old }
-    ensures made { (text : OutputFile → List ℕ) → Makes (files_with output_name text run.now.files) (files_with output_name (λ file. text file ++ flat_map (block_text fold.old.cells.samples fold.old.rows file) (blocks_of fold.old.kept)) run.now.files) (O.state outputs.old) (O.state outputs.new) result }
-    ensures fold { IfOk result (λ _. fold.new ≡ record fold.old { kept = [] }) }
-    ensures fits { FitsRun run.now.terms.samples fold.new }
+    requires fits { FitsRun run.now.terms.samples fold.old.inner }
+    ensures made { KeepsRows fold.old → (text : OutputFile → List ℕ) → Makes (files_with output_name text run.now.files) (files_with output_name (λ file. text file ++ flat_map (block_text fold.old.inner.cells.samples fold.old.inner.rows file) (blocks_of fold.old.inner.kept)) run.now.files) (O.state outputs.old) (O.state outputs.new) result }
+    ensures fold { IfOk result (λ _. fold.new.inner ≡ record fold.old.inner { kept = [] }) }
+    ensures fits { FitsRun run.now.terms.samples fold.new.inner }
     ensures counts { CountsOutput (O.state outputs.old).faults (O.state outputs.new).faults result }
 {
     run.has_files();
     names_are_distinct();
     let texts = RoundTexts {
-        portfolio: fold.portfolio(),
-        samples: fold.samples(),
-        parts: fold.kept(),
+        portfolio: fold.inner.portfolio(),
+        samples: fold.inner.samples(),
+        parts: fold.inner.kept(),
+        made: fold.made.as_slice(),
     };
-    let answer = append_texts_beside(
-        run.rt,
-        run.alloc,
-        outputs,
-        run.files,
-        &texts,
-        run.workers as usize,
-    );
+    let answer = append_texts(run.alloc, outputs, run.files, &texts);
     match answer {
         Ok(()) => {
             fold.let_go();
@@ -171,7 +169,7 @@ fn write_kept<R: Threads + Sync, G, O: Outputs>(
 /// first that is refused are written.
 fn one_round<R: Threads + Sync, G: Gate + Sync, I: Inputs, O: Outputs>(
     run: &Run<'_, R, G>,
-    fold: &mut RunFold<'_>,
+    fold: &mut TextFold<'_>,
     given: &mut RoundRows,
     events: &[u32],
     inputs: &mut I,
@@ -180,12 +178,12 @@ fn one_round<R: Threads + Sync, G: Gate + Sync, I: Inputs, O: Outputs>(
     requires events { All IsId events.now }
     requires few { length events.now ≤ 16 * run.now.batch }
     requires file { HasFootprint (I.state inputs.old).held run.now.portfolio.rows.footprint_size }
-    requires fits { FitsRun run.now.terms.samples fold.old }
-    ensures events { (input : RunInput) (done : List ℕ) → IsRunOf (I.state inputs.old).held run.now.terms run.now.portfolio.rows input → IsFolded input done fold.old → RoundGoes input done events.now fold.new result }
-    ensures files { (input : RunInput) (done : List ℕ) → IsRunOf (I.state inputs.old).held run.now.terms run.now.portfolio.rows input → IsFolded input done fold.old → RoundMakes input done events.now (O.state outputs.old) (O.state outputs.new) result }
+    requires fits { FitsRun run.now.terms.samples fold.old.inner }
+    ensures events { (input : RunInput) (done : List ℕ) → IsRunOf (I.state inputs.old).held run.now.terms run.now.portfolio.rows input → IsFolded input done fold.old.inner → RoundGoes input done events.now fold.new.inner result }
+    ensures files { (input : RunInput) (done : List ℕ) → IsRunOf (I.state inputs.old).held run.now.terms run.now.portfolio.rows input → IsFolded input done fold.old.inner → RoundMakes input done events.now (O.state outputs.old) (O.state outputs.new) result }
     ensures counts { Counts (I.state inputs.old) (I.state inputs.new) (O.state outputs.old).faults (O.state outputs.new).faults result }
     ensures stop { IfErr result IsRunStop }
-    ensures fits { FitsRun run.now.terms.samples fold.new }
+    ensures fits { FitsRun run.now.terms.samples fold.new.inner }
 {
     run.has_files();
     if let Err(stop) = fill_rows(given, inputs, run.portfolio, events) {
@@ -207,17 +205,17 @@ fn one_round<R: Threads + Sync, G: Gate + Sync, I: Inputs, O: Outputs>(
 /// All rounds, one after the other, up to the first event that is refused.
 pub(crate) fn all_rounds<R: Threads + Sync, G: Gate + Sync, I: Inputs, O: Outputs>(
     run: &Run<'_, R, G>,
-    fold: &mut RunFold<'_>,
+    fold: &mut TextFold<'_>,
     inputs: &mut I,
     outputs: &mut O,
 ) -> Result<(), ToolStop>
     requires file { HasFootprint (I.state inputs.old).held run.now.portfolio.rows.footprint_size }
-    requires fits { FitsRun run.now.terms.samples fold.old }
-    ensures events { (input : RunInput) → IsRunOf (I.state inputs.old).held run.now.terms run.now.portfolio.rows input → IsFolded input [] fold.old → RoundGoes input [] (event_ids run.now.portfolio.rows) fold.new result }
-    ensures files { (input : RunInput) → IsRunOf (I.state inputs.old).held run.now.terms run.now.portfolio.rows input → IsFolded input [] fold.old → RoundMakes input [] (event_ids run.now.portfolio.rows) (O.state outputs.old) (O.state outputs.new) result }
+    requires fits { FitsRun run.now.terms.samples fold.old.inner }
+    ensures events { (input : RunInput) → IsRunOf (I.state inputs.old).held run.now.terms run.now.portfolio.rows input → IsFolded input [] fold.old.inner → RoundGoes input [] (event_ids run.now.portfolio.rows) fold.new.inner result }
+    ensures files { (input : RunInput) → IsRunOf (I.state inputs.old).held run.now.terms run.now.portfolio.rows input → IsFolded input [] fold.old.inner → RoundMakes input [] (event_ids run.now.portfolio.rows) (O.state outputs.old) (O.state outputs.new) result }
     ensures counts { Counts (I.state inputs.old) (I.state inputs.new) (O.state outputs.old).faults (O.state outputs.new).faults result }
     ensures stop { IfErr result IsRunStop }
-    ensures fits { FitsRun run.now.terms.samples fold.new }
+    ensures fits { FitsRun run.now.terms.samples fold.new.inner }
 {
     run.has_files();
     run.portfolio.is_valid();

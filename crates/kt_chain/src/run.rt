@@ -25,6 +25,7 @@ ghost use Rattle.kt_chain.specs.Runs.{Counts, IsRunOf, RunMakes, RunSays, chain_
 
 use crate::options::ChainOptions;
 use crate::rounds::{Run, all_rounds};
+use crate::text_fold::TextFold;
 use kt_ends::{ToolStop, write_stop};
 use kt_event::Plan;
 use kt_files::laws::names_are_distinct;
@@ -93,11 +94,16 @@ fn write_run<R: Threads + Sync, G: Gate + Sync, I: Inputs, O: Outputs>(
     if let Err(fault) = begin(run, outputs) {
         return Err(write_stop(fault));
     }
-    let mut fold = RunFold::new(run.alloc, run.portfolio, run.plan.terms().samples);
+    let inner = RunFold::new(run.alloc, run.portfolio, run.plan.terms().samples);
+    let mut fold = TextFold {
+        inner,
+        made: Vec::new(run.alloc),
+    };
     if let Err(stop) = all_rounds(run, &mut fold, inputs, outputs) {
         return Err(stop);
     }
-    match finish(run, &fold, outputs) {
+    fold.keeps_periods();
+    match finish(run, &fold.inner, outputs) {
         Ok(()) => Ok(()),
         Err(fault) => Err(write_stop(fault)),
     }

@@ -1,43 +1,36 @@
 //! What the parts of a round add to the output files.
 //! The rules: docs/OUTPUTS.md, "Files of a run".
-ghost use Rattle.std.specs.Prelude.{◌≡◌, ◌≤◌, ◌++◌, OnOk};
-ghost use Rattle.std.specs.List.{AllByRecursion, flat_map};
-ghost use Rattle.kt_event.specs.Losses.{AreSummaries};
+ghost use Rattle.std.specs.Prelude.{◌≡◌, ℕ, List, [], IfSome, map, slice_index_or};
+ghost use Rattle.std.specs.List.{flat_map};
 ghost use Rattle.kt_files.specs.Parts.{block_text};
+ghost use Rattle.kt_fold.specs.declared.part.PartBlock.{PartBlock};
+ghost use Rattle.kt_rec.specs.Rows.{Rows};
+ghost use Rattle.kt_chain.specs.TextFolds.{AreRowsOfParts};
 
-use kt_event::EventBlock;
-use kt_files::{OutputFile, push_block};
+use kt_files::{FileRows, OutputFile, find_rows, push_blocks};
 use kt_fold::PartBlock;
 use kt_money::{Bytes, OutOfMemory};
 use kt_outputs::Texts;
+use kt_stream::Records;
 use kt_tables::Portfolio;
 use std::marker::Model;
 
-/// Appends what blocks add to a file.
-fn push_blocks(
-    out: &mut Bytes,
-    portfolio: &Portfolio,
-    samples: u32,
-    file: &OutputFile,
-    blocks: &[EventBlock],
-) -> Result<(), OutOfMemory>
-    requires some { 1 ≤ samples }
-    requires few { samples ≤ 1000 }
-    requires good { AllByRecursion (λ block. AreSummaries samples block.summaries) blocks.now }
-    ensures { OnOk result (out.new ≡ out.old ++ flat_map (block_text samples portfolio.now.rows file.now) blocks.now) }
+/// The rows that were made of a part for a file; `None` where none were.
+fn rows_made<'a>(made: &'a [Records<FileRows>], part: usize, file: &OutputFile) -> Option<&'a Bytes>
+    ensures { (samples : ℕ) (rows : Rows) (parts : List PartBlock) → AreRowsOfParts samples rows made.now parts → IfSome result (λ text. text.now ≡ slice_index_or (map (λ one. flat_map (block_text samples rows file.now) one.blocks) parts) part []) }
 {
-    for block in blocks {
-        push_block(out, portfolio, samples, file, block)?;
-    }
-    Ok(())
+    find_rows(made.get(part)?.as_slice(), file)
 }
 
-/// The rows of the parts of a round, a piece a part. Contracts see the number of samples, the rows of the tables and the parts.
+/// The rows of the parts of a round, a piece a part: those that were made with the part, or made here. Contracts see the number of samples,
+/// the rows of the tables, the parts and what was made with them.
 #[derive(Drop)]
 pub(crate) struct RoundTexts<'a> {
     pub(crate) portfolio: &'a Portfolio,
     pub(crate) samples: u32,
     pub(crate) parts: &'a [PartBlock],
+    /// What was made with the first of them.
+    pub(crate) made: &'a [Records<FileRows>],
 }
 
 impl<'a> Model for RoundTexts<'a> {
@@ -45,17 +38,18 @@ impl<'a> Model for RoundTexts<'a> {
 
     ghost Value = { PartRows };
 
-    ghost view = { λ t. record { samples = t.samples; rows = t.portfolio.now.rows; parts = t.parts.now } };
+    ghost view = { λ t. record { samples = t.samples; rows = t.portfolio.now.rows; parts = t.parts.now; made = t.made.now } };
 
     ghost invariant = { λ t. AreGoodParts t.samples t.parts.now };
 }
 
 impl<'a> Texts<OutputFile> for RoundTexts<'a> {
     ghost use Rattle.kt_chain.specs.RoundRows.{pieces_of_parts};
+    ghost use Rattle.kt_chain.specs.TextFolds.{AreRowsOfParts};
 
     ghost Start = { Unit {0} };
 
-    ghost are_of = { λ _ _. Unit {0} };
+    ghost are_of = { λ _ texts. AreRowsOfParts texts.samples texts.rows texts.made texts.parts };
 
     ghost pieces_of = { λ _ texts file. pieces_of_parts texts file };
 
@@ -64,6 +58,9 @@ impl<'a> Texts<OutputFile> for RoundTexts<'a> {
     }
 
     fn push(&self, file: &OutputFile, piece: usize, out: &mut Bytes) -> Result<(), OutOfMemory> {
+        if let Some(text) = rows_made(self.made, piece, file) {
+            return out.append(text.as_slice());
+        }
         match self.parts.get(piece) {
             Some(part) => push_blocks(
                 out,

@@ -1,13 +1,19 @@
 //! What makes the parts of a round.
 //! The rules: docs/ARCHITECTURE.md, "A run of all stages".
-ghost use Rattle.std.specs.Prelude.{◌≡◌, ◌≤◌, ◌<◌, ◌+◌, ◌*◌, All, IfOk, drop, length, min, take};
+ghost use Rattle.std.specs.Prelude.{◌≡◌, ◌≤◌, ◌<◌, ◌+◌, ◌*◌, All, IfOk, drop, length, min, take, true};
 ghost use Rattle.std.specs.List.{AllByRecursion};
 ghost use Rattle.kt_event.specs.Losses.{AreSummaries};
 ghost use Rattle.kt_event.specs.Plan.{IsPlan, terms_of};
+ghost use Rattle.kt_files.specs.MadeRows.{AreRowsOf};
+ghost use Rattle.kt_fold.specs.Folds.{IsGoodPart};
+ghost use Rattle.kt_keys.specs.Refusals.{is_loaded};
+ghost use Rattle.kt_rec.specs.declared.table.Table.TheVariants as table;
 ghost use Rattle.kt_stream.specs.Pairs.{IsId};
 ghost use Rattle.kt_chain.specs.Rounds.{part_count, part_events, part_of};
 
+use crate::text_fold::TextPart;
 use kt_event::{Plan, event_block};
+use kt_files::{OutputFile, make_rows};
 use kt_fold::{PartBlock, ReadyPart, RefusedRow};
 use kt_load::RoundRows;
 use kt_out::Gate;
@@ -28,6 +34,8 @@ pub(crate) struct RoundWork<'a, G> {
     pub(crate) plan: &'a Plan,
     pub(crate) given: &'a RoundRows,
     pub(crate) batch: u32,
+    /// The files whose rows are made with the part.
+    pub(crate) files: &'a [OutputFile],
     /// Whether the cells of each event by itself are made, so that the fold can take them over.
     pub(crate) ahead: bool,
 }
@@ -113,17 +121,38 @@ fn part_of(
     part_between(alloc, portfolio, plan, given, first, behind)
 }
 
+/// A part with the rows that it adds to the files, and with ready cells where they are to be made ahead.
+fn text_part(
+    alloc: Global,
+    portfolio: &Portfolio,
+    samples: u32,
+    files: &[OutputFile],
+    part: PartBlock,
+    ahead: bool,
+) -> Result<TextPart, AllocError>
+    requires loaded { is_loaded portfolio.now.need 0 table.Occurrence ≡ true }
+    requires some { 1 ≤ samples }
+    requires few { samples ≤ 1000 }
+    requires good { IsGoodPart samples part }
+    ensures { IfOk result (λ text. (text.part ≡ part) × AreRowsOf samples portfolio.now.rows part.blocks text.made) }
+{
+    let made = make_rows(alloc, portfolio, samples, files, part.blocks.as_slice())?;
+    let part = ReadyPart::new(alloc, portfolio, samples, part, ahead)?;
+    Ok(TextPart { part, made })
+}
+
 impl<'a, G: Gate> Work for RoundWork<'a, G> {
     ghost use Rattle.std.specs.Prelude.{length};
-    ghost use Rattle.kt_chain.specs.Rounds.{IsPart, part_count};
+    ghost use Rattle.kt_chain.specs.Rounds.{part_count};
+    ghost use Rattle.kt_chain.specs.TextFolds.{IsTextPart};
 
-    type Block = ReadyPart;
+    type Block = TextPart;
 
-    ghost gives = { IsPart };
+    ghost gives = { IsTextPart };
 
     ghost most = { λ work. part_count work.batch (length work.given) };
 
-    fn work(&self, k: u32) -> Result<ReadyPart, AllocError> {
+    fn work(&self, k: u32) -> Result<TextPart, AllocError> {
         self.gate.pass(k);
         let part = part_of(
             self.alloc,
@@ -134,6 +163,13 @@ impl<'a, G: Gate> Work for RoundWork<'a, G> {
             k,
         )?;
         let samples = self.plan.terms().samples;
-        ReadyPart::new(self.alloc, self.portfolio, samples, part, self.ahead)
+        text_part(
+            self.alloc,
+            self.portfolio,
+            samples,
+            self.files,
+            part,
+            self.ahead,
+        )
     }
 }

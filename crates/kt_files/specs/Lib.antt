@@ -5,3 +5,4 @@ pub mod EndTexts
 pub mod Sublists
 pub mod DistinctNames
 pub mod Examples
+pub mod MadeRows

@@ -18,7 +18,7 @@ use kt_stream::SummaryRecord;
 use kt_tables::Portfolio;
 
 /// Whether two perspectives are the same.
-fn is_same(one: Perspective, other: Perspective) -> bool
+pub(crate) fn is_same(one: Perspective, other: Perspective) -> bool
     ensures { result ≡ same_perspective one other }
 {
     match (one, other) {
@@ -107,7 +107,7 @@ fn push_records(
 /// Appends what the block of an event adds to a file: the rows of its records in the event loss table and in the period loss
 /// table of each summary set, and those of its layers. The records are those of a stream with `samples` samples, from 1 to
 /// 1,000. An error is want of memory; then some of the rows may stand behind what was there.
-pub fn push_block(
+pub(crate) fn push_block(
     out: &mut Bytes,
     portfolio: &Portfolio,
     samples: u32,

@@ -9,12 +9,13 @@ mod headings;
 pub mod laws;
 mod layers;
 mod listing;
+mod made;
 mod names;
 mod sets;
 
-pub use blocks::push_block;
 pub use curves::shared_curves;
 pub use endings::Endings;
 pub use file::{OutputFile, SetTable};
 pub use headings::Headings;
 pub use listing::output_files;
+pub use made::{FileRows, find_rows, make_rows, push_blocks};

@@ -16,8 +16,8 @@ loop-rest-init g c =
       inputs = refl;
       faults = refl;
       fits = c.requires.fits;
-      going = λ input is folded. subst (λ (rest : List ℕ). Going input (event_ids c.args.run.now.portfolio.rows) rest c.args.fold.now (g.O.Outputs.state c.args.outputs.now) (g.O.Outputs.state c.args.outputs.now)) events
-          (going_first input (event_ids c.args.run.now.portfolio.rows) c.args.fold.now (g.O.Outputs.state c.args.outputs.now) folded);
+      going = λ input is folded. subst (λ (rest : List ℕ). Going input (event_ids c.args.run.now.portfolio.rows) rest c.args.fold.now.inner (g.O.Outputs.state c.args.outputs.now) (g.O.Outputs.state c.args.outputs.now)) events
+          (going_first input (event_ids c.args.run.now.portfolio.rows) c.args.fold.now.inner (g.O.Outputs.state c.args.outputs.now) folded);
     }
 
 pub returns-in-Err-clause-events : goal.returns-in-Err-clause-events
@@ -27,10 +27,10 @@ returns-in-Err-clause-events g c = λ input is folded.
     let later = c.split_at.result.1.now in
     let split : c.loop-rest.rest.now ≡ round ++ later =
     sym (take-append-drop c.min.result c.loop-rest.rest.now) ∙ ap (λ (front : List ℕ). front ++ drop c.min.result c.loop-rest.rest.now) (sym c.split_at.ensures.front) ∙ ap (λ (back : List ℕ). round ++ back) (sym c.split_at.ensures.back) in
-    let here : Going input events (round ++ later) c.loop-rest.fold (g.O.Outputs.state c.args.outputs.now) (g.O.Outputs.state c.loop-rest.outputs) =
-    subst (λ (rest : List ℕ). Going input events rest c.loop-rest.fold (g.O.Outputs.state c.args.outputs.now) (g.O.Outputs.state c.loop-rest.outputs)) split (c.loop-rest.invariant.going input is folded) in
+    let here : Going input events (round ++ later) c.loop-rest.fold.inner (g.O.Outputs.state c.args.outputs.now) (g.O.Outputs.state c.loop-rest.outputs) =
+    subst (λ (rest : List ℕ). Going input events rest c.loop-rest.fold.inner (g.O.Outputs.state c.args.outputs.now) (g.O.Outputs.state c.loop-rest.outputs)) split (c.loop-rest.invariant.going input is folded) in
     let still = subst (λ (inputs : InputsState). IsRunOf inputs.held c.args.run.now.terms c.args.run.now.portfolio.rows input) (sym c.loop-rest.invariant.inputs) is in
-    round_ends input events round later c.loop-rest.fold (g.O.Outputs.state c.args.outputs.now) (g.O.Outputs.state c.loop-rest.outputs) here c.one_round.new.fold c.in-Err.stop (c.in-Err.ensures.events input here.done still here.folded)
+    round_ends input events round later c.loop-rest.fold.inner (g.O.Outputs.state c.args.outputs.now) (g.O.Outputs.state c.loop-rest.outputs) here c.one_round.new.fold.inner c.in-Err.stop (c.in-Err.ensures.events input here.done still here.folded)
 
 pub returns-in-Err-clause-files : goal.returns-in-Err-clause-files
 returns-in-Err-clause-files g c = λ input is folded.
@@ -39,10 +39,10 @@ returns-in-Err-clause-files g c = λ input is folded.
     let later = c.split_at.result.1.now in
     let split : c.loop-rest.rest.now ≡ round ++ later =
     sym (take-append-drop c.min.result c.loop-rest.rest.now) ∙ ap (λ (front : List ℕ). front ++ drop c.min.result c.loop-rest.rest.now) (sym c.split_at.ensures.front) ∙ ap (λ (back : List ℕ). round ++ back) (sym c.split_at.ensures.back) in
-    let here : Going input events (round ++ later) c.loop-rest.fold (g.O.Outputs.state c.args.outputs.now) (g.O.Outputs.state c.loop-rest.outputs) =
-    subst (λ (rest : List ℕ). Going input events rest c.loop-rest.fold (g.O.Outputs.state c.args.outputs.now) (g.O.Outputs.state c.loop-rest.outputs)) split (c.loop-rest.invariant.going input is folded) in
+    let here : Going input events (round ++ later) c.loop-rest.fold.inner (g.O.Outputs.state c.args.outputs.now) (g.O.Outputs.state c.loop-rest.outputs) =
+    subst (λ (rest : List ℕ). Going input events rest c.loop-rest.fold.inner (g.O.Outputs.state c.args.outputs.now) (g.O.Outputs.state c.loop-rest.outputs)) split (c.loop-rest.invariant.going input is folded) in
     let still = subst (λ (inputs : InputsState). IsRunOf inputs.held c.args.run.now.terms c.args.run.now.portfolio.rows input) (sym c.loop-rest.invariant.inputs) is in
-    round_ends_files input events round later c.loop-rest.fold (g.O.Outputs.state c.args.outputs.now) (g.O.Outputs.state c.loop-rest.outputs) here (g.O.Outputs.state c.one_round.new.outputs) c.in-Err.stop (c.in-Err.ensures.files input here.done still here.folded)
+    round_ends_files input events round later c.loop-rest.fold.inner (g.O.Outputs.state c.args.outputs.now) (g.O.Outputs.state c.loop-rest.outputs) here (g.O.Outputs.state c.one_round.new.outputs) c.in-Err.stop (c.in-Err.ensures.files input here.done still here.folded)
 
 pub loop-rest-preserved : goal.loop-rest-preserved
 loop-rest-preserved g c = record {
@@ -56,17 +56,17 @@ loop-rest-preserved g c = record {
       let later = c.split_at.result.1.now in
       let split : c.loop-rest.rest.now ≡ round ++ later =
       sym (take-append-drop c.min.result c.loop-rest.rest.now) ∙ ap (λ (front : List ℕ). front ++ drop c.min.result c.loop-rest.rest.now) (sym c.split_at.ensures.front) ∙ ap (λ (back : List ℕ). round ++ back) (sym c.split_at.ensures.back) in
-      let here : Going input events (round ++ later) c.loop-rest.fold (g.O.Outputs.state c.args.outputs.now) (g.O.Outputs.state c.loop-rest.outputs) =
-      subst (λ (rest : List ℕ). Going input events rest c.loop-rest.fold (g.O.Outputs.state c.args.outputs.now) (g.O.Outputs.state c.loop-rest.outputs)) split (c.loop-rest.invariant.going input is folded) in
+      let here : Going input events (round ++ later) c.loop-rest.fold.inner (g.O.Outputs.state c.args.outputs.now) (g.O.Outputs.state c.loop-rest.outputs) =
+      subst (λ (rest : List ℕ). Going input events rest c.loop-rest.fold.inner (g.O.Outputs.state c.args.outputs.now) (g.O.Outputs.state c.loop-rest.outputs)) split (c.loop-rest.invariant.going input is folded) in
       let still = subst (λ (inputs : InputsState). IsRunOf inputs.held c.args.run.now.terms c.args.run.now.portfolio.rows input) (sym c.loop-rest.invariant.inputs) is in
-      going_on input events round later c.loop-rest.fold (g.O.Outputs.state c.args.outputs.now) (g.O.Outputs.state c.loop-rest.outputs) here c.one_round.new.fold (g.O.Outputs.state c.one_round.new.outputs)
+      going_on input events round later c.loop-rest.fold.inner (g.O.Outputs.state c.args.outputs.now) (g.O.Outputs.state c.loop-rest.outputs) here c.one_round.new.fold.inner (g.O.Outputs.state c.one_round.new.outputs)
       (c.in_default.ensures.events input here.done still here.folded) (c.in_default.ensures.files input here.done still here.folded);
 }
 
 pub returns-clause-events : goal.returns-clause-events
 returns-clause-events g c = λ input is folded.
-    (all_gone input (event_ids c.args.run.now.portfolio.rows) c.loop-rest.fold (g.O.Outputs.state c.args.outputs.now) (g.O.Outputs.state c.loop-rest.outputs) c.loop-rest.rest.now (none_left c.loop-rest.rest.now (sym c.is_empty.ensures ∙ c.loop-rest-test.false)) (c.loop-rest.invariant.going input is folded)).0
+    (all_gone input (event_ids c.args.run.now.portfolio.rows) c.loop-rest.fold.inner (g.O.Outputs.state c.args.outputs.now) (g.O.Outputs.state c.loop-rest.outputs) c.loop-rest.rest.now (none_left c.loop-rest.rest.now (sym c.is_empty.ensures ∙ c.loop-rest-test.false)) (c.loop-rest.invariant.going input is folded)).0
 
 pub returns-clause-files : goal.returns-clause-files
 returns-clause-files g c = λ input is folded.
-    (all_gone input (event_ids c.args.run.now.portfolio.rows) c.loop-rest.fold (g.O.Outputs.state c.args.outputs.now) (g.O.Outputs.state c.loop-rest.outputs) c.loop-rest.rest.now (none_left c.loop-rest.rest.now (sym c.is_empty.ensures ∙ c.loop-rest-test.false)) (c.loop-rest.invariant.going input is folded)).1
+    (all_gone input (event_ids c.args.run.now.portfolio.rows) c.loop-rest.fold.inner (g.O.Outputs.state c.args.outputs.now) (g.O.Outputs.state c.loop-rest.outputs) c.loop-rest.rest.now (none_left c.loop-rest.rest.now (sym c.is_empty.ensures ∙ c.loop-rest-test.false)) (c.loop-rest.invariant.going input is folded)).1

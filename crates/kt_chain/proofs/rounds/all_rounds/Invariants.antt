@@ -13,8 +13,8 @@ invariant-loop-rest g l = record {
   ids : All IsId l.rest;
   inputs : g.I.Inputs.state l.inputs ≡ g.I.Inputs.state l.fn.inputs;
   faults : (g.O.Outputs.state l.outputs).faults ≡ (g.O.Outputs.state l.fn.outputs).faults;
-  fits : FitsRun l.run.terms.samples l.fold;
-  going : (input : RunInput) → IsRunOf (g.I.Inputs.state l.fn.inputs).held l.run.terms l.run.portfolio.rows input → IsFolded input [] l.fn.fold → Going input (event_ids l.run.portfolio.rows) l.rest l.fold (g.O.Outputs.state l.fn.outputs) (g.O.Outputs.state l.outputs);
+  fits : FitsRun l.run.terms.samples l.fold.inner;
+  going : (input : RunInput) → IsRunOf (g.I.Inputs.state l.fn.inputs).held l.run.terms l.run.portfolio.rows input → IsFolded input [] l.fn.fold.inner → Going input (event_ids l.run.portfolio.rows) l.rest l.fold.inner (g.O.Outputs.state l.fn.outputs) (g.O.Outputs.state l.outputs);
 }
 
 abbrev pub decreases-loop-rest : goal.decreases-loop-rest

@@ -4,16 +4,19 @@ use Rattle.kt_part.specs.Folding.{RoundEnds}
 use Rattle.kt_part.specs.declared.round.RoundStop.{RoundStop}
 use Rattle.kt_chain.proofs.RoundLemmas.{begins, enough, few_parts, round_passes, round_stopped, start_of, why_answered}
 use Rattle.kt_chain.specs.Events.{RunInput}
-use Rattle.kt_chain.specs.Rounds.{IsPart, RoundParts, part_count}
-use Rattle.kt_fold.specs.Folds.{IsGoodPart, StandsBehind, StopsBehind, fold_refusal}
+use Rattle.kt_chain.specs.Rounds.{RoundParts, part_count}
+use Rattle.kt_chain.specs.TextFolds.{IsTextPart, KeepsRows, TextsStand, TextsStop}
+use Rattle.kt_chain.proofs.TextFoldLemmas.{keeps_all, keeps_front, parts_folded, parts_stopped}
+use Rattle.kt_event.specs.declared.terms.Terms.{Terms}
+use Rattle.kt_fold.specs.Folds.{IsGoodPart, fold_refusal}
 use Rattle.kt_chain.specs.Runs.{AreGivenRows, FoldsTo, IsFolded, RunShares}
 use Rattle.kt_load.specs.EventRows.{ids_of}
 use Rattle.kt_event.specs.Plan.{terms_of}
 use Rattle.kt_chain.proofs.rounds.fold_round.Goals as goal
 
 pub run_round-requires-clause-fits : goal.run_round-requires-clause-fits
-run_round-requires-clause-fits g c = λ lifetimes outlive k part below is.
-    c.requires.fits part (subst (λ (run : RunShares). IsGoodPart run.terms.samples part) c.run.view_is is.good)
+run_round-requires-clause-fits g c = λ lifetimes outlive k text below is.
+    c.requires.fits text.part (subst (λ (run : RunShares). IsGoodPart run.terms.samples text.part) c.run.view_is is.part.good)
 
 pub run_round-requires-clause-count : goal.run_round-requires-clause-count
 run_round-requires-clause-count g c = λ lifetimes outlive.
@@ -22,30 +25,40 @@ run_round-requires-clause-count g c = λ lifetimes outlive.
 
 pub returns-in-Ok-clause-folds : goal.returns-in-Ok-clause-folds
 returns-in-Ok-clause-folds g c = λ input done terms rows given folded.
-    round_passes input (record { terms = terms_of c.run.inside.plan.now; rows = c.run.inside.portfolio.now.rows; given = c.args.given.now; batch = c.run.inside.batch })
-    (terms ∙ sym (ap (λ (run : RunShares). run.terms) c.run.view_is)) (rows ∙ sym (ap (λ (run : RunShares). run.portfolio.rows) c.run.view_is)) given done
-    c.run_round.new.fold _ (c.in-Ok.ensures.round (start_of input done) [] (begins input done c.args.fold.now folded))
-    (subst (λ (n : ℕ). length c.args.given.now ≤ part_count c.run.inside.batch n * c.run.inside.batch) (sym c.count.ensures.value) (enough c.run.inside.batch (length c.args.given.now) c.run.invariant.some))
+    let round : RoundParts = record { terms = terms_of c.run.inside.plan.now; rows = c.run.inside.portfolio.now.rows; given = c.args.given.now; batch = c.run.inside.batch } in
+    let terms_are = terms ∙ sym (ap (λ (run : RunShares). run.terms) c.run.view_is) in
+    let rows_are = rows ∙ sym (ap (λ (run : RunShares). run.portfolio.rows) c.run.view_is) in
+    let start = start_of input done in
+    let ended = c.in-Ok.ensures.round start [] (record { parts = begins input done c.args.fold.now.inner folded; made = c.clear.ensures.items }) in (
+      round_passes input round terms_are rows_are given done
+          c.run_round.new.fold.inner _ (parts_folded round start (ap (λ (t : Terms). t.samples) terms_are) rows_are c.run_round.new.fold _ ended)
+          (subst (λ (n : ℕ). length c.args.given.now ≤ part_count c.run.inside.batch n * c.run.inside.batch) (sym c.count.ensures.value) (enough c.run.inside.batch (length c.args.given.now) c.run.invariant.some)),
+      keeps_all round start (ap (λ (t : Terms). t.samples) terms_are) rows_are c.run_round.new.fold _ ended,
+    )
 
 pub returns-in-Ok-clause-fits : goal.returns-in-Ok-clause-fits
-returns-in-Ok-clause-fits g c = λ part good. c.run_round.ensures.fits part (c.requires.fits part good)
+returns-in-Ok-clause-fits g c = λ part good. c.run_round.ensures.fits (record { part = part; made = [] }) (c.requires.fits part good)
 
 pub returns-in-Err-OutOfMemory-clause-fits : goal.returns-in-Err-OutOfMemory-clause-fits
-returns-in-Err-OutOfMemory-clause-fits g c = λ part good. c.run_round.ensures.fits part (c.requires.fits part good)
+returns-in-Err-OutOfMemory-clause-fits g c = λ part good. c.run_round.ensures.fits (record { part = part; made = [] }) (c.requires.fits part good)
 
 pub returns-clause-folds : goal.returns-clause-folds
 returns-clause-folds g c =
-    why_answered (fold_refusal c.in-Err-Fold.stop) c.why_stopped.result (λ refusal. (input : RunInput) (done : List ℕ) → input.terms ≡ c.args.run.now.terms → input.rows ≡ c.args.run.now.portfolio.rows → AreGivenRows input c.args.given.now → IsFolded input done c.args.fold.now → FoldsTo input done (ids_of c.args.given.now) refusal c.run_round.new.fold) c.why_stopped.ensures
+    why_answered (fold_refusal c.in-Err-Fold.stop) c.why_stopped.result (λ refusal. (input : RunInput) (done : List ℕ) → input.terms ≡ c.args.run.now.terms → input.rows ≡ c.args.run.now.portfolio.rows → AreGivenRows input c.args.given.now → IsFolded input done c.args.fold.now.inner → FoldsTo input done (ids_of c.args.given.now) refusal c.run_round.new.fold.inner × KeepsRows c.run_round.new.fold) c.why_stopped.ensures
     (λ why is. λ input done terms rows given folded.
     let round : RoundParts = record { terms = terms_of c.run.inside.plan.now; rows = c.run.inside.portfolio.now.rows; given = c.args.given.now; batch = c.run.inside.batch } in
     let count = (c.count.result + c.run.inside.batch - 1) / c.run.inside.batch in
+    let terms_are = terms ∙ sym (ap (λ (run : RunShares). run.terms) c.run.view_is) in
+    let rows_are = rows ∙ sym (ap (λ (run : RunShares). run.portfolio.rows) c.run.view_is) in
+    let samples_are = ap (λ (t : Terms). t.samples) terms_are in
     let start = start_of input done in
-    round_stopped input round
-    (terms ∙ sym (ap (λ (run : RunShares). run.terms) c.run.view_is)) (rows ∙ sym (ap (λ (run : RunShares). run.portfolio.rows) c.run.view_is)) given done
-    c.run_round.new.fold count c.in-Err-Fold.field-0-0 c.in-Err-Fold.stop
-    (subst (λ (stop : RoundStop FoldStop). RoundEnds (IsPart round) (StandsBehind start c.run_round.new.fold) (StopsBehind start c.run_round.new.fold) [] count (Err stop)) c.in-Err-Fold.field-0-is
-    (c.in-Err-Fold.ensures.round start [] (begins input done c.args.fold.now folded)))
-    why is)
+    let stopped = subst (λ (stop : RoundStop FoldStop). RoundEnds (IsTextPart round) (TextsStand start c.run_round.new.fold) (TextsStop start c.run_round.new.fold) [] count (Err stop)) c.in-Err-Fold.field-0-is
+    (c.in-Err-Fold.ensures.round start [] (record { parts = begins input done c.args.fold.now.inner folded; made = c.clear.ensures.items })) in (
+      round_stopped input round terms_are rows_are given done
+          c.run_round.new.fold.inner count c.in-Err-Fold.field-0-0 c.in-Err-Fold.stop
+          (parts_stopped round start samples_are rows_are c.run_round.new.fold count c.in-Err-Fold.field-0-0 c.in-Err-Fold.stop stopped) why is,
+      keeps_front round start samples_are rows_are c.run_round.new.fold count c.in-Err-Fold.field-0-0 c.in-Err-Fold.stop stopped why is,
+    ))
 
 pub returns-clause-fits : goal.returns-clause-fits
-returns-clause-fits g c = λ part good. c.run_round.ensures.fits part (c.requires.fits part good)
+returns-clause-fits g c = λ part good. c.run_round.ensures.fits (record { part = part; made = [] }) (c.requires.fits part good)

@@ -33,36 +33,36 @@ returns-in-Err-fold_round-clause-files g c = λ input done is folded.
 
 pub returns-in-Err-write_kept-clause-files : goal.returns-in-Err-write_kept-clause-files
 returns-in-Err-write_kept-clause-files g c = λ input done is folded.
-    let to = folds_to input c.args.run.now done c.args.events.now c.fill_rows.new.given c.in_default.ensures.events c.run.inside.portfolio.now.rows (ap (λ (run : RunShares). run.portfolio.rows) c.run.view_is) (g.I.Inputs.state c.args.inputs.now).held is c.in_default.ensures.rows c.args.fold.now folded c.in-Ok.refusal c.fold_round.new.fold c.in-Ok.ensures.folds in
+    let to = folds_to input c.args.run.now done c.args.events.now c.fill_rows.new.given c.in_default.ensures.events c.run.inside.portfolio.now.rows (ap (λ (run : RunShares). run.portfolio.rows) c.run.view_is) (g.I.Inputs.state c.args.inputs.now).held is c.in_default.ensures.rows c.args.fold.now.inner folded c.in-Ok.refusal c.fold_round.new.fold c.in-Ok.ensures.folds in
     subst (λ (stop : ToolStop). RoundMakes input done c.args.events.now (g.O.Outputs.state c.args.outputs.now) (g.O.Outputs.state c.write_kept.new.outputs) (Err stop)) (sym c.write_stop.ensures)
-    (writing_stops input done c.args.events.now c.in-Ok.refusal c.fold_round.new.fold to (g.O.Outputs.state c.args.outputs.now) (g.O.Outputs.state c.write_kept.new.outputs) c.in-Err-write_kept.fault
-    (upto_made input c.args.run.now.files (files_of_run input c.args.run.now (g.I.Inputs.state c.args.inputs.now).held is c.has_files.ensures.files) done to.front c.fold_round.new.fold.cells.samples c.fold_round.new.fold.rows _ to.samples to.rows to.kept
-    (g.O.Outputs.state c.args.outputs.now) (g.O.Outputs.state c.write_kept.new.outputs) (Err c.in-Err-write_kept.fault) c.in-Err-write_kept.ensures.made))
+    (writing_stops input done c.args.events.now c.in-Ok.refusal c.fold_round.new.fold.inner to.0 (g.O.Outputs.state c.args.outputs.now) (g.O.Outputs.state c.write_kept.new.outputs) c.in-Err-write_kept.fault
+    (upto_made input c.args.run.now.files (files_of_run input c.args.run.now (g.I.Inputs.state c.args.inputs.now).held is c.has_files.ensures.files) done to.0.front c.fold_round.new.fold.inner.cells.samples c.fold_round.new.fold.inner.rows _ to.0.samples to.0.rows to.0.kept
+    (g.O.Outputs.state c.args.outputs.now) (g.O.Outputs.state c.write_kept.new.outputs) (Err c.in-Err-write_kept.fault) (c.in-Err-write_kept.ensures.made to.1)))
 
 pub returns-in-Some-clause-events : goal.returns-in-Some-clause-events
 returns-in-Some-clause-events g c = λ input done is folded.
-    let to = folds_to input c.args.run.now done c.args.events.now c.fill_rows.new.given c.in_default.ensures.events c.run.inside.portfolio.now.rows (ap (λ (run : RunShares). run.portfolio.rows) c.run.view_is) (g.I.Inputs.state c.args.inputs.now).held is c.in_default.ensures.rows c.args.fold.now folded c.in-Ok.refusal c.fold_round.new.fold c.in-Ok.ensures.folds in
-    record { reached = done ++ to.front; stops = refused_goes input done c.args.events.now c.in-Some.why c.in-Ok.refusal c.in-Some.is c.fold_round.new.fold to }
+    let to = folds_to input c.args.run.now done c.args.events.now c.fill_rows.new.given c.in_default.ensures.events c.run.inside.portfolio.now.rows (ap (λ (run : RunShares). run.portfolio.rows) c.run.view_is) (g.I.Inputs.state c.args.inputs.now).held is c.in_default.ensures.rows c.args.fold.now.inner folded c.in-Ok.refusal c.fold_round.new.fold c.in-Ok.ensures.folds in
+    record { reached = done ++ to.0.front; stops = refused_goes input done c.args.events.now c.in-Some.why c.in-Ok.refusal c.in-Some.is c.fold_round.new.fold.inner to.0 }
 
 pub returns-in-Some-clause-files : goal.returns-in-Some-clause-files
 returns-in-Some-clause-files g c = λ input done is folded.
-    let to = folds_to input c.args.run.now done c.args.events.now c.fill_rows.new.given c.in_default.ensures.events c.run.inside.portfolio.now.rows (ap (λ (run : RunShares). run.portfolio.rows) c.run.view_is) (g.I.Inputs.state c.args.inputs.now).held is c.in_default.ensures.rows c.args.fold.now folded c.in-Ok.refusal c.fold_round.new.fold c.in-Ok.ensures.folds in
+    let to = folds_to input c.args.run.now done c.args.events.now c.fill_rows.new.given c.in_default.ensures.events c.run.inside.portfolio.now.rows (ap (λ (run : RunShares). run.portfolio.rows) c.run.view_is) (g.I.Inputs.state c.args.inputs.now).held is c.in_default.ensures.rows c.args.fold.now.inner folded c.in-Ok.refusal c.fold_round.new.fold c.in-Ok.ensures.folds in
     record {
-      reached = done ++ to.front;
-      stops = refused_goes input done c.args.events.now c.in-Some.why c.in-Ok.refusal c.in-Some.is c.fold_round.new.fold to;
-      makes = ended (files_upto input done) (files_upto input (done ++ to.front)) (g.O.Outputs.state c.args.outputs.now) (g.O.Outputs.state c.write_kept.new.outputs)
-          (upto_made input c.args.run.now.files (files_of_run input c.args.run.now (g.I.Inputs.state c.args.inputs.now).held is c.has_files.ensures.files) done to.front c.fold_round.new.fold.cells.samples c.fold_round.new.fold.rows _ to.samples to.rows to.kept
-          (g.O.Outputs.state c.args.outputs.now) (g.O.Outputs.state c.write_kept.new.outputs) (Ok tt) c.in_default-write_kept.ensures.made);
+      reached = done ++ to.0.front;
+      stops = refused_goes input done c.args.events.now c.in-Some.why c.in-Ok.refusal c.in-Some.is c.fold_round.new.fold.inner to.0;
+      makes = ended (files_upto input done) (files_upto input (done ++ to.0.front)) (g.O.Outputs.state c.args.outputs.now) (g.O.Outputs.state c.write_kept.new.outputs)
+          (upto_made input c.args.run.now.files (files_of_run input c.args.run.now (g.I.Inputs.state c.args.inputs.now).held is c.has_files.ensures.files) done to.0.front c.fold_round.new.fold.inner.cells.samples c.fold_round.new.fold.inner.rows _ to.0.samples to.0.rows to.0.kept
+          (g.O.Outputs.state c.args.outputs.now) (g.O.Outputs.state c.write_kept.new.outputs) (Ok tt) (c.in_default-write_kept.ensures.made to.1));
     }
 
 pub returns-in-None-clause-events : goal.returns-in-None-clause-events
 returns-in-None-clause-events g c = λ input done is folded.
-    let to = folds_to input c.args.run.now done c.args.events.now c.fill_rows.new.given c.in_default.ensures.events c.run.inside.portfolio.now.rows (ap (λ (run : RunShares). run.portfolio.rows) c.run.view_is) (g.I.Inputs.state c.args.inputs.now).held is c.in_default.ensures.rows c.args.fold.now folded c.in-Ok.refusal c.fold_round.new.fold c.in-Ok.ensures.folds in
-    none_goes input done c.args.events.now c.in-Ok.refusal c.in-None.is c.fold_round.new.fold c.write_kept.new.fold to c.in_default-write_kept.ensures.fold
+    let to = folds_to input c.args.run.now done c.args.events.now c.fill_rows.new.given c.in_default.ensures.events c.run.inside.portfolio.now.rows (ap (λ (run : RunShares). run.portfolio.rows) c.run.view_is) (g.I.Inputs.state c.args.inputs.now).held is c.in_default.ensures.rows c.args.fold.now.inner folded c.in-Ok.refusal c.fold_round.new.fold c.in-Ok.ensures.folds in
+    none_goes input done c.args.events.now c.in-Ok.refusal c.in-None.is c.fold_round.new.fold.inner c.write_kept.new.fold.inner to.0 c.in_default-write_kept.ensures.fold
 
 pub returns-in-None-clause-files : goal.returns-in-None-clause-files
 returns-in-None-clause-files g c = λ input done is folded.
-    let to = folds_to input c.args.run.now done c.args.events.now c.fill_rows.new.given c.in_default.ensures.events c.run.inside.portfolio.now.rows (ap (λ (run : RunShares). run.portfolio.rows) c.run.view_is) (g.I.Inputs.state c.args.inputs.now).held is c.in_default.ensures.rows c.args.fold.now folded c.in-Ok.refusal c.fold_round.new.fold c.in-Ok.ensures.folds in
-    none_makes input done c.args.events.now c.in-Ok.refusal c.in-None.is c.fold_round.new.fold to (g.O.Outputs.state c.args.outputs.now) (g.O.Outputs.state c.write_kept.new.outputs)
-    (upto_made input c.args.run.now.files (files_of_run input c.args.run.now (g.I.Inputs.state c.args.inputs.now).held is c.has_files.ensures.files) done to.front c.fold_round.new.fold.cells.samples c.fold_round.new.fold.rows _ to.samples to.rows to.kept
-    (g.O.Outputs.state c.args.outputs.now) (g.O.Outputs.state c.write_kept.new.outputs) (Ok tt) c.in_default-write_kept.ensures.made)
+    let to = folds_to input c.args.run.now done c.args.events.now c.fill_rows.new.given c.in_default.ensures.events c.run.inside.portfolio.now.rows (ap (λ (run : RunShares). run.portfolio.rows) c.run.view_is) (g.I.Inputs.state c.args.inputs.now).held is c.in_default.ensures.rows c.args.fold.now.inner folded c.in-Ok.refusal c.fold_round.new.fold c.in-Ok.ensures.folds in
+    none_makes input done c.args.events.now c.in-Ok.refusal c.in-None.is c.fold_round.new.fold.inner to.0 (g.O.Outputs.state c.args.outputs.now) (g.O.Outputs.state c.write_kept.new.outputs)
+    (upto_made input c.args.run.now.files (files_of_run input c.args.run.now (g.I.Inputs.state c.args.inputs.now).held is c.has_files.ensures.files) done to.0.front c.fold_round.new.fold.inner.cells.samples c.fold_round.new.fold.inner.rows _ to.0.samples to.0.rows to.0.kept
+    (g.O.Outputs.state c.args.outputs.now) (g.O.Outputs.state c.write_kept.new.outputs) (Ok tt) (c.in_default-write_kept.ensures.made to.1))
