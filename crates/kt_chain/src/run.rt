@@ -36,6 +36,7 @@ use kt_out::{Fault, Gate, Inputs, Outputs};
 use kt_outputs::{append_texts, append_texts_beside, create_files};
 use kt_tables::Portfolio;
 use std::alloc::Global;
+use std::mem::forget;
 use std::thread::Threads;
 
 /// Makes the files of a run, and writes what stands at their heads.
@@ -104,7 +105,11 @@ fn write_run<R: Threads + Sync, G: Gate + Sync, I: Inputs, O: Outputs>(
     }
     fold.keeps_periods();
     match finish(run, &fold.inner, outputs) {
-        Ok(()) => Ok(()),
+        Ok(()) => {
+            // The process ends now, and the system takes its memory back at once: cell by cell that took 2 % of a run of four workers.
+            forget(fold);
+            Ok(())
+        }
         Err(fault) => Err(write_stop(fault)),
     }
 }
@@ -113,7 +118,7 @@ fn write_run<R: Threads + Sync, G: Gate + Sync, I: Inputs, O: Outputs>(
 /// footprint rows to its summaries, and writes the tables. An error is why the first event that is refused is so, by its
 /// footprint rows or by a record that passes a limit: then the files hold the rows of the events before it, and those over all
 /// periods nothing; or a fault of the input files or of the output files, or want of memory: then some front of the files is
-/// made, each with a front of its text. Neither the number of workers nor the size of a part changes what is written. The making of
+/// made, each with a front of its text. The memory of the cells of a run that comes to its end is not given back: the process ends then. Neither the number of workers nor the size of a part changes what is written. The making of
 /// part k of a round, counted from 0, begins with `gate.pass(k)`, by which a test sees what is made side by side.
 pub fn run_chain<R: Threads + Sync, G: Gate + Sync, I: Inputs, O: Outputs>(
     rt: &R,

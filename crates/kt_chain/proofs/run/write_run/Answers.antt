@@ -42,8 +42,8 @@ returns-in-Ok-clause-files g c = λ input is.
     all_makes input (g.O.Outputs.state c.args.outputs.now) (g.O.Outputs.state c.begin.new.outputs) (begun input c.args.run.now.files (files_of_run input c.args.run.now (g.I.Inputs.state c.args.inputs.now).held is c.has_files.ensures.files) (g.O.Outputs.state c.args.outputs.now) (g.O.Outputs.state c.begin.new.outputs) (Ok tt) c.in_default.ensures.made) c.all_rounds.new.fold.inner (subst (λ (rows : Rows). RoundGoes input [] (event_ids rows) c.all_rounds.new.fold.inner (Ok tt)) (sym is.rows_are) (c.in_default-all_rounds.ensures.events input is folded)) (g.O.Outputs.state c.all_rounds.new.outputs) (subst (λ (rows : Rows). RoundMakes input [] (event_ids rows) (g.O.Outputs.state c.begin.new.outputs) (g.O.Outputs.state c.all_rounds.new.outputs) (Ok tt)) (sym is.rows_are) (c.in_default-all_rounds.ensures.files input is folded))
     c.args.run.now.files (files_of_run input c.args.run.now (g.I.Inputs.state c.args.inputs.now).held is c.has_files.ensures.files) c.keeps_periods.ensures (g.O.Outputs.state c.finish.new.outputs) c.in-Ok.ensures.made
 
-pub returns-clause-files : goal.returns-clause-files
-returns-clause-files g c = λ input is.
+pub returns-in-Err-finish-clause-files : goal.returns-in-Err-finish-clause-files
+returns-in-Err-finish-clause-files g c = λ input is.
     let folded : IsFolded input [] c.new-inner.result = first_fold input c.args.run.now (record { portfolio = c.run.inside.portfolio.now; terms = terms_of c.run.inside.plan.now; files = c.run.inside.files.now; workers = c.run.inside.workers; batch = c.run.inside.batch }) c.run.view_is (g.I.Inputs.state c.args.inputs.now).held is c.terms.result.now c.terms.ensures c.new-inner.result c.new-inner.ensures.value in
     subst (λ (stop : ToolStop). RunMakes input (g.O.Outputs.state c.args.outputs.now) (g.O.Outputs.state c.finish.new.outputs) (Err stop)) (sym c.write_stop-in-Err-finish.ensures)
     (part_makes input (g.O.Outputs.state c.args.outputs.now) (g.O.Outputs.state c.begin.new.outputs) (begun input c.args.run.now.files (files_of_run input c.args.run.now (g.I.Inputs.state c.args.inputs.now).held is c.has_files.ensures.files) (g.O.Outputs.state c.args.outputs.now) (g.O.Outputs.state c.begin.new.outputs) (Ok tt) c.in_default.ensures.made) c.all_rounds.new.fold.inner (subst (λ (rows : Rows). RoundGoes input [] (event_ids rows) c.all_rounds.new.fold.inner (Ok tt)) (sym is.rows_are) (c.in_default-all_rounds.ensures.events input is folded)) (g.O.Outputs.state c.all_rounds.new.outputs) (subst (λ (rows : Rows). RoundMakes input [] (event_ids rows) (g.O.Outputs.state c.begin.new.outputs) (g.O.Outputs.state c.all_rounds.new.outputs) (Ok tt)) (sym is.rows_are) (c.in_default-all_rounds.ensures.files input is folded))
