@@ -51,15 +51,22 @@ impl Model for ReadyPart {
 /// The most cells for which the rows of ready cells of a part have places: 4 MiB of them.
 const MOST_READY_CELLS: u64 = 1 << 18;
 
+/// How many rows the ready cells of a block have at the most.
+fn rows_of(portfolio: &Portfolio, block: &EventBlock) -> u64 {
+    let occurrences = portfolio.occurrences(block.event).len() as u64;
+    let mut rows = 0u64;
+    for summaries in block.summaries.as_slice() {
+        let records = summaries.records.as_slice().len() as u64;
+        rows = rows.saturating_add(records.saturating_mul(occurrences));
+    }
+    rows
+}
+
 /// For how many cells the rows of ready cells of blocks may have places.
 fn cells_of_rows(portfolio: &Portfolio, samples: u32, blocks: &[EventBlock]) -> u64 {
     let mut rows = 0u64;
     for block in blocks {
-        let occurrences = portfolio.occurrences(block.event).len() as u64;
-        for summaries in block.summaries.as_slice() {
-            let records = summaries.records.as_slice().len() as u64;
-            rows = rows.saturating_add(records.saturating_mul(occurrences));
-        }
+        rows = rows.saturating_add(rows_of(portfolio, block));
     }
     rows.saturating_mul(u64::from(samples) + 1)
 }
@@ -142,7 +149,10 @@ fn ready_block(
         return Ok(None);
     }
     portfolio.keeps_periods();
-    let mut cells = Cells::new(alloc, portfolio.periods(), samples);
+    let rows = rows_of(portfolio, block) as usize;
+    let Ok(mut cells) = Cells::with_room(alloc, portfolio.periods(), samples, rows) else {
+        return Ok(None);
+    };
     if let Err(_) = add_block(portfolio, &mut cells, block) {
         return Ok(None);
     }

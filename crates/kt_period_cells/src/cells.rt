@@ -50,6 +50,27 @@ impl Cells {
         }
     }
 
+    /// The same with room for the rows of so many summaries and periods. An error is want of memory.
+    pub fn with_room(
+        alloc: Global,
+        periods: u32,
+        samples: u32,
+        count: usize,
+    ) -> Result<Self, OutOfMemory>
+        requires some { 1 ≤ periods }
+        requires few { periods ≤ 100000 }
+        requires some_samples { 1 ≤ samples }
+        requires few_samples { samples ≤ 1000 }
+        ensures value { IfOk result (λ made. made ≡ record { periods = periods; samples = samples; entries = [] }) }
+    {
+        let rows = Rows::with_room(alloc, periods, samples, count)?;
+        Ok(Cells {
+            rows,
+            offered: 0,
+            taken: 0,
+        })
+    }
+
     /// Adds a record's losses to the totals and maxima of the periods in which its event occurs. An error names the first
     /// pair and occurrence that pass a limit, or is want of memory; the cells then stand for what they stood for before.
     /// The periods of the occurrences are those of the cells, the sidx at most their samples, and each loss at most 10^16

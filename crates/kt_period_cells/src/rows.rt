@@ -68,6 +68,31 @@ impl Rows {
         }
     }
 
+    /// No rows yet, with room for so many. An error is want of memory.
+    pub(crate) fn with_room(
+        alloc: Global,
+        periods: u32,
+        samples: u32,
+        count: usize,
+    ) -> Result<Self, OutOfMemory>
+        requires some { 1 ≤ periods }
+        requires few { periods ≤ 100000 }
+        requires some_samples { 1 ≤ samples }
+        requires few_samples { samples ≤ 1000 }
+        ensures value { IfOk result (λ made. made ≡ record { periods = periods; samples = samples; rows = [] }) }
+    {
+        let rows = Vec::with_capacity(alloc, count)?;
+        let index = HashMap::with_capacity(alloc, count)?;
+        Ok(Rows {
+            alloc,
+            periods,
+            samples,
+            held: 0,
+            rows,
+            index,
+        })
+    }
+
     /// Where memory is taken from.
     pub(crate) fn alloc(&self) -> Global {
         self.alloc
@@ -85,7 +110,8 @@ impl Rows {
         self.index.get(&index_key(key)).copied()
     }
 
-    /// Puts a row with no cells behind the others: one with a place for each sample, or one that lists its cells. An error is want of memory, and the rows are then as they were.
+    /// Puts a row with no cells behind the others: one with a place for each sample, or one that lists its cells. An error is want of memory,
+    /// and the rows are then as they were.
     fn open(&mut self, key: RowKey, wide: bool) -> Result<usize, OutOfMemory>
         requires first { 1 ≤ key.period }
         requires last { key.period ≤ self.old.periods }

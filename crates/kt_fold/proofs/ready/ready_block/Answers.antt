@@ -13,6 +13,6 @@ returns c = λ rows at_is.
     let block = c.args.block.now in
     let same : occurrences_of own block.event ≡ occurrences_of rows block.event =
     sym (at_is ∙ c.in_ok-extend_from_slice.ensures.items ∙ ap (λ (at : List Occurrence). at ++ c.occurrences.result.now) c.new-at.ensures.items ∙ c.occurrences.ensures.value) in
-    let empty : StandsFor [] c.new-cells.result = subst (StandsFor []) (sym c.new-cells.ensures.value) (record { cells = λ key. refl; count = refl }) in
-    let added = c.in_default.ensures.added [] empty in
+    let empty : StandsFor [] c.in-Ok.cells = subst (StandsFor []) (sym c.in-Ok.ensures.value) (record { cells = λ key. refl; count = refl }) in
+    let added = c.in_default-add_block.ensures.added [] empty in
     subst (λ (added : List Added). StandsFor added c.add_block.new.cells) (block_same own rows block (c.if-not-is_of_event.ensures refl) same) added.1
