@@ -39,6 +39,9 @@ pub fn push_blocks(
     requires good { AllByRecursion (λ block. AreSummaries samples block.summaries) blocks.now }
     ensures { OnOk result (out.new ≡ out.old ++ flat_map (block_text samples portfolio.now.rows file.now) blocks.now) }
 {
+    if !file.grows() {
+        return Ok(());
+    }
     for block in blocks {
         push_block(out, portfolio, samples, file, block)?;
     }
