@@ -1,5 +1,5 @@
 -- The rows that were made with the parts of a round, and the parts alone.
-use Rattle.std.proofs.Common.{◌≡◌, ◌∙◌, ◌<◌, ℕ, zero, suc, List, [], ◌∷◌, ◌++◌, length, map, slice_index_or, arith, refl, sym, ap, subst, Option, Some}
+use Rattle.std.proofs.Common.{◌≡◌, ◌∙◌, ◌<◌, ℕ, zero, suc, List, [], ◌∷◌, ◌++◌, length, map, slice_index_or, append-nil, arith, refl, sym, subst, Option, Some}
 use Rattle.std.specs.List.{flat_map}
 use Rattle.std.proofs.lemmas.List.{length-map}
 use Rattle.kt_ends.specs.declared.status.Refusal.{Refusal}
@@ -64,12 +64,8 @@ module _ (round : RoundParts) (start : FoldStart) (samples_are : start.samples �
   pub keeps_all : (count : ℕ) → Folded (IsTextPart round) (TextsStand start fold) [] count → KeepsRows fold
   keeps_all count folded =
       same_rows round.terms.samples fold.inner.cells.samples (folded.stand.parts.samples ∙ samples_are) round.rows fold.inner.rows (folded.stand.parts.same ∙ rows_are)
-      (rows_of folded.blocks) fold.made.items folded.stand.made (parts_of folded.blocks ++ []) fold.inner.kept (folded.stand.parts.taken.kept_are ∙ all (parts_of folded.blocks))
+      (rows_of folded.blocks) fold.made.items folded.stand.made (parts_of folded.blocks ++ []) fold.inner.kept (folded.stand.parts.taken.kept_are ∙ sym (append-nil (parts_of folded.blocks)))
       (given_rows round 0 folded.blocks [] folded.given)
-    where
-      all : (parts : List PartBlock) → parts ≡ parts ++ []
-      all [] = refl
-      all (part ∷ parts) = ap (λ (more : List PartBlock). part ∷ more) (all parts)
 
   -- the fold stopped in a part
   pub parts_stopped : (count number : ℕ) (stop : FoldStop) → StoppedAt (IsTextPart round) (TextsStop start fold) [] count number stop → StoppedAt (IsPart round) (StopsBehind start fold.inner) [] count number stop

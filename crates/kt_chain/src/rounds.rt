@@ -40,8 +40,8 @@ use std::thread::Threads;
 /// The parts of a round.
 const PARTS: usize = 16;
 
-/// What all rounds of a run share: what lends threads and the gate of the parts among it. Contracts see the portfolio, the terms, the files, how many workers there are and the size of
-/// a part.
+/// What all rounds of a run share: what lends threads and the gate of the parts among it. Contracts see the portfolio, the terms, the
+/// files, how many workers there are and the size of a part.
 #[derive(Drop)]
 pub(crate) struct Run<'a, R, G> {
     pub(crate) rt: &'a R,
