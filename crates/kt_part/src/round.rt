@@ -117,8 +117,8 @@ fn run_beside<R: Threads + Sync, W: Work + Sync>(
 
 /// One round: as many workers as `workers` says claim the numbers from 0 up to but not including `count` and make their blocks, the last
 /// of them on the calling thread and each other one in a thread of its own where one can be made, and the blocks are folded in the order
-/// of their numbers on the calling thread. An error is the first block that the fold refused, or want of memory. After all others the pass has every draw again, and each
-/// number below `count` was claimed exactly once.
+/// of their numbers on the calling thread. An error is the first block that the fold refused, or want of memory. After all others the
+/// pass has every draw again, and each number below `count` was claimed exactly once.
 pub fn run_round<R: Threads + Sync, W: Work + Sync, F: Fold<W::Block>>(
     rt: &R,
     alloc: Global,
