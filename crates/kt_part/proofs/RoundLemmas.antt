@@ -16,9 +16,9 @@ module _ {B : Type 0} (gives : ℕ → B → Type 0) (before : List B) where
   pub none : (stands : List B → Type 0) → stands before → Folded gives stands before 0
   none stands stand = record { blocks = []; many = refl; given = tt; stand = subst stands (sym (append-nil before)) stand }
 
-  -- nor is one taken where memory is wanting before the first
-  pub none-yet : (stands : List B → Type 0) → stands before → FoldedSome gives stands before
-  none-yet stands stand = record { count = 0; folded = none stands stand }
+  -- nor is one taken where memory is wanting before the first, of however many
+  pub none-yet : (stands : List B → Type 0) (most : ℕ) → stands before → FoldedSome gives stands before most
+  none-yet stands most stand = record { count = 0; within = omega arith; folded = none stands stand }
 
   -- one block more is taken
   pub one-more : (stands now : List B → Type 0) (count : ℕ) (folded : Folded gives stands before count) (block : B) → gives count block → now ((before ++ folded.blocks) ++ block ∷ []) → Folded gives now before (count + 1)

@@ -20,7 +20,7 @@ pub returns-clause-claims : goal.returns-clause-claims
 returns-clause-claims g c = claimed-after c.args.workers c.args.count c.gather-reorder.new.pass c.fold_held.result c.gather-reorder.ensures.claimed
 
 pub returns-in_default-clause-round : goal.returns-in_default-clause-round
-returns-in_default-clause-round g c start before = none-yet (g.W.Work.gives c.args.work.now) before (g.F.Fold.stands start c.args.fold.now)
+returns-in_default-clause-round g c start before = none-yet (g.W.Work.gives c.args.work.now) before (g.F.Fold.stands start c.args.fold.now) c.args.count
 
 pub returns-in_default-new-clause-round : goal.returns-in_default-new-clause-round
-returns-in_default-new-clause-round g c start before = none-yet (g.W.Work.gives c.args.work.now) before (g.F.Fold.stands start c.args.fold.now)
+returns-in_default-new-clause-round g c start before = none-yet (g.W.Work.gives c.args.work.now) before (g.F.Fold.stands start c.args.fold.now) c.args.count
