@@ -205,11 +205,10 @@ pub fn ground_up_lanes(
 ) -> Result<LossLanes, AllocError>
     requires random { is_loaded portfolio.now.need 0 table.Random ≡ true }
     requires samples { samples ≤ 1000 }
-    requires event { IsId event }
     requires cdfs { AreCdfs (length portfolio.now.rows.damage_bin_dict) cdfs.now }
     ensures rows { IfOk result (λ lanes. lanes.rows ≡ samples + 1) }
     ensures value { IfOk result (λ lanes. lanes.records ≡ ground_up_records portfolio.now.rows samples cut event cdfs.now) }
-    ensures good { IfOk result (λ lanes. All (IsLoss samples) lanes.records) }
+    ensures good { IsId event → IfOk result (λ lanes. All (IsLoss samples) lanes.records) }
 {
     portfolio.is_valid();
     let cdfs = held_cdfs(alloc, cdfs)?;
@@ -233,10 +232,9 @@ pub fn ground_up(
 ) -> Result<Records<LossRecord>, AllocError>
     requires random { is_loaded portfolio.now.need 0 table.Random ≡ true }
     requires samples { samples ≤ 1000 }
-    requires event { IsId event }
     requires cdfs { AreCdfs (length portfolio.now.rows.damage_bin_dict) cdfs.now }
     ensures value { IfOk result (λ records. records ≡ ground_up_records portfolio.now.rows samples cut event cdfs.now) }
-    ensures good { IfOk result (λ records. All (IsLoss samples) records) }
+    ensures good { IsId event → IfOk result (λ records. All (IsLoss samples) records) }
 {
     let lanes = ground_up_lanes(alloc, portfolio, samples, cut, event, cdfs)?;
     lanes.to_records(alloc)

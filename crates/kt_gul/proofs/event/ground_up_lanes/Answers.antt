@@ -23,7 +23,7 @@ returns-clause-value c =
     subst (λ (cdfs : List Cdf). IfOk c.lanes_of_held.result (λ lanes. lanes.records ≡ ground_up_records c.args.portfolio.now.rows c.args.samples c.args.cut c.args.event cdfs)) (c.deref.ensures.value ∙ (c.in_ok-cdfs.ensures.value ∙ same_cdfs c.args.cdfs.now)) c.lanes_of_held.ensures.value
 
 pub returns-clause-good : goal.returns-clause-good
-returns-clause-good c =
+returns-clause-good c is_id =
     IfOk-weaker c.lanes_of_held.result _ _ (λ lanes is.
     subst (λ (records : List LossRecord). All (IsLoss c.args.samples) records) (sym is)
-    (records_good c.args.portfolio.now.rows c.args.samples c.args.cut c.args.event c.args.cdfs.now c.is_valid.ensures.valid.in_range c.requires.cdfs c.requires.event)) (returns-clause-value c)
+    (records_good c.args.portfolio.now.rows c.args.samples c.args.cut c.args.event c.args.cdfs.now c.is_valid.ensures.valid.in_range c.requires.cdfs is_id)) (returns-clause-value c)
