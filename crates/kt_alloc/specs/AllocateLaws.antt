@@ -12,7 +12,8 @@ use Rattle.kt_fmtree.specs.RisingLaws.{rising-filter}
 use Rattle.kt_fmtree.specs.Carried.{Carried, AreCarried, IsCarriedBy}
 use Rattle.kt_alloc.specs.Placed.{levels_down, CanShare, unit_parts}
 use Rattle.kt_alloc.specs.declared.part.PlacedPart.{PlacedPart}
-use Rattle.kt_alloc.specs.DownLaws.{length-map_is, sum_by-map}
+use Rattle.std.proofs.lemmas.List.{length-map}
+use Rattle.kt_alloc.specs.DownLaws.{sum_by-map}
 use Rattle.kt_alloc.specs.PartsLaws.{tree_parts, tree_parts-shared, levels-given, levels-can, whole-losses, whole-few}
 
 -- ---- bounds
@@ -62,7 +63,7 @@ module _ (programme : Parts) (carried : Carried) (of : IsCarriedBy programme car
 
   -- they have places
   pub leaves-places : (parts : List PlacedPart) → parts ≡ leaves → AllByRecursion (λ part. part.place < length programme.leaves) parts
-  leaves-places parts are = subst (λ n. AllByRecursion (λ part. part.place < n) parts) (length-map_is (λ place. get_or programme.ids place 0) programme.leaves) (subst (λ ps. AllByRecursion (λ part. part.place < length (units_at programme 0)) ps) (sym are) leaves-can.places)
+  leaves-places parts are = subst (λ n. AllByRecursion (λ part. part.place < n) parts) (length-map programme.leaves (λ place. get_or programme.ids place 0)) (subst (λ ps. AllByRecursion (λ part. part.place < length (units_at programme 0)) ps) (sym are) leaves-can.places)
 
   -- they are the parts of the tree
   pub leaves-are : (tree : Tree) (loss : ℕ → ℕ) (is : IsProgramme tree programme) → AreCarried tree loss programme carried → unit_parts (units_at programme 0) leaves ≡ tree_parts tree loss whole tree.top_level (record { unit = get_or tree.tops node 0; amount = amount } ∷ [])

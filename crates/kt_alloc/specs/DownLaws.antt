@@ -18,12 +18,9 @@ use Rattle.kt_fmtree.specs.CarriedLaws.{children-of}
 use Rattle.kt_fmtree.specs.declared.node.Node.{Node}
 use Rattle.kt_alloc.specs.Placed.{weights, amounts_for, parts_from, children_of, no_node, node_at, given_by, level_down, levels_down, CanShare}
 use Rattle.kt_alloc.specs.declared.part.PlacedPart.{PlacedPart}
+use Rattle.std.proofs.lemmas.List.{length-map}
 
 -- ---- lists
-
-pub length-map_is : {X Y : Type 0} (g : X → Y) (xs : List X) → length (map g xs) ≡ length xs
-length-map_is g [] = refl
-length-map_is g (x ∷ xs) = ap suc (length-map_is g xs)
 
 length-take_le : {X : Type 0} (n : ℕ) (xs : List X) → length (take n xs) ≤ n
 length-take_le zero xs = omega arith
@@ -66,8 +63,8 @@ shares-length all weights given (w ∷ further) = ap suc (shares-length all weig
 
 -- children have an amount each
 pub amounts-length : (whole : Bool) (amount : ℕ) (children : List Carry) → length (amounts_for whole amount children) ≡ length children
-amounts-length true amount children = length-map_is total children
-amounts-length false amount children = shares-length amount (sum (weights children)) 0 (weights children) ∙ length-map_is _ children
+amounts-length true amount children = length-map children total
+amounts-length false amount children = shares-length amount (sum (weights children)) 0 (weights children) ∙ length-map children _
 
 places-from : (start n : ℕ) (amounts : List ℕ) → start + length amounts ≤ n → AllByRecursion (λ part. part.place < n) (parts_from start amounts)
 places-from start n [] fits = tt
@@ -132,7 +129,7 @@ row-can programme carried of level below = λ k d inside. one (get_or (get_or pr
         let few = of.few in
         subst (λ row. CanCarry row node) (sym (of.carried_are.rows_are level under))
         (record {
-          within = subst (λ n. node.start + node.width ≤ n) (sym (length-map_is (carry_of of.tree of.loss level) (units_at programme level))) right.within;
+          within = subst (λ n. node.start + node.width ≤ n) (sym (length-map (units_at programme level) (carry_of of.tree of.loss level))) right.within;
           few = omega (arith, sums node right, ground_up-few of.tree of.is.is of.loss level node.unit, sum-map of.loss of.tree.ids, few);
           profile = subst IsProfile (sym right.profile_is) (of.is.is.profiles (suc level) node.unit);
           value = omega (arith, right.tiv_is, of.is.is.values (suc level) node.unit);
@@ -140,13 +137,13 @@ row-can programme carried of level below = λ k d inside. one (get_or (get_or pr
 
 -- as many amounts are carried as there are units
 pub row-length : (programme : Parts) (carried : Carried) → IsCarriedBy programme carried → (level : ℕ) → level < length programme.levels → length (get_or carried.rows level []) ≡ length (units_at programme level)
-row-length programme carried of level below = ap length (of.carried_are.rows_are level (subst (λ n. level < n) of.is.levels_are below)) ∙ length-map_is _ (units_at programme level)
+row-length programme carried of level below = ap length (of.carried_are.rows_are level (subst (λ n. level < n) of.is.levels_are below)) ∙ length-map (units_at programme level) _
 
 -- ---- the next level
 
 pub nodes-places : (programme : Parts) (whole : Bool) (level next : ℕ) → level ≡ suc next → (parts : List PlacedPart) → CanShare programme whole level parts → AllByRecursion (λ part. part.place < length (get_or programme.levels next [])) parts
 nodes-places programme whole level next level_is parts can =
-    subst (λ n. AllByRecursion (λ part. part.place < n) parts) (ap (λ l. length (units_at programme l)) level_is ∙ length-map_is (λ (node : Node). node.unit) (get_or programme.levels next [])) can.places
+    subst (λ n. AllByRecursion (λ part. part.place < n) parts) (ap (λ l. length (units_at programme l)) level_is ∙ length-map (get_or programme.levels next []) (λ (node : Node). node.unit)) can.places
 
 pub can-next : (programme : Parts) (carried : Carried) → IsCarriedBy programme carried → (whole : Bool) (level next : ℕ) → level ≡ suc next → (parts given : List PlacedPart) → CanShare programme whole level parts → given ≡ level_down whole (get_or programme.levels next []) (get_or carried.rows next []) parts → CanShare programme whole next given
 can-next programme carried of whole level next level_is parts given can given_is =

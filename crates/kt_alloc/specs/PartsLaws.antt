@@ -3,7 +3,7 @@ use Rattle.std.proofs.Common.{◌≡◌, ℕ, zero, suc, ◌+◌, ◌<◌, ◌�
 use Rattle.std.specs.Cmp.{nat_eq_equiv}
 use Rattle.std.specs.List.{All, AllByRecursion, flat_map, list_any, sum_by}
 use Rattle.std.proofs.lemmas.Bool.{eqb-true}
-use Rattle.std.proofs.lemmas.List.{map-append, get_or-map}
+use Rattle.std.proofs.lemmas.List.{map-append, get_or-map, length-map}
 use Rattle.std.proofs.lemmas.List.Sums.{sum_by-cons}
 use Rattle.kt_money.specs.Sharing.{share_out}
 use Rattle.kt_rules.specs.Amounts.{total}
@@ -18,7 +18,7 @@ use Rattle.kt_fmtree.specs.CarriedLaws.{children-of, map-agree, map-map}
 use Rattle.kt_fmtree.specs.declared.node.Node.{Node}
 use Rattle.kt_alloc.specs.Placed.{weight, amounts_for, parts_from, children_of, no_node, node_at, given_by, level_down, levels_down, CanShare, unit_parts}
 use Rattle.kt_alloc.specs.declared.part.PlacedPart.{PlacedPart}
-use Rattle.kt_alloc.specs.DownLaws.{length-map_is, sum_by-map, amounts-length, nodes-places, can-next}
+use Rattle.kt_alloc.specs.DownLaws.{sum_by-map, amounts-length, nodes-places, can-next}
 
 -- ---- what the tree gives down
 
@@ -68,7 +68,7 @@ module _ (tree : Tree) (is : IsTree tree) (loss : ℕ → ℕ) where
       let units = tree.children (suc level) node.unit in
       let children = children-of tree (suc level) below node right (carry_of tree loss level) in
       let amounts = amounts_for whole amount (map (carry_of tree loss level) units) in
-      let long : length amounts ≡ length units = amounts-length whole amount (map (carry_of tree loss level) units) ∙ length-map_is (carry_of tree loss level) units in
+      let long : length amounts ≡ length units = amounts-length whole amount (map (carry_of tree loss level) units) ∙ length-map units (carry_of tree loss level) in
       let fits = right.within in
       let width : length units ≡ node.width = ap length (sym right.children_are) ∙ taken node.width (drop node.start below) (rest node.start node.width below fits) in
       ap (λ cs. unit_parts below (parts_from node.start (amounts_for whole amount cs))) children

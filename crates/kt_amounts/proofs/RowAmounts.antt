@@ -20,15 +20,11 @@ use Rattle.kt_period_cells.specs.SummaryRows.{cell_amount, cell_amounts, has_tot
 use Rattle.kt_period_cells.specs.SameKeys.{pos_same}
 use Rattle.kt_period_cells.proofs.PlacedCells.{placed_get, placed_low}
 use Rattle.kt_period_cells.proofs.RowCells.{cell_absent}
-use Rattle.kt_period_cells.proofs.SetRows.{row_is, row_past}
+use Rattle.kt_period_cells.proofs.SetRows.{row_is, row_past, entries}
 
 -- an entry
 abbrev Entry : Type 0
 Entry = CellKey × Cell
-
--- the entries of a row's cells
-abbrev entries : RowKey → SampleCells → List Entry
-entries row cells = map (λ one. (key_in row one.0, one.1)) cells
 
 -- ---- one more
 

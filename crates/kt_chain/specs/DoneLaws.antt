@@ -18,6 +18,7 @@ use Rattle.kt_tables.specs.Lookups.{event_ids}
 use Rattle.kt_chain.specs.Events.{RunInput, all_added, event_added, foot_of}
 use Rattle.kt_chain.specs.Outcome.{chain_outcome, event_refusal, reached_outcome, row_refusal, run_reaches}
 use Rattle.kt_chain.specs.Reached.{reached_from, unless_refused}
+use Rattle.kt_rec.specs.Options.{both_none}
 
 -- a run refuses nothing: all its events are done, no footprint row of one is refused, and none of the records that they add
 pub record RefusesNothing (run : RunInput) : Type 0 where
@@ -27,11 +28,6 @@ pub record RefusesNothing (run : RunInput) : Type 0 where
   pub records : first_refusal [] (all_added run (event_ids run.rows)) ≡ None
 
 -- ---- one event
-
--- of two refusals where none comes first, both are none
-both_none : (first second : Option Refusal) → option_or first second ≡ None → (first ≡ None) × (second ≡ None)
-both_none None second none = (refl, none)
-both_none (Some why) second none = cc
 
 -- no row is refused for want of memory
 never_memory : (earlier rows : List FootRow) → refused_after earlier rows ≡ Some stop.OutOfMemory → ⊥

@@ -17,6 +17,7 @@ use Rattle.kt_checks.specs.TableChecks.{IsPlaced, is_misplaced, none_at, sum_abo
 use Rattle.kt_keys.specs.Keys.{same_pair, same_triple}
 use Rattle.kt_keys.specs.Refusals.{refusal, first_of, over_stages}
 use Rattle.kt_checks.specs.Checks.{IsValid, KeepsCheck, first_refusal, checks_of}
+use Rattle.kt_rec.specs.Options.{both_none}
 
 -- ---- tests
 
@@ -130,17 +131,12 @@ sum_within {A} value rows none = from [] rows none (omega arith)
     from earlier [] h le = subst (λ all. sum_by value all ≤ 100000000000000) (sym (append-nil earlier)) le
     from earlier (row ∷ rows) h le = step (nat_lt 100000000000000 (sum_by value (earlier ++ row ∷ []))) earlier row rows refl h (from (earlier ++ row ∷ []) rows)
 
--- of two refusals where the first of them is none, both are none
-or_none : (one other : Option Refusal) → option_or one other ≡ None → (one ≡ None) × (other ≡ None)
-or_none None other none = (refl, none)
-or_none (Some found) other none = cc
-
 -- where nothing is refused over the stages, nothing is at each stage
 pub stage_none : (check : ℕ → Option Refusal) (stages stage : ℕ) → over_stages check stages ≡ None → stage < stages → check stage ≡ None
 unfolding over_stages
 stage_none check zero stage none below = absurd (omega arith)
 stage_none check (suc stages) stage none below =
-    let split = or_none (over_stages check stages) (check stages) none in
+    let split = both_none (over_stages check stages) (check stages) none in
     elim (cases_eq stage stages) [
       | inl same ↦ subst (λ n. check n ≡ None) (sym same) split.1
       | inr other ↦ stage_none check stages stage split.0 (omega arith)

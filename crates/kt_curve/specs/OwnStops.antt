@@ -11,24 +11,7 @@ use Rattle.kt_curve.specs.OwnLosses.{own_all, own_key_matches, own_loss, own_los
 use Rattle.kt_period_cells.specs.Standing.{first_stop, most_cells, most_total, or_else, stop_at}
 use Rattle.kt_period_cells.specs.declared.cell.CellStop.{CellStop}
 use Rattle.kt_period_cells.specs.declared.cell.CellStop.TheVariants as cell_stop
-
--- where neither of two causes stops, none does
-pub or_none : (first second : Option CellStop) → or_else first second ≡ None → (first ≡ None) × (second ≡ None)
-or_none None second none = (refl, none)
-or_none (Some stop) second none = cc
-
--- ---- one part behind the other
-
--- what stops losses behind others stops none of the two parts, where it is nothing
-pub stop_joined : (before first second : List KeyLoss) → first_stop before (first ++ second) ≡ or_else (first_stop before first) (first_stop (before ++ first) second)
-stop_joined before [] second = ap (λ (all : List KeyLoss). first_stop all second) (sym (append-nil before))
-stop_joined before (one ∷ first) second =
-    ap (or_else (stop_at before one)) (stop_joined (before ++ one ∷ []) first second ∙ ap (λ (all : List KeyLoss). or_else (first_stop (before ++ one ∷ []) first) (first_stop all second)) (append_assoc before (one ∷ []) first))
-    ∙ regrouped (stop_at before one) (first_stop (before ++ one ∷ []) first) (first_stop (before ++ (one ∷ first)) second)
-  where
-    regrouped : (a b c : Option CellStop) → or_else a (or_else b c) ≡ or_else (or_else a b) c
-    regrouped None b c = refl
-    regrouped (Some stop) b c = refl
+use Rattle.kt_period_cells.proofs.Walks.{neither_stops}
 
 -- the cells never stop for want of memory
 pub no_memory_stop : (before losses : List KeyLoss) → first_stop before losses ≡ Some cell_stop.OutOfMemory → ⊥
@@ -109,7 +92,7 @@ module _ (perspective : Perspective) (set : ℕ) (other : Perspective) where
   own_stop_behind : (before losses : List KeyLoss) → first_stop before losses ≡ None → first_stop (own before) (own losses) ≡ None
   own_stop_behind before [] none = refl
   own_stop_behind before (one ∷ losses) none =
-      let parts = or_none (stop_at before one) (first_stop (before ++ one ∷ []) losses) none in
+      let parts = neither_stops (stop_at before one) (first_stop (before ++ one ∷ []) losses) none in
       by (in_set perspective set one.key) refl parts.0 (own_stop_behind (before ++ one ∷ []) losses parts.1)
     where
       by : (here : Bool) → in_set perspective set one.key ≡ here → stop_at before one ≡ None → first_stop (own (before ++ one ∷ [])) (own losses) ≡ None → first_stop (own before) ((if here then shown one ∷ [] else []) ++ own losses) ≡ None

@@ -1,15 +1,11 @@
 -- Lemmas on rows that are carried up, level by level.
 use Rattle.std.proofs.Common.{◌≡◌, ℕ, suc, ◌+◌, ◌-◌, ◌<◌, ◌≤◌, List, [], ◌∷◌, ◌++◌, length, map, get_or, refl, sym, ap, subst, ◌∙◌, arith}
 use Rattle.std.specs.List.{All, range_with_len}
-use Rattle.std.proofs.lemmas.List.{map-append}
+use Rattle.std.proofs.lemmas.List.{map-append, length-map}
 use Rattle.std.proofs.lemmas.List.FromFn.{length-map-range_with_len, get_or-map-range_with_len, map-range_with_len_more}
 use Rattle.kt_rules.specs.declared.carry.Carry.{Carry}
 use Rattle.kt_fmtree.specs.Carried.{Carried, child_sum, node_carry, leaf_row, row_from, climbed_rows, CanCarry, CanClimb}
 use Rattle.kt_fmtree.specs.declared.node.Node.{Node}
-
-pub length-map_is : {X Y : Type 0} (g : X → Y) (xs : List X) → length (map g xs) ≡ length xs
-length-map_is g [] = refl
-length-map_is g (x ∷ xs) = ap suc (length-map_is g xs)
 
 -- rows and bases
 abbrev kept_as : List (List Carry) → List Carry → Carried
@@ -17,7 +13,7 @@ kept_as rows bases = record { rows = rows; bases = bases }
 
 -- how many there are
 pub count : {X Y : Type 0} (g : X → Y) (f : ℕ → Y) (xs : List X) (n : ℕ) → map g xs ≡ map f (range_with_len 0 n) → length xs ≡ n
-count g f xs n same = sym (length-map_is g xs) ∙ (ap length same ∙ length-map-range_with_len f 0 n)
+count g f xs n same = sym (length-map xs g) ∙ (ap length same ∙ length-map-range_with_len f 0 n)
 
 -- one more
 pub pushed : {X Y : Type 0} (g : X → Y) (f : ℕ → Y) (xs : List X) (x : X) (n : ℕ) → map g xs ≡ map f (range_with_len 0 n) → g x ≡ f n → map g (xs ++ x ∷ []) ≡ map f (range_with_len 0 (n + 1))
@@ -70,7 +66,7 @@ made g kept got levels leaves found row bases nodes n some n_is same kept_are go
 -- what can be climbed, as it is read
 pub climbs-along : {V : Type 0} (g : V → List Node) (kept got : List V) (leaves places losses : List ℕ) → got ≡ kept → places ≡ leaves → CanClimb (map g kept) (leaf_row leaves losses) (length (map g kept)) → CanClimb (map g got) (leaf_row places losses) (length got)
 climbs-along g kept got leaves places losses got_are places_are can =
-    let n = length-map_is g kept in
+    let n = length-map kept g in
     let there : CanClimb (map g kept) (leaf_row leaves losses) (length kept) = subst (λ m. CanClimb (map g kept) (leaf_row leaves losses) m) n can in
     let read_back : CanClimb (map g got) (leaf_row leaves losses) (length got) = subst (λ vs. CanClimb (map g vs) (leaf_row leaves losses) (length vs)) (sym got_are) there in
     subst (λ ps. CanClimb (map g got) (leaf_row ps losses) (length got)) (sym places_are) read_back

@@ -3,7 +3,7 @@ use Rattle.std.specs.Prelude.{◌≡◌, ℕ, zero, suc, ◌+◌, ◌≤◌, ◌
 use Rattle.std.specs.List.{AllByRecursion, IsDistinct, range_with_len, sum, sum_by}
 use Rattle.std.specs.Cmp.{nat_eq_equiv}
 use Rattle.std.proofs.Common.{refl, sym, ap, subst, ◌∙◌, arith}
-use Rattle.std.proofs.lemmas.List.{take-map}
+use Rattle.std.proofs.lemmas.List.{take-map, length-map}
 use Rattle.std.proofs.lemmas.List.FromFn.{get_or-map-range_with_len}
 use Rattle.std.proofs.lemmas.List.Sums.{sum_by-cons, sum-map}
 use Rattle.kt_rules.specs.Amounts.{total}
@@ -23,10 +23,6 @@ drop-map : {X Y : Type 0} (f : X → Y) (n : ℕ) (xs : List X) → drop n (map 
 drop-map f zero xs = refl
 drop-map f (suc n) [] = refl
 drop-map f (suc n) (x ∷ xs) = drop-map f n xs
-
-length-map_is : {X Y : Type 0} (f : X → Y) (xs : List X) → length (map f xs) ≡ length xs
-length-map_is f [] = refl
-length-map_is f (x ∷ xs) = ap suc (length-map_is f xs)
 
 -- what agrees at each of a list makes one list of it
 pub map-agree : {X Y : Type 0} (f g : X → Y) (xs : List X) → All (λ x. f x ≡ g x) xs → map f xs ≡ map g xs
@@ -150,7 +146,7 @@ module _ (tree : Tree) (parts : Parts) (is : IsProgramme tree parts) (losses : L
       one node right =
           subst (λ row. CanCarry row node) (sym (row_of-is level below))
           (record {
-            within = subst (λ n. node.start + node.width ≤ n) (sym (length-map_is (carry_of tree (loss_by tree.ids losses) level) (units_at parts level))) right.within;
+            within = subst (λ n. node.start + node.width ≤ n) (sym (length-map (units_at parts level) (carry_of tree (loss_by tree.ids losses) level))) right.within;
             few = omega (arith, sums node right, ground_up-few tree is.is (loss_by tree.ids losses) level node.unit, all, few);
             profile = subst IsProfile (sym right.profile_is) (is.is.profiles (suc level) node.unit);
             value = omega (arith, right.tiv_is, is.is.values (suc level) node.unit);

@@ -7,7 +7,7 @@ use Rattle.std.proofs.lemmas.List.Concat.{flat_map-cons}
 use Rattle.kt_period_cells.specs.Journal.{Adds}
 use Rattle.kt_period_cells.specs.Losses.{Added, KeyLoss, all_losses, losses_of}
 use Rattle.kt_period_cells.specs.Standing.{KeptCells, StandsFor, first_stop, or_else}
-use Rattle.kt_period_cells.proofs.Walks.{all_losses_push, first_stop_append}
+use Rattle.kt_period_cells.proofs.Walks.{all_losses_push, first_stop_append, neither_stops}
 use Rattle.kt_period_cells.specs.declared.cell.CellStop.{CellStop}
 use Rattle.kt_period_cells.specs.declared.cell.CellStop.TheVariants as cell_stop
 use Rattle.kt_ends.specs.declared.status.Refusal.{Refusal}
@@ -70,13 +70,9 @@ pub none_refused : (history more : List Added) → first_stop (all_losses histor
 none_refused history [] clear = refl
 none_refused history (one ∷ more) clear =
     let split = sym (ap (first_stop (all_losses history)) (flat_map-cons losses_of one more) ∙ first_stop_append (all_losses history) (losses_of one) (all_losses more)) ∙ clear in
-    let parts = both_none (first_stop (all_losses history) (losses_of one)) (first_stop (all_losses history ++ losses_of one) (all_losses more)) split in
+    let parts = neither_stops (first_stop (all_losses history) (losses_of one)) (first_stop (all_losses history ++ losses_of one) (all_losses more)) split in
     let behind : first_stop (all_losses (history ++ one ∷ [])) (all_losses more) ≡ None = ap (λ (before : List KeyLoss). first_stop before (all_losses more)) (all_losses_push history one) ∙ parts.1 in
     ap (λ (stop : Option CellStop). option_or (refusal_of one.entry.event stop) (first_refusal (history ++ one ∷ []) more)) parts.0 ∙ none_refused (history ++ one ∷ []) more behind
-  where
-    both_none : (first second : Option CellStop) → or_else first second ≡ None → (first ≡ None) × (second ≡ None)
-    both_none None second none = (refl, none)
-    both_none (Some stop) second none = cc
 
 -- the first records of summaries
 abbrev pub front_added : Rows → Summaries → ℕ → List Added

@@ -66,8 +66,3 @@ rows_behind P left limit rows others before now after text (Ok done) fed is same
 rows_behind P left limit rows others before now after text (Err stop) fed is same (inl stopped) = inl (stopped_behind left limit before now after text stop fed is stopped)
 rows_behind P left limit rows others before now after text (Err stop) fed is same (inr refused) =
     inr (text ++ refused.0, refused.1, whole_behind left limit before now after text refused.0 fed is refused.2, subst (λ (r : Result (List (List ℕ)) TableStop). Tells r refused.1) (same refused.0) refused.3, refused.4)
-
--- no record yet
-pub records_fresh : (kinds : List Kind) (out : List ℕ) → out ≡ out ++ records_bytes kinds []
-unfolding records_bytes
-records_fresh kinds out = sym (append-nil out)

@@ -8,14 +8,8 @@ use Rattle.kt_stream.specs.Pairs.{end_bytes, pair_bytes, pairs_bytes}
 use Rattle.kt_stream.specs.declared.entry.LossRecord.{LossRecord}
 use Rattle.kt_stream.specs.declared.entry.Pair.{Pair}
 use Rattle.kt_gul.specs.GroundUp.{pair_at, pairs_of, record_with, sidx_at}
-
--- one more number of a range
-pub range_more : (a n : ℕ) → range_with_len a (n + 1) ≡ range_with_len a n ++ (a + n) ∷ []
-range_more a n = ap (range_with_len a) (add-one n) ∙ from a n
-  where
-    from : (a n : ℕ) → range_with_len a (suc n) ≡ range_with_len a n ++ (a + n) ∷ []
-    from a zero = ap (λ x. x ∷ []) (omega arith)
-    from a (suc n) = ap (λ xs. a ∷ xs) (from (a + 1) n ∙ ap (λ x. range_with_len (a + 1) n ++ x ∷ []) (omega arith))
+use Rattle.kt_pairs.proofs.SumsLemmas.{range_more}
+use Rattle.kt_pairs.proofs.Kept.{with-end}
 
 -- the pairs with those of one more place
 pairs_upto : (f : ℕ → ℕ) (n : ℕ) → filter_map (λ place. pair_at place (f place)) (range_with_len 0 (n + 1)) ≡ filter_map (λ place. pair_at place (f place)) (range_with_len 0 n) ++ filter_map (λ place. pair_at place (f place)) (n ∷ [])
@@ -109,18 +103,12 @@ pub spelled_first : (f : ℕ → ℕ) (loss more : ℕ) (pair : Pair) (bytes wri
 spelled_first f loss more pair bytes written count is pair_is some none long written_is =
     subst (λ (used : ℕ). IsSpelled f 1 used written) (omega arith) (spelled_more f 0 loss 0 more pair bytes written (record { count = count; within = omega arith; used_is = refl; front_is = refl }) (omega arith) is pair_is some none long written_is)
 
--- pairs stand one after the other, with the end pair behind them
-pairs_bytes_are : (pairs : List Pair) → flat_map pair_bytes pairs ++ end_bytes ≡ pairs_bytes pairs
-unfolding pairs_bytes
-pairs_bytes_are [] = refl
-pairs_bytes_are (pair ∷ pairs) = append_assoc (pair_bytes pair) (flat_map pair_bytes pairs) end_bytes ∙ ap (λ rest. pair_bytes pair ++ rest) (pairs_bytes_are pairs)
-
 -- with the end pair all is written
 pub spelled_all : (f : ℕ → ℕ) (samples used : ℕ) (end : Pair) (bytes written : List ℕ) → IsSpelled f (samples + 2) used bytes → samples ≤ 1000 → end ≡ record { sidx = pos 0; loss = 0 } → written ≡ take (12 * used) bytes ++ (pair_bytes end ++ drop (12 * used + 12) bytes) → take (12 * (used + 1)) written ≡ pairs_bytes (pairs_of f samples)
 unfolding end_bytes pair_bytes
 spelled_all f samples used end bytes written here few end_is written_is =
     ap (λ k. take k written) (omega arith) ∙ (written_front used bytes (pair_bytes end) (drop (12 * used + 12) bytes) written (omega (arith, here.count, here.within)) (pair_length end) written_is
-    ∙ (ap (λ front. front ++ pair_bytes end) here.front_is ∙ (ap (λ (end : Pair). flat_map pair_bytes (pairs_below f (samples + 2)) ++ pair_bytes end) end_is ∙ pairs_bytes_are (pairs_of f samples))))
+    ∙ (ap (λ front. front ++ pair_bytes end) here.front_is ∙ (ap (λ (end : Pair). flat_map pair_bytes (pairs_below f (samples + 2)) ++ pair_bytes end) end_is ∙ with-end (pairs_of f samples))))
 
 -- no pairs have no bytes before the end pair
 pub no_pairs : (f : ℕ → ℕ) (samples used n : ℕ) (bytes : List ℕ) → IsSpelled f n used bytes → n ≡ samples + 2 → used ≡ 0 → pairs_of f samples ≡ []

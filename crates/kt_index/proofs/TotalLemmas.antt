@@ -17,12 +17,7 @@ use Rattle.kt_index.specs.declared.exposure.SummaryUnit.{SummaryUnit}
 use Rattle.kt_index.specs.declared.exposure.UnitCoverage.{UnitCoverage}
 use Rattle.kt_index.specs.Exposure.{AreOfOneSummary, unit_covers, summary_covers, IsTotalOf}
 use Rattle.kt_index.proofs.CoverLemmas.{list_any-filter}
-
--- pairs with the same parts are equal
-same_is : (one other : ℕ × ℕ) → same_pair one other ≡ true → one ≡ other
-same_is (a, b) (c, d) is =
-    let parts = and_parts (nat_eq a c) (nat_eq b d) is in
-    ap {B = ℕ × ℕ} (λ n. (n, b)) (eqb-true a c parts.0) ∙ ap {B = ℕ × ℕ} (λ n. (c, n)) (eqb-true b d parts.1)
+use Rattle.kt_keys.proofs.UnitTableLemmas.{same_is}
 
 -- the parts of pairs are compared both ways
 pairs_symm : (one other : ℕ × ℕ) → same_pair one other ≡ same_pair other one

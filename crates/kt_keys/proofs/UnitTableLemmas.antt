@@ -41,7 +41,7 @@ high-unit widths level unit above = and_miss (nat_lt level 13) (nat_lt unit (wid
     behind m n h = grind (arith, nat_tests)
 
 -- pairs with the same parts are equal
-same_is : (one other : ℕ × ℕ) → same_pair one other ≡ true → one ≡ other
+pub same_is : (one other : ℕ × ℕ) → same_pair one other ≡ true → one ≡ other
 same_is (a, b) (c, d) is =
     let parts = and_parts (nat_eq a c) (nat_eq b d) is in
     ap {B = ℕ × ℕ} (λ n. (n, b)) (eqb-true a c parts.0) ∙ ap {B = ℕ × ℕ} (λ n. (c, n)) (eqb-true b d parts.1)

@@ -40,7 +40,7 @@ kept-more pairs used next (suc less) pair bytes written here room is some none w
     }
 
 -- pairs stand one after the other, with the end pair behind them
-with-end : (pairs : List Pair) → flat_map pair_bytes pairs ++ end_bytes ≡ pairs_bytes pairs
+pub with-end : (pairs : List Pair) → flat_map pair_bytes pairs ++ end_bytes ≡ pairs_bytes pairs
 unfolding pairs_bytes
 with-end [] = refl
 with-end (pair ∷ pairs) = append_assoc (pair_bytes pair) (flat_map pair_bytes pairs) end_bytes ∙ ap (λ rest. pair_bytes pair ++ rest) (with-end pairs)

@@ -1,2 +1,2 @@
-mod Kept
-mod SumsLemmas
+pub mod Kept
+pub mod SumsLemmas

@@ -6,7 +6,7 @@ use Rattle.kt_runs.specs.Sidx.{pair_of, sidx_at}
 use Rattle.kt_pairs.specs.Sums.{pairs_upto}
 
 -- one more number of a range
-range_more : (a n : ℕ) → range_with_len a (n + 1) ≡ range_with_len a n ++ (a + n) ∷ []
+pub range_more : (a n : ℕ) → range_with_len a (n + 1) ≡ range_with_len a n ++ (a + n) ∷ []
 range_more a n = ap (range_with_len a) (add-one n) ∙ from a n
   where
     from : (a n : ℕ) → range_with_len a (suc n) ≡ range_with_len a n ++ (a + n) ∷ []

@@ -28,7 +28,7 @@ abbrev Entry : Type 0
 Entry = CellKey × Cell
 
 -- the entries of a row's cells
-abbrev entries : RowKey → SampleCells → List Entry
+abbrev pub entries : RowKey → SampleCells → List Entry
 entries row cells = map (λ one. (key_in row one.0, one.1)) cells
 
 -- ---- the row at a place

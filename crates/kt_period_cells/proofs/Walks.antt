@@ -18,6 +18,11 @@ or_else_else : (a b c : Option CellStop) → or_else (or_else a b) c ≡ or_else
 or_else_else (Some stop) b c = refl
 or_else_else None b c = refl
 
+-- where neither of two causes stops, none does
+pub neither_stops : (first second : Option CellStop) → or_else first second ≡ None → (first ≡ None) × (second ≡ None)
+neither_stops None second none = (refl, none)
+neither_stops (Some stop) second none = cc
+
 -- the first refusal among losses and further ones
 pub first_stop_append : (before xs ys : List KeyLoss) → first_stop before (xs ++ ys) ≡ or_else (first_stop before xs) (first_stop (before ++ xs) ys)
 first_stop_append before [] ys = rw (append-nil before) refl

@@ -8,7 +8,8 @@ use Rattle.kt_curve.specs.Average.{aal_heading_text}
 use Rattle.kt_curve.specs.Exceedance.{by_sidx, lec_heading_text}
 use Rattle.kt_period_cells.specs.Losses.{Added, KeyLoss, all_losses, losses_of}
 use Rattle.kt_curve.specs.OwnLosses.{own_records}
-use Rattle.kt_curve.specs.OwnStops.{no_memory_stop, or_none, own_not_stopped, stop_joined}
+use Rattle.kt_curve.specs.OwnStops.{no_memory_stop, own_not_stopped}
+use Rattle.kt_period_cells.proofs.Walks.{first_stop_append, neither_stops}
 use Rattle.kt_curve.specs.OwnTables.{own_averages, own_curves}
 use Rattle.kt_period_cells.specs.Standing.{first_stop, or_else}
 use Rattle.kt_period_cells.specs.declared.cell.CellStop.{CellStop}
@@ -27,6 +28,7 @@ use Rattle.kt_periods.specs.Adding.{all_added, first_refusal, record_refusal, re
 use Rattle.kt_periods.specs.PeriodTables.{contents_outcome, stream_table, table_text, table_unless}
 use Rattle.kt_periods.specs.declared.table.PeriodTable.{PeriodTable}
 use Rattle.kt_periods.specs.declared.table.PeriodTable.TheVariants.{AverageAnnualLoss, ExceedanceCurve}
+use Rattle.kt_rec.specs.Options.{both_none}
 
 -- ---- what is refused
 
@@ -37,11 +39,6 @@ refusal_none event (Some (cell_stop.Cells held)) never none = cc
 refusal_none event (Some (cell_stop.Period key held more)) never none = cc
 refusal_none event (Some cell_stop.OutOfMemory) never none = absurd (never refl)
 
--- of two refusals where none comes first, both are none
-both_none : (first second : Option Refusal) → option_or first second ≡ None → (first ≡ None) × (second ≡ None)
-both_none None second none = (refl, none)
-both_none (Some why) second none = cc
-
 -- the losses with those of one record more
 one_behind : (before : List Added) (added : Added) → all_losses (before ++ added ∷ []) ≡ all_losses before ++ losses_of added
 one_behind before added = flat_map-append losses_of before (added ∷ []) ∙ ap (λ (last : List KeyLoss). all_losses before ++ last) (append-nil (losses_of added))
@@ -51,14 +48,14 @@ not_stopped before [] none = refl
 not_stopped before (added ∷ later) none =
     let parts = both_none (record_refusal before added) (first_refusal (before ++ added ∷ []) later) none in
     let here : first_stop (all_losses before) (losses_of added) ≡ None = refusal_none added.entry.event (first_stop (all_losses before) (losses_of added)) (no_memory_stop (all_losses before) (losses_of added)) parts.0 in
-    stop_joined (all_losses before) (losses_of added) (all_losses later)
+    first_stop_append (all_losses before) (losses_of added) (all_losses later)
     ∙ (ap (λ (stop : Option CellStop). or_else stop (first_stop (all_losses before ++ losses_of added) (all_losses later))) here
     ∙ (ap (λ (losses : List KeyLoss). first_stop losses (all_losses later)) (sym (one_behind before added)) ∙ not_stopped (before ++ added ∷ []) later parts.1))
 
 pub not_refused : (before later : List Added) → first_stop (all_losses before) (all_losses later) ≡ None → first_refusal before later ≡ None
 not_refused before [] none = refl
 not_refused before (added ∷ later) none =
-    let parts = or_none (first_stop (all_losses before) (losses_of added)) (first_stop (all_losses before ++ losses_of added) (all_losses later)) (sym (stop_joined (all_losses before) (losses_of added) (all_losses later)) ∙ none) in
+    let parts = neither_stops (first_stop (all_losses before) (losses_of added)) (first_stop (all_losses before ++ losses_of added) (all_losses later)) (sym (first_stop_append (all_losses before) (losses_of added) (all_losses later)) ∙ none) in
     ap (λ (stop : Option CellStop). option_or (refusal_of added.entry.event stop) (first_refusal (before ++ added ∷ []) later)) parts.0
     ∙ not_refused (before ++ added ∷ []) later (ap (λ (losses : List KeyLoss). first_stop losses (all_losses later)) (one_behind before added) ∙ parts.1)
 

@@ -4,3 +4,4 @@ pub mod Rows
 pub mod Ranges
 pub mod FootRows
 pub mod Rising
+pub mod Options

@@ -37,12 +37,8 @@ use Rattle.kt_words.specs.declared.command.Command.TheVariants.{Aalcalc, Eve, Fm
 use Rattle.kt_split.specs.ByEvents.{losses_of_cdfs}
 use Rattle.kt_tools.specs.Needs.{base_need, base_tables, command_need, need_of, programme_tables, summary_tables}
 use Rattle.kt_split.specs.RunNeeds.{IsOfRun, each_loads, each_within, stage_needs}
-use Rattle.kt_split.specs.RunRows.{distributions_same, events_same, foot_same, ground_up_same, insured_same, item_summaries_same, items_known, net_same, output_summaries_same, outputs_known}
+use Rattle.kt_split.specs.RunRows.{distributions_same, events_same, foot_same, ground_up_same, insured_same, item_summaries_same, items_known, net_same, output_summaries_same, outputs_known, period_rows}
 use Rattle.kt_split.specs.SplitRuns.{EachFits, IsServed, IsSplitRun, Serves, footprint_of}
-
--- rows of the periods alone
-abbrev period_rows : List Occurrence → ℕ → List ReturnPeriod → Rows
-period_rows occurrence periods returns = record no_rows { occurrence = occurrence; periods = periods; returnperiods = returns }
 
 module _ (files : FileMap) (terms : Terms) (rows : Rows) (are : AreTerms terms) (loads : loaded files (chain_need terms) ≡ Ok rows) where
   abbrev foot : List ℕ

@@ -68,7 +68,7 @@ abbrev output_rows : List Item → List Coverage → List FmProgramme → List F
 output_rows items coverages programme outputs summaries = record no_rows { items = items; coverages = coverages; financial = record { programme = programme; policytc = []; profile = [] } ∷ []; fm_xref = outputs; fmsummaryxref = summaries }
 
 -- those of the periods
-abbrev period_rows : List Occurrence → ℕ → List ReturnPeriod → Rows
+abbrev pub period_rows : List Occurrence → ℕ → List ReturnPeriod → Rows
 period_rows occurrence periods returns = record no_rows { occurrence = occurrence; periods = periods; returnperiods = returns }
 
 -- the tree of a programme with its terms and profiles, over these items, coverages and outputs

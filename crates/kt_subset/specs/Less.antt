@@ -11,6 +11,7 @@ use Rattle.kt_checks.specs.SummaryChecks.{zero_above}
 use Rattle.kt_keys.specs.Refusals.{refusal, first_of, over_stages}
 use Rattle.kt_keys.specs.declared.need.Refusal.{Refusal}
 use Rattle.kt_rec.specs.declared.table.TableId.{TableId}
+use Rattle.kt_rec.specs.Options.{both_none}
 
 -- there is no refusal where there is no other one
 abbrev pub IsLess : Option Refusal → Option Refusal → Type 0
@@ -47,11 +48,6 @@ joined_less [] [] behind others_behind are later = later
 joined_less [] (more ∷ others) behind others_behind are later = absurd are
 joined_less (less ∷ refusals) [] behind others_behind are later = absurd are
 joined_less (less ∷ refusals) (more ∷ others) behind others_behind are later = (are.0, joined_less refusals others behind others_behind are.1 later)
-
--- both of two refusals
-both_none : (one other : Option Refusal) → option_or one other ≡ None → (one ≡ None) × (other ≡ None)
-both_none None other none = (refl, none)
-both_none (Some found) other none = cc
 
 -- refusals over the stages
 pub stages_less : (check other : ℕ → Option Refusal) (stages : ℕ) → ((stage : ℕ) → stage < stages → IsLess (check stage) (other stage)) → IsLess (over_stages check stages) (over_stages other stages)

@@ -12,6 +12,7 @@ use Rattle.kt_rec.specs.declared.exposure.Item.{Item}
 use Rattle.kt_keys.specs.Keys.{same_pair}
 use Rattle.kt_tables.specs.Lookups.{item_pairs, pair_of, pair_order}
 use Rattle.kt_tables.specs.PairLaws.{ArePairsRising, pairs-member, pairs-rise}
+use Rattle.kt_keys.proofs.UnitTableLemmas.{same_is}
 
 -- of two pairs not each stands before the other
 not_both : (a b c d : ℕ) → ordering_then (nat_cmp a c) (nat_cmp b d) ≡ Less → ordering_then (nat_cmp c a) (nat_cmp d b) ≡ Less → ⊥
@@ -20,12 +21,6 @@ not_both a b c d one other = grind (arith, common_steps)
 -- a pair is the same as itself
 itself : (p : ℕ × ℕ) → same_pair p p ≡ true
 itself p = grind (arith, nat_tests)
-
--- pairs with the same parts are equal
-same_is : (one other : ℕ × ℕ) → same_pair one other ≡ true → one ≡ other
-same_is (a, b) (c, d) is =
-    let parts = and_parts (nat_eq a c) (nat_eq b d) is in
-    ap {B = ℕ × ℕ} (λ n. (n, b)) (eqb-true a c parts.0) ∙ ap {B = ℕ × ℕ} (λ n. (c, n)) (eqb-true b d parts.1)
 
 -- what stands before pairs stands before one of them
 before_one : (x p : ℕ × ℕ) (pairs : List (ℕ × ℕ)) → AllByRecursion (λ z. pair_order x z ≡ Less) pairs → list_any (same_pair p) pairs ≡ true → pair_order x p ≡ Less

@@ -27,10 +27,7 @@ use Rattle.kt_tools.specs.Outcome.{command_outcome, over_tables, tool_outcome}
 use Rattle.kt_tools.specs.Uses.{command_uses}
 use Rattle.kt_tools.proofs.NeedLemmas.{uses_files}
 use Rattle.kt_words.specs.declared.command.Command.{Command}
-
--- a fact of what is told holds of what it is
-told_of : {A : Type 0} (P : A → Type 0) (told : Option A) (one : A) → told ≡ Some one → IfSome told P → P one
-told_of P told one is holds = subst (λ t. IfSome t P) is holds
+use Rattle.kt_front.proofs.Converting.{told_of}
 
 module _ (words : List (List ℕ)) (command : Command) (need : Need) (needs : command_need command ≡ Some need) (before now : InputsState) (outputs : OutputsState) (source : SourceState) (sink : SinkState) where
   abbrev uses : Uses

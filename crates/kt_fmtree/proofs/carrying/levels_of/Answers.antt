@@ -1,5 +1,6 @@
 use Rattle.std.proofs.Common.{◌≡◌, ◌+◌, ◌-◌, ap, sym, arith, length}
-use Rattle.kt_fmtree.proofs.RowLemmas.{count, base-climbs, made, length-map_is}
+use Rattle.std.proofs.lemmas.List.{length-map}
+use Rattle.kt_fmtree.proofs.RowLemmas.{count, base-climbs, made}
 use Rattle.kt_fmtree.proofs.carrying.levels_of.Goals as goal
 
 pub row_at-requires : goal.row_at-requires
@@ -15,5 +16,5 @@ base_row-requires c =
 pub returns : goal.returns
 returns c = record {
   value =
-      made _ _ _ _ _ _ _ _ _ (length c.args.levels.now) c.requires.some (sym (length-map_is _ c.args.levels.now)) c.in_ok-leaves.ensures.value c.in_ok-rows.ensures.value c.deref.ensures.value c.row_at.ensures.value c.nodes_at.ensures.value c.in_ok-bases.ensures.value;
+      made _ _ _ _ _ _ _ _ _ (length c.args.levels.now) c.requires.some (sym (length-map c.args.levels.now _)) c.in_ok-leaves.ensures.value c.in_ok-rows.ensures.value c.deref.ensures.value c.row_at.ensures.value c.nodes_at.ensures.value c.in_ok-bases.ensures.value;
 }
