@@ -96,7 +96,7 @@ fn read_rows_left<const N: usize, S: RowSink<N>>(
     Ok(())
 }
 
-/// Hands over the values of all records that a text has left.
+/// Hands over the values of all records that a text has left. An error is the first bad place, or want of memory.
 #[inline(never)]
 pub fn read_behind<const N: usize, S: RowSink<N>>(
     alloc: Global,
@@ -119,7 +119,7 @@ pub fn read_behind<const N: usize, S: RowSink<N>>(
     read_rows_left(&mut reader, &mut fields, count, floor, kinds, ordered, sink)
 }
 
-/// Hands over the values of all records of a text but the first.
+/// Hands over the values of all records of a text but the first. An error is the first bad place, or want of memory.
 #[inline(never)]
 pub fn read_behind_heading<const N: usize, S: RowSink<N>>(
     alloc: Global,

@@ -29,7 +29,7 @@ impl Model for CountedFile {
 }
 
 impl CountedFile {
-    /// A file with this name and no bytes.
+    /// A file with this name and no bytes. An error is want of memory.
     pub fn new(alloc: Global, name: &[u8]) -> Result<Self, AllocError>
         ensures { IfOk result (λ file. file ≡ record { name = name.now; bytes = [] }) }
     {

@@ -124,7 +124,7 @@ pub enum Refusal {
 /// How a run ended.
 #[derive(Drop)]
 pub enum Status {
-    /// The input was read to its end, and all output was taken.
+    /// All input was read, and all output was written.
     Done,
     /// The words are faulty; nothing was read or written.
     Words(WordStop),

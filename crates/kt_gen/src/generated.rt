@@ -13,7 +13,7 @@ use kt_out::SureInputs;
 use std::alloc::Global;
 
 /// The input files of a made-up set with so many items and events, which the seed alone determines beside them. Each item
-/// and event has a number from 1 on.
+/// and event has a number from 1 on. An error is want of memory.
 pub fn generate(
     alloc: Global,
     seed: u32,
@@ -37,7 +37,7 @@ pub fn generate(
     Ok(inputs)
 }
 
-/// The footprint's file of such a set alone, for a run whose other tables are loaded.
+/// The footprint's file of such a set alone, for a run whose other tables are loaded. An error is want of memory.
 pub fn generate_footprint(
     alloc: Global,
     seed: u32,

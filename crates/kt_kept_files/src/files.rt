@@ -65,7 +65,7 @@ impl Files {
         self.list[n as usize].name()
     }
 
-    /// Makes the name stand for these bytes.
+    /// Makes the name stand for these bytes. An error is want of memory.
     #[tactic(auto, using(crate::proofs::NamedFilesLemmas::file_changes))]
     pub fn put(&mut self, name: &[u8], bytes: &[u8]) -> Result<(), AllocError>
         ensures ok { OnOk result (self.new ≡ with_file self.old name.now bytes.now) }
@@ -86,7 +86,7 @@ impl Files {
         Ok(())
     }
 
-    /// Adds the piece behind what the name stands for, and behind nothing where it is new.
+    /// Adds the piece behind what the name stands for, and behind nothing where it is new. An error is want of memory.
     #[tactic(auto, using(crate::proofs::NamedFilesLemmas::file_changes))]
     pub fn append(&mut self, name: &[u8], piece: &[u8]) -> Result<(), AllocError>
         ensures ok { OnOk result (self.new ≡ with_file self.old name.now (written_so_far (bytes_of self.old) name.now ++ piece.now)) }

@@ -21,7 +21,7 @@ impl Model for NamedBytes {
 }
 
 impl NamedBytes {
-    /// A file with this name and these bytes.
+    /// A file with this name and these bytes. An error is want of memory.
     pub fn new(alloc: Global, name: &[u8], bytes: &[u8]) -> Result<Self, AllocError>
         ensures { IfOk result (λ file. file ≡ record { name = name.now; bytes = bytes.now }) }
     {
@@ -59,7 +59,7 @@ impl NamedBytes {
         self.bytes = bytes;
     }
 
-    /// Adds the piece behind its bytes.
+    /// Adds the piece behind its bytes. An error is want of memory.
     pub fn extend(&mut self, piece: &[u8]) -> Result<(), AllocError>
         ensures ok { OnOk result (self.new ≡ record self.old { bytes = self.old.bytes ++ piece.now }) }
 

@@ -6,7 +6,7 @@ use std::alloc::{AllocError, Global};
 /// The bytes that one read asks for at the least.
 pub const BLOCK: usize = 65_536;
 
-/// A block of zeros.
+/// A block of so many zeros. An error is want of memory.
 pub fn zeros(alloc: Global, size: usize) -> Result<Vec<u8>, AllocError>
     ensures { IfOk result (λ block. length block.items ≡ size) }
 {

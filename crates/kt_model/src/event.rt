@@ -142,7 +142,7 @@ fn put_event<E: Exit>(
 
 /// The distributions of an event, whose footprint has these rows: one for each pair of areaperil and vulnerability that some
 /// item has and that has one, by rising areaperil and then vulnerability. The damage bins must be loaded; where items or
-/// vulnerabilities are not, there is no distribution.
+/// vulnerabilities are not, there is no distribution. An error is the first row that is refused, or want of memory.
 pub fn distributions(
     alloc: Global,
     portfolio: &Portfolio,

@@ -13,8 +13,8 @@ pub trait Outputs {
     fn faults(&self) -> u64
         ensures { result ≡ (state self.now).faults };
 
-    /// Makes the name stand for no bytes, whatever it stood for. A refused call leaves the name as
-    /// it was or standing for no bytes. The count of faults rises exactly where `Failed` comes.
+    /// Makes the name stand for no bytes, whatever it stood for. Behind a refused call it stands for what it
+    /// stood for, or for nothing. The count of faults rises exactly where `Failed` comes.
     fn create(&mut self, name: &[u8]) -> Result<(), Fault>
         ensures ok { Creates (state self.old).written (state self.new).written name.now result }
 

@@ -9,7 +9,7 @@ use crate::sidx::place_of;
 use kt_stream::Pair;
 use std::alloc::{AllocError, Global};
 
-/// As many zeros.
+/// As many zeros. An error is want of memory.
 pub fn zeros(alloc: Global, width: usize) -> Result<Vec<u64>, AllocError>
     ensures value { IfOk result (λ sums. Holds width (λ k. 0) sums.items) }
 {

@@ -70,7 +70,7 @@ impl MemInputs {
         }
     }
 
-    /// Makes the name stand for these bytes, whatever it stood for.
+    /// Makes the name stand for these bytes, whatever it stood for. An error is want of memory.
     #[tactic(auto, using(kt_kept_files::proofs::NamedFilesLemmas::file_names))]
     pub fn add(&mut self, name: &[u8], bytes: &[u8]) -> Result<(), AllocError>
         ensures ok { OnOk result (Sets (bytes_of self.old.files) name.now bytes.now (bytes_of self.new.files)) }
