@@ -112,10 +112,13 @@ fn is_same_file(one: OutputFile, other: OutputFile) -> bool
     }
 }
 
-/// The rows that were made for a file; `None` where none were.
+/// The rows that were made for a file; `None` where none were, and for a table over all periods, to which events add no row.
 pub fn find_rows<'a>(made: &'a [FileRows], file: &OutputFile) -> Option<&'a Bytes>
     ensures { (samples : ℕ) (rows : Rows) (blocks : List EventBlock) → AreRowsOf samples rows blocks made.now → IfSome result (λ text. text.now ≡ flat_map (block_text samples rows file.now) blocks) }
 {
+    if !file.grows() {
+        return None;
+    }
     for one in made {
         if is_same_file(one.file, *file) {
             return Some(&one.text);
