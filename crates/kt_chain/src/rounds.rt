@@ -135,10 +135,11 @@ fn fold_round<R: Threads + Sync, G: Gate + Sync>(
 }
 
 /// Appends the rows of the parts that are kept to the files, and lets the parts go. The workers have made the rows, but for those of a part
-/// of which a front alone is kept.
+/// of which a front alone is kept. The memory of the parts of the last round is not given back.
 fn write_kept<R, G, O: Outputs>(
     run: &Run<'_, R, G>,
     fold: &mut TextFold<'_>,
+    is_last: bool,
     outputs: &mut O,
 ) -> Result<(), Fault>
     requires fits { FitsRun run.now.terms.samples fold.old.inner }
@@ -158,7 +159,7 @@ fn write_kept<R, G, O: Outputs>(
     let answer = append_texts(run.alloc, outputs, run.files, &texts);
     match answer {
         Ok(()) => {
-            fold.let_go();
+            fold.let_go(is_last);
             Ok(())
         }
         Err(fault) => Err(fault),
@@ -172,6 +173,7 @@ fn one_round<R: Threads + Sync, G: Gate + Sync, I: Inputs, O: Outputs>(
     fold: &mut TextFold<'_>,
     given: &mut RoundRows,
     events: &[u32],
+    is_last: bool,
     inputs: &mut I,
     outputs: &mut O,
 ) -> Result<(), ToolStop>
@@ -193,7 +195,7 @@ fn one_round<R: Threads + Sync, G: Gate + Sync, I: Inputs, O: Outputs>(
         Ok(refusal) => refusal,
         Err(_) => return Err(ToolStop::NoMemory),
     };
-    if let Err(fault) = write_kept(run, fold, outputs) {
+    if let Err(fault) = write_kept(run, fold, is_last, outputs) {
         return Err(write_stop(fault));
     }
     match refusal {
@@ -224,7 +226,8 @@ pub(crate) fn all_rounds<R: Threads + Sync, G: Gate + Sync, I: Inputs, O: Output
     let mut rest = run.portfolio.events();
     while !rest.is_empty() {
         let (round, later) = rest.split_at(rest.len().min(size));
-        if let Err(stop) = one_round(run, fold, &mut given, round, inputs, outputs) {
+        let is_last = later.is_empty();
+        if let Err(stop) = one_round(run, fold, &mut given, round, is_last, inputs, outputs) {
             return Err(stop);
         }
         rest = later;

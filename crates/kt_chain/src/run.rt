@@ -118,9 +118,9 @@ fn write_run<R: Threads + Sync, G: Gate + Sync, I: Inputs, O: Outputs>(
 /// footprint rows to its summaries, and writes the tables. An error is why the first event that is refused is so, by its
 /// footprint rows or by a record that passes a limit: then the files hold the rows of the events before it, and those over all
 /// periods nothing; or a fault of the input files or of the output files, or want of memory: then some front of the files is
-/// made, each with a front of its text. The memory of the cells of a run that comes to its end is not given back: the process ends
-/// then. Neither the number of workers nor the size of a part changes what is written. The making of part k of a round, counted from 0,
-/// begins with `gate.pass(k)`, by which a test sees what is made side by side.
+/// made, each with a front of its text. The memory of the cells of a run that comes to its end, and that of its last round, is not given
+/// back: the process ends then. Neither the number of workers nor the size of a part changes what is written. The making of part k of a
+/// round, counted from 0, begins with `gate.pass(k)`, by which a test sees what is made side by side.
 pub fn run_chain<R: Threads + Sync, G: Gate + Sync, I: Inputs, O: Outputs>(
     rt: &R,
     gate: &G,

@@ -6,6 +6,7 @@ use kt_files::FileRows;
 use kt_fold::{FoldStop, ReadyPart, RunFold};
 use kt_part::Fold;
 use kt_stream::Records;
+use std::mem::{forget, replace};
 
 /// A part of a round with the rows that it adds to the files: the worker that makes the part makes them too, while its records are at hand.
 #[derive(Drop)]
@@ -33,13 +34,16 @@ impl<'a> TextFold<'a> {
         let _ = self.inner.samples();
     }
 
-    /// Keeps no part any more.
-    pub(crate) fn let_go(&mut self)
+    /// Keeps no part any more. The memory of those of the last round is not given back: what comes then is the end of the process.
+    pub(crate) fn let_go(&mut self, is_last: bool)
         ensures fold { self.new.inner ≡ record self.old.inner { kept = [] } }
         ensures made { self.new.made.items ≡ [] }
     {
-        self.inner.let_go();
-        self.made.clear();
+        self.inner.let_go(is_last);
+        let made = replace(&mut self.made, Vec::new(self.inner.cells().alloc()));
+        if is_last {
+            forget(made);
+        }
     }
 }
 

@@ -23,6 +23,7 @@ use kt_period_cells::{CellStop, Cells};
 use kt_tables::Portfolio;
 use std::alloc::Global;
 use std::marker::Model;
+use std::mem::{forget, replace};
 
 /// Why a fold stopped.
 #[derive(Drop)]
@@ -174,11 +175,14 @@ impl<'a> RunFold<'a> {
         &self.kept
     }
 
-    /// Keeps no part any more.
-    pub fn let_go(&mut self)
+    /// Keeps no part any more. The memory of those of the last round is not given back: what comes then is the end of the process.
+    pub fn let_go(&mut self, is_last: bool)
         ensures { self.new ≡ record self.old { kept = [] } }
     {
-        self.kept.clear();
+        let kept = replace(&mut self.kept, Vec::new(self.cells.alloc()));
+        if is_last {
+            forget(kept);
+        }
     }
 
     /// Keeps a part whose blocks were added, and stops where a row was refused behind them.
