@@ -1,6 +1,6 @@
 -- Lanes that stand one behind the other in one list.
 use Rattle.std.proofs.Common.{append_assoc, ◌≡◌, ℕ, zero, suc, ◌+◌, ◌*◌, ◌<◌, ◌≤◌, ◌-◌, List, [], ◌∷◌, ◌++◌, length, take, drop, replicate, slice_index, slice_index_or, slice_set, refl, sym, ap, ◌∙◌, arith}
-use Rattle.std.proofs.lemmas.List.{length-drop, length-take-le, length-append, length-replicate, take_all, take_at, drop_at, take-append-le, drop-append-le, drop-drop, take-replicate, drop-replicate, get_or-replicate}
+use Rattle.std.proofs.lemmas.List.{length-drop, length-take-le, length-append, length-replicate, take_all, take_at, drop_at, take-append-drop, take-append-le, drop-append-le, drop-drop, drop-take, take-take, take-replicate, drop-replicate, get_or-replicate}
 use Rattle.kt_lanes.specs.Lanes.{AreLanes, AreWide, column}
 use Rattle.kt_lanes.specs.LaneLaws.{All-first}
 use Rattle.kt_lanes.specs.SideBySide.{cut}
@@ -30,6 +30,12 @@ pub cut-inside : (width count place : ℕ) → place < count → width * place +
 cut-inside width (suc count) zero below = omega arith
 cut-inside width (suc count) (suc place) below = omega (arith, cut-inside width count place (omega arith))
 cut-inside width zero place below = absurd (omega arith)
+
+-- so do the first so many
+few-inside : (width count few : ℕ) → few ≤ count → width * few ≤ width * count
+few-inside width count zero within = omega arith
+few-inside width zero (suc few) within = absurd (omega (arith, within))
+few-inside width (suc count) (suc few) within = omega (arith, few-inside width count few (omega (arith, within)))
 
 -- lanes behind others
 pub cut-append : (width n m : ℕ) (amounts more : List ℕ) → length amounts ≡ width * n → cut width (n + m) (amounts ++ more) ≡ cut width n amounts ++ cut width m more
@@ -137,6 +143,127 @@ set-long width count place amounts lane long below wide =
       length-drop (width * place) amounts,
     )
 
+-- ---- two lanes in the places of one another
+
+module _ (width count first second : ℕ) (amounts : List ℕ) (long : length amounts ≡ width * count) (order : first < second) (below : second < count) where
+  abbrev in_front : List ℕ
+  in_front = take (width * second) amounts
+
+  abbrev behind : List ℕ
+  behind = drop (width * second) amounts
+
+  abbrev first_lane : List ℕ
+  first_lane = take width (drop (width * first) in_front)
+
+  abbrev second_lane : List ℕ
+  second_lane = take width behind
+
+  -- what stands in front then, and what behind
+  abbrev pub new_front : List ℕ
+  new_front = take (width * first) in_front ++ (second_lane ++ drop width (drop (width * first) in_front))
+
+  abbrev pub new_back : List ℕ
+  new_back = first_lane ++ drop width behind
+
+  front-room : width * first + width ≤ width * second
+  front-room = cut-inside width second first order
+
+  pub back-room : width * second + width ≤ length amounts
+  back-room = omega (arith, long, cut-inside width count second below)
+
+  front-long : length in_front ≡ width * second
+  front-long = length-take-le (width * second) amounts (omega (arith, back-room))
+
+  behind-long : width ≤ length behind
+  behind-long = omega (arith, back-room, length-drop (width * second) amounts)
+
+  second-long : length second_lane ≡ width
+  second-long = length-take-le width behind behind-long
+
+  after-long : width ≤ length (drop (width * first) in_front)
+  after-long = omega (arith, front-room, front-long, length-drop (width * first) in_front)
+
+  first-long : length first_lane ≡ width
+  first-long = length-take-le width (drop (width * first) in_front) after-long
+
+  pub new_front-long : length new_front ≡ width * second
+  new_front-long =
+      omega (
+        arith,
+        front-room,
+        front-long,
+        second-long,
+        length-append (take (width * first) in_front) (second_lane ++ drop width (drop (width * first) in_front)),
+        length-append second_lane (drop width (drop (width * first) in_front)),
+        length-take-le (width * first) in_front (omega (arith, front-room, front-long)),
+        length-drop width (drop (width * first) in_front),
+        length-drop (width * first) in_front,
+      )
+
+  pub swapped-long : length (new_front ++ new_back) ≡ width * count
+  swapped-long =
+      omega (
+        arith,
+        long,
+        back-room,
+        first-long,
+        new_front-long,
+        length-append new_front new_back,
+        length-append first_lane (drop width behind),
+        length-drop width behind,
+        length-drop (width * second) amounts,
+      )
+
+  -- the second lane stands in the place of the first
+  abbrev one_set : List ℕ
+  one_set = take (width * first) amounts ++ (second_lane ++ drop width (drop (width * first) amounts))
+
+  rest-split : drop (width * first) amounts ≡ drop (width * first) in_front ++ behind
+  rest-split =
+      ap (drop (width * first)) (sym (take-append-drop (width * second) amounts))
+      ∙ drop-append-le (width * first) in_front behind (omega (arith, front-room, front-long))
+
+  one-split : one_set ≡ new_front ++ behind
+  one-split =
+      ap (λ (front : List ℕ). front ++ (second_lane ++ drop width (drop (width * first) amounts)))
+      (ap (take (width * first)) (sym (take-append-drop (width * second) amounts))
+      ∙ take-append-le (width * first) in_front behind (omega (arith, front-room, front-long)))
+      ∙ (ap (λ (rest : List ℕ). take (width * first) in_front ++ (second_lane ++ rest)) (ap (drop width) rest-split ∙ drop-append-le width (drop (width * first) in_front) behind after-long)
+      ∙ (ap (λ (rest : List ℕ). take (width * first) in_front ++ rest) (sym (append_assoc second_lane (drop width (drop (width * first) in_front)) behind))
+      ∙ sym (append_assoc (take (width * first) in_front) (second_lane ++ drop width (drop (width * first) in_front)) behind)))
+
+  both-set : take (width * second) one_set ++ (first_lane ++ drop width (drop (width * second) one_set)) ≡ new_front ++ new_back
+  both-set =
+      ap (λ (all : List ℕ). take (width * second) all ++ (first_lane ++ drop width (drop (width * second) all))) one-split
+      ∙ (ap (λ (front : List ℕ). front ++ (first_lane ++ drop width (drop (width * second) (new_front ++ behind)))) (take_at new_front behind (width * second) new_front-long)
+      ∙ ap (λ (back : List ℕ). new_front ++ (first_lane ++ drop width back)) (drop_at new_front behind (width * second) new_front-long))
+
+  first-is : (d : List ℕ) → first_lane ≡ slice_index_or (cut width count amounts) first d
+  first-is d =
+      sym (take-append-le width (drop (width * first) in_front) behind after-long)
+      ∙ (ap (take width) (sym rest-split) ∙ sym (cut-at width count amounts first d (omega (arith, order, below))))
+
+  pub cut-swap : cut width count (new_front ++ new_back) ≡ slice_set (slice_set (cut width count amounts) first (slice_index_or (cut width count amounts) second [])) second (slice_index_or (cut width count amounts) first [])
+  cut-swap =
+      let inside : first < count = omega (arith, order, below) in
+      ap (cut width count) (sym both-set)
+      ∙ (cut-set width count second one_set first_lane (set-long width count first amounts second_lane long inside second-long) below first-long
+      ∙ (ap (λ (all : List (List ℕ)). slice_set all second first_lane) (cut-set width count first amounts second_lane long inside second-long)
+      ∙ (ap (λ (lane : List ℕ). slice_set (slice_set (cut width count amounts) first lane) second first_lane) (sym (cut-at width count amounts second [] below))
+      ∙ ap (slice_set (slice_set (cut width count amounts) first (slice_index_or (cut width count amounts) second [])) second) (first-is []))))
+
+-- ---- the first lanes
+
+pub cut-take : (width count few : ℕ) (amounts : List ℕ) → few ≤ count → cut width few (take (width * few) amounts) ≡ take few (cut width count amounts)
+cut-take width count zero amounts within = refl
+cut-take width zero (suc few) amounts within = absurd (omega (arith, within))
+cut-take width (suc count) (suc few) amounts within =
+    let next : width * suc few ≡ width + width * few = omega arith in
+    let all = take (width + width * few) amounts in
+    ap (λ (n : ℕ). cut width (suc few) (take n amounts)) next
+    ∙ (ap (λ (lane : List ℕ). lane ∷ cut width few (drop width all)) (take-take width (width + width * few) amounts (omega arith))
+    ∙ ap (λ (lanes : List (List ℕ)). take width amounts ∷ lanes) (ap (cut width few) (drop-take width (width * few) amounts) ∙ cut-take width count few (drop width amounts) (omega (arith, within))))
+
 -- ---- what is kept
 
 module _ (width count : ℕ) (amounts : List ℕ) (long : length amounts ≡ width * count) (lanes : List (List ℕ)) (is : cut width count amounts ≡ lanes) (place : ℕ) (below : place < length lanes) where
@@ -176,3 +303,7 @@ module _ (width count : ℕ) (amounts : List ℕ) (long : length amounts ≡ wid
 
     pub written-set : cut width count written ≡ slice_set lanes place lane
     written-set = ap (cut width count) written-is ∙ (cut-set width count place amounts lane long place-below wide ∙ ap (λ all. slice_set all place lane) is)
+
+-- the first lanes stand within what is kept
+pub few-fit : (width count : ℕ) (amounts : List ℕ) → length amounts ≡ width * count → (lanes : List (List ℕ)) → cut width count amounts ≡ lanes → (few : ℕ) → few ≤ length lanes → width * few ≤ length amounts
+few-fit width count amounts long lanes is few within = omega (arith, long, few-inside width count few (omega (arith, within, ap length is, cut-count width count amounts)))

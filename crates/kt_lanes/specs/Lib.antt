@@ -1,6 +1,7 @@
 pub mod Lanes
 pub mod LaneLaws
 pub mod SideBySide
+pub mod Places
 pub mod BehindLaws
 pub mod Shares
 pub mod WeightLaws

@@ -1,6 +1,6 @@
 //! Lanes side by side: what each unit has sidx by sidx, one unit behind the other.
 //! The rules: docs/FINANCIAL_MODULE.md, "Levels".
-ghost use Rattle.std.specs.Prelude.{◌≡◌, ℕ, ◌+◌, ◌-◌, ◌*◌, ◌<◌, ◌^◌, [], ◌∷◌, ◌++◌, length, replicate, slice_index, slice_index_or, IfOk, OnErr, OnOk};
+ghost use Rattle.std.specs.Prelude.{◌≡◌, ℕ, ◌+◌, ◌-◌, ◌*◌, ◌<◌, ◌≤◌, ◌^◌, [], ◌∷◌, ◌++◌, drop, length, replicate, slice_index, slice_index_or, slice_set, take, IfOk, OnErr, OnOk};
 ghost use Rattle.kt_lanes.specs.Lanes.{AreLanes, AreWide, IsLane};
 ghost use Rattle.kt_lanes.specs.SideBySide.{HasMore, IsAdded, IsLessened};
 
@@ -8,6 +8,8 @@ use crate::amounts::{Amounts, OneLane};
 use crate::lane::no_amounts;
 use std::alloc::{AllocError, Global};
 use std::marker::Model;
+
+mod places;
 
 /// The amounts of units in cents, a lane each: what a unit has sidx by sidx. All lanes are as wide. Contracts see the list of the
 /// lanes; kept are the amounts of all, one lane behind the other.
@@ -47,6 +49,16 @@ fn take_from(lane: &mut [u64], less: &[u64])
     for k in 0..lane.len() {
         lane[k] = lane[k].saturating_sub(less[k]);
     }
+}
+
+/// Exchanges so many amounts that stand behind a place of one list with those that stand first in another.
+fn exchange(front: &mut [u64], start: usize, back: &mut [u64], width: usize)
+    requires front { start + width ≤ length front.old }
+    requires back { width ≤ length back.old }
+    ensures front { front.new ≡ take start front.old ++ (take width back.old ++ drop width (drop start front.old)) }
+    ensures back { back.new ≡ take width (drop start front.old) ++ drop width back.old }
+{
+    front[start..start + width].swap_with_slice(&mut back[..width]);
 }
 
 impl Lanes {
@@ -136,6 +148,26 @@ impl Lanes {
         self.width = width;
         self.count = count;
         Ok(())
+    }
+
+    /// Keeps the first so many lanes.
+    fn truncate(&mut self, count: usize)
+        requires within { count ≤ length self.old }
+        ensures value { self.new ≡ take count self.old }
+    {
+        self.amounts.truncate(self.width * count);
+        self.count = count;
+    }
+
+    /// Puts two lanes in the places of one another.
+    fn swap(&mut self, first: usize, second: usize)
+        requires order { first < second }
+        requires place { second < length self.old }
+        ensures value { self.new ≡ slice_set (slice_set self.old first (slice_index_or self.old second [])) second (slice_index_or self.old first []) }
+    {
+        let width = self.width;
+        let (front, back) = self.amounts.split_at_mut(width * second);
+        exchange(front, width * first, back, width);
     }
 
     /// Adds the amounts of a lane in cents to those of the lane in a place.

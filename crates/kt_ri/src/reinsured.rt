@@ -69,7 +69,7 @@ fn net_in_turn(
 }
 
 /// What a stage leaves of losses that are kept by lanes. They are put in turn first, so that the stage takes them as they stand, and what
-/// is left is made in their place: no lane is copied more than once.
+/// is left is made in their place: no lane is copied where no two records share one.
 pub(crate) fn net_in_place(
     alloc: Global,
     stage: &Structure,

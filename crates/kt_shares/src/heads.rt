@@ -2,7 +2,6 @@
 //! The rule: docs/FINANCIAL_MODULE.md, "Insured losses".
 ghost use Rattle.std.specs.Prelude.{◌≡◌, true, ℕ, ◌<◌, length, map, slice_index_or, IfOk};
 ghost use Rattle.std.specs.List.Sorted.{IsNonDecreasingBy, IsPermutation};
-ghost use Rattle.kt_lanes.specs.Lanes.{AreWide};
 ghost use Rattle.kt_shares.specs.LossLanes.{AreApart, AreInTurn, HaveLanes, head_at, lane_of, no_head};
 
 use kt_lanes::Lanes;
@@ -82,20 +81,19 @@ pub(crate) fn put_in_turn(heads: &mut [LossHead])
     }
 }
 
-/// The lanes of heads, in the order of the heads. An error is want of memory.
-pub(crate) fn copied_lanes(
+/// The lanes of heads, in the order of the heads, and no other. Where no two heads have the same lane, none is copied. An error is want of
+/// memory.
+pub(crate) fn turned_lanes(
     alloc: Global,
-    rows: usize,
     heads: &[LossHead],
-    lanes: &Lanes,
+    lanes: Lanes,
 ) -> Result<Lanes, AllocError>
-    requires have { HaveLanes lanes.now heads.now }
-    requires wide { AreWide rows lanes.now }
-    ensures value { IfOk result (λ made. made ≡ map (lane_of lanes.now) heads.now) }
+    requires have { HaveLanes lanes heads.now }
+    ensures value { IfOk result (λ made. made ≡ map (lane_of lanes) heads.now) }
 {
-    let mut made = Lanes::with_room(alloc, heads.len(), rows)?;
+    let mut places = Vec::with_capacity(alloc, heads.len())?;
     for head in heads {
-        made.push(lanes.lane(head.place))?;
+        places.push(head.place)?;
     }
-    Ok(made)
+    lanes.in_places(alloc, places)
 }

@@ -14,7 +14,7 @@ ghost use Rattle.kt_shares.specs.Table.{pairs_by_row, pairs_with};
 ghost use Rattle.kt_shares.specs.Taken.{AreIdLanes};
 
 use crate::heads::{
-    LossHead, are_apart, are_ids, are_in_turn, copied_lanes, put_in_turn, sort_by_id,
+    LossHead, are_apart, are_ids, are_in_turn, put_in_turn, sort_by_id, turned_lanes,
 };
 use crate::less::lessened;
 use crate::pairs::record_pairs;
@@ -242,8 +242,8 @@ impl LossLanes {
         Ok(LossLanes { rows, heads, lanes })
     }
 
-    /// The same records, with a lane for each of them, in their order, and no other. Lanes are copied only where they do not stand so. An
-    /// error is want of memory.
+    /// The same records, with a lane for each of them, in their order, and no other. Lanes that do not stand so are put so where they stand;
+    /// they are copied only where records share one. An error is want of memory.
     pub fn in_turn(self, alloc: Global) -> Result<LossLanes, AllocError>
         ensures rows { IfOk result (λ made. made.rows ≡ self.rows) }
         ensures records { IfOk result (λ made. made.records ≡ self.records) }
@@ -254,14 +254,14 @@ impl LossLanes {
         let rows = self.rows;
         let lanes = self.lanes;
         let mut heads = self.heads;
-        let copied = copied_lanes(alloc, rows, &heads, &lanes)?;
+        let turned = turned_lanes(alloc, &heads, lanes)?;
         put_in_turn(&mut heads);
-        Ok(LossLanes::of(rows, heads, copied))
+        Ok(LossLanes::of(rows, heads, turned))
     }
 
     /// What is left of the records where amounts in cents are taken from them, row by row, where the place of such amounts is named: a
     /// loss of which more is taken becomes 0. A record without a loss is left out, and so is each deviation. Lanes are copied only where
-    /// they do not stand in the order of the records, or records share one. An error is want of memory.
+    /// records share one. An error is want of memory.
     pub fn less(
         self,
         alloc: Global,
@@ -280,9 +280,9 @@ impl LossLanes {
         if are_apart(&heads) {
             return lessened(alloc, rows, &heads, lanes, taken, places);
         }
-        let copied = copied_lanes(alloc, rows, &heads, &lanes)?;
+        let turned = turned_lanes(alloc, &heads, lanes)?;
         put_in_turn(&mut heads);
-        lessened(alloc, rows, &heads, copied, taken, places)
+        lessened(alloc, rows, &heads, turned, taken, places)
     }
 }
 
@@ -339,9 +339,6 @@ impl RunLosses for LossLanes {
     }
 
     fn lanes_for(&self, alloc: Global, ids: &[u32], samples: u32) -> Result<Lanes, AllocError> {
-        if are_ids(&self.heads, ids) {
-            return copied_lanes(alloc, self.rows, &self.heads, &self.lanes);
-        }
         lanes_of_ids(alloc, ids, samples, self)
     }
 }

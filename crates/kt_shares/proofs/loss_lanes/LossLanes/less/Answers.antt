@@ -33,11 +33,8 @@ returns-then-are_apart-clause-records c =
     let less = subst (λ (heads : List LossHead). IfOk c.lessened.result (λ made. made.records ≡ records_less kept.rows taken (lane_records heads kept.lanes) places)) c.deref-then-are_apart.ensures.value c.lessened.ensures.records in
     subst (λ (run : LaneRun). IfOk c.lessened.result (λ made. made.records ≡ records_less run.rows taken run.records places)) c.self.view_is less
 
-pub copied_lanes-requires-clause-have : goal.copied_lanes-requires-clause-have
-copied_lanes-requires-clause-have c = subst (HaveLanes c.self.inside.lanes) (sym c.deref-2.ensures.value) c.self.invariant.have
-
-pub copied_lanes-requires-clause-wide : goal.copied_lanes-requires-clause-wide
-copied_lanes-requires-clause-wide c = c.self.invariant.wide
+pub turned_lanes-requires : goal.turned_lanes-requires
+turned_lanes-requires c = record { have = subst (HaveLanes c.self.inside.lanes) (sym c.deref-2.ensures.value) c.self.invariant.have }
 
 pub lessened-requires-2-clause-have : goal.lessened-requires-2-clause-have
 lessened-requires-2-clause-have c =
@@ -47,8 +44,8 @@ lessened-requires-2-clause-have c =
     let long : length made ≡ length heads = c.put_in_turn.ensures.many ∙ ap length c.deref_mut.ensures.value in
     let now_is : c.deref-3.result.now ≡ made = c.deref-3.ensures.value ∙ with_items_is kept.heads made (long ∙ sym kept.heads.ok.0) in
     let each = subst (λ (old : List LossHead). (k : ℕ) → k < length old → slice_index_or made k no_head ≡ head_at (slice_index_or old k no_head) k) c.deref_mut.ensures.value c.put_in_turn.ensures.each in
-    let as_many = c.in_ok-copied.ensures.value ∙ ap (map (lane_of kept.lanes)) c.deref-2.ensures.value in
-    subst (HaveLanes c.in_ok-copied.copied) (sym now_is) (turned-have heads made long each c.in_ok-copied.copied (ap length as_many ∙ length-map heads (lane_of kept.lanes)))
+    let as_many = c.in_ok-turned.ensures.value ∙ ap (map (lane_of kept.lanes)) c.deref-2.ensures.value in
+    subst (HaveLanes c.in_ok-turned.turned) (sym now_is) (turned-have heads made long each c.in_ok-turned.turned (ap length as_many ∙ length-map heads (lane_of kept.lanes)))
 
 pub lessened-requires-2-clause-apart : goal.lessened-requires-2-clause-apart
 lessened-requires-2-clause-apart c =
@@ -73,7 +70,7 @@ pub lessened-requires-2-clause-lanes : goal.lessened-requires-2-clause-lanes
 lessened-requires-2-clause-lanes c =
     let kept = c.self.inside in
     let wide = lanes-wide kept.rows kept.heads.items kept.lanes c.self.invariant.have c.self.invariant.wide in
-    subst (AreWide kept.rows) (sym (c.in_ok-copied.ensures.value ∙ ap (map (lane_of kept.lanes)) c.deref-2.ensures.value)) wide
+    subst (AreWide kept.rows) (sym (c.in_ok-turned.ensures.value ∙ ap (map (lane_of kept.lanes)) c.deref-2.ensures.value)) wide
 
 pub returns-clause-records : goal.returns-clause-records
 returns-clause-records c =
@@ -85,7 +82,7 @@ returns-clause-records c =
     let long : length made ≡ length heads = c.put_in_turn.ensures.many ∙ ap length c.deref_mut.ensures.value in
     let now_is : c.deref-3.result.now ≡ made = c.deref-3.ensures.value ∙ with_items_is kept.heads made (long ∙ sym kept.heads.ok.0) in
     let each = subst (λ (old : List LossHead). (k : ℕ) → k < length old → slice_index_or made k no_head ≡ head_at (slice_index_or old k no_head) k) c.deref_mut.ensures.value c.put_in_turn.ensures.each in
-    let copied_is = c.in_ok-copied.ensures.value ∙ ap (map (lane_of kept.lanes)) c.deref-2.ensures.value in
-    let less = subst (λ (heads : List LossHead). IfOk c.lessened-2.result (λ made. made.records ≡ records_less kept.rows taken (lane_records heads c.in_ok-copied.copied) places)) now_is c.lessened-2.ensures.records in
+    let turned_is = c.in_ok-turned.ensures.value ∙ ap (map (lane_of kept.lanes)) c.deref-2.ensures.value in
+    let less = subst (λ (heads : List LossHead). IfOk c.lessened-2.result (λ made. made.records ≡ records_less kept.rows taken (lane_records heads c.in_ok-turned.turned) places)) now_is c.lessened-2.ensures.records in
     subst (λ (run : LaneRun). IfOk c.lessened-2.result (λ made. made.records ≡ records_less run.rows taken run.records places)) c.self.view_is
-    (subst (λ (records : List LossRecord). IfOk c.lessened-2.result (λ made. made.records ≡ records_less kept.rows taken records places)) (turned-records heads made long each kept.lanes c.in_ok-copied.copied copied_is) less)
+    (subst (λ (records : List LossRecord). IfOk c.lessened-2.result (λ made. made.records ≡ records_less kept.rows taken records places)) (turned-records heads made long each kept.lanes c.in_ok-turned.turned turned_is) less)
