@@ -35,24 +35,22 @@ pub struct LevelRoom {
     pub given: PlacedLanes,
 }
 
-/// No amounts of units.
-fn no_parts(alloc: Global) -> PlacedLanes {
-    PlacedLanes {
-        places: Vec::new(alloc),
-        lanes: Lanes::new(alloc),
-    }
+/// No amounts of units, with room for those of so many units at so many sidx. An error is want of memory.
+fn no_parts(alloc: Global, count: usize, width: usize) -> Result<PlacedLanes, AllocError> {
+    let places = Vec::with_capacity(alloc, count)?;
+    let lanes = Lanes::with_room(alloc, count, width)?;
+    Ok(PlacedLanes { places, lanes })
 }
 
-/// Room to give lanes of so many sidx down. An error is want of memory.
-pub fn level_room_of(alloc: Global, width: usize) -> Result<LevelRoom, AllocError>
+/// Room to give lanes of so many sidx down to as many units of a level as `count` says: where there are more, the room grows, and its
+/// amounts are moved about in memory. An error is want of memory.
+pub fn level_room_of(alloc: Global, count: usize, width: usize) -> Result<LevelRoom, AllocError>
     ensures room { IfOk result (HasLevelRoom width) }
 {
     let room = room_of(alloc, width)?;
-    Ok(LevelRoom {
-        room,
-        parts: no_parts(alloc),
-        given: no_parts(alloc),
-    })
+    let parts = no_parts(alloc, count, width)?;
+    let given = no_parts(alloc, count, width)?;
+    Ok(LevelRoom { room, parts, given })
 }
 
 /// Puts places side by side behind others.

@@ -93,12 +93,12 @@ struct LayerRoom {
     policies: Vec<u64>,
 }
 
-/// Room for a layer at so many sidx. An error is want of memory.
-fn layer_room(alloc: Global, width: usize) -> Result<LayerRoom, AllocError>
+/// Room for a layer at so many sidx, and to give what it has down to so many units of a level. An error is want of memory.
+fn layer_room(alloc: Global, units: usize, width: usize) -> Result<LayerRoom, AllocError>
     ensures room { IfOk result (λ room. (parts : Parts) (lanes : List (List ℕ)) → HasLayerRoom parts lanes width room) }
 {
     let sums = no_sums(alloc, width)?;
-    let levels = level_room_of(alloc, width)?;
+    let levels = level_room_of(alloc, units, width)?;
     let policies = zeros(alloc, width)?;
     Ok(LayerRoom {
         sums,
@@ -153,18 +153,33 @@ fn push_layer(
     Ok(())
 }
 
-/// How many shares layers have in all: by rule 0 one each, and else one for each id beneath their tops.
-fn share_count(programme: &Programme, rule: u32, layers: &[TopLayer]) -> usize
+/// How many shares layers have: by rule 0 one each, and else one for each id beneath a layer's top.
+#[derive(Clone, Copy, Drop)]
+struct ShareCounts {
+    /// All layers together.
+    all: usize,
+    /// The layer with the most.
+    most: usize,
+}
+
+/// How many shares layers have.
+fn share_counts(programme: &Programme, rule: u32, layers: &[TopLayer]) -> ShareCounts
     requires layers { AllByRecursion (IsTopLayer programme.now) layers.now }
 {
     if rule == 0 {
-        return layers.len();
+        return ShareCounts {
+            all: layers.len(),
+            most: layers.len().min(1),
+        };
     }
-    let mut count: usize = 0;
+    let mut all: usize = 0;
+    let mut most: usize = 0;
     for one in layers {
-        count = count.saturating_add(programme.beneath(one.node).len());
+        let beneath = programme.beneath(one.node).len();
+        all = all.saturating_add(beneath);
+        most = most.max(beneath);
     }
-    count
+    ShareCounts { all, most }
 }
 
 /// No layers, with room for so many shares and for what so many layers have. An error is want of memory.
@@ -197,9 +212,11 @@ pub(crate) fn layer_lanes(
     requires climbed { IsClimbed programme.now lanes.now climbed.now }
     ensures value { IfOk result (λ made. AreLayers programme.now lanes.now climbed.now.width rule layers.now made) }
 {
-    let count = share_count(programme, rule, layers);
-    let mut made = no_layers(alloc, count, layers.len(), climbed.width)?;
-    let mut room = layer_room(alloc, climbed.width)?;
+    let counts = share_counts(programme, rule, layers);
+    let mut made = no_layers(alloc, counts.all, layers.len(), climbed.width)?;
+    // By rule 2 alone a layer gives level by level, to no more units of one than it has ids beneath.
+    let units = if rule == 2 { counts.most } else { 0 };
+    let mut room = layer_room(alloc, units, climbed.width)?;
     for one in layers {
         push_layer(
             alloc, programme, lanes, climbed, rule, *one, &mut room, &mut made,
