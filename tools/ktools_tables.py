@@ -165,8 +165,8 @@ def kind_under(column, rule):
 
 
 def bound_text(kind, units):
-    """A bound of a kind as it would stand in a text."""
-    return f"{units // 10**kind.decimals:,}" if units % 10**kind.decimals == 0 else f"{units / 10**kind.decimals}"
+    """A bound of a kind in units of the text: it is a whole number."""
+    return f"{units // 10**kind.decimals:,}"
 
 
 def why(kind, cause):
