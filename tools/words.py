@@ -129,9 +129,12 @@ def options_of(text, constant, tool):
     found = []
     for need, letters, form in ROW.findall(rows[2]):
         letters = re.findall(r"b'(.)'", letters)
-        found.append(Option(letters[-1], form_of(form), need, letters[0] if need == "OneOf" else "", MEANINGS[tool][letters[-1]]))
+        meaning = MEANINGS.get(tool, {}).get(letters[-1])
+        if meaning is None:
+            raise ValueError(f"{tool}: its option -{letters[-1]} has no meaning in tools/words.py")
+        found.append(Option(letters[-1], form_of(form), need, letters[0] if need == "OneOf" else "", meaning))
     if len(found) != int(rows[1]) or len(found) != len(MEANINGS.get(tool, {})):
-        raise ValueError(f"{tool}: has {rows[1]} options, of which {len(found)} are read and {len(MEANINGS.get(tool, {}))} have a meaning")
+        raise ValueError(f"{tool}: has {rows[1]} options, of which {len(found)} are read, and tools/words.py has {len(MEANINGS.get(tool, {}))}")
     return found
 
 
