@@ -5,7 +5,7 @@ use Rattle.std.proofs.Common.{append_assoc, append-nil, sym, ap, subst, ◌∙�
 use Rattle.std.proofs.lemmas.List.{length-append, map-append}
 use Rattle.kt_lanes.specs.Lanes.{column, AreWide, AreLanes}
 use Rattle.kt_lanes.specs.LaneLaws.{lanes-are, lanes-none, wide-both}
-use Rattle.kt_lanes.specs.SideBySide.{AreBehind, BeginsWith}
+use Rattle.kt_lanes.specs.SideBySide.{AreBehind}
 
 -- all are as wide
 pub behind-wide : (width count : ℕ) (amounts : ℕ → List ℕ) (before now : List (List ℕ)) → AreWide width before → AreBehind width count amounts before now → AreWide width now
@@ -46,15 +46,3 @@ behind-column width count amounts before now are k below =
 -- behind none they are all
 pub behind-all : (width count : ℕ) (amounts : ℕ → List ℕ) (before now : List (List ℕ)) → before ≡ [] → AreBehind width count amounts before now → AreLanes width count amounts now
 behind-all width count amounts before now none are = subst (AreLanes width count amounts) (sym (are.now_is ∙ ap (λ front. front ++ are.more) none)) are.more_are
-
--- what was there is in front of what was there and no lane
-pub begins-none : (old : List (List ℕ)) → BeginsWith old old
-begins-none old = ([], sym (append-nil old))
-
--- and of what more lanes were put behind
-pub begins-more : (old between now : List (List ℕ)) → BeginsWith old between → BeginsWith between now → BeginsWith old now
-begins-more old between now begins more = (begins.0 ++ more.0, more.1 ∙ (ap (λ lanes. lanes ++ more.0) begins.1 ∙ append_assoc old begins.0 more.0))
-
--- lanes stand behind it
-pub behind-begins : (width count : ℕ) (amounts : ℕ → List ℕ) (before now : List (List ℕ)) → AreBehind width count amounts before now → BeginsWith before now
-behind-begins width count amounts before now are = (are.more, are.now_is)
