@@ -30,7 +30,7 @@ pub struct TextFront<'a> {
 }
 
 /// Hands over the next rows of a text that stand there without quotes, as far as they are whole: they are the same whatever
-/// follows the text. It fails for want of memory alone.
+/// follows the text. It fails for want of memory alone; the sink has taken some of these rows then.
 #[inline(always)]
 pub fn read_front<'a, const N: usize, S: RowSink<N>>(
     start: TextFront<'a>,

@@ -1,12 +1,13 @@
 //! What an event adds to the output files.
 //! The rules: docs/OUTPUTS.md, "Files of a run".
-ghost use Rattle.std.specs.Prelude.{◌≡◌, ◌++◌, ◌≤◌, All, OnOk};
+ghost use Rattle.std.specs.Prelude.{◌≡◌, ◌++◌, ◌≤◌, All, OnOk, OnErr};
 ghost use Rattle.std.specs.List.{flat_map};
 ghost use Rattle.kt_period_cells.specs.Losses.{same_perspective};
 ghost use Rattle.kt_event.specs.Losses.{AreSummaries};
 ghost use Rattle.kt_files.specs.Parts.{block_text, is_of_set, record_rows, records_of_set};
 ghost use Rattle.kt_files.specs.declared.file.SetTable.TheVariants.{EventLoss, PeriodLoss};
 ghost use Rattle.kt_stream.specs.Summary.{IsSummary};
+ghost use Rattle.kt_stream.specs.Write.{BeginsWith};
 
 use crate::file::{OutputFile, SetTable};
 use crate::layers::push_layers;
@@ -58,7 +59,8 @@ fn push_event_losses(
     requires some { 1 ≤ samples }
     requires few { samples ≤ 1000 }
     requires records { All (IsSummary samples) records.now }
-    ensures { OnOk result (out.new ≡ out.old ++ flat_map (record_rows samples portfolio.now.rows EventLoss) records.now) }
+    ensures ok { OnOk result (out.new ≡ out.old ++ flat_map (record_rows samples portfolio.now.rows EventLoss) records.now) }
+    ensures kept { OnErr result (BeginsWith out.old out.new) }
 {
     for entry in records {
         elt_text(out, samples, entry)?;
@@ -76,7 +78,8 @@ fn push_period_losses(
     requires some { 1 ≤ samples }
     requires few { samples ≤ 1000 }
     requires records { All (IsSummary samples) records.now }
-    ensures { OnOk result (out.new ≡ out.old ++ flat_map (record_rows samples portfolio.now.rows PeriodLoss) records.now) }
+    ensures ok { OnOk result (out.new ≡ out.old ++ flat_map (record_rows samples portfolio.now.rows PeriodLoss) records.now) }
+    ensures kept { OnErr result (BeginsWith out.old out.new) }
 {
     for entry in records {
         plt_record_text(out, samples, entry, portfolio.occurrences(entry.event))?;
@@ -95,7 +98,8 @@ fn push_records(
     requires some { 1 ≤ samples }
     requires few { samples ≤ 1000 }
     requires records { All (IsSummary samples) records.now }
-    ensures { OnOk result (out.new ≡ out.old ++ flat_map (record_rows samples portfolio.now.rows table) records.now) }
+    ensures ok { OnOk result (out.new ≡ out.old ++ flat_map (record_rows samples portfolio.now.rows table) records.now) }
+    ensures kept { OnErr result (BeginsWith out.old out.new) }
 {
     match table {
         SetTable::EventLoss => push_event_losses(out, portfolio, samples, records),
@@ -118,6 +122,7 @@ pub(crate) fn push_block(
     requires few { samples ≤ 1000 }
     requires records { AreSummaries samples block.now.summaries }
     ensures value { OnOk result (out.new ≡ out.old ++ block_text samples portfolio.now.rows file.now block.now) }
+    ensures kept { OnErr result (BeginsWith out.old out.new) }
 {
     match *file {
         OutputFile::OfSet(set, table) => {

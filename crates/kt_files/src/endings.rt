@@ -1,12 +1,13 @@
 //! What comes behind the last event in output files.
 //! The rules: docs/OUTPUTS.md, "Files of a run".
-ghost use Rattle.std.specs.Prelude.{◌≡◌, ◌++◌, List, OnOk};
+ghost use Rattle.std.specs.Prelude.{◌≡◌, ◌++◌, List, OnOk, OnErr};
 ghost use Rattle.kt_period_cells.specs.Losses.{Added, all_losses};
 ghost use Rattle.kt_period_cells.specs.Standing.{StandsFor};
 ghost use Rattle.kt_files.specs.EndTexts.{AreEndTexts};
 ghost use Rattle.kt_files.specs.Parts.{end_text, table_end};
 ghost use Rattle.kt_periods.specs.PeriodTables.{table_text};
 ghost use Rattle.kt_periods.specs.declared.table.PeriodTable.TheVariants.{AverageAnnualLoss, ExceedanceCurve};
+ghost use Rattle.kt_stream.specs.Write.{BeginsWith};
 ghost use Rattle.kt_tables.specs.Lookups.{return_periods_of};
 
 use crate::curves::{curves_of, find};
@@ -27,7 +28,8 @@ fn push_averages(
     cells: &Cells,
     set: SummarySet,
 ) -> Result<(), OutOfMemory>
-    ensures { (history : List Added) → StandsFor history cells.now → OnOk result (out.new ≡ out.old ++ table_text AverageAnnualLoss set.perspective set.set cells.now.periods cells.now.samples (return_periods_of portfolio.now.rows) (all_losses history)) }
+    ensures ok { (history : List Added) → StandsFor history cells.now → OnOk result (out.new ≡ out.old ++ table_text AverageAnnualLoss set.perspective set.set cells.now.periods cells.now.samples (return_periods_of portfolio.now.rows) (all_losses history)) }
+    ensures kept { OnErr result (BeginsWith out.old out.new) }
 {
     portfolio.is_valid();
     let returns = portfolio.return_periods();
@@ -49,7 +51,8 @@ fn push_curve(
     set: SummarySet,
     curve: Curve,
 ) -> Result<(), OutOfMemory>
-    ensures { (history : List Added) → AreEndTexts history endings.now → OnOk result (out.new ≡ out.old ++ table_text (ExceedanceCurve curve) set.perspective set.set endings.now.cells.now.periods endings.now.cells.now.samples (return_periods_of endings.now.portfolio.now.rows) (all_losses history)) }
+    ensures ok { (history : List Added) → AreEndTexts history endings.now → OnOk result (out.new ≡ out.old ++ table_text (ExceedanceCurve curve) set.perspective set.set endings.now.cells.now.periods endings.now.cells.now.samples (return_periods_of endings.now.portfolio.now.rows) (all_losses history)) }
+    ensures kept { OnErr result (BeginsWith out.old out.new) }
 {
     let maxima = takes_maxima(curve);
     match find(endings.curves, set, maxima) {
@@ -69,7 +72,8 @@ fn push_table(
     set: SummarySet,
     table: SetTable,
 ) -> Result<(), OutOfMemory>
-    ensures { (history : List Added) → AreEndTexts history endings.now → OnOk result (out.new ≡ out.old ++ table_end endings.now.cells.now.samples endings.now.portfolio.now.rows set table history) }
+    ensures ok { (history : List Added) → AreEndTexts history endings.now → OnOk result (out.new ≡ out.old ++ table_end endings.now.cells.now.samples endings.now.portfolio.now.rows set table history) }
+    ensures kept { OnErr result (BeginsWith out.old out.new) }
 {
     match table {
         SetTable::EventLoss | SetTable::PeriodLoss => Ok(()),
@@ -80,7 +84,8 @@ fn push_table(
 
 /// Appends what comes behind the last event in a file. An error is want of memory.
 fn push_ending(out: &mut Bytes, endings: &Endings<'_>, file: OutputFile) -> Result<(), OutOfMemory>
-    ensures { (history : List Added) → AreEndTexts history endings.now → OnOk result (out.new ≡ out.old ++ end_text endings.now.cells.now.samples endings.now.portfolio.now.rows history file) }
+    ensures ok { (history : List Added) → AreEndTexts history endings.now → OnOk result (out.new ≡ out.old ++ end_text endings.now.cells.now.samples endings.now.portfolio.now.rows history file) }
+    ensures kept { OnErr result (BeginsWith out.old out.new) }
 {
     match file {
         OutputFile::OfSet(set, table) => push_table(out, endings, set, table),

@@ -3,6 +3,7 @@
 ghost use Rattle.std.specs.Prelude.{◌≡◌, ◌++◌, OnErr, OnOk};
 ghost use Rattle.std.specs.List.{flat_map};
 ghost use Rattle.kt_files.specs.Parts.{layer_row, layers_heading_text};
+ghost use Rattle.kt_stream.specs.Write.{BeginsWith};
 
 use kt_insured::LayerSum;
 use kt_money::{Bytes, OutOfMemory, Row};
@@ -16,7 +17,8 @@ pub(crate) fn layers_heading() -> &'static [u8]
 
 /// Appends the row of a layer. An error is want of memory.
 fn push_layer(out: &mut Bytes, sum: LayerSum) -> Result<(), OutOfMemory>
-    ensures { OnOk result (out.new ≡ out.old ++ layer_row sum) }
+    ensures ok { OnOk result (out.new ≡ out.old ++ layer_row sum) }
+    ensures unchanged { OnErr result (out.new ≡ out.old) }
 {
     let mut row = Row::new();
     row.put_byte(b'\n');
@@ -34,7 +36,8 @@ fn push_layer(out: &mut Bytes, sum: LayerSum) -> Result<(), OutOfMemory>
 
 /// Appends the rows of layers. An error is want of memory.
 pub(crate) fn push_layers(out: &mut Bytes, layers: &[LayerSum]) -> Result<(), OutOfMemory>
-    ensures { OnOk result (out.new ≡ out.old ++ flat_map layer_row layers.now) }
+    ensures ok { OnOk result (out.new ≡ out.old ++ flat_map layer_row layers.now) }
+    ensures kept { OnErr result (BeginsWith out.old out.new) }
 {
     for sum in layers {
         push_layer(out, *sum)?;

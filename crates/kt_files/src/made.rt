@@ -1,12 +1,13 @@
 //! The rows that the blocks of some events add to the output files, made before they are written.
 //! The rules: docs/OUTPUTS.md, "Files of a run".
-ghost use Rattle.std.specs.Prelude.{◌≡◌, ◌++◌, ◌≤◌, ℕ, List, IfOk, IfSome, OnOk, true};
+ghost use Rattle.std.specs.Prelude.{◌≡◌, ◌++◌, ◌≤◌, ℕ, List, IfOk, IfSome, OnOk, OnErr, true};
 ghost use Rattle.std.specs.List.{AllByRecursion, flat_map};
 ghost use Rattle.kt_event.specs.Losses.{AreSummaries};
 ghost use Rattle.kt_event.specs.declared.block.EventBlock.{EventBlock};
 ghost use Rattle.kt_files.specs.MadeRows.{AreRowsOf};
 ghost use Rattle.kt_files.specs.Parts.{block_text};
 ghost use Rattle.kt_rec.specs.Rows.{Rows};
+ghost use Rattle.kt_stream.specs.Write.{BeginsWith};
 
 use crate::blocks::{is_same, push_block};
 use crate::file::{OutputFile, SetTable};
@@ -37,7 +38,9 @@ pub fn push_blocks(
     requires some { 1 ≤ samples }
     requires few { samples ≤ 1000 }
     requires good { AllByRecursion (λ block. AreSummaries samples block.summaries) blocks.now }
-    ensures { OnOk result (out.new ≡ out.old ++ flat_map (block_text samples portfolio.now.rows file.now) blocks.now) }
+    ensures ok { OnOk result (out.new ≡ out.old ++ flat_map (block_text samples portfolio.now.rows file.now) blocks.now) }
+
+    ensures kept { OnErr result (BeginsWith out.old out.new) }
 {
     if !file.grows() {
         return Ok(());

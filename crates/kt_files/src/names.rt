@@ -1,8 +1,9 @@
 //! The names of output files.
 //! The rules: docs/OUTPUTS.md, "Files of a run".
-ghost use Rattle.std.specs.Prelude.{◌≡◌, ◌++◌, OnOk};
+ghost use Rattle.std.specs.Prelude.{◌≡◌, ◌++◌, OnOk, OnErr};
 ghost use Rattle.kt_files.specs.OutputFiles.{curve_word, output_name, perspective_word, set_digit, table_word};
 ghost use Rattle.kt_files.specs.declared.file.OutputFile.TheVariants.{OfSet};
+ghost use Rattle.kt_stream.specs.Write.{BeginsWith};
 
 use crate::file::{OutputFile, SetTable};
 use kt_event::SummarySet;
@@ -54,7 +55,8 @@ fn set_digit(set: u32) -> &'static [u8]
 
 /// Appends the word of a table. An error is want of memory.
 fn push_table_word(table: SetTable, out: &mut Name) -> Result<(), AllocError>
-    ensures { OnOk result (out.new ≡ out.old ++ table_word table) }
+    ensures ok { OnOk result (out.new ≡ out.old ++ table_word table) }
+    ensures kept { OnErr result (BeginsWith out.old out.new) }
 {
     match table {
         SetTable::EventLoss => out.append(b"elt"),
@@ -69,7 +71,8 @@ fn push_table_word(table: SetTable, out: &mut Name) -> Result<(), AllocError>
 
 /// Appends the name of a table of a summary set. An error is want of memory.
 fn push_set_name(set: SummarySet, table: SetTable, out: &mut Name) -> Result<(), AllocError>
-    ensures { OnOk result (out.new ≡ out.old ++ output_name (OfSet set table)) }
+    ensures ok { OnOk result (out.new ≡ out.old ++ output_name (OfSet set table)) }
+    ensures kept { OnErr result (BeginsWith out.old out.new) }
 {
     out.append(perspective_word(set.perspective))?;
     out.append(b"_S")?;

@@ -1,7 +1,8 @@
 -- How far the lines of output files are written.
-use Rattle.std.proofs.Common.{◌≡◌, ℕ, ◌+◌, ◌<◌, ◌≤◌, List, ◌++◌, length, drop, get_or, sym, ◌∙◌, append_assoc}
+use Rattle.std.proofs.Common.{◌≡◌, ℕ, ◌+◌, ◌<◌, ◌≤◌, List, ◌++◌, length, drop, get_or, sym, ap, ◌∙◌, append_assoc}
 use Rattle.std.specs.Prelude.{map}
 use Rattle.std.proofs.lemmas.List.{append-nil, drop_all, drop_more}
+use Rattle.kt_cells.specs.Taking.{HasMore}
 use Rattle.kt_out.specs.NamedFiles.{FileMap}
 use Rattle.kt_gen.specs.FileLines.{file_lines, line_of}
 
@@ -19,3 +20,11 @@ pub lines-end : {A : Type 0} (texts : FileMap) (name : A → List ℕ) (start ou
     → out ++ file_lines texts (map name (drop done files)) ≡ start ++ file_lines texts (map name files) → out ≡ start ++ file_lines texts (map name files)
 unfolding file_lines
 lines-end texts name start out files done all now = sym (append-nil out) ∙ (rw (drop_all done files all) at now)
+
+-- what was there stands in front of more, and of more behind that
+pub begins-more : (old now next : List ℕ) → HasMore old now → HasMore now next → HasMore old next
+begins-more old now next begins more = (begins.0 ++ more.0, more.1 ∙ (ap (λ (text : List ℕ). text ++ more.0) begins.1 ∙ append_assoc old begins.0 more.0))
+
+-- of one piece more
+pub begins-piece : (old now piece next : List ℕ) → HasMore old now → next ≡ now ++ piece → HasMore old next
+begins-piece old now piece next begins is = begins-more old now next begins (piece, is)

@@ -1,6 +1,7 @@
 //! What a run of a generated set shows of its output files: a line for each.
 //! The rules: docs/GENERATOR.md, "What is shown of a run".
-ghost use Rattle.std.specs.Prelude.{◌≡◌, ◌++◌, List, ℕ, OnOk, map};
+ghost use Rattle.std.specs.Prelude.{◌≡◌, ◌++◌, List, ℕ, OnOk, OnErr, map};
+ghost use Rattle.kt_cells.specs.Taking.{HasMore};
 ghost use Rattle.kt_counted.specs.Counts.{counts_of};
 ghost use Rattle.kt_out.specs.NamedFiles.{bytes_of};
 ghost use Rattle.kt_gen.specs.FileLines.{file_line, file_lines, line_of};
@@ -13,7 +14,8 @@ use std::alloc::Global;
 
 /// Appends the line of a file with these counts. An error is want of memory.
 fn push_file_line(out: &mut Bytes, name: &[u8], counts: Counts) -> Result<(), OutOfMemory>
-    ensures { (text : List ℕ) → counts ≡ counts_of text → OnOk result (out.new ≡ out.old ++ file_line name.now text) }
+    ensures ok { (text : List ℕ) → counts ≡ counts_of text → OnOk result (out.new ≡ out.old ++ file_line name.now text) }
+    ensures kept { OnErr result (HasMore out.old out.new) }
 {
     out.append(name)?;
     out.push(b' ')?;
@@ -30,7 +32,8 @@ fn push_line_of<F: Named>(
     file: &F,
     outputs: &CountedOutputs,
 ) -> Result<(), OutOfMemory>
-    ensures { OnOk result (out.new ≡ out.old ++ line_of (F.name file.now) (bytes_of outputs.now (F.name file.now))) }
+    ensures ok { OnOk result (out.new ≡ out.old ++ line_of (F.name file.now) (bytes_of outputs.now (F.name file.now))) }
+    ensures kept { OnErr result (HasMore out.old out.new) }
 {
     let mut name = Name::new(alloc);
     file.push_name(&mut name)?;
@@ -49,6 +52,8 @@ pub fn push_file_lines<F: Named>(
     outputs: &CountedOutputs,
 ) -> Result<(), OutOfMemory>
     ensures ok { OnOk result (out.new ≡ out.old ++ file_lines (bytes_of outputs.now) (map F.name files.now)) }
+
+    ensures kept { OnErr result (HasMore out.old out.new) }
 {
     for file in files {
         push_line_of(alloc, out, file, outputs)?;

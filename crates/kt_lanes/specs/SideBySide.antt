@@ -8,6 +8,10 @@ abbrev pub cut : ℕ → ℕ → List ℕ → List (List ℕ)
 cut width zero amounts = []
 cut width (suc count) amounts = take width amounts ∷ cut width count (drop width amounts)
 
+-- the lanes that were there stand in front, and maybe more behind them
+abbrev pub BeginsWith : List (List ℕ) → List (List ℕ) → Type 0
+BeginsWith old now = (more : List (List ℕ)) × (now ≡ old ++ more)
+
 -- amounts for so many sidx were added to those of the lane in a place
 pub record HasMore (place width : ℕ) (amount : ℕ → ℕ) (before now : List (List ℕ)) : Type 0 where
   pub lane : List ℕ

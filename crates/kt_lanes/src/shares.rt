@@ -1,11 +1,11 @@
 //! Totals shared out over lanes, sidx by sidx.
 //! The rule: docs/CALCULATION.md, "Share-out".
-ghost use Rattle.std.specs.Prelude.{◌≡◌, ◌+◌, ◌-◌, ◌≤◌, ◌<◌, ◌^◌, ℕ, length, take, drop, IfOk, IfSome, OnOk, slice_index};
+ghost use Rattle.std.specs.Prelude.{◌≡◌, ◌+◌, ◌-◌, ◌≤◌, ◌<◌, ◌^◌, ℕ, length, take, drop, IfOk, IfSome, OnErr, OnOk, slice_index};
 ghost use Rattle.std.specs.List.{sum};
 ghost use Rattle.kt_money.specs.Sharing.{share_out};
 ghost use Rattle.kt_lanes.specs.Lanes.{column, AreWide, IsLane};
 ghost use Rattle.kt_lanes.specs.Shares.{CanShare, HasRoom};
-ghost use Rattle.kt_lanes.specs.SideBySide.{AreBehind};
+ghost use Rattle.kt_lanes.specs.SideBySide.{AreBehind, BeginsWith};
 
 use crate::lane::{clear, no_amounts};
 use crate::lanes::Lanes;
@@ -82,6 +82,7 @@ fn push_two(
     requires out { AreWide (length totals.now) out.old }
     requires can { CanShare totals.now (take 2 (drop start lanes.now)) }
     ensures value { OnOk result (AreBehind (length totals.now) 2 (λ k. share_out (slice_index totals.now k) (column k (take 2 (drop start lanes.now)))) out.old out.new) }
+    ensures kept { OnErr result (BeginsWith out.old out.new) }
 {
     let _all = lanes.len();
     let first = lanes.lane(start);
@@ -132,6 +133,7 @@ fn push_shares(
     ensures paid_wide { length paid.new.items ≡ length totals.now }
     ensures due_wide { length due.new.items ≡ length totals.now }
     ensures value { OnOk result (AreBehind (length totals.now) count (λ k. share_out (slice_index totals.now k) (column k (take count (drop start lanes.now)))) out.old out.new) }
+    ensures kept { OnErr result (BeginsWith out.old out.new) }
 {
     let _all = lanes.len();
     let bits = fill_weights(weights);
@@ -150,7 +152,8 @@ fn push_shares(
 }
 
 /// Puts totals in cents, shared out over lanes side by side, sidx by sidx, behind others. No total is above what these lanes have
-/// in all, so the last has what the others leave. What they have in all may be known. An error is want of memory.
+/// in all, so the last has what the others leave. What they have in all may be known. An error is want of memory; then some of the
+/// shares may stand behind what was there.
 pub fn share_lanes(
     totals: &[u64],
     lanes: &Lanes,
@@ -169,6 +172,7 @@ pub fn share_lanes(
     requires backed { (k : ℕ) → k < length totals.now → slice_index totals.now k ≤ sum (column k (take count (drop start lanes.now))) }
     ensures room { HasRoom (length totals.now) room.new }
     ensures value { OnOk result (AreBehind (length totals.now) count (λ k. share_out (slice_index totals.now k) (column k (take count (drop start lanes.now)))) out.old out.new) }
+    ensures kept { OnErr result (BeginsWith out.old out.new) }
 {
     if count == 0 {
         return Ok(());

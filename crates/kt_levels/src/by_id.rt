@@ -1,6 +1,6 @@
 //! Lanes of units, by rising id; and amounts of units given down a programme to the ids.
 //! The rule: docs/FINANCIAL_MODULE.md, "Allocation".
-ghost use Rattle.std.specs.Prelude.{◌≡◌, true, false, ℕ, ◌+◌, ◌-◌, ◌≤◌, ◌<◌, ◌^◌, ◌∷◌, [], length, map, slice_index, slice_index_or, All, IfOk, IfSome, OnOk};
+ghost use Rattle.std.specs.Prelude.{◌≡◌, true, false, ℕ, ◌+◌, ◌-◌, ◌≤◌, ◌<◌, ◌^◌, ◌∷◌, [], length, map, slice_index, slice_index_or, All, IfOk, IfSome, OnErr, OnOk};
 ghost use Rattle.std.specs.List.{flat_map, sum_by};
 ghost use Rattle.kt_rec.specs.Rising.{IsRising};
 ghost use Rattle.kt_tree.specs.Sharing.{part_of};
@@ -9,7 +9,7 @@ ghost use Rattle.kt_alloc.specs.Placed.{levels_down, unit_parts};
 ghost use Rattle.kt_alloc.specs.ById.{with_more};
 ghost use Rattle.kt_lanes.specs.Lanes.{column, AreWide, AreLanes};
 ghost use Rattle.kt_levels.specs.Climbed.{IsClimbed, carried_at};
-ghost use Rattle.kt_lanes.specs.SideBySide.{AreBehind};
+ghost use Rattle.kt_lanes.specs.SideBySide.{AreBehind, BeginsWith};
 ghost use Rattle.kt_levels.specs.Down.{ArePlaced, AreLevelSums, AreSumsOf, CanGiveBy, GivesAt, HasLevelRoom, given_losses, placed_at};
 
 use crate::climbing::{Climbed, lanes_at};
@@ -106,6 +106,7 @@ fn push_added(
     requires few { (k : ℕ) → k < width → sum_by (λ part. part.amount) (placed_at k parts.now) ≤ 10 ^ 17 }
     requires out { AreWide width out.old }
     ensures value { OnOk result (AreBehind width (length ids.now) (λ k. map (part_of (unit_parts (units_at programme.now 0) (placed_at k parts.now))) ids.now) out.old out.new) }
+    ensures kept { OnErr result (BeginsWith out.old out.new) }
 {
     let found = added_by_id(alloc, programme, ids, width, parts)?;
     out.append(width, &found)
@@ -149,6 +150,8 @@ fn push_by_id(
     requires out { AreWide width out.old }
     ensures room { OnOk result (HasLevelRoom width room.new) }
     ensures value { OnOk result (AreBehind width (length ids.now) (λ k. map (part_of (unit_parts (units_at programme.now 0) (flat_map (given_losses nodes.now (column k below.now)) (placed_at k room.old.parts)))) ids.now) out.old out.new) }
+    ensures kept { OnErr result (BeginsWith out.old out.new) }
+    ensures kept_room { OnErr result (HasLevelRoom width room.new) }
 {
     place_children(nodes, below, &room.parts.places, &mut room.given.places)?;
     if are_in_order(programme, ids, &room.given.places) {
@@ -187,6 +190,8 @@ pub(crate) fn ids_down(
     requires out { AreWide climbed.now.width out.old }
     ensures room { OnOk result (HasLevelRoom climbed.now.width room.new) }
     ensures value { OnOk result (AreBehind climbed.now.width (length ids.now) (λ k. map (part_of (unit_parts (units_at programme.now 0) (levels_down false programme.now.levels (carried_at programme.now lanes.now k).rows level (placed_at k room.old.parts)))) ids.now) out.old out.new) }
+    ensures kept { OnErr result (BeginsWith out.old out.new) }
+    ensures kept_room { OnErr result (HasLevelRoom climbed.now.width room.new) }
 {
     programme.is_of_a_tree();
     let next = level - 1;

@@ -1,13 +1,13 @@
 //! Amounts of units given down by lanes, from a level to the next one below.
 //! The rule: docs/FINANCIAL_MODULE.md, "Allocation".
-ghost use Rattle.std.specs.Prelude.{◌≡◌, ◌+◌, ◌-◌, ◌≤◌, ◌<◌, ◌^◌, ◌++◌, ◌∷◌, [], ℕ, true, false, length, map, All, IfOk, IfSome, OnOk, slice_index, slice_index_or};
+ghost use Rattle.std.specs.Prelude.{◌≡◌, ◌+◌, ◌-◌, ◌≤◌, ◌<◌, ◌^◌, ◌++◌, ◌∷◌, [], ℕ, true, false, length, map, All, IfOk, IfSome, OnErr, OnOk, slice_index, slice_index_or};
 ghost use Rattle.std.specs.List.{flat_map, range_with_len, sum};
 ghost use Rattle.kt_money.specs.Sharing.{share_out};
 ghost use Rattle.kt_alloc.specs.Placed.{node_at};
 ghost use Rattle.kt_lanes.specs.Lanes.{column, AreWide, IsLane};
 ghost use Rattle.kt_levels.specs.Units.{CanTake, child_losses};
 ghost use Rattle.kt_lanes.specs.Shares.{HasRoom};
-ghost use Rattle.kt_lanes.specs.SideBySide.{AreBehind};
+ghost use Rattle.kt_lanes.specs.SideBySide.{AreBehind, BeginsWith};
 ghost use Rattle.kt_levels.specs.Down.{ArePlaced, AreSumsOf, CanGiveBy, HasLevelRoom, amounts_of, child_places, given_losses, placed_at};
 
 use kt_fmtree::Node;
@@ -101,13 +101,14 @@ fn push_shares_of(
     requires out { AreWide (length totals.now) out.old }
     ensures room { HasRoom (length totals.now) room.new }
     ensures value { OnOk result (AreBehind (length totals.now) node.now.width (λ k. share_out (slice_index totals.now k) (child_losses (column k below.now) node.now)) out.old out.new) }
+    ensures kept { OnErr result (BeginsWith out.old out.new) }
 {
     share_lanes(totals, below, node.start, node.width, sums, room, out)?;
     Ok(())
 }
 
 /// Puts what amounts of the units of a level give to those of the level below behind other lanes, unit by unit. What the children of each
-/// have in all may be known. An error is want of memory.
+/// have in all may be known. An error is want of memory; then some of what they give may stand behind what was there.
 pub(crate) fn push_given(
     nodes: &[Node],
     width: usize,
@@ -123,6 +124,8 @@ pub(crate) fn push_given(
     requires out { AreWide width out.old }
     ensures room { OnOk result (HasRoom width room.new) }
     ensures value { OnOk result (AreBehind width (length (flat_map (child_places nodes.now) parts.now.places.items)) (λ k. amounts_of (flat_map (given_losses nodes.now (column k below.now)) (placed_at k parts.now))) out.old out.new) }
+    ensures kept { OnErr result (BeginsWith out.old out.new) }
+    ensures kept_room { OnErr result (HasRoom width room.new) }
 {
     for (at, place) in parts.places.iter().enumerate() {
         push_shares_of(&nodes[*place], below, parts.lanes.lane(at), sums, room, out)?;
@@ -148,6 +151,7 @@ pub(crate) fn level_by_unit(
     ensures given { OnOk result (ArePlaced width given.new) }
     ensures places { OnOk result (given.new.places.items ≡ flat_map (child_places nodes.now) parts.now.places.items) }
     ensures value { OnOk result ((k : ℕ) → k < width → placed_at k given.new ≡ flat_map (given_losses nodes.now (column k below.now)) (placed_at k parts.now)) }
+    ensures kept_room { OnErr result (HasRoom width room.new) }
 {
     place_children(nodes, below, &parts.places, &mut given.places)?;
     given.lanes.clear();
@@ -211,6 +215,7 @@ pub(crate) fn level_down(
     ensures room { OnOk result (HasLevelRoom width room.new) }
     ensures given { OnOk result (ArePlaced width room.new.parts) }
     ensures value { OnOk result ((k : ℕ) → k < width → placed_at k room.new.parts ≡ flat_map (given_losses nodes.now (column k below.now)) (placed_at k room.old.parts)) }
+    ensures kept_room { OnErr result (HasLevelRoom width room.new) }
 {
     if are_single(nodes, &room.parts.places) {
         return starts_down(nodes, &mut room.parts, &mut room.given);

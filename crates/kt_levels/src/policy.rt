@@ -1,6 +1,6 @@
 //! Policy losses by lanes, and what the ids beneath a top have of them.
 //! The rules: docs/FINANCIAL_MODULE.md, "Policy losses", "Allocation".
-ghost use Rattle.std.specs.Prelude.{◌≡◌, ◌⊎◌, ◌<◌, ◌≤◌, ◌^◌, ℕ, [], ◌∷◌, nat_eq, true, false, length, slice_index, slice_index_or, List, IfOk, OnOk, Some};
+ghost use Rattle.std.specs.Prelude.{◌≡◌, ◌⊎◌, ◌<◌, ◌≤◌, ◌^◌, ℕ, [], ◌∷◌, nat_eq, true, false, length, slice_index, slice_index_or, List, IfOk, OnErr, OnOk, Some};
 ghost use Rattle.std.specs.List.{list_any};
 ghost use Rattle.kt_rules.specs.LossAlone.{looks_back};
 ghost use Rattle.kt_tree.specs.Tree.{Tree, beneath, policy_loss};
@@ -11,7 +11,7 @@ ghost use Rattle.kt_lanes.specs.Lanes.{column, AreWide, IsLane};
 ghost use Rattle.kt_levels.specs.Climbed.{IsClimbed};
 ghost use Rattle.kt_levels.specs.Down.{ArePlaced, HasLevelRoom, placed_at};
 ghost use Rattle.kt_levels.specs.Policies.{HasSums, IsPolicy, IsTopBase};
-ghost use Rattle.kt_lanes.specs.SideBySide.{AreBehind};
+ghost use Rattle.kt_lanes.specs.SideBySide.{AreBehind, BeginsWith};
 
 use crate::by_id::ids_down;
 use crate::climbing::{Climbed, add_children, apply_lane, lanes_at, lanes_in};
@@ -134,6 +134,8 @@ fn shared_at_once(
     requires out { AreWide climbed.now.width out.old }
     ensures room { OnOk result (HasLevelRoom climbed.now.width room.new) }
     ensures value { OnOk result ((tree : Tree) → IsProgramme tree programme.now → AreBehind climbed.now.width (length (beneath tree (slice_index tree.tops node))) (λ k. shared_at_once tree (loss_by tree.ids (column k lanes.now)) (slice_index tree.tops node) layer) out.old out.new) }
+    ensures kept { OnErr result (BeginsWith out.old out.new) }
+    ensures kept_room { OnErr result (HasLevelRoom climbed.now.width room.new) }
 {
     programme.is_of_a_tree();
     let places = places_of(alloc, programme.ids(), programme.beneath(node))?;
@@ -176,6 +178,8 @@ fn shared_down(
     requires out { AreWide climbed.now.width out.old }
     ensures room { OnOk result (HasLevelRoom climbed.now.width room.new) }
     ensures value { OnOk result ((tree : Tree) → IsProgramme tree programme.now → AreBehind climbed.now.width (length (beneath tree (slice_index tree.tops node))) (λ k. shared_down tree (loss_by tree.ids (column k lanes.now)) (slice_index tree.tops node) layer) out.old out.new) }
+    ensures kept { OnErr result (BeginsWith out.old out.new) }
+    ensures kept_room { OnErr result (HasLevelRoom climbed.now.width room.new) }
 {
     programme.is_of_a_tree();
     place_top(node as usize, policy, &mut room.parts)?;
@@ -195,7 +199,8 @@ fn shared_down(
 
 /// Puts what each id beneath a top has, by rising id and sidx by sidx, of the policy losses in cents of a layer of the top behind
 /// other lanes. Rule 1 shares by the ground-up losses of the ids, rule 2 down the levels by what their units carry. The sums are what
-/// comes to the top. An error is want of memory.
+/// comes to the top. An error is want of memory; then some of the lanes may stand behind those that were there, and the room serves for
+/// other policy losses.
 pub fn allocate_lanes(
     alloc: Global,
     programme: &Programme,
@@ -218,6 +223,8 @@ pub fn allocate_lanes(
     requires out { AreWide climbed.now.width out.old }
     ensures room { OnOk result (HasLevelRoom climbed.now.width room.new) }
     ensures value { OnOk result ((tree : Tree) → IsProgramme tree programme.now → AreBehind climbed.now.width (length (beneath tree (slice_index tree.tops node))) (λ k. allocated tree (loss_by tree.ids (column k lanes.now)) rule (slice_index tree.tops node) layer) out.old out.new) }
+    ensures kept { OnErr result (BeginsWith out.old out.new) }
+    ensures kept_room { OnErr result (HasLevelRoom climbed.now.width room.new) }
 {
     if rule == 1 {
         shared_at_once(

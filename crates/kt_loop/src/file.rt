@@ -8,7 +8,7 @@ ghost use Rattle.kt_loop.specs.InputFile.{IsSized, file_bytes, left_from};
 use kt_out::{Fault, Inputs};
 
 /// Reads the next bytes of a file into the front of the block, from a place below its size on and none past the size; one
-/// at the least. An error is that the read failed, or want of memory of the input files.
+/// at the least. An error is that the read failed, or want of memory of the input files; nothing is said of the block then.
 pub fn read_piece<I: Inputs>(
     inputs: &mut I,
     name: &[u8],

@@ -10,7 +10,7 @@ use kt_stream::{Entry, Next, RecordReader, StreamStop, laws};
 use std::alloc::AllocError;
 
 /// Reads all records that are still to be read: what refuses the stream behind them, if anything does. An error is want
-/// of memory.
+/// of memory; the reader stands behind the records that were read before it then, as `advance` leaves it.
 pub fn read_records<E: Entry>(
     reader: &mut RecordReader<E>,
 ) -> Result<Option<StreamStop>, AllocError>

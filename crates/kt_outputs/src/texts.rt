@@ -4,7 +4,8 @@ use kt_money::{Bytes, OutOfMemory};
 
 /// A text for each file of a list, in pieces, each of which can be made without those before it.
 pub trait Texts<F> {
-    ghost use Rattle.std.specs.Prelude.{◌≡◌, ◌++◌, ℕ, List, [], length, slice_index_or, OnOk};
+    ghost use Rattle.std.specs.Prelude.{◌≡◌, ◌++◌, ℕ, List, [], length, slice_index_or, OnOk, OnErr};
+    ghost use Rattle.kt_stream.specs.Write.{BeginsWith};
 
     /// What tells the texts, as a list of records of which a value keeps the sums alone.
     ghost Start: { Type 0 };
@@ -22,5 +23,7 @@ pub trait Texts<F> {
     /// Appends a piece of the text of a file, counted from 0; behind the last one a piece is nothing. The error is want of memory;
     /// then some of the piece may stand behind what was there.
     fn push(&self, file: &F, piece: usize, out: &mut Bytes) -> Result<(), OutOfMemory>
-        ensures { (start : Start) → are_of start self.now → OnOk result (out.new ≡ out.old ++ slice_index_or (pieces_of start self.now file.now) piece []) };
+        ensures ok { (start : Start) → are_of start self.now → OnOk result (out.new ≡ out.old ++ slice_index_or (pieces_of start self.now file.now) piece []) }
+
+        ensures kept { OnErr result (BeginsWith out.old out.new) };
 }

@@ -1,7 +1,8 @@
 //! The tables over all periods, and their texts.
 //! The rules: docs/OUTPUTS.md, "Average annual loss table" and "Exceedance curve tables".
-ghost use Rattle.std.specs.Prelude.{◌≡◌, ◌≤◌, ◌++◌, ℕ, List, All, OnOk};
+ghost use Rattle.std.specs.Prelude.{◌≡◌, ◌≤◌, ◌++◌, ℕ, List, All, OnOk, OnErr};
 ghost use Rattle.kt_rec.specs.declared.perspective.Perspective.{Perspective};
+ghost use Rattle.kt_stream.specs.Write.{BeginsWith};
 ghost use Rattle.kt_period_cells.specs.Losses.{Added, all_losses};
 ghost use Rattle.kt_period_cells.specs.Standing.{KeptCells, StandsFor};
 ghost use Rattle.kt_curve.specs.Exceedance.{takes_maxima};
@@ -35,6 +36,8 @@ pub fn append_table(
 ) -> Result<(), OutOfMemory>
     requires { All (λ period. 1 ≤ period) returns.now }
     ensures ok { (history : List Added) → StandsFor history cells.now → OnOk result (out.new ≡ out.old ++ table_text kind perspective set cells.now.periods cells.now.samples returns.now (all_losses history)) }
+
+    ensures kept { OnErr result (BeginsWith out.old out.new) }
 {
     match kind {
         PeriodTable::AverageAnnualLoss => {
@@ -56,6 +59,8 @@ pub fn append_curve(
     shared: &SetCurves<'_>,
 ) -> Result<(), OutOfMemory>
     ensures ok { (kept : KeptCells) (perspective : Perspective) (set : ℕ) (returns : List ℕ) (history : List Added) → AreCurvesOf kept perspective set (takes_maxima curve) returns shared.now → StandsFor history kept → OnOk result (out.new ≡ out.old ++ table_text (ExceedanceCurve curve) perspective set kept.periods kept.samples returns (all_losses history)) }
+
+    ensures kept { OnErr result (BeginsWith out.old out.new) }
 {
     out.append(lec_heading(curve))?;
     shared.append(out, curve)

@@ -1,2 +1,3 @@
 -- The modules of proofs for the ranks.
 mod RankLemmas
+mod RowLemmas

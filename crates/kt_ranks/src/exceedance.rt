@@ -1,8 +1,9 @@
 //! The rows of one exceedance curve.
 //! The rules: docs/CALCULATION.md, "Exceedance curves"; docs/OUTPUTS.md, "Exceedance curve tables".
-ghost use Rattle.std.specs.Prelude.{◌≡◌, ◌+◌, ◌-◌, ◌*◌, ◌/◌, ◌≤◌, ◌<◌, ◌^◌, ℕ, List, ◌++◌, length, All, OnOk};
+ghost use Rattle.std.specs.Prelude.{◌≡◌, ◌+◌, ◌-◌, ◌*◌, ◌/◌, ◌≤◌, ◌<◌, ◌^◌, ℕ, List, ◌++◌, length, All, OnOk, OnErr};
 ghost use Rattle.kt_ranks.specs.RankedLosses.{loss_between, lec_row, curve_rows, exceedance_loss};
 ghost use Rattle.kt_ranks.specs.Ranks.{HasLosses, SameRanks};
+ghost use Rattle.kt_stream.specs.Write.{BeginsWith};
 
 use crate::ranks::{loss_of_rank, place_losses};
 use kt_money::{Bytes, OutOfMemory, Row};
@@ -43,6 +44,7 @@ fn append_row(
     loss: u64,
 ) -> Result<(), OutOfMemory>
     ensures ok { OnOk result (out.new ≡ out.old ++ lec_row summary column period loss) }
+    ensures unchanged { OnErr result (out.new ≡ out.old) }
 {
     let mut row = Row::new();
     row.put_byte(b'\n');
@@ -57,7 +59,7 @@ fn append_row(
 }
 
 /// Appends the rows of a curve of `count` values, of which the losses of the ranks that it asks for stand at their places. An error is
-/// want of memory.
+/// want of memory; then some of the rows may stand behind what was there.
 pub fn append_rows(
     out: &mut Bytes,
     summary: u32,
@@ -69,6 +71,8 @@ pub fn append_rows(
     requires count { count ≤ 10 ^ 8 }
     requires returns { All (λ period. 1 ≤ period) returns.now }
     ensures ok { OnOk result ((values : List ℕ) → All (λ period. period ≤ count → HasLosses ranked.now values count period) returns.now → out.new ≡ out.old ++ curve_rows summary column count values returns.now) }
+
+    ensures kept { OnErr result (BeginsWith out.old out.new) }
 {
     for period in returns {
         if u64::from(*period) > count {
@@ -80,8 +84,8 @@ pub fn append_rows(
     Ok(())
 }
 
-/// Appends the rows of a curve of `count` values, of which those that are not listed are 0. It leaves the values in no order. An
-/// error is want of memory.
+/// Appends the rows of a curve of `count` values, of which those that are not listed are 0. It leaves the values in no order, whatever
+/// it answers. An error is want of memory; then some of the rows may stand behind what was there.
 pub fn append_values(
     out: &mut Bytes,
     alloc: Global,
@@ -94,6 +98,8 @@ pub fn append_values(
     requires count { count ≤ 10 ^ 8 }
     requires returns { All (λ period. 1 ≤ period) returns.now }
     ensures ok { OnOk result ((whole : List ℕ) → SameRanks values.old whole → out.new ≡ out.old ++ curve_rows summary column count whole returns.now) }
+
+    ensures kept { OnErr result (BeginsWith out.old out.new) }
 {
     place_losses(alloc, values, count, returns)?;
     append_rows(out, summary, column, count, values, returns)

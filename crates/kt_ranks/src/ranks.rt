@@ -1,10 +1,11 @@
 //! The losses of the ranks that a curve asks for, without ranking all values.
 //! The rules: docs/CALCULATION.md, "Exceedance curves".
-ghost use Rattle.std.specs.Prelude.{◌≡◌, ◌-◌, ◌/◌, ◌≤◌, ◌<◌, ◌^◌, ℕ, List, ◌++◌, map, length, All, IfOk, OnOk, slice_index, slice_index_or};
+ghost use Rattle.std.specs.Prelude.{◌≡◌, ◌-◌, ◌/◌, ◌≤◌, ◌<◌, ◌^◌, ℕ, List, ◌++◌, map, length, All, IfOk, OnErr, OnOk, slice_index, slice_index_or};
 ghost use Rattle.std.specs.List.Sorted.{IsPermutation};
 ghost use Rattle.kt_period_cells.specs.Standing.{most_total};
 ghost use Rattle.kt_ranks.specs.RankedLosses.{falling, ranked_loss};
 ghost use Rattle.kt_ranks.specs.Ranks.{SameRanks, HasLosses, Falls, reaching, curve_ranks};
+ghost use Rattle.kt_stream.specs.Write.{BeginsWith};
 
 use kt_money::OutOfMemory;
 use std::alloc::Global;
@@ -64,6 +65,7 @@ fn append_losses(
 ) -> Result<(), OutOfMemory>
     requires falls { Falls ranks.now }
     ensures ok { OnOk result (losses.new.items ≡ losses.old.items ++ map (λ rank. slice_index_or (falling values.old) rank behind) ranks.now) }
+    ensures kept { OnErr result (BeginsWith losses.old.items losses.new.items) }
 {
     let [rank, later @ ..] = ranks else {
         return Ok(());
@@ -89,7 +91,8 @@ pub(crate) fn loss_of_rank(ranked: &[u64], rank: u64) -> u64
     }
 }
 
-/// Appends the losses of falling ranks. It leaves the values in no order. An error is want of memory.
+/// Appends the losses of falling ranks. It leaves the values in no order, whatever it answers. An error is want of memory; then some of
+/// the losses may stand behind those that were there.
 pub fn append_ranked(
     losses: &mut Vec<u64>,
     values: &mut [u64],
@@ -97,6 +100,8 @@ pub fn append_ranked(
 ) -> Result<(), OutOfMemory>
     requires falls { Falls ranks.now }
     ensures ok { OnOk result (losses.new.items ≡ losses.old.items ++ map (ranked_loss values.old) ranks.now) }
+
+    ensures kept { OnErr result (BeginsWith losses.old.items losses.new.items) }
 {
     if values.len() > FEW {
         return append_losses(losses, values, 0, ranks);

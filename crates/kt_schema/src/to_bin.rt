@@ -1,8 +1,9 @@
 //! From the text of a table to its file.
-ghost use Rattle.std.specs.Prelude.{◌≡◌, ◌<◌, ◌++◌, false, true, map, drop, IfOk, IfErr, OnOk, Ok};
+ghost use Rattle.std.specs.Prelude.{◌≡◌, ◌<◌, ◌++◌, false, true, map, drop, IfOk, IfErr, OnOk, OnErr, Ok};
 ghost use Rattle.kt_cells.specs.Texts.{text_rows};
 ghost use Rattle.kt_cells.specs.Reading.{and_then};
 ghost use Rattle.kt_cells.specs.Stops.{Tells};
+ghost use Rattle.kt_cells.specs.Taking.{HasMore};
 ghost use Rattle.kt_rec.specs.declared.table.Table.TheVariants.{Footprint};
 ghost use Rattle.kt_schema.specs.Conversions.{csv_bin, file_bytes, footprint_bytes, index_bytes, header_part};
 ghost use Rattle.kt_schema.specs.Tables.{kinds_of};
@@ -15,7 +16,7 @@ use kt_money::Bytes;
 use kt_rec::Table;
 use std::alloc::{AllocError, Global};
 
-/// Appends the header of a file that has one. An error is want of memory.
+/// Appends the header of a file that has one. An error is want of memory; then a part of it may stand behind what was there.
 pub fn push_header_part(
     out: &mut Bytes,
     header: bool,
@@ -23,6 +24,8 @@ pub fn push_header_part(
     extra: u32,
 ) -> Result<(), AllocError>
     ensures ok { OnOk result (out.new ≡ out.old ++ header_part header number extra) }
+
+    ensures kept { OnErr result (HasMore out.old out.new) }
 {
     if header {
         push_header(out, number, extra)

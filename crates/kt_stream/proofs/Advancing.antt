@@ -14,7 +14,7 @@ use Rattle.kt_stream.specs.declared.stop.StreamStop.TheVariants.{TooLong}
 use Rattle.kt_stream.specs.Header.{IsHead, header_in}
 use Rattle.kt_stream.specs.Stop.{record_stop}
 use Rattle.kt_stream.specs.Stream.{Form, Stream, End, Refused, after, reads_on, overlong, too_long, within_room, with_head, stream_of, stream_limit, fault_at, AreBytes, IsLawful}
-use Rattle.kt_stream.specs.Reader.{Reading, refused, goes_on, held, rest_end, Represents, IsDry, HoldsNone, IsPlaced, AdvancesOne, EndsOpen, AdvancesToRest, AdvancesToStop, Advances, Ends}
+use Rattle.kt_stream.specs.Reader.{Reading, refused, goes_on, held, rest_end, Represents, IsDry, HoldsNone, IsPlaced, AdvancesOne, EndsOpen, AdvancesToRest, AdvancesToStop, Advances, Stays, Ends}
 use Rattle.kt_stream.proofs.Cases.{some_is, kept_got, kept_wrong}
 use Rattle.kt_stream.proofs.Heading.{few_samples}
 use Rattle.kt_stream.proofs.Representing.{running, stopped, after_after}
@@ -202,6 +202,19 @@ needs_more {E} form shape head row passed start pending none some fits =
 other_row : {E : Type 0} (form : Form E) (shape : Shape) (head : Option Head) (row other : Placed E) (passed : List ℕ) (start : ℕ) (pending bytes : List ℕ) (taken : List (Placed E)) → Represents E form bytes taken (running shape head row passed start pending)
     → Represents E form bytes taken (running shape head other passed start pending)
 other_row form shape head row other passed start pending bytes taken rep = record { head = rep.head; records = rep.records; onward = rep.onward; place = rep.place }
+
+-- nothing was read
+pub stays_row : {E : Type 0} (form : Form E) (shape : Shape) (head : Option Head) (row other : Placed E) (passed : List ℕ) (start : ℕ) (pending : List ℕ) → Stays E form (running shape head row passed start pending) (running shape head other passed start pending)
+stays_row form shape head row other passed start pending = record {
+  shape = refl;
+  head = refl;
+  passed = refl;
+  stop = refl;
+  start = refl;
+  pending = refl;
+  left = refl;
+  stands = λ bytes taken rep. other_row form shape head row other passed start pending bytes taken rep;
+}
 
 pub advances_row : {E : Type 0} (Good : Shape → ℕ → E → Type 0) (form : Form E) (shape : Shape) (head : Option Head) (row other : Placed E) (passed : List ℕ) (start : ℕ) (pending : List ℕ) (answer : Next) (new : Reading E)
     → Advances E form Good (running shape head other passed start pending) answer new → Advances E form Good (running shape head row passed start pending) answer new

@@ -139,6 +139,17 @@ pub record AdvancesOne (E : Type 0) (form : Form E) (Good : Shape → ℕ → E 
   pub stands : (bytes : List ℕ) (taken : List (Placed E)) → Represents E form bytes taken old → Represents E form bytes (taken ++ new.row ∷ []) new
   pub fits : (head : Head) → old.head ≡ Some head → IsPlaced E form Good old.shape head new.row
 
+-- Nothing was read: the reader stands where it stood, for the same bytes. Of the record that was read last nothing is said.
+pub record Stays (E : Type 0) (form : Form E) (old new : Reading E) : Type 0 where
+  pub shape : new.shape ≡ old.shape
+  pub head : new.head ≡ old.head
+  pub passed : new.passed ≡ old.passed
+  pub stop : new.stop ≡ old.stop
+  pub start : new.start ≡ old.start
+  pub pending : new.pending ≡ old.pending
+  pub left : held form new ≡ held form old
+  pub stands : (bytes : List ℕ) (taken : List (Placed E)) → Represents E form bytes taken old → Represents E form bytes taken new
+
 -- the bytes for which a reader stands are within the limit, and end where and as it stands
 pub record EndsOpen (E : Type 0) (form : Form E) (bytes : List ℕ) (r : Reading E) : Type 0 where
   pub within : length bytes ≤ stream_limit

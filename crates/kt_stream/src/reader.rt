@@ -83,7 +83,7 @@ impl<E: Entry> Model for RecordReader<E> {
 impl<E: Entry> RecordReader<E> {
     ghost use Rattle.kt_stream.specs.declared.kind.Head.{Head};
     ghost use Rattle.kt_stream.specs.Header.{IsHead, first_head};
-    ghost use Rattle.kt_stream.specs.Reader.{Represents, Extends, IsFilled, piece_in, Advances, IsRested, HoldsNone, Finishes, held};
+    ghost use Rattle.kt_stream.specs.Reader.{Represents, Extends, IsFilled, piece_in, Advances, Stays, IsRested, HoldsNone, Finishes, held};
 
     /// A reader that is told so much of its stream and was given no bytes. Asks for no memory.
     pub(crate) fn of_shape(alloc: Global, shape: Shape) -> Self
@@ -153,9 +153,12 @@ impl<E: Entry> RecordReader<E> {
     }
 
     /// Reads the next record, if it is whole. A wrong header or record and a stream above 2^40 bytes are refused, once
-    /// the records before are read. An error is want of memory; the record is not read then.
+    /// the records before are read. An error is want of memory; the record is not read then, and the reader stands where it
+    /// stood, but the record that was read last is lost.
     pub fn advance(&mut self) -> Result<Next, AllocError>
         ensures value { IfOk result (λ next. Advances E E.form E.IsGood self.old next self.new) }
+
+        ensures kept { OnErr result (Stays E E.form self.old self.new) }
     {
         E::laws();
         if let Some(stop) = self.stop {

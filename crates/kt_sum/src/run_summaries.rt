@@ -72,15 +72,20 @@ impl<'a> RunSummaries<'a> {
         })
     }
 
-    /// Makes it ready for the first record of a run, in a stream with so many samples. An error is want of memory.
+    /// Makes it ready for the first record of a run, in a stream with so many samples. An error is want of memory, and it is then as it
+    /// was.
     pub fn begin(&mut self, samples: u32) -> Result<(), AllocError>
         requires are { AreSummaries self.old }
         ensures ready { OnOk result (IsReady samples self.new) }
         ensures holds { OnOk result ((portfolio : PortfolioRows) (perspective : Perspective) (set : ℕ) → AreOf portfolio perspective set self.old → HoldsRun portfolio perspective set samples [] self.new) }
+        ensures unchanged { OnErr result (self.new ≡ self.old) }
     {
-        self.rows = no_sums(self.alloc, samples as usize + 3, &self.summaries)?;
-        self.room = pair_room(self.alloc, samples as usize + 3)?;
-        self.totals = no_run_sums(self.alloc, samples)?;
+        let rows = no_sums(self.alloc, samples as usize + 3, &self.summaries)?;
+        let room = pair_room(self.alloc, samples as usize + 3)?;
+        let totals = no_run_sums(self.alloc, samples)?;
+        self.rows = rows;
+        self.room = room;
+        self.totals = totals;
         Ok(())
     }
 
@@ -113,7 +118,7 @@ impl<'a> RunSummaries<'a> {
     }
 
     /// Appends the records of the summaries of a run of an event, as `summarise` makes them, and makes it ready for the first
-    /// record of the next run. An error is want of memory, and nothing is appended then.
+    /// record of the next run. An error is want of memory; nothing is appended then, and the records of the run still stand.
     pub fn put(&mut self, samples: u32, event: u32, out: &mut Bytes) -> Result<(), AllocError>
         requires samples { samples ≤ 1000 }
         requires ready { IsReady samples self.old }
@@ -121,6 +126,8 @@ impl<'a> RunSummaries<'a> {
         ensures text { OnOk result ((portfolio : PortfolioRows) (perspective : Perspective) (set : ℕ) (records : List LossRecord) → HoldsRun portfolio perspective set samples records self.old → event ≡ event_of records → out.new ≡ out.old ++ flat_map summary_bytes (run_summaries perspective portfolio.rows portfolio.need.rule set records)) }
         ensures holds { OnOk result ((portfolio : PortfolioRows) (perspective : Perspective) (set : ℕ) → AreOf portfolio perspective set self.old → HoldsRun portfolio perspective set samples [] self.new) }
         ensures unchanged { OnErr result (out.new ≡ out.old) }
+        ensures kept { OnErr result ((portfolio : PortfolioRows) (perspective : Perspective) (set : ℕ) (records : List LossRecord) → HoldsRun portfolio perspective set samples records self.old → HoldsRun portfolio perspective set samples records self.new) }
+        ensures kept_ready { OnErr result (IsReady samples self.new) }
     {
         let run = SetRun {
             portfolio: self.portfolio,

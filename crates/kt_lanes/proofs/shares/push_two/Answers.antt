@@ -25,15 +25,12 @@ push-requires-2 c = record {
       (All-more (λ (lane : List ℕ). length lane ≡ length c.args.totals.now) c.args.out.now c.split_totals.new.parts c.requires.out c.split_totals.ensures.value.parts_are.wide));
 }
 
-pub returns : goal.returns
-returns c =
+pub returns-clause-value : goal.returns-clause-value
+returns-clause-value c =
     let children = take 2 (drop c.args.start c.args.lanes.now) in
     let first = c.lane-first.result.now in
     let second = c.lane-second.result.now in
-    let same = children-are (goal.at.returns c).After-lane-second in
-    record {
-      value =
-          IfOk-weaker c.push-2.result _ _
-          (λ (_ : Unit {0}) pushed. split-behind c.args.totals.now first second children same (can-split c.args.totals.now first second children same c.requires.can) c.split_totals.new.parts c.split_totals.new.rests c.split_totals.ensures.value c.args.out.now c.push.new.self c.push-2.new.self c.in_ok-push.ensures.ok pushed)
-          c.push-2.ensures.ok;
-    }
+    let same = children-are (goal.at.returns-clause-value c).After-lane-second in
+    IfOk-weaker c.push-2.result _ _
+    (λ (_ : Unit {0}) pushed. split-behind c.args.totals.now first second children same (can-split c.args.totals.now first second children same c.requires.can) c.split_totals.new.parts c.split_totals.new.rests c.split_totals.ensures.value c.args.out.now c.push.new.self c.push-2.new.self c.in_ok-push.ensures.ok pushed)
+    c.push-2.ensures.ok

@@ -6,10 +6,10 @@ pub loop-piece-preserved : goal.loop-piece-preserved
 loop-piece-preserved g c = record {
   midway = λ start are.
       let within : c.loop-piece.piece < length (g.T.Texts.pieces_of start c.args.texts.now c.args.file.now) = omega (arith, c.pieces-piece-end.ensures start are) in
-      c.in-Ok-spill_block.ensures.moved _ _ _ (midway_more _ _ _ _ _ _ _ _ within (c.loop-piece.invariant.midway start are) (c.in-Ok.ensures start are));
+      c.in-Ok-spill_block.ensures.moved _ _ _ (midway_more _ _ _ _ _ _ _ _ within (c.loop-piece.invariant.midway start are) (c.in-Ok.ensures.ok start are));
   untouched = λ start are none.
       let within : c.loop-piece.piece < length (g.T.Texts.pieces_of start c.args.texts.now c.args.file.now) = omega (arith, c.pieces-piece-end.ensures start are) in
-      let pushed = midway_more _ _ _ _ _ _ _ _ within (c.loop-piece.invariant.midway start are) (c.in-Ok.ensures start are) in
+      let pushed = midway_more _ _ _ _ _ _ _ _ within (c.loop-piece.invariant.midway start are) (c.in-Ok.ensures.ok start are) in
       c.in-Ok-spill_block.ensures.untouched (none_of_nothing _ _ _ _ _ _ none pushed) ∙ c.loop-piece.invariant.untouched start are none;
   counted = c.in-Ok-spill_block.ensures.counts ∙ c.loop-piece.invariant.counted;
 }
@@ -20,12 +20,12 @@ returns-in-Err-clause-moved g c start are = midway_front _ _ _ _ _ _ (c.loop-pie
 pub returns-in-Err-spill_block-clause-moved : goal.returns-in-Err-spill_block-clause-moved
 returns-in-Err-spill_block-clause-moved g c start are =
     let within : c.loop-piece.piece < length (g.T.Texts.pieces_of start c.args.texts.now c.args.file.now) = omega (arith, c.pieces-piece-end.ensures start are) in
-    c.in-Err-spill_block.ensures.moved _ _ _ (midway_more _ _ _ _ _ _ _ _ within (c.loop-piece.invariant.midway start are) (c.in-Ok.ensures start are))
+    c.in-Err-spill_block.ensures.moved _ _ _ (midway_more _ _ _ _ _ _ _ _ within (c.loop-piece.invariant.midway start are) (c.in-Ok.ensures.ok start are))
 
 pub returns-in-Err-spill_block-clause-untouched : goal.returns-in-Err-spill_block-clause-untouched
 returns-in-Err-spill_block-clause-untouched g c start are none =
     let within : c.loop-piece.piece < length (g.T.Texts.pieces_of start c.args.texts.now c.args.file.now) = omega (arith, c.pieces-piece-end.ensures start are) in
-    let pushed = midway_more _ _ _ _ _ _ _ _ within (c.loop-piece.invariant.midway start are) (c.in-Ok.ensures start are) in
+    let pushed = midway_more _ _ _ _ _ _ _ _ within (c.loop-piece.invariant.midway start are) (c.in-Ok.ensures.ok start are) in
     c.in-Err-spill_block.ensures.untouched (none_of_nothing _ _ _ _ _ _ none pushed) ∙ c.loop-piece.invariant.untouched start are none
 
 pub returns-clause-moved : goal.returns-clause-moved

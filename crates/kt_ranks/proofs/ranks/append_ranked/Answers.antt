@@ -5,8 +5,8 @@ use Rattle.kt_ranks.specs.RankedLosses.{ranked_loss}
 use Rattle.kt_ranks.specs.RankLaws.{loss_is_ranked}
 use Rattle.kt_ranks.proofs.ranks.append_ranked.Goals as goal
 
-pub returns-then-values-gt-FEW : goal.returns-then-values-gt-FEW
-returns-then-values-gt-FEW c = record { ok = c.append_losses.ensures.ok }
+pub returns-then-values-gt-FEW-clause-ok : goal.returns-then-values-gt-FEW-clause-ok
+returns-then-values-gt-FEW-clause-ok c = c.append_losses.ensures.ok
 
 pub loop-place-preserved : goal.loop-place-preserved
 loop-place-preserved c =
@@ -19,5 +19,5 @@ loop-place-preserved c =
     ∙ append_assoc base (map (ranked_loss values) (take i ranks)) (ranked_loss values (get_or ranks i 0) ∷ [])
     ∙ ap (λ more. base ++ more) (sym (map_more (ranked_loss values) ranks i 0 c.loop-place-test.true))
 
-pub returns : goal.returns
-returns c = record { ok = rw (take_all c.loop-place.place-index c.args.ranks.now c.loop-place-test.false) at c.loop-place.invariant }
+pub returns-clause-ok : goal.returns-clause-ok
+returns-clause-ok c = rw (take_all c.loop-place.place-index c.args.ranks.now c.loop-place-test.false) at c.loop-place.invariant

@@ -23,6 +23,7 @@ returns-in-Got g c =
     let good = rw c.in-Some-head.is at c.self.invariant.3.head in
     record {
       value = rw (← c.self.view_is, c.in-Some-head.is, c.in_default.is) (rw (drop-drop c.in-Got.size r.used (take r.end r.block.items)) at (advances_one g.E.Entry.form r.shape c.in-Some-head.head r.row _ r.start c.in-Got.size (drop r.used (take r.end r.block.items)) c.read_into.new.self c.laws.ensures.value good c.self.invariant.3.start read.0 read.1 _ (passed_more r.from r.used c.in-Got.size (take r.end r.block.items) c.self.invariant.0) (rw (c.within_limit-bytes.ensures.value, c.as_slice.ensures.value, take_rest) at c.within_limit-bytes.ensures.bytes)));
+      kept = tt;
     }
 
 pub returns-in-Wrong : goal.returns-in-Wrong
@@ -31,13 +32,14 @@ returns-in-Wrong g c =
     let read = rw (c.within_limit-bytes.ensures.value, c.as_slice.ensures.value, take_rest, c.in-Wrong.is) at c.in_ok-size.ensures.value in
     record {
       value = rw (← c.self.view_is, c.of_record-stop.ensures, c.in-Some-head.is, c.in_default.is) (advances_wrong g.E.Entry.form r.shape c.in-Some-head.head r.row _ _ r.start (drop r.used (take r.end r.block.items)) c.in-Wrong.misfit c.laws.ensures.value read);
+      kept = tt;
     }
 
 pub returns-in-Short : goal.returns-in-Short
 returns-in-Short g c =
     let r = c.self.inside in
     let ends = rw c.in_default.is at c.end_of_piece-in-Short.ensures in
-    record { value = rw (← c.self.view_is, c.in_default.is) (advances_row g.E.Entry.IsGood g.E.Entry.form r.shape r.head r.row _ _ r.start (drop r.used (take r.end r.block.items)) c.end_of_piece-in-Short.result c.end_of_piece-in-Short.new.self ends) }
+    record { kept = tt; value = rw (← c.self.view_is, c.in_default.is) (advances_row g.E.Entry.IsGood g.E.Entry.form r.shape r.head r.row _ _ r.start (drop r.used (take r.end r.block.items)) c.end_of_piece-in-Short.result c.end_of_piece-in-Short.new.self ends) }
 
 pub invariant_of-self : goal.invariant_of-self
 invariant_of-self g c =

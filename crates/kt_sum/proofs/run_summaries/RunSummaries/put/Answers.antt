@@ -49,4 +49,6 @@ returns c =
         rows = subst (λ (rows : List SummarySums). All (IsSumOf 2147483646 (samples + 3) (summary_in perspective portfolio.rows set) []) rows) (sym rows_are) zeros;
       };
       unchanged = tt;
+      kept = tt;
+      kept_ready = tt;
     }
