@@ -1,6 +1,6 @@
 -- How far a run comes: the events that are done, up to the first that is refused.
 -- The rules: docs/REFUSALS.md, "Order".
-use Rattle.std.proofs.Common.{refl, sym, ap, ◌∙◌, append_assoc, append-nil}
+use Rattle.std.proofs.Common.{refl, sym, ap, ◌∙◌, subst, append_assoc, append-nil}
 use Rattle.std.specs.Prelude.{◌≡◌, ℕ, List, [], ◌∷◌, ◌++◌, Option, Some, None}
 use Rattle.kt_ends.specs.declared.status.Refusal.{Refusal}
 
@@ -25,6 +25,18 @@ pub record AreFirst (first events : List ℕ) : Type 0 where
   pub is : events ≡ first ++ later
 
 module _ (refuses : List ℕ → ℕ → Option Refusal) where
+  -- none of these events is refused, each behind those that are done and those before it
+  abbrev pub NoneRefused : List ℕ → List ℕ → Type 0
+  NoneRefused done [] = Unit {0}
+  NoneRefused done (event ∷ later) = (refuses done event ≡ None) × NoneRefused (done ++ event ∷ []) later
+
+  -- the event behind those that are done is refused for this reason
+  pub record NextIsRefused (done events : List ℕ) (why : Refusal) : Type 0 where
+    pub event : ℕ
+    pub later : List ℕ
+    pub is : events ≡ done ++ event ∷ later
+    pub refused : refuses done event ≡ Some why
+
   -- none of these events is refused behind those that are done, whatever comes behind them
   pub record Passes (done events : List ℕ) : Type 0 where
     pub on : (later : List ℕ) → reached_from refuses done (events ++ later) ≡ reached_from refuses (done ++ events) later
@@ -133,3 +145,43 @@ module _ (refuses : List ℕ → ℕ → Option Refusal) where
 
   pub come_first : (events : List ℕ) → AreFirst (reached_from refuses [] events).done events
   come_first events = let first = first_reached [] events in record { later = first.0; is = first.1 }
+
+  -- none of the events that are reached behind those that are done is refused
+  record Further (done events : List ℕ) : Type 0 where
+    more : List ℕ
+    is : (reached_from refuses done events).done ≡ done ++ more
+    none : NoneRefused done more
+
+  further : (done events : List ℕ) → Further done events
+  further done [] = record { more = []; is = sym (append-nil done); none = tt }
+  further done (event ∷ later) = by (refuses done event) refl (further (done ++ event ∷ []) later)
+    where
+      by : (found : Option Refusal) → refuses done event ≡ found → Further (done ++ event ∷ []) later → Further done (event ∷ later)
+      by None found rest = record {
+        more = event ∷ rest.more;
+        is = ap (λ (why : Option Refusal). (unless_refused done why (reached_from refuses (done ++ event ∷ []) later)).done) found ∙ (rest.is ∙ append_assoc done (event ∷ []) rest.more);
+        none = (found, rest.none);
+      }
+      by (Some why) found rest = record {
+        more = [];
+        is = ap (λ (why : Option Refusal). (unless_refused done why (reached_from refuses (done ++ event ∷ []) later)).done) found ∙ sym (append-nil done);
+        none = tt;
+      }
+
+  -- so none of all that are reached is
+  pub none_refused : (events : List ℕ) → NoneRefused [] (reached_from refuses [] events).done
+  none_refused events = let all = further [] events in subst (NoneRefused []) (sym all.is) all.none
+
+  -- where one is refused it is the next
+  next_refused : (done events : List ℕ) (why : Refusal) → (reached_from refuses done events).refusal ≡ Some why → NextIsRefused (reached_from refuses done events).done (done ++ events) why
+  next_refused done [] why is = cc
+  next_refused done (event ∷ later) why is = by (refuses done event) refl is (next_refused (done ++ event ∷ []) later why)
+    where
+      by : (found : Option Refusal) → refuses done event ≡ found → (unless_refused done found (reached_from refuses (done ++ event ∷ []) later)).refusal ≡ Some why
+          → ((reached_from refuses (done ++ event ∷ []) later).refusal ≡ Some why → NextIsRefused (reached_from refuses (done ++ event ∷ []) later).done ((done ++ event ∷ []) ++ later) why)
+          → NextIsRefused (unless_refused done found (reached_from refuses (done ++ event ∷ []) later)).done (done ++ event ∷ later) why
+      by None found h rest = let next = rest h in record { event = next.event; later = next.later; is = sym (append_assoc done (event ∷ []) later) ∙ next.is; refused = next.refused }
+      by (Some other) found h rest = record { event = event; later = later; is = refl; refused = found ∙ h }
+
+  pub comes_next : (events : List ℕ) (why : Refusal) → (reached_from refuses [] events).refusal ≡ Some why → NextIsRefused (reached_from refuses [] events).done events why
+  comes_next events why is = next_refused [] events why is

@@ -13,7 +13,7 @@ use Rattle.kt_tables.specs.Lookups.{event_ids}
 use Rattle.kt_chain.specs.Events.{RunInput, block_of}
 use Rattle.kt_chain.specs.Files.{event_text, files_upto, text_upto}
 use Rattle.kt_chain.specs.Outcome.{chain_outcome, event_refusal, reached_outcome, run_reaches}
-use Rattle.kt_chain.specs.Reached.{AreFirst, come_first}
+use Rattle.kt_chain.specs.Reached.{AreFirst, NextIsRefused, NoneRefused, come_first, comes_next, none_refused}
 
 -- what is made of each of some things is nothing, and so is all of it
 none_of : {X : Type 0} (made : X → List ℕ) → ((x : X) → made x ≡ []) → (xs : List X) → flat_map made xs ≡ []
@@ -23,6 +23,14 @@ none_of made none (x ∷ xs) = ap (λ (front : List ℕ). front ++ flat_map made
 -- the events that are done are the first of the list
 pub done_first : (run : RunInput) → AreFirst (run_reaches run).done (event_ids run.rows)
 done_first run = come_first (event_refusal run) (event_ids run.rows)
+
+-- none of them is refused
+pub done_passed : (run : RunInput) → NoneRefused (event_refusal run) [] (run_reaches run).done
+done_passed run = none_refused (event_refusal run) (event_ids run.rows)
+
+-- and the next one is, where one is refused
+pub next_event_refused : (run : RunInput) (why : Refusal) → (run_reaches run).refusal ≡ Some why → NextIsRefused (event_refusal run) (run_reaches run).done (event_ids run.rows) why
+next_event_refused run why is = comes_next (event_refusal run) (event_ids run.rows) why is
 
 -- where an event is refused the files hold the rows of those that are done
 pub refused_files : (run : RunInput) (why : Refusal) → (run_reaches run).refusal ≡ Some why → (chain_outcome run).files ≡ files_upto run (run_reaches run).done

@@ -1,6 +1,7 @@
--- The worked examples of docs/FINANCIAL_MODULE.md on insured losses, by computing.
+-- The worked examples of docs/FINANCIAL_MODULE.md on insured losses, and those of docs/CALCULATION.md, "Share-out", by computing.
 use Rattle.std.specs.Prelude.{◌≡◌, ℕ, pos, List, [], ◌∷◌}
 use Rattle.std.proofs.Common.{refl}
+use Rattle.kt_money.specs.Sharing.{share_out}
 use Rattle.kt_rec.specs.declared.financial.FmXref.{FmXref}
 use Rattle.kt_rules.specs.Rules.{rule_of}
 use Rattle.kt_stream.specs.declared.entry.LossRecord.{LossRecord}
@@ -62,3 +63,15 @@ first_records = refl
 back : insured_records (tree_of given_back 0) 2 1 item_outputs (sampled 1 5000 ∷ sampled 2 5000 ∷ []) ≡ sampled 1 3500 ∷ sampled 3 3500 ∷ []
 unfolding given_back item_outputs sampled rule_of
 back = refl
+
+-- 100 over three equal weights: the last cent is that of the last
+hundred_over_three : share_out 100 (1 ∷ 1 ∷ 1 ∷ []) ≡ 33 ∷ 33 ∷ 34 ∷ []
+hundred_over_three = refl
+
+-- 2 over the same: the first has nothing
+two_over_three : share_out 2 (1 ∷ 1 ∷ 1 ∷ []) ≡ 0 ∷ 1 ∷ 1 ∷ []
+two_over_three = refl
+
+-- nothing over no weights
+nothing_over_none : share_out 0 (0 ∷ 0 ∷ []) ≡ 0 ∷ 0 ∷ []
+nothing_over_none = refl

@@ -5,3 +5,4 @@ pub mod Outlets
 pub mod Table
 pub mod Whole
 pub mod Examples
+pub mod InsuredTables

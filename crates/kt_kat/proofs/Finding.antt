@@ -3,12 +3,14 @@ use Rattle.std.proofs.Common.{◌≡◌, ℕ, ◌+◌, List, [], ◌∷◌, ◌+
 use Rattle.std.specs.Prelude.{IfSome, map}
 use Rattle.std.specs.List.{slice_get}
 use Rattle.std.proofs.lemmas.Option.{slice_get_within, unwrap_or-slice_get}
+use Rattle.kt_out.specs.InputFiles.{InputsState}
 use Rattle.kt_out.specs.NamedFiles.{FileMap}
+use Rattle.kt_out.specs.Writing.{SinkState}
 use Rattle.kt_ends.specs.declared.status.Refusal.{Refusal}
 use Rattle.kt_ends.specs.declared.tool_stop.ToolStop.{ToolStop}
 use Rattle.kt_ends.specs.declared.tool_stop.ToolStop.TheVariants as stop
 use Rattle.kt_kat.specs.Files.{found_file, and_files, files_of}
-use Rattle.kt_kat.specs.Found.{IsFound, AreFound, TellsRefusal}
+use Rattle.kt_kat.specs.Found.{IsFound, AreFound, FoundFirst, TellsRefusal}
 
 -- the word at a place, and the words behind it
 pub word_at : (words : List (List ℕ)) (n : ℕ) (word : List ℕ) → slice_get words n ≡ Some word → drop n words ≡ word ∷ drop (n + 1) words
@@ -74,4 +76,20 @@ all_found (Some files) names later sizes none so = whole (subst (λ (rest : List
     whole : FoundSoFar files names [] sizes → AreFound names files sizes
     whole so = record { contents = so.front ++ []; found = so.is; sized = so.sized ∙ ap (map length) (sym (append-nil so.front)) }
 
--- ---- counts
+-- ---- what was not due
+
+-- where the sink is as it was
+pub sink_kept : (names : List (List ℕ)) (inputs : InputsState) (sink : SinkState) → FoundFirst names inputs sink sink
+sink_kept names inputs sink = by inputs.held
+  where
+    by : (held : Option FileMap) → IfSome held (λ files. (why : Refusal) → files_of names files ≡ Err why → sink ≡ sink)
+    by None = tt
+    by (Some files) = λ why refused. refl
+
+-- files that were found are not refused
+pub found_due : (names : List (List ℕ)) (inputs : InputsState) (sizes : List ℕ) (before after : SinkState) → IfSome inputs.held (λ files. AreFound names files sizes) → FoundFirst names inputs before after
+found_due names inputs sizes before after found = by inputs.held found
+  where
+    by : (held : Option FileMap) → IfSome held (λ files. AreFound names files sizes) → IfSome held (λ files. (why : Refusal) → files_of names files ≡ Err why → after ≡ before)
+    by None are = tt
+    by (Some files) are = λ why refused. let clash : Ok are.contents ≡ Err why = sym are.found ∙ refused in cc

@@ -1,8 +1,9 @@
 -- What was found of named files before their bytes are read.
 -- The rules: docs/COMMANDS.md, "kat".
-use Rattle.std.specs.Prelude.{◌≡◌, ℕ, List, length, map, Option, Result, Ok, Err}
+use Rattle.std.specs.Prelude.{◌≡◌, ℕ, List, length, map, Option, Result, Ok, Err, IfSome}
 use Rattle.kt_out.specs.InputFiles.{InputsState, CountsFault, CountsMiss}
 use Rattle.kt_out.specs.NamedFiles.{FileMap}
+use Rattle.kt_out.specs.Writing.{SinkState}
 use Rattle.kt_out.specs.declared.fault.Fault.{Fault}
 use Rattle.kt_out.specs.declared.fault.Fault.TheVariants as fault
 use Rattle.kt_ends.specs.declared.status.Refusal.{Refusal}
@@ -44,3 +45,7 @@ abbrev pub LooksInto : {T : Type 0} → InputsState → InputsState → Result T
 LooksInto before after (Ok seen) = after ≡ before
 LooksInto before after (Err fault.Failed) = CountsFault before after
 LooksInto before after (Err fault.OutOfMemory) = after ≡ before
+
+-- where a named file is missing or too large, the sink was not due, whatever is answered
+abbrev pub FoundFirst : List (List ℕ) → InputsState → SinkState → SinkState → Type 0
+FoundFirst names inputs before after = IfSome inputs.held (λ files. (why : Refusal) → files_of names files ≡ Err why → after ≡ before)

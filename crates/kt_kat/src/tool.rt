@@ -9,7 +9,7 @@ ghost use Rattle.kt_ends.specs.World.{world};
 ghost use Rattle.kt_loop.specs.Settling.{IsEnd};
 ghost use Rattle.kt_words.specs.FileNames.{file_names};
 ghost use Rattle.kt_kat.specs.Files.{files_of};
-ghost use Rattle.kt_kat.specs.Found.{AreFound};
+ghost use Rattle.kt_kat.specs.Found.{AreFound, FoundFirst};
 ghost use Rattle.kt_kat.specs.Outcome.{kat_outcome, kat_uses, together};
 
 use crate::each_file::each_file;
@@ -63,7 +63,10 @@ pub fn kat<I: Inputs, K: Sink>(
 ) -> Result<(), ToolStop>
     requires { 0 < length (file_names words.now) }
     // The source and the output files are none of its objects: whatever they hold and have counted stays so.
-    ensures { (outputs : OutputsState) (source : SourceState) → ToolEnds kat_uses (λ files _. kat_outcome (file_names words.now) files) (world (I.state inputs.old) outputs source (K.state sink.old)) (world (I.state inputs.new) outputs source (K.state sink.new)) (end_status result) }
+    ensures ends { (outputs : OutputsState) (source : SourceState) → ToolEnds kat_uses (λ files _. kat_outcome (file_names words.now) files) (world (I.state inputs.old) outputs source (K.state sink.old)) (world (I.state inputs.new) outputs source (K.state sink.new)) (end_status result) }
+
+    // Whatever the answer is: where a file is missing or too large nothing was written.
+    ensures due { FoundFirst (file_names words.now) (I.state inputs.old) (K.state sink.old) (K.state sink.new) }
 {
     let sizes = match find_sizes(alloc, words, inputs) {
         Ok(sizes) => sizes,

@@ -11,3 +11,4 @@ mod NeedLemmas
 mod EventRowLemmas
 mod SpanLemmas
 mod HoldLemmas
+mod LoadedLemmas

@@ -4,6 +4,7 @@
 mod event_rows;
 mod file;
 mod held_rows;
+pub mod laws;
 mod loading;
 mod naming;
 mod round_rows;

@@ -20,3 +20,4 @@ pub mod SameLosses
 pub mod RaisedRows
 pub mod IdLists
 pub mod Joined
+pub mod CountedKeys

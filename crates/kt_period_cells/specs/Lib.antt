@@ -10,3 +10,4 @@ pub mod Sets
 pub mod Amounts
 pub mod SummaryRows
 pub mod Room
+pub mod CellKeys

@@ -4,6 +4,7 @@
 mod cell;
 mod cells;
 mod group;
+pub mod laws;
 mod raising;
 mod row;
 mod row_key;

@@ -10,7 +10,7 @@ use Rattle.kt_chain.specs.Outcome.{chain_outcome, reached_outcome, run_reaches}
 use Rattle.kt_chain.specs.Rounds.{IsRunStop}
 use Rattle.kt_chain.specs.Runs.{chain_uses}
 use Rattle.kt_checks.specs.Checks.{first_refusal}
-use Rattle.kt_ends.specs.Ending.{Ended, IsMissing, ToolEnds}
+use Rattle.kt_ends.specs.Ending.{Ended, IsMissing, IsRefusal, ToolEnds}
 use Rattle.kt_ends.specs.Endings.{UnderWay, ends_for_memory, ends_refused, nothing, writes_text}
 use Rattle.kt_ends.specs.Outcome.{Outcome}
 use Rattle.kt_ends.specs.Stops.{end_status, stop_status}
@@ -256,3 +256,7 @@ shown_stopped found uses run before stop.NoMemory stops = ends_for_memory found 
 -- memory was wanting before the run began
 pub memory_in_memory : {T : Type 0} (made : T → Type 0) (run : Outcome) (answer : Result T ToolStop) (why : ToolStop) → answer ≡ Err why → why ≡ stop.NoMemory → MatchResult answer made (StopsInMemory run)
 memory_in_memory {T} made run answer why is none = subst (λ (one : Result T ToolStop). MatchResult one made (StopsInMemory run)) (sym (is ∙ ap (λ (s : ToolStop). Err s) none)) tt
+
+-- a run that is done is not refused
+pub not_refused : (run : Outcome) → run.status ≡ status.Done → IsRefusal (shown run).status → ⊥
+not_refused run done refused = subst (λ (end : Status). IsRefusal (shown_by end run.files).status) done refused

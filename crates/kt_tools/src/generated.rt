@@ -1,7 +1,7 @@
 //! A run of all stages over a made-up set, in memory.
 //! The rules: docs/GENERATOR.md, "What is shown of a run"; docs/COMMANDS.md, "gen".
 ghost use Rattle.std.specs.Prelude.{◌≡◌, ◌≤◌, ℕ, [], IfOk, Ok, Some, MatchResult};
-ghost use Rattle.kt_ends.specs.Ending.{ToolEnds};
+ghost use Rattle.kt_ends.specs.Ending.{IsRefusal, ToolEnds};
 ghost use Rattle.kt_ends.specs.Stops.{end_status};
 ghost use Rattle.kt_ends.specs.World.{world};
 ghost use Rattle.kt_event.specs.Needs.{chain_need as need_of_terms};
@@ -135,7 +135,10 @@ pub(crate) fn write_generated<R: Threads + Sync, G: Gate + Sync, K: Sink>(
 ) -> Result<(), ToolStop>
     requires { IsGen items events workers }
     // The source and the files are none of its objects: whatever they hold and have counted stays so.
-    ensures { (inputs : InputsState) (outputs : OutputsState) (source : SourceState) → ToolEnds (command_uses (Command.Gen seed items events workers)) (λ _ _. generated_outcome seed items events) (world inputs outputs source (K.state sink.old)) (world inputs outputs source (K.state sink.new)) (end_status result) }
+    ensures ends { (inputs : InputsState) (outputs : OutputsState) (source : SourceState) → ToolEnds (command_uses (Command.Gen seed items events workers)) (λ _ _. generated_outcome seed items events) (world inputs outputs source (K.state sink.old)) (world inputs outputs source (K.state sink.new)) (end_status result) }
+
+    // Whatever the answer is: where the run over the set is refused, nothing was written.
+    ensures due { IsRefusal (generated_outcome seed items events).status → K.state sink.new ≡ K.state sink.old }
 {
     let mut outputs = CountedOutputs::new(alloc);
     let files = match run_generated(rt, gate, alloc, seed, items, events, workers, &mut outputs) {

@@ -5,7 +5,7 @@ ghost use Rattle.kt_ends.specs.Ending.{ToolEnds};
 ghost use Rattle.kt_ends.specs.Report.{AnswersWords};
 ghost use Rattle.kt_ends.specs.Stops.{end_status};
 ghost use Rattle.kt_ends.specs.World.{world};
-ghost use Rattle.kt_tools.specs.Due.{InOrder, TablesFirst};
+ghost use Rattle.kt_tools.specs.Due.{AllFirst, InOrder, TablesFirst};
 ghost use Rattle.kt_front.specs.Loading.{IsOfFiles};
 ghost use Rattle.kt_tools.specs.Needs.{command_need as need_of_command};
 ghost use Rattle.kt_tools.specs.Outcome.{command_outcome, outcome, tool_outcome};
@@ -143,7 +143,7 @@ fn run_command<R: Threads + Sync, G: Gate + Sync, I: Inputs, O: Outputs, S: Sour
     requires command { IsCommand command }
     requires names { command ≡ Command.Kat → 0 < length (file_names words.now) }
     ensures ends { ToolEnds (command_uses command) (command_outcome words.now command) (world (I.state inputs.old) (O.state outputs.old) (S.state source.old) (K.state sink.old)) (world (I.state inputs.new) (O.state outputs.new) (S.state source.new) (K.state sink.new)) (end_status result) }
-    ensures due { TablesFirst command (world (I.state inputs.old) (O.state outputs.old) (S.state source.old) (K.state sink.old)) (world (I.state inputs.new) (O.state outputs.new) (S.state source.new) (K.state sink.new)) }
+    ensures due { AllFirst words.now command (world (I.state inputs.old) (O.state outputs.old) (S.state source.old) (K.state sink.old)) (world (I.state inputs.new) (O.state outputs.new) (S.state source.new) (K.state sink.new)) }
 {
     match command {
         Command::Eltcalc { heading } => write_event_losses(alloc, heading, source, sink),
@@ -177,7 +177,7 @@ fn carry_out<R: Threads + Sync, G: Gate + Sync, I: Inputs, O: Outputs, S: Source
 ) -> Status
     ensures ends { ToolEnds (words_use (command_of words.now)) (outcome words.now) (world (I.state inputs.old) (O.state outputs.old) (S.state source.old) (K.state sink.old)) (world (I.state inputs.new) (O.state outputs.new) (S.state source.new) (K.state sink.new)) result }
     ensures words { AnswersWords (command_of words.now) result }
-    ensures due { InOrder (command_of words.now) (world (I.state inputs.old) (O.state outputs.old) (S.state source.old) (K.state sink.old)) (world (I.state inputs.new) (O.state outputs.new) (S.state source.new) (K.state sink.new)) }
+    ensures due { InOrder words.now (command_of words.now) (world (I.state inputs.old) (O.state outputs.old) (S.state source.old) (K.state sink.old)) (world (I.state inputs.new) (O.state outputs.new) (S.state source.new) (K.state sink.new)) }
 {
     match read_command(words) {
         Ok(command) => status_of(run_command(
@@ -192,9 +192,9 @@ fn carry_out<R: Threads + Sync, G: Gate + Sync, I: Inputs, O: Outputs, S: Source
 /// a refusal to `err`. It returns for every command.
 ///
 /// `RunEnded` of kt_ends says a sentence a field how it ends. What it says of the words and the input rests on those objects alone
-/// that the command uses and that tell what they hold. Where the words are faulty, or the tables refused, no object behind them
-/// was due yet, so that none of its failures hides the refusal; and a refusal that was found is the answer, so that none of the later
-/// failures hides it. What a later refusal leaves of the source is not promised.
+/// that the command uses and that tell what they hold. Where the words are faulty, or the tables refused, or the files of `kat` or the
+/// set of `gen`, no object behind them was due yet, so that none of its failures hides the refusal; and a refusal that was found is the
+/// answer, so that none of the later failures hides it. What a later refusal leaves of the source is not promised.
 pub fn run<R: Threads + Sync, G: Gate + Sync, I: Inputs, O: Outputs, S: Source, K: Sink, E: Sink>(
     rt: &R,
     alloc: Global,
@@ -208,8 +208,9 @@ pub fn run<R: Threads + Sync, G: Gate + Sync, I: Inputs, O: Outputs, S: Source, 
 ) -> Status
     ensures ends { RunEnds words.now (world (I.state inputs.old) (O.state outputs.old) (S.state source.old) (K.state sink.old)) (world (I.state inputs.new) (O.state outputs.new) (S.state source.new) (K.state sink.new)) (E.state err.old) (E.state err.new) result }
 
-    // Whatever the answer is: faulty words leave the output files, the source and the sink as they were, and so do tables that are refused.
-    ensures due { InOrder (command_of words.now) (world (I.state inputs.old) (O.state outputs.old) (S.state source.old) (K.state sink.old)) (world (I.state inputs.new) (O.state outputs.new) (S.state source.new) (K.state sink.new)) }
+    // Whatever the answer is: faulty words leave the output files, the source and the sink as they were, and so do tables, files and sets
+    // that are refused.
+    ensures due { InOrder words.now (command_of words.now) (world (I.state inputs.old) (O.state outputs.old) (S.state source.old) (K.state sink.old)) (world (I.state inputs.new) (O.state outputs.new) (S.state source.new) (K.state sink.new)) }
 {
     let status = carry_out(rt, gate, alloc, words, inputs, outputs, source, sink);
     report(alloc, status, err)

@@ -7,8 +7,7 @@ use Rattle.kt_insured.proofs.laws.insured_losses_are_records_of_a_stream.Goals a
 
 pub returns : goal.returns
 returns c = record {
-  good = λ rule samples records are within.
-      let rows = c.args.portfolio.now.rows in
-      let valid = c.is_valid.ensures.valid in
-      insured-good (tree_of rows 0) (tree_of-is rows 0 (ready c.args.portfolio.now valid 0 (omega arith) c.requires.programme).has) rule samples rows.fm_xref records valid.in_range.fm_xref are within;
+  good = λ portfolio valid programme rule samples records are within.
+      let rows = portfolio.rows in
+      insured-good (tree_of rows 0) (tree_of-is rows 0 (ready portfolio valid 0 (omega arith) programme).has) rule samples rows.fm_xref records valid.in_range.fm_xref are within;
 }

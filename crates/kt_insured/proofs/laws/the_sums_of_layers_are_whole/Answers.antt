@@ -7,7 +7,7 @@ use Rattle.kt_insured.proofs.laws.the_sums_of_layers_are_whole.Goals as goal
 
 pub returns : goal.returns
 returns c = record {
-  whole = λ rule samples records.
-      let rows = c.args.portfolio.now.rows in
-      sums-whole (tree_of rows 0) (tree_of-is rows 0 (ready c.args.portfolio.now c.is_valid.ensures.valid 0 (omega arith) c.requires.programme).has) rule samples records;
+  whole = λ portfolio valid programme rule samples records.
+      let rows = portfolio.rows in
+      sums-whole (tree_of rows 0) (tree_of-is rows 0 (ready portfolio valid 0 (omega arith) programme).has) rule samples records;
 }

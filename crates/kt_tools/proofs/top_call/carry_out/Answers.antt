@@ -24,13 +24,13 @@ returns-in-Err-clause-words g c = subst (λ read. AnswersWords read (status.Word
 
 pub returns-in-Ok-clause-due : goal.returns-in-Ok-clause-due
 returns-in-Ok-clause-due g c =
-    command_first (command_of c.args.words.now) c.in-Ok.command
+    command_first c.args.words.now (command_of c.args.words.now) c.in-Ok.command
     (world (g.I.Inputs.state c.args.inputs.now) (g.O.Outputs.state c.args.outputs.now) (g.S.Source.state c.args.source.now) (g.K.Sink.state c.args.sink.now))
     (world (g.I.Inputs.state c.run_command.new.inputs) (g.O.Outputs.state c.run_command.new.outputs) (g.S.Source.state c.run_command.new.source) (g.K.Sink.state c.run_command.new.sink))
     (sym c.read_command.ensures.value ∙ c.in-Ok.is) c.run_command.ensures.due
 
 pub returns-in-Err-clause-due : goal.returns-in-Err-clause-due
 returns-in-Err-clause-due g c =
-    words_first (command_of c.args.words.now) c.in-Err.stop
+    words_first c.args.words.now (command_of c.args.words.now) c.in-Err.stop
     (world (g.I.Inputs.state c.args.inputs.now) (g.O.Outputs.state c.args.outputs.now) (g.S.Source.state c.args.source.now) (g.K.Sink.state c.args.sink.now))
     (sym c.read_command.ensures.value ∙ c.in-Err.is)
