@@ -8,7 +8,9 @@ use Rattle.kt_period_cells.specs.Standing.{StandsFor}
 use Rattle.kt_ends.specs.declared.status.Refusal.{Refusal}
 use Rattle.kt_event.specs.declared.block.EventBlock.{EventBlock}
 use Rattle.kt_event.specs.declared.terms.Terms.{Terms}
-use Rattle.kt_part.specs.Folding.{AreGiven, Folded, StoppedAt}
+use Rattle.kt_part.specs.Folding.{AreGiven, Folded, RoundEnds, StoppedAt}
+use Rattle.kt_part.specs.declared.round.RoundStop.{RoundStop}
+use Rattle.kt_part.specs.declared.round.RoundStop.TheVariants.{Fold}
 use Rattle.kt_periods.specs.Adding.{first_refusal}
 use Rattle.kt_rec.specs.FootRows.{first_refused_row}
 use Rattle.kt_rec.specs.Rows.{Rows}
@@ -52,7 +54,7 @@ ids_of_both : (first second : List EventRows) → ids_of (first ++ second) ≡ i
 ids_of_both first second = map-append (λ (one : EventRows). one.event) first second
 
 -- what holds of a list holds of its front, and of what is behind
-each_front : {X : Type 0} (P : X → Type 0) (xs ys : List X) → AllByRecursion P (xs ++ ys) → AllByRecursion P xs
+pub each_front : {X : Type 0} (P : X → Type 0) (xs ys : List X) → AllByRecursion P (xs ++ ys) → AllByRecursion P xs
 each_front P [] ys all = tt
 each_front P (x ∷ xs) ys all = (all.0, each_front P xs ys all.1)
 
@@ -232,3 +234,8 @@ pub why_answered : {E : Type 0} (found : Option Refusal) (answer : Result (Optio
 why_answered (Some why) answer Holds is holds = rw is (holds why refl)
 why_answered None (Ok refusal) Holds is holds = absurd is
 why_answered None (Err stop) Holds is holds = tt
+
+-- where a round was stopped by its fold
+pub stopped_at : {B S : Type 0} (gives : ℕ → B → Type 0) (wants : ℕ → Type 0) (stands : List B → Type 0) (stopped : List B → B → S → Type 0) (before : List B) (count number : ℕ) (why : RoundStop S) (stop : S)
+    → why ≡ Fold number stop → RoundEnds gives wants stands stopped before count (Err why) → StoppedAt gives stopped before count number stop
+stopped_at gives wants stands stopped before count number why stop is ends = subst (λ (one : RoundStop _). RoundEnds gives wants stands stopped before count (Err one)) is ends

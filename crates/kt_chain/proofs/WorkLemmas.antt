@@ -1,5 +1,6 @@
 -- The blocks of a part, one more at a time.
 use Rattle.std.proofs.Common.{◌≡◌, ◌⊎◌, ℕ, List, [], ◌∷◌, ◌++◌, Option, Some, None, Result, Ok, Err, refl, sym, ap, ◌∙◌, append_assoc, inl, inr}
+use Rattle.std.specs.Result.{IfErr}
 use Rattle.kt_event.specs.Losses.{block_unless, event_result}
 use Rattle.kt_event.specs.Plan.{IsOrMemory}
 use Rattle.kt_event.specs.declared.block.EventBlock.{EventBlock}
@@ -57,3 +58,8 @@ module _ (terms : Terms) (rows : Rows) (one : EventRows) where
       none : (bs : List EventBlock) → bs ++ [] ≡ bs
       none [] = refl
       none (b ∷ bs) = ap (λ (xs : List EventBlock). b ∷ xs) (none bs)
+
+-- nothing is said of a failure
+pub any_failure : {T E : Type 0} (answer : Result T E) → IfErr answer (λ _. Unit {0})
+any_failure (Ok made) = tt
+any_failure (Err stop) = tt

@@ -37,7 +37,7 @@ pub record TextsStand (start : FoldStart) (fold : TextFold) (texts : List TextPa
   pub parts : StandsBehind start fold.inner (parts_of texts)
   pub made : fold.made.items ≡ rows_of texts
 
--- the fold has stopped behind the parts, whose rows are kept
+-- the fold has stopped behind the parts, whose rows are kept: at a refusal, or for want of memory
 pub record TextsStop (start : FoldStart) (fold : TextFold) (texts : List TextPart) (text : TextPart) (stop : FoldStop) : Type 0 where
   pub parts : StopsBehind start fold.inner (parts_of texts) text.part stop
   pub made : fold.made.items ≡ rows_of texts

@@ -150,6 +150,9 @@ impl<'a, G: Gate> Work for RoundWork<'a, G> {
 
     ghost gives = { IsTextPart };
 
+    // Of the events of a part nothing says whether memory is wanting for them.
+    ghost lacks = { λ _ _. Unit {0} };
+
     ghost most = { λ work. part_count work.batch (length work.given) };
 
     fn work(&self, k: u32) -> Result<TextPart, AllocError> {

@@ -18,7 +18,8 @@ use Rattle.kt_rec.specs.declared.periods.Occurrence.{Occurrence}
 use Rattle.kt_stream.specs.declared.entry.SummaryRecord.{SummaryRecord}
 use Rattle.kt_tables.specs.Lookups.{occurrences_of}
 use Rattle.kt_fold.specs.Added.{record_added, summaries_added}
-use Rattle.kt_fold.specs.Folds.{StopsAdding}
+use Rattle.kt_fold.specs.Folds.{StopsAdding, fold_refusal}
+use Rattle.kt_fold.specs.Limits.{stop_of_cells}
 use Rattle.kt_fold.proofs.ListLemmas.{around, one_taken}
 use Rattle.kt_fold.specs.AddedLaws.{none_of_both, some_of_first, some_of_second}
 
@@ -64,6 +65,12 @@ one_stops history added (cell_stop.Cells held) (inr is) = ap (λ (found : Option
 one_stops history added (cell_stop.Period key held more) (inl other) = cc
 one_stops history added (cell_stop.Period key held more) (inr is) = ap (λ (found : Option CellStop). option_or (refusal_of added.entry.event found) None) is
 one_stops history added cell_stop.OutOfMemory why = tt
+
+-- the stop of the fold refuses the run as that of the cells does
+pub refusal_same : (event : ℕ) (stop : CellStop) → fold_refusal (stop_of_cells event stop) ≡ cell_refusal event stop
+refusal_same event (cell_stop.Cells held) = refl
+refusal_same event (cell_stop.Period key held more) = refl
+refusal_same event cell_stop.OutOfMemory = refl
 
 -- records that are added one after the other are not refused where none of their losses is
 pub none_refused : (history more : List Added) → first_stop (all_losses history) (all_losses more) ≡ None → first_refusal history more ≡ None

@@ -47,6 +47,21 @@ module _ (start : FoldStart) (parts : List PartBlock) (part : PartBlock) where
     kept_with : (new : FoldState) (one : PartBlock) → new ≡ with_part mid one → new.kept ≡ parts ++ one ∷ []
     kept_with new one is = ap (λ (fold : FoldState). fold.kept) is ∙ ap (λ (kept : List PartBlock). kept ++ one ∷ []) (kept_are ∙ stands.taken.kept_are)
 
+    -- memory was wanting to keep the part, and the fold is as it was
+    wanted : (new : FoldState) → new ≡ mid → StopsBehind start new parts part stop.OutOfMemory
+    wanted new is = record {
+      same = same_rows new (ap (λ (fold : FoldState). fold.rows) is);
+      samples = same_samples new (ap (λ (fold : FoldState). fold.cells) is);
+      stops = record {
+        whole = stands.taken.whole;
+        taken = [];
+        rest = part.blocks;
+        are = refl;
+        clear = ap (λ (blocks : List EventBlock). first_refusal start.history (blocks_added start.rows blocks)) (append-nil (blocks_of parts)) ∙ stands.taken.clear;
+        kept_are = inl (ap (λ (fold : FoldState). fold.kept) is ∙ kept_are ∙ stands.taken.kept_are);
+      };
+    }
+
     -- all blocks of the part were added
     module _ (clear : first_refusal before (blocks_added start.rows part.blocks) ≡ None) (added : StandsFor (before ++ blocks_added start.rows part.blocks) mid.cells) where
       stands_with : (new : FoldState) → part.refused ≡ None → new ≡ with_part mid part → StandsBehind start new (parts ++ part ∷ [])
@@ -80,8 +95,8 @@ module _ (start : FoldStart) (parts : List PartBlock) (part : PartBlock) where
       by_refused : (refused : Option RefusedRow) → part.refused ≡ refused → (result : Result (Unit {0}) FoldStop) (new : FoldState) → KeepsPart mid part refused result new → Takes (StandsBehind start new) (StopsBehind start new) parts part result
       by_refused None is (Ok done) new keeps = stands_with new is keeps
       by_refused (Some row) is (Ok done) new keeps = absurd keeps
-      by_refused None is (Err stop.OutOfMemory) new keeps = record { same = same_rows new keeps.0; samples = same_samples new keeps.1; stops = tt }
-      by_refused (Some row) is (Err stop.OutOfMemory) new keeps = record { same = same_rows new keeps.0; samples = same_samples new keeps.1; stops = tt }
+      by_refused None is (Err stop.OutOfMemory) new keeps = wanted new keeps
+      by_refused (Some row) is (Err stop.OutOfMemory) new keeps = wanted new keeps
       by_refused None is (Err (stop.Row row)) new keeps = absurd keeps
       by_refused (Some refused) is (Err (stop.Row row)) new keeps = stops_with new row (is ∙ ap (λ (one : RefusedRow). Some one) (sym keeps.0)) keeps.1
       by_refused None is (Err (stop.Cell event why)) new keeps = absurd keeps
@@ -98,18 +113,28 @@ module _ (start : FoldStart) (parts : List PartBlock) (part : PartBlock) where
       stops = by (fold_refusal at.stop) stops.reason;
     })
       where
+        front_is : part.blocks ≡ take at.place part.blocks ++ stops.block ∷ stops.later
+        front_is = sym (take-append-drop at.place part.blocks) ∙ ap (λ (rest : List EventBlock). take at.place part.blocks ++ rest) stops.is
+
         by : (why : Option Refusal) → StopsAdding (before ++ blocks_added start.rows (take at.place part.blocks)) (block_added start.rows stops.block) why → StopsBy start.rows start.history parts part why new.kept
-        by None reason = tt
+        by None reason = record {
+          whole = stands.taken.whole;
+          taken = take at.place part.blocks;
+          rest = stops.block ∷ stops.later;
+          are = front_is;
+          clear = clear_with (take at.place part.blocks) stands.taken.clear stops.clear;
+          kept_are = inr (kept_with new (with_blocks (take at.place part.blocks) part) keeps.1);
+        }
         by (Some why) reason = record {
           whole = stands.taken.whole;
           taken = take at.place part.blocks;
           rest = stops.block ∷ stops.later;
-          are = sym (take-append-drop at.place part.blocks) ∙ ap (λ (rest : List EventBlock). take at.place part.blocks ++ rest) stops.is;
+          are = front_is;
           clear = clear_with (take at.place part.blocks) stands.taken.clear stops.clear;
           reason = subst (λ (history : List Added). first_refusal history (block_added start.rows stops.block) ≡ Some why) (history_with (take at.place part.blocks)) reason;
           kept_are = kept_with new (with_blocks (take at.place part.blocks) part) keeps.1;
         }
-    front_taken at answer new stops (inr keeps) = subst (StopsBehind start new parts part) (sym keeps.0) (record { same = same_rows new keeps.1.0; samples = same_samples new keeps.1.1; stops = tt })
+    front_taken at answer new stops (inr keeps) = subst (StopsBehind start new parts part) (sym keeps.0) (wanted new keeps.1)
 
   -- ---- a fold that is seen as its fields
 

@@ -27,11 +27,11 @@ pub record IsFold (portfolio : PortfolioRows) (samples : ℕ) (cells : KeptCells
 abbrev pub with_part : FoldState → PartBlock → FoldState
 with_part fold part = record { rows = fold.rows; cells = fold.cells; kept = fold.kept ++ part ∷ [] }
 
--- a whole part is kept, or memory is wanting
+-- a whole part is kept, or memory is wanting, and the fold is as it was
 abbrev pub KeepsPart : FoldState → PartBlock → Option RefusedRow → Result (Unit {0}) FoldStop → FoldState → Type 0
 KeepsPart old part None (Ok done) new = new ≡ with_part old part
 KeepsPart old part (Some row) (Ok done) new = ⊥
-KeepsPart old part refused (Err stop.OutOfMemory) new = (new.rows ≡ old.rows) × (new.cells ≡ old.cells)
+KeepsPart old part refused (Err stop.OutOfMemory) new = new ≡ old
 KeepsPart old part None (Err (stop.Row row)) new = ⊥
 KeepsPart old part (Some refused) (Err (stop.Row row)) new = (row ≡ refused) × (new ≡ with_part old part)
 KeepsPart old part refused (Err (stop.Cell event why)) new = ⊥
@@ -39,6 +39,6 @@ KeepsPart old part refused (Err (stop.Cell event why)) new = ⊥
 abbrev pub KeepsWhole : FoldState → PartBlock → Result (Unit {0}) FoldStop → FoldState → Type 0
 KeepsWhole old part answer new = KeepsPart old part part.refused answer new
 
--- the front of a part is kept and the stop is handed on, or memory is wanting
+-- the front of a part is kept and the stop is handed on, or memory is wanting, and the fold is as it was
 abbrev pub KeepsFront : FoldState → PartBlock → BlockStop → FoldStop → FoldState → Type 0
-KeepsFront old part at answer new = ((answer ≡ at.stop) × (new ≡ with_part old (with_blocks (take at.place part.blocks) part))) ⊎ ((answer ≡ stop.OutOfMemory) × ((new.rows ≡ old.rows) × (new.cells ≡ old.cells)))
+KeepsFront old part at answer new = ((answer ≡ at.stop) × (new ≡ with_part old (with_blocks (take at.place part.blocks) part))) ⊎ ((answer ≡ stop.OutOfMemory) × (new ≡ old))

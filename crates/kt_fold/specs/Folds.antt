@@ -1,6 +1,6 @@
 -- What a fold of parts stands for.
 -- The rules: docs/ARCHITECTURE.md, "A run of all stages"; docs/REFUSALS.md, "Order".
-use Rattle.std.specs.Prelude.{◌≡◌, ℕ, List, [], ◌∷◌, ◌++◌, drop, take, Option, Some, None, Result, Ok, Err}
+use Rattle.std.specs.Prelude.{◌≡◌, ◌⊎◌, ℕ, List, [], ◌∷◌, ◌++◌, drop, take, Option, Some, None, Result, Ok, Err}
 use Rattle.std.specs.List.{AllByRecursion, flat_map}
 use Rattle.kt_period_cells.specs.Losses.{Added}
 use Rattle.kt_period_cells.specs.Standing.{KeptCells, StandsFor}
@@ -8,9 +8,10 @@ use Rattle.kt_ends.specs.declared.status.Refusal.{Refusal}
 use Rattle.kt_ends.specs.declared.status.Refusal.TheVariants as refusal
 use Rattle.kt_event.specs.Losses.{AreSummaries}
 use Rattle.kt_event.specs.declared.block.EventBlock.{EventBlock}
-use Rattle.kt_periods.specs.Adding.{cell_refusal, first_refusal}
+use Rattle.kt_periods.specs.Adding.{first_refusal}
 use Rattle.kt_rec.specs.Rows.{Rows}
 use Rattle.kt_fold.specs.Added.{block_added, blocks_added}
+use Rattle.kt_fold.specs.Limits.{limit_refusal}
 use Rattle.kt_fold.specs.declared.fold.BlockStop.{BlockStop}
 use Rattle.kt_fold.specs.declared.fold.FoldStop.{FoldStop}
 use Rattle.kt_fold.specs.declared.fold.FoldStop.TheVariants as fold_stop
@@ -60,13 +61,23 @@ pub record HasStopped (rows : Rows) (history : List Added) (parts : List PartBlo
 
 -- why a stop of the fold refuses the run; none where memory was wanting
 abbrev pub fold_refusal : FoldStop → Option Refusal
-fold_refusal (fold_stop.Cell event why) = cell_refusal event why
+fold_refusal (fold_stop.Cell event limit) = Some (limit_refusal event limit)
 fold_refusal (fold_stop.Row row) = Some (refusal.Row row.event row.row row.cause)
 fold_refusal fold_stop.OutOfMemory = None
 
--- how a fold has stopped by why it did: for want of memory nothing is said
+-- Memory was wanting behind parts, in the next one or behind it: no record of the parts and of some blocks of this one was refused, and the
+-- parts are kept alone, or with these blocks of this one
+pub record HasWanted (rows : Rows) (history : List Added) (parts : List PartBlock) (part : PartBlock) (kept : List PartBlock) : Type 0 where
+  pub whole : AllByRecursion IsWhole parts
+  pub taken : List EventBlock
+  pub rest : List EventBlock
+  pub are : part.blocks ≡ taken ++ rest
+  pub clear : first_refusal history (blocks_added rows (blocks_of parts ++ taken)) ≡ None
+  pub kept_are : (kept ≡ parts) ⊎ (kept ≡ parts ++ with_blocks taken part ∷ [])
+
+-- how a fold has stopped by why it did: at a refusal, or for want of memory
 abbrev pub StopsBy : Rows → List Added → List PartBlock → PartBlock → Option Refusal → List PartBlock → Type 0
-StopsBy rows history parts part None kept = Unit {0}
+StopsBy rows history parts part None kept = HasWanted rows history parts part kept
 StopsBy rows history parts part (Some why) kept = HasStopped rows history parts part why kept
 
 -- a fold as contracts see it: the rows of its tables, its cells, and the parts that it keeps

@@ -1,4 +1,5 @@
 pub mod Added
+pub mod Limits
 pub mod Folds
 pub mod AddedLaws
 pub mod FoldKeeps

@@ -12,6 +12,7 @@ ghost use Rattle.kt_fold.specs.Folds.{AddsAll};
 ghost use Rattle.kt_fold.specs.ReadyParts.{IsReadyBlock};
 
 use crate::fold::FoldStop;
+use crate::limit::stop_of_cells;
 use crate::ready::ReadyBlock;
 use kt_event::{EventBlock, Summaries};
 use kt_period_cells::Cells;
@@ -34,10 +35,7 @@ fn add_summaries(
     for entry in summaries.records.as_slice() {
         let occurrences = portfolio.occurrences(entry.event);
         if let Err(stop) = cells.add(summaries.perspective, summaries.set, entry, occurrences) {
-            return Err(FoldStop::Cell {
-                event: entry.event,
-                stop,
-            });
+            return Err(stop_of_cells(entry.event, stop));
         }
     }
     Ok(())

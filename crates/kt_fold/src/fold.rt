@@ -11,15 +11,15 @@ ghost use Rattle.kt_fold.specs.ReadyParts.{AreReadyBlocks};
 ghost use Rattle.kt_keys.specs.Refusals.{is_loaded};
 ghost use Rattle.kt_rec.specs.declared.table.Table.TheVariants as table;
 ghost use Rattle.kt_fold.specs.Folds.{AddsBlocks, IsGoodPart, fold_refusal};
-ghost use Rattle.kt_periods.specs.Adding.{cell_refusal as refusal_of_cells};
 
 use crate::adding::add_ready;
+use crate::limit::CellLimit;
 use crate::part::{PartBlock, RefusedRow};
 use crate::ready::{ReadyBlocks, ReadyPart};
 use kt_ends::Refusal;
 use kt_event::EventBlock;
 use kt_part::Fold;
-use kt_period_cells::{CellStop, Cells};
+use kt_period_cells::Cells;
 use kt_tables::Portfolio;
 use std::alloc::Global;
 use std::marker::Model;
@@ -28,12 +28,12 @@ use std::mem::{forget, replace};
 /// Why a fold stopped.
 #[derive(Drop)]
 pub enum FoldStop {
-    /// A record of an event passes a limit, or memory is wanting for its cells.
+    /// A record of an event passes a limit of the cells.
     Cell {
         /// The event.
         event: u32,
-        /// Why.
-        stop: CellStop,
+        /// The limit.
+        limit: CellLimit,
     },
     /// A footprint row is refused.
     Row(RefusedRow),
@@ -47,26 +47,10 @@ impl FoldStop {
         ensures { result ≡ fold_refusal self }
     {
         match self {
-            FoldStop::Cell { event, stop } => cell_refusal(event, stop),
+            FoldStop::Cell { event, limit } => Some(limit.refusal(event)),
             FoldStop::Row(row) => Some(row.refusal()),
             FoldStop::OutOfMemory => None,
         }
-    }
-}
-
-/// How a record of an event is refused by the cells; `None` where memory was wanting.
-fn cell_refusal(event: u32, stop: CellStop) -> Option<Refusal>
-    ensures { result ≡ refusal_of_cells event stop }
-{
-    match stop {
-        CellStop::Cells { held } => Some(Refusal::Cells { event, held }),
-        CellStop::Period { key, held, more } => Some(Refusal::Period {
-            event,
-            key,
-            held,
-            more,
-        }),
-        CellStop::OutOfMemory => None,
     }
 }
 
@@ -185,7 +169,8 @@ impl<'a> RunFold<'a> {
         }
     }
 
-    /// Keeps a part whose blocks were added, and stops where a row was refused behind them.
+    /// Keeps a part whose blocks were added, and stops where a row was refused behind them. Where memory is wanting to keep it, the fold is as
+    /// it was.
     fn keep_whole(&mut self, part: PartBlock) -> Result<(), FoldStop>
         requires good { IsGoodPart self.old.cells.samples part }
         ensures { KeepsWhole self.old part result self.new }
@@ -200,7 +185,7 @@ impl<'a> RunFold<'a> {
         }
     }
 
-    /// Keeps the blocks of a part that were added, and stops behind them.
+    /// Keeps the blocks of a part that were added, and stops behind them. Where memory is wanting to keep them, the fold is as it was.
     fn keep_front(&mut self, part: PartBlock, at: BlockStop) -> FoldStop
         requires within { at.place ≤ length part.blocks }
         requires good { IsGoodPart self.old.cells.samples part }

@@ -4,11 +4,13 @@
 
 mod adding;
 mod fold;
+mod limit;
 mod part;
 mod ready;
 mod ready_list;
 mod shared;
 
 pub use fold::{FoldStop, RunFold};
+pub use limit::CellLimit;
 pub use part::{PartBlock, RefusedRow};
 pub use ready::ReadyPart;

@@ -1,5 +1,5 @@
 -- Lanes are made one by one, and gathered one by one.
-use Rattle.std.proofs.Common.{◌≡◌, ℕ, ◌+◌, ◌*◌, ◌<◌, ◌≤◌, ◌≢◌, Bool, true, false, List, [], ◌∷◌, ◌++◌, Option, Some, None, IfSome, Global, length, get_or, take, refl, sym, ap, subst, ◌∙◌, inl, inr, ⊎_elim, append_assoc, append-nil, length-append, zero-le, arith}
+use Rattle.std.proofs.Common.{◌≡◌, ℕ, ◌+◌, ◌*◌, ◌<◌, ◌≤◌, ◌≢◌, Bool, true, false, List, [], ◌∷◌, ◌++◌, Option, Some, None, Global, length, get_or, take, refl, sym, ap, subst, ◌∙◌, inl, inr, ⊎_elim, append_assoc, append-nil, length-append, zero-le, arith}
 use Rattle.std.proofs.lemmas.Bool.{cases_lt}
 use Rattle.std.proofs.lemmas.List.{get_or_append_left, get_or_push, length_push, map-append, flat_map_more, nil_from_length, take_at}
 use Rattle.rtrb.specs.Ring.{received, sent, IsPair}
@@ -34,13 +34,12 @@ module _ {B : Type 0} where
   }
 
   -- what is held for the next number
-  pub next-held : (gives : B → Type 0) (reorder : Reorder (Option B)) (number : ℕ) (slot : Option (Option B)) → next_of reorder ≡ number → held_at reorder (next_of reorder) ≡ slot → IsHeld gives (held_at reorder number) → IsHeld gives slot
-  next-held gives reorder number slot next is held = subst (IsHeld gives) (ap (held_at reorder) (sym next) ∙ is) held
+  pub next-held : (made : Option B → Type 0) (reorder : Reorder (Option B)) (number : ℕ) (slot : Option (Option B)) → next_of reorder ≡ number → held_at reorder (next_of reorder) ≡ slot → IsHeld made (held_at reorder number) → IsHeld made slot
+  next-held made reorder number slot next is held = subst (IsHeld made) (ap (held_at reorder) (sym next) ∙ is) held
 
-  -- a block that is held for the next number is given for it
-  pub next-given : (gives : B → Type 0) (reorder : Reorder (Option B)) (number : ℕ) (held : Option B) (block : B) → next_of reorder ≡ number → held_at reorder (next_of reorder) ≡ Some held → held ≡ Some block
-      → IsHeld gives (held_at reorder number) → gives block
-  next-given gives reorder number held block next is is' at = subst (λ (h : Option B). IsHeld gives (Some h)) is' (next-held gives reorder number (Some held) next is at)
+  -- it was made for it
+  pub next-made : (made : Option B → Type 0) (reorder : Reorder (Option B)) (number : ℕ) (held block : Option B) → next_of reorder ≡ number → held_at reorder (next_of reorder) ≡ Some held → held ≡ block → IsHeld made (held_at reorder number) → made block
+  next-made made reorder number held block next is is' at = subst made is' (next-held made reorder number (Some held) next is at)
 
 module _ {B : Type 0} where
   -- one more lane stands behind the others
@@ -88,32 +87,31 @@ module _ {B : Type 0} where
   made-more claims workers arms arms' ends ends' arm end lanes ready pair empty is is' =
       subst (λ (a : List (Arm B)). AreLanes claims (workers + 1) a ends') (sym is) (subst (λ (e : List (End B)). AreLanes claims (workers + 1) (arms ++ arm ∷ []) e) (sym is') (more-lanes claims workers arms ends arm end lanes ready pair empty))
 
-  module _ (gives : ℕ → B → Type 0) (bound : ℕ) where
+  module _ (made : ℕ → Option B → Type 0) (bound : ℕ) where
     -- items that were sent in front of others
-    sent-both : (one other : List (Item B)) → AreSent gives bound one → AreSent gives bound other → AreSent gives bound (one ++ other)
+    sent-both : (one other : List (Item B)) → AreSent made bound one → AreSent made bound other → AreSent made bound (one ++ other)
     sent-both [] other are are' = are'
     sent-both (item ∷ one) other are are' = (are.0, are.1, sent-both one other are.2 are')
 
     -- no number from the bound on was sent
-    sent-none : (number : ℕ) (items : List (Item B)) → AreSent gives bound items → bound ≤ number → times number (numbers_of items) ≡ 0
+    sent-none : (number : ℕ) (items : List (Item B)) → AreSent made bound items → bound ≤ number → times number (numbers_of items) ≡ 0
     sent-none number [] are above = refl
     sent-none number (item ∷ items) are above = let below = are.0 in let isnt : item.number ≢ number = λ is. absurd (omega arith) in omega (arith, at-no item.number number isnt, sent-none number items are.2 above)
 
-    -- what was sent is given
-    sent-given : (one : Item B) (items : List (Item B)) → AreSent gives bound items → IsIn one items → IfSome one.block (gives one.number)
-    sent-given one [] are is = absurd is
-    sent-given one (item ∷ items) are is = ⊎_elim (λ (same : item ≡ one). subst (λ (i : Item B). IfSome i.block (gives i.number)) same are.1) (λ (later : IsIn one items). sent-given one items are.2 later) is
+    -- what was sent was made
+    sent-made : (one : Item B) (items : List (Item B)) → AreSent made bound items → IsIn one items → made one.number one.block
+    sent-made one [] are is = absurd is
+    sent-made one (item ∷ items) are is = ⊎_elim (λ (same : item ≡ one). subst (λ (i : Item B). made i.number i.block) same are.1) (λ (later : IsIn one items). sent-made one items are.2 later) is
 
-    -- what a slot holds of what was sent is given
-    slot-held : (number : ℕ) (slot : Option (Option B)) (items : List (Item B)) → AreSent gives bound items → times number (numbers_of items) ≡ 1 → FitsSlot number slot items → IsHeld (gives number) slot
+    -- what a slot holds of what was sent was made
+    slot-held : (number : ℕ) (slot : Option (Option B)) (items : List (Item B)) → AreSent made bound items → times number (numbers_of items) ≡ 1 → FitsSlot number slot items → IsHeld (made number) slot
     slot-held number None items are once fits = absurd (omega arith)
-    slot-held number (Some None) items are once fits = tt
-    slot-held number (Some (Some block)) items are once fits = sent-given (record { number = number; block = Some block }) items are fits.1
+    slot-held number (Some block) items are once fits = sent-made (record { number = number; block = block }) items are fits.1
 
     module _ (claims : Claims) (workers : ℕ) where
       -- all workers have ended, and none is gathered
       all-ended : (arms now : List (Arm B)) (ends ends' : List (End B)) (pass : Pass) (inbox : Inbox B) → AreLanes claims workers arms ends → IsGivenOut claims workers workers pass
-          → length now ≡ length arms → length ends' ≡ length ends → HaveWorked claims gives bound arms now → AreSame ends ends' → HasCome inbox (all_received ends') → AreGathered gives bound claims workers now ends' pass inbox 0
+          → length now ≡ length arms → length ends' ≡ length ends → HaveWorked claims made bound arms now → AreSame ends ends' → HasCome inbox (all_received ends') → AreGathered made bound claims workers now ends' pass inbox 0
       all-ended arms now ends ends' pass inbox lanes given many many' worked same come = record {
         arms_left = let many'' = lanes.many in omega arith;
         done = λ place arm within. (worked place arm (omega arith)).done;
@@ -135,27 +133,27 @@ module _ {B : Type 0} where
       -- where nothing had come before, and the arms and lanes were lent as slices
       pub begun : (arms was now rest : List (Arm B)) (ends was' ends' rest' : List (End B)) (many many' : ℕ) (pass : Pass) (first inbox : Inbox B) → AreLanes claims workers arms ends → IsGivenOut claims workers workers pass
           → was ≡ arms → was' ≡ ends → length now ≡ length was → length ends' ≡ length was' → length now ≡ many → length ends' ≡ many'
-          → HaveWorked claims gives bound was now → AreSame was' ends' → (HasCome first (all_received was') → HasCome inbox (all_received ends'))
+          → HaveWorked claims made bound was now → AreSame was' ends' → (HasCome first (all_received was') → HasCome inbox (all_received ends'))
           → next_of first.reorder ≡ 0 → first.is_spoiled ≡ false → ((number : ℕ) → held_at first.reorder number ≡ None)
-          → AreGathered gives bound claims workers (take many (now ++ rest)) (take many' (ends' ++ rest')) pass inbox 0
+          → AreGathered made bound claims workers (take many (now ++ rest)) (take many' (ends' ++ rest')) pass inbox 0
       begun arms was now rest ends was' ends' rest' many many' pass first inbox lanes given is is' long long' len len' worked same comes none fine empty =
           let lent = subst (λ (a : List (Arm B)). AreLanes claims workers a was') (sym is) (subst (λ (e : List (End B)). AreLanes claims workers arms e) (sym is') lanes) in
           let come = comes (nothing-come first none fine empty (all_received was') lent.empty) in
-          subst (λ (a : List (Arm B)). AreGathered gives bound claims workers a (take many' (ends' ++ rest')) pass inbox 0) (sym (take_at now rest many len))
-          (subst (λ (e : List (End B)). AreGathered gives bound claims workers now e pass inbox 0) (sym (take_at ends' rest' many' len'))
+          subst (λ (a : List (Arm B)). AreGathered made bound claims workers a (take many' (ends' ++ rest')) pass inbox 0) (sym (take_at now rest many len))
+          (subst (λ (e : List (End B)). AreGathered made bound claims workers now e pass inbox 0) (sym (take_at ends' rest' many' len'))
           (all-ended was now was' ends' pass inbox lent given long long' worked same come))
 
       -- the last of the others is gathered
       one-gathered : (arms : List (Arm B)) (ends : List (End B)) (arm : Arm B) (end : End B) (pass pass' : Pass) (inbox inbox' : Inbox B) (gathered : ℕ)
-          → AreGathered gives bound claims workers (arms ++ arm ∷ []) (ends ++ end ∷ []) pass inbox gathered → IsPassOf claims pass' → claims_of pass' ≡ claims_of pass ++ claims_of arm.pass → left_of pass' ≡ left_of pass + left_of arm.pass
+          → AreGathered made bound claims workers (arms ++ arm ∷ []) (ends ++ end ∷ []) pass inbox gathered → IsPassOf claims pass' → claims_of pass' ≡ claims_of pass ++ claims_of arm.pass → left_of pass' ≡ left_of pass + left_of arm.pass
           → workers_of pass' ≡ workers_of pass → (length (claims_of pass') + left_of pass' ≡ 17 * workers_of pass' → AreFirst (claims_of pass'))
           → ((front back : List (Item B)) → HasCome inbox (front ++ (received end ++ back)) → HasCome inbox' (front ++ (sent arm.ring ++ back)))
-          → AreGathered gives bound claims workers arms ends pass' inbox' (gathered + 1)
+          → AreGathered made bound claims workers arms ends pass' inbox' (gathered + 1)
       one-gathered arms ends arm end pass pass' inbox inbox' gathered are of joined left among settled comes =
-          let done = all-last (IsDone claims gives bound) arms arm are.done in
+          let done = all-last (IsDone claims made bound) arms arm are.done in
           let numbers = numbers_of (sent arm.ring) in record {
             arms_left = let left' = are.arms_left in let more = length_push arms arm in omega arith;
-            done = all-front (IsDone claims gives bound) arms arm are.done;
+            done = all-front (IsDone claims made bound) arms arm are.done;
             paired = paired-front arms ends arm end are.paired;
             of = of;
             among = among ∙ are.among;
@@ -193,15 +191,15 @@ module _ {B : Type 0} where
 
       -- one more worker is gathered
       pub gathered-more : (arms₀ arms : List (Arm B)) (ends₀ ends : List (End B)) (arm : Arm B) (end : End B) (pass pass' : Pass) (inbox inbox' : Inbox B) (gathered : ℕ)
-          → arms₀ ≡ arms ++ arm ∷ [] → ends₀ ≡ ends ++ end ∷ [] → AreGathered gives bound claims workers arms₀ ends₀ pass inbox gathered → IsPassOf claims pass' → claims_of pass' ≡ claims_of pass ++ claims_of arm.pass → left_of pass' ≡ left_of pass + left_of arm.pass
+          → arms₀ ≡ arms ++ arm ∷ [] → ends₀ ≡ ends ++ end ∷ [] → AreGathered made bound claims workers arms₀ ends₀ pass inbox gathered → IsPassOf claims pass' → claims_of pass' ≡ claims_of pass ++ claims_of arm.pass → left_of pass' ≡ left_of pass + left_of arm.pass
           → workers_of pass' ≡ workers_of pass → (length (claims_of pass') + left_of pass' ≡ 17 * workers_of pass' → AreFirst (claims_of pass'))
           → ((front back : List (Item B)) → HasCome inbox (front ++ (received end ++ back)) → HasCome inbox' (front ++ (sent arm.ring ++ back)))
-          → AreGathered gives bound claims workers arms ends pass' inbox' (gathered + 1)
+          → AreGathered made bound claims workers arms ends pass' inbox' (gathered + 1)
       gathered-more arms₀ arms ends₀ ends arm end pass pass' inbox inbox' gathered is is' are =
-          let at = subst (λ (a : List (Arm B)). AreGathered gives bound claims workers a ends₀ pass inbox gathered) is are in
-          one-gathered arms ends arm end pass pass' inbox inbox' gathered (subst (λ (e : List (End B)). AreGathered gives bound claims workers (arms ++ arm ∷ []) e pass inbox gathered) is' at)
+          let at = subst (λ (a : List (Arm B)). AreGathered made bound claims workers a ends₀ pass inbox gathered) is are in
+          one-gathered arms ends arm end pass pass' inbox inbox' gathered (subst (λ (e : List (End B)). AreGathered made bound claims workers (arms ++ arm ∷ []) e pass inbox gathered) is' at)
 
-      module _ (arms : List (Arm B)) (ends : List (End B)) (pass : Pass) (inbox : Inbox B) (real : 1 ≤ workers) (few : bound ≤ 16) (are : AreGathered gives bound claims workers arms ends pass inbox workers) where
+      module _ (arms : List (Arm B)) (ends : List (End B)) (pass : Pass) (inbox : Inbox B) (real : 1 ≤ workers) (few : bound ≤ 16) (are : AreGathered made bound claims workers arms ends pass inbox workers) where
         -- each number below the bound was claimed exactly once
         claimed-once : (number : ℕ) → number < bound → times number (claims_of pass) ≡ 1
         claimed-once number below = ⊎_elim
@@ -238,8 +236,8 @@ module _ {B : Type 0} where
         pub never-spoiled : inbox.is_spoiled ≡ true → ⊥
         never-spoiled spoiled = never-strange (subst (λ (b : Bool). HoldsAll (held_at inbox.reorder) b are.sent) spoiled all-come.holds)
 
-        -- and the block of each number below the bound is held
-        pub all-held : inbox.is_spoiled ≡ false → AreHeld gives bound inbox.reorder
+        -- and what was made for each number below the bound is held
+        pub all-held : inbox.is_spoiled ≡ false → AreHeld made bound inbox.reorder
         all-held fine = record {
           none_taken = all-come.none_taken;
           held = λ number below.

@@ -1,7 +1,7 @@
 -- The blocks of a round, one more at a time.
-use Rattle.std.proofs.Common.{◌≡◌, ℕ, suc, ◌+◌, List, [], ◌∷◌, ◌++◌, length, Result, Ok, Err, refl, sym, ap, subst, ◌∙◌, append_assoc, append-nil, arith}
+use Rattle.std.proofs.Common.{◌≡◌, ℕ, suc, ◌+◌, List, [], ◌∷◌, ◌++◌, length, Result, Ok, Err, refl, sym, ap, subst, ◌∙◌, append_assoc, append-nil, inr, arith}
 use Rattle.kt_part.specs.Claimed.{ClaimsAfter, HasClaimed}
-use Rattle.kt_part.specs.Folding.{AreGiven, Folded, FoldedSome}
+use Rattle.kt_part.specs.Folding.{AreGiven, Folded, FoldedSome, RoundEnds}
 use Rattle.kt_part.specs.declared.laws.Pass.{Pass}
 use Rattle.kt_part.specs.declared.round.RoundStop.{RoundStop}
 use Rattle.kt_part.specs.declared.round.RoundStop.TheVariants.{Fold, OutOfMemory}
@@ -17,8 +17,8 @@ module _ {B : Type 0} (gives : ℕ → B → Type 0) (before : List B) where
   none stands stand = record { blocks = []; many = refl; given = tt; stand = subst stands (sym (append-nil before)) stand }
 
   -- nor is one taken where memory is wanting before the first, of however many
-  pub none-yet : (stands : List B → Type 0) (most : ℕ) → stands before → FoldedSome gives stands before most
-  none-yet stands most stand = record { count = 0; within = omega arith; folded = none stands stand }
+  pub none-yet : (wants : ℕ → Type 0) (stands : List B → Type 0) (most : ℕ) → stands before → wants 0 → FoldedSome gives wants stands before most
+  none-yet wants stands most stand wanting = record { count = 0; within = omega arith; folded = none stands stand; wanting = wanting }
 
   -- one block more is taken
   pub one-more : (stands now : List B → Type 0) (count : ℕ) (folded : Folded gives stands before count) (block : B) → gives count block → now ((before ++ folded.blocks) ++ block ∷ []) → Folded gives now before (count + 1)
@@ -37,4 +37,11 @@ module _ {B : Type 0} (gives : ℕ → B → Type 0) (before : List B) where
 pub claimed-after : {S : Type 0} (workers bound : ℕ) (pass : Pass) (result : Result (Unit {0}) (RoundStop S)) → HasClaimed workers bound pass → ClaimsAfter workers bound pass result
 claimed-after workers bound pass (Ok done) claimed = claimed
 claimed-after workers bound pass (Err (Fold number stop)) claimed = claimed
-claimed-after workers bound pass (Err OutOfMemory) claimed = tt
+claimed-after workers bound pass (Err OutOfMemory) claimed = inr claimed
+
+-- how a round ends, where more is said of memory
+pub ends-with : {B S : Type 0} (gives : ℕ → B → Type 0) (wants more : ℕ → Type 0) (stands : List B → Type 0) (stopped : List B → B → S → Type 0) (before : List B) (count : ℕ) (result : Result (Unit {0}) (RoundStop S)) → ((taken : ℕ) → wants taken → more taken)
+    → RoundEnds gives wants stands stopped before count result → RoundEnds gives more stands stopped before count result
+ends-with gives wants more stands stopped before count (Ok done) says ends = ends
+ends-with gives wants more stands stopped before count (Err (Fold number stop)) says ends = ends
+ends-with gives wants more stands stopped before count (Err OutOfMemory) says ends = record { count = ends.count; within = ends.within; folded = ends.folded; wanting = says ends.count ends.wanting }

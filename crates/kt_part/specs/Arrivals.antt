@@ -1,5 +1,5 @@
 -- What has come over the lanes of a round, in any order, and what is held of it.
-use Rattle.std.specs.Prelude.{◌≡◌, ℕ, ◌<◌, ◌≤◌, ◌⊎◌, Bool, true, false, List, [], ◌∷◌, map, Option, Some, None, IfSome}
+use Rattle.std.specs.Prelude.{◌≡◌, ℕ, ◌<◌, ◌≤◌, ◌⊎◌, Bool, true, false, List, [], ◌∷◌, map, Option, Some, None}
 use Rattle.std.specs.List.{flat_map}
 use Rattle.rtrb.specs.Ring.{received}
 use Rattle.rtrb.specs.declared.consumer.Consumer.{Consumer}
@@ -42,13 +42,17 @@ module _ {B : Type 0} where
     pub none_taken : next_of inbox.reorder ≡ 0
     pub holds : HoldsAll (held_at inbox.reorder) inbox.is_spoiled came
 
-  -- items of a worker: each has a number below a bound, and its block, where it has one, is given for it
-  abbrev pub AreSent : (ℕ → B → Type 0) → ℕ → List (Item B) → Type 0
-  AreSent gives bound [] = Unit {0}
-  AreSent gives bound (item ∷ items) = (item.number < bound) × IfSome item.block (gives item.number) × AreSent gives bound items
+  -- what a worker made for a number: a block that is given for it, or none, where memory was wanting for it
+  abbrev pub IsMade : (ℕ → B → Type 0) → (ℕ → Type 0) → ℕ → Option B → Type 0
+  IsMade gives lacks number None = lacks number
+  IsMade gives lacks number (Some block) = gives number block
 
-  -- a block that is held for a number is given for it, or memory was wanting for it
-  abbrev pub IsHeld : (B → Type 0) → Option (Option B) → Type 0
-  IsHeld gives None = ⊥
-  IsHeld gives (Some None) = Unit {0}
-  IsHeld gives (Some (Some block)) = gives block
+  -- items of a worker: each has a number below a bound, and what was made for it
+  abbrev pub AreSent : (ℕ → Option B → Type 0) → ℕ → List (Item B) → Type 0
+  AreSent made bound [] = Unit {0}
+  AreSent made bound (item ∷ items) = (item.number < bound) × made item.number item.block × AreSent made bound items
+
+  -- what is held for a number was made for it
+  abbrev pub IsHeld : (Option B → Type 0) → Option (Option B) → Type 0
+  IsHeld made None = ⊥
+  IsHeld made (Some block) = made block

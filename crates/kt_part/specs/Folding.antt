@@ -30,14 +30,16 @@ pub record StoppedAt {B S : Type 0} (gives : ℕ → B → Type 0) (stopped : Li
   pub is_given : gives number block
   pub has_stopped : stopped (before ++ blocks) block stop
 
--- the first blocks were taken, some or all of so many
-pub record FoldedSome {B : Type 0} (gives : ℕ → B → Type 0) (stands : List B → Type 0) (before : List B) (most : ℕ) : Type 0 where
+-- the first blocks were taken, some or all of so many, and memory was wanting behind them
+pub record FoldedSome {B : Type 0} (gives : ℕ → B → Type 0) (wants : ℕ → Type 0) (stands : List B → Type 0) (before : List B) (most : ℕ) : Type 0 where
   pub count : ℕ
   pub within : count ≤ most
   pub folded : Folded gives stands before count
+  pub wanting : wants count
 
--- how a round ends: all blocks were taken, or the fold stopped at the first that it refused, or memory was wanting behind some
-abbrev pub RoundEnds : {B S : Type 0} → (ℕ → B → Type 0) → (List B → Type 0) → (List B → B → S → Type 0) → List B → ℕ → Result (Unit {0}) (RoundStop S) → Type 0
-RoundEnds gives stands stopped before count (Ok done) = Folded gives stands before count
-RoundEnds gives stands stopped before count (Err (Fold number stop)) = StoppedAt gives stopped before count number stop
-RoundEnds gives stands stopped before count (Err OutOfMemory) = FoldedSome gives stands before count
+-- how a round ends: all blocks were taken, or the fold stopped at the first that it refused, or memory was wanting behind some, where
+-- it can be
+abbrev pub RoundEnds : {B S : Type 0} → (ℕ → B → Type 0) → (ℕ → Type 0) → (List B → Type 0) → (List B → B → S → Type 0) → List B → ℕ → Result (Unit {0}) (RoundStop S) → Type 0
+RoundEnds gives wants stands stopped before count (Ok done) = Folded gives stands before count
+RoundEnds gives wants stands stopped before count (Err (Fold number stop)) = StoppedAt gives stopped before count number stop
+RoundEnds gives wants stands stopped before count (Err OutOfMemory) = FoldedSome gives wants stands before count

@@ -14,23 +14,23 @@ use Rattle.kt_part.specs.declared.laws.Pass.{Pass}
 use Rattle.kt_part.specs.declared.reorder.Reorder.{Reorder}
 use Rattle.std.specs.Prelude.{Option}
 
-module _ {B : Type 0} (gives : ℕ → B → Type 0) (bound : ℕ) where
+module _ {B : Type 0} (made : ℕ → Option B → Type 0) (bound : ℕ) where
   -- So many workers are gathered: their claims stand in the pass, and what they sent has come; the others have ended
   pub record AreGathered (claims : Claims) (workers : ℕ) (arms : List (Arm B)) (ends : List (Consumer (Item B) _ _)) (pass : Pass) (inbox : Inbox B) (gathered : ℕ) : Type 0 where
     pub arms_left : length arms + gathered ≡ workers
-    pub done : All (IsDone claims gives bound) arms
+    pub done : All (IsDone claims made bound) arms
     pub paired : ArePaired arms ends
     pub of : IsPassOf claims pass
     pub among : workers_of pass ≡ workers
     pub turns : length (claims_of pass) + left_of pass ≡ 17 * gathered
     pub settled : length (claims_of pass) + left_of pass ≡ 17 * workers_of pass → AreFirst (claims_of pass)
     pub sent : List (Item B)
-    pub items : AreSent gives bound sent
+    pub items : AreSent made bound sent
     pub same : (number : ℕ) → number < bound → times number (claims_of pass) ≡ times number (numbers_of sent)
     pub come : HasCome inbox (all_received ends ++ sent)
     pub reached : (gathered ≡ 0) ⊎ ((last : ℕ) × (bound ≤ last) × (1 ≤ times last (claims_of pass)))
 
-  -- the block of each number below the bound is held, or that memory was wanting for it
+  -- what was made for each number below the bound is held
   pub record AreHeld (reorder : Reorder (Option B)) : Type 0 where
     pub none_taken : next_of reorder ≡ 0
-    pub held : (number : ℕ) → number < bound → IsHeld (gives number) (held_at reorder number)
+    pub held : (number : ℕ) → number < bound → IsHeld (made number) (held_at reorder number)

@@ -1,5 +1,5 @@
 -- What a worker is handed, what it promises, and the two ends of its lane.
-use Rattle.std.specs.Prelude.{◌≡◌, ℕ, ◌+◌, ◌<◌, ◌≤◌, List, [], ◌∷◌, ◌++◌, All, length, slice_index_or}
+use Rattle.std.specs.Prelude.{◌≡◌, ℕ, ◌+◌, ◌<◌, ◌≤◌, List, [], ◌∷◌, ◌++◌, All, length, slice_index_or, Option}
 use Rattle.rtrb.specs.Ring.{sent, known_free, IsPair, SameProducer, SameConsumer}
 use Rattle.rtrb.specs.declared.consumer.Consumer.{Consumer}
 use Rattle.kt_part.specs.Arrivals.{AreSent, all_received, numbers_of}
@@ -21,7 +21,7 @@ module _ {B : Type 0} (claims : Claims) where
     pub empty : sent arm.ring ≡ []
     pub free : known_free arm.ring ≡ 16
 
-  module _ (gives : ℕ → B → Type 0) (bound : ℕ) where
+  module _ (made : ℕ → Option B → Type 0) (bound : ℕ) where
     -- a worker has made so many draws and sent an item for each
     pub record IsWorking (before now : Arm B) (turns : ℕ) : Type 0 where
       pub of : IsPassOf claims now.pass
@@ -29,18 +29,18 @@ module _ {B : Type 0} (claims : Claims) where
       pub left : left_of now.pass + turns ≡ 17
       pub many : length (sent now.ring) ≡ turns
       pub free : known_free now.ring + turns ≡ 16
-      pub items : AreSent gives bound (sent now.ring)
+      pub items : AreSent made bound (sent now.ring)
       pub ring : SameProducer before.ring now.ring
 
-    -- What a worker promises: it sent one item for each of its claims below the bound, in the order of its claims, and its last claim
-    -- is not below the bound
+    -- What a worker promises: it sent one item for each of its claims below the bound, in the order of its claims, each with what was
+    -- made for it, and its last claim is not below the bound
     pub record IsDone (arm : Arm B) : Type 0 where
       pub of : IsPassOf claims arm.pass
       pub last : ℕ
       pub claimed : claims_of arm.pass ≡ numbers_of (sent arm.ring) ++ last ∷ []
       pub reached : bound ≤ last
       pub turns : length (claims_of arm.pass) + left_of arm.pass ≡ 17
-      pub items : AreSent gives bound (sent arm.ring)
+      pub items : AreSent made bound (sent arm.ring)
 
     -- and the end of its lane is the one that it was handed
     pub record HasWorked (before now : Arm B) : Type 0 where

@@ -1,5 +1,6 @@
 //! What a worker does: it claims numbers, makes their blocks and sends them, until a number that it draws is none of the round.
-ghost use Rattle.std.specs.Prelude.{◌≤◌, ◌<◌, All, IfSome, length};
+ghost use Rattle.std.specs.Prelude.{◌≤◌, ◌<◌, All, length};
+ghost use Rattle.kt_part.specs.Arrivals.{IsMade};
 ghost use Rattle.kt_part.specs.Lanes.{HasWorked, HaveWorked, IsReady};
 
 use crate::inbox::{Arm, Item};
@@ -12,7 +13,7 @@ const DRAWS: u32 = 17;
 /// Makes the block of a number; `None` for want of memory.
 fn make<W: Work>(work: &W, number: u32) -> Option<W::Block>
     requires { number < W.most work.now }
-    ensures { IfSome result (W.gives work.now number) }
+    ensures { IsMade (W.gives work.now) (W.lacks work.now) number result }
 {
     match work.work(number) {
         Ok(block) => Some(block),
@@ -25,7 +26,7 @@ pub(crate) fn run_arm<W: Work>(claims: &Claims, work: &W, count: u32, arm: &mut 
     requires few { count ≤ 16 }
     requires most { count ≤ W.most work.now }
     requires ready { IsReady claims.now arm.old }
-    ensures { HasWorked claims.now (W.gives work.now) count arm.old arm.new }
+    ensures { HasWorked claims.now (IsMade (W.gives work.now) (W.lacks work.now)) count arm.old arm.new }
 {
     for _turn in 0..DRAWS {
         let Some(number) = claims.claim(&mut arm.pass, count) else {
@@ -43,7 +44,7 @@ pub(crate) fn run_last<W: Work>(claims: &Claims, work: &W, count: u32, arms: &mu
     requires most { count ≤ W.most work.now }
     requires one { length arms.old ≤ 1 }
     requires ready { All (IsReady claims.now) arms.old }
-    ensures { HaveWorked claims.now (W.gives work.now) count arms.old arms.new }
+    ensures { HaveWorked claims.now (IsMade (W.gives work.now) (W.lacks work.now)) count arms.old arms.new }
 {
     if !arms.is_empty() {
         run_arm(claims, work, count, &mut arms[0]);

@@ -1,6 +1,7 @@
 //! After the workers have ended: their passes are joined, their lanes are drained, and their blocks are folded in the order of their
 //! numbers.
 ghost use Rattle.std.specs.Prelude.{◌<◌, ◌≤◌, ℕ, List};
+ghost use Rattle.kt_part.specs.Arrivals.{IsMade};
 ghost use Rattle.kt_part.specs.Claimed.{HasClaimed};
 ghost use Rattle.kt_part.specs.Folding.{RoundEnds};
 ghost use Rattle.kt_part.specs.Gathering.{AreGathered, AreHeld};
@@ -14,7 +15,7 @@ use crate::reorder::Reorder;
 use crate::round::RoundStop;
 use crate::work::Work;
 
-/// Gathers the claims and the items of all workers. All blocks of the round are held then. The contract alone reads the work.
+/// Gathers the claims and the items of all workers. What was made for each number of the round is held then. The contract alone reads the work.
 pub(crate) fn gather<W: Work>(
     claims: &Claims,
     pass: &mut Pass,
@@ -26,9 +27,9 @@ pub(crate) fn gather<W: Work>(
 ) -> Reorder<Option<W::Block>>
     requires few { count ≤ 16 }
     requires some { 1 ≤ workers }
-    requires begun { AreGathered (W.gives _work.now) count claims.now workers lanes.arms.items lanes.ends.items pass.old inbox 0 }
+    requires begun { AreGathered (IsMade (W.gives _work.now) (W.lacks _work.now)) count claims.now workers lanes.arms.items lanes.ends.items pass.old inbox 0 }
     ensures claimed { HasClaimed workers count pass.new }
-    ensures held { AreHeld (W.gives _work.now) count result }
+    ensures held { AreHeld (IsMade (W.gives _work.now) (W.lacks _work.now)) count result }
 {
     let Lanes { mut arms, mut ends } = lanes;
     let mut inbox = inbox;
@@ -64,9 +65,9 @@ pub(crate) fn fold_held<W: Work, F: Fold<W::Block>>(
     fold: &mut F,
     count: u32,
 ) -> Result<(), RoundStop<F::Stop>>
-    requires held { AreHeld (W.gives _work.now) count reorder.old }
+    requires held { AreHeld (IsMade (W.gives _work.now) (W.lacks _work.now)) count reorder.old }
     requires fits { (k : ℕ) (block : W.Block) → k < count → W.gives _work.now k block → F.fits fold.old block }
-    ensures round { (start : F.Start) (before : List W.Block) → F.stands start fold.old before → RoundEnds (W.gives _work.now) (F.stands start fold.new) (F.stopped start fold.new) before count result }
+    ensures round { (start : F.Start) (before : List W.Block) → F.stands start fold.old before → RoundEnds (W.gives _work.now) (λ k. (k < count) × W.lacks _work.now k) (F.stands start fold.new) (F.stopped start fold.new) before count result }
     ensures fits { (block : W.Block) → F.fits fold.old block → F.fits fold.new block }
 {
     for k in 0..count {

@@ -1,5 +1,5 @@
 //! The lanes of a round: a ring for each worker, with the worker's pass beside the end into which it sends.
-ghost use Rattle.std.specs.Prelude.{◌≡◌, ◌+◌, ◌≤◌, [], IfOk, OnOk};
+ghost use Rattle.std.specs.Prelude.{◌≡◌, ◌+◌, ◌≤◌, [], IfOk, OnErr, OnOk};
 ghost use Rattle.rtrb.specs.Ring.{received, IsPair};
 ghost use Rattle.kt_part.specs.Lanes.{AreLanes, IsReady};
 ghost use Rattle.kt_part.specs.Passes.{IsFresh, IsGivenOut, IsPassOf, claims_of, left_of, workers_of};
@@ -28,7 +28,7 @@ fn make_lane<B: Drop>(
     requires of { IsPassOf claims.now pass.old }
     requires left { 17 ≤ left_of pass.old }
     ensures of { OnOk result (IsPassOf claims.now pass.new) }
-    ensures kept { OnOk result ((claims_of pass.new ≡ claims_of pass.old) × (workers_of pass.new ≡ workers_of pass.old)) }
+    ensures kept { (claims_of pass.new ≡ claims_of pass.old) × (workers_of pass.new ≡ workers_of pass.old) }
     ensures left { OnOk result (left_of pass.new + 17 ≡ left_of pass.old) }
     ensures ready { IfOk result (λ made. IsReady claims.now made.0) }
     ensures pair { IfOk result (λ made. IsPair made.0.ring made.1) }
@@ -39,7 +39,7 @@ fn make_lane<B: Drop>(
     Ok((Arm { pass, ring }, end))
 }
 
-/// The lanes of all workers. An error is want of memory.
+/// The lanes of all workers. An error is want of memory, and nothing was claimed then.
 pub(crate) fn make_lanes<B: Drop>(
     alloc: Global,
     claims: &Claims,
@@ -50,6 +50,7 @@ pub(crate) fn make_lanes<B: Drop>(
     requires of { IsPassOf claims.now pass.old }
     requires fresh { IsFresh workers pass.old }
     ensures given { OnOk result (IsGivenOut claims.now workers workers pass.new) }
+    ensures none { OnErr result (claims_of pass.new ≡ []) }
     ensures lanes { IfOk result (λ lanes. AreLanes claims.now workers lanes.arms.items lanes.ends.items) }
 {
     let mut arms = Vec::with_capacity(alloc, workers as usize)?;

@@ -1,8 +1,8 @@
 //! A round: blocks are made for the numbers from 0 on, and taken in order.
 ghost use Rattle.std.specs.Prelude.{◌<◌, ◌≤◌, ℕ, All, List, length};
 ghost use Rattle.std.specs.Thread.{IsSync, IsSend};
-ghost use Rattle.kt_part.specs.Arrivals.{HasCome, all_received};
-ghost use Rattle.kt_part.specs.Claimed.{ClaimsAfter};
+ghost use Rattle.kt_part.specs.Arrivals.{HasCome, IsMade, all_received};
+ghost use Rattle.kt_part.specs.Claimed.{ClaimsAfter, WantsMemory};
 ghost use Rattle.kt_part.specs.Folding.{RoundEnds};
 ghost use Rattle.kt_part.specs.Lanes.{AreSame, HaveWorked, IsReady};
 ghost use Rattle.kt_part.specs.Passes.{IsFresh, IsPassOf};
@@ -46,7 +46,7 @@ fn run_all<R: Threads + Sync, W: Work + Sync>(
     requires few { count ≤ 16 }
     requires most { count ≤ W.most work.now }
     requires ready { All (IsReady claims.now) arms.old }
-    ensures { HaveWorked claims.now (W.gives work.now) count arms.old arms.new }
+    ensures { HaveWorked claims.now (IsMade (W.gives work.now) (W.lacks work.now)) count arms.old arms.new }
 {
     if arms.len() <= 1 {
         run_last(claims, work, count, arms);
@@ -71,16 +71,16 @@ fn first_beside<R: Threads + Sync, W: Work + Sync>(
     requires one { length front.old ≤ 1 }
     requires first { All (IsReady claims.now) front.old }
     requires ready { All (IsReady claims.now) others.old }
-    ensures first { HaveWorked claims.now (W.gives work.now) count front.old front.new }
-    ensures worked { HaveWorked claims.now (W.gives work.now) count others.old others.new }
+    ensures first { HaveWorked claims.now (IsMade (W.gives work.now) (W.lacks work.now)) count front.old front.new }
+    ensures worked { HaveWorked claims.now (IsMade (W.gives work.now) (W.lacks work.now)) count others.old others.new }
 {
     let mut rest = ||
         requires { IsSync R.row × IsSync W.row × IsSend W.Block.row × (count ≤ 16) × (count ≤ W.most work.now) × All (IsReady claims.now) others.now }
-        ensures { HaveWorked claims.entry.now (W.gives work.entry.now) count others.entry.now others.exit.now }
+        ensures { HaveWorked claims.entry.now (IsMade (W.gives work.entry.now) (W.lacks work.entry.now)) count others.entry.now others.exit.now }
     { run_all(rt, claims, work, count, others) };
     let mut first = ||
         requires { IsSync W.row × IsSend W.Block.row × (count ≤ 16) × (count ≤ W.most work.now) × (length front.now ≤ 1) × All (IsReady claims.now) front.now }
-        ensures { HaveWorked claims.entry.now (W.gives work.entry.now) count front.entry.now front.exit.now }
+        ensures { HaveWorked claims.entry.now (IsMade (W.gives work.entry.now) (W.lacks work.entry.now)) count front.entry.now front.exit.now }
     { run_last(claims, work, count, front) };
     join_mut(rt, &mut first, &mut rest);
 }
@@ -99,7 +99,7 @@ fn run_beside<R: Threads + Sync, W: Work + Sync>(
     requires few { count ≤ 16 }
     requires most { count ≤ W.most work.now }
     requires ready { All (IsReady claims.now) arms.old }
-    ensures worked { HaveWorked claims.now (W.gives work.now) count arms.old arms.new }
+    ensures worked { HaveWorked claims.now (IsMade (W.gives work.now) (W.lacks work.now)) count arms.old arms.new }
     ensures same { AreSame ends.old ends.new }
     ensures come { HasCome inbox.old (all_received ends.old) → HasCome inbox.new (all_received ends.new) }
 {
@@ -110,15 +110,17 @@ fn run_beside<R: Threads + Sync, W: Work + Sync>(
         { merge(count, inbox, ends) },
         &mut ||
             requires { IsSync R.row × IsSync W.row × IsSend W.Block.row × (count ≤ 16) × (count ≤ W.most work.now) × All (IsReady claims.now) arms.now }
-            ensures { HaveWorked claims.entry.now (W.gives work.entry.now) count arms.entry.now arms.exit.now }
+            ensures { HaveWorked claims.entry.now (IsMade (W.gives work.entry.now) (W.lacks work.entry.now)) count arms.entry.now arms.exit.now }
         { run_all(rt, claims, work, count, arms) },
     );
 }
 
 /// One round: as many workers as `workers` says claim the numbers from 0 up to but not including `count` and make their blocks, the last
 /// of them on the calling thread and each other one in a thread of its own where one can be made, and the blocks are folded in the order
-/// of their numbers on the calling thread. An error is the first block that the fold refused, or want of memory. After all others the
-/// pass has every draw again, and each number below `count` was claimed exactly once.
+/// of their numbers on the calling thread. An error is the first block that the fold refused, or want of memory: for what is
+/// made before the first claim, where no number was claimed and the fold is as it was, or for the first block that `work` did not make, where
+/// the fold has taken all blocks before it. After all but want of memory before the first claim the pass has every draw again, and each number
+/// below `count` was claimed exactly once.
 pub fn run_round<R: Threads + Sync, W: Work + Sync, F: Fold<W::Block>>(
     rt: &R,
     alloc: Global,
@@ -136,7 +138,7 @@ pub fn run_round<R: Threads + Sync, W: Work + Sync, F: Fold<W::Block>>(
     requires of { IsPassOf claims.now pass.old }
     requires fresh { IsFresh workers pass.old }
     requires fits { (k : ℕ) (block : W.Block) → k < count → W.gives work.now k block → F.fits fold.old block }
-    ensures round { (start : F.Start) (before : List W.Block) → F.stands start fold.old before → RoundEnds (W.gives work.now) (F.stands start fold.new) (F.stopped start fold.new) before count result }
+    ensures round { (start : F.Start) (before : List W.Block) → F.stands start fold.old before → RoundEnds (W.gives work.now) (WantsMemory (W.lacks work.now) workers count pass.new fold.old fold.new) (F.stands start fold.new) (F.stopped start fold.new) before count result }
     ensures fits { (block : W.Block) → F.fits fold.old block → F.fits fold.new block }
     ensures claims { ClaimsAfter workers count pass.new result }
 {

@@ -1,5 +1,5 @@
 //! What makes the blocks of a round.
-ghost use Rattle.std.specs.Prelude.{◌<◌, ℕ, IfOk};
+ghost use Rattle.std.specs.Prelude.{◌<◌, ℕ, IfErr, IfOk};
 
 use std::alloc::AllocError;
 
@@ -11,11 +11,15 @@ pub trait Work {
     /// The blocks that may be made for a number.
     ghost gives: { Self → ℕ → Self.Block → Type 0 };
 
+    /// The numbers for whose blocks memory may be wanting.
+    ghost lacks: { Self → ℕ → Type 0 };
+
     /// A number that no number of a block reaches.
     ghost most: { Self → ℕ };
 
     /// Makes the block of a number. An error is want of memory.
     fn work(&self, k: u32) -> Result<Self::Block, AllocError>
         requires { k < most self.now }
-        ensures { IfOk result (gives self.now k) };
+        ensures ok { IfOk result (gives self.now k) }
+        ensures memory { IfErr result (λ _. lacks self.now k) };
 }

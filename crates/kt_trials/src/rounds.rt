@@ -22,11 +22,13 @@ struct Hundreds {
 }
 
 impl Work for Hundreds {
-    ghost use Rattle.std.specs.Prelude.{⊤};
+    ghost use Rattle.std.specs.Prelude.{◌≡◌, ⊤};
 
     type Block = u32;
 
     ghost gives = { λ _ _ _. ⊤ };
+
+    ghost lacks = { λ work k. k ≡ work.wanting };
 
     ghost most = { λ _. 16 };
 

@@ -1,8 +1,6 @@
 use Rattle.std.proofs.Common.{◌∙◌, ◌+◌, ◌*◌, ◌-◌, ◌/◌, ◌≤◌, [], ℕ, List, ◌≡◌, Err, length, ap, sym, subst}
 use Rattle.kt_fold.specs.declared.fold.FoldStop.{FoldStop}
-use Rattle.kt_part.specs.Folding.{RoundEnds}
-use Rattle.kt_part.specs.declared.round.RoundStop.{RoundStop}
-use Rattle.kt_chain.proofs.RoundLemmas.{begins, enough, few_parts, round_passes, round_stopped, start_of, why_answered}
+use Rattle.kt_chain.proofs.RoundLemmas.{begins, enough, few_parts, round_passes, round_stopped, start_of, stopped_at, why_answered}
 use Rattle.kt_chain.specs.Events.{RunInput}
 use Rattle.kt_chain.specs.Rounds.{RoundParts, part_count}
 use Rattle.kt_chain.specs.TextFolds.{IsTextPart, KeepsRows, TextsStand, TextsStop}
@@ -52,7 +50,7 @@ returns-clause-folds g c =
     let rows_are = rows ∙ sym (ap (λ (run : RunShares). run.portfolio.rows) c.run.view_is) in
     let samples_are = ap (λ (t : Terms). t.samples) terms_are in
     let start = start_of input done in
-    let stopped = subst (λ (stop : RoundStop FoldStop). RoundEnds (IsTextPart round) (TextsStand start c.run_round.new.fold) (TextsStop start c.run_round.new.fold) [] count (Err stop)) c.in-Err-Fold.field-0-is
+    let stopped = stopped_at (IsTextPart round) _ (TextsStand start c.run_round.new.fold) (TextsStop start c.run_round.new.fold) [] count c.in-Err-Fold.field-0-0 _ c.in-Err-Fold.stop c.in-Err-Fold.field-0-is
     (c.in-Err-Fold.ensures.round start [] (record { parts = begins input done c.args.fold.now.inner folded; made = c.clear.ensures.items })) in (
       round_stopped input round terms_are rows_are given done
           c.run_round.new.fold.inner count c.in-Err-Fold.field-0-0 c.in-Err-Fold.stop
