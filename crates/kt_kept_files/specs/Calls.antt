@@ -1,4 +1,5 @@
 -- The calls of an object in memory, and which of them fail.
+-- The rule: docs/ARCHITECTURE.md, "The outside".
 use Rattle.std.specs.Prelude.{ℕ, List, Bool, if◌then◌else◌, ◌==◌}
 use Rattle.std.specs.List.{list_any}
 use Rattle.kt_kept_files.specs.Counts.{one_more}

@@ -1,4 +1,5 @@
 -- Files by name: a map from names to bytes, and a list of named files in the order in which they came.
+-- The rule: docs/ARCHITECTURE.md, "The outside".
 use Rattle.std.specs.Prelude.{◌≡◌, ◌≢◌, ℕ, ◌<◌, List, [], ◌∷◌, length, slice_index_or, true, false, if◌then◌else◌, Option, None, Some, unwrap_or}
 use Rattle.std.specs.Str.{bytes_eq}
 

@@ -1,4 +1,5 @@
 //! The calls of an object in memory: which of them fail, and how many bytes one moves.
+//! The rule: docs/ARCHITECTURE.md, "The outside".
 ghost use Rattle.std.specs.Prelude.{◌≡◌, ◌<◌, ◌≤◌, min};
 ghost use Rattle.kt_kept_files.specs.Calls.{fails_next, after_call, after_pass, no_calls};
 

@@ -1,4 +1,5 @@
 //! Files in memory: a list of names and their bytes, in the order in which the names came.
+//! The rule: docs/ARCHITECTURE.md, "The outside".
 ghost use Rattle.std.specs.Prelude.{◌≡◌, ◌<◌, ◌++◌, [], Some, length, slice_get, MatchOption, OnErr, OnOk};
 ghost use Rattle.std.specs.Option.{option_copied, option_map};
 ghost use Rattle.kt_kept_files.specs.NamedFiles.{bytes_of, with_file, HaveDistinctNames, IsNewName, IsPlaceOf};
