@@ -1,4 +1,5 @@
 -- Laws of parts that are given down, level by level.
+-- The rule: docs/FINANCIAL_MODULE.md, "Allocation".
 use Rattle.std.proofs.Common.{◌≡◌, ℕ, zero, suc, ◌+◌, ◌*◌, ◌<◌, ◌≤◌, ◌^◌, Bool, true, false, List, [], ◌∷◌, ◌++◌, length, map, take, drop, get_or, refl, sym, ap, subst, ◌∙◌, arith, drop-cons, add-one, append_assoc, append-nil}
 use Rattle.std.specs.List.{All, AllByRecursion, flat_map, sum, sum_by}
 use Rattle.std.proofs.Math.Nat.{div-zero}

@@ -1,4 +1,5 @@
 -- Laws of amounts of ids, in order of id.
+-- The rule: docs/FINANCIAL_MODULE.md, "Allocation".
 use Rattle.std.proofs.Common.{◌≡◌, ℕ, zero, suc, ◌+◌, ◌<◌, ◌≤◌, ◌^◌, Bool, true, false, cond, nat_eq, List, [], ◌∷◌, ◌++◌, length, map, take, drop, get_or, refl, sym, ap, subst, ◌∙◌, arith, drop-cons, add-one, append_assoc, append-nil, ◌⊎◌, inl, inr, slice_set, Equal}
 use Rattle.std.specs.Prelude.{Err, ◌||◌, replicate}
 use Rattle.std.specs.List.{AllByRecursion, list_any, sum, sum_by}

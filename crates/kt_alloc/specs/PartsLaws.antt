@@ -1,4 +1,5 @@
 -- Parts by places are the parts of the tree.
+-- The rule: docs/FINANCIAL_MODULE.md, "Allocation".
 use Rattle.std.proofs.Common.{◌≡◌, ℕ, zero, suc, ◌+◌, ◌<◌, ◌≤◌, Bool, true, false, cond, nat_eq, List, [], ◌∷◌, ◌++◌, length, map, take, drop, get_or, refl, sym, ap, ◌∙◌, arith, drop-cons, add-one}
 use Rattle.std.specs.Cmp.{nat_eq_equiv}
 use Rattle.std.specs.List.{All, AllByRecursion, flat_map, list_any, sum_by}

@@ -61,7 +61,7 @@ fn append_ids(out: &mut Bytes, ids: &[u32]) -> Result<(), AllocError>
 }
 
 /// Writes ids, four bytes each with the lowest first, a block of 64 KiB at a time. After a refusal the sink has taken some
-/// front of them, maybe nothing.
+/// front of them, maybe nothing. An error is a fault of the sink, or want of memory for a block.
 pub fn write_ids<K: Sink>(alloc: Global, ids: &[u32], sink: &mut K) -> Result<(), Fault>
     ensures { WritesAll (K.state sink.old) (K.state sink.new) (flat_map (little_bytes 4) ids.now) result }
 {

@@ -1,4 +1,5 @@
 //! Parts of the records of a file.
+//! The rule: docs/TABLES.md, "Files of tables".
 ghost use Rattle.std.specs.Prelude.{◌≡◌, ◌≤◌, ◌<◌, ◌+◌, ◌*◌, ◌/◌, length, take, drop};
 
 /// So many records from a place on.

@@ -1,4 +1,5 @@
 //! Writing what is pending of a text.
+//! The rule: docs/COMMANDS.md, "tobin and tocsv".
 ghost use Rattle.std.specs.Prelude.{ℕ, List};
 ghost use Rattle.kt_out.specs.Writing.{SinkState};
 ghost use Rattle.kt_blocks.specs.Progress.{IsMidway, Spills};

@@ -1,5 +1,6 @@
 //! The values of a table's text, by way of its fields.
 //! The language: README.md.
+//! The rules: docs/HOSTILE_USE.md, "Cases"; docs/PROVING.md, "Tests".
 ghost use Rattle.std.specs.Prelude.{◌<◌};
 
 use kt_ends::status_of;

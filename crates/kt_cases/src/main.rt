@@ -1,6 +1,7 @@
 //! Compares what words, loads and runs of the tools answer with what was worked out by hand, and prints each answer that is
 //! another one, and how many were compared.
 //! The cases: data; how one is written: README.md.
+//! The rules: docs/HOSTILE_USE.md, "Cases"; docs/PROVING.md, "Tests".
 #![tactic(auto)]
 
 mod grids;

@@ -1,5 +1,6 @@
 //! Loads, and runs of the tools over objects of several kinds.
 //! The language: README.md.
+//! The rules: docs/HOSTILE_USE.md, "Cases"; docs/PROVING.md, "Tests".
 
 use kt_checks::Need;
 use kt_ends::status_of;

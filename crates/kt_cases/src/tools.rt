@@ -1,5 +1,6 @@
 //! What is answered to the questions of a script.
 //! The language: README.md.
+//! The rules: docs/HOSTILE_USE.md, "Cases"; docs/PROVING.md, "Tests".
 
 use crate::grids::values_seen;
 use crate::runs::{load, run_adapted, run_in_memory, run_surely};

@@ -1,4 +1,5 @@
 -- What a place has of all shares, from what it has of the first so many.
+-- The rule: docs/FINANCIAL_MODULE.md, "Reinsurance".
 use Rattle.std.proofs.Common.{◌≡◌, ℕ, suc, ◌≤◌, cond, nat_eq, List, [], ◌∷◌, length, refl, ap, ◌∙◌, arith}
 use Rattle.std.specs.List.{sum_by, zip}
 use Rattle.std.proofs.lemmas.List.{take_all}

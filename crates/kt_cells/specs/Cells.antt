@@ -1,4 +1,5 @@
 -- The value of a row and a column.
+-- The rule: docs/ARCHITECTURE.md, "One form for each thing".
 use Rattle.std.specs.Prelude.{ℕ, List, [], slice_index_or}
 
 -- the row of a table, counted from 0

@@ -1,4 +1,5 @@
 -- How far a row is read, field by field.
+-- The rule: docs/TABLES.md, "The first bad place".
 use Rattle.std.specs.Prelude.{◌≡◌, ℕ, ◌+◌, ◌≤◌, Bool, List, ◌++◌, length, take, drop, Result, Ok}
 use Rattle.kt_text.specs.PlainText.{EndsField, IsField, StandsBehind}
 use Rattle.kt_cells.specs.Reading.{behind, row_values}

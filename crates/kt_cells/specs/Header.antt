@@ -1,4 +1,5 @@
 -- The header of a binary table: a mark, the table's number, a version, and a number that only some tables use.
+-- The rule: docs/TABLES.md, "Files of tables".
 use Rattle.std.specs.Prelude.{ℕ, ◌==◌, List, ◌++◌, length, drop, not, nat_lt, if◌then◌else◌, Result, Err}
 use Rattle.byteorder.specs.Endian.{little_number, little_bytes}
 use Rattle.kt_cells.specs.Kinds.{within}

@@ -1,4 +1,5 @@
 -- The kinds of columns: their widths in a file, and the values that they may have.
+-- The rules: docs/TABLES.md, "Kinds of values", "Terms of profiles".
 use Rattle.std.specs.Prelude.{ℕ, ◌^◌, ◌==◌, ◌&&◌, ◌||◌, Bool, nat_lt, nat_le, if◌then◌else◌, Result, Ok, Err}
 use Rattle.kt_cells.specs.declared.kind.Term.{Term}
 use Rattle.kt_cells.specs.declared.kind.Term.TheVariants as term

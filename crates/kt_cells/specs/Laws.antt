@@ -1,4 +1,5 @@
 -- What is written is read back.
+-- The rule: docs/TABLES.md, "Back again".
 use Rattle.std.specs.Prelude.{◌≡◌, ℕ, ◌+◌, ◌*◌, ◌^◌, take, drop, ◌<◌, ◌≤◌, Bool, false, List, ◌∷◌, ◌++◌, Ok, length}
 use Rattle.std.specs.List.{AllByRecursion}
 use Rattle.csv.specs.Reading.{strip_bom}

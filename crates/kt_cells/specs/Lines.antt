@@ -1,4 +1,5 @@
 -- Lines of text: fields with commas between them and a line feed behind them.
+-- The rule: docs/TABLES.md, "Texts of tables".
 use Rattle.std.specs.Prelude.{◌≡◌, ℕ, zero, suc, ◌+◌, ◌-◌, ◌*◌, ◌≤◌, Option, None, Some, List, [], ◌∷◌, ◌++◌, ◌==◌, drop, length, if◌then◌else◌}
 use Rattle.kt_money.specs.NumberText.{count_text}
 use Rattle.kt_cells.specs.Kinds.{under}

@@ -1,4 +1,5 @@
 -- Rows whose values are in the ranges of their kinds.
+-- The rule: docs/TABLES.md, "Kinds of values".
 use Rattle.std.specs.Prelude.{◌≡◌, ◌<◌, ◌≤◌, ◌^◌, Bool, ℕ, length, List, [], ◌∷◌, Ok, slice_index_or}
 use Rattle.kt_cells.specs.Kinds.{under, in_range, width}
 use Rattle.kt_cells.specs.Reading.{rule_after, floor_after}

@@ -1,4 +1,5 @@
 -- The rows of a table, whatever its cells are and however one is read: the values, or the first place that is wrong.
+-- The rule: docs/TABLES.md, "The first bad place".
 use Rattle.std.specs.Prelude.{◌≡◌, ℕ, ◌+◌, ◌==◌, Bool, List, [], ◌∷◌, ◌++◌, length, nat_lt, if◌then◌else◌, Result, Ok, Err, refl, slice_index_or}
 use Rattle.kt_cells.specs.Kinds.{under}
 use Rattle.kt_cells.specs.declared.kind.Kind.{Kind}

@@ -1,4 +1,5 @@
 -- Records of numbers, little-endian: how bytes are cut into them, and how they are written.
+-- The rule: docs/TABLES.md, "Files of tables".
 use Rattle.std.specs.Prelude.{ℕ, zero, suc, ◌+◌, ◌/◌, ◌%◌, ◌==◌, false, List, [], ◌∷◌, ◌++◌, length, take, drop, if◌then◌else◌, Result, Ok, Err}
 use Rattle.byteorder.specs.Endian.{little_number, little_bytes}
 use Rattle.kt_cells.specs.Kinds.{width, in_range}

@@ -1,4 +1,5 @@
 -- Why a table is refused.
+-- The rule: docs/TABLES.md, "What is refused".
 use Rattle.std.specs.Prelude.{◌≡◌, Result, Err}
 use Rattle.kt_text.specs.declared.bad_text.BadText.{BadText}
 use Rattle.kt_text.specs.declared.bad_text.BadText.TheVariants as text

@@ -1,4 +1,5 @@
 -- What a sink has taken of the rows of a table that are read.
+-- The rule: docs/ARCHITECTURE.md, "One form for each thing".
 use Rattle.std.specs.Prelude.{◌≡◌, ℕ, List, [], ◌∷◌, ◌++◌, length, Result, Ok}
 use Rattle.std.proofs.Common.{ap, sym, subst, ◌∙◌}
 use Rattle.kt_text.specs.PlainText.{csv_records}

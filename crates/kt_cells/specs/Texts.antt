@@ -1,4 +1,5 @@
 -- The texts of fields: how one is read by its kind, and how it is written.
+-- The rules: docs/TABLES.md, "Texts of tables", "Numbers in a text".
 use Rattle.std.specs.Prelude.{ℕ, ◌==◌, Bool, List, [], ◌∷◌, Result, Ok, Err, if◌then◌else◌}
 use Rattle.kt_money.specs.NumberText.{count_text, plain}
 use Rattle.kt_text.specs.Numbers.{count_value, decimal_value}

@@ -1,4 +1,5 @@
 //! The value that the text of a field gives, and the field at the front of a text: its value, and what stands behind it.
+//! The rule: docs/TABLES.md, "Texts of tables".
 ghost use Rattle.std.specs.Prelude.{◌≡◌, ◌≤◌, Ok, IfSome, length, take};
 ghost use Rattle.kt_text.specs.PlainText.{IsField};
 ghost use Rattle.kt_cells.specs.Texts.{decimals, number_in, text_value};

@@ -1,4 +1,5 @@
 //! The header of a binary table.
+//! The rule: docs/TABLES.md, "Files of tables".
 ghost use Rattle.std.specs.Prelude.{◌≡◌, ◌++◌, OnOk, OnErr};
 ghost use Rattle.kt_cells.specs.Header.{header_extra, header_bytes};
 ghost use Rattle.kt_cells.specs.Taking.{HasMore};

@@ -1,4 +1,5 @@
 //! The kinds of columns: their widths in a file, and the values that they may have.
+//! The rule: docs/TABLES.md, "Kinds of values".
 ghost use Rattle.std.specs.Prelude.{◌≡◌, ◌≢◌, ◌<◌, ◌⊎◌, true, false, Ok, Err};
 ghost use Rattle.kt_cells.specs.Texts.{decimals};
 ghost use Rattle.kt_cells.specs.Kinds.{width, under, is_ppm, is_rule, lowest, highest, in_range, within, known_rule};
@@ -100,7 +101,7 @@ impl Kind {
     }
 
     /// The value, if it is one of the kind: below its range is `Zero`, above it `TooLarge`, and a number that is no
-    /// calculation rule is `Rule`.
+    /// calculation rule is `Rule`. An error is the one of these that holds.
     #[tactic(auto, unfolding(crate::specs::Kinds::in_range))]
     #[inline(always)]
     pub fn in_range(self, value: u64) -> Result<u64, Cause>

@@ -1,4 +1,5 @@
 //! Theorems over the definitions: what is written is read back.
+//! The rule: docs/TABLES.md, "Back again".
 ghost use Rattle.kt_cells.specs.Laws.{RecordsAreReadBack, HeadersAreReadBack, LinesAreReadBack, SlicesGiveSlices, TextsAreInRange};
 
 use kt_text::{amounts_are_read_back, counts_are_read_back, rows_are_read_back};

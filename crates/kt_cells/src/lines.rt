@@ -1,4 +1,5 @@
 //! Rows as lines of text.
+//! The rule: docs/TABLES.md, "Texts of tables".
 ghost use Rattle.std.specs.Prelude.{◌≡◌, ◌+◌, ◌-◌, ◌*◌, ◌<◌, ◌≤◌, ◌++◌, ℕ, List, Option, length, take, drop, min};
 ghost use Rattle.kt_cells.specs.Lines.{IsFront, LineFrom, line, line_with, lines_with, units_under};
 ghost use Rattle.kt_cells.specs.declared.kind.Kind.{Kind};

@@ -1,4 +1,5 @@
 //! The row at the front of a text, if its fields stand there without quotes.
+//! The rule: docs/TABLES.md, "Texts of tables".
 ghost use Rattle.std.specs.Prelude.{◌≡◌, ◌<◌, ◌≤◌, ◌+◌, ◌++◌, ◌==◌, ℕ, List, false, IfSome, length};
 ghost use Rattle.kt_cells.specs.Fronts.{PlainRead};
 ghost use Rattle.kt_cells.specs.Taking.{HasRow};

@@ -1,4 +1,5 @@
 //! The reader of records of texts: the values of the rows, or the first place that is wrong.
+//! The rules: docs/TABLES.md, "Texts of tables", "The first bad place".
 ghost use Rattle.std.specs.Prelude.{◌≡◌, ◌+◌, ◌<◌, ◌≤◌, ◌^◌, IsTrue, IfOk, IfErr, Ok, length};
 ghost use Rattle.csv.specs.Records.{fields_of};
 ghost use Rattle.kt_cells.specs.Texts.{text_value};

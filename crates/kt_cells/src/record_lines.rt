@@ -1,4 +1,5 @@
 //! The records of a table as lines of text.
+//! The rule: docs/TABLES.md, "Texts of tables".
 ghost use Rattle.std.specs.Prelude.{◌≡◌, ◌<◌, ◌≤◌, ◌+◌, ◌*◌, ◌^◌, ◌++◌, OnOk, IfOk, IfErr, Ok, Err, length, take};
 ghost use Rattle.kt_cells.specs.Lines.{lines_with};
 ghost use Rattle.kt_cells.specs.Reading.{and_then, behind};

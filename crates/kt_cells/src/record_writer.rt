@@ -1,4 +1,5 @@
 //! Rows as records of little-endian numbers.
+//! The rule: docs/TABLES.md, "Files of tables".
 ghost use Rattle.std.specs.Prelude.{◌≡◌, ◌++◌, ◌⊎◌, OnOk, OnErr, length};
 ghost use Rattle.byteorder.specs.Endian.{little_bytes};
 ghost use Rattle.kt_cells.specs.Records.{record_bytes};

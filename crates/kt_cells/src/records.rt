@@ -1,4 +1,5 @@
 //! The rows that records of little-endian numbers give.
+//! The rules: docs/TABLES.md, "Files of tables", "The first bad place".
 ghost use Rattle.kt_cells.specs.Ranges.{IsRow, AreRows, FitsBytes};
 ghost use Rattle.kt_cells.specs.Stops.{Tells};
 ghost use Rattle.kt_cells.specs.Taking.{HandsOver};

@@ -1,4 +1,5 @@
 //! What takes the rows of a table, one after the other as they are read.
+//! The rule: docs/ARCHITECTURE.md, "One form for each thing".
 ghost use Rattle.std.specs.Prelude.{◌≡◌, ◌++◌, ◌∷◌, [], ◌<◌, OnOk};
 
 use crate::kind::Kind;

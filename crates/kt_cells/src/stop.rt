@@ -1,4 +1,5 @@
 //! Why a table is refused.
+//! The rule: docs/TABLES.md, "What is refused".
 ghost use Rattle.std.specs.Prelude.{◌≡◌};
 ghost use Rattle.kt_cells.specs.Stops.{cause_of};
 ghost use Rattle.kt_cells.specs.declared.stop.TableStop.TheVariants.{OutOfMemory};

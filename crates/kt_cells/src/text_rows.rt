@@ -1,4 +1,5 @@
 //! The rows of a CSV text, read one after the other.
+//! The rule: docs/TABLES.md, "Texts of tables".
 ghost use Rattle.std.specs.Prelude.{◌≡◌, ◌∷◌, ◌<◌, ◌≤◌, ◌+◌, ◌++◌, ◌^◌, ℕ, List, [], IfOk, IfErr, OnOk, length, Ok};
 ghost use Rattle.kt_text.specs.PlainText.{csv_records};
 ghost use Rattle.kt_text.specs.Records.{StandsBetween, bytes_left, records_left};

@@ -1,4 +1,5 @@
 //! The values of a table's rows.
+//! The rule: docs/ARCHITECTURE.md, "One form for each thing".
 ghost use Rattle.std.specs.Prelude.{◌≡◌, ◌<◌, [], length};
 ghost use Rattle.kt_cells.specs.Cells.{value_at};
 

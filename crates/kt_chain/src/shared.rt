@@ -1,4 +1,5 @@
 //! What workers hold may be sent to threads and shared by them.
+//! The rule: docs/ARCHITECTURE.md, "What threads share".
 use crate::work::RoundWork;
 use kt_out::Open;
 

@@ -1,4 +1,5 @@
 -- What follows where a check refuses nothing.
+-- The rule: docs/CHECKS.md, "Order".
 use Rattle.std.specs.Prelude.{◌≡◌, ℕ, ◌≤◌, ◌+◌, ◌-◌, ◌<◌, ◌%◌, ◌&&◌, nat_eq, Bool, true, false, not, cond, List, [], ◌∷◌, ◌++◌, length, map, take, nat_lt, refl, Option, Some, None, All, slice_index_or, zero, suc}
 use Rattle.std.specs.List.{AllPass, IsDistinct, fold, list_any, sum_by}
 use Rattle.std.specs.Cmp.{IsEquivalence, nat_eq_equiv, and_equiv, on_equiv}

@@ -1,4 +1,5 @@
 -- All checks in their order, and the first refusal.
+-- The rules: docs/CHECKS.md, "When a check is made", "Order".
 use Rattle.std.specs.Prelude.{◌≡◌, ℕ, ◌-◌, ◌++◌, nat_lt, cond, false, List, [], ◌∷◌, slice_index_or, Option, Some, None, Result, Ok, Err}
 use Rattle.kt_rec.specs.Rows.{Rows, row_count}
 use Rattle.kt_rec.specs.TableNames.{IsTableId}
@@ -56,7 +57,7 @@ size_checks rows need =
     ∷ damage_size_check rows need
     ∷ []
 
--- what each of the checks 1 to 21 refuses first, in their order
+-- what each check refuses first, in their order
 abbrev pub checks_of : Rows → Need → List (Option Refusal)
 checks_of rows need = table_checks rows need ++ (programme_checks rows need ++ size_checks rows need)
 

@@ -1,4 +1,5 @@
 -- The financial rows of the base and of each stage are in their ranges.
+-- The rule: docs/TABLES.md, "Columns".
 use Rattle.std.specs.Prelude.{◌≡◌, ℕ, Bool, true, false, nat_lt, length, refl, All}
 use Rattle.std.proofs.Common.{sym, subst, arith}
 use Rattle.std.proofs.lemmas.Bool.{ltb-true, ltb-false}

@@ -1,4 +1,5 @@
 -- In valid tables what rows name is there: the checks 4, 7, 9, 14, 15 and 17.
+-- The rule: docs/CHECKS.md, "Order".
 use Rattle.std.specs.Prelude.{◌≡◌, ℕ, ◌<◌, nat_eq, true, cond, [], ◌∷◌, map, All, None, slice_index_or}
 use Rattle.std.specs.List.{list_any}
 use Rattle.std.proofs.Common.{arith}

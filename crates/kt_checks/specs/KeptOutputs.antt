@@ -1,4 +1,5 @@
 -- In valid tables an output stands for each layer: check 16.
+-- The rule: docs/CHECKS.md, "Outputs for every layer".
 use Rattle.std.specs.Prelude.{◌≡◌, ℕ, zero, suc, ◌≤◌, ◌+◌, ◌&&◌, ◌||◌, nat_eq, not, Bool, true, false, cond, List, [], ◌∷◌, map, refl, All}
 use Rattle.std.specs.List.{filter, list_any}
 use Rattle.std.proofs.Common.{sym, subst, arith, inl, inr}

@@ -1,4 +1,5 @@
 -- In valid tables a programme is a tree: the checks 11 to 13.
+-- The rules: docs/CHECKS.md, "Where losses come from", "Where losses go", "The place of terms".
 use Rattle.std.specs.Prelude.{◌≡◌, ℕ, zero, suc, ◌≤◌, ◌<◌, ◌+◌, ◌&&◌, ◌||◌, nat_eq, nat_lt, not, Bool, true, false, cond, List, [], ◌∷◌, map, max, refl, Some, All, slice_index_or}
 use Rattle.std.specs.List.{filter, fold, list_any}
 use Rattle.std.specs.Cmp.{nat_eq_equiv}

@@ -1,4 +1,5 @@
 -- Valid tables keep their sizes and keys: the checks 1 to 3, 5, 10, 18, 19 and 21.
+-- The rule: docs/CHECKS.md, "Order".
 use Rattle.std.specs.Prelude.{◌≡◌, ℕ, ◌≤◌, ◌+◌, ◌*◌, ◌<◌, ◌||◌, Bool, true, false, cond, nat_lt, List, [], ◌∷◌, length, refl, Option, None, slice_index_or, zero, suc}
 use Rattle.std.specs.List.{sum_by}
 use Rattle.std.specs.Cmp.{nat_eq_equiv}

@@ -1,4 +1,5 @@
 -- The checks of the outputs that items, or units of the top level, owe.
+-- The rule: docs/CHECKS.md, "Outputs for every layer".
 use Rattle.std.specs.Prelude.{◌≡◌, ℕ, ◌+◌, ◌<◌, ◌≤◌, ◌&&◌, ◌||◌, nat_eq, not, Bool, false, cond, List, map, suc, zero, Option, Some, None}
 use Rattle.std.specs.List.{list_any}
 use Rattle.kt_rec.specs.declared.financial.FmProgramme.{FmProgramme}

@@ -1,4 +1,5 @@
 -- The checks of programmes and of policy terms, over the base and the reinsurance stages.
+-- The rules: docs/CHECKS.md, "Where losses come from", "Where losses go", "The place of terms".
 use Rattle.std.specs.Prelude.{ℕ, ◌+◌, ◌-◌, ◌&&◌, ◌||◌, nat_eq, nat_lt, not, Bool, cond, List, map, Option}
 use Rattle.std.specs.List.{list_any}
 use Rattle.kt_rec.specs.declared.financial.FmProgramme.{FmProgramme}

@@ -1,4 +1,5 @@
 -- The checks of summaries, and of the number of cells that the samples make.
+-- The rules: docs/CHECKS.md, "Losses of an event", "Summary losses of an event".
 use Rattle.std.specs.Prelude.{◌≡◌, ℕ, ◌+◌, ◌*◌, ◌||◌, nat_lt, cond, List, [], ◌∷◌, map, length, Option, Some, None}
 use Rattle.std.specs.Set.{distinct_count}
 use Rattle.kt_rec.specs.declared.table.Table.TheVariants.{Items, FmXref, GulSummaryXref, FmSummaryXref}

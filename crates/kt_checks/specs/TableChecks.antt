@@ -1,4 +1,6 @@
 -- The checks of single tables, of what items, coverages and vulnerabilities name, and of the sizes of tables.
+-- The rules: docs/CHECKS.md, "Sizes", "Insured values", "Damage bins", "Probabilities of vulnerabilities", "Places in
+-- the footprint".
 use Rattle.std.specs.Prelude.{◌≡◌, ◌≤◌, ℕ, ◌+◌, ◌-◌, ◌*◌, ◌%◌, ◌&&◌, ◌||◌, nat_eq, nat_lt, not, Bool, cond, List, [], ◌∷◌, ◌++◌, map, length, Option, Some, None, unwrap_or}
 use Rattle.std.specs.List.{sum_by}
 use Rattle.std.specs.Map.{lookup}

@@ -1,4 +1,5 @@
 //! All checks in their order, and the first refusal.
+//! The rule: docs/CHECKS.md, "Order".
 ghost use Rattle.std.specs.Prelude.{◌≡◌, ◌⊎◌, IfOk};
 ghost use Rattle.kt_rec.specs.Rows.{rows_of};
 ghost use Rattle.kt_keys.specs.Refusals.{first_of};
@@ -117,7 +118,7 @@ fn answer_of(found: Option<Refusal>) -> Result<(), CheckStop>
     }
 }
 
-/// Makes the checks 1 to 21 of the loaded tables, and gives the first refusal: by the check's number, then by the table,
+/// Makes each check of the loaded tables, and gives the first refusal: by the check's number, then by the table,
 /// then by the row. A check is made where all tables that it names are loaded, 18 and 19 only where `need.samples` is
 /// above 0. The other error is want of memory.
 pub fn first_check(alloc: Global, tables: &Tables, need: &Need) -> Result<(), CheckStop>
@@ -130,7 +131,7 @@ pub fn first_check(alloc: Global, tables: &Tables, need: &Need) -> Result<(), Ch
 }
 
 /// Makes the checks 18 and 19 for a number of samples, by the numbers of summaries that `summary_counts` gave for these
-/// tables. Takes no memory.
+/// tables. Takes no memory. An error is the first of the two that refuses the tables.
 #[tactic(auto, unfolding(crate::specs::Checks::samples_refusal))]
 pub fn samples_check(
     tables: &Tables,

@@ -1,4 +1,5 @@
 //! The check of the outputs that items, or units of the top level, owe.
+//! The rule: docs/CHECKS.md, "Outputs for every layer".
 ghost use Rattle.std.specs.Prelude.{◌≡◌, ◌&&◌, ℕ, nat_eq, not, map, IfOk};
 ghost use Rattle.std.specs.List.{list_any};
 ghost use Rattle.std.specs.HashSet.{contains};

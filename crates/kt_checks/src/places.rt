@@ -1,4 +1,5 @@
 //! The check of the places that the footprint's index names in the footprint file.
+//! The rule: docs/CHECKS.md, "Places in the footprint".
 ghost use Rattle.std.specs.Prelude.{◌≡◌};
 ghost use Rattle.kt_rec.specs.Rows.{rows_of};
 ghost use Rattle.kt_keys.specs.FirstRow.{first_where};

@@ -1,4 +1,5 @@
 //! The checks of the number of cells that the samples make.
+//! The rules: docs/CHECKS.md, "Losses of an event", "Summary losses of an event".
 ghost use Rattle.std.specs.Prelude.{◌≡◌, ◌<◌, ◌^◌, IfOk};
 ghost use Rattle.kt_rec.specs.Rows.{rows_of};
 ghost use Rattle.kt_checks.specs.SummaryChecks.{CountsSummaries, sample_checks, summaries_of, zero_above, summary_size_check};

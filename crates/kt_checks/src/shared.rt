@@ -1,4 +1,5 @@
 //! The types of this crate, and those that it passes on, may be sent to threads and shared by them.
+//! The rule: docs/ARCHITECTURE.md, "What threads share".
 use crate::samples::SummaryCounts;
 use kt_keys::{CheckStop, Need, Refusal};
 

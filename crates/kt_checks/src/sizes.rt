@@ -1,4 +1,5 @@
 //! The checks of the sizes of tables.
+//! The rules: docs/CHECKS.md, "Sizes", "Empty tables", "Distributions of an event".
 ghost use Rattle.std.specs.Prelude.{◌≡◌, ◌+◌, ◌*◌, ◌<◌, ◌^◌};
 ghost use Rattle.kt_rec.specs.Rows.{rows_of};
 ghost use Rattle.kt_checks.specs.TableChecks.{row_past, limit_check, programme_limits, limit_checks, none_at, empty_checks, rows_above, damage_size_check, empty_programme};

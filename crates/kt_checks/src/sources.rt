@@ -1,4 +1,5 @@
 //! The check of what a programme takes losses from, over the base and the stages.
+//! The rule: docs/CHECKS.md, "Where losses come from".
 ghost use Rattle.std.specs.Prelude.{◌≡◌, ◌<◌, ℕ, map, nat_eq, IfOk};
 ghost use Rattle.std.specs.List.{list_any};
 ghost use Rattle.kt_rec.specs.Rows.{rows_of};

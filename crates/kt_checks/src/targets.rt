@@ -1,4 +1,5 @@
 //! The check of where a programme's losses go, over the base and the stages.
+//! The rule: docs/CHECKS.md, "Where losses go".
 ghost use Rattle.std.specs.Prelude.{◌≡◌, ◌<◌, IfOk};
 ghost use Rattle.kt_rec.specs.Rows.{rows_of};
 ghost use Rattle.kt_keys.specs.FirstRow.{first_where};

@@ -1,4 +1,5 @@
 //! The check of the place of policy terms in a programme, over the base and the stages.
+//! The rule: docs/CHECKS.md, "The place of terms".
 ghost use Rattle.std.specs.Prelude.{◌≡◌, ◌<◌, ◌&&◌, IfOk};
 ghost use Rattle.kt_rec.specs.declared.table.Table.TheVariants.{FmPolicytc as ThePolicytc, FmProgramme as TheProgramme};
 ghost use Rattle.kt_rec.specs.Rows.{rows_of};

@@ -1,4 +1,5 @@
 //! The checks of values: of insured values, damage bins, probabilities and periods.
+//! The rules: docs/CHECKS.md, "Insured values", "Damage bins", "Probabilities of vulnerabilities", "Periods".
 ghost use Rattle.std.specs.Prelude.{◌≡◌, ℕ, map, nat_eq, nat_lt, unwrap_or, IfOk};
 ghost use Rattle.std.specs.Map.{lookup};
 ghost use Rattle.kt_rec.specs.Rows.{rows_of};

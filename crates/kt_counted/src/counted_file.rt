@@ -1,4 +1,5 @@
 //! One file of which the lines and the bytes are counted: its name and its counts.
+//! The rule: docs/GENERATOR.md, "What is shown of a run".
 ghost use Rattle.std.specs.Prelude.{◌≡◌, ◌++◌, [], IfOk, OnErr, OnOk};
 ghost use Rattle.std.specs.Str.{bytes_eq};
 ghost use Rattle.kt_counted.specs.Counts.{counts_of};

@@ -1,4 +1,5 @@
 //! Output files that are counted and not kept.
+//! The rule: docs/GENERATOR.md, "What is shown of a run".
 ghost use Rattle.std.specs.Prelude.{◌≡◌, ◌<◌, ◌++◌, [], Some, length, IfErr, IfOk, MatchOption, OnErr, OnOk};
 ghost use Rattle.std.specs.Option.{option_map};
 ghost use Rattle.kt_counted.specs.Counts.{counts_of};

@@ -1,4 +1,5 @@
 //! The bytes of a file that is not kept. Only proofs see them: a history takes no memory, and its methods do nothing at run time.
+//! The rule: docs/GENERATOR.md, "What is shown of a run".
 ghost use Rattle.std.specs.Prelude.{◌≡◌, List, ℕ, [], ◌++◌};
 ghost use Rattle.std.specs.Borrow.{ftrue};
 

@@ -1,4 +1,5 @@
 -- The worked examples of docs/CALCULATION.md, "Exceedance curves" and "Kinds of exceedance curves", by computing.
+-- The rules: docs/CALCULATION.md, "Exceedance curves", "Kinds of exceedance curves".
 use Rattle.std.specs.Prelude.{◌≡◌, ℕ, pos, List, [], ◌∷◌, ◌++◌}
 use Rattle.std.specs.List.{flat_map}
 use Rattle.std.proofs.Common.{refl}

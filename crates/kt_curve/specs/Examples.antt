@@ -1,4 +1,5 @@
 -- The worked examples of docs/CALCULATION.md, by computing.
+-- The rule: docs/CALCULATION.md, "Average annual loss".
 use Rattle.std.specs.Prelude.{◌≡◌, ◌^◌, ◌*◌, pos, negsuc, List, [], ◌∷◌, map, Some, None}
 use Rattle.std.proofs.Common.{refl, arith}
 use Rattle.kt_money.specs.Rounding.{mean_of, deviation_of}

@@ -1,4 +1,5 @@
 -- How far the sums of a distribution's mean and deviation have come.
+-- The rule: docs/CALCULATION.md, "Mean and deviation of an item".
 use Rattle.std.specs.Prelude.{◌≡◌, ℕ, ◌+◌, ◌*◌, ◌≤◌, List}
 use Rattle.kt_stream.specs.Bins.{AreBins}
 use Rattle.kt_stream.specs.declared.entry.Bin.{Bin}

@@ -1,4 +1,5 @@
 -- What a sample stands on: values and bins in their ranges.
+-- The rule: docs/CALCULATION.md, "Sampled loss".
 use Rattle.std.specs.Prelude.{ℕ, zero, suc, ◌+◌, ◌*◌, ◌^◌, ◌<◌, ◌≤◌, max, List, length, All, slice_index_or}
 use Rattle.kt_rec.specs.Ranges.{IsDamageBin}
 use Rattle.kt_rec.specs.declared.hazard.DamageBin.{DamageBin}

@@ -112,7 +112,7 @@ pub enum Refusal {
     },
     /// A check refuses the tables.
     Check {
-        /// The number of the check, 1 to 21.
+        /// The number of the check.
         number: u32,
         /// The table's file.
         name: Name,

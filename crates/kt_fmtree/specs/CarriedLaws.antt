@@ -1,4 +1,5 @@
 -- The lists of what is carried are those of the tree.
+-- The rule: docs/FINANCIAL_MODULE.md, "Levels".
 use Rattle.std.specs.Prelude.{◌≡◌, ℕ, zero, suc, ◌+◌, ◌≤◌, ◌<◌, ◌^◌, cond, nat_eq, false, List, [], ◌∷◌, length, map, take, drop, All, slice_index, slice_index_or}
 use Rattle.std.specs.List.{AllByRecursion, IsDistinct, range_with_len, sum, sum_by}
 use Rattle.std.specs.Cmp.{nat_eq_equiv}

@@ -1,4 +1,5 @@
 -- Lists that stand one behind the other.
+-- The rule: docs/FINANCIAL_MODULE.md, "Levels".
 use Rattle.std.specs.Prelude.{◌≡◌, ℕ, zero, suc, ◌-◌, ◌≤◌, List, [], ◌∷◌, take, drop}
 
 -- the lists that stand one behind the other from a place on, up to their ends

@@ -1,4 +1,5 @@
 -- Lists that a loop makes of the elements of another, with those of one element more.
+-- The rule: docs/FINANCIAL_MODULE.md, "Levels".
 use Rattle.std.specs.Prelude.{◌≡◌, ℕ, ◌+◌, ◌<◌, List, [], ◌∷◌, ◌++◌, length, map, take}
 use Rattle.std.specs.List.{flat_map}
 use Rattle.std.proofs.Common.{get_or, refl, sym, ap, ◌∙◌, append-nil, append_assoc}

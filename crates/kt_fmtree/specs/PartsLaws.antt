@@ -1,4 +1,5 @@
 -- What the lists of a programme give of its tree.
+-- The rule: docs/FINANCIAL_MODULE.md, "Levels".
 use Rattle.std.specs.Prelude.{◌≡◌, ℕ, zero, suc, ◌≤◌, ◌<◌, ◌^◌, List, [], ◌∷◌, length, map, slice_index, slice_index_or}
 use Rattle.std.specs.List.{sum}
 use Rattle.std.proofs.Common.{refl, sym, ap, subst, ◌∙◌, arith}

@@ -1,4 +1,5 @@
 //! Lists that stand one behind the other.
+//! The rule: docs/FINANCIAL_MODULE.md, "Levels".
 ghost use Rattle.std.specs.Prelude.{◌≡◌, ◌<◌, ◌≤◌, ◌-◌, [], drop, length, slice_index_or, take};
 ghost use Rattle.kt_fmtree.specs.Lists.{AreEnds, lists_from, start_at};
 

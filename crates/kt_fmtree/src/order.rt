@@ -1,4 +1,5 @@
 //! Ids by rising number, each once.
+//! The rule: docs/FINANCIAL_MODULE.md, "Levels".
 ghost use Rattle.std.specs.Prelude.{◌≡◌, IfOk};
 ghost use Rattle.kt_rec.specs.Rising.{rising};
 

@@ -1,4 +1,5 @@
 -- Records that are added, list by list, and the first of them that is refused.
+-- The rule: docs/CALCULATION.md, "Periods".
 use Rattle.std.proofs.Common.{◌≡◌, List, [], ◌∷◌, ◌++◌, Option, Some, None, refl, sym, ap, ◌∙◌, append_assoc, append-nil}
 use Rattle.std.specs.Option.{option_or}
 use Rattle.std.proofs.lemmas.Grind.{flat_map-append}

@@ -1,4 +1,5 @@
 //! What was made beforehand for the elements of a list.
+//! The rule: docs/ARCHITECTURE.md, "A run of all stages".
 ghost use Rattle.std.specs.Prelude.{◌≡◌, ◌++◌, ◌∷◌, [], OnOk, drop, slice_index_or};
 
 use std::alloc::{AllocError, Global};

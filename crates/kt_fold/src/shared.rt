@@ -1,4 +1,5 @@
 //! What the fold holds, and what it takes, may be sent to threads and shared by them.
+//! The rule: docs/ARCHITECTURE.md, "What threads share".
 use crate::fold::{FoldStop, RunFold};
 use crate::part::PartBlock;
 use crate::ready::ReadyPart;

@@ -28,7 +28,8 @@ pub fn source_stop(alloc: Global, stop: TableStop) -> ToolStop
     }
 }
 
-/// How the tool ends by how the writing of its text did.
+/// How the tool ends by how the writing of its text did. An error is the refusal of the source, the fault of the sink,
+/// or want of memory.
 pub fn text_end(alloc: Global, written: Result<(), TextStop>) -> Result<(), ToolStop>
     ensures { EndsText written result }
 {
@@ -76,7 +77,8 @@ fn convert_to_text<S: Source, K: Sink>(
     text_end(alloc, write_csv(alloc, table, bytes.as_slice(), sink))
 }
 
-/// Reads the whole source and writes its other form: a file once it is whole, a text in blocks.
+/// Reads the whole source and writes its other form: a file once it is whole, a text in blocks. An error is the refusal
+/// of the source, which has written nothing then, a fault of the source or of the sink, or want of memory.
 pub fn convert<S: Source, K: Sink>(
     alloc: Global,
     conversion: Conversion,

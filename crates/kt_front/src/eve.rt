@@ -17,7 +17,8 @@ use kt_out::Sink;
 use kt_tables::Portfolio;
 use std::alloc::Global;
 
-/// Writes the ids of the events of a part of the event list of a portfolio.
+/// Writes the ids of the events of a part of the event list of a portfolio. An error is a fault of the sink or want of
+/// memory: some front of the ids is written then.
 pub fn write_events<K: Sink>(
     alloc: Global,
     part: u32,

@@ -70,7 +70,9 @@ fn write_text<S: Source, K: Sink>(
     text_end(alloc, write_footprint(alloc, bytes.as_slice(), index, sink))
 }
 
-/// Reads the whole source, the footprint, and writes its text by the index of a portfolio.
+/// Reads the whole source, the footprint, and writes its text by the index of a portfolio. An error is that the source
+/// is too large, that a row of the index has no place in it, or its first bad place, all of which have written nothing;
+/// a fault of the source or of the sink; or want of memory.
 pub fn footprint_to_text<S: Source, K: Sink>(
     alloc: Global,
     portfolio: &Portfolio,

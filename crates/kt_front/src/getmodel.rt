@@ -111,7 +111,10 @@ impl<'a, I: Inputs> Stage<EventId, I> for Distributions<'a> {
     }
 }
 
-/// Reads the ids of events and writes their damage distributions by a portfolio and the footprint's file.
+/// Reads the ids of events and writes their damage distributions by a portfolio and the footprint's file. An error is
+/// the first refused id or footprint row, a fault of the source, of the footprint's file or of the sink, or want of
+/// memory: where it is refused the header and what all ids before it give are written, and any other error leaves some
+/// front of the output.
 pub fn write_distributions<I: Inputs, S: Source, K: Sink>(
     alloc: Global,
     portfolio: &Portfolio,

@@ -96,7 +96,9 @@ fn bin_count(portfolio: &Portfolio) -> u32
     portfolio.damage_bins().len() as u32
 }
 
-/// Reads a stream of distributions and writes their ground-up losses by a portfolio.
+/// Reads a stream of distributions and writes their ground-up losses by a portfolio. An error is what refuses the
+/// stream, a fault of the source or of the sink, or want of memory: a refused stream has written the output of what
+/// came before the refused place, and any other error leaves some front of the output.
 pub fn write_ground_up<S: Source, K: Sink>(
     alloc: Global,
     samples: u32,

@@ -16,7 +16,7 @@ pub(crate) const SOURCE_LIMIT: usize = 1_073_741_824;
 // More turns than that: each turn but the last reads one byte at the least.
 const TURNS: u64 = 1_073_741_826;
 
-/// The name of the source in a refusal.
+/// The name of the source in a refusal. An error is want of memory.
 pub fn source_label(alloc: Global) -> Result<Name, AllocError>
     ensures { IfOk result (λ name. name ≡ source_name) }
 {

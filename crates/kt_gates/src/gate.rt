@@ -1,5 +1,6 @@
 //! A gate through which parts of a round are seen side by side.
 //! What it is for: README.md.
+//! The rule: docs/PROVING.md, "Tests".
 
 use kt_out::Gate;
 use std::hint::spin_loop;

@@ -1,6 +1,7 @@
 //! Sees which parts of a round are made side by side, by a gate that holds each until its group has begun, and prints each run that
 //! is not as it must be, and how many were tried; then prints what runs of three rounds ask of the footprint's file.
 //! What is tried: README.md.
+//! The rule: docs/PROVING.md, "Tests".
 #![tactic(auto)]
 
 mod failure;

@@ -1,5 +1,6 @@
 //! What runs of three rounds ask of the footprint's file.
 //! What is tried: README.md.
+//! The rules: docs/TABLES.md, "Footprint rows of a round"; docs/PROVING.md, "Tests".
 
 use crate::failure::Failure;
 use crate::tables::kept_inputs_of;

@@ -1,5 +1,6 @@
 //! The tables of a run of some events over one item.
 //! What they are for: README.md.
+//! The rule: docs/PROVING.md, "Tests".
 
 use crate::failure::Failure;
 use crate::words::words_of;

@@ -1,4 +1,5 @@
 //! The words of a call.
+//! The rule: docs/PROVING.md, "Tests".
 
 use crate::failure::Failure;
 use kt_tools::Words;

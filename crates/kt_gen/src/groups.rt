@@ -1,4 +1,5 @@
 //! Tables that are made group by group: rows that belong to one item, one event or the like.
+//! The rule: docs/GENERATOR.md, "Files".
 ghost use Rattle.std.specs.Prelude.{◌≡◌, ◌<◌, ◌≤◌, ◌+◌, ◌++◌, ℕ, IfOk, OnOk};
 ghost use Rattle.std.specs.List.{flat_map, range_with_len};
 ghost use Rattle.kt_cells.specs.Records.{records_bytes};

@@ -1,4 +1,5 @@
 -- The items of one coverage that an event strikes, and their losses side by side.
+-- The rule: docs/CALCULATION.md, "Coverage cut".
 use Rattle.std.specs.Prelude.{◌≡◌, ℕ, ◌<◌, ◌≤◌, List, length, take, All, slice_index, slice_index_or}
 use Rattle.std.specs.List.{sum_by}
 use Rattle.kt_rec.specs.Rows.{Rows}

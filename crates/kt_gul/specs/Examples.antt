@@ -1,4 +1,5 @@
 -- The worked examples of docs/CALCULATION.md, by computing.
+-- The rules: docs/CALCULATION.md, "Sampled loss", "Mean and deviation of an item", "Coverage cut".
 use Rattle.std.specs.Prelude.{◌≡◌, ◌*◌, ◌/◌, ◌^◌, List, [], ◌∷◌}
 use Rattle.std.proofs.Common.{refl, ap, sym, arith}
 use Rattle.kt_money.specs.RoundingLaws.{root-from_is}

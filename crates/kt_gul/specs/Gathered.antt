@@ -1,4 +1,5 @@
 -- How far the losses of a coverage's items have come.
+-- The rule: docs/CALCULATION.md, "Coverage cut".
 use Rattle.std.specs.Prelude.{◌≡◌, ℕ, ◌*◌, ◌<◌, ◌≤◌, List, length, map, take, drop}
 use Rattle.std.specs.List.{flat_map, range_with_len}
 use Rattle.kt_rec.specs.Rows.{Rows}

@@ -1,4 +1,5 @@
 -- The struck items of an event, coverage by coverage.
+-- The rule: docs/CALCULATION.md, "Coverage cut".
 use Rattle.std.specs.Prelude.{◌≡◌, ◌≢◌, ℕ, ◌<◌, ◌≤◌, Bool, List, ◌++◌, length, map, take, slice_index_or}
 use Rattle.std.specs.List.{filter_map, flat_map}
 use Rattle.kt_rec.specs.Rows.{Rows}

@@ -1,4 +1,5 @@
 -- What the losses of an item by a distribution stand on.
+-- The rules: docs/CALCULATION.md, "Sampled loss", "Mean and deviation of an item".
 use Rattle.std.specs.Prelude.{◌≡◌, ℕ, ◌+◌, ◌<◌, ◌≤◌, List, ◌++◌, map}
 use Rattle.std.specs.List.{range_with_len}
 

@@ -1,4 +1,5 @@
 -- The items that an event strikes: those for which it has a distribution.
+-- The rule: docs/CALCULATION.md, "Sampled loss".
 use Rattle.std.specs.Prelude.{ℕ, ◌+◌, ◌*◌, ◌^◌, Bool, List, map, take, All}
 use Rattle.std.specs.List.{filter, list_any}
 use Rattle.std.specs.List.Sorted.{IsPermutation, IsNonDecreasingBy, IsStrictlyIncreasing}

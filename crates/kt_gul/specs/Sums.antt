@@ -1,4 +1,5 @@
 -- How far losses were added to sums, place by place.
+-- The rule: docs/CALCULATION.md, "Coverage cut".
 use Rattle.std.specs.Prelude.{◌≡◌, ℕ, ◌+◌, ◌<◌, ◌≤◌, List, slice_index}
 
 -- below a place the losses are added, and from it on they are not

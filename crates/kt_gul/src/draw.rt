@@ -1,4 +1,5 @@
 //! What is asked of the losses of an event.
+//! The rule: docs/CALCULATION.md, "Sampled loss".
 
 use std::alloc::Global;
 

@@ -1,4 +1,5 @@
 //! Quotients of wide numbers by numbers of 64 bits, where the quotient has 64 bits too.
+//! The rule: docs/CALCULATION.md, "Rounding".
 ghost use Rattle.std.specs.Prelude.{◌≡◌, ◌↔◌, ◌/◌, ◌^◌, ◌<◌, IsTrue};
 
 /// `a / b`. A guess is given that is nearly always right, and to test it takes a third of the time of a division of 128 bits.

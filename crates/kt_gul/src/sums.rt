@@ -1,4 +1,5 @@
 //! Losses added place by place.
+//! The rule: docs/CALCULATION.md, "Coverage cut".
 ghost use Rattle.std.specs.Prelude.{◌≡◌, ℕ, ◌+◌, ◌<◌, ◌≤◌, ◌^◌, true, false, length, slice_index, IfOk};
 ghost use Rattle.kt_gul.specs.Coverage.{IsRow, IsScratch};
 

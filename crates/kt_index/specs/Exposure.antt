@@ -1,4 +1,5 @@
 -- The coverages of summaries, and what they are worth.
+-- The rule: docs/CALCULATION.md, "Summary".
 use Rattle.std.specs.Prelude.{◌≡◌, ℕ, ◌<◌, ◌^◌, ◌&&◌, nat_eq, Bool, List, unwrap_or}
 use Rattle.std.specs.List.{IsDistinct, list_any, sum_by}
 use Rattle.kt_keys.specs.UnitTable.{value_of}

@@ -1,4 +1,5 @@
 -- Where the rows of a range of keys stand among rows by rising key.
+-- The rule: docs/TABLES.md, "Lookups".
 use Rattle.std.specs.Prelude.{◌≡◌, ℕ, ◌≤◌, true, false, nat_lt, nat_le, List, length}
 use Rattle.std.specs.List.Sorted.{IsPartitionPoint}
 

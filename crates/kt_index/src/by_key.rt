@@ -1,4 +1,5 @@
 //! Rows in the order of a key, and the rows of one key.
+//! The rule: docs/TABLES.md, "Lookups".
 ghost use Rattle.std.specs.Prelude.{◌≡◌, true, ◌≤◌, ◌-◌, ℕ, ◌&&◌, nat_eq, nat_le, length, take, drop, IfOk};
 ghost use Rattle.std.specs.List.{filter};
 ghost use Rattle.std.specs.List.Sorted.{IsPermutation, IsNonDecreasingBy};

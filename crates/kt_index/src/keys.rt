@@ -1,4 +1,5 @@
 //! The keys of rows.
+//! The rule: docs/TABLES.md, "Lookups".
 ghost use Rattle.std.specs.Prelude.{◌≡◌, ◌*◌, ◌+◌, ◌^◌};
 
 use crate::by_key::Keyed;

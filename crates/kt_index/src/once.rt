@@ -1,4 +1,5 @@
 //! Ids in order, each once.
+//! The rule: docs/CALCULATION.md, "Summary".
 ghost use Rattle.std.specs.Prelude.{◌≡◌, ℕ, nat_eq};
 ghost use Rattle.std.specs.List.{list_any};
 ghost use Rattle.kt_rec.specs.Rising.{IsRising};

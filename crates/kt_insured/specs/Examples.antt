@@ -1,4 +1,5 @@
 -- The worked examples of docs/FINANCIAL_MODULE.md on insured losses, and those of docs/CALCULATION.md, "Share-out", by computing.
+-- The rule: docs/FINANCIAL_MODULE.md, "Insured losses".
 use Rattle.std.specs.Prelude.{◌≡◌, ℕ, pos, List, [], ◌∷◌}
 use Rattle.std.proofs.Common.{refl}
 use Rattle.kt_money.specs.Sharing.{share_out}

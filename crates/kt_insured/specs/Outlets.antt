@@ -1,4 +1,5 @@
 -- Outlets by rising id, each id once.
+-- The rule: docs/FINANCIAL_MODULE.md, "Insured losses".
 use Rattle.std.specs.Prelude.{◌≡◌, ℕ, nat_eq, List, Option, map}
 use Rattle.std.specs.Map.{lookup}
 use Rattle.kt_rec.specs.Rising.{IsRising}

@@ -1,4 +1,5 @@
 //! The types of this crate may be sent to threads and shared by them.
+//! The rule: docs/ARCHITECTURE.md, "What threads share".
 use crate::index::OutputIndex;
 use crate::made::{Insured, InsuredLanes};
 use crate::sums::LayerSum;

@@ -1,4 +1,5 @@
 -- The worked examples of docs/COMMANDS.md, "kat", by computing.
+-- The rule: docs/COMMANDS.md, "kat".
 use Rattle.std.specs.Prelude.{◌≡◌, ℕ, List, [], ◌∷◌, ◌++◌, codes}
 use Rattle.std.proofs.Common.{refl}
 use Rattle.kt_out.specs.NamedFiles.{File, bytes_of}

@@ -54,7 +54,10 @@ fn write_together<I: Inputs, K: Sink>(
     }
 }
 
-/// Makes one stream of the streams in the files that all words but the first name, or writes their bytes one after the other.
+/// Makes one stream of the streams in the files that all words but the first name, or writes their bytes one after the
+/// other. An error is the first file that is missing, too large or refused, a fault of the files or of the sink, or
+/// want of memory: where it is refused the output of what came before is written, and any other error leaves some front
+/// of the output.
 pub fn kat<I: Inputs, K: Sink>(
     alloc: Global,
     words: &Words,

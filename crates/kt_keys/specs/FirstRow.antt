@@ -1,4 +1,5 @@
 -- The first row that a check refuses. Rows are counted from 1.
+-- The rule: docs/CHECKS.md, "Order".
 use Rattle.std.specs.Prelude.{ℕ, ◌+◌, Bool, not, cond, List, [], ◌∷◌, ◌++◌, length, Option, Some, None, nat_lt}
 use Rattle.std.specs.List.{list_any, sum_by}
 

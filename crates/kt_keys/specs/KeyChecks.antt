@@ -1,4 +1,5 @@
 -- The checks of keys that stand in an earlier row of their table.
+-- The rules: docs/CHECKS.md, "Keys", "Outputs of a layer".
 use Rattle.std.specs.Prelude.{ℕ, ◌+◌, nat_eq, Bool, List, [], ◌∷◌, map, Option}
 use Rattle.kt_rec.specs.declared.table.Table.{Table}
 use Rattle.kt_rec.specs.declared.table.Table.TheVariants.{Events, Items, Coverages, FootprintIdx, Vulnerability, FmProgramme, FmPolicytc, FmProfile, FmXref, GulSummaryXref, FmSummaryXref, ReturnPeriods}

@@ -1,4 +1,5 @@
 -- The financial tables of a stage, and the keys of rows.
+-- The rule: docs/CHECKS.md, "Keys".
 use Rattle.std.specs.Prelude.{ℕ, ◌&&◌, nat_eq, Bool, List, [], slice_index_or}
 use Rattle.kt_rec.specs.declared.financial.FmProgramme.{FmProgramme}
 use Rattle.kt_rec.specs.declared.financial.FmPolicytc.{FmPolicytc}

@@ -1,4 +1,6 @@
 -- The checks of what a table names but another table lacks.
+-- The rules: docs/CHECKS.md, "Coverages of items", "Damage bins of vulnerabilities", "Profiles of terms", "What outputs
+-- are for", "Items and outputs of summaries".
 use Rattle.std.specs.Prelude.{ℕ, ◌&&◌, nat_eq, Bool, cond, List, [], ◌∷◌, map, Option}
 use Rattle.kt_rec.specs.declared.table.Table.TheVariants.{Items, Coverages, Vulnerability, DamageBinDict, FmProgramme, FmPolicytc, FmProfile, FmXref, GulSummaryXref, FmSummaryXref}
 use Rattle.kt_rec.specs.Rows.{Rows}

@@ -1,4 +1,5 @@
 -- What a check refuses, and the first of several refusals.
+-- The rules: docs/CHECKS.md, "When a check is made", "Order".
 use Rattle.std.specs.Prelude.{ℕ, Bool, cond, List, suc, zero, Option, None, option_map}
 use Rattle.std.specs.List.{fold}
 use Rattle.std.specs.Option.{option_or}

@@ -1,4 +1,5 @@
 -- The first refusal over the base and the stages, one stage after the other.
+-- The rule: docs/CHECKS.md, "Order".
 use Rattle.std.proofs.Common.{◌≡◌, ℕ, ◌+◌, refl, ap, ◌∙◌, Option, None, add-one}
 use Rattle.std.specs.Option.{option_or}
 use Rattle.kt_keys.specs.declared.need.Refusal.{Refusal}

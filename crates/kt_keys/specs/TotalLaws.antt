@@ -1,4 +1,5 @@
 -- The totals of keys, and what follows where no total is too large.
+-- The rules: docs/CHECKS.md, "Insured values", "Probabilities of vulnerabilities".
 use Rattle.std.specs.Prelude.{◌≡◌, ℕ, ◌≤◌, ◌+◌, Bool, true, false, cond, List, [], ◌∷◌, ◌++◌, length, nat_lt, refl, Some, None}
 use Rattle.std.specs.Cmp.{IsEquivalence}
 use Rattle.std.proofs.Common.{sym, subst, ap, ◌∙◌, append-nil, append_assoc, add-zero, arith}

@@ -1,4 +1,5 @@
 -- The units of a programme and their levels.
+-- The rule: docs/FINANCIAL_MODULE.md, "Levels".
 use Rattle.std.specs.Prelude.{ℕ, nat_eq, Bool, List, map, max}
 use Rattle.std.specs.List.{list_any, fold, filter}
 use Rattle.kt_rec.specs.declared.financial.FmProgramme.{FmProgramme}

@@ -1,4 +1,5 @@
 //! The checks of keys in the financial tables of the base and of the stages.
+//! The rule: docs/CHECKS.md, "Keys".
 ghost use Rattle.std.specs.Prelude.{◌≡◌, ◌+◌, ◌<◌, IfOk};
 ghost use Rattle.kt_rec.specs.Rows.{rows_of};
 ghost use Rattle.kt_keys.specs.Refusals.{over_stages};

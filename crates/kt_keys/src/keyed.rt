@@ -1,4 +1,5 @@
 //! What a row is known by in its table.
+//! The rule: docs/CHECKS.md, "Keys".
 ghost use Rattle.std.specs.Prelude.{◌≡◌, map, IfOk};
 
 use kt_rec::{

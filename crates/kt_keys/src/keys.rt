@@ -1,4 +1,5 @@
 //! The checks of keys that stand in an earlier row.
+//! The rules: docs/CHECKS.md, "Keys", "Outputs of a layer".
 ghost use Rattle.std.specs.Prelude.{◌≡◌, map, nat_eq, IfOk};
 ghost use Rattle.kt_rec.specs.TableNames.{IsTableId};
 ghost use Rattle.kt_rec.specs.Rows.{rows_of};

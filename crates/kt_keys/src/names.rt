@@ -1,4 +1,6 @@
 //! The checks of what a table names but another table lacks.
+//! The rules: docs/CHECKS.md, "Coverages of items", "Damage bins of vulnerabilities", "Profiles of terms", "What
+//! outputs are for", "Items and outputs of summaries".
 ghost use Rattle.std.specs.Prelude.{◌≡◌, ◌<◌, ◌&&◌, map, nat_eq, IfOk};
 ghost use Rattle.kt_rec.specs.declared.table.Table.TheVariants.{FmPolicytc, FmProfile};
 ghost use Rattle.kt_rec.specs.Rows.{rows_of};

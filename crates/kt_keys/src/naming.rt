@@ -1,4 +1,6 @@
 //! What a row names of another table, or of a programme.
+//! The rules: docs/CHECKS.md, "Coverages of items", "Profiles of terms", "What outputs are for", "Items and outputs of
+//! summaries".
 ghost use Rattle.std.specs.Prelude.{◌≡◌, map, IfOk};
 
 use kt_rec::{FmPolicytc, FmSummaryXref, FmXref, GulSummaryXref, Item, Vulnerability};

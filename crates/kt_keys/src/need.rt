@@ -1,4 +1,5 @@
 //! What a command needs of the tables, and what the checks answer.
+//! The rule: docs/CHECKS.md, "When a check is made".
 ghost use Rattle.std.specs.Prelude.{◌≡◌};
 ghost use Rattle.kt_rec.specs.TableNames.{IsTableId};
 ghost use Rattle.kt_keys.specs.Refusals.{at_stage, is_loaded, refusal};
@@ -34,7 +35,7 @@ impl Need {
 /// What a check refuses.
 #[derive(Clone, Copy, Drop)]
 pub struct Refusal {
-    /// The number of the check, 1 to 21.
+    /// The number of the check.
     pub number: u32,
     /// The table that is refused.
     pub table: TableId,
@@ -59,7 +60,7 @@ impl Refusal {
 pub enum CheckStop {
     /// A check refuses a table.
     Check {
-        /// The number of the check, 1 to 21.
+        /// The number of the check.
         number: u32,
         /// The table that is refused.
         table: TableId,

@@ -1,4 +1,5 @@
 //! The first row of a list that repeats a key, has an unknown key, or makes a sum too large.
+//! The rule: docs/CHECKS.md, "Order".
 ghost use Rattle.std.specs.Prelude.{◌≡◌, ℕ, nat_eq, not, true, None, IfOk};
 ghost use Rattle.std.specs.List.{list_any};
 ghost use Rattle.std.specs.HashSet.{contains, IsFromIterResult};

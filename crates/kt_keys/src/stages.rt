@@ -1,4 +1,5 @@
 //! The financial tables of the base and of a stage.
+//! The rules: docs/TABLES.md, "Tables", "Files".
 ghost use Rattle.std.specs.Prelude.{◌≡◌, ◌≤◌, ◌<◌, ◌&&◌};
 ghost use Rattle.kt_rec.specs.TableNames.{number_of};
 ghost use Rattle.kt_rec.specs.Rows.{rows_of};

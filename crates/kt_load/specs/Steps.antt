@@ -1,4 +1,5 @@
 -- What the tables keep while they are read one by one, whatever their files hold.
+-- The rule: docs/TABLES.md, "Files".
 use Rattle.std.specs.Prelude.{◌≡◌, ◌⊎◌, List, true, false, All}
 use Rattle.kt_rec.specs.Ranges.{AreInRange, ArePeriods}
 use Rattle.kt_rec.specs.Rows.{Rows, row_count}

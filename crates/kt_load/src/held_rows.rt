@@ -1,4 +1,5 @@
 //! Where the footprint rows of an event stand among those of a round.
+//! The rule: docs/TABLES.md, "Footprint rows of a round".
 
 /// Where the rows of an event stand in the rows of all events of a round.
 #[derive(Clone, Copy, Default, Drop)]

@@ -30,7 +30,7 @@ pub enum LoadStop {
     },
     /// A check refuses the tables.
     Check {
-        /// The number of the check, 1 to 21.
+        /// The number of the check.
         number: u32,
         /// The file of the table that is refused.
         name: Name,

@@ -1,4 +1,5 @@
 //! The block in which the source is read.
+//! The rule: docs/STREAMS.md, "Tools over streams".
 ghost use Rattle.std.specs.Prelude.{◌≡◌, ◌+◌, ◌≤◌, length, take, OnOk, IfOk};
 
 use std::alloc::{AllocError, Global};

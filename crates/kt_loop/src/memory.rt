@@ -1,4 +1,5 @@
 //! Memory that is kept from run to run.
+//! The rule: docs/LIMITS.md, "Memory that is kept".
 
 use std::alloc::Global;
 

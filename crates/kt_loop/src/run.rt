@@ -109,7 +109,8 @@ fn settle<K: Sink>(stop: ToolStop, sink: &mut K, out: &mut Bytes) -> ToolStop
 
 /// Reads a stream to its end and carries out the calculation of a stage over it: writes what the stage writes at the
 /// header, at each record and at the end, in blocks. A refusal of the stage or of the stream ends it, with all text
-/// before it written.
+/// before it written. An error is that refusal, a fault of the source, of the sink or of what the stage asks beside the
+/// stream, or want of memory: of the text some front is written then.
 pub fn run_stage<E: Entry, W, T: Stage<E, W>, S: Source, K: Sink>(
     alloc: Global,
     reader: &mut RecordReader<E>,

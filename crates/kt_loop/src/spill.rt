@@ -1,4 +1,5 @@
 //! Writing what is pending.
+//! The rule: docs/STREAMS.md, "Tools over streams".
 ghost use Rattle.std.specs.Prelude.{◌≡◌, ℕ, List, [], Option, OnOk};
 ghost use Rattle.kt_loop.specs.Counts.{CountsWrite};
 ghost use Rattle.kt_loop.specs.Given.{Given, Spills};

@@ -93,7 +93,9 @@ fn insured_losses(
 }
 
 /// Reads a stream of ground-up losses and writes their insured losses by a portfolio whose programme is loaded, by an allocation
-/// rule from 0 to 2.
+/// rule from 0 to 2. An error is what refuses the stream, a record of it or its samples, a fault of the source or of
+/// the sink, or want of memory: where it is refused the output of what came before is written, and any other error
+/// leaves some front of the output.
 pub fn write_insured<S: Source, K: Sink>(
     alloc: Global,
     rule: u32,

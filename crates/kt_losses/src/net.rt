@@ -90,7 +90,9 @@ fn net_losses(
 }
 
 /// Reads a stream of ground-up losses, for the base, at 0, or of losses of outputs, for a stage from 1 to 9, and writes them net
-/// of what its layers take, by a portfolio whose programme of that stage is loaded, by allocation rule 1 or 2.
+/// of what its layers take, by a portfolio whose programme of that stage is loaded, by allocation rule 1 or 2. An error
+/// is what refuses the stream, a record of it or its samples, a fault of the source or of the sink, or want of memory:
+/// where it is refused the output of what came before is written, and any other error leaves some front of the output.
 pub fn write_net<S: Source, K: Sink>(
     alloc: Global,
     rule: u32,

@@ -30,7 +30,9 @@ fn perspective_of(items: bool) -> Perspective
     }
 }
 
-/// Reads a stream of losses of items or of outputs and writes the summaries of a set of a portfolio.
+/// Reads a stream of losses of items or of outputs and writes the summaries of a set of a portfolio. An error is what
+/// refuses the stream, a record of it or its samples, a fault of the source or of the sink, or want of memory: where it
+/// is refused the output of what came before is written, and any other error leaves some front of the output.
 pub fn write_summaries<S: Source, K: Sink>(
     alloc: Global,
     items: bool,

@@ -1,4 +1,5 @@
 -- The chances that the rows of one areaperil add up to.
+-- The rule: docs/CALCULATION.md, "Damage distribution".
 use Rattle.std.specs.Prelude.{◌≡◌, ℕ, ◌*◌, ◌<◌, cond, nat_eq, List, [], length, slice_index, slice_index_or}
 use Rattle.std.specs.List.{filter, sum, sum_by}
 use Rattle.kt_rec.specs.Rows.{Rows}

@@ -1,4 +1,5 @@
 -- What the check of footprint rows keeps of the rows that it has seen.
+-- The rule: docs/CHECKS.md, "Footprint rows of an event".
 use Rattle.std.specs.Prelude.{◌≡◌, ℕ, ◌≤◌, nat_eq, List, unwrap_or}
 use Rattle.std.specs.List.{list_any}
 use Rattle.std.specs.HashMap.{get}

@@ -1,4 +1,5 @@
 //! Memory for the distributions of an event, which is used again from event to event.
+//! The rule: docs/CALCULATION.md, "Damage distribution".
 ghost use Rattle.std.specs.Prelude.{◌≡◌, length, OnOk};
 ghost use Rattle.std.specs.List.{sum};
 

@@ -1,4 +1,5 @@
 //! The public types may be sent to threads and shared by them.
+//! The rule: docs/ARCHITECTURE.md, "What threads share".
 use crate::scratch::Scratch;
 use kt_stream::{Cdf, Records};
 

@@ -1,4 +1,5 @@
 -- Numbers as text: plain digits, and a fixed number of decimals behind a point.
+-- The rule: docs/CALCULATION.md, "Number texts".
 use Rattle.std.specs.Prelude.{ℕ, zero, suc, ◌+◌, ◌/◌, ◌%◌, ◌^◌, List, [], ◌∷◌, ◌++◌, decimal}
 
 -- the last `width` decimal digits of n, with zeros in front

@@ -1,4 +1,5 @@
 -- Rounding to whole cents: quotients to the nearest whole, whole roots, means and deviations.
+-- The rules: docs/CALCULATION.md, "Rounding", "Mean and deviation".
 use Rattle.std.specs.Prelude.{ℕ, zero, suc, ◌+◌, ◌-◌, ◌*◌, ◌/◌, ◌<◌, ◌≤◌, ◌≡◌, nat_le, if◌then◌else◌}
 
 -- a / b to the nearest whole, halves up

@@ -1,4 +1,5 @@
 -- Laws of roots and deviations: each of them exists and is one, and amounts leave their deviation room.
+-- The rules: docs/CALCULATION.md, "Rounding", "Mean and deviation".
 use Rattle.std.specs.Prelude.{ℕ, zero, suc, ◌+◌, ◌-◌, ◌*◌, ◌/◌, ◌<◌, ◌≤◌, ◌≡◌, List, [], ◌∷◌, length, sum, map, nat_le, if◌then◌else◌}
 use Rattle.std.proofs.Common.{arith, ⊎_elim}
 use Rattle.std.proofs.lemmas.Bool.{cases_lt}

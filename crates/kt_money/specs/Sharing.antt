@@ -1,4 +1,5 @@
 -- Sharing a total out over weights, to the last cent: each share ends where the total's part of all weights up to it ends.
+-- The rule: docs/CALCULATION.md, "Share-out".
 use Rattle.std.specs.Prelude.{◌≡◌, ◌⊎◌, ℕ, ◌+◌, ◌-◌, ◌*◌, ◌/◌, ◌^◌, ◌<◌, ◌≤◌, List, [], ◌∷◌}
 use Rattle.std.specs.List.{sum}
 

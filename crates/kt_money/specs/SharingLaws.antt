@@ -1,4 +1,5 @@
 -- Laws of sharing out: the shares add to the total, and where it is not above the weights, no share is above its weight.
+-- The rule: docs/CALCULATION.md, "Share-out".
 use Rattle.std.specs.Prelude.{◌≡◌, ℕ, zero, suc, ◌+◌, ◌-◌, ◌*◌, ◌/◌, ◌<◌, ◌≤◌, List, [], ◌∷◌}
 use Rattle.std.specs.List.{sum}
 use Rattle.std.proofs.Common.{arith, sym, ap, ◌∙◌}

@@ -1,4 +1,5 @@
 //! A growing text of bytes, which contracts see as a list.
+//! The rule: docs/CALCULATION.md, "Number texts".
 ghost use Rattle.std.specs.Prelude.{◌≡◌, ◌≤◌, ◌↔◌, ℕ, List, [], ◌∷◌, ◌++◌, length, take, IsTrue, OnOk, OnErr};
 
 use std::alloc::{AllocError, Global};

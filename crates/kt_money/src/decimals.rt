@@ -1,4 +1,5 @@
 //! The digits of a number with decimals, in a buffer.
+//! The rule: docs/CALCULATION.md, "Number texts".
 ghost use Rattle.std.specs.Prelude.{◌≡◌, ◌+◌, ◌^◌, ◌≤◌, ◌++◌, length, take, drop};
 ghost use Rattle.kt_money.specs.NumberText.{plain};
 

@@ -1,4 +1,5 @@
 //! Mean and standard deviation, from a count, a sum and a sum of squares.
+//! The rule: docs/CALCULATION.md, "Mean and deviation".
 ghost use Rattle.std.specs.Prelude.{◌≡◌, ◌+◌, ◌-◌, ◌*◌, ◌/◌, ◌^◌, ◌<◌, ◌≤◌};
 ghost use Rattle.kt_money.specs.Rounding.{half_up, mean_of, deviation_of, IsDeviation};
 

@@ -1,4 +1,5 @@
 //! Numbers as text: counts in plain digits, amounts with two decimals, parts per million with six.
+//! The rule: docs/CALCULATION.md, "Number texts".
 ghost use Rattle.std.specs.Prelude.{◌≡◌, ◌++◌, OnOk, OnErr};
 ghost use Rattle.kt_money.specs.NumberText.{count_text, money_text, ppm_text};
 

@@ -1,4 +1,5 @@
 //! Quotients rounded to the nearest whole, halves up.
+//! The rule: docs/CALCULATION.md, "Rounding".
 ghost use Rattle.std.specs.Prelude.{◌≡◌, ◌/◌, ◌^◌, ◌<◌, ◌≤◌};
 ghost use Rattle.kt_money.specs.Rounding.{half_up, ppm_part};
 

@@ -1,4 +1,5 @@
 //! A row of a table of text, filled from its end to its start.
+//! The rule: docs/CALCULATION.md, "Number texts".
 ghost use Rattle.std.specs.Prelude.{◌≡◌, ◌+◌, ◌≤◌, ℕ, List, [], ◌∷◌, ◌++◌, length, drop};
 ghost use Rattle.kt_money.specs.NumberText.{count_text, money_text, ppm_text};
 ghost use Rattle.kt_money.specs.declared.row.TheConstants.{ROW_BYTES};

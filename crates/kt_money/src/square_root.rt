@@ -1,4 +1,5 @@
 //! Whole square roots.
+//! The rule: docs/CALCULATION.md, "Mean and deviation".
 ghost use Rattle.std.specs.Prelude.{◌≡◌, ◌↔◌, IsTrue};
 ghost use Rattle.kt_money.specs.Rounding.{root, IsRoot};
 

@@ -1,4 +1,5 @@
 -- An adapter over a reader or a writer, as contracts see it, and the bytes of a call that was made again.
+-- The rule: docs/ARCHITECTURE.md, "The outside".
 use Rattle.std.specs.Prelude.{ℕ, Option, None, Some, Result, Ok, Err}
 use Rattle.kt_out.specs.declared.fault.Failed.{Failed}
 

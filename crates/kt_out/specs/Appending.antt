@@ -1,5 +1,5 @@
 -- The appending of a whole text to an output file, in as many appends as it takes.
--- The rules: docs/ARCHITECTURE.md, "kt_out".
+-- The rules: docs/ARCHITECTURE.md, "The outside".
 use Rattle.std.proofs.Common.{refl, sym, ap, ◌∙◌, append_assoc}
 use Rattle.std.proofs.lemmas.List.{append-nil}
 use Rattle.std.specs.Prelude.{◌≡◌, ◌≢◌, ℕ, List, [], ◌∷◌, ◌++◌, Option, None, Some, Result, Ok, Err, IsSomeAnd, unwrap_or}

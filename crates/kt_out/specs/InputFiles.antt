@@ -1,4 +1,5 @@
 -- Input files as contracts see them, and what their calls answer and count.
+-- The rule: docs/ARCHITECTURE.md, "The outside".
 use Rattle.std.specs.Prelude.{◌≡◌, ℕ, ◌-◌, ◌<◌, ◌≤◌, List, ◌++◌, length, take, drop, ⊤, Option, None, Some, Result, Ok, Err}
 use Rattle.kt_out.specs.declared.fault.Absent.{Absent}
 use Rattle.kt_out.specs.declared.fault.Absent.TheVariants.{Failed, Missing, OutOfMemory}

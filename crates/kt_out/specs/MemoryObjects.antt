@@ -1,4 +1,5 @@
 -- What contracts see of the objects in memory, and in which of their calls they fail.
+-- The rule: docs/ARCHITECTURE.md, "The outside".
 use Rattle.std.specs.Prelude.{◌≡◌, ◌⊎◌, ℕ, ◌-◌, List, [], ◌∷◌, ◌++◌, length, min, Bool, if◌then◌else◌, Option, None, Some, Result, Ok, Err}
 use Rattle.kt_out.specs.declared.fault.Absent.{Absent}
 use Rattle.kt_out.specs.declared.fault.Fault.{Fault}

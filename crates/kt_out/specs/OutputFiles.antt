@@ -1,4 +1,5 @@
 -- Output files as contracts see them, and what their calls leave.
+-- The rule: docs/ARCHITECTURE.md, "The outside".
 use Rattle.std.specs.Prelude.{◌≡◌, ◌⊎◌, ℕ, List, [], ◌++◌, take, Option, None, Some, Result, Ok, Err, IsSomeAnd}
 use Rattle.kt_kept_files.specs.Counts.{one_more, Rose}
 use Rattle.kt_kept_files.specs.NamedFiles.{FileMap}

@@ -1,4 +1,5 @@
 -- A source as contracts see it, and what one read does to it.
+-- The rule: docs/ARCHITECTURE.md, "The outside".
 use Rattle.std.specs.Prelude.{◌≡◌, ◌↔◌, ℕ, ◌≤◌, List, [], ◌++◌, length, take, drop, Option, None, Some, Result, Ok, Err}
 use Rattle.kt_kept_files.specs.Counts.{Rose}
 

@@ -1,4 +1,5 @@
 -- A sink as contracts see it, and what writes do to it.
+-- The rule: docs/ARCHITECTURE.md, "The outside".
 use Rattle.std.specs.Prelude.{◌≡◌, ℕ, ◌≤◌, List, ◌++◌, length, take, Option, None, Some, Result, Ok, Err}
 use Rattle.kt_kept_files.specs.Counts.{Rose}
 use Rattle.kt_out.specs.declared.fault.Fault.{Fault}

@@ -1,4 +1,5 @@
 //! Appending a whole text to an output file, in as many appends as it takes.
+//! The rule: docs/ARCHITECTURE.md, "The outside".
 ghost use Rattle.std.specs.Prelude.{◌≡◌, ◌≤◌, [], IsOk};
 ghost use Rattle.kt_out.specs.Appending.{AppendsAll};
 ghost use Rattle.kt_out.specs.OutputFiles.{CountsOutput};

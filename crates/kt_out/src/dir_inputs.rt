@@ -1,4 +1,5 @@
 //! The adapter over the files of the current folder: the trusted edge, which tells nothing of bytes.
+//! The rule: docs/ARCHITECTURE.md, "The outside".
 ghost use Rattle.std.specs.Prelude.{◌≡◌, ◌<◌, ◌≤◌, length, IfOk};
 ghost use Rattle.kt_out.specs.InputFiles.{AfterRead, AfterSize, after_read_answer, after_size_answer, real_files};
 

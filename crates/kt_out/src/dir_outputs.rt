@@ -1,4 +1,5 @@
 //! The adapter over the files of the folder `output`: the trusted edge, which tells nothing of bytes.
+//! The rule: docs/ARCHITECTURE.md, "The outside".
 ghost use Rattle.std.specs.Prelude.{◌≡◌, ◌<◌, ◌≤◌, length, IfOk};
 ghost use Rattle.kt_out.specs.OutputFiles.{CountsOutput, after_output_answer, real_outputs};
 

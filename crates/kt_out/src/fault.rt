@@ -1,4 +1,5 @@
 //! What an object outside the program may answer in place of what was asked.
+//! The rules: docs/ARCHITECTURE.md, "The outside"; docs/REFUSALS.md, "Statuses".
 ghost use Rattle.std.specs.Prelude.{◌≡◌};
 
 use std::alloc::{AllocError, AllocFailed};

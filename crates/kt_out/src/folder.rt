@@ -1,4 +1,5 @@
 //! The files of the current folder, of which the last one stays open between calls.
+//! The rule: docs/ARCHITECTURE.md, "The outside".
 ghost use Rattle.std.specs.Prelude.{◌≡◌, ◌<◌, ◌≤◌, length, IfOk};
 
 use crate::std_streams::read_some;
@@ -34,7 +35,8 @@ impl<'a, R: Files> Folder<'a, R> {
         }
     }
 
-    /// The size of a file. It is opened anew, and stays open.
+    /// The size of a file. It is opened anew, and stays open. An error is that it is not found (`Missing`), that the
+    /// system does not open or measure it (`Failed`), or want of memory.
     pub fn size(&mut self, name: &[u8]) -> Result<u64, Absent> {
         let opened = open(self.rt, self.alloc, name)?;
         let size = opened.size;

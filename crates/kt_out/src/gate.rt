@@ -1,4 +1,5 @@
 //! A gate that a worker passes as it begins a partition, through which a test sees who runs when.
+//! The rule: docs/ARCHITECTURE.md, "The outside".
 
 /// A gate in front of each partition. No clause speaks of it.
 pub trait Gate {

@@ -1,4 +1,5 @@
 //! A read of an input file, as input files in memory keep it.
+//! The rule: docs/ARCHITECTURE.md, "The outside".
 
 use kt_rec::Name;
 

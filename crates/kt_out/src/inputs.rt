@@ -1,4 +1,5 @@
 //! Input files by name, as the current folder holds them.
+//! The rule: docs/ARCHITECTURE.md, "The outside".
 ghost use Rattle.std.specs.Prelude.{◌≡◌, ◌<◌, ◌≤◌, length, IfOk};
 ghost use Rattle.kt_out.specs.InputFiles.{InputsState, AfterRead, AfterSize, FindsSize, InFile, ReadsAt};
 

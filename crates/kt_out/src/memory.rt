@@ -1,4 +1,5 @@
 //! The objects in memory, for tests and for what is made inside the program.
+//! The rule: docs/ARCHITECTURE.md, "The outside".
 mod mem_inputs;
 mod mem_outputs;
 mod mem_sink;

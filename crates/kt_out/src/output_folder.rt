@@ -1,4 +1,5 @@
 //! The files of the folder `output` of the current folder, which stay open between calls as long as the system lets them.
+//! The rule: docs/ARCHITECTURE.md, "The outside".
 ghost use Rattle.std.specs.Prelude.{◌<◌, ◌≤◌, length, IfOk, IfSome};
 
 use crate::Fault;
@@ -43,7 +44,8 @@ impl<'a, R: Files> OutputFolder<'a, R> {
         }
     }
 
-    /// Makes a file empty, whatever it held, and keeps it open.
+    /// Makes a file empty, whatever it held, and keeps it open. An error is that the system does not make it
+    /// (`Failed`), or want of memory.
     pub fn create(&mut self, name: &[u8]) -> Result<(), Fault> {
         if let Some(place) = place_of(&self.files, name) {
             self.files.swap_remove(place);
@@ -52,7 +54,8 @@ impl<'a, R: Files> OutputFolder<'a, R> {
         Ok(())
     }
 
-    /// Writes some bytes at the end of a file, which stays open.
+    /// Writes some bytes at the end of a file, which stays open. An error is that the system does not open it or takes
+    /// nothing (`Failed`), or want of memory.
     pub fn append(&mut self, name: &[u8], piece: &[u8]) -> Result<usize, Fault>
         requires { 0 < length piece.now }
 

@@ -1,4 +1,5 @@
 //! Output files by name, as a folder of results holds them.
+//! The rule: docs/ARCHITECTURE.md, "The outside".
 ghost use Rattle.std.specs.Prelude.{◌≡◌, ◌<◌, ◌≤◌, length, IfOk};
 ghost use Rattle.kt_out.specs.OutputFiles.{OutputsState, Appends, CountsOutput, Creates};
 

@@ -1,4 +1,5 @@
 //! The types of this crate may be sent to other threads and shared by them.
+//! The rule: docs/ARCHITECTURE.md, "What threads share".
 use crate::{
     Absent, DirInputs, DirOutputs, Failed, Fault, InputCall, MemInputs, MemOutputs, MemSink,
     MemSource, Open, SureInputs, SureOutputs, SureSink, SureSource,

@@ -1,4 +1,5 @@
 //! A sink of bytes, as standard output is one.
+//! The rule: docs/ARCHITECTURE.md, "The outside".
 ghost use Rattle.std.specs.Prelude.{◌≡◌, ◌<◌, ◌≤◌, length, IfOk};
 ghost use Rattle.kt_out.specs.Writing.{SinkState, Writes};
 

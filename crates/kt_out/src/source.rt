@@ -1,4 +1,5 @@
 //! A source of bytes, as standard input is one.
+//! The rule: docs/ARCHITECTURE.md, "The outside".
 ghost use Rattle.std.specs.Prelude.{◌≡◌, ◌<◌, ◌≤◌, length, IfOk};
 ghost use Rattle.kt_out.specs.Reading.{SourceState, Reads};
 

@@ -1,5 +1,6 @@
 //! Adapters over the standard streams. What those give and take no contract knows; where the bytes of a reader or a
 //! writer are known, the adapter moves them as it says.
+//! The rules: docs/ARCHITECTURE.md, "The outside"; docs/REFUSALS.md, "Where the rule was silent".
 ghost use Rattle.std.specs.Prelude.{◌≡◌, ◌<◌, ◌≤◌, length, IfSome, IfOk, Ok, Err};
 ghost use Rattle.std.specs.Io.KnownBytes.{ReadConsumes, WriteAppends};
 ghost use Rattle.kt_out.specs.Adapters.{ok_or_failed};

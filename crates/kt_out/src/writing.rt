@@ -1,4 +1,5 @@
 //! Writing a whole piece, in as many writes as it takes.
+//! The rule: docs/ARCHITECTURE.md, "The outside".
 ghost use Rattle.std.specs.Prelude.{◌≡◌, ◌≤◌, [], IsOk};
 ghost use Rattle.kt_out.specs.Writing.{WritesAll};
 

@@ -1,4 +1,5 @@
 //! What has the name of an output file.
+//! The rule: docs/OUTPUTS.md, "Files of a run".
 ghost use Rattle.std.specs.Prelude.{◌≡◌, IfOk};
 
 use kt_rec::Name;

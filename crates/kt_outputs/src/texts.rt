@@ -1,4 +1,5 @@
 //! What a list of files gains: a text for each file, in pieces, so that a long text is not held whole.
+//! The rule: docs/OUTPUTS.md, "Files of a run".
 
 use kt_money::{Bytes, OutOfMemory};
 

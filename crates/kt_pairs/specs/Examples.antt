@@ -1,4 +1,5 @@
 -- A pair of 2.00 at sample 1, by computing.
+-- The rule: docs/STREAMS.md, "Records".
 use Rattle.std.specs.Prelude.{◌≡◌, pos, [], ◌∷◌}
 use Rattle.std.proofs.Common.{refl, arith}
 use Rattle.kt_stream.specs.Pairs.{end_bytes, pair_bytes, pairs_bytes}

@@ -1,4 +1,5 @@
 -- What has come over the lanes of a round, in any order, and what is held of it.
+-- The rule: docs/ARCHITECTURE.md, "A run of all stages".
 use Rattle.std.specs.Prelude.{◌≡◌, ℕ, ◌<◌, ◌≤◌, ◌⊎◌, Bool, true, false, List, [], ◌∷◌, map, Option, Some, None}
 use Rattle.std.specs.List.{flat_map}
 use Rattle.rtrb.specs.Ring.{received}

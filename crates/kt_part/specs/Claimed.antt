@@ -1,4 +1,5 @@
 -- What the pass of a round has claimed after it.
+-- The rule: docs/ARCHITECTURE.md, "A run of all stages".
 use Rattle.std.specs.Prelude.{◌≡◌, ℕ, ◌+◌, ◌*◌, ◌<◌, ◌⊎◌, [], length, Result, Ok, Err}
 use Rattle.kt_part.specs.Numbers.{times}
 use Rattle.kt_part.specs.Passes.{claims_of, left_of}

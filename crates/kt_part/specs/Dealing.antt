@@ -1,4 +1,5 @@
 -- The numbers of a round are dealt among passes: what each pass knows, and how a step changes it.
+-- The rule: docs/ARCHITECTURE.md, "A run of all stages".
 use Rattle.std.specs.Prelude.{◌≡◌, ℕ, ◌+◌, ◌-◌, ◌*◌, ◌≤◌, ◌⊎◌, List, [], ◌∷◌, ◌++◌, length, slice_index}
 use mathlib.Core.Option.{some}
 use lib.ListN.{get_elem?}

@@ -1,4 +1,5 @@
 -- What a fold of blocks leaves, by how it ended.
+-- The rule: docs/ARCHITECTURE.md, "A run of all stages".
 use Rattle.std.specs.Prelude.{◌≡◌, ℕ, suc, ◌<◌, ◌≤◌, List, [], ◌∷◌, ◌++◌, length, Result, Ok, Err}
 use Rattle.kt_part.specs.declared.round.RoundStop.{RoundStop}
 use Rattle.kt_part.specs.declared.round.RoundStop.TheVariants.{Fold, OutOfMemory}

@@ -1,4 +1,5 @@
 -- What is gathered after the workers have ended, worker by worker.
+-- The rule: docs/ARCHITECTURE.md, "A run of all stages".
 use Rattle.std.specs.Prelude.{◌≡◌, ℕ, ◌+◌, ◌*◌, ◌<◌, ◌≤◌, ◌⊎◌, List, ◌++◌, All, length}
 use Rattle.rtrb.specs.declared.consumer.Consumer.{Consumer}
 use Rattle.kt_part.specs.Arrivals.{AreSent, HasCome, IsHeld, all_received, numbers_of}

@@ -1,4 +1,5 @@
 -- What a worker is handed, what it promises, and the two ends of its lane.
+-- The rule: docs/ARCHITECTURE.md, "A run of all stages".
 use Rattle.std.specs.Prelude.{◌≡◌, ℕ, ◌+◌, ◌<◌, ◌≤◌, List, [], ◌∷◌, ◌++◌, All, length, slice_index_or, Option}
 use Rattle.rtrb.specs.Ring.{sent, known_free, IsPair, SameProducer, SameConsumer}
 use Rattle.rtrb.specs.declared.consumer.Consumer.{Consumer}

@@ -1,4 +1,5 @@
 -- How often a number stands in a list of numbers.
+-- The rule: docs/ARCHITECTURE.md, "A run of all stages".
 use Rattle.std.specs.Prelude.{◌≡◌, ℕ, ◌+◌, ◌<◌, List, [], ◌∷◌, length, cond, nat_eq, nat_lt}
 
 -- 1 where two numbers are the same, and else 0

@@ -1,4 +1,5 @@
 -- What a contract sees of a pass.
+-- The rule: docs/ARCHITECTURE.md, "A run of all stages".
 use Rattle.std.specs.Prelude.{◌≡◌, ℕ, ◌+◌, ◌*◌, ◌<◌, ◌≤◌, List, [], ◌∷◌, ◌++◌, length, Option, MatchOption}
 use Rattle.kt_part.specs.Numbers.{AreBelow}
 use Rattle.kt_part.specs.declared.laws.Claims.{Claims}

@@ -1,4 +1,5 @@
 -- What a contract sees of the slots of a round.
+-- The rule: docs/ARCHITECTURE.md, "A run of all stages".
 use Rattle.std.specs.Prelude.{◌≡◌, ℕ, ◌<◌, ◌≤◌, Option, None, slice_index_or}
 use Rattle.kt_part.specs.declared.reorder.Reorder.{Reorder}
 

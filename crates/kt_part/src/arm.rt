@@ -1,4 +1,5 @@
 //! What a worker does: it claims numbers, makes their blocks and sends them, until a number that it draws is none of the round.
+//! The rule: docs/ARCHITECTURE.md, "A run of all stages".
 ghost use Rattle.std.specs.Prelude.{◌≤◌, ◌<◌, All, length};
 ghost use Rattle.kt_part.specs.Arrivals.{IsMade};
 ghost use Rattle.kt_part.specs.Lanes.{HasWorked, HaveWorked, IsReady};

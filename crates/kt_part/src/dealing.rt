@@ -1,4 +1,5 @@
 //! What a pass knows of the numbers of a round, what each step tells it, and the rule of the word that all passes share.
+//! The rule: docs/ARCHITECTURE.md, "A run of all stages".
 use atomic_table::{Join, Play, Split, TableRule};
 use std::collections::LinkedList;
 

@@ -1,4 +1,5 @@
 //! What takes the blocks of a round, one after the other.
+//! The rule: docs/ARCHITECTURE.md, "A run of all stages".
 ghost use Rattle.std.specs.Prelude.{List};
 ghost use Rattle.kt_part.specs.Folding.{Takes};
 

@@ -1,5 +1,6 @@
 //! After the workers have ended: their passes are joined, their lanes are drained, and their blocks are folded in the order of their
 //! numbers.
+//! The rule: docs/ARCHITECTURE.md, "A run of all stages".
 ghost use Rattle.std.specs.Prelude.{◌<◌, ◌≤◌, ℕ, List};
 ghost use Rattle.kt_part.specs.Arrivals.{IsMade};
 ghost use Rattle.kt_part.specs.Claimed.{HasClaimed};

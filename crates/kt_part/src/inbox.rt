@@ -1,4 +1,5 @@
 //! What the workers of a round send, and where it is collected.
+//! The rule: docs/ARCHITECTURE.md, "A run of all stages".
 use crate::laws::Pass;
 use crate::reorder::Reorder;
 use rtrb::{Consumer, Producer};

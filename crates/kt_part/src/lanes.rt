@@ -1,4 +1,5 @@
 //! The lanes of a round: a ring for each worker, with the worker's pass beside the end into which it sends.
+//! The rule: docs/ARCHITECTURE.md, "A run of all stages".
 ghost use Rattle.std.specs.Prelude.{◌≡◌, ◌+◌, ◌≤◌, [], IfOk, OnErr, OnOk};
 ghost use Rattle.rtrb.specs.Ring.{received, IsPair};
 ghost use Rattle.kt_part.specs.Lanes.{AreLanes, IsReady};

@@ -1,4 +1,5 @@
 //! The word from which the workers of a round claim its numbers, each number exactly once whatever the order of their steps.
+//! The rule: docs/ARCHITECTURE.md, "A run of all stages".
 ghost use Rattle.std.specs.Prelude.{◌≡◌, ◌<◌, []};
 
 use crate::dealing::{Dealing, Deals, Draws, Gathers, Known, Settles};

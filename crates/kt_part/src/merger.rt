@@ -1,4 +1,5 @@
 //! What takes the items out of the lanes, in whatever order they come.
+//! The rule: docs/ARCHITECTURE.md, "A run of all stages".
 ghost use Rattle.std.specs.Prelude.{List, ◌++◌};
 ghost use Rattle.rtrb.specs.Ring.{received, sent, IsPair, SameConsumer};
 ghost use Rattle.kt_part.specs.Arrivals.{HasCome, all_received};

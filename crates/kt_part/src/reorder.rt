@@ -1,4 +1,5 @@
 //! Slots for the blocks of a round: they are put in any order, and taken in the order of their numbers.
+//! The rule: docs/ARCHITECTURE.md, "A run of all stages".
 ghost use Rattle.std.specs.Prelude.{◌≡◌, ◌≤◌, vec_len};
 
 use std::alloc::{AllocError, Global};

@@ -1,4 +1,5 @@
 //! A round: blocks are made for the numbers from 0 on, and taken in order.
+//! The rule: docs/ARCHITECTURE.md, "A run of all stages".
 ghost use Rattle.std.specs.Prelude.{◌<◌, ◌≤◌, ℕ, All, List, length};
 ghost use Rattle.std.specs.Thread.{IsSync, IsSend};
 ghost use Rattle.kt_part.specs.Arrivals.{HasCome, IsMade, all_received};

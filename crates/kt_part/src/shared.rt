@@ -1,4 +1,5 @@
 //! The word of a round may be sent to threads and shared by them, a pass may be sent, and the slots both where their blocks may.
+//! The rule: docs/ARCHITECTURE.md, "What threads share".
 use crate::laws::{Claims, Pass};
 use crate::reorder::Reorder;
 

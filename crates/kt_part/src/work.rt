@@ -1,4 +1,5 @@
 //! What makes the blocks of a round.
+//! The rule: docs/ARCHITECTURE.md, "A run of all stages".
 ghost use Rattle.std.specs.Prelude.{◌<◌, ℕ, IfErr, IfOk};
 
 use std::alloc::AllocError;

@@ -1,4 +1,5 @@
 -- Adding one loss to cells, and what is noted of it so that it can be taken back.
+-- The rule: docs/CALCULATION.md, "Periods".
 use Rattle.std.specs.Prelude.{◌≡◌, ◌⊎◌, ◌≤◌, Bool, true, false, List, [], ◌∷◌, ◌++◌, map, Result, Ok, Err, Some, None}
 use Rattle.kt_rec.specs.declared.perspective.CellKey.{CellKey}
 use Rattle.kt_period_cells.specs.declared.cell.Cell.{Cell}

@@ -1,4 +1,5 @@
 -- What follows where a call succeeds.
+-- The rule: docs/CALCULATION.md, "Periods".
 use Rattle.std.proofs.Common.{Result, Ok, Err, IfOk}
 use Rattle.std.specs.Prelude.{OnOk}
 

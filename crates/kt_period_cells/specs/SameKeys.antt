@@ -1,4 +1,5 @@
 -- Which keys are the same, part by part.
+-- The rule: docs/CALCULATION.md, "Periods".
 use Rattle.std.proofs.Common.{◌≡◌, refl, sym, ap}
 use Rattle.std.specs.Prelude.{ℕ, ℤ, pos, Bool, true, false, ◌&&◌, nat_eq}
 use Rattle.std.specs.Ordering.{int_eq}

@@ -1,4 +1,5 @@
 -- What the cell of a total and a maximum says of them.
+-- The rule: docs/CALCULATION.md, "Periods".
 use Rattle.std.proofs.Common.{◌≡◌, ℕ, zero, suc, ◌≤◌, [], ◌∷◌, arith, refl, sym, ap, cond, Some, None}
 use Rattle.std.specs.Prelude.{List, Bool, true, false, ◌&&◌, nat_eq, nat_lt}
 use Rattle.std.proofs.lemmas.List.Sums.{sum_by-cons}

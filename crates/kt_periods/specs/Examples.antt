@@ -1,5 +1,6 @@
 -- The worked examples of docs/CALCULATION.md, "Average annual loss" and "Kinds of exceedance curves", as tables of a summary
 -- stream, and those of its refusals, by computing.
+-- The rules: docs/CALCULATION.md, "Average annual loss", "Kinds of exceedance curves".
 use Rattle.std.specs.Prelude.{◌≡◌, ℕ, ◌^◌, ◌*◌, pos, negsuc, List, [], ◌∷◌, ◌++◌, codes, Some, None}
 use Rattle.std.specs.Fmt.{digits}
 use Rattle.std.specs.List.{flat_map}

@@ -60,7 +60,9 @@ impl Stage<SummaryRecord, ()> for EventLosses {
     }
 }
 
-/// Reads a summary stream and writes its event loss table, with or without the names of its columns.
+/// Reads a summary stream and writes its event loss table, with or without the names of its columns. An error is what
+/// refuses the stream, a fault of the source or of the sink, or want of memory: a refused stream has written the output
+/// of what came before the refused place, and any other error leaves some front of the output.
 pub fn write_event_losses<S: Source, K: Sink>(
     alloc: Global,
     heading: bool,

@@ -64,7 +64,9 @@ impl<'a> Stage<SummaryRecord, ()> for PeriodRows<'a> {
 }
 
 /// Reads a summary stream and writes its period loss table by the occurrences of a portfolio, with or without the names of its
-/// columns.
+/// columns. An error is what refuses the stream, a fault of the source or of the sink, or want of memory: a refused
+/// stream has written the output of what came before the refused place, and any other error leaves some front of the
+/// output.
 pub fn write_period_losses<S: Source, K: Sink>(
     alloc: Global,
     heading: bool,

@@ -1,4 +1,5 @@
 -- Lists in falling order with as many values above each amount have the same losses at each rank.
+-- The rule: docs/CALCULATION.md, "Exceedance curves".
 use Rattle.std.proofs.Common.{◌≡◌, ⊎_elim, ℕ, zero, suc, ◌+◌, ◌-◌, ◌*◌, ◌/◌, ◌<◌, ◌≤◌, List, [], ◌∷◌, ◌++◌, length, get_or, reverse, arith, refl, sym, ap, ◌∙◌, cond, Bool, true, false, nat_le, All}
 use Rattle.std.specs.List.Sorted.{IsNonDecreasing, IsPermutation}
 use Rattle.std.proofs.lemmas.Bool.{cases_lt}

@@ -1,4 +1,5 @@
 -- The losses of ranks, from parts of the values.
+-- The rule: docs/CALCULATION.md, "Exceedance curves".
 use Rattle.std.proofs.Common.{◌≡◌, ℕ, zero, suc, ◌+◌, ◌-◌, ◌/◌, ◌<◌, ◌≤◌, List, [], ◌∷◌, ◌++◌, map, length, get_or, arith, refl, sym, ap, ◌∙◌, cond, set, take, drop, append_assoc, below_more, Ordering, get_or-set_same, get_or-set_other, Bool, true, false, nat_le, All, is_lt, nat_cmp}
 use Rattle.std.specs.List.Sorted.{IsPermutation, IsSplitAroundBy}
 use Rattle.std.specs.Cmp.{IsStrictWeakOrder}

@@ -1,4 +1,5 @@
 -- What follows where none of several options is there.
+-- The rule: docs/PROVING.md, "Laws".
 use Rattle.std.specs.Prelude.{◌≡◌, Option, Some, None, refl}
 use Rattle.std.specs.Option.{option_or}
 

@@ -1,4 +1,5 @@
 -- The numbers, names and files of the tables, and which tables a stage has.
+-- The rules: docs/TABLES.md, "Tables", "Files".
 use Rattle.std.specs.Prelude.{◌≡◌, ◌⊎◌, ◌≤◌, ℕ, List, codes}
 use Rattle.kt_rec.specs.declared.table.Table.{Table}
 use Rattle.kt_rec.specs.declared.table.Table.TheVariants.{Events, Items, Coverages, Footprint, FootprintIdx, Vulnerability, DamageBinDict, Random, FmProgramme, FmPolicytc, FmProfile, FmXref, GulSummaryXref, FmSummaryXref, Occurrence, ReturnPeriods}

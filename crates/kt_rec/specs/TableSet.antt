@@ -1,4 +1,5 @@
 -- Which tables a set has.
+-- The rule: docs/TABLES.md, "Files".
 use Rattle.std.specs.Prelude.{ℕ, ◌+◌, ◌-◌, ◌*◌, ◌==◌, ◌&&◌, Bool, true, false, replicate, slice_index_or, slice_set}
 use Rattle.kt_rec.specs.TableNames.{number_of}
 use Rattle.kt_rec.specs.declared.table.TableId.{TableId}

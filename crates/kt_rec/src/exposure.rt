@@ -1,4 +1,5 @@
 //! What is insured: items and the coverages that they belong to.
+//! The rule: docs/TABLES.md, "Columns".
 
 /// A row of `items`: a risk at a place, with the vulnerability that turns hazard into damage.
 #[derive(Clone, Copy)]

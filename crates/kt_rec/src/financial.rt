@@ -1,4 +1,5 @@
 //! The financial terms: how losses are added up, and what an insurer pays of them.
+//! The rule: docs/TABLES.md, "Columns".
 
 /// A row of `fm_programme`: the losses of one unit go into those of another.
 #[derive(Clone, Copy)]

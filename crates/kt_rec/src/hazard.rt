@@ -1,4 +1,5 @@
 //! What strikes: events, their footprints, and the damage that an intensity does.
+//! The rule: docs/TABLES.md, "Columns".
 
 /// A row of `events`.
 #[derive(Clone, Copy)]

@@ -1,4 +1,5 @@
 //! A name of a file, as bytes.
+//! The rules: docs/TABLES.md, "Tables", "Files".
 ghost use Rattle.std.specs.Prelude.{◌≡◌, ◌≤◌, ℕ, List, [], ◌∷◌, ◌++◌, length, take, OnOk, OnErr};
 
 use std::alloc::{AllocError, Global};

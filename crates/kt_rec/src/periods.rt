@@ -1,4 +1,5 @@
 //! When events occur, and the return periods of a loss curve.
+//! The rule: docs/TABLES.md, "Columns".
 
 /// A row of `occurrence`: an event occurs in a period, on a date.
 #[derive(Clone, Copy)]

@@ -1,4 +1,5 @@
 //! Whose losses a table shows, and the key of a cell of period losses.
+//! The rule: docs/CALCULATION.md, "Periods".
 
 /// Whose losses: of the ground up, of the insurer, or net of reinsurance.
 #[derive(Clone, Copy, Debug, PartialEq, Eq, PartialOrd, Ord)]

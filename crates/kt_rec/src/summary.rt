@@ -1,4 +1,5 @@
 //! How losses are summed for reports.
+//! The rule: docs/TABLES.md, "Columns".
 
 /// A row of `gulsummaryxref`: the summary of an item in a summary set.
 #[derive(Clone, Copy)]

@@ -1,4 +1,5 @@
 //! The tables, their numbers and files, and the order in which they are loaded.
+//! The rules: docs/TABLES.md, "Tables", "Files".
 ghost use Rattle.std.specs.Prelude.{◌≡◌, codes};
 ghost use Rattle.kt_rec.specs.TableNames.{number_of, name_of, file_of};
 

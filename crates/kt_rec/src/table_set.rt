@@ -1,4 +1,5 @@
 //! A set of tables.
+//! The rule: docs/TABLES.md, "Files".
 ghost use Rattle.std.specs.Prelude.{◌≡◌, ◌||◌, false};
 ghost use Rattle.kt_rec.specs.TableNames.{IsTableId};
 ghost use Rattle.kt_rec.specs.TableSet.{is_in, place_of, is_same, no_tables, with_table};

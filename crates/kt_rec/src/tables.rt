@@ -1,4 +1,5 @@
 //! The rows of all tables that a run has loaded.
+//! The rule: docs/TABLES.md, "Files".
 ghost use Rattle.std.specs.Prelude.{◌≡◌};
 ghost use Rattle.kt_rec.specs.Rows.{rows_of, financial_rows, no_rows, no_financial_rows};
 

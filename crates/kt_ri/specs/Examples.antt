@@ -1,4 +1,5 @@
 -- The worked examples of docs/FINANCIAL_MODULE.md on reinsurance, by computing.
+-- The rule: docs/FINANCIAL_MODULE.md, "Reinsurance".
 use Rattle.std.specs.Prelude.{◌≡◌, ℕ, pos, negsuc, [], ◌∷◌}
 use Rattle.std.proofs.Common.{refl}
 use Rattle.kt_rec.specs.declared.financial.FmProfile.{FmProfile}

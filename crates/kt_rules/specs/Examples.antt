@@ -1,4 +1,5 @@
 -- The worked examples of docs/FINANCIAL_MODULE.md, by computing.
+-- The rules: docs/FINANCIAL_MODULE.md, "The four amounts", "Steps", "Calculation rules".
 use Rattle.std.specs.Prelude.{◌≡◌, ℕ}
 use Rattle.std.proofs.Common.{refl}
 use Rattle.kt_rules.specs.declared.carry.Carry.{Carry}

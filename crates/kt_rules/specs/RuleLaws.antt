@@ -1,4 +1,5 @@
 -- Laws of the calculation rules: each keeps the sum of the four amounts.
+-- The rules: docs/FINANCIAL_MODULE.md, "The four amounts", "Calculation rules".
 use Rattle.std.specs.Prelude.{◌≡◌, ℕ, ◌+◌, ◌-◌, ◌≤◌, Bool, true, false, cond, nat_eq, List, [], ◌∷◌}
 use Rattle.std.specs.List.{AllByRecursion}
 use Rattle.std.proofs.Common.{refl, arith, ◌∙◌}

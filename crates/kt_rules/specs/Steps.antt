@@ -1,4 +1,5 @@
 -- The steps of the rules, and what they make of the four amounts.
+-- The rule: docs/FINANCIAL_MODULE.md, "Steps".
 use Rattle.std.specs.Prelude.{ℕ, ◌&&◌, Bool, true, List, [], ◌∷◌}
 use Rattle.kt_money.specs.Rounding.{ppm_part}
 use Rattle.kt_rules.specs.declared.carry.Carry.{Carry}

@@ -1,4 +1,5 @@
 -- Sums sidx by sidx.
+-- The rule: docs/STREAMS.md, "Runs".
 use Rattle.std.specs.Prelude.{◌≡◌, ℕ, ◌+◌, ◌<◌, ◌≤◌, List, length, All, slice_index}
 use Rattle.kt_stream.specs.declared.entry.Pair.{Pair}
 use Rattle.kt_runs.specs.RunLosses.{loss_of}

@@ -1,4 +1,5 @@
 -- The limit of the losses of a run, by computing.
+-- The rule: docs/STREAMS.md, "Runs".
 use Rattle.std.specs.Prelude.{◌≡◌, ℕ, true, false, pos, [], ◌∷◌}
 use Rattle.std.proofs.Common.{refl}
 use Rattle.kt_stream.specs.declared.entry.LossRecord.{LossRecord}

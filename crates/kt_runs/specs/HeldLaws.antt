@@ -1,4 +1,5 @@
 -- The records that are held in others, by their places.
+-- The rule: docs/STREAMS.md, "Runs".
 use Rattle.std.proofs.Common.{◌≡◌, ℕ, ◌<◌, List, length, map, slice_index_or, sym, ap, ◌∙◌}
 use Rattle.std.proofs.lemmas.List.{get_or-map}
 use Rattle.kt_stream.specs.declared.entry.LossRecord.{LossRecord}

@@ -1,4 +1,5 @@
 -- Which sidx have a loss, and where they stand among the sums of a stream.
+-- The rule: docs/STREAMS.md, "Records".
 use Rattle.std.proofs.Common.{◌≡◌, ℕ, zero, suc, ◌+◌, ◌<◌, ◌≤◌, Bool, true, false, cond, ℤ, pos, negsuc, List, [], ◌∷◌, refl, subst, arith}
 use Rattle.std.specs.List.{AllByRecursion}
 use Rattle.std.specs.Ordering.{int_eq}

@@ -1,4 +1,5 @@
 -- The places of sidx.
+-- The rule: docs/STREAMS.md, "Records".
 use Rattle.std.proofs.Common.{◌≡◌, ℕ, ◌-◌, ◌<◌, Bool, true, false, cond, nat_lt, pos, negsuc, ◌<ℤ◌, refl, sym, ap, arith, ◌∙◌}
 use Rattle.std.proofs.lemmas.Bool.{ltb-true, ltb-false}
 use Rattle.std.proofs.lemmas.Int.{ints}

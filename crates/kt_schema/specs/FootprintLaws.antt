@@ -1,4 +1,5 @@
 -- Laws of the lines of the footprint, event by event.
+-- The rule: docs/TABLES.md, "Footprint".
 use Rattle.std.proofs.Common.{◌≡◌, ℕ, zero, suc, ◌-◌, ◌/◌, List, [], ◌∷◌, ◌++◌, take, drop, refl, ap, arith, append_assoc}
 use Rattle.std.specs.Prelude.{map}
 use Rattle.kt_rec.specs.declared.hazard.FootprintIdx.{FootprintIdx}

@@ -1,4 +1,5 @@
 -- The index of the footprint: where the records of each event stand.
+-- The rule: docs/TABLES.md, "Footprint".
 use Rattle.std.specs.Prelude.{ℕ, ◌+◌, ◌==◌, List, [], ◌∷◌, if◌then◌else◌, slice_index_or, Option, None, Some}
 use Rattle.kt_schema.specs.declared.index.OpenEntry.{OpenEntry}
 

@@ -1,4 +1,5 @@
 -- What stands in a file is read back.
+-- The rule: docs/TABLES.md, "Back again".
 use Rattle.std.specs.Prelude.{◌≡◌, ◌≢◌, ◌≤◌, ℕ, List, Ok}
 use Rattle.kt_rec.specs.declared.table.Table.{Table}
 use Rattle.kt_rec.specs.declared.table.Table.TheVariants as table

@@ -1,4 +1,5 @@
 -- What reading a file puts into the tables.
+-- The rule: docs/TABLES.md, "Files of tables".
 use Rattle.std.specs.Prelude.{◌≡◌, ℕ, List, [], map, Result, Ok, slice_index_or, slice_set, Vec}
 use Rattle.std.specs.declared.alloc.Global.{Global}
 use Rattle.kt_rec.specs.declared.financial.FmProgramme.{FmProgramme}

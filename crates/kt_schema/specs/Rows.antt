@@ -1,4 +1,5 @@
 -- The values of the rows of the tables.
+-- The rule: docs/TABLES.md, "Columns".
 use Rattle.std.specs.Prelude.{ℕ, List, [], ◌∷◌}
 use Rattle.kt_rec.specs.declared.hazard.Event.{Event}
 use Rattle.kt_rec.specs.declared.exposure.Item.{Item}

@@ -1,4 +1,5 @@
 -- The tables: whether a file has a header, the kinds and names of the columns.
+-- The rule: docs/TABLES.md, "Columns".
 use Rattle.std.specs.Prelude.{ℕ, Bool, true, false, List, [], ◌∷◌, codes}
 use Rattle.kt_rec.specs.declared.table.Table.{Table}
 use Rattle.kt_rec.specs.declared.table.Table.TheVariants as table

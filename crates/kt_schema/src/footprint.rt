@@ -1,4 +1,5 @@
 //! From the footprint file and its index to the text of the footprint.
+//! The rule: docs/TABLES.md, "Footprint".
 ghost use Rattle.std.specs.Prelude.{◌≡◌, ◌++◌, ℕ, List, Ok, IfOk, IfErr, OnOk, All, length};
 ghost use Rattle.kt_rec.specs.declared.table.Table.TheVariants.{Footprint};
 ghost use Rattle.kt_cells.specs.Lines.{rows_lines};

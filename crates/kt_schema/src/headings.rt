@@ -1,4 +1,5 @@
 //! The headings of the tables' texts.
+//! The rule: docs/TABLES.md, "Columns".
 ghost use Rattle.std.specs.Prelude.{◌≡◌};
 ghost use Rattle.kt_cells.specs.Lines.{line};
 ghost use Rattle.kt_schema.specs.Tables.{heading_of};

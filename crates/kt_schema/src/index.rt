@@ -1,4 +1,5 @@
 //! The index of the footprint.
+//! The rule: docs/TABLES.md, "Footprint".
 ghost use Rattle.std.specs.Prelude.{◌≡◌, ◌+◌, ◌++◌, ◌∷◌, [], None, IfOk, OnOk};
 ghost use Rattle.byteorder.specs.Endian.{little_bytes};
 ghost use Rattle.kt_cells.specs.Records.{record_bytes, records_bytes};

@@ -1,4 +1,5 @@
 //! Theorems over the definitions: what stands in a file is read back.
+//! The rule: docs/TABLES.md, "Back again".
 ghost use Rattle.kt_schema.specs.Laws.{FilesAreReadBack, TextsAreReadBack, TextsGoRound};
 
 use kt_cells::{

@@ -1,4 +1,5 @@
 //! From the files of the tables to their rows.
+//! The rule: docs/TABLES.md, "Files of tables".
 ghost use Rattle.std.specs.Prelude.{◌≡◌, ◌++◌, ◌<◌, ◌≤◌, IfOk, IfErr, OnOk, OnErr, Ok, All, map};
 ghost use Rattle.kt_cells.specs.Ranges.{AreRows, FitsBytes};
 ghost use Rattle.kt_cells.specs.Stops.{Tells};

@@ -1,4 +1,5 @@
 //! Sinks of rows: the records of a file, made of them, and one that keeps none.
+//! The rule: docs/TABLES.md, "Files of tables".
 ghost use Rattle.std.specs.Prelude.{◌≡◌, ◌++◌, ◌∷◌, [], map, drop};
 ghost use Rattle.kt_cells.specs.Records.{record_bytes, records_bytes};
 ghost use Rattle.kt_rec.specs.declared.table.Table.TheVariants.{Footprint};

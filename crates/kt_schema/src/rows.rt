@@ -1,4 +1,5 @@
 //! The values of a grid of texts.
+//! The rule: docs/TABLES.md, "The first bad place".
 ghost use Rattle.std.specs.Prelude.{◌≡◌, ◌==◌, ◌<◌, IfOk, IfErr, Ok};
 ghost use Rattle.kt_cells.specs.Reading.{table_rows};
 ghost use Rattle.kt_cells.specs.Stops.{Tells};

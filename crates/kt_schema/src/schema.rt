@@ -1,4 +1,5 @@
 //! The schemas of the tables: their numbers, whether a file has a header, and the kinds of their columns.
+//! The rule: docs/TABLES.md, "Columns".
 
 use kt_cells::{Kind, Term};
 

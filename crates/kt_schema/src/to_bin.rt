@@ -1,4 +1,5 @@
 //! From the text of a table to its file.
+//! The rule: docs/TABLES.md, "Files of tables".
 ghost use Rattle.std.specs.Prelude.{◌≡◌, ◌<◌, ◌++◌, false, true, map, drop, IfOk, IfErr, OnOk, OnErr, Ok};
 ghost use Rattle.kt_cells.specs.Texts.{text_rows};
 ghost use Rattle.kt_cells.specs.Reading.{and_then};

@@ -1,4 +1,5 @@
 //! From the file of a table to its text.
+//! The rule: docs/TABLES.md, "Texts of tables".
 ghost use Rattle.std.specs.Prelude.{◌≡◌, ◌≢◌, ◌<◌, ℕ, List, [], IfOk, IfErr, OnOk, Ok};
 ghost use Rattle.kt_cells.specs.Ranges.{IsRow, FitsBytes};
 ghost use Rattle.kt_cells.specs.Stops.{Tells};
@@ -15,7 +16,8 @@ use std::alloc::Global;
 /// The greatest number of periods.
 pub const MOST_PERIODS: u32 = 100_000;
 
-/// The number that the header of a file ends with, from `least` to `most`; 0 where it has no header.
+/// The number that the header of a file ends with, from `least` to `most`; 0 where it has no header. An error is what
+/// is wrong with the header; there is none where the file has no header.
 pub fn extra(
     header: bool,
     number: u32,

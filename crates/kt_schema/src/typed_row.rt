@@ -1,4 +1,5 @@
 //! The rows of the tables, made of their values.
+//! The rule: docs/TABLES.md, "Columns".
 ghost use Rattle.std.specs.Prelude.{◌≡◌, ℕ, List};
 ghost use Rattle.kt_cells.specs.Ranges.{FitsBytes};
 ghost use Rattle.kt_cells.specs.declared.kind.Kind.{Kind};

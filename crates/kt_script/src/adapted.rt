@@ -1,5 +1,6 @@
 //! A reader and a writer for the adapters over the standard streams: calls of them are interrupted, fail or move a part.
 //! The language: README.md, "Settings".
+//! The rule: docs/PROVING.md, "Tests".
 
 use crate::settings::Settings;
 use std::io;

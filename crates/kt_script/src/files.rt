@@ -1,5 +1,6 @@
 //! The files of a case.
 //! The language: README.md, "Files".
+//! The rule: docs/PROVING.md, "Tests".
 
 use crate::not_taken::NotTaken;
 use crate::settings::Settings;
@@ -220,7 +221,7 @@ impl Files {
             .any(|front| name.starts_with(front))
     }
 
-    /// The tables that are loaded.
+    /// The tables that are loaded. An error is want of memory.
     pub fn loaded(&self) -> Result<TableSet, AllocError> {
         let mut loaded = TableSet::new();
         for id in load_order() {
@@ -251,7 +252,7 @@ impl Files {
         }
     }
 
-    /// The files as inputs.
+    /// The files as inputs. An error is rows that are none of their table, or want of memory.
     pub fn inputs(&self, settings: &Settings) -> Result<MemInputs, NotTaken> {
         let fails = vec![in self.alloc; settings.files as u64]?;
         let mut inputs = MemInputs::new(self.alloc, fails, settings.most.max(1) as u64);

@@ -1,4 +1,5 @@
 //! That a line is not taken.
+//! The rule: docs/PROVING.md, "Tests".
 
 use std::alloc::{AllocError, AllocFailed};
 use std::io;

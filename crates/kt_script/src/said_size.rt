@@ -1,5 +1,6 @@
 //! Input files of which one says another size than it has.
 //! The language: README.md, "Settings".
+//! The rule: docs/PROVING.md, "Tests".
 ghost use Rattle.std.specs.Prelude.{None};
 
 use kt_out::{Absent, Fault, Inputs, MemInputs};

@@ -1,5 +1,6 @@
 //! A script of cases, taken line by line.
 //! The language of the cases: README.md.
+//! The rule: docs/PROVING.md, "Tests".
 
 use crate::files::Files;
 use crate::not_taken::NotTaken;
@@ -97,7 +98,8 @@ impl Script {
     }
 
     /// Takes a line. A question about what the last one left is answered; any other is handed out, to be answered behind
-    /// `begin_answers` for each number, and compared by `compare_all`.
+    /// `begin_answers` for each number, and compared by `compare_all`. An error is a line that is none of the language,
+    /// or want of memory.
     pub fn take<'a>(&mut self, line: &'a str) -> Result<Option<Asked<'a>>, NotTaken> {
         if line.is_empty() || line.starts_with('#') {
             return Ok(None);
@@ -189,13 +191,14 @@ impl Script {
         let _is_swept = self.settings.set(self.swept.as_str(), number);
     }
 
-    /// Keeps what a question left for the next number.
+    /// Keeps what a question left for the next number. An error is want of memory.
     pub fn keep(&mut self, seen: Seen) -> Result<(), NotTaken> {
         self.seen.push(seen)?;
         Ok(())
     }
 
-    /// Compares the answer of a question with the wanted one, for each number.
+    /// Compares the answer of a question with the wanted one, for each number. An error is that nothing was left for a
+    /// number, or want of memory.
     pub fn compare_all(&mut self, question: &str, wanted: &str) -> Result<(), NotTaken> {
         if self.seen.is_empty() {
             return Err(NotTaken);

@@ -1,5 +1,6 @@
 //! What a question left to be seen.
 //! The language: README.md.
+//! The rule: docs/PROVING.md, "Tests".
 
 use crate::files::{Files, is_output};
 use crate::not_taken::NotTaken;
@@ -143,7 +144,7 @@ impl Seen {
         }
     }
 
-    /// What a run or a load left.
+    /// What a run or a load left. An error is want of memory.
     pub fn new(alloc: Global, code: u8, output: &[u8], line: &[u8]) -> Result<Self, NotTaken> {
         Ok(Seen {
             answer: status_text(alloc, code, line)?,
@@ -184,7 +185,7 @@ impl Seen {
     }
 }
 
-/// What a run leaves that writes nothing and ends so.
+/// What a run leaves that writes nothing and ends so. An error is want of memory.
 pub fn ended(alloc: Global, status: Status) -> Result<Seen, NotTaken> {
     let mut err = SureSink::new(alloc);
     let code = report(alloc, status, &mut err).code();

@@ -1,5 +1,6 @@
 //! The numbers of a case.
 //! The language: README.md, "Settings".
+//! The rule: docs/PROVING.md, "Tests".
 
 /// The numbers of a case.
 #[derive(Clone, Copy)]

@@ -1,5 +1,6 @@
 //! Numbers, patterns, words and bytes, as a case writes them.
 //! The language: README.md, "Words and bytes".
+//! The rule: docs/PROVING.md, "Tests".
 
 use crate::not_taken::NotTaken;
 use std::alloc::{AllocError, Global};

@@ -1,5 +1,6 @@
 //! What words are answered.
 //! The language: README.md.
+//! The rule: docs/PROVING.md, "Tests".
 use crate::not_taken::NotTaken;
 use crate::seen::{Seen, ended};
 use crate::texts::push_word;
@@ -7,7 +8,7 @@ use kt_ends::Status;
 use kt_words::{Words, read_command};
 use std::alloc::Global;
 
-/// The words of a call.
+/// The words of a call. An error is a word that is none of the language, or want of memory.
 pub fn words_of(alloc: Global, written: &str) -> Result<Words, NotTaken> {
     let mut words = Words::new(alloc);
     for word in written.split_whitespace() {

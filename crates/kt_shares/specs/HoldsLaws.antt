@@ -1,4 +1,5 @@
 -- Sums by place, and one more amount.
+-- The rule: docs/FINANCIAL_MODULE.md, "Allocation".
 use Rattle.std.specs.Prelude.{◌≡◌, ◌≢◌, ◌⊎◌, ℕ, ◌+◌, ◌<◌, Bool, true, false, cond, nat_eq, List, slice_index, slice_index_or}
 use Rattle.std.specs.Cmp.{nat_eq_equiv}
 use Rattle.std.proofs.Common.{inl, inr, slice_set, refl, sym, ap, ◌∙◌, arith}

@@ -1,4 +1,5 @@
 -- Ids and their places, and lists that are looked up by them.
+-- The rule: docs/FINANCIAL_MODULE.md, "Allocation".
 use Rattle.std.specs.Prelude.{◌≡◌, ℕ, zero, suc, ◌<◌, ◌≤◌, ◌||◌, Bool, true, false, cond, nat_eq, List, [], ◌∷◌, ◌++◌, Some, None, length, slice_index, unwrap_or}
 use Rattle.std.specs.Cmp.{nat_eq_equiv}
 use Rattle.std.specs.List.{AllByRecursion, filter, list_any, sum, zip}

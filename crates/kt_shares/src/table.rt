@@ -187,7 +187,8 @@ fn table_by_lanes(
     })
 }
 
-/// What layers of a programme have of the losses of a run, as `table_of` says it of records.
+/// What layers of a programme have of the losses of a run, as `table_of` says it of records. An error is want of
+/// memory.
 pub fn table_of_run<R: RunLosses>(
     alloc: Global,
     programme: &Programme,

@@ -49,7 +49,7 @@ fn bin_at(left: u32, before: u64, bytes: &[u8], at: u64) -> Read<Bin, Misfit>
 }
 
 /// Reads so many bins at the front of the bytes, which stand at a byte of the stream, into a list: how many bytes they
-/// have. Where they are short or wrong, nothing is said of the list.
+/// have. Where they are short or wrong, nothing is said of the list. An error is want of memory.
 pub fn read_bins(
     list: &mut Bins,
     count: u32,

@@ -236,7 +236,8 @@ fn first_pairs(samples: u32, bytes: &[u8], empty: Vec<Pair>) -> FirstPairs
 }
 
 /// Reads the pairs up to the end pair at the front of the bytes, which stand at a byte of the stream, into a list: how
-/// many bytes they have with the end pair. Where they are short or wrong, nothing is said of the list.
+/// many bytes they have with the end pair. Where they are short or wrong, nothing is said of the list. An error is want
+/// of memory.
 pub fn read_pairs(
     list: &mut Pairs,
     samples: u32,

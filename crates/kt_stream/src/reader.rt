@@ -228,7 +228,8 @@ impl<E: Entry> RecordReader<E> {
     }
 
     /// Says that the stream ends here, once all whole records were read: Ok exactly where the bytes are a whole stream
-    /// of the kind.
+    /// of the kind. An error is what refuses the stream: what `advance` has found, or `Cut` where it ends inside its
+    /// header or a record.
     pub fn finish(&self) -> Result<(), StreamStop>
         requires { IsRested E E.form self.now }
         ensures exact { Finishes E E.form self.now result }

@@ -1,4 +1,5 @@
 -- The coverages beneath units, as rows of units with coverages.
+-- The rule: docs/FINANCIAL_MODULE.md, "Levels".
 use Rattle.std.specs.Prelude.{ℕ, zero, suc, ◌+◌, List, [], ◌∷◌, Option, Some, None, option_map}
 use Rattle.kt_rec.specs.declared.exposure.Coverage.{Coverage}
 use Rattle.kt_index.specs.declared.exposure.SummaryUnit.{SummaryUnit}

@@ -1,4 +1,5 @@
 -- Where the rows are right, the tree of a programme hangs together.
+-- The rule: docs/FINANCIAL_MODULE.md, "Levels".
 use Rattle.std.specs.Prelude.{◌≡◌, ℕ, ◌≤◌, ◌<◌, ◌&&◌, ◌||◌, Bool, true, false, cond, nat_eq, List, [], ◌∷◌, map, Option, Some, None}
 use Rattle.std.specs.List.{AllByRecursion, IsDistinct, filter, list_any, sum_by}
 use Rattle.std.specs.Map.{lookup}

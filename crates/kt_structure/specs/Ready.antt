@@ -1,4 +1,5 @@
 -- What the tables of a programme keep, so that it can be made.
+-- The rule: docs/FINANCIAL_MODULE.md, "Levels".
 use Rattle.std.specs.Prelude.{◌≡◌, ℕ, ◌≤◌, ◌<◌, true, max, List, [], ◌∷◌, length, All, slice_index_or}
 use Rattle.std.specs.List.{fold}
 use Rattle.std.proofs.Common.{arith}

@@ -1,4 +1,5 @@
 //! The types of this crate may be sent to threads and shared by them.
+//! The rule: docs/ARCHITECTURE.md, "What threads share".
 use crate::structure::Structure;
 
 /// Takes what may be sent to threads and shared by them.

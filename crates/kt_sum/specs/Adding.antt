@@ -1,4 +1,5 @@
 -- The places of the sums of a run.
+-- The rule: docs/CALCULATION.md, "Summaries".
 use Rattle.std.specs.Prelude.{ℕ, ◌+◌, ◌-◌, ◌%◌, ◌<◌, ◌≤◌, ◌^◌, List, All}
 use Rattle.kt_stream.specs.declared.entry.LossRecord.{LossRecord}
 use Rattle.kt_runs.specs.Adding.{AreInside}

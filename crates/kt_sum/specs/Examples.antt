@@ -1,4 +1,5 @@
 -- The worked examples of docs/CALCULATION.md and docs/EXAMPLES.md, by computing.
+-- The rule: docs/CALCULATION.md, "Summaries".
 use Rattle.std.specs.Prelude.{◌≡◌, ℕ, cond, nat_lt, pos, negsuc, List, [], ◌∷◌, Some}
 use Rattle.std.proofs.Common.{refl}
 use Rattle.kt_stream.specs.declared.entry.LossRecord.{LossRecord}

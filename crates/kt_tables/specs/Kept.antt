@@ -1,4 +1,5 @@
 -- What a portfolio keeps beside its rows, for the lookups.
+-- The rule: docs/TABLES.md, "Lookups".
 use Rattle.std.specs.Prelude.{◌≡◌, ℕ, ◌*◌, ◌+◌, ◌^◌, nat_eq, List, Vec, map, Option, None, Some, unwrap_or}
 use Rattle.std.specs.List.{IsDistinct, filter, list_any}
 use Rattle.std.specs.List.Sorted.{IsPermutation, IsNonDecreasingBy}

@@ -1,4 +1,5 @@
 -- The summaries of the ids of a perspective in one set.
+-- The rule: docs/TABLES.md, "Lookups".
 use Rattle.std.specs.Prelude.{◌≡◌, ℕ, ◌+◌, ◌*◌, ◌^◌, ◌<◌, nat_eq, List, Option, option_map, slice_get}
 use Rattle.std.specs.List.{filter}
 use Rattle.kt_tables.specs.declared.summaries.UnitSummary.{UnitSummary}

@@ -1,4 +1,5 @@
 //! What is taken of each row of a table, with the keys that it is looked up by.
+//! The rule: docs/TABLES.md, "Lookups".
 ghost use Rattle.std.specs.Prelude.{◌≡◌, map, IfOk};
 
 use crate::place::Place;

@@ -1,4 +1,5 @@
 //! What is kept for the lookups in the tables.
+//! The rule: docs/TABLES.md, "Lookups".
 ghost use Rattle.std.specs.Prelude.{IfOk};
 ghost use Rattle.kt_rec.specs.Rows.{rows_of};
 ghost use Rattle.kt_tables.specs.Kept.{AreAddable, AreLookups};

@@ -1,4 +1,5 @@
 //! Where the records of an event stand in the footprint file.
+//! The rule: docs/TABLES.md, "Lookups".
 
 /// The place of the records of an event in the footprint file.
 #[derive(Clone, Copy, Drop)]

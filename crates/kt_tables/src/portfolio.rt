@@ -101,7 +101,8 @@ impl Portfolio {
         &self.lookups.hazard.event_ids
     }
 
-    /// Makes the checks 18 and 19 for a number of samples. Takes no memory.
+    /// Makes the checks 18 and 19 for a number of samples. Takes no memory. An error is the first of the two that
+    /// refuses the tables.
     pub fn samples_fit(&self, samples: u32) -> Result<(), CheckStop>
         ensures exact { result ≡ answer_of (samples_refusal self.now.rows self.now.need samples) }
         ensures fits { IfOk result (λ _. FitsSamples self.now.rows self.now.need samples) }

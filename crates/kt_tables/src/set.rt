@@ -1,4 +1,5 @@
 //! The summaries of the ids of a perspective in one set.
+//! The rule: docs/TABLES.md, "Lookups".
 ghost use Rattle.std.specs.Prelude.{◌≡◌, true, ℕ, nat_eq, Option, Some, IfOk};
 ghost use Rattle.std.specs.List.{list_any};
 ghost use Rattle.kt_rec.specs.Rising.{IsRising};

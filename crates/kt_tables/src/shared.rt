@@ -1,4 +1,5 @@
 //! A portfolio may be sent to threads and shared by them.
+//! The rule: docs/ARCHITECTURE.md, "What threads share".
 use crate::place::Place;
 use crate::portfolio::Portfolio;
 

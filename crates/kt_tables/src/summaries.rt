@@ -1,4 +1,5 @@
 //! The summaries of items or of outputs, by set and id, with their exposures.
+//! The rules: docs/TABLES.md, "Lookups"; docs/CALCULATION.md, "Summary".
 ghost use Rattle.std.specs.Prelude.{◌≡◌, true, ℕ, ◌-◌, ◌<◌, ◌≤◌, nat_eq, length, map, IfOk, option_map, slice_get, slice_index_or};
 ghost use Rattle.std.specs.HashSet.{contains};
 ghost use Rattle.std.specs.List.{list_any};

@@ -1,4 +1,5 @@
 -- Why the fields of a text are not given.
+-- The rules: docs/TABLES.md, "Texts of tables", "The first bad place".
 use Rattle.std.specs.Prelude.{◌≡◌, ℕ, List, Some}
 use Rattle.kt_text.specs.Rows.{first_ragged}
 use Rattle.kt_text.specs.declared.columns.FieldStop.{FieldStop}

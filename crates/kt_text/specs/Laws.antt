@@ -1,4 +1,5 @@
 -- What is written plainly is read back.
+-- The rule: docs/TABLES.md, "Back again".
 use Rattle.std.specs.Prelude.{◌≡◌, ℕ, ◌^◌, ◌<◌, ◌≤◌, ◌⊎◌, Ok, List, ◌∷◌, ◌++◌, length, map}
 use Rattle.std.specs.Fmt.{decimal}
 use Rattle.csv.specs.Reading.{strip_bom}

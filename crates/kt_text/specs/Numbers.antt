@@ -1,4 +1,5 @@
 -- The number that a text stands for, or the first cause why it stands for none.
+-- The rule: docs/TABLES.md, "Numbers in a text".
 use Rattle.std.specs.Prelude.{ℕ, ◌+◌, ◌*◌, ◌^◌, ◌==◌, ◌&&◌, Bool, not, List, ◌++◌, length, nat_lt, if◌then◌else◌, Result, Ok, Err}
 use Rattle.std.specs.Char.{is_ascii_digit}
 use Rattle.std.specs.List.{list_all}

@@ -1,4 +1,5 @@
 -- Fields that stand in a text as they are, and the ends of lines.
+-- The rule: docs/TABLES.md, "Texts of tables".
 use Rattle.std.specs.Prelude.{◌≡◌, ℕ, ◌+◌, ◌<◌, ◌==◌, ◌&&◌, ◌||◌, ◌⊎◌, nat_lt, Bool, true, false, not, List, [], ◌∷◌, ◌++◌, take, drop}
 use Rattle.std.specs.Char.{is_ascii_digit}
 use Rattle.std.specs.List.{prefix_len, position_or_len}

@@ -1,4 +1,5 @@
 -- Where a reader of CSV stands between two records, and what it has yet to read.
+-- The rule: docs/TABLES.md, "Texts of tables".
 use Rattle.std.specs.Prelude.{◌≡◌, ℕ, ◌+◌, ◌<◌, true, false, List, [], ◌∷◌, length, Option, Some, None}
 use Rattle.std.specs.Borrow.{Bor}
 use Rattle.csv.specs.Machine.{ends_at_end}

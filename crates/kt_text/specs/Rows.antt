@@ -1,4 +1,5 @@
 -- The rows of a CSV text, as a table of a fixed number of columns sees them.
+-- The rule: docs/TABLES.md, "Texts of tables".
 use Rattle.std.specs.Prelude.{◌≡◌, ℕ, ◌+◌, ◌==◌, Bool, List, [], ◌∷◌, ◌++◌, length, drop, nat_lt, if◌then◌else◌, Option, Some, None, slice_index_or}
 use Rattle.std.specs.List.{prefix_len, AllByRecursion}
 use Rattle.csv.specs.Writing.{default_writer, row_text}

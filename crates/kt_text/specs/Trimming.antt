@@ -1,4 +1,5 @@
 -- What is taken off the ends of a text: blanks, a plus, and zeros that are worth nothing.
+-- The rule: docs/TABLES.md, "Numbers in a text".
 use Rattle.std.specs.Prelude.{ℕ, ◌==◌, ◌||◌, ◌&&◌, Bool, List, [], ◌∷◌, length, if◌then◌else◌}
 pub use Rattle.std.specs.Str.Parse.{without_leading_plus}
 

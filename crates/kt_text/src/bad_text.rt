@@ -1,4 +1,5 @@
 //! Why a text stands for no number.
+//! The rule: docs/TABLES.md, "Numbers in a text".
 
 /// Why a text stands for no number. Where several causes hold, the one that is listed first is told.
 #[derive(Clone, Copy)]

@@ -1,4 +1,5 @@
 //! The fields of a CSV text whose rows have a fixed number of columns.
+//! The rule: docs/TABLES.md, "Texts of tables".
 
 ghost use Rattle.std.specs.Prelude.{◌≡◌, ℕ, List, [], None, IfOk, IfErr, MatchOption};
 ghost use Rattle.std.specs.Bool.{MatchBool};

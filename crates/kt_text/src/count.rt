@@ -1,4 +1,5 @@
 //! Counts: digits alone.
+//! The rule: docs/TABLES.md, "Numbers in a text".
 
 ghost use Rattle.std.specs.Prelude.{◌≡◌};
 ghost use Rattle.std.specs.Char.{is_ascii_digit};
@@ -13,7 +14,7 @@ use crate::trimming::trim_blanks;
 /// The count that a text stands for: digits alone, blanks at both ends not regarded.
 ///
 /// `NotANumber` where anything else stands there, then `TooManyDigits` where more than 18 digits are
-/// left without the leading zeros.
+/// left without the leading zeros. An error is the first of these that holds; no memory is taken.
 pub fn read_count(text: &[u8]) -> Result<u64, BadText>
     ensures { result ≡ count_value text.now }
 {

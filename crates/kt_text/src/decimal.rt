@@ -1,4 +1,5 @@
 //! Decimals: digits, a point and an exponent, rounded half up once to the units of a scale.
+//! The rule: docs/TABLES.md, "Numbers in a text".
 
 ghost use Rattle.std.specs.Prelude.{◌≡◌, ◌⊎◌, ◌<◌, ◌≤◌, ◌^◌, Ok, IfSome, min};
 ghost use Rattle.kt_text.specs.Numbers.{decimal_value, amount_of, digits_of, within_limit, worthy_fraction};
@@ -23,7 +24,8 @@ const LIMIT: u64 = 100_000_000_000_000_000;
 /// spaces and tabs at both ends are not regarded. The value is rounded half up, once. `NotANumber`
 /// where anything else stands there; then `TooManyDigits` where more than 18 digits are left without
 /// the fraction's trailing zeros and then the leading zeros; then `ExponentRange` where the exponent
-/// is not from -30 to 30; then `TooLarge` where the rounded amount is above 10^17.
+/// is not from -30 to 30; then `TooLarge` where the rounded amount is above 10^17. An error is the first of these that
+/// holds; no memory is taken.
 pub fn read_decimal(text: &[u8], scale: u8) -> Result<u64, BadText>
     requires { (scale ≡ 2) ⊎ (scale ≡ 6) }
     ensures { result ≡ decimal_value scale text.now }

@@ -1,4 +1,5 @@
 //! The number that digits write, as far as it matters.
+//! The rule: docs/TABLES.md, "Numbers in a text".
 
 ghost use Rattle.std.specs.Prelude.{◌≡◌, ◌*◌, ◌^◌, ◌≤◌, ◌+◌, min};
 ghost use Rattle.std.specs.Str.Parse.{digits_value_after, AllDigits};

@@ -1,4 +1,5 @@
 //! The digits at the front of a text.
+//! The rule: docs/TABLES.md, "Numbers in a text".
 
 ghost use Rattle.std.specs.Prelude.{◌≡◌, ◌≤◌, ◌<◌, ◌^◌, length, min, take};
 ghost use Rattle.std.specs.Str.Parse.{AllDigits, digits_value};

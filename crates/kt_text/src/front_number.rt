@@ -1,4 +1,5 @@
 //! The number at the front of a text, in digits with or without decimals: what nearly every field of a table is.
+//! The rule: docs/TABLES.md, "Numbers in a text".
 
 ghost use Rattle.std.specs.Prelude.{◌≡◌, ◌≤◌, ◌<◌, ◌^◌, ◌+◌, ◌-◌, ◌*◌, ◌⊎◌, Ok, length, min, take, drop, IfSome, IfNone};
 ghost use Rattle.kt_text.specs.Numbers.{count_value, decimal_value};

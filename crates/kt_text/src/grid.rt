@@ -1,4 +1,5 @@
 //! The fields of a table's rows.
+//! The rule: docs/TABLES.md, "Texts of tables".
 
 ghost use Rattle.std.specs.Prelude.{◌≡◌, ◌<◌, [], length, map, slice_index_or};
 ghost use Rattle.csv.specs.Records.{fields_of};

@@ -1,4 +1,5 @@
 //! Theorems over the definitions: what is written plainly is read back.
+//! The rules: docs/TABLES.md, "Back again"; docs/PROVING.md, "Laws".
 
 ghost use Rattle.kt_text.specs.Laws.{CountsAreReadBack, AmountsAreReadBack, RowsAreReadBack, FieldsStayFields};
 

@@ -1,4 +1,5 @@
 //! Rows that stand in a text without quotes: where their fields begin and end. Nothing is copied.
+//! The rule: docs/TABLES.md, "Texts of tables".
 
 ghost use Rattle.std.specs.Prelude.{◌≡◌, ◌≤◌, ◌<◌, ◌⊎◌, ◌++◌, ℕ, List, true, false, cond, [], length, take, drop, IfSome, IfNone};
 ghost use Rattle.std.specs.List.{list_all, list_any, position_or_len};

@@ -1,4 +1,5 @@
 //! The records of a CSV text, one after the other.
+//! The rule: docs/TABLES.md, "Texts of tables".
 
 ghost use Rattle.std.specs.Prelude.{◌≡◌, ◌≤◌, ◌<◌, [], length, true, slice_index_or, IfOk, IfErr};
 ghost use Rattle.std.specs.Bool.{MatchBool};

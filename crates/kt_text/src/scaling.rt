@@ -1,4 +1,5 @@
 //! Digits times a power of ten, rounded half up.
+//! The rule: docs/TABLES.md, "Numbers in a text".
 
 ghost use Rattle.std.specs.Prelude.{◌≡◌, ◌<◌, ◌+◌, ◌*◌, ◌^◌, min, if◌then◌else◌};
 ghost use Rattle.kt_money.specs.Rounding.{half_up};

@@ -1,4 +1,5 @@
 //! What is taken off the ends of a number text: blanks, a plus, and zeros that are worth nothing.
+//! The rule: docs/TABLES.md, "Numbers in a text".
 
 ghost use Rattle.std.specs.Prelude.{◌≡◌};
 ghost use Rattle.std.specs.Str.Parse.{AllDigits};

@@ -1,4 +1,5 @@
 -- Rows of the worked examples of docs/FINANCIAL_MODULE.md, from which each crate computes its own part.
+-- The rules: docs/FINANCIAL_MODULE.md, "Levels", "Policy losses", "Allocation".
 use Rattle.std.specs.Prelude.{ℕ, [], ◌∷◌}
 use Rattle.kt_rec.specs.Rows.{Rows, no_rows}
 use Rattle.kt_rec.specs.declared.financial.FmProgramme.{FmProgramme}

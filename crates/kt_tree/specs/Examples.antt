@@ -1,4 +1,5 @@
 -- The worked examples of docs/FINANCIAL_MODULE.md on policy losses and their allocation, by computing.
+-- The rules: docs/FINANCIAL_MODULE.md, "Policy losses", "Allocation".
 use Rattle.std.specs.Prelude.{◌≡◌, ℕ, [], ◌∷◌, cond, nat_eq}
 use Rattle.std.proofs.Common.{refl}
 use Rattle.kt_rules.specs.Rules.{rule_of}

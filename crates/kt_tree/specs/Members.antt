@@ -1,4 +1,5 @@
 -- What is among those of a list that pass a test.
+-- The rule: docs/FINANCIAL_MODULE.md, "Levels".
 use Rattle.std.specs.Prelude.{◌≡◌, ℕ, ◌&&◌, ◌||◌, Bool, true, false, cond, nat_eq, List, [], ◌∷◌, map, Some, unwrap_or}
 use Rattle.std.specs.Cmp.{nat_eq_equiv}
 use Rattle.std.specs.List.{filter, list_any, zip}

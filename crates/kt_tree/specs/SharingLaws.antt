@@ -1,4 +1,5 @@
 -- Laws of sharing back: the amounts beneath add to the policy loss, and an id without a loss gets nothing.
+-- The rule: docs/FINANCIAL_MODULE.md, "Allocation".
 use Rattle.std.specs.Prelude.{◌≡◌, ℕ, zero, suc, ◌+◌, ◌<◌, Bool, true, false, cond, nat_eq, List, [], ◌∷◌, map, slice_index, Option, Some, None}
 use Rattle.std.specs.List.{AllByRecursion, IsDistinct, flat_map, list_any, sum, sum_by}
 use Rattle.std.specs.Cmp.{nat_eq_equiv}

@@ -1,4 +1,5 @@
 -- The worked example of docs/FINANCIAL_MODULE.md on struck units, by computing.
+-- The rule: docs/FINANCIAL_MODULE.md, "Levels".
 use Rattle.std.specs.Prelude.{◌≡◌, ℕ, true, false, [], ◌∷◌, cond, nat_eq, Some, None}
 use Rattle.std.proofs.Common.{refl}
 use Rattle.kt_rules.specs.Rules.{rule_of}

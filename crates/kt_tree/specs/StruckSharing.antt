@@ -1,4 +1,5 @@
 -- Among the struck units a policy loss is shared back as among all, where the other ids have no loss.
+-- The rule: docs/FINANCIAL_MODULE.md, "Allocation".
 use Rattle.std.specs.Prelude.{◌≡◌, ℕ, zero, suc, ◌+◌, ◌&&◌, ◌||◌, Bool, true, false, cond, nat_eq, List, [], ◌∷◌, ◌++◌, map, Some, unwrap_or}
 use Rattle.std.specs.List.{AllByRecursion, filter, flat_map, list_any, sum, sum_by, zip}
 use Rattle.std.specs.Map.{lookup}

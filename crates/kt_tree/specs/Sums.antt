@@ -1,4 +1,5 @@
 -- Sums over lists of ids: of two amounts, of lists behind each other, in either order, and of what one id has.
+-- The rule: docs/FINANCIAL_MODULE.md, "Allocation".
 use Rattle.std.specs.Prelude.{◌≡◌, ℕ, ◌+◌, ◌≤◌, Bool, true, false, cond, nat_eq, ◌||◌, List, [], ◌∷◌, ◌++◌}
 use Rattle.std.specs.List.{AllByRecursion, IsDistinct, filter, flat_map, list_any, sum_by}
 use Rattle.std.specs.Cmp.{nat_eq_equiv}

@@ -1,4 +1,5 @@
 //! That a trial could not be made.
+//! The rule: docs/PROVING.md, "Tests".
 
 use std::alloc::{AllocError, AllocFailed};
 use std::io;

@@ -1,4 +1,5 @@
 //! A made-up set, and the lines of files.
+//! The rule: docs/PROVING.md, "Tests".
 
 use crate::failure::Failure;
 use kt_counted::CountedOutputs;

@@ -1,5 +1,6 @@
 //! Prints what small trials come to of which no contract speaks: rounds of works by one worker and by many, what the merger of a
 //! round takes, and a made-up set. What must be printed: stdout; why: README.md.
+//! The rule: docs/PROVING.md, "Tests".
 #![tactic(auto)]
 
 mod failure;

@@ -1,4 +1,5 @@
 //! What the merger of a round takes while the workers work.
+//! The rule: docs/PROVING.md, "Tests".
 
 use crate::failure::Failure;
 use kt_part::{Inbox, Item, Reorder, merge};

@@ -1,4 +1,5 @@
 //! Rounds of small works, by one worker and by many.
+//! The rule: docs/PROVING.md, "Tests".
 ghost use Rattle.std.specs.Prelude.{◌<◌, ◌≤◌};
 
 use crate::failure::Failure;

@@ -1,4 +1,5 @@
 -- The words of a call as lists of bytes.
+-- The rule: docs/COMMANDS.md, "Words".
 use Rattle.std.specs.Prelude.{ℕ, List, map}
 use Rattle.std.specs.Global.{Vec}
 

@@ -12,7 +12,7 @@ const FIRST_LENGTH: usize = 4_096;
 /// So often the buffer is doubled for one word; no word is so long.
 const DOUBLINGS: u32 = 40;
 
-/// The words of the process, behind the name of the program.
+/// The words of the process, behind the name of the program. An error is want of memory.
 pub fn words_of<R: Env>(rt: &R, alloc: Global) -> Result<Words, AllocError> {
     let mut words = Words::new(alloc);
     let mut buffer = Vec::new(alloc);

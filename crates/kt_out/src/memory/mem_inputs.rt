@@ -1,4 +1,5 @@
 //! Input files in memory that fail in the calls that they are told to.
+//! The rule: docs/ARCHITECTURE.md, "The outside".
 ghost use Rattle.std.specs.Prelude.{◌≡◌, ◌<◌, ◌≤◌, ◌++◌, ◌∷◌, [], Some, length, OnErr, OnOk};
 ghost use Rattle.kt_out.specs.InputFiles.{InFile, ReadsAt};
 ghost use Rattle.kt_kept_files.specs.Calls.{fails_next, no_calls};

@@ -1,4 +1,5 @@
 //! Output files in memory that fail in the calls that they are told to.
+//! The rule: docs/ARCHITECTURE.md, "The outside".
 ghost use Rattle.std.specs.Prelude.{◌≡◌, ◌↔◌, ◌<◌, ◌≤◌, ◌++◌, [], Some, length, min, slice_get, take, IfOk, IsErrOf, IsTrue, OnErr, OnOk};
 ghost use Rattle.std.specs.Option.{option_copied, option_map};
 ghost use Rattle.kt_kept_files.specs.Calls.{after_call, fails_next, no_calls};

@@ -1,4 +1,5 @@
 //! A sink in memory that fails in the calls that it is told to.
+//! The rule: docs/ARCHITECTURE.md, "The outside".
 ghost use Rattle.std.specs.Prelude.{◌≡◌, ◌↔◌, ◌<◌, ◌≤◌, [], length, min, IfOk, IsErrOf, IsTrue};
 ghost use Rattle.kt_kept_files.specs.Calls.{fails_next, after_call, no_calls};
 ghost use Rattle.kt_out.specs.MemoryObjects.{sink_state};

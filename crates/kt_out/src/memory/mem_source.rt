@@ -1,4 +1,5 @@
 //! A source in memory that fails in the calls that it is told to.
+//! The rule: docs/ARCHITECTURE.md, "The outside".
 ghost use Rattle.std.specs.Prelude.{◌≡◌, ◌↔◌, ◌<◌, ◌≤◌, length, min, IfOk, IsErr, IsTrue, OnErr};
 ghost use Rattle.kt_kept_files.specs.Calls.{fails_next, after_call, no_calls};
 ghost use Rattle.kt_out.specs.MemoryObjects.{source_state};

@@ -1,4 +1,5 @@
 //! Input files in memory that never fail.
+//! The rule: docs/ARCHITECTURE.md, "The outside".
 ghost use Rattle.std.specs.Prelude.{◌≡◌, ◌-◌, ◌<◌, ◌≤◌, [], Ok, Some, length, min, ok_or, is_some, if◌then◌else◌, unwrap_or, OnErr, OnOk};
 ghost use Rattle.std.specs.Option.{option_map};
 ghost use Rattle.kt_kept_files.specs.Counts.{one_more};

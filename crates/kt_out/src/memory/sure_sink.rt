@@ -1,4 +1,5 @@
 //! A sink in memory that never fails.
+//! The rule: docs/ARCHITECTURE.md, "The outside".
 ghost use Rattle.std.specs.Prelude.{◌≡◌, ◌<◌, [], length, IfOk, IfErr};
 ghost use Rattle.kt_out.specs.MemoryObjects.{sure_sink_state};
 ghost use Rattle.kt_out.specs.Writing.{Writes};

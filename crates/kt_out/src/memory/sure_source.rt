@@ -1,4 +1,5 @@
 //! A source in memory that never fails.
+//! The rule: docs/ARCHITECTURE.md, "The outside".
 ghost use Rattle.std.specs.Prelude.{◌≡◌, ◌<◌, length, min, Ok};
 ghost use Rattle.kt_out.specs.MemoryObjects.{sure_source_state};
 ghost use Rattle.kt_out.specs.Reading.{Reads};

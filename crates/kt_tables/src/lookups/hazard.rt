@@ -1,4 +1,5 @@
 //! The lookups of events, of their records in the footprint file, and of damage.
+//! The rule: docs/TABLES.md, "Lookups".
 ghost use Rattle.std.specs.Prelude.{IfOk};
 ghost use Rattle.kt_rec.specs.Rows.{rows_of};
 ghost use Rattle.kt_tables.specs.Kept.{AreDamages, ArePlaces, AreHazardLookups};

@@ -1,4 +1,5 @@
 //! The lookups of periods: when events occur, and the periods in which losses return.
+//! The rule: docs/TABLES.md, "Lookups".
 ghost use Rattle.std.specs.Prelude.{IfOk};
 ghost use Rattle.kt_rec.specs.Rows.{rows_of};
 ghost use Rattle.kt_tables.specs.Kept.{ArePeriodLookups};

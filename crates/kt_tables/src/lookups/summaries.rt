@@ -1,4 +1,5 @@
 //! The lookups of the insured values of coverages, and of the summaries that add them.
+//! The rules: docs/TABLES.md, "Lookups"; docs/CALCULATION.md, "Summary".
 ghost use Rattle.std.specs.Prelude.{ℕ, IfOk};
 ghost use Rattle.kt_rec.specs.Rows.{rows_of};
 ghost use Rattle.kt_rec.specs.declared.perspective.Perspective.TheVariants as perspective;
