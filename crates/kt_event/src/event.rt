@@ -1,8 +1,9 @@
 //! One event through all stages.
 //! The rules: docs/CALCULATION.md; docs/FINANCIAL_MODULE.md; docs/REFUSALS.md, "Order".
-ghost use Rattle.std.specs.Prelude.{◌≡◌, ◌⊎◌, ◌+◌, ◌++◌, ◌≤◌, ℤ, true, map, All, IfOk, IfErr, None, OnOk, Some};
+ghost use Rattle.std.specs.Prelude.{◌≡◌, ◌⊎◌, ◌+◌, ◌++◌, ◌≤◌, ℤ, true, map, All, Err, IfOk, IfErr, None, OnOk, Some};
 ghost use Rattle.std.specs.List.{flat_map};
 ghost use Rattle.kt_rec.specs.FootRows.{first_refused_row};
+ghost use Rattle.kt_rec.specs.declared.foot_rows.ModelStop.{ModelStop};
 ghost use Rattle.kt_rec.specs.declared.foot_rows.ModelStop.TheVariants.{OutOfMemory};
 ghost use Rattle.kt_runs.specs.RunLosses.{AreWithin, run_loss};
 ghost use Rattle.kt_stream.specs.Losses.{IsLoss};
@@ -231,6 +232,9 @@ fn event_losses(
 
     // The first refused row, or want of memory.
     ensures refused { IfErr result (λ stop. (first_refused_row rows.now ≡ Some stop) ⊎ (stop ≡ OutOfMemory)) }
+
+    // A refused row is the answer, whatever memory there is.
+    ensures row { (stop : ModelStop) → first_refused_row rows.now ≡ Some stop → result ≡ Err stop }
 {
     let distributions = distributions(alloc, portfolio, event, rows)?;
     distributions_are_of_a_stream(portfolio);
@@ -247,8 +251,8 @@ fn event_losses(
 }
 
 /// What an event with these footprint rows gives: its summaries in each set of the run's perspectives, and the sums of the
-/// layers where there are insured losses. An error is the first refused row with its cause, or want of memory. The portfolio was
-/// loaded for the terms of the plan, which is its own.
+/// layers where there are insured losses. An error is the first refused row with its cause, whatever memory there is, or want of memory
+/// where none is refused. The portfolio was loaded for the terms of the plan, which is its own.
 pub fn event_block(
     alloc: Global,
     portfolio: &Portfolio,
@@ -260,6 +264,9 @@ pub fn event_block(
     requires plan { IsPlan portfolio.now plan.now }
     ensures exact { IsOrMemory (event_result (terms_of plan.now) portfolio.now.rows event rows.now) result }
     ensures good { IfOk result (λ block. AreSummaries (terms_of plan.now).samples block.summaries) }
+
+    // A refused row is the answer, whatever memory there is.
+    ensures row { (stop : ModelStop) → first_refused_row rows.now ≡ Some stop → result ≡ Err stop }
 {
     let losses = event_losses(alloc, portfolio, plan, event, rows)?;
     let block = block_of(alloc, portfolio, plan, event, losses)?;

@@ -4,6 +4,7 @@ pub mod BinLemmas
 pub mod RecordLemmas
 pub mod SeenLemmas
 pub mod JudgeLemmas
+pub mod PlainLemmas
 mod Worked
 pub mod PairLemmas
 pub mod TotalLemmas

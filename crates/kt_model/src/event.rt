@@ -1,6 +1,6 @@
 //! The damage distributions of an event.
 //! The rules: docs/CALCULATION.md, "Damage distribution".
-ghost use Rattle.std.specs.Prelude.{◌≡◌, ◌⊎◌, ◌≤◌, ◌++◌, ℕ, List, [], nat_eq, true, length, take, All, None, Some, OnErr, OnOk, IfOk, IfErr};
+ghost use Rattle.std.specs.Prelude.{◌≡◌, ◌⊎◌, ◌≤◌, ◌++◌, ℕ, List, [], nat_eq, true, length, take, All, None, Some, Err, OnErr, OnOk, IfOk, IfErr};
 ghost use Rattle.std.specs.List.{cons_option, filter, flat_map, sum_by};
 ghost use Rattle.std.specs.List.Sorted.{IsNonDecreasingBy};
 ghost use Rattle.kt_rec.specs.declared.hazard.FootRow.{FootRow};
@@ -9,6 +9,7 @@ ghost use Rattle.kt_keys.specs.Refusals.{is_loaded};
 ghost use Rattle.kt_stream.specs.Bins.{IsCdf, cdf_bytes};
 ghost use Rattle.kt_stream.specs.Pairs.{IsId};
 ghost use Rattle.kt_tables.specs.DamageLaws.{KeepsDamage};
+ghost use Rattle.kt_rec.specs.declared.foot_rows.ModelStop.{ModelStop};
 ghost use Rattle.kt_rec.specs.declared.foot_rows.ModelStop.TheVariants.{OutOfMemory};
 ghost use Rattle.kt_model.specs.Distribution.{distribution_of, distributions_of, record_of};
 ghost use Rattle.kt_model.specs.Scratch.{IsReady};
@@ -128,6 +129,9 @@ fn put_event<E: Exit>(
     // The first refused row, before anything is put, or want of memory.
     ensures refused { IfErr result (λ stop. ((first_refused_row rows.now ≡ Some stop) × (exit.new ≡ exit.old)) ⊎ (stop ≡ OutOfMemory)) }
     ensures behind { OnErr result (take (length (E.pieces exit.old)) (E.pieces exit.new) ≡ E.pieces exit.old) }
+
+    // A refused row is the answer, whatever memory there is.
+    ensures row { (stop : ModelStop) → first_refused_row rows.now ≡ Some stop → result ≡ Err stop }
 {
     check_rows(alloc, rows)?;
     portfolio.keeps_damage();
@@ -156,6 +160,9 @@ pub fn distributions(
 
     // The first refused row, or want of memory.
     ensures refused { IfErr result (λ stop. (first_refused_row rows.now ≡ Some stop) ⊎ (stop ≡ OutOfMemory)) }
+
+    // A refused row is the answer, whatever memory there is.
+    ensures row { (stop : ModelStop) → first_refused_row rows.now ≡ Some stop → result ≡ Err stop }
 {
     distributions_are_of_a_stream(portfolio);
     let mut scratch = Scratch::new(alloc);
@@ -181,6 +188,9 @@ pub fn put_distributions(
     // The first refused row, before anything is appended, or want of memory.
     ensures refused { IfErr result (λ stop. ((first_refused_row rows.now ≡ Some stop) × (out.new ≡ out.old)) ⊎ (stop ≡ OutOfMemory)) }
     ensures unchanged { OnErr result (out.new ≡ out.old) }
+
+    // A refused row is the answer, whatever memory there is.
+    ensures row { (stop : ModelStop) → first_refused_row rows.now ≡ Some stop → result ≡ Err stop }
 {
     let whole = out.len();
     match put_event(alloc, portfolio, event, rows, scratch, out) {

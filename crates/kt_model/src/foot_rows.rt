@@ -1,11 +1,11 @@
 //! The check of the footprint rows of an event.
 //! The rules: docs/CHECKS.md, "Footprint rows of an event".
-ghost use Rattle.std.specs.Prelude.{◌≡◌, ◌≤◌, ◌⊎◌, ℕ, List, [], ◌∷◌, ◌++◌, None, Some, OnOk, IfOk, IfErr};
+ghost use Rattle.std.specs.Prelude.{◌≡◌, ◌≤◌, ℕ, List, [], ◌∷◌, ◌++◌, None, Some, OnOk, IfOk, IfErr};
 ghost use Rattle.kt_rec.specs.FootRows.{areaperil_total, field_cause, row_cause, first_refused_row};
 ghost use Rattle.kt_model.specs.Seen.{IsSeen};
-ghost use Rattle.kt_rec.specs.declared.foot_rows.ModelStop.TheVariants.{OutOfMemory};
 ghost use Rattle.kt_rec.specs.declared.hazard.FootRow.{FootRow};
 
+use crate::plain_rows::first_held;
 use crate::rising_rows::rise_unrefused;
 use kt_rec::{FootRow, ModelStop, RowCause};
 use std::alloc::{AllocError, Global};
@@ -66,35 +66,47 @@ impl Seen {
     }
 }
 
-/// The first row that is refused, with its cause, or want of memory.
-fn check_each(alloc: Global, rows: &[FootRow]) -> Result<(), ModelStop>
-    ensures ok { OnOk result (first_refused_row rows.now ≡ None) }
-    ensures within { OnOk result ((areaperil : ℕ) → areaperil_total rows.now areaperil ≤ 1001000) }
-
-    ensures refused { IfErr result (λ stop. (first_refused_row rows.now ≡ Some stop) ⊎ (stop ≡ OutOfMemory)) }
+/// The first row that is refused, with its cause. An error is want of memory for what was seen of the rows.
+fn first_seen(alloc: Global, rows: &[FootRow]) -> Result<Option<ModelStop>, AllocError>
+    ensures first { IfOk result (λ found. found ≡ first_refused_row rows.now) }
+    ensures within { IfOk result (λ found. found ≡ None → (areaperil : ℕ) → areaperil_total rows.now areaperil ≤ 1001000) }
 {
     let mut seen = Seen::new(alloc, rows.len())?;
     for (index, row) in rows.iter().enumerate() {
         if let Some(cause) = seen.see(row)? {
-            return Err(ModelStop::Row {
+            return Ok(Some(ModelStop::Row {
                 row: index as u64 + 1,
                 cause,
-            });
+            }));
         }
     }
-    Ok(())
+    Ok(None)
 }
 
-/// Judges the rows of an event's footprint: the first that is refused, with its cause, or want of memory. Rows by rising areaperil
-/// and then intensity are judged without memory.
+/// The first row that is refused, with its cause, whatever memory there is.
+fn first_refused(alloc: Global, rows: &[FootRow]) -> Option<ModelStop>
+    ensures first { result ≡ first_refused_row rows.now }
+    ensures within { result ≡ None → (areaperil : ℕ) → areaperil_total rows.now areaperil ≤ 1001000 }
+{
+    match first_seen(alloc, rows) {
+        Ok(found) => found,
+        Err(_) => first_held(rows),
+    }
+}
+
+/// Judges the rows of an event's footprint: the first that is refused, with its cause. Rows by rising areaperil and then intensity are
+/// judged without memory, and so are others where memory is wanting for what was seen of them: it is never the answer.
 pub fn check_rows(alloc: Global, rows: &[FootRow]) -> Result<(), ModelStop>
     ensures ok { OnOk result (first_refused_row rows.now ≡ None) }
     ensures within { OnOk result ((areaperil : ℕ) → areaperil_total rows.now areaperil ≤ 1001000) }
 
-    ensures refused { IfErr result (λ stop. (first_refused_row rows.now ≡ Some stop) ⊎ (stop ≡ OutOfMemory)) }
+    ensures refused { IfErr result (λ stop. first_refused_row rows.now ≡ Some stop) }
 {
     if rise_unrefused(rows) {
         return Ok(());
     }
-    check_each(alloc, rows)
+    match first_refused(alloc, rows) {
+        Some(stop) => Err(stop),
+        None => Ok(()),
+    }
 }

@@ -8,6 +8,7 @@ mod exit;
 mod foot_rows;
 pub mod laws;
 mod pairs;
+mod plain_rows;
 mod rising_rows;
 mod scratch;
 mod shared;
