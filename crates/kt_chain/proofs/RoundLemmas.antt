@@ -54,7 +54,7 @@ ids_of_both : (first second : List EventRows) → ids_of (first ++ second) ≡ i
 ids_of_both first second = map-append (λ (one : EventRows). one.event) first second
 
 -- what holds of a list holds of its front, and of what is behind
-pub each_front : {X : Type 0} (P : X → Type 0) (xs ys : List X) → AllByRecursion P (xs ++ ys) → AllByRecursion P xs
+each_front : {X : Type 0} (P : X → Type 0) (xs ys : List X) → AllByRecursion P (xs ++ ys) → AllByRecursion P xs
 each_front P [] ys all = tt
 each_front P (x ∷ xs) ys all = (all.0, each_front P xs ys all.1)
 

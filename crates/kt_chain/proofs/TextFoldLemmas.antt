@@ -1,5 +1,5 @@
 -- The rows that were made with the parts of a round, and the parts alone.
-use Rattle.std.proofs.Common.{◌≡◌, ◌∙◌, ◌<◌, ℕ, zero, suc, List, [], ◌∷◌, ◌++◌, length, map, slice_index_or, append-nil, arith, ap, inr, refl, sym, subst, Option, Some}
+use Rattle.std.proofs.Common.{◌≡◌, ◌∙◌, ◌<◌, ℕ, zero, suc, List, [], ◌∷◌, ◌++◌, length, map, slice_index_or, append-nil, arith, refl, sym, subst, Option, Some}
 use Rattle.std.specs.List.{flat_map}
 use Rattle.std.proofs.lemmas.List.{length-map}
 use Rattle.kt_ends.specs.declared.status.Refusal.{Refusal}
@@ -8,15 +8,10 @@ use Rattle.kt_files.specs.MadeRows.{AreRowsOf}
 use Rattle.kt_files.specs.Parts.{block_text}
 use Rattle.kt_files.specs.declared.file.OutputFile.{OutputFile}
 use Rattle.kt_files.specs.declared.made.FileRows.{FileRows}
-use Rattle.kt_fold.specs.AddedLaws.{blocks_more}
-use Rattle.kt_fold.specs.Added.{blocks_added}
-use Rattle.kt_fold.specs.Folds.{FoldStart, FoldState, IsWhole, StandsBehind, StopsBehind, StopsBy, fold_refusal, with_blocks}
-use Rattle.kt_fold.specs.declared.fold.FoldStop.TheVariants as fold_stop
+use Rattle.kt_fold.specs.Folds.{FoldStart, StandsBehind, StopsBehind, StopsBy, fold_refusal, with_blocks}
 use Rattle.kt_fold.specs.declared.fold.FoldStop.{FoldStop}
 use Rattle.kt_fold.specs.declared.part.PartBlock.{PartBlock}
 use Rattle.kt_part.specs.Folding.{AreGiven, Folded, StoppedAt}
-use Rattle.kt_periods.specs.Adding.{first_refusal}
-use Rattle.kt_chain.proofs.RoundLemmas.{each_front}
 use Rattle.kt_rec.specs.Rows.{Rows}
 use Rattle.kt_chain.specs.Rounds.{IsPart, RoundParts}
 use Rattle.kt_chain.specs.TextFolds.{AreRowsOfParts, IsTextPart, KeepsRows, TextsStand, TextsStop, parts_of, rows_of}
@@ -32,21 +27,6 @@ given_parts round first (text ∷ texts) given = (given.0.part, given_parts roun
 given_rows : (round : RoundParts) (first : ℕ) (texts : List TextPart) (more : List PartBlock) → AreGiven (IsTextPart round) first texts → AreRowsOfParts round.terms.samples round.rows (rows_of texts) (parts_of texts ++ more)
 given_rows round first [] more given = tt
 given_rows round first (text ∷ texts) more given = (given.0.made, given_rows round (suc first) texts more given.1)
-
--- memory was wanting behind a part that was taken whole
-pub wanted_behind : (start : FoldStart) (fold : FoldState) (parts : List PartBlock) (part : PartBlock) → StandsBehind start fold (parts ++ part ∷ []) → StopsBehind start fold parts part fold_stop.OutOfMemory
-wanted_behind start fold parts part stands = record {
-  same = stands.same;
-  samples = stands.samples;
-  stops = record {
-    whole = each_front IsWhole parts (part ∷ []) stands.taken.whole;
-    taken = part.blocks;
-    rest = [];
-    are = sym (append-nil part.blocks);
-    clear = ap (λ (blocks : List EventBlock). first_refusal start.history (blocks_added start.rows blocks)) (sym (blocks_more parts part)) ∙ stands.taken.clear;
-    kept_are = inr stands.taken.kept_are;
-  };
-}
 
 -- the rows that were made with the part at a place, and what its blocks add to a file
 pub record RowsAt (samples : ℕ) (rows : Rows) (file : OutputFile) (parts : List PartBlock) (part : ℕ) (own : List FileRows) : Type 0 where

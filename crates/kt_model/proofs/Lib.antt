@@ -4,7 +4,6 @@ pub mod BinLemmas
 pub mod RecordLemmas
 pub mod SeenLemmas
 pub mod JudgeLemmas
-pub mod PlainLemmas
 mod Worked
 pub mod PairLemmas
 pub mod TotalLemmas

@@ -18,7 +18,7 @@ use Rattle.kt_rec.specs.FootRows.{areaperil_total, field_cause, is_at, row_cause
 use Rattle.kt_model.specs.Seen.{IsSeen}
 
 -- the cause where the fields are fine, by whether the row stands twice, and whether the sum is too large
-pub cause_is : (fields : Option RowCause) (twice above : Bool) (t a : Bool) → fields ≡ None → twice ≡ t → above ≡ a → option_or fields (cond twice (Some cause.Twice) (cond above (Some cause.Sum) None)) ≡ cond t (Some cause.Twice) (cond a (Some cause.Sum) None)
+cause_is : (fields : Option RowCause) (twice above : Bool) (t a : Bool) → fields ≡ None → twice ≡ t → above ≡ a → option_or fields (cond twice (Some cause.Twice) (cond above (Some cause.Sum) None)) ≡ cond t (Some cause.Twice) (cond a (Some cause.Sum) None)
 cause_is fields twice above t a e f g =
     ap (λ x. option_or x (cond twice (Some cause.Twice) (cond above (Some cause.Sum) None))) e
     ∙ (ap (λ x. cond x (Some cause.Twice) (cond above (Some cause.Sum) None)) f
@@ -40,7 +40,7 @@ not_there b true e f = cc
 
 module _ (rows : List FootRow) (row : FootRow) where
   -- the total of the row's areaperil behind the row
-  pub total_here : areaperil_total (rows ++ row ∷ []) row.areaperil ≡ areaperil_total rows row.areaperil + row.prob
+  total_here : areaperil_total (rows ++ row ∷ []) row.areaperil ≡ areaperil_total rows row.areaperil + row.prob
   total_here = sum_by_push (λ x. cond (nat_eq x.areaperil row.areaperil) x.prob 0) rows row ∙ ap (λ b. areaperil_total rows row.areaperil + cond b row.prob 0) (eq_refl row.areaperil)
 
   module _ (old : Seen) (is : IsSeen rows old) (fields : field_cause row ≡ None) (added : Bool) (asked : added ≡ not (contains same_pair old.pairs (row.areaperil, row.intensity))) where
