@@ -90,7 +90,7 @@ def table(caption, heads, rows, left_out="", kind="sortable"):
                    for row in rows)
     more = f'<p class="more">{escape(left_out)}</p>' if left_out else ""
     return (f'<div class="scroll" tabindex="0" role="region" aria-label="{escape(caption)}"><table class="{kind}">'
-            f'<caption>{escape(caption)}</caption><thead><tr>{head}</tr></thead><tbody>{body}</tbody></table></div>{more}')
+            f'<caption><span>{escape(caption)}</span></caption><thead><tr>{head}</tr></thead><tbody>{body}</tbody></table></div>{more}')
 
 
 def cell(at, content, numbers):
@@ -130,7 +130,7 @@ def summary_heads(of, number):
 def run_section(of):
     manifest, terms = of.subject.run.manifest, of.subject.run.terms
     program = manifest["program"]
-    last = {"gul": "ground-up losses", "il": "insured losses", "ri": f"losses net of {terms['stages']} reinsurance stages"}
+    last = {"gul": "ground-up losses", "il": "insured losses", "ri": f"losses net of {terms['stages']} reinsurance stage{'s' if terms['stages'] != 1 else ''}"}
     rows = [
         ("Program", f"ktools {program['version'] or '(version not known)'}, {program['bytes']:,} bytes, SHA-256 {program['sha256']}"),
         ("Words", " ".join(manifest["words"])),
@@ -184,7 +184,7 @@ def one_summary(of, tables, number, summary, first):
 
 def set_section(of, table_):
     if not table_.averages:
-        return f"<p>No summary of this set has a loss in any period. {len(table_.events)} events have losses.</p>" + events(of, table_)
+        return f"<p>No summary of this set has a loss in any period. Events with a loss: {table_.event_count:,}.</p>" + events(of, table_)
     return averages(of, table_) + exceedance(of, table_) + events(of, table_)
 
 
@@ -192,8 +192,8 @@ def averages(of, table_):
     number, currency = table_.number, of.subject.currency
     draws = of.periods * of.subject.run.terms["samples"] if of.periods else 0
     shown = table_.by_loss[:of.limit]
-    heads = summary_heads(of, number) + [("Mean (type 2)", True), ("Standard error", True), ("Deviation (type 2)", True),
-                                         ("Mean (type 1)", True), ("Deviation (type 1)", True), ("Exposure", True)]
+    heads = summary_heads(of, number) + [("Mean (type\N{NO-BREAK SPACE}2)", True), ("Standard error", True), ("Deviation (type\N{NO-BREAK SPACE}2)", True),
+                                         ("Mean (type\N{NO-BREAK SPACE}1)", True), ("Deviation (type\N{NO-BREAK SPACE}1)", True), ("Exposure", True)]
     rows = []
     for summary in shown:
         sampled, analytical = table_.average(summary), table_.average(summary, ANALYTICAL)
@@ -267,8 +267,8 @@ def events(of, table_):
     bars = figure(picture.bars(f"{table_.start}-events", title, [picture.Bar(f"event {event.event}", 0, event.mean) for event in shown],
                                of.subject.currency),
                   f"The mean loss of an event, all summaries of the set together: {count_of(len(shown), table_.event_count)}.")
-    heads = [("Event", True), ("Mean (type 2)", True)] + ([("Deviation (type 2)", True)] if one else [("Summaries", True)]) + [
-        ("Mean (type 1)", True), ("Occurrences", True), ("When it occurs", False)]
+    heads = [("Event", True), ("Mean (type\N{NO-BREAK SPACE}2)", True)] + ([("Deviation (type\N{NO-BREAK SPACE}2)", True)] if one else [("Summaries", True)]) + [
+        ("Mean (type\N{NO-BREAK SPACE}1)", True), ("Occurrences", True), ("When it occurs", False)]
     rows = [[str(event.event), amount(event.mean), amount(event.deviation) if one else f"{event.summaries:,}", amount(event.analytical),
              f"{event.count:,}", occurrences(event)] for event in table_.events[:of.limit]]
     rest = table_.event_count - len(rows)

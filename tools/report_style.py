@@ -25,7 +25,7 @@ dl div { display: grid; grid-template-columns: 12rem minmax(0, 1fr); gap: 0 1rem
 dt { color: #4d4d4d; } dd { margin: 0; overflow-wrap: anywhere; }
 @media (max-width: 34rem) { dl div { grid-template-columns: minmax(0, 1fr); } }
 .pictures { display: grid; grid-template-columns: repeat(auto-fit, minmax(min(100%, 24rem), 1fr)); gap: 1rem 2rem; align-items: start; }
-figure { margin: 0 0 1rem; max-width: 36rem; min-width: 0; }
+figure { margin: 0 0 1rem; max-width: 31rem; min-width: 0; }
 figcaption { color: #4d4d4d; font-size: .875rem; margin-top: .25rem; }
 svg.picture { display: block; width: 100%; height: auto; font: 14px Arial, "Liberation Sans", "DejaVu Sans", sans-serif; fill: #1a1a1a; }
 svg .m { text-anchor: middle; } svg .e { text-anchor: end; }
@@ -37,15 +37,17 @@ svg.key { vertical-align: middle; } svg.key path:first-child { stroke-width: 2; 
 .scroll { overflow-x: auto; margin: .75rem 0; }
 table { border-collapse: collapse; font-size: .875rem; font-variant-numeric: tabular-nums; }
 caption { text-align: left; color: #4d4d4d; padding: .25rem 0; }
-th, td { padding: .25rem .75rem .25rem 0; text-align: left; vertical-align: top; border-bottom: 1px solid #ddd; }
+caption span { position: sticky; left: 0; display: inline-block; max-width: calc(100vw - 2rem); }
+th, td { padding: .25rem 0; text-align: left; vertical-align: top; border-bottom: 1px solid #ddd; }
 thead th { vertical-align: bottom; border-bottom: 2px solid #1a1a1a; }
-th.n, td.n { text-align: right; padding: .25rem .25rem .25rem .75rem; } tbody .n { white-space: nowrap; }
-tbody th { font-weight: normal; }
+th.n, td.n { text-align: right; padding-left: .75rem; } tbody .n { white-space: nowrap; }
+tbody th { font-weight: normal; } td:not(.n), thead th:not(.n) { padding-left: .75rem; }
+th:first-child, th.n:first-child { text-align: left; padding-left: 0; }
 .sums td:last-child { font-family: "DejaVu Sans Mono", monospace; font-size: .75rem; overflow-wrap: anywhere; min-width: 16rem; }
 th button { font: inherit; color: inherit; background: none; border: 0; padding: .25rem 0; margin: 0; text-align: inherit; cursor: pointer; }
-th button::after { content: " \\2195"; color: #4d4d4d; } th button:hover { text-decoration: underline; }
-th[aria-sort=ascending] button::after { content: " \\2191"; color: #1a1a1a; }
-th[aria-sort=descending] button::after { content: " \\2193"; color: #1a1a1a; }
+th button::after { content: "\\a0\\2195"; color: #4d4d4d; } th button:hover { text-decoration: underline; }
+th[aria-sort=ascending] button::after { content: "\\a0\\2191"; color: #1a1a1a; }
+th[aria-sort=descending] button::after { content: "\\a0\\2193"; color: #1a1a1a; }
 .more { color: #4d4d4d; font-size: .875rem; margin-top: 0; }
 .choice label { display: block; margin: .5rem 0; } .choice select { font: inherit; padding: .25rem; max-width: 100%; }
 summary { cursor: pointer; padding: .25rem 0; overflow-wrap: anywhere; }
@@ -59,7 +61,7 @@ summary { cursor: pointer; padding: .25rem 0; overflow-wrap: anywhere; }
   h2 { margin-top: 0; } h1, h2, h3, caption { break-after: avoid; }
   figure, tr, .legend, li, dl div { break-inside: avoid; } thead { display: table-header-group; }
   .pictures { grid-template-columns: 1fr 1fr; gap: 4mm 6mm; }
-  .scroll { overflow: visible; } table { font-size: 8pt; } th button::after { content: "" !important; }
+  .scroll { overflow: visible; } caption span { position: static; max-width: none; } table { font-size: 8pt; } th button::after { content: "" !important; }
   a { color: inherit; text-decoration: none; }
 }
 """
