@@ -152,7 +152,7 @@ def together(of, number):
     tables = [table for table in of.subject.tables if table.number == number]
     summaries = sorted({summary for table in tables for summary in table.averages},
                        key=lambda summary: ([-table.average(summary).mean for table in tables], summary))
-    heads = summary_heads(of, number) + [(f"Average annual loss, {SHORT[table.perspective]}", True) for table in tables]
+    heads = summary_heads(of, number) + [(SHORT[table.perspective].capitalize(), True) for table in tables]
     rows = [summary_cells(of, number, summary) + [amount(table.average(summary).mean) for table in tables] for summary in summaries[:of.limit]]
     files = ", ".join(f"{table.start}_aal.csv" for table in tables)
     shown = summaries[:max(of.limit // 5, 1)]
@@ -282,7 +282,7 @@ def count_of(shown, count):
 
 
 def occurrences(event):
-    named = "; ".join(f"period {period:,} ({year:04}-{month:02}-{day:02})" for period, year, month, day in event.occurrences)
+    named = "; ".join(f"period {period:,} ({year:04}-{month:02}-{day:02})".replace(" ", "\N{NO-BREAK SPACE}") for period, year, month, day in event.occurrences)
     rest = event.count - len(event.occurrences)
     return (named or "in no period") + (f"; and {rest:,} more" if rest else "")
 

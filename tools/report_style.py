@@ -41,7 +41,7 @@ caption span { position: sticky; left: 0; display: inline-block; max-width: calc
 th, td { padding: .25rem 0; text-align: left; vertical-align: top; border-bottom: 1px solid #ddd; }
 thead th { vertical-align: bottom; border-bottom: 2px solid #1a1a1a; }
 th.n, td.n { text-align: right; padding-left: .75rem; } tbody .n { white-space: nowrap; }
-tbody th { font-weight: normal; } td:not(.n), thead th:not(.n) { padding-left: .75rem; }
+tbody th { font-weight: normal; } td:last-child:not(.n) { min-width: 17rem; } td:not(.n), thead th:not(.n) { padding-left: .75rem; }
 th:first-child, th.n:first-child { text-align: left; padding-left: 0; }
 .sums td:last-child { font-family: "DejaVu Sans Mono", monospace; font-size: .75rem; overflow-wrap: anywhere; min-width: 16rem; }
 th button { font: inherit; color: inherit; background: none; border: 0; padding: .25rem 0; margin: 0; text-align: inherit; cursor: pointer; }
