@@ -241,19 +241,22 @@ def exceedance_table(of, table_):
     columns = [("Aggregate, full", "full_aep", SAMPLED), ("Occurrence, full", "full_oep", SAMPLED), ("Aggregate, wheatmean", "wheatmean_aep", SAMPLED),
                ("Occurrence, wheatmean", "wheatmean_oep", SAMPLED), ("Aggregate, type 1", "full_aep", ANALYTICAL),
                ("Occurrence, type 1", "full_oep", ANALYTICAL)]
-    rows, summaries = [], 0
+    rows, summaries, cut = [], 0, 0
     for summary in table_.by_loss:
         points = [dict(table_.curve(kind, summary, row_type)) for _, kind, row_type in columns]
         periods = sorted(set().union(*points), reverse=True)
         if rows and len(rows) + len(periods) > of.limit:
             break
         summaries += 1
+        cut += max(len(periods) - of.limit, 0)
         rows += [summary_cells(of, number, summary) + [f"{period:,}"] + [amount(at[period]) if period in at else "–" for at in points]
                  for period in periods[:of.limit]]
     heads = summary_heads(of, number) + [("Return period", True)] + [(name, True) for name, _, _ in columns]
     rest = len(table_.averages) - summaries
     left_out = (f"The return periods of {rest:,} more summaries are in {table_.start}_lec_full_aep.csv and the tables beside it: these are the "
                 "greatest by their average annual loss.") if rest else ""
+    if cut:
+        left_out = f"{cut:,} lesser return periods of summary {rows[0][0]} are in {table_.start}_lec_full_aep.csv and the tables beside it. {left_out}"
     said = f"Losses by return period, {SHORT[table_.perspective]}, set {number}{in_currency(of)}; – where the curve is not that long"
     return table(said, heads, rows, left_out)
 

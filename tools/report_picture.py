@@ -10,6 +10,7 @@ from typing import NamedTuple
 WIDTH = 440
 FONT = 14           # the size of its text
 LETTER = 8.6        # no letter of a number is wider, on average, at that size
+POINTS = 60         # so many return periods a picture has
 LINES = 12          # so many lines a picture has, each with its own colour and mark
 COLOURS = ["#1b5e9e", "#b34700", "#1e7d32", "#a3123a", "#6a3d9a", "#7a5200", "#c2185b", "#006d77", "#4d4d4d", "#3949ab", "#5d7300", "#8e24aa"]
 MARKS = ["M{x} {y}m-4 0a4 4 0 1 0 8 0a4 4 0 1 0-8 0z", "M{x} {y}m-3.5-3.5h7v7h-7z", "M{x} {y}m0-5l5 9h-10z", "M{x} {y}m0-5l5 5-5 5-5-5z"]
@@ -98,7 +99,10 @@ def spread(periods, place):
 
 def curves(ident, title, lines, currency):
     """Exceedance curves: a point where a loss is known, and steps between, for there the loss is at least that of the point before."""
-    periods = sorted({period for line in lines for period, _ in line.points})
+    known = sorted({period for line in lines for period, _ in line.points})
+    periods = thinned(known)
+    kept = set(periods)
+    lines = [line._replace(points=[point for point in line.points if point[0] in kept]) for line in lines]
     greatest = max((cents for line in lines for _, cents in line.points), default=0)
     if not periods:
         return framed(ident, 80, title, "There are no losses.", text(WIDTH / 2, 45, "no losses", "m"))
@@ -120,13 +124,29 @@ def curves(ident, title, lines, currency):
     for period in spread(periods, across):
         x = across(period)
         parts.append(f'<path class="a" d="M{number(x)} {bottom}v5"/>' + text(x, bottom + 20, f"{period:,}", "m"))
-    parts.append(text((LEFT + right) / 2, HEIGHT - 6, "return period, in periods (logarithmic)", "m"))
+    parts.append(text((LEFT + right) / 2, HEIGHT - 6, axis_text(len(periods), len(known)), "m"))
     for line in reversed(lines):
         places = [(number(across(period)), number(up(cents))) for period, cents in line.points]
         path = "".join(f"M{x} {y}" if not at else f"H{x}V{y}" for at, (x, y) in enumerate(places))
         marks = "".join(mark(line.style, across(period), up(cents)) for period, cents in line.points)
         parts.append(f'<path class="s c{line.style}" d="{path}"/><path class="d{line.style}" d="{marks}"/>')
     return framed(ident, HEIGHT, title, described(lines, currency), "".join(parts))
+
+
+def thinned(periods):
+    """Of many return periods those that are some way apart on the axis, the least and the greatest among them."""
+    if len(periods) <= POINTS:
+        return periods
+    apart, kept = math.log(periods[-1] / periods[0]) / (POINTS - 2), periods[:1]
+    for period in periods[1:-1]:
+        if math.log(period / kept[-1]) >= apart:
+            kept.append(period)
+    return kept + periods[-1:]
+
+
+def axis_text(shown, known):
+    """What the axis of return periods counts in, and how many of them the picture leaves out."""
+    return f"return period (logarithmic), {shown} of {known:,} shown" if shown < known else "return period, in periods (logarithmic)"
 
 
 def described(lines, currency):
