@@ -270,8 +270,9 @@ def events(of, table_):
     bars = figure(picture.bars(f"{table_.start}-events", title, [picture.Bar(f"event {event.event}", 0, event.mean) for event in shown],
                                of.subject.currency),
                   f"The mean loss of an event, all summaries of the set together: {count_of(len(shown), table_.event_count)}.")
-    heads = [("Event", True), ("Mean (type\N{NO-BREAK SPACE}2)", True)] + ([("Deviation (type\N{NO-BREAK SPACE}2)", True)] if one else [("Summaries", True)]) + [
-        ("Mean (type\N{NO-BREAK SPACE}1)", True), ("Occurrences", True), ("When it occurs", False)]
+    second = ("Deviation (type\N{NO-BREAK SPACE}2)" if one else "Summaries", True)
+    heads = [("Event", True), ("Mean (type\N{NO-BREAK SPACE}2)", True), second, ("Mean (type\N{NO-BREAK SPACE}1)", True), ("Occurrences", True),
+             ("When it occurs", False)]
     rows = [[str(event.event), amount(event.mean), amount(event.deviation) if one else f"{event.summaries:,}", amount(event.analytical),
              f"{event.count:,}", occurrences(event)] for event in table_.events[:of.limit]]
     rest = table_.event_count - len(rows)

@@ -59,9 +59,10 @@ summary { cursor: pointer; padding: .25rem 0; overflow-wrap: anywhere; }
   .chosen summary { display: block; list-style: none; font-weight: bold; } details:not([open]) { display: none; }
   section { break-before: page; } section:first-of-type { break-before: auto; }
   h2 { margin-top: 0; } h1, h2, h3, caption { break-after: avoid; }
-  figure, tr, .legend, li, dl div { break-inside: avoid; } thead { display: table-header-group; }
+  figure, tr, .legend, li, dl div { break-inside: avoid; } thead { display: table-header-group; break-inside: avoid; }
   .pictures { grid-template-columns: 1fr 1fr; gap: 4mm 6mm; }
-  .scroll { overflow: visible; } caption span { position: static; max-width: none; } table { font-size: 8pt; } th button::after { content: "" !important; }
+  th button { display: contents; }  /* a head with a button in it would not be printed on each page */
+  .scroll { overflow: visible; } caption span { position: static; max-width: none; } table { font-size: 8pt; } th button::after { content: none !important; }
   a { color: inherit; text-decoration: none; }
 }
 """
