@@ -47,11 +47,14 @@ class Limited(NamedTuple):
 def page(subject):
     """The page with as many rows as leave it small enough."""
     periods = periods_of(subject.tables)
-    for limit in LIMITS:
-        text = document(Limited(subject, limit, periods))
-        if len(text.encode("utf-8")) <= MOST_BYTES:
-            break
-    return text
+    limits = LIMITS
+    while True:
+        text = document(Limited(subject, limits[0], periods))
+        size = len(text.encode("utf-8"))
+        if size <= MOST_BYTES or len(limits) == 1:
+            return text
+        # a page is not quite as long as its rows are many: those limits are left out that are too great even so
+        limits = tuple(limit for limit in limits[1:] if limit * size <= 2 * limits[0] * MOST_BYTES) or LIMITS[-1:]
 
 
 def document(of):
