@@ -7,3 +7,9 @@ pub mod RisingLaws
 pub mod LoopLaws
 pub mod Lists
 pub mod ListLaws
+pub mod Placed
+pub mod ById
+pub mod DownLaws
+pub mod SharedPartsLaws
+pub mod AllocateLaws
+pub mod IdLaws

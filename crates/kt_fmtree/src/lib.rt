@@ -1,22 +1,30 @@
 //! The programme of the financial module: its levels, what they carry, and the policy losses of its layers.
 #![tactic(auto)]
 
+mod allocation;
+mod by_id;
 mod carrying;
+mod down;
+mod giving;
 mod levels;
 mod lists;
 mod lookups;
 mod node;
 mod order;
+mod part;
 mod places;
 mod policy;
 mod programme;
 mod shared;
 mod sums;
 
+pub use allocation::allocate;
+pub use by_id::{id_at, total_of, zeros};
 pub use levels::Levels;
 pub use lists::Lists;
 pub use node::Node;
 pub use order::rising;
+pub use part::PlacedPart;
 pub use places::places_of;
 pub use programme::Programme;
 pub use sums::added;

@@ -4,8 +4,8 @@ use Rattle.std.specs.List.{All, AllByRecursion, flat_map, sum}
 use Rattle.std.proofs.lemmas.List.{length-drop, length-take-le}
 use Rattle.std.proofs.lemmas.List.Elements.{recursion_from_All}
 use Rattle.kt_fmtree.specs.declared.node.Node.{Node}
-use Rattle.kt_alloc.specs.Placed.{node_at, parts_from}
-use Rattle.kt_alloc.specs.declared.part.PlacedPart.{PlacedPart}
+use Rattle.kt_fmtree.specs.Placed.{node_at, parts_from}
+use Rattle.kt_fmtree.specs.declared.part.PlacedPart.{PlacedPart}
 use Rattle.kt_levels.specs.Units.{child_losses}
 use Rattle.kt_levels.specs.Down.{AreBacked, given_losses, placed}
 use Rattle.kt_lanes.specs.SharesLaws.{only-share}

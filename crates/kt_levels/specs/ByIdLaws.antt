@@ -9,10 +9,10 @@ use Rattle.std.proofs.lemmas.List.{length-map, length-set}
 use Rattle.std.proofs.lemmas.List.Sums.{sum_by-cons}
 use Rattle.kt_rec.specs.Rising.{IsRising}
 use Rattle.kt_tree.specs.Sharing.{Part, part_of}
-use Rattle.kt_alloc.specs.ById.{with_more}
-use Rattle.kt_alloc.specs.IdLaws.{no-parts, next-part, part-fits, with-found}
-use Rattle.kt_alloc.specs.Placed.{unit_parts}
-use Rattle.kt_alloc.specs.declared.part.PlacedPart.{PlacedPart}
+use Rattle.kt_fmtree.specs.ById.{with_more}
+use Rattle.kt_fmtree.specs.IdLaws.{no-parts, next-part, part-fits, with-found}
+use Rattle.kt_fmtree.specs.Placed.{unit_parts}
+use Rattle.kt_fmtree.specs.declared.part.PlacedPart.{PlacedPart}
 use Rattle.kt_lanes.specs.Lanes.{column, AreWide, AreLanes}
 use Rattle.kt_lanes.specs.SideBySide.{HasMore}
 use Rattle.kt_lanes.specs.LaneLaws.{column-at, set-column, set-wide}

@@ -6,8 +6,8 @@ use Rattle.kt_money.specs.Sharing.{share_out}
 use Rattle.kt_fmtree.specs.Carried.{row_of}
 use Rattle.kt_fmtree.specs.Parts.{Parts}
 use Rattle.kt_fmtree.specs.declared.node.Node.{Node}
-use Rattle.kt_alloc.specs.Placed.{CanShare, node_at, parts_from}
-use Rattle.kt_alloc.specs.declared.part.PlacedPart.{PlacedPart}
+use Rattle.kt_fmtree.specs.Placed.{CanShare, node_at, parts_from}
+use Rattle.kt_fmtree.specs.declared.part.PlacedPart.{PlacedPart}
 use Rattle.kt_lanes.specs.Lanes.{column, AreWide, IsLane}
 use Rattle.kt_levels.specs.Units.{CanTake, child_losses, losses_of}
 use Rattle.kt_lanes.specs.Shares.{HasRoom}

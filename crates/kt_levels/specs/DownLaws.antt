@@ -20,9 +20,9 @@ use Rattle.kt_fmtree.specs.Carried.{node_carry, row_of}
 use Rattle.kt_fmtree.specs.Parts.{Parts, HasProgramme}
 use Rattle.kt_fmtree.specs.LoopLaws.{flat_map-goes}
 use Rattle.kt_fmtree.specs.declared.node.Node.{Node}
-use Rattle.kt_alloc.specs.DownLaws.{shares-length}
-use Rattle.kt_alloc.specs.Placed.{weights, amounts_for, parts_from, children_of, no_node, node_at, given_by, level_down}
-use Rattle.kt_alloc.specs.declared.part.PlacedPart.{PlacedPart}
+use Rattle.kt_fmtree.specs.DownLaws.{shares-length}
+use Rattle.kt_fmtree.specs.Placed.{weights, amounts_for, parts_from, children_of, no_node, node_at, given_by, level_down}
+use Rattle.kt_fmtree.specs.declared.part.PlacedPart.{PlacedPart}
 use Rattle.kt_lanes.specs.Lanes.{column, AreLanes}
 use Rattle.kt_levels.specs.Units.{losses_of, child_losses}
 use Rattle.kt_lanes.specs.LaneLaws.{column-at}

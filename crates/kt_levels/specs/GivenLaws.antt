@@ -6,7 +6,7 @@ use Rattle.std.proofs.Common.{refl, ap}
 use Rattle.std.proofs.lemmas.List.{take_all}
 use Rattle.kt_money.specs.Sharing.{share_out}
 use Rattle.kt_fmtree.specs.declared.node.Node.{Node}
-use Rattle.kt_alloc.specs.Placed.{node_at}
+use Rattle.kt_fmtree.specs.Placed.{node_at}
 use Rattle.kt_lanes.specs.Lanes.{column}
 use Rattle.kt_lanes.specs.BehindLaws.{behind-are, behind-more, behind-none}
 use Rattle.kt_lanes.specs.SideBySide.{AreBehind}

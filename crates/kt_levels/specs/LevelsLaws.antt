@@ -8,9 +8,9 @@ use Rattle.std.proofs.lemmas.List.FromFn.{get_or-map-range_with_len}
 use Rattle.kt_fmtree.specs.Carried.{row_from, row_of, leaf_row}
 use Rattle.kt_fmtree.specs.Parts.{Parts, HasProgramme, units_at}
 use Rattle.kt_fmtree.specs.declared.node.Node.{Node}
-use Rattle.kt_alloc.specs.DownLaws.{can-next, level-few, nodes-places, levels-next}
-use Rattle.kt_alloc.specs.Placed.{level_down, levels_down, node_at}
-use Rattle.kt_alloc.specs.declared.part.PlacedPart.{PlacedPart}
+use Rattle.kt_fmtree.specs.DownLaws.{can-next, level-few, nodes-places, levels-next}
+use Rattle.kt_fmtree.specs.Placed.{level_down, levels_down, node_at}
+use Rattle.kt_fmtree.specs.declared.part.PlacedPart.{PlacedPart}
 use Rattle.kt_lanes.specs.Lanes.{column, IsLane}
 use Rattle.kt_levels.specs.Units.{child_losses, losses_of, CanTake}
 use Rattle.kt_levels.specs.Climbed.{IsClimbed, carried_at, level_lanes}

@@ -5,7 +5,7 @@ use Rattle.std.specs.List.{sum}
 use Rattle.kt_tree.specs.Tree.{Tree, policy_loss}
 use Rattle.kt_fmtree.specs.Carried.{loss_by, row_of}
 use Rattle.kt_fmtree.specs.Parts.{Parts, IsProgramme}
-use Rattle.kt_alloc.specs.Placed.{node_at}
+use Rattle.kt_fmtree.specs.Placed.{node_at}
 use Rattle.kt_lanes.specs.Lanes.{column, IsLane}
 use Rattle.kt_levels.specs.Units.{child_losses, losses_of}
 use Rattle.kt_levels.specs.declared.policy.TopSums.{TopSums}

@@ -19,9 +19,9 @@ use Rattle.kt_fmtree.specs.Parts.{Parts, IsProgramme, HasProgramme, units_at}
 use Rattle.kt_fmtree.specs.PartsLaws.{base-at, beneath-are}
 use Rattle.kt_fmtree.specs.ProgrammeLaws.{programme-carries}
 use Rattle.kt_fmtree.specs.declared.node.Node.{Node}
-use Rattle.kt_alloc.specs.AllocateLaws.{down-are, losses-few, top-can}
-use Rattle.kt_alloc.specs.Placed.{levels_down, no_node, node_at, unit_parts}
-use Rattle.kt_alloc.specs.declared.part.PlacedPart.{PlacedPart}
+use Rattle.kt_fmtree.specs.AllocateLaws.{down-are, losses-few, top-can}
+use Rattle.kt_fmtree.specs.Placed.{levels_down, no_node, node_at, unit_parts}
+use Rattle.kt_fmtree.specs.declared.part.PlacedPart.{PlacedPart}
 use Rattle.kt_lanes.specs.Lanes.{column, AreLanes, IsLane}
 use Rattle.kt_levels.specs.Units.{CanTake, child_losses, losses_of}
 use Rattle.kt_lanes.specs.BehindLaws.{behind-are}

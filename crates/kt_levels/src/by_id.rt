@@ -5,8 +5,8 @@ ghost use Rattle.std.specs.List.{flat_map, sum_by};
 ghost use Rattle.kt_rec.specs.Rising.{IsRising};
 ghost use Rattle.kt_tree.specs.Sharing.{part_of};
 ghost use Rattle.kt_fmtree.specs.Parts.{units_at};
-ghost use Rattle.kt_alloc.specs.Placed.{levels_down, unit_parts};
-ghost use Rattle.kt_alloc.specs.ById.{with_more};
+ghost use Rattle.kt_fmtree.specs.Placed.{levels_down, unit_parts};
+ghost use Rattle.kt_fmtree.specs.ById.{with_more};
 ghost use Rattle.kt_lanes.specs.Lanes.{column, AreWide, AreLanes};
 ghost use Rattle.kt_levels.specs.Climbed.{IsClimbed, carried_at};
 ghost use Rattle.kt_lanes.specs.SideBySide.{AreBehind, BeginsWith};
@@ -14,8 +14,7 @@ ghost use Rattle.kt_levels.specs.Down.{ArePlaced, AreLevelSums, AreSumsOf, CanGi
 
 use crate::climbing::{Climbed, lanes_at};
 use crate::down::{LevelRoom, PlacedLanes, level_by_unit, level_down, place_children, push_given};
-use kt_alloc::id_at;
-use kt_fmtree::{Node, Programme};
+use kt_fmtree::{Node, Programme, id_at};
 use kt_lanes::{Amounts, Lanes, OneLane};
 use std::alloc::{AllocError, Global};
 

@@ -3,7 +3,7 @@
 ghost use Rattle.std.specs.Prelude.{◌≡◌, ◌+◌, ◌-◌, ◌≤◌, ◌<◌, ◌^◌, ◌++◌, ◌∷◌, [], ℕ, true, false, length, map, All, IfOk, IfSome, OnErr, OnOk, slice_index, slice_index_or};
 ghost use Rattle.std.specs.List.{flat_map, range_with_len, sum};
 ghost use Rattle.kt_money.specs.Sharing.{share_out};
-ghost use Rattle.kt_alloc.specs.Placed.{node_at};
+ghost use Rattle.kt_fmtree.specs.Placed.{node_at};
 ghost use Rattle.kt_lanes.specs.Lanes.{column, AreWide, IsLane};
 ghost use Rattle.kt_levels.specs.Units.{CanTake, child_losses};
 ghost use Rattle.kt_lanes.specs.Shares.{HasRoom};

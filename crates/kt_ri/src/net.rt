@@ -13,7 +13,7 @@ ghost use Rattle.kt_ri.specs.Ceded.{AreCeded, AreRows, part_behind, record_behin
 
 use crate::ceding::CedingProgramme;
 use crate::places::{place_near, record_places};
-use kt_alloc::zeros;
+use kt_fmtree::zeros;
 use kt_lanes::Lanes;
 use kt_shares::{LossLanes, RunLosses};
 use std::alloc::{AllocError, Global};

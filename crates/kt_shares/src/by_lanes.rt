@@ -15,8 +15,7 @@ ghost use Rattle.kt_shares.specs.Shares.{shares};
 ghost use Rattle.kt_shares.specs.ByLanes.{AreLayers, HasLayerRoom, IsPlainLayer};
 
 use crate::layers::TopLayer;
-use kt_alloc::zeros;
-use kt_fmtree::Programme;
+use kt_fmtree::{Programme, zeros};
 use kt_lanes::Lanes;
 use kt_levels::{
     Climbed, LevelRoom, TopSums, allocate_lanes, layer_looks_back, level_room_of, no_sums,

@@ -10,8 +10,7 @@ ghost use Rattle.kt_shares.specs.ByLanes.{AreLayers, AreLong, AreRows, amounts_a
 use crate::by_lanes::LayerLanes;
 use crate::layers::TopLayer;
 use crate::row::row_of;
-use kt_alloc::zeros;
-use kt_fmtree::Programme;
+use kt_fmtree::{Programme, zeros};
 use kt_lanes::Lanes;
 use std::alloc::{AllocError, Global};
 

@@ -7,7 +7,7 @@ ghost use Rattle.kt_stream.specs.Pairs.{IsPair};
 ghost use Rattle.kt_runs.specs.RunLosses.{AreWithin, loss_of};
 ghost use Rattle.kt_runs.specs.Sidx.{sidx_at};
 ghost use Rattle.kt_rec.specs.Rising.{IsRising};
-ghost use Rattle.kt_alloc.specs.ById.{with_more};
+ghost use Rattle.kt_fmtree.specs.ById.{with_more};
 ghost use Rattle.kt_lanes.specs.Lanes.{AreLanes, AreWide, IsLane, column};
 ghost use Rattle.kt_shares.specs.Shares.{ids_of};
 ghost use Rattle.kt_shares.specs.Table.{row_place};

@@ -10,8 +10,7 @@ ghost use Rattle.kt_shares.specs.Layers.{IsTopLayer};
 ghost use Rattle.kt_shares.specs.Row.{HasRow};
 
 use crate::layers::TopLayer;
-use kt_alloc::{allocate, zeros};
-use kt_fmtree::{Levels, Programme};
+use kt_fmtree::{Levels, Programme, allocate, zeros};
 use std::alloc::{AllocError, Global};
 
 /// What layers have at one sidx.

@@ -3,8 +3,8 @@ use Rattle.std.proofs.lemmas.Option.{IfSome_then}
 use Rattle.std.specs.List.{flat_map}
 use Rattle.kt_tree.specs.Sharing.{part_of}
 use Rattle.kt_fmtree.specs.Parts.{units_at}
-use Rattle.kt_alloc.specs.Placed.{levels_down, unit_parts}
-use Rattle.kt_alloc.specs.declared.part.PlacedPart.{PlacedPart}
+use Rattle.kt_fmtree.specs.Placed.{levels_down, unit_parts}
+use Rattle.kt_fmtree.specs.declared.part.PlacedPart.{PlacedPart}
 use Rattle.kt_lanes.specs.Lanes.{column}
 use Rattle.kt_lanes.specs.BehindLaws.{behind-are}
 use Rattle.kt_levels.specs.Climbed.{carried_at}

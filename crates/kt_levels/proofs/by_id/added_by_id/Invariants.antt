@@ -1,7 +1,7 @@
 use Rattle.std.proofs.Common.{length, map, take}
 use Rattle.kt_tree.specs.Sharing.{part_of}
 use Rattle.kt_fmtree.specs.Parts.{units_at}
-use Rattle.kt_alloc.specs.Placed.{unit_parts}
+use Rattle.kt_fmtree.specs.Placed.{unit_parts}
 use Rattle.kt_lanes.specs.Lanes.{AreLanes}
 use Rattle.kt_levels.specs.Down.{placed_at}
 use Rattle.kt_levels.proofs.by_id.added_by_id.Given as goal

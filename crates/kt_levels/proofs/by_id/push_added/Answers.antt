@@ -2,7 +2,7 @@ use Rattle.std.proofs.Common.{length, map}
 use Rattle.std.proofs.lemmas.Result.{on_ok_weaker}
 use Rattle.kt_tree.specs.Sharing.{part_of}
 use Rattle.kt_fmtree.specs.Parts.{units_at}
-use Rattle.kt_alloc.specs.Placed.{unit_parts}
+use Rattle.kt_fmtree.specs.Placed.{unit_parts}
 use Rattle.kt_lanes.specs.BehindLaws.{lanes-behind}
 use Rattle.kt_levels.specs.Down.{placed_at}
 use Rattle.kt_levels.proofs.by_id.push_added.Goals as goal

@@ -4,8 +4,8 @@ use Rattle.std.proofs.lemmas.List.{length-map}
 use Rattle.std.proofs.lemmas.Result.{on_ok_weaker}
 use Rattle.kt_tree.specs.Sharing.{part_of}
 use Rattle.kt_fmtree.specs.Parts.{units_at}
-use Rattle.kt_alloc.specs.Placed.{unit_parts}
-use Rattle.kt_alloc.specs.declared.part.PlacedPart.{PlacedPart}
+use Rattle.kt_fmtree.specs.Placed.{unit_parts}
+use Rattle.kt_fmtree.specs.declared.part.PlacedPart.{PlacedPart}
 use Rattle.kt_lanes.specs.Lanes.{column}
 use Rattle.kt_levels.specs.Down.{amounts_of, child_places, given_losses, placed_at}
 use Rattle.kt_levels.specs.DownLaws.{children-within, places-given}

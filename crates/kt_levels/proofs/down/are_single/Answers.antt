@@ -2,7 +2,7 @@ use Rattle.std.proofs.Common.{◌≡◌, ◌∙◌, ℕ, slice_index, take, ap, 
 use Rattle.std.specs.List.{All}
 use Rattle.std.proofs.lemmas.List.{get_or_default, take_more, take_all}
 use Rattle.kt_fmtree.specs.declared.node.Node.{Node}
-use Rattle.kt_alloc.specs.Placed.{no_node, node_at}
+use Rattle.kt_fmtree.specs.Placed.{no_node, node_at}
 use Rattle.kt_lanes.specs.LaneLaws.{All-more}
 use Rattle.kt_levels.proofs.down.are_single.Goals as goal
 

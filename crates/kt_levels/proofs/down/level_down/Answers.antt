@@ -2,7 +2,7 @@ use Rattle.std.proofs.Common.{◌≡◌, ◌<◌, ◌∙◌, ℕ, List, length, 
 use Rattle.std.specs.List.{All}
 use Rattle.std.proofs.lemmas.List.{length-map}
 use Rattle.std.proofs.lemmas.Result.{on_ok_weaker}
-use Rattle.kt_alloc.specs.Placed.{no_node, node_at}
+use Rattle.kt_fmtree.specs.Placed.{no_node, node_at}
 use Rattle.kt_lanes.specs.Lanes.{AreWide, column}
 use Rattle.kt_levels.specs.Down.{ArePlaced, placed, placed_at}
 use Rattle.kt_levels.proofs.SingleLemmas.{IsSingle, singles-given}

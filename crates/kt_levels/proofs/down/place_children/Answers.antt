@@ -3,7 +3,7 @@ use Rattle.std.specs.List.{flat_map, range_with_len}
 use Rattle.std.proofs.lemmas.List.{get_or_default, take_all}
 use Rattle.kt_fmtree.specs.declared.node.Node.{Node}
 use Rattle.kt_fmtree.specs.LoopLaws.{flat_map-goes}
-use Rattle.kt_alloc.specs.Placed.{no_node}
+use Rattle.kt_fmtree.specs.Placed.{no_node}
 use Rattle.kt_levels.specs.Down.{child_places}
 use Rattle.kt_levels.proofs.down.place_children.Goals as goal
 

@@ -2,7 +2,7 @@ use Rattle.std.proofs.Common.{ℕ, slice_index, ap}
 use Rattle.std.proofs.lemmas.List.{get_or_default}
 use Rattle.kt_fmtree.specs.declared.node.Node.{Node}
 use Rattle.kt_fmtree.specs.LoopLaws.{map-goes}
-use Rattle.kt_alloc.specs.Placed.{no_node, node_at}
+use Rattle.kt_fmtree.specs.Placed.{no_node, node_at}
 use Rattle.kt_levels.proofs.down.place_starts.Goals as goal
 
 pub loop-place-preserved : goal.loop-place-preserved

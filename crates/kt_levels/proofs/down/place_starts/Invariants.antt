@@ -1,5 +1,5 @@
 use Rattle.std.proofs.Common.{◌≡◌, map, take}
-use Rattle.kt_alloc.specs.Placed.{node_at}
+use Rattle.kt_fmtree.specs.Placed.{node_at}
 use Rattle.kt_levels.proofs.down.place_starts.Given as goal
 
 abbrev pub invariant-loop-place : goal.invariant-loop-place

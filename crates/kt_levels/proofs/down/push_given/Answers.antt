@@ -4,7 +4,7 @@ use Rattle.std.proofs.lemmas.Option.{IfSome_then}
 use Rattle.std.proofs.lemmas.List.{get_or_default}
 use Rattle.kt_money.specs.Sharing.{share_out}
 use Rattle.kt_fmtree.specs.declared.node.Node.{Node}
-use Rattle.kt_alloc.specs.Placed.{no_node, node_at}
+use Rattle.kt_fmtree.specs.Placed.{no_node, node_at}
 use Rattle.kt_lanes.specs.Lanes.{AreWide, IsLane, column}
 use Rattle.kt_levels.specs.Units.{CanTake, child_losses}
 use Rattle.kt_lanes.specs.Shares.{HasRoom}

@@ -1,6 +1,6 @@
 use Rattle.std.proofs.Common.{◌<◌, ◌∙◌, Vec, ℕ, Global, length, map, ap, refl, subst, sym}
 use Rattle.std.specs.List.{All}
-use Rattle.kt_alloc.specs.Placed.{node_at}
+use Rattle.kt_fmtree.specs.Placed.{node_at}
 use Rattle.kt_levels.proofs.down.starts_down.Goals as goal
 
 pub place_starts-requires : goal.place_starts-requires

@@ -1,9 +1,9 @@
 use Rattle.std.proofs.Common.{◌≡◌, ◌-◌, ◌∷◌, [], ◌∙◌, slice_index_or, ℕ, List, false, length, sym, ap, subst, arith}
 use Rattle.std.specs.List.{sum}
 use Rattle.kt_fmtree.specs.Carried.{row_of}
-use Rattle.kt_alloc.specs.AllocateLaws.{beneath-rises}
-use Rattle.kt_alloc.specs.Placed.{levels_down, node_at}
-use Rattle.kt_alloc.specs.declared.part.PlacedPart.{PlacedPart}
+use Rattle.kt_fmtree.specs.AllocateLaws.{beneath-rises}
+use Rattle.kt_fmtree.specs.Placed.{levels_down, node_at}
+use Rattle.kt_fmtree.specs.declared.part.PlacedPart.{PlacedPart}
 use Rattle.kt_lanes.specs.LaneLaws.{All-first}
 use Rattle.kt_lanes.specs.Lanes.{IsLane, column}
 use Rattle.kt_levels.specs.Climbed.{carried_at}

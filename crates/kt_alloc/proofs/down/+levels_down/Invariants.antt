@@ -1,4 +1,0 @@
-use Rattle.kt_alloc.proofs.down.+levels_down.Given as goal
-
-abbrev pub decreases-levels_down : goal.decreases-levels_down
-decreases-levels_down l = l.level

@@ -1,0 +1,185 @@
+-- Laws of amounts of ids, in order of id.
+-- The rule: docs/FINANCIAL_MODULE.md, "Allocation".
+use Rattle.std.proofs.Common.{◌≡◌, ℕ, zero, suc, ◌+◌, ◌<◌, ◌≤◌, ◌^◌, Bool, true, false, cond, nat_eq, List, [], ◌∷◌, ◌++◌, length, map, take, drop, get_or, refl, sym, ap, subst, ◌∙◌, arith, drop-cons, add-one, append_assoc, append-nil, ◌⊎◌, inl, inr, slice_set, Equal}
+use Rattle.std.specs.Prelude.{Err, ◌||◌, replicate}
+use Rattle.std.specs.List.{AllByRecursion, list_any, sum, sum_by}
+use Rattle.std.specs.List.Sorted.{IsBinarySearchResult}
+use Rattle.std.specs.Ordering.{nat_cmp}
+use Rattle.std.specs.FinMap.{nat_cmp-IsAntisymmetric}
+use Rattle.std.specs.Cmp.{nat_eq_equiv}
+use Rattle.std.proofs.lemmas.Bool.{eqb-true, true≢false}
+use Rattle.std.proofs.lemmas.List.{map-append, take_more, get_or-map}
+use Rattle.std.proofs.lemmas.List.Sums.{sum_by-cons, sum_by-append, sum_by-take-le}
+use Rattle.kt_money.specs.Sharing.{Sharing, share_of, shares_after, share_out}
+use Rattle.kt_rec.specs.Rising.{IsRising}
+use Rattle.kt_tree.specs.Sums.{sum_by-below}
+use Rattle.kt_tree.specs.Sharing.{Part, part_of}
+use Rattle.kt_fmtree.specs.RisingLaws.{not-missed}
+use Rattle.kt_fmtree.specs.Placed.{unit_parts}
+use Rattle.kt_fmtree.specs.ById.{with_more}
+use Rattle.kt_fmtree.specs.declared.part.PlacedPart.{PlacedPart}
+use Rattle.kt_fmtree.specs.DownLaws.{sum_by-map}
+
+-- ---- more for one id
+
+-- what is above an id is not that id
+above-none : (id : ℕ) (ids : List ℕ) → AllByRecursion (λ other. id < other) ids → list_any (nat_eq id) ids ≡ false
+above-none id [] above = refl
+above-none id (other ∷ ids) above = by (nat_eq id other) refl (above-none id ids above.1)
+  where
+    by : (b : Bool) → nat_eq id other ≡ b → list_any (nat_eq id) ids ≡ false → (b || list_any (nat_eq id) ids) ≡ false
+    by true is rest = let same = eqb-true id other is in let less = above.0 in absurd (omega arith)
+    by false is rest = rest
+
+with-none : (ids amounts : List ℕ) (id more : ℕ) → length amounts ≡ length ids → list_any (nat_eq id) ids ≡ false → with_more ids amounts id more ≡ amounts
+with-none [] [] id more same none = refl
+with-none [] (amount ∷ amounts) id more same none = absurd (omega arith)
+with-none (first ∷ ids) [] id more same none = absurd (omega arith)
+with-none (first ∷ ids) (amount ∷ amounts) id more same none = by (nat_eq id first) none (with-none ids amounts id more (omega arith))
+  where
+    plus-none : amount + 0 ≡ amount
+    plus-none = omega arith
+
+    by : (b : Bool) → (b || list_any (nat_eq id) ids) ≡ false → (list_any (nat_eq id) ids ≡ false → with_more ids amounts id more ≡ amounts) → (amount + cond b more 0) ∷ with_more ids amounts id more ≡ amount ∷ amounts
+    by true none rest = absurd (true≢false none)
+    by false none rest = ap (λ n. n ∷ with_more ids amounts id more) plus-none ∙ ap (λ ns. amount ∷ ns) (rest none)
+
+-- an id that is not found has nothing more
+pub with-missed : (ids amounts : List ℕ) (id more at : ℕ) → IsRising ids → length amounts ≡ length ids → IsBinarySearchResult (λ other. nat_cmp other id) ids (Err at) → amounts ≡ with_more ids amounts id more
+with-missed ids amounts id more at rises same missed = by (list_any (nat_eq id) ids) refl
+  where
+    by : (b : Bool) → list_any (nat_eq id) ids ≡ b → amounts ≡ with_more ids amounts id more
+    by true member = absurd (not-missed ids id at rises member missed)
+    by false none = sym (with-none ids amounts id more same none)
+
+-- an id that compares as equal is the one
+pub found-here : (ids : List ℕ) (id place : ℕ) → ((d : ℕ) → nat_cmp (get_or ids place d) id ≡ Equal) → get_or ids place 0 ≡ id
+found-here ids id place equal = nat_cmp-IsAntisymmetric (get_or ids place 0) id (equal 0)
+
+-- an id that is found has more
+pub with-found : (ids amounts : List ℕ) (id more place : ℕ) → IsRising ids → length amounts ≡ length ids → place < length ids → get_or ids place 0 ≡ id → slice_set amounts place (get_or amounts place 0 + more) ≡ with_more ids amounts id more
+unfolding IsRising
+with-found [] amounts id more place rises same below here = absurd (omega arith)
+with-found (first ∷ ids) [] id more place rises same below here = absurd (omega arith)
+with-found (first ∷ ids) (amount ∷ amounts) id more zero rises same below here =
+    let none : list_any (nat_eq id) ids ≡ false = subst (λ n. list_any (nat_eq n) ids ≡ false) here (above-none first ids rises.0) in
+    let hit : nat_eq id first ≡ true = subst (λ n. nat_eq n first ≡ true) here (nat_eq_equiv.refl first) in
+    sym (ap (λ b. (amount + cond b more 0) ∷ with_more ids amounts id more) hit ∙ ap (λ ns. (amount + more) ∷ ns) (with-none ids amounts id more (omega arith) none))
+with-found (first ∷ ids) (amount ∷ amounts) id more (suc place) rises same below here =
+    let apart : nat_eq id first ≡ false = other (nat_eq id first) refl in
+    let e : amount + 0 ≡ amount = omega arith in
+    ap (λ ns. amount ∷ ns) (with-found ids amounts id more place rises.1 (omega arith) (omega arith) here)
+    ∙ (ap (λ n. n ∷ with_more ids amounts id more) (sym e) ∙ ap (λ b. (amount + cond b more 0) ∷ with_more ids amounts id more) (sym apart))
+  where
+    above-at : (ids : List ℕ) → AllByRecursion (λ other. first < other) ids → (j : ℕ) → j < length ids → first < get_or ids j 0
+    above-at [] all j below = absurd (omega arith)
+    above-at (other ∷ others) all zero below = all.0
+    above-at (other ∷ others) all (suc j) below = above-at others all.1 j (omega arith)
+
+    other : (b : Bool) → nat_eq id first ≡ b → nat_eq id first ≡ false
+    other true is = let e = eqb-true id first is in let up = above-at ids rises.0 place (omega arith) in absurd (omega arith)
+    other false is = is
+
+-- ---- parts, one after the other
+
+-- the amounts of parts with one more
+pub more-parts : (parts : List Part) (id amount : ℕ) (ids : List ℕ) → with_more ids (map (part_of parts) ids) id amount ≡ map (part_of (parts ++ record { unit = id; amount = amount } ∷ [])) ids
+more-parts parts id amount [] = refl
+more-parts parts id amount (first ∷ ids) =
+    let part : Part = record { unit = id; amount = amount } in
+    let e : part_of parts first + cond (nat_eq id first) amount 0 ≡ part_of (parts ++ part ∷ []) first = omega (arith, sum_by-append (λ x. cond (nat_eq x.unit first) x.amount 0) parts (part ∷ []), sum_by-cons (λ x. cond (nat_eq x.unit first) x.amount 0) part []) in
+    ap (λ n. n ∷ with_more ids (map (part_of parts) ids) id amount) e ∙ ap (λ ns. part_of (parts ++ part ∷ []) first ∷ ns) (more-parts parts id amount ids)
+
+pub no-parts : (ids : List ℕ) → replicate (length ids) 0 ≡ map (part_of []) ids
+no-parts [] = refl
+no-parts (id ∷ ids) = ap (λ ns. 0 ∷ ns) (no-parts ids)
+
+-- what an id has is not above all
+part_of-le : (parts : List Part) (id : ℕ) → part_of parts id ≤ sum_by (λ part. part.amount) parts
+part_of-le parts id = sum_by-below (λ part. cond (nat_eq part.unit id) part.amount 0) (λ part. part.amount) parts (λ part. few (nat_eq part.unit id) part.amount)
+  where
+    few : (b : Bool) (amount : ℕ) → cond b amount 0 ≤ amount
+    few true amount = omega arith
+    few false amount = omega arith
+
+-- the next part fits
+pub part-fits : (units ids amounts : List ℕ) (parts : List PlacedPart) (at : ℕ) (d : PlacedPart) → at < length parts → sum_by (λ part. part.amount) parts ≤ 10 ^ 17 → amounts ≡ map (part_of (unit_parts units (take at parts))) ids → (place : ℕ) → place < length ids → get_or amounts place 0 + (get_or parts at d).amount ≤ 10 ^ 17
+part-fits units ids amounts parts at d below few amounts_are place inside =
+    let now = take at parts in
+    let next = get_or parts at d in
+    let here : get_or amounts place 0 ≡ part_of (unit_parts units now) (get_or ids place 0) = ap (λ ns. get_or ns place 0) amounts_are ∙ get_or-map (part_of (unit_parts units now)) ids place 0 0 inside in
+    let some = part_of-le (unit_parts units now) (get_or ids place 0) in
+    let same : sum_by (λ part. part.amount) (unit_parts units now) ≡ sum_by (λ part. part.amount) now = sum_by-map _ _ now in
+    omega (arith, here, some, same, ap (sum_by (λ (part : PlacedPart). part.amount)) (take_more parts at d below), sum_by-append (λ (part : PlacedPart). part.amount) now (next ∷ []), sum_by-cons (λ (part : PlacedPart). part.amount) next [], sum_by-take-le (λ (part : PlacedPart). part.amount) parts (at + 1), few)
+
+pub next-part : (units ids amounts more : List ℕ) (parts : List PlacedPart) (at id : ℕ) (d : PlacedPart) → at < length parts → amounts ≡ map (part_of (unit_parts units (take at parts))) ids → id ≡ get_or units (get_or parts at d).place 0 → more ≡ with_more ids amounts id (get_or parts at d).amount → more ≡ map (part_of (unit_parts units (take (at + 1) parts))) ids
+next-part units ids amounts more parts at id d below so_far id_is more_is =
+    let now = take at parts in
+    let next = get_or parts at d in
+    more_is
+    ∙ (ap (λ ns. with_more ids ns id next.amount) so_far
+    ∙ (ap (λ n. with_more ids (map (part_of (unit_parts units now)) ids) n next.amount) id_is
+    ∙ (more-parts (unit_parts units now) (get_or units next.place 0) next.amount ids
+    ∙ (ap (λ ps. map (part_of ps) ids) (sym (map-append (λ (part : PlacedPart). record { unit = get_or units part.place 0; amount = part.amount }) now (next ∷ [])))
+    ∙ ap (λ ps. map (part_of (unit_parts units ps)) ids) (sym (take_more parts at d below))))))
+
+-- ---- shares, one after the other
+
+pub few-some : (total weights : ℕ) → total ≤ weights → (0 < weights) ⊎ (total ≡ 0)
+few-some total zero few = inr (omega arith)
+few-some total (suc n) few = inl (omega arith)
+
+-- how far a total has been shared out
+pub record IsSharingBy (total : ℕ) (weights now : List ℕ) (sharing : Sharing) (at : ℕ) : Type 0 where
+  pub total_is : sharing.total ≡ total
+  pub weights_are : sharing.weights ≡ sum weights
+  pub left : sharing.given + sum (drop at weights) ≡ sum weights
+  pub shares_are : now ++ shares_after total (sum weights) sharing.given (drop at weights) ≡ share_out total weights
+
+pub shares-begin : (total wide : ℕ) (weights : List ℕ) (sharing : Sharing) → wide ≡ sum weights → sharing ≡ record { total = total; weights = wide; given = 0 } → IsSharingBy total weights [] sharing 0
+shares-begin total wide weights sharing wide_is sharing_is = record {
+  total_is = ap (λ (s : Sharing). s.total) sharing_is;
+  weights_are = ap (λ (s : Sharing). s.weights) sharing_is ∙ wide_is;
+  left = ap (λ (s : Sharing). s.given + sum weights) sharing_is ∙ none (sum weights);
+  shares_are = ap (λ (s : Sharing). shares_after total (sum weights) s.given weights) sharing_is;
+}
+  where
+    none : (n : ℕ) → 0 + n ≡ n
+    none n = omega arith
+
+next-weight : (weights : List ℕ) (at : ℕ) → at < length weights → drop at weights ≡ get_or weights at 0 ∷ drop (at + 1) weights
+next-weight weights at below = rw (add-one, drop-cons weights at 0) refl
+
+pub shares-fit : (total : ℕ) (weights now : List ℕ) (sharing : Sharing) (at : ℕ) → at < length weights → IsSharingBy total weights now sharing at → sharing.given + get_or weights at 0 ≤ sharing.weights
+shares-fit total weights now sharing at below so_far =
+    omega (arith, so_far.left, so_far.weights_are, ap sum (next-weight weights at below), sum_by-cons (λ (n : ℕ). n) (get_or weights at 0) (drop (at + 1) weights))
+
+pub shares-go : (total : ℕ) (weights now more : List ℕ) (sharing after : Sharing) (at share : ℕ) → at < length weights → IsSharingBy total weights now sharing at
+    → share ≡ share_of sharing.total sharing.weights sharing.given (get_or weights at 0)
+    → after ≡ record sharing { given = sharing.given + get_or weights at 0 }
+    → more ≡ now ++ share ∷ []
+    → IsSharingBy total weights more after (at + 1)
+shares-go total weights now more sharing after at share below so_far share_is after_is more_is =
+    let w = get_or weights at 0 in
+    let next = next-weight weights at below in
+    let given : after.given ≡ sharing.given + w = ap (λ (s : Sharing). s.given) after_is in
+    let same : share ≡ share_of total (sum weights) sharing.given w = share_is ∙ (ap (λ t. share_of t sharing.weights sharing.given w) so_far.total_is ∙ ap (λ n. share_of total n sharing.given w) so_far.weights_are) in
+    record {
+      total_is = ap (λ (s : Sharing). s.total) after_is ∙ so_far.total_is;
+      weights_are = ap (λ (s : Sharing). s.weights) after_is ∙ so_far.weights_are;
+      left = omega (arith, given, so_far.left, ap sum next, sum_by-cons (λ (n : ℕ). n) w (drop (at + 1) weights));
+      shares_are =
+          ap (λ ns. ns ++ shares_after total (sum weights) after.given (drop (at + 1) weights)) more_is
+          ∙ (append_assoc now _ _
+          ∙ (ap (λ g. now ++ (share ∷ shares_after total (sum weights) g (drop (at + 1) weights))) given
+          ∙ (ap (λ s. now ++ (s ∷ shares_after total (sum weights) (sharing.given + w) (drop (at + 1) weights))) same
+          ∙ (ap (λ ws. now ++ shares_after total (sum weights) sharing.given ws) (sym next) ∙ so_far.shares_are))));
+    }
+
+pub shares-end : (total : ℕ) (weights now : List ℕ) (sharing : Sharing) → IsSharingBy total weights now sharing (length weights) → now ≡ share_out total weights
+shares-end total weights now sharing so_far =
+    sym (append-nil now) ∙ (ap (λ ws. now ++ shares_after total (sum weights) sharing.given ws) (sym (none weights)) ∙ so_far.shares_are)
+  where
+    none : (weights : List ℕ) → drop (length weights) weights ≡ []
+    none [] = refl
+    none (w ∷ weights) = none weights
