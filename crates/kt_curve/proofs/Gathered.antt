@@ -2,12 +2,12 @@
 use Rattle.std.proofs.Common.{◌≡◌, ◌+◌, ◌-◌, ℕ, List, [], ◌∷◌, ◌++◌, length, slice_index_or, refl, ap, sym, subst, ◌∙◌, arith, Bool}
 use Rattle.std.proofs.lemmas.List.{length_push, get_or_push}
 use Rattle.kt_rec.specs.declared.perspective.CellKey.{CellKey}
-use Rattle.kt_amounts.specs.declared.amount_list.AmountList.{AmountList}
+use Rattle.kt_ranks.specs.declared.amount_list.AmountList.{AmountList}
 use Rattle.kt_period_cells.specs.declared.cell.Cell.{Cell}
 use Rattle.kt_period_cells.specs.declared.group.SummaryCells.{SummaryCells}
 use Rattle.kt_period_cells.specs.SummaryRows.{group_entries}
 use Rattle.kt_period_cells.specs.Amounts.{amounts_of, of_sample}
-use Rattle.kt_amounts.specs.AmountLists.{AreSamplesDown, listed}
+use Rattle.kt_ranks.specs.AmountLists.{AreSamplesDown, listed}
 
 -- the last list has the amounts of the sample that its place tells
 pub taken_amounts : (maxima : Bool) (entries : List (CellKey × Cell)) (last sample : ℕ) (old now : List AmountList) (found : AmountList) → old ≡ now ++ found ∷ [] → sample + length old ≡ last + 1 → AreSamplesDown maxima entries last old → listed found ≡ amounts_of maxima (of_sample sample) entries

@@ -11,9 +11,9 @@ ghost use Rattle.kt_period_cells.specs.Amounts.{amount_at};
 ghost use Rattle.kt_period_cells.specs.SummaryRows.{group_entries, part_entries, IsPart, IsSummary};
 ghost use Rattle.kt_curve.specs.Average.{aal_heading_text, aal_row, aal_rows, average_annual_loss_rows};
 
-use kt_amounts::kind_amounts;
 use kt_money::{Bytes, MeanSd, OutOfMemory, Row, mean_sd};
 use kt_period_cells::{Cells, SetCells, SummaryCells};
+use kt_ranks::kind_amounts;
 use kt_rec::Perspective;
 use std::alloc::Global;
 

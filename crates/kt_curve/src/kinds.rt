@@ -8,10 +8,9 @@ ghost use Rattle.kt_ranks.specs.RankedLosses.{curve_rows};
 ghost use Rattle.kt_curve.specs.Exceedance.{full_rows};
 
 use crate::average::count_of;
-use kt_amounts::kind_amounts;
 use kt_money::{Bytes, OutOfMemory};
 use kt_period_cells::SummaryCells;
-use kt_ranks::append_values;
+use kt_ranks::{append_values, kind_amounts};
 use std::alloc::Global;
 
 /// Appends the rows of one type of a full curve. An error is want of memory.

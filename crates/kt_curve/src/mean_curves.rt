@@ -7,10 +7,9 @@ ghost use Rattle.kt_period_cells.specs.SummaryRows.{group_entries, IsSummary};
 ghost use Rattle.kt_ranks.specs.RankedLosses.{curve_rows};
 ghost use Rattle.kt_curve.specs.Exceedance.{period_means};
 
-use kt_amounts::add_periods;
 use kt_money::{Bytes, OutOfMemory, div_half_up};
 use kt_period_cells::SummaryCells;
-use kt_ranks::append_values;
+use kt_ranks::{add_periods, append_values};
 use std::alloc::Global;
 
 /// The means of sums over the samples, to the nearest cent, halves up. An error is want of memory.

@@ -4,9 +4,9 @@ ghost use Rattle.std.specs.Prelude.{◌≡◌, ◌≤◌, IfOk, IfSome};
 ghost use Rattle.kt_period_cells.specs.Amounts.{amounts_of, of_sample};
 ghost use Rattle.kt_period_cells.specs.SummaryRows.{group_entries, IsSummary};
 
-use kt_amounts::{AmountList, samples_down};
 use kt_money::OutOfMemory;
 use kt_period_cells::SummaryCells;
+use kt_ranks::{AmountList, samples_down};
 use std::alloc::Global;
 use std::marker::Model;
 
@@ -26,7 +26,7 @@ pub(crate) struct SampleAmounts<'a> {
 }
 
 impl<'a> Model for SampleAmounts<'a> {
-    ghost use Rattle.kt_amounts.specs.AmountLists.{AreSamplesDown};
+    ghost use Rattle.kt_ranks.specs.AmountLists.{AreSamplesDown};
     ghost use Rattle.kt_period_cells.specs.SummaryRows.{group_entries};
     ghost use Rattle.kt_period_cells.specs.declared.group.SummaryCells.{SummaryCells};
 

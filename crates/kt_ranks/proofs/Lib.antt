@@ -1,3 +1,5 @@
 -- The modules of proofs for the ranks.
 mod RankLemmas
 mod RowLemmas
+pub mod RowAmounts
+pub mod ListsOfSamples

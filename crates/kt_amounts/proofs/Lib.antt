@@ -1,2 +1,0 @@
-pub mod RowAmounts
-pub mod ListsOfSamples
