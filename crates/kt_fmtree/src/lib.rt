@@ -1,4 +1,5 @@
-//! The programme of the financial module: its levels, what they carry, and the policy losses of its layers.
+//! The programme of the financial module: its levels, what they carry, the policy losses of its layers, and these shared back to the
+//! ids beneath a top.
 #![tactic(auto)]
 
 mod allocation;

@@ -4,7 +4,7 @@
 use std::alloc::{AllocError, AllocFailed};
 use std::io;
 
-/// No memory was there, or nothing could be printed.
+/// A table could not be made, no memory was there, or nothing could be printed.
 #[derive(Clone, Copy)]
 pub(crate) struct Failure;
 

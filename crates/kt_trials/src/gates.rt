@@ -1,25 +1,17 @@
-//! Sees which parts of a round are made side by side, by a gate that holds each until its group has begun, and prints each run that
-//! is not as it must be, and how many were tried; then prints what runs of three rounds ask of the footprint's file.
+//! Sees which parts of a round of `chain` are made side by side, by a gate that holds each until its group has begun, and prints each
+//! run that is not as it must be, and how many were tried.
 //! What is tried: README.md.
 //! The rule: docs/PROVING.md, "Tests".
-#![tactic(auto)]
 
-mod failure;
-mod gate;
-mod reads;
-mod tables;
-mod words;
-
-use failure::Failure;
-use gate::{GroupGate, Passes};
+use crate::failure::Failure;
+use crate::gate::{GroupGate, Passes};
+use crate::tables::{FALLING, RISING, inputs_of};
+use crate::words::words_of;
 use kt_out::{SureInputs, SureOutputs, SureSink, SureSource};
 use kt_tools::{Status, Words, run};
 use std::alloc::{AllocGlobal, Global};
 use std::io::Print;
-use std::process::ExitCode;
 use std::thread::Threads;
-use tables::{FALLING, RISING, inputs_of};
-use words::words_of;
 
 /// What a gate must have seen.
 #[derive(Clone, Copy)]
@@ -133,14 +125,10 @@ fn try_all<R: Threads + Sync + AllocGlobal + Print>(rt: &R, events: &str) -> Res
     Ok(())
 }
 
-fn main(rt: HostRuntime) -> ExitCode {
+/// Tries all runs over events in either order. An error is that one could not be made, or that nothing could be printed.
+pub(crate) fn print_gates<R: Threads + Sync + AllocGlobal + Print>(rt: &R) -> Result<(), Failure> {
     for events in [RISING, FALLING] {
-        if try_all(&rt, events).is_err() {
-            return ExitCode::FAILURE;
-        }
+        try_all(rt, events)?;
     }
-    if reads::print_runs(&rt).is_err() {
-        return ExitCode::FAILURE;
-    }
-    ExitCode::SUCCESS
+    Ok(())
 }
