@@ -10,7 +10,7 @@ ghost use Rattle.kt_event.specs.declared.terms.SummarySet.{SummarySet};
 ghost use Rattle.kt_event.specs.declared.terms.Terms.{Terms};
 ghost use Rattle.kt_files.specs.declared.file.OutputFile.TheVariants.{OfSet};
 ghost use Rattle.kt_files.specs.declared.file.SetTable.TheVariants.{AverageAnnualLoss, ExceedanceCurve};
-ghost use Rattle.kt_insured.specs.Whole.{IsSharedOut};
+ghost use Rattle.kt_alloc.specs.Whole.{IsSharedOut};
 ghost use Rattle.kt_load.specs.Loaded.{loaded};
 ghost use Rattle.kt_loop.specs.Outcome.{gives};
 ghost use Rattle.kt_out.specs.NamedFiles.{FileMap};
@@ -29,7 +29,7 @@ ghost use Rattle.kt_chain.specs.Outcome.{chain_outcome, event_refusal, run_reach
 ghost use Rattle.kt_chain.specs.Reached.{AreFirst, NextIsRefused, NoneRefused};
 ghost use Rattle.kt_chain.specs.SetRecords.{file_table, set_records};
 
-use kt_insured::laws::losses_are_shared_out_whole;
+use kt_alloc::laws::losses_are_shared_out_whole;
 use kt_load::laws::rows_that_load_are_a_portfolio;
 
 /// However far a run comes, the events that are done are the first of the list, and none of them is refused, each behind those before it.

@@ -9,8 +9,8 @@ use Rattle.kt_event.specs.Terms.{has_insured, has_net, net_sets, output_perspect
 use Rattle.kt_event.specs.declared.block.Summaries.{Summaries}
 use Rattle.kt_event.specs.declared.terms.SummarySet.{SummarySet}
 use Rattle.kt_event.specs.declared.terms.Terms.{Terms}
-use Rattle.kt_insured.specs.Insured.{layer_sums}
-use Rattle.kt_insured.specs.declared.sums.LayerSum.{LayerSum}
+use Rattle.kt_alloc.specs.Insured.{layer_sums}
+use Rattle.kt_alloc.specs.declared.sums.LayerSum.{LayerSum}
 use Rattle.kt_rec.specs.Rows.{Rows}
 use Rattle.kt_rec.specs.declared.perspective.Perspective.{Perspective}
 use Rattle.kt_rec.specs.declared.perspective.Perspective.TheVariants.{Gul, Il, Ri}

@@ -3,8 +3,8 @@
 use Rattle.std.specs.Prelude.{ℕ, All, List, [], map, Option, Some, None, Result, Ok, Err}
 use Rattle.std.specs.List.{AllByRecursion, range_with_len}
 use Rattle.kt_gul.specs.GroundUp.{ground_up_records}
-use Rattle.kt_insured.specs.Insured.{insured_records, layer_sums}
-use Rattle.kt_insured.specs.declared.sums.LayerSum.{LayerSum}
+use Rattle.kt_alloc.specs.Insured.{insured_records, layer_sums}
+use Rattle.kt_alloc.specs.declared.sums.LayerSum.{LayerSum}
 use Rattle.kt_model.specs.Distribution.{distributions_of}
 use Rattle.kt_rec.specs.FootRows.{first_refused_row}
 use Rattle.kt_rec.specs.Rows.{Rows}

@@ -1,7 +1,7 @@
 -- What all events of a run share.
 -- The rules: docs/FINANCIAL_MODULE.md, "Levels", "Reinsurance".
 use Rattle.std.specs.Prelude.{◌≡◌, ◌⊎◌, ℕ, Option, Some, None, Result, Err}
-use Rattle.kt_insured.specs.Index.{AreIndexed}
+use Rattle.kt_alloc.specs.Index.{AreIndexed}
 use Rattle.kt_rec.specs.Rows.{Rows}
 use Rattle.kt_rec.specs.declared.foot_rows.ModelStop.{ModelStop}
 use Rattle.kt_rec.specs.declared.foot_rows.ModelStop.TheVariants.{OutOfMemory}

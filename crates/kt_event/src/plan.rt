@@ -10,7 +10,7 @@ ghost use Rattle.kt_event.specs.Plan.{HasBase, IsBase, IsPlan, kept_stages, term
 ghost use Rattle.kt_event.specs.Terms.{AreTerms};
 
 use crate::terms::Terms;
-use kt_insured::OutputIndex;
+use kt_alloc::OutputIndex;
 use kt_rec::Perspective;
 use kt_ri::stage_of;
 use kt_structure::Structure;

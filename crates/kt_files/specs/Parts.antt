@@ -10,7 +10,7 @@ use Rattle.kt_elt.specs.PeriodLoss.{plt_heading_text, period_losses}
 use Rattle.kt_event.specs.declared.block.EventBlock.{EventBlock}
 use Rattle.kt_event.specs.declared.block.Summaries.{Summaries}
 use Rattle.kt_event.specs.declared.terms.SummarySet.{SummarySet}
-use Rattle.kt_insured.specs.declared.sums.LayerSum.{LayerSum}
+use Rattle.kt_alloc.specs.declared.sums.LayerSum.{LayerSum}
 use Rattle.kt_money.specs.NumberText.{count_text, money_text}
 use Rattle.kt_rec.specs.Rows.{Rows}
 use Rattle.kt_stream.specs.declared.entry.SummaryRecord.{SummaryRecord}

@@ -2,7 +2,7 @@
 //! The rules: docs/COMMANDS.md, "fmcalc".
 ghost use Rattle.std.specs.Prelude.{◌≡◌, ◌≤◌, true, IfOk};
 ghost use Rattle.kt_ends.specs.Ending.{StreamToolEnds};
-ghost use Rattle.kt_insured.specs.Index.{AreIndexed};
+ghost use Rattle.kt_alloc.specs.Index.{AreIndexed};
 ghost use Rattle.kt_keys.specs.Refusals.{is_loaded};
 ghost use Rattle.kt_loop.specs.Running.{stream_uses};
 ghost use Rattle.kt_losses.specs.Judged.{judged_outcome};
@@ -15,7 +15,7 @@ use crate::heading::put_heading;
 use crate::judging::write_losses;
 use crate::table::LossTool;
 use kt_ends::ToolStop;
-use kt_insured::{OutputIndex, put_insured};
+use kt_alloc::{OutputIndex, put_insured};
 use kt_money::Bytes;
 use kt_out::{Sink, Source};
 use kt_stream::{Head, LossRecord, Placed};
@@ -36,7 +36,7 @@ impl LossTool for InsuredLosses {
     ghost use Rattle.std.specs.Prelude.{◌≡◌, ◌≤◌};
     ghost use Rattle.kt_tree.specs.Programme.{tree_of};
     ghost use Rattle.kt_structure.specs.Structure.{IsStructure, kept_by};
-    ghost use Rattle.kt_insured.specs.Index.{AreIndexed};
+    ghost use Rattle.kt_alloc.specs.Index.{AreIndexed};
     ghost use Rattle.kt_losses.specs.Tables.{insured_table};
 
     ghost table = { λ tool. insured_table tool.rule };

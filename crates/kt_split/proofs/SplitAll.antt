@@ -14,7 +14,7 @@ use Rattle.kt_rec.specs.declared.perspective.Perspective.TheVariants.{Gul as Gul
 use Rattle.kt_ri.specs.Reinsurance.{reinsured}
 use Rattle.kt_runs.specs.RunLosses.{run_loss}
 use Rattle.kt_stream.specs.Losses.{IsLoss}
-use Rattle.kt_insured.specs.Insured.{insured_records}
+use Rattle.kt_alloc.specs.Insured.{insured_records}
 use Rattle.kt_stream.specs.Summary.{summary_form, summary_shape}
 use Rattle.kt_stream.specs.declared.entry.LossRecord.{LossRecord}
 use Rattle.kt_stream.specs.declared.entry.SummaryRecord.{SummaryRecord}

@@ -4,7 +4,7 @@ use Rattle.std.specs.List.{AllByRecursion, IsDistinct}
 use Rattle.std.specs.List.Sorted.{IsStrictlyIncreasing}
 use Rattle.std.proofs.lemmas.List.Elements.{All-from_recursion, recursion_from_All}
 use Rattle.kt_eve.specs.Laws.{PartsMakeTheEvents}
-use Rattle.kt_insured.specs.Insured.{insured_records}
+use Rattle.kt_alloc.specs.Insured.{insured_records}
 use Rattle.kt_kat.specs.StreamsJoined.{kat_joins, losses_join, summaries_join}
 use Rattle.kt_losses.specs.Judged.{is_known, losses_kind}
 use Rattle.kt_losses.specs.Tables.{perspective_of}

@@ -5,7 +5,7 @@ use Rattle.kt_ends.specs.Outcome.{Outcome}
 use Rattle.kt_ends.specs.declared.status.Status.TheVariants.{Done}
 use Rattle.kt_eve.specs.Laws.{PartsMakeTheEvents}
 use Rattle.kt_eve.specs.Parts.{part_of}
-use Rattle.kt_insured.specs.Insured.{insured_records}
+use Rattle.kt_alloc.specs.Insured.{insured_records}
 use Rattle.kt_kat.specs.StreamsJoined.{KatJoins}
 use Rattle.kt_load.specs.EventRows.{event_rows, footprint_name}
 use Rattle.kt_losses.specs.Judged.{is_known, judged_outcome, losses_kind}

@@ -4,7 +4,7 @@ use Rattle.std.specs.Prelude.{◌≡◌, ◌<◌, ℕ, nat_eq, Bool, true, false
 use Rattle.std.specs.List.{sum_by}
 use Rattle.std.proofs.Common.{ap, ◌∙◌, arith}
 use Rattle.kt_gul.specs.GroundUp.{ground_up_records}
-use Rattle.kt_insured.specs.Insured.{insured_records}
+use Rattle.kt_alloc.specs.Insured.{insured_records}
 use Rattle.kt_keys.specs.Climbing.{next_unit}
 use Rattle.kt_keys.specs.Keys.{policytc_of, profile_of, programme_of}
 use Rattle.kt_keys.specs.Refusals.{is_loaded}

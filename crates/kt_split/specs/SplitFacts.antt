@@ -8,7 +8,7 @@ use Rattle.kt_event.specs.Terms.{AreTerms}
 use Rattle.kt_event.specs.declared.terms.Terms.{Terms}
 use Rattle.kt_gul.specs.GroundUp.{ground_up_records}
 use Rattle.kt_gul.specs.StruckItems.{AreCdfs}
-use Rattle.kt_insured.specs.Insured.{insured_records}
+use Rattle.kt_alloc.specs.Insured.{insured_records}
 use Rattle.kt_losses.specs.Judged.{is_known}
 use Rattle.kt_loop.specs.EventStreams.{ReadsBack}
 use Rattle.kt_model.specs.Distribution.{distributions_of}

@@ -15,7 +15,7 @@ use Rattle.kt_event.specs.declared.terms.Terms.{Terms}
 use Rattle.kt_files.specs.declared.file.OutputFile.TheVariants.{OfSet}
 use Rattle.kt_files.specs.declared.file.SetTable.{SetTable}
 use Rattle.kt_files.specs.declared.file.SetTable.TheVariants.{EventLoss, PeriodLoss}
-use Rattle.kt_insured.specs.Insured.{insured_records}
+use Rattle.kt_alloc.specs.Insured.{insured_records}
 use Rattle.kt_kat.specs.Files.{file_limit}
 use Rattle.kt_kat.specs.Outcome.{kat_outcome}
 use Rattle.kt_keys.specs.declared.need.Need.{Need}

@@ -6,7 +6,7 @@ ghost use Rattle.kt_event.specs.Needs.{chain_need};
 ghost use Rattle.kt_event.specs.Terms.{AreTerms};
 ghost use Rattle.kt_event.specs.declared.terms.Terms.{Terms};
 ghost use Rattle.kt_gul.specs.GroundUp.{ground_up_records};
-ghost use Rattle.kt_insured.specs.Insured.{insured_records};
+ghost use Rattle.kt_alloc.specs.Insured.{insured_records};
 ghost use Rattle.kt_keys.specs.Refusals.{is_loaded};
 ghost use Rattle.kt_keys.specs.declared.need.Need.{Need};
 ghost use Rattle.kt_load.specs.Loaded.{loaded};

@@ -6,9 +6,9 @@ use Rattle.kt_event.specs.Losses.{layers_up_to}
 use Rattle.kt_event.specs.Needs.{chain_need}
 use Rattle.kt_event.specs.Terms.{AreTerms, has_insured}
 use Rattle.kt_event.specs.declared.terms.Terms.{Terms}
-use Rattle.kt_insured.specs.InsuredTables.{HasInsuredTables}
-use Rattle.kt_insured.specs.Whole.{IsSharedOut}
-use Rattle.kt_insured.specs.declared.sums.LayerSum.{LayerSum}
+use Rattle.kt_alloc.specs.InsuredTables.{HasInsuredTables}
+use Rattle.kt_alloc.specs.Whole.{IsSharedOut}
+use Rattle.kt_alloc.specs.declared.sums.LayerSum.{LayerSum}
 use Rattle.kt_rec.specs.Rows.{Rows}
 use Rattle.kt_rec.specs.declared.perspective.Perspective.{Perspective}
 use Rattle.kt_rec.specs.declared.perspective.Perspective.TheVariants.{Gul, Il, Ri}

@@ -1,0 +1,17 @@
+use Rattle.std.proofs.Common.{◌∙◌}
+use Rattle.std.proofs.lemmas.List.Elements.{All-from_recursion}
+use Rattle.kt_tables.specs.PortfolioLaws.{keys_kept}
+use Rattle.kt_tree.specs.Programme.{tree_of}
+use Rattle.kt_tree.specs.Sums.{each_then}
+use Rattle.kt_shares.specs.Shares.{insured_range, taken_loss}
+use Rattle.kt_alloc.proofs.RecordLemmas.{records-own}
+use Rattle.kt_alloc.proofs.laws.the_records_of_a_layer_have_its_policy_loss.Goals as goal
+
+pub returns : goal.returns
+returns c = record {
+  conserved = λ portfolio has samples records top layer is_top is_layer.
+      let rows = portfolio.rows in
+      let tree = tree_of rows 0 in
+      All-from_recursion _ (insured_range samples)
+      (each_then _ _ (λ sidx same. same ∙ c.the_outputs_of_a_layer_have_its_policy_loss.ensures.conserved portfolio has (taken_loss tree records sidx) top layer is_top is_layer) (insured_range samples) (records-own rows.fm_xref (keys_kept portfolio has.valid).outputs tree portfolio.need.rule samples records top layer));
+}
