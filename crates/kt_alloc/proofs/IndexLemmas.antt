@@ -8,7 +8,7 @@ use Rattle.std.specs.Option.{option_or}
 use Rattle.kt_rec.specs.Rising.{IsRising}
 use Rattle.kt_rec.specs.declared.financial.FmXref.{FmXref}
 use Rattle.kt_keys.specs.Keys.{same_pair}
-use Rattle.kt_fmtree.specs.RisingLaws.{KeepsId, rising-made}
+use Rattle.kt_rec.specs.RisingLaws.{KeepsId, rising-made}
 use Rattle.kt_alloc.specs.Index.{AreIndexed, outlet_in, outlets_at, unit_output}
 use Rattle.kt_alloc.specs.Insured.{in_order}
 use Rattle.kt_alloc.specs.Layout.{outlet_of}

@@ -9,7 +9,7 @@ use Rattle.kt_stream.specs.declared.entry.LossRecord.{LossRecord}
 use Rattle.kt_stream.specs.declared.entry.Pair.{Pair}
 use Rattle.kt_runs.specs.RunLosses.{event_of}
 use Rattle.kt_runs.specs.Sidx.{pairs_of}
-use Rattle.kt_fmtree.specs.RisingLaws.{KeepsId, rising-made}
+use Rattle.kt_rec.specs.RisingLaws.{KeepsId, rising-made}
 use Rattle.kt_tree.specs.Sums.{each_member}
 use Rattle.kt_tree.specs.Tree.{Tree}
 use Rattle.kt_shares.specs.RecordLaws.{record-event, record-id}

@@ -10,7 +10,7 @@ use Rattle.std.proofs.lemmas.List.{map-append, map_more, take_more}
 use Rattle.std.proofs.lemmas.List.Elements.{filter_map-append}
 use Rattle.kt_rec.specs.Rising.{IsRising}
 use Rattle.kt_rec.specs.declared.financial.FmXref.{FmXref}
-use Rattle.kt_fmtree.specs.RisingLaws.{KeepsId}
+use Rattle.kt_rec.specs.RisingLaws.{KeepsId}
 use Rattle.kt_alloc.specs.Outlets.{found}
 use Rattle.kt_alloc.specs.declared.outlets.Outlet.{Outlet}
 use Rattle.kt_alloc.proofs.ListLemmas.{followed, lookup-append}

@@ -10,7 +10,7 @@ use Rattle.std.proofs.lemmas.List.Sorted.{list_any-IsPermutation}
 use Rattle.std.proofs.lemmas.Map.Keys.{IsStrictlyIncreasing-dedup}
 use Rattle.std.proofs.lemmas.Map.Views.{list_any-from_Contains, Contains-from_any}
 use Rattle.kt_rec.specs.Rising.{rising, rising-member, rising-rises, rising-unique}
-use Rattle.kt_fmtree.specs.RisingLaws.{rises-from_strict}
+use Rattle.kt_rec.specs.RisingLaws.{rises-from_strict}
 
 -- what is sorted, with each number once, are the rising numbers
 pub sorted-rising : (xs sorted : List ℕ) → IsPermutation xs sorted → IsSorted nat_cmp sorted → dedup eqb sorted ≡ rising xs

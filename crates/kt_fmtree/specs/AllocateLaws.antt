@@ -9,7 +9,7 @@ use Rattle.kt_tree.specs.Tree.{Tree, IsTree, ground_up, policy_loss, comes_to, b
 use Rattle.kt_tree.specs.TreeLaws.{ground_up-few, ground_up-beneath, policy_loss-le}
 use Rattle.kt_fmtree.specs.Parts.{Parts, IsProgramme, units_at}
 use Rattle.kt_fmtree.specs.PartsLaws.{beneath-are}
-use Rattle.kt_fmtree.specs.RisingLaws.{rising-filter}
+use Rattle.kt_rec.specs.RisingLaws.{rising-filter}
 use Rattle.kt_fmtree.specs.Carried.{Carried, AreCarried, IsCarriedBy}
 use Rattle.kt_fmtree.specs.Placed.{levels_down, CanShare, unit_parts}
 use Rattle.kt_fmtree.specs.declared.part.PlacedPart.{PlacedPart}

@@ -3,12 +3,10 @@ pub mod Carried
 pub mod CarriedLaws
 pub mod ProgrammeLaws
 pub mod PartsLaws
-pub mod RisingLaws
 pub mod LoopLaws
 pub mod Lists
 pub mod ListLaws
 pub mod Placed
-pub mod ById
 pub mod DownLaws
 pub mod SharedPartsLaws
 pub mod AllocateLaws

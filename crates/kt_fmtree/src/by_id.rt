@@ -7,7 +7,7 @@ ghost use Rattle.kt_rec.specs.Rising.{IsRising};
 ghost use Rattle.kt_tree.specs.Sharing.{part_of};
 ghost use Rattle.kt_fmtree.specs.Parts.{units_at};
 ghost use Rattle.kt_fmtree.specs.Placed.{unit_parts};
-ghost use Rattle.kt_fmtree.specs.ById.{with_more};
+ghost use Rattle.kt_rec.specs.ById.{with_more};
 
 use crate::part::PlacedPart;
 use crate::programme::Programme;

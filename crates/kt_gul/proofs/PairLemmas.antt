@@ -8,8 +8,8 @@ use Rattle.kt_stream.specs.Pairs.{end_bytes, pair_bytes, pairs_bytes}
 use Rattle.kt_stream.specs.declared.entry.LossRecord.{LossRecord}
 use Rattle.kt_stream.specs.declared.entry.Pair.{Pair}
 use Rattle.kt_gul.specs.GroundUp.{pair_at, pairs_of, record_with, sidx_at}
-use Rattle.kt_pairs.proofs.SumsLemmas.{range_more}
-use Rattle.kt_pairs.proofs.Kept.{with-end}
+use Rattle.kt_runs.proofs.PairSumsLemmas.{range_more}
+use Rattle.kt_runs.proofs.PairsKept.{with-end}
 
 -- the pairs with those of one more place
 pairs_upto : (f : ℕ → ℕ) (n : ℕ) → filter_map (λ place. pair_at place (f place)) (range_with_len 0 (n + 1)) ≡ filter_map (λ place. pair_at place (f place)) (range_with_len 0 n) ++ filter_map (λ place. pair_at place (f place)) (n ∷ [])

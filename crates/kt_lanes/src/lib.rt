@@ -2,6 +2,7 @@
 #![tactic(auto)]
 
 mod amounts;
+mod by_id;
 mod lane;
 mod lanes;
 mod likely;
@@ -14,6 +15,7 @@ mod sums;
 mod tested;
 
 pub use amounts::{Amounts, OneLane};
+pub use by_id::{add_amounts_by_id, add_by_id};
 pub use lane::no_amounts;
 pub use lanes::Lanes;
 pub use shares::{Room, room_of, share_lanes};

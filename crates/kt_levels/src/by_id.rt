@@ -6,7 +6,6 @@ ghost use Rattle.kt_rec.specs.Rising.{IsRising};
 ghost use Rattle.kt_tree.specs.Sharing.{part_of};
 ghost use Rattle.kt_fmtree.specs.Parts.{units_at};
 ghost use Rattle.kt_fmtree.specs.Placed.{levels_down, unit_parts};
-ghost use Rattle.kt_fmtree.specs.ById.{with_more};
 ghost use Rattle.kt_lanes.specs.Lanes.{column, AreWide, AreLanes};
 ghost use Rattle.kt_levels.specs.Climbed.{IsClimbed, carried_at};
 ghost use Rattle.kt_lanes.specs.SideBySide.{AreBehind, BeginsWith};
@@ -15,53 +14,8 @@ ghost use Rattle.kt_levels.specs.Down.{ArePlaced, AreLevelSums, AreSumsOf, CanGi
 use crate::climbing::{Climbed, lanes_at};
 use crate::down::{LevelRoom, PlacedLanes, level_by_unit, level_down, place_children, push_given};
 use kt_fmtree::{Node, Programme, id_at};
-use kt_lanes::{Amounts, Lanes, OneLane};
+use kt_lanes::{Lanes, add_by_id};
 use std::alloc::{AllocError, Global};
-
-/// Adds amounts to the lane of an id, which stands in this place.
-fn add_at<A: Amounts>(ids: &[u32], found: &mut Lanes, place: usize, id: u32, more: &A)
-    requires rising { IsRising ids.now }
-    requires same { length found.old ≡ length ids.now }
-    requires good { A.IsGood more.now }
-    requires wide { AreWide (A.width more.now) found.old }
-    requires few { (k place : ℕ) → k < A.width more.now → place < length ids.now → slice_index (column k found.old) place + A.amount more.now k < 2 ^ 64 }
-    requires within { place < length ids.now }
-    requires here { slice_index ids.now place ≡ id }
-    ensures value { AreLanes (A.width more.now) (length ids.now) (λ k. with_more ids.now (column k found.old) id (A.amount more.now k)) found.new }
-{
-    found.add_amounts(place, more);
-}
-
-/// Adds amounts in cents to the lane of an id, if it is among these. It is looked for in a place first: ids stand in the order of the
-/// tree mostly.
-pub fn add_amounts_by_id<A: Amounts>(ids: &[u32], found: &mut Lanes, near: usize, id: u32, more: &A)
-    requires rising { IsRising ids.now }
-    requires same { length found.old ≡ length ids.now }
-    requires good { A.IsGood more.now }
-    requires wide { AreWide (A.width more.now) found.old }
-    requires few { (k place : ℕ) → k < A.width more.now → place < length ids.now → slice_index (column k found.old) place + A.amount more.now k < 2 ^ 64 }
-    ensures value { AreLanes (A.width more.now) (length ids.now) (λ k. with_more ids.now (column k found.old) id (A.amount more.now k)) found.new }
-{
-    if near < ids.len() && ids[near] == id {
-        add_at(ids, found, near, id, more);
-        return;
-    }
-    if let Ok(place) = ids.binary_search(&id) {
-        add_at(ids, found, place, id, more);
-    }
-}
-
-/// Adds a lane to that of an id, if it is among these. It is looked for in a place first: ids stand in the order of the tree
-/// mostly.
-pub fn add_by_id(ids: &[u32], found: &mut Lanes, near: usize, id: u32, lane: &[u64])
-    requires rising { IsRising ids.now }
-    requires same { length found.old ≡ length ids.now }
-    requires wide { AreWide (length lane.now) found.old }
-    requires few { (k place : ℕ) → k < length lane.now → place < length ids.now → slice_index (column k found.old) place + slice_index lane.now k < 2 ^ 64 }
-    ensures value { AreLanes (length lane.now) (length ids.now) (λ k. with_more ids.now (column k found.old) id (slice_index lane.now k)) found.new }
-{
-    add_amounts_by_id(ids, found, near, id, &OneLane { lane });
-}
 
 /// What each of rising ids has of amounts of units of level 0, added unit by unit. An error is want of memory.
 fn added_by_id(

@@ -8,7 +8,6 @@ mod plain;
 mod policy;
 mod shared;
 
-pub use by_id::{add_amounts_by_id, add_by_id};
 pub use climbing::{Climbed, are_in_turn, climb};
 pub use down::{LevelRoom, level_room_of};
 pub use plain::{has_plain_units, layer_looks_back};

@@ -4,4 +4,7 @@ pub mod Rows
 pub mod Ranges
 pub mod FootRows
 pub mod Rising
+pub mod RisingLaws
+pub mod ById
+pub mod ByIdLaws
 pub mod Options

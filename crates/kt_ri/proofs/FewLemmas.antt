@@ -9,7 +9,7 @@ use Rattle.kt_tree.specs.Sharing.{allocated}
 use Rattle.kt_tree.specs.Sums.{sum_by-flat_map, sum_by-one}
 use Rattle.kt_tree.specs.Tree.{Tree, IsTree, beneath, comes_to, is_unit}
 use Rattle.kt_tree.specs.Struck.{is_struck, struck}
-use Rattle.kt_fmtree.specs.RisingLaws.{rising-filter}
+use Rattle.kt_rec.specs.RisingLaws.{rising-filter}
 use Rattle.kt_fmtree.specs.Parts.{Parts, IsProgramme}
 use Rattle.kt_shares.specs.LookupLaws.{filter-absent, lookup-none}
 use Rattle.kt_shares.specs.Shares.{part_of_id}

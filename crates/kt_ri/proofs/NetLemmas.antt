@@ -14,7 +14,7 @@ use Rattle.kt_runs.specs.Sidx.{pairs_of, sidx_at}
 use Rattle.kt_tree.specs.Sharing.{allocated}
 use Rattle.kt_tree.specs.Tree.{Tree, beneath, comes_to}
 use Rattle.kt_fmtree.specs.Parts.{Parts, IsProgramme}
-use Rattle.kt_fmtree.specs.RisingLaws.{rising-made}
+use Rattle.kt_rec.specs.RisingLaws.{rising-made}
 use Rattle.kt_shares.specs.LookupLaws.{lookup-none}
 use Rattle.kt_shares.specs.Less.{IsPlaceIn, amount_in, records_less}
 use Rattle.kt_shares.specs.PairLaws.{pairs-le}

@@ -7,7 +7,7 @@ use Rattle.std.specs.Ordering.{nat_cmp}
 use Rattle.std.proofs.lemmas.List.{take_more}
 use Rattle.kt_rec.specs.Rising.{IsRising}
 use Rattle.kt_stream.specs.declared.entry.LossRecord.{LossRecord}
-use Rattle.kt_fmtree.specs.RisingLaws.{not-missed}
+use Rattle.kt_rec.specs.RisingLaws.{not-missed}
 use Rattle.kt_ri.specs.Ceding.{AreRecordPlaces, IsPlaceOf}
 
 -- an id that a search misses is not among them

@@ -3,11 +3,10 @@
 ghost use Rattle.std.specs.Prelude.{◌≡◌, ◌+◌, ◌*◌, ◌≤◌, length, slice_index};
 ghost use Rattle.std.specs.List.{AllByRecursion};
 ghost use Rattle.kt_stream.specs.Pairs.{IsPair, IsSidx};
-ghost use Rattle.kt_pairs.specs.Room.{AreEnded};
+ghost use Rattle.kt_runs.specs.PairRoom.{AreEnded};
 ghost use Rattle.kt_ri.specs.Left.{left_at, pairs_left};
 
-use kt_pairs::{end_pairs, keep_pair};
-use kt_runs::place_of;
+use kt_runs::{end_pairs, keep_pair, place_of};
 use kt_stream::Pair;
 
 /// The place of sidx -2, which has no row.

@@ -1,2 +1,4 @@
 pub mod AddLemmas
 pub mod RunSumLemmas
+pub mod PairsKept
+pub mod PairSumsLemmas

@@ -7,3 +7,6 @@ pub mod LossLaws
 pub mod HeldLaws
 pub mod RunLaws
 pub mod Examples
+pub mod PairRoom
+pub mod PairSums
+pub mod PairExamples

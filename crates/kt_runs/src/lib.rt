@@ -1,11 +1,18 @@
-//! Runs of losses: their losses sidx by sidx, added record by record.
+//! Runs of losses: their losses sidx by sidx, added record by record; and records with pairs as they stand in a stream, written pair by
+//! pair from what has a loss for each sidx.
 #![tactic(auto)]
 
+mod byte_record;
+mod kept_pairs;
+mod pair_sums;
 mod run_entry;
 mod run_sums;
 mod sidx;
 mod sums;
 
+pub use byte_record::{append_record, summary_front};
+pub use kept_pairs::{end_pairs, keep_pair, pair_room};
+pub use pair_sums::{pairs_of, write_pairs};
 pub use run_entry::{RunEntry, event_of};
 pub use run_sums::{add_to_run, clear_run, no_run_sums};
 pub use sidx::{place_of, sidx_at};

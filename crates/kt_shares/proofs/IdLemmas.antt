@@ -8,7 +8,7 @@ use Rattle.std.proofs.lemmas.List.Sums.{get_or-le-sum_by, sum_by_more, sum_by-ta
 use Rattle.kt_stream.specs.declared.entry.LossRecord.{LossRecord}
 use Rattle.kt_runs.specs.RunLosses.{AreWithin, loss_of, run_loss}
 use Rattle.kt_runs.specs.Sidx.{sidx_at}
-use Rattle.kt_fmtree.specs.ById.{with_more}
+use Rattle.kt_rec.specs.ById.{with_more}
 use Rattle.kt_tree.specs.Sums.{sum_by-below}
 use Rattle.kt_tree.specs.Tree.{Tree}
 use Rattle.kt_fmtree.specs.Carried.{loss_by}

@@ -11,7 +11,7 @@ use Rattle.kt_stream.specs.Losses.{IsLoss}
 use Rattle.kt_stream.specs.Pairs.{BeginsAbove, IsId, IsPair, IsSidx, RisingSidx}
 use Rattle.kt_runs.specs.RunLosses.{AreWithin, loss_of}
 use Rattle.kt_runs.specs.Sidx.{pair_of, pairs_of}
-use Rattle.kt_fmtree.specs.RisingLaws.{KeepsId}
+use Rattle.kt_rec.specs.RisingLaws.{KeepsId}
 use Rattle.kt_shares.specs.Shares.{insured_range, record_with, sample_range}
 
 -- records that are held in themselves

@@ -20,7 +20,7 @@ use crate::less::lessened;
 use crate::pairs::record_pairs;
 use crate::run_losses::{RunLosses, event_of_run};
 use kt_lanes::Lanes;
-use kt_levels::add_by_id;
+use kt_lanes::add_by_id;
 use kt_stream::{LossRecord, Records};
 use std::alloc::{AllocError, Global};
 use std::marker::Model;

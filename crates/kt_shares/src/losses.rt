@@ -7,14 +7,14 @@ ghost use Rattle.kt_stream.specs.Pairs.{IsPair};
 ghost use Rattle.kt_runs.specs.RunLosses.{AreWithin, loss_of};
 ghost use Rattle.kt_runs.specs.Sidx.{sidx_at};
 ghost use Rattle.kt_rec.specs.Rising.{IsRising};
-ghost use Rattle.kt_fmtree.specs.ById.{with_more};
+ghost use Rattle.kt_rec.specs.ById.{with_more};
 ghost use Rattle.kt_lanes.specs.Lanes.{AreLanes, AreWide, IsLane, column};
 ghost use Rattle.kt_shares.specs.Shares.{ids_of};
 ghost use Rattle.kt_shares.specs.Table.{row_place};
 ghost use Rattle.kt_shares.specs.Taken.{AreIdLanes};
 
 use kt_lanes::{Amounts, Lanes};
-use kt_levels::add_amounts_by_id;
+use kt_lanes::add_amounts_by_id;
 use kt_runs::{RunEntry, place_of};
 use kt_stream::{LossRecord, Pair};
 use std::alloc::{AllocError, Global};

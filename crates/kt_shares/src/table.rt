@@ -24,8 +24,7 @@ use kt_fmtree::Programme;
 use kt_lanes::Lanes;
 use kt_levels::{climb, has_plain_units};
 use kt_money::Bytes;
-use kt_pairs::pair_room;
-use kt_runs::RunEntry;
+use kt_runs::{RunEntry, pair_room};
 use std::alloc::{AllocError, Global};
 use std::marker::Model;
 

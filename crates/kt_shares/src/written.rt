@@ -4,13 +4,13 @@ ghost use Rattle.std.specs.Prelude.{◌≡◌, ◌+◌, ◌*◌, ◌≤◌, ◌<
 ghost use Rattle.std.specs.List.{cons_option, flat_map};
 ghost use Rattle.kt_stream.specs.Losses.{loss_bytes};
 ghost use Rattle.kt_stream.specs.declared.entry.Pair.{Pair};
-ghost use Rattle.kt_pairs.specs.Room.{AreEnded};
+ghost use Rattle.kt_runs.specs.PairRoom.{AreEnded};
 ghost use Rattle.kt_shares.specs.Shares.{record_with};
 ghost use Rattle.kt_shares.specs.Table.{pairs_by_row};
 
 use crate::pairs::pair_at;
 use kt_money::Bytes;
-use kt_pairs::{append_record, end_pairs, keep_pair};
+use kt_runs::{append_record, end_pairs, keep_pair};
 use kt_stream::loss_front;
 use std::alloc::AllocError;
 

@@ -4,7 +4,7 @@ use Rattle.std.proofs.lemmas.Bool.{cases_lt}
 use Rattle.std.proofs.lemmas.List.Elements.{recursion_from_All}
 use Rattle.std.specs.List.{AllByRecursion}
 use Rattle.std.specs.List.Sorted.{IsStrictlyIncreasing}
-use Rattle.kt_fmtree.specs.RisingLaws.{rises-from_strict}
+use Rattle.kt_rec.specs.RisingLaws.{rises-from_strict}
 use Rattle.kt_loop.specs.EventRuns.{IsEventRun, Rises}
 use Rattle.kt_loop.specs.Runs.{cdf_key, goes_on, loss_key, summary_key}
 use Rattle.kt_loop.specs.declared.run_key.RunKey.{RunKey}

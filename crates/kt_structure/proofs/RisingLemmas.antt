@@ -9,7 +9,7 @@ use Rattle.std.proofs.lemmas.List.Folds.{list_any-append}
 use Rattle.kt_tree.specs.Members.{member-filter}
 use Rattle.kt_tree.specs.Sums.{each_then}
 use Rattle.kt_rec.specs.Rising.{IsRising, rising, rising-member, rising-rises, rising-unique}
-use Rattle.kt_fmtree.specs.RisingLaws.{rising-filter}
+use Rattle.kt_rec.specs.RisingLaws.{rising-filter}
 use Rattle.kt_structure.specs.declared.links.Link.{Link}
 use Rattle.kt_structure.proofs.LinkLemmas.{both-hold, or_none}
 

@@ -11,7 +11,7 @@ use Rattle.kt_tree.specs.StruckLaws.{climbed-struck, struck-id, struck-is}
 use Rattle.kt_rec.specs.Rising.{IsRising, rising, rising-all, rising-member, rising-rises, rising-unique}
 use Rattle.kt_tree.specs.Sums.{each_then}
 use Rattle.kt_tree.specs.Tree.{Tree, beneath, comes_to, is_unit}
-use Rattle.kt_fmtree.specs.RisingLaws.{rising-filter}
+use Rattle.kt_rec.specs.RisingLaws.{rising-filter}
 use Rattle.kt_structure.specs.Plan.{end_link, link_key, linked, links_up}
 use Rattle.kt_structure.specs.Structure.{Fits, Kept, IsStructure}
 use Rattle.kt_structure.specs.declared.links.Link.{Link}

@@ -9,7 +9,7 @@ use Rattle.std.proofs.lemmas.List.Elements.{All-set, filter-append, recursion_fr
 use Rattle.std.proofs.lemmas.List.Sums.{sum_by_push, sum_by-take-le}
 use Rattle.std.proofs.lemmas.Map.Keys.{apart_from_distinct}
 use Rattle.kt_fmtree.specs.CarriedLaws.{map-map}
-use Rattle.kt_fmtree.specs.RisingLaws.{rising-filter}
+use Rattle.kt_rec.specs.RisingLaws.{rising-filter}
 use Rattle.kt_rec.specs.Rising.{IsRising, distinct-from_rising, rising, rising-member, rising-rises, rising-unique}
 use Rattle.kt_tree.specs.Members.{member-filter}
 use Rattle.kt_runs.specs.Adding.{Holds, IsAdded}
@@ -22,7 +22,7 @@ use Rattle.kt_tables.specs.Lookups.{exposure_of}
 use Rattle.kt_tables.specs.Portfolio.{PortfolioRows}
 use Rattle.kt_tables.specs.SetRows.{AreFound, SetRows, summary_at}
 use Rattle.kt_stream.specs.Losses.{IsLoss}
-use Rattle.kt_pairs.specs.Sums.{pairs_upto}
+use Rattle.kt_runs.specs.PairSums.{pairs_upto}
 use Rattle.kt_shares.specs.Shares.{ids_of}
 use Rattle.kt_sum.specs.Adding.{IsSpan}
 use Rattle.kt_sum.specs.RunSummaries.{IsReadyRow, IsSumOf, IsThere, IsZeroRow, record_of}

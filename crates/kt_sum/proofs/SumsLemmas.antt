@@ -4,7 +4,7 @@ use Rattle.std.specs.List.{cons_option, filter_map, flat_map, range_with_len}
 use Rattle.std.proofs.lemmas.List.{take_more}
 use Rattle.std.proofs.lemmas.List.Elements.{filter_map-append}
 use Rattle.std.proofs.lemmas.Grind.{flat_map-append}
-use Rattle.kt_pairs.specs.Room.{AreEnded}
+use Rattle.kt_runs.specs.PairRoom.{AreEnded}
 use Rattle.kt_runs.specs.Adding.{Holds}
 use Rattle.kt_runs.specs.Sidx.{pair_of, sidx_at}
 use Rattle.kt_stream.specs.Pairs.{pairs_bytes}

@@ -14,7 +14,7 @@ use Rattle.kt_stream.specs.declared.entry.SummaryRecord.{SummaryRecord}
 use Rattle.kt_tables.specs.Lookups.{exposure_of, summary_in}
 use Rattle.kt_tables.specs.Portfolio.{PortfolioRows}
 use Rattle.kt_tables.specs.SetRows.{AreFound, summary_at}
-use Rattle.kt_pairs.specs.Sums.{pairs_upto}
+use Rattle.kt_runs.specs.PairSums.{pairs_upto}
 use Rattle.kt_sum.specs.Summaries.{members, record_with}
 use Rattle.kt_sum.specs.declared.run_summaries.RunSummaries.{RunSummaries}
 use Rattle.kt_sum.specs.declared.set_run.SetRun.{SetRun}

@@ -13,8 +13,7 @@ ghost use Rattle.kt_sum.specs.RunSummaries.{IsIdle, IsReadyRow, IsZeroRow, expos
 use crate::lane_sums::add_lane;
 use crate::set_run::SetRun;
 use kt_money::Bytes;
-use kt_pairs::{append_record, pairs_of, summary_front, write_pairs};
-use kt_runs::{add_pairs, zeros};
+use kt_runs::{add_pairs, append_record, pairs_of, summary_front, write_pairs, zeros};
 use kt_stream::{Pair, SummaryRecord};
 use std::alloc::{AllocError, Global};
 

@@ -1,4 +1,4 @@
-use Rattle.kt_fmtree.specs.RisingLaws.{strict-from_rises}
+use Rattle.kt_rec.specs.RisingLaws.{strict-from_rises}
 use Rattle.kt_alloc.proofs.OrderLemmas.{insured-event, insured-known, insured-rises}
 use Rattle.kt_alloc.proofs.laws.insured_losses_are_a_run.Goals as goal
 

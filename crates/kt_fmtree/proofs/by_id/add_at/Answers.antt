@@ -1,6 +1,6 @@
 use Rattle.std.proofs.Common.{◌∙◌, ◌+◌, ap, slice_set, arith}
 use Rattle.std.proofs.lemmas.List.{get_or_read}
-use Rattle.kt_fmtree.specs.IdLaws.{with-found}
+use Rattle.kt_rec.specs.ByIdLaws.{with-found}
 use Rattle.kt_fmtree.proofs.by_id.add_at.Goals as goal
 
 pub returns : goal.returns

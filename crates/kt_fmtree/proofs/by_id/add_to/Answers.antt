@@ -1,4 +1,4 @@
-use Rattle.kt_fmtree.specs.IdLaws.{with-missed}
+use Rattle.kt_rec.specs.ByIdLaws.{with-missed}
 use Rattle.kt_fmtree.proofs.by_id.add_to.Goals as goal
 
 pub returns-in_default : goal.returns-in_default

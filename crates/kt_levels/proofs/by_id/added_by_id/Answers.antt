@@ -1,7 +1,7 @@
 use Rattle.std.proofs.Common.{◌≡◌, ◌≤◌, ◌<◌, ◌∙◌, ℕ, List, length, map, slice_index, slice_index_or, refl, ap, subst, arith}
 use Rattle.kt_tree.specs.Sharing.{part_of}
 use Rattle.kt_fmtree.specs.Parts.{units_at}
-use Rattle.kt_fmtree.specs.ById.{with_more}
+use Rattle.kt_rec.specs.ById.{with_more}
 use Rattle.kt_fmtree.specs.Placed.{unit_parts}
 use Rattle.kt_lanes.specs.Lanes.{AreLanes, column}
 use Rattle.kt_lanes.specs.LaneLaws.{lanes-are}

@@ -1,4 +1,4 @@
-use Rattle.kt_fmtree.specs.RisingLaws.{rises-from_strict, strict-from_rises}
+use Rattle.kt_rec.specs.RisingLaws.{rises-from_strict, strict-from_rises}
 use Rattle.kt_ri.proofs.StageLemmas.{reinsured-event, reinsured-known, reinsured-rises}
 use Rattle.kt_ri.proofs.laws.net_losses_are_a_run.Goals as goal
 

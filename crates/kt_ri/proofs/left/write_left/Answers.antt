@@ -1,7 +1,7 @@
 use Rattle.std.proofs.Common.{◌≤◌, ◌++◌, ◌∙◌, List, pos, length, ap, arith, slice_index, subst, refl, take}
 use Rattle.std.proofs.lemmas.List.{take_all}
 use Rattle.std.proofs.lemmas.List.Elements.{All-from_recursion}
-use Rattle.kt_pairs.specs.Room.{AreEnded, AreIn, with_loss}
+use Rattle.kt_runs.specs.PairRoom.{AreEnded, AreIn, with_loss}
 use Rattle.kt_runs.specs.Sidx.{pair_of}
 use Rattle.kt_stream.specs.Pairs.{IsPair}
 use Rattle.kt_stream.specs.declared.entry.Pair.{Pair}

@@ -1,6 +1,6 @@
 -- What is left of the pairs so far is in the room.
 use Rattle.std.proofs.Common.{◌≡◌, ◌*◌, ◌≤◌, length, slice_index, take}
-use Rattle.kt_pairs.specs.Room.{AreIn}
+use Rattle.kt_runs.specs.PairRoom.{AreIn}
 use Rattle.kt_ri.specs.Left.{pairs_left}
 use Rattle.kt_ri.proofs.left.write_left.Given as goal
 

@@ -1,6 +1,6 @@
 use Rattle.std.proofs.Common.{◌+◌, ◌<◌, ◌≤◌, ◌^◌, ◌∙◌, [], length, slice_index, slice_index_or, sym, ap, subst, refl, arith}
 use Rattle.kt_stream.specs.declared.entry.LossRecord.{LossRecord}
-use Rattle.kt_fmtree.specs.ById.{with_more}
+use Rattle.kt_rec.specs.ById.{with_more}
 use Rattle.kt_lanes.specs.Lanes.{AreLanes, AreWide, column}
 use Rattle.kt_shares.specs.LossLanesLaws.{lane-loss}
 use Rattle.kt_shares.proofs.IdLemmas.{ids-end, ids-fit, ids-more, ids-start}

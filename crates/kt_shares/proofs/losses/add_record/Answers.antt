@@ -1,7 +1,7 @@
 use Rattle.std.proofs.Common.{◌<◌, ◌+◌, ◌^◌, length, slice_index, sym, subst}
 use Rattle.kt_runs.specs.RunLosses.{loss_of}
 use Rattle.kt_runs.specs.Sidx.{sidx_at}
-use Rattle.kt_fmtree.specs.ById.{with_more}
+use Rattle.kt_rec.specs.ById.{with_more}
 use Rattle.kt_lanes.specs.Lanes.{AreLanes, column}
 use Rattle.kt_shares.specs.Table.{row_place}
 use Rattle.kt_shares.proofs.losses.add_record.Goals as goal

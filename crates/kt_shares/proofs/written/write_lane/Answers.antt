@@ -1,5 +1,5 @@
 use Rattle.std.proofs.Common.{◌++◌, ◌∙◌, List, ap, arith, slice_index, subst, sym, refl}
-use Rattle.kt_pairs.specs.Room.{AreEnded, AreIn, with_loss}
+use Rattle.kt_runs.specs.PairRoom.{AreEnded, AreIn, with_loss}
 use Rattle.kt_stream.specs.declared.entry.Pair.{Pair}
 use Rattle.kt_shares.specs.Table.{pairs_by_row}
 use Rattle.kt_shares.proofs.PairLemmas.{more-row}

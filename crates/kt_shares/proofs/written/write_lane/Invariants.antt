@@ -1,6 +1,6 @@
 -- The pairs of the rows so far are in the room.
 use Rattle.std.proofs.Common.{◌≡◌, ◌*◌, ◌≤◌, length, slice_index}
-use Rattle.kt_pairs.specs.Room.{AreIn}
+use Rattle.kt_runs.specs.PairRoom.{AreIn}
 use Rattle.kt_shares.specs.Table.{pairs_by_row}
 use Rattle.kt_shares.proofs.written.write_lane.Given as goal
 

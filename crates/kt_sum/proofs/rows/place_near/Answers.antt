@@ -1,4 +1,4 @@
-use Rattle.kt_fmtree.specs.RisingLaws.{not-missed}
+use Rattle.kt_rec.specs.RisingLaws.{not-missed}
 use Rattle.kt_sum.proofs.rows.place_near.Goals as goal
 
 pub unreachable-requires : goal.unreachable-requires

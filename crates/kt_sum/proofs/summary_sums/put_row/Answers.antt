@@ -1,8 +1,8 @@
 use Rattle.std.proofs.Common.{◌++◌, ◌∙◌, ◌<◌, List, ℕ, [], ap, append-nil, arith, length, subst, sym}
 use Rattle.std.specs.List.{cons_option, flat_map}
-use Rattle.kt_pairs.specs.Room.{AreEnded}
+use Rattle.kt_runs.specs.PairRoom.{AreEnded}
 use Rattle.kt_stream.specs.Summary.{summary_bytes}
-use Rattle.kt_pairs.specs.Sums.{pairs_upto}
+use Rattle.kt_runs.specs.PairSums.{pairs_upto}
 use Rattle.kt_sum.specs.RunSummaries.{exposure_in}
 use Rattle.kt_sum.specs.Summaries.{record_with}
 use Rattle.kt_sum.proofs.SumsLemmas.{idle_none, put_record}

@@ -1,7 +1,7 @@
 use Rattle.std.proofs.Common.{◌∙◌, ℕ, List, length, ap, arith, sym}
 use Rattle.std.proofs.lemmas.Bool.{eqb-false, eqb-true}
 use Rattle.kt_stream.specs.declared.entry.Pair.{Pair}
-use Rattle.kt_pairs.specs.Sums.{pairs_upto}
+use Rattle.kt_runs.specs.PairSums.{pairs_upto}
 use Rattle.kt_sum.specs.RunSummaries.{exposure_in}
 use Rattle.kt_sum.proofs.SumsLemmas.{idle_none, no_record, some_record}
 use Rattle.kt_sum.proofs.summary_sums.record_of.Goals as goal

@@ -1,6 +1,6 @@
 use Rattle.std.proofs.Common.{refl}
 use Rattle.kt_stream.specs.Summary.{summary_bytes}
-use Rattle.kt_pairs.proofs.record.summary_front.Goals as goal
+use Rattle.kt_runs.proofs.byte_record.summary_front.Goals as goal
 
 pub returns : goal.returns
 unfolding summary_bytes

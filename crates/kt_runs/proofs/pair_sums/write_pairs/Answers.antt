@@ -1,9 +1,9 @@
 use Rattle.std.proofs.Common.{◌++◌, ◌∙◌, List, ap, arith, subst, sym, refl}
-use Rattle.kt_pairs.specs.Room.{AreEnded, AreIn, with_loss}
+use Rattle.kt_runs.specs.PairRoom.{AreEnded, AreIn, with_loss}
 use Rattle.kt_stream.specs.declared.entry.Pair.{Pair}
-use Rattle.kt_pairs.specs.Sums.{pairs_upto}
-use Rattle.kt_pairs.proofs.SumsLemmas.{pairs_more}
-use Rattle.kt_pairs.proofs.sums.write_pairs.Goals as goal
+use Rattle.kt_runs.specs.PairSums.{pairs_upto}
+use Rattle.kt_runs.proofs.PairSumsLemmas.{pairs_more}
+use Rattle.kt_runs.proofs.pair_sums.write_pairs.Goals as goal
 
 pub loop-place-init : goal.loop-place-init
 loop-place-init c = record { room = refl; few = omega arith; are = record { used_is = refl; bytes_are = refl } }

@@ -3,11 +3,11 @@
 ghost use Rattle.std.specs.Prelude.{◌≡◌, ◌+◌, ◌*◌, ◌<◌, ◌≤◌, ◌^◌, [], ◌++◌, length, IfOk, OnOk};
 ghost use Rattle.std.specs.List.{cons_option};
 ghost use Rattle.kt_runs.specs.Sidx.{pair_of, sidx_at};
-ghost use Rattle.kt_pairs.specs.Room.{AreEnded};
-ghost use Rattle.kt_pairs.specs.Sums.{pairs_upto};
+ghost use Rattle.kt_runs.specs.PairRoom.{AreEnded};
+ghost use Rattle.kt_runs.specs.PairSums.{pairs_upto};
 
-use crate::room::{end_pairs, keep_pair};
-use kt_runs::sidx_at;
+use crate::kept_pairs::{end_pairs, keep_pair};
+use crate::sidx::sidx_at;
 use kt_stream::{Pair, Pairs};
 use std::alloc::{AllocError, Global};
 

@@ -5,7 +5,7 @@ use Rattle.std.proofs.lemmas.List.{take_at, length-append, length-take-le, flat_
 use Rattle.kt_stream.specs.Pairs.{end_bytes, pair_bytes, pairs_bytes}
 use Rattle.kt_stream.specs.declared.entry.Pair.{Pair}
 use Rattle.kt_runs.specs.Sidx.{pair_of}
-use Rattle.kt_pairs.specs.Room.{AreIn, with_loss}
+use Rattle.kt_runs.specs.PairRoom.{AreIn, with_loss}
 
 -- a pair has twelve bytes
 pair-length : (pair : Pair) → length (pair_bytes pair) ≡ 12

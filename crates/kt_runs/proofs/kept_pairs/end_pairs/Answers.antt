@@ -1,6 +1,6 @@
 use Rattle.std.proofs.Common.{◌∙◌, pos, sym, arith}
-use Rattle.kt_pairs.proofs.Kept.{end-is, ended-bytes, no-pair}
-use Rattle.kt_pairs.proofs.room.end_pairs.Goals as goal
+use Rattle.kt_runs.proofs.PairsKept.{end-is, ended-bytes, no-pair}
+use Rattle.kt_runs.proofs.kept_pairs.end_pairs.Goals as goal
 
 pub returns-then-used-eq0-clause-ended : goal.returns-then-used-eq0-clause-ended
 returns-then-used-eq0-clause-ended c pairs here = record {

@@ -1,8 +1,8 @@
 -- The pairs of the sums so far are in the room.
 use Rattle.std.proofs.Common.{◌≡◌, ◌*◌, ◌≤◌, length}
-use Rattle.kt_pairs.specs.Room.{AreIn}
-use Rattle.kt_pairs.specs.Sums.{pairs_upto}
-use Rattle.kt_pairs.proofs.sums.write_pairs.Given as goal
+use Rattle.kt_runs.specs.PairRoom.{AreIn}
+use Rattle.kt_runs.specs.PairSums.{pairs_upto}
+use Rattle.kt_runs.proofs.pair_sums.write_pairs.Given as goal
 
 abbrev pub invariant-loop-place : goal.invariant-loop-place
 invariant-loop-place l = record {

@@ -2,7 +2,7 @@
 //! The rule: docs/STREAMS.md, "Records".
 ghost use Rattle.std.specs.Prelude.{◌≡◌, ◌+◌, ◌*◌, ◌<◌, ◌≤◌, ◌^◌, ◌++◌, List, length, IfOk};
 ghost use Rattle.kt_stream.specs.declared.entry.Pair.{Pair};
-ghost use Rattle.kt_pairs.specs.Room.{AreEnded, AreIn, with_loss};
+ghost use Rattle.kt_runs.specs.PairRoom.{AreEnded, AreIn, with_loss};
 
 use kt_stream::{END, Pair, write_pair};
 use std::alloc::{AllocError, Global};

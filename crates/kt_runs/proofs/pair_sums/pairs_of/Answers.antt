@@ -2,8 +2,8 @@ use Rattle.std.proofs.Common.{◌++◌, ◌+◌, ◌∙◌, List, [], ap, slice_
 use Rattle.std.specs.List.{cons_option}
 use Rattle.kt_runs.specs.Sidx.{pair_of, sidx_at}
 use Rattle.kt_stream.specs.declared.entry.Pair.{Pair}
-use Rattle.kt_pairs.proofs.SumsLemmas.{pairs_more}
-use Rattle.kt_pairs.proofs.sums.pairs_of.Goals as goal
+use Rattle.kt_runs.proofs.PairSumsLemmas.{pairs_more}
+use Rattle.kt_runs.proofs.pair_sums.pairs_of.Goals as goal
 
 pub loop-place-preserved : goal.loop-place-preserved
 loop-place-preserved c =

@@ -3,7 +3,7 @@
 use Rattle.std.specs.Prelude.{◌≡◌, pos, [], ◌∷◌}
 use Rattle.std.proofs.Common.{refl, arith}
 use Rattle.kt_stream.specs.Pairs.{end_bytes, pair_bytes, pairs_bytes}
-use Rattle.kt_pairs.specs.Room.{AreEnded, with_loss}
+use Rattle.kt_runs.specs.PairRoom.{AreEnded, with_loss}
 
 -- with a loss it is a pair, without one it is none
 some : with_loss (record { sidx = pos 1; loss = 200 }) ≡ record { sidx = pos 1; loss = 200 } ∷ []

@@ -3,7 +3,7 @@ use Rattle.std.proofs.Common.{◌≡◌, ℕ, zero, suc, ◌+◌, List, [], ◌�
 use Rattle.std.specs.List.{cons_option, filter_map, range_with_len}
 use Rattle.std.proofs.lemmas.List.Elements.{filter_map-append}
 use Rattle.kt_runs.specs.Sidx.{pair_of, sidx_at}
-use Rattle.kt_pairs.specs.Sums.{pairs_upto}
+use Rattle.kt_runs.specs.PairSums.{pairs_upto}
 
 -- one more number of a range
 pub range_more : (a n : ℕ) → range_with_len a (n + 1) ≡ range_with_len a n ++ (a + n) ∷ []

@@ -1,8 +1,8 @@
 use Rattle.std.proofs.Common.{ℕ, List, ◌∙◌, slice_index}
 use Rattle.std.proofs.lemmas.List.{length-map}
-use Rattle.kt_fmtree.specs.IdLaws.{with-missed}
+use Rattle.kt_rec.specs.ByIdLaws.{with-missed}
 use Rattle.kt_lanes.specs.Lanes.{column}
-use Rattle.kt_levels.proofs.by_id.add_amounts_by_id.Goals as goal
+use Rattle.kt_lanes.proofs.by_id.add_amounts_by_id.Goals as goal
 
 pub returns-in_default : goal.returns-in_default
 returns-in_default g c =

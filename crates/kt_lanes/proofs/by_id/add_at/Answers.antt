@@ -1,6 +1,6 @@
 use Rattle.std.proofs.Common.{◌<◌, length, arith}
-use Rattle.kt_levels.specs.ByIdLaws.{found-fits, more-found}
-use Rattle.kt_levels.proofs.by_id.add_at.Goals as goal
+use Rattle.kt_lanes.proofs.IdLemmas.{found-fits, more-found}
+use Rattle.kt_lanes.proofs.by_id.add_at.Goals as goal
 
 pub add_amounts-requires-clause-few : goal.add_amounts-requires-clause-few
 add_amounts-requires-clause-few g c =
