@@ -13,13 +13,15 @@ use Rattle.kt_runs.specs.RunLosses.{AreWithin, event_of, run_loss}
 use Rattle.kt_rec.specs.Rising.{rising}
 use Rattle.kt_tree.specs.Sharing.{allocated}
 use Rattle.kt_tree.specs.SharingLaws.{allocated-sum}
-use Rattle.kt_tree.specs.Sums.{sum_by-agree}
+use Rattle.kt_rec.specs.Sums.{sum_by-agree}
 use Rattle.kt_tree.specs.Tree.{Tree, IsTree, beneath, policy_loss}
 use Rattle.kt_tree.specs.TreeLaws.{each}
-use Rattle.kt_shares.specs.Shares.{insured_range, layers_of, part_of_id, record_with, sample_range, shares, taken_loss}
-use Rattle.kt_shares.specs.LookupLaws.{lookup-few}
-use Rattle.kt_shares.specs.RecordLaws.{pairs-none, record-good}
-use Rattle.kt_shares.specs.SharesLaws.{cond-le, policy-le, shares-sum, taken-few}
+use Rattle.kt_levels.specs.Shares.{layers_of, part_of_id, shares, taken_loss}
+use Rattle.kt_runs.specs.Records.{insured_range, record_with, sample_range}
+use Rattle.kt_levels.specs.LookupLaws.{lookup-few}
+use Rattle.kt_runs.specs.RecordLaws.{pairs-none, record-good}
+use Rattle.kt_levels.specs.SharesLaws.{policy-le, shares-sum, taken-few}
+use Rattle.kt_rec.specs.ListLaws.{cond-le}
 use Rattle.kt_alloc.specs.Insured.{in_order, insured_records, layer_sum, layer_sums, of_layer, output_loss, output_record, part_above, sum_with}
 use Rattle.kt_alloc.specs.declared.sums.LayerSum.{LayerSum}
 

@@ -6,9 +6,9 @@ use Rattle.std.proofs.lemmas.List.{map-append, take_more}
 use Rattle.kt_tree.specs.Tree.{Tree, beneath}
 use Rattle.kt_fmtree.specs.Parts.{Parts, IsProgramme}
 use Rattle.kt_fmtree.specs.PartsLaws.{beneath-are}
-use Rattle.kt_shares.specs.Layers.{IsTopLayer, key_of}
+use Rattle.kt_levels.specs.Layers.{IsTopLayer, key_of}
 use Rattle.kt_alloc.specs.Layout.{keys_for, owners}
-use Rattle.kt_shares.specs.declared.layers.TopLayer.{TopLayer}
+use Rattle.kt_levels.specs.declared.layers.TopLayer.{TopLayer}
 
 -- the keys of some layers and of one more
 pub keys-more : (tree : Tree) (rule : ℕ) (layers : List TopLayer) (i : ℕ) (one : TopLayer) → i < length layers → keys_for tree rule (map key_of (take (i + 1) layers)) ≡ keys_for tree rule (map key_of (take i layers)) ++ keys_for tree rule (key_of (slice_index_or layers i one) ∷ [])

@@ -3,7 +3,7 @@ use Rattle.std.proofs.Common.{◌≡◌, ℕ, suc, ◌+◌, ◌-◌, ◌<◌, �
 use Rattle.std.specs.List.{cons_option, filter_map, range_with_len, zip}
 use Rattle.std.specs.Map.{lookup}
 use Rattle.std.specs.Option.{option_or}
-use Rattle.kt_shares.specs.RowLaws.{made-more}
+use Rattle.kt_runs.specs.RowLaws.{made-more}
 
 -- ---- lookups
 

@@ -10,10 +10,10 @@ use Rattle.kt_keys.specs.Keys.{same_pair}
 use Rattle.kt_keys.specs.Climbing.{climbed}
 use Rattle.kt_tree.specs.Sharing.{allocated}
 use Rattle.kt_tree.specs.Tree.{Tree, beneath, comes_to, is_unit, policy_loss}
-use Rattle.kt_shares.specs.LookupLaws.{filter-absent, lookup-none, zip-append}
-use Rattle.kt_shares.specs.Row.{row_for}
-use Rattle.kt_shares.specs.Shares.{layers_of, shares}
-use Rattle.kt_shares.specs.SharesLaws.{length-allocated}
+use Rattle.kt_levels.specs.LookupLaws.{filter-absent, lookup-none, zip-append}
+use Rattle.kt_levels.specs.Row.{row_for}
+use Rattle.kt_levels.specs.Shares.{layers_of, shares}
+use Rattle.kt_levels.specs.SharesLaws.{length-allocated}
 use Rattle.kt_alloc.specs.Insured.{of_layer, output_loss, part_above}
 use Rattle.kt_alloc.specs.Layout.{keys, keys_for, owners}
 use Rattle.kt_alloc.proofs.ListLemmas.{lookup-append}

@@ -6,14 +6,14 @@ use Rattle.kt_runs.specs.RunLosses.{AreWithin, event_of}
 use Rattle.kt_tree.specs.Tree.{Tree}
 use Rattle.kt_rec.specs.declared.financial.FmXref.{FmXref}
 use Rattle.kt_fmtree.specs.Parts.{Parts, IsProgramme}
-use Rattle.kt_shares.specs.Layers.{key_of}
-use Rattle.kt_shares.specs.Row.{Shared}
-use Rattle.kt_shares.specs.Shares.{layers_of}
-use Rattle.kt_shares.specs.Table.{HasAmounts, table_for}
+use Rattle.kt_levels.specs.Layers.{key_of}
+use Rattle.kt_levels.specs.Row.{Shared}
+use Rattle.kt_levels.specs.Shares.{layers_of}
+use Rattle.kt_levels.specs.Table.{HasAmounts, table_for}
 use Rattle.kt_alloc.specs.Insured.{insured_records, layer_sums}
 use Rattle.kt_alloc.specs.Layout.{IsLayout, Laid}
 use Rattle.kt_alloc.specs.Table.{record_in, sums_in}
-use Rattle.kt_shares.specs.declared.layers.TopLayer.{TopLayer}
+use Rattle.kt_levels.specs.declared.layers.TopLayer.{TopLayer}
 use Rattle.kt_alloc.specs.declared.outlets.Outlet.{Outlet}
 use Rattle.kt_alloc.specs.declared.sums.LayerSum.{LayerSum}
 use Rattle.kt_alloc.proofs.TableLemmas.{amounts-within, places-within, records-are, sums-are}

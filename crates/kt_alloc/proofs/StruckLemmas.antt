@@ -10,14 +10,15 @@ use Rattle.kt_keys.specs.Climbing.{climbed}
 use Rattle.kt_stream.specs.declared.entry.LossRecord.{LossRecord}
 use Rattle.kt_runs.specs.RunLosses.{event_of}
 use Rattle.kt_runs.specs.Sidx.{pairs_of}
-use Rattle.kt_tree.specs.Members.{any-of, member-filter}
+use Rattle.kt_rec.specs.Members.{any-of, member-filter}
 use Rattle.kt_tree.specs.Struck.{is_struck, struck}
 use Rattle.kt_tree.specs.StruckLaws.{climbed-other, climbed-struck, policy_loss-none, policy_loss-struck, struck-is}
 use Rattle.kt_tree.specs.StruckSharing.{allocated-struck, part-none}
 use Rattle.kt_tree.specs.Tree.{Tree, IsTree, comes_to, is_unit, policy_loss}
-use Rattle.kt_shares.specs.Shares.{ids_of, insured_range, layers_of, part_of_id, record_with, sample_range, shares, taken_loss}
-use Rattle.kt_shares.specs.SharesLaws.{shares-sum}
-use Rattle.kt_shares.specs.StruckLaws.{taken-quiet, taken-struck}
+use Rattle.kt_levels.specs.Shares.{layers_of, part_of_id, shares, taken_loss}
+use Rattle.kt_runs.specs.Records.{ids_of, insured_range, record_with, sample_range}
+use Rattle.kt_levels.specs.SharesLaws.{shares-sum}
+use Rattle.kt_levels.specs.StruckLaws.{taken-quiet, taken-struck}
 use Rattle.kt_alloc.specs.Insured.{in_order, insured_records, layer_sum, layer_sums, of_layer, output_loss, part_above, sum_with}
 use Rattle.kt_alloc.specs.declared.sums.LayerSum.{LayerSum}
 

@@ -4,7 +4,7 @@ use Rattle.std.specs.Cmp.{IsEquivalence, nat_eq_equiv}
 use Rattle.std.specs.List.{AllByRecursion, IsDistinct, cons_option, filter, filter_map, list_any, sum, sum_by, zip}
 use Rattle.std.specs.Map.{lookup}
 use Rattle.std.proofs.lemmas.List.Sums.{sum_by-cons}
-use Rattle.kt_tree.specs.Sums.{each_then, sum_by-agree}
+use Rattle.kt_rec.specs.Sums.{each_then, sum_by-agree}
 
 -- the amount of what may be absent
 abbrev pub amount_of : {X : Type 0} → (X → ℕ) → Option X → ℕ

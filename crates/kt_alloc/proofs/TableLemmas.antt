@@ -7,20 +7,22 @@ use Rattle.kt_rec.specs.declared.financial.FmXref.{FmXref}
 use Rattle.kt_stream.specs.declared.entry.LossRecord.{LossRecord}
 use Rattle.kt_runs.specs.RunLosses.{AreWithin, event_of}
 use Rattle.kt_runs.specs.Sidx.{pairs_of, sidx_at}
-use Rattle.kt_tree.specs.Sums.{sum_by-agree}
+use Rattle.kt_rec.specs.Sums.{sum_by-agree}
 use Rattle.kt_tree.specs.Tree.{Tree, IsTree, policy_loss}
-use Rattle.kt_shares.specs.Layers.{key_of}
-use Rattle.kt_shares.specs.RecordLaws.{pairs-none}
-use Rattle.kt_shares.specs.Row.{Shared, row_for}
-use Rattle.kt_shares.specs.RowLaws.{each-range, filter_map-agree, rows-are, sample-place}
-use Rattle.kt_shares.specs.Shares.{insured_range, layers_of, record_with, sample_range, shares, taken_loss}
-use Rattle.kt_shares.specs.SharesLaws.{policy-le, shares-sum, taken-few}
-use Rattle.kt_shares.specs.Table.{HasAmounts, pairs_by_row, row_at, row_place, sampled_sum, table_for}
-use Rattle.kt_shares.specs.TableLaws.{each-row, row-is, table-length}
+use Rattle.kt_levels.specs.Layers.{key_of}
+use Rattle.kt_runs.specs.RecordLaws.{pairs-none}
+use Rattle.kt_levels.specs.Row.{Shared, row_for}
+use Rattle.kt_runs.specs.RowLaws.{each-range, filter_map-agree, rows-are, sample-place}
+use Rattle.kt_levels.specs.Shares.{layers_of, shares, taken_loss}
+use Rattle.kt_runs.specs.Records.{insured_range, record_with, sample_range}
+use Rattle.kt_levels.specs.SharesLaws.{policy-le, shares-sum, taken-few}
+use Rattle.kt_levels.specs.Table.{HasAmounts, row_at, sampled_sum, table_for}
+use Rattle.kt_runs.specs.LaneRows.{pairs_by_row, row_place}
+use Rattle.kt_levels.specs.TableLaws.{each-row, row-is, table-length}
 use Rattle.kt_alloc.specs.Insured.{in_order, insured_records, layer_sum, layer_sums, output_loss, output_record, sum_with}
 use Rattle.kt_alloc.specs.Layout.{keys, outlet_of, place_in}
 use Rattle.kt_alloc.specs.Table.{pairs_in, record_in, sum_in, sums_in}
-use Rattle.kt_shares.specs.declared.layers.TopLayer.{TopLayer}
+use Rattle.kt_levels.specs.declared.layers.TopLayer.{TopLayer}
 use Rattle.kt_alloc.specs.declared.outlets.Outlet.{Outlet}
 use Rattle.kt_alloc.proofs.ListLemmas.{filter_map-twice, place-none, place-some, followed}
 use Rattle.kt_alloc.proofs.OutputLemmas.{length-row, output-is}

@@ -12,10 +12,10 @@ use Rattle.kt_structure.specs.OutputLaws.{HasOutputs}
 use Rattle.kt_tree.specs.Programme.{tree_of}
 use Rattle.kt_tree.specs.Sharing.{allocated}
 use Rattle.kt_tree.specs.SharingLaws.{allocated-sum}
-use Rattle.kt_tree.specs.Sums.{distinct_filter, each_member, each_then, sum_by-agree, sum_by-one, sum_by-swap}
+use Rattle.kt_rec.specs.Sums.{distinct_filter, each_member, each_then, sum_by-agree, sum_by-one, sum_by-swap}
 use Rattle.kt_tree.specs.Tree.{Tree, IsTree, beneath, comes_to, is_unit, policy_loss}
-use Rattle.kt_shares.specs.Shares.{part_of_id}
-use Rattle.kt_shares.specs.SharesLaws.{length-allocated}
+use Rattle.kt_levels.specs.Shares.{part_of_id}
+use Rattle.kt_levels.specs.SharesLaws.{length-allocated}
 use Rattle.kt_alloc.specs.Insured.{of_layer, output_loss, part_above}
 use Rattle.kt_alloc.specs.Layout.{owners}
 use Rattle.kt_alloc.specs.Whole.{has_share, outputs_loss}

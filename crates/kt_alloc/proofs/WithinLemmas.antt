@@ -13,8 +13,8 @@ use Rattle.kt_tree.specs.FewLayers.{tree_of-few}
 use Rattle.kt_tree.specs.Programme.{tree_of}
 use Rattle.kt_tree.specs.TopLaws.{policies-few}
 use Rattle.kt_tree.specs.Tree.{IsTree, policy_loss}
-use Rattle.kt_shares.specs.Shares.{layers_of, taken_loss}
-use Rattle.kt_shares.specs.SharesLaws.{taken-few}
+use Rattle.kt_levels.specs.Shares.{layers_of, taken_loss}
+use Rattle.kt_levels.specs.SharesLaws.{taken-few}
 use Rattle.kt_alloc.specs.Insured.{insured_records, output_loss}
 use Rattle.kt_alloc.proofs.RecordLemmas.{made-few}
 use Rattle.kt_alloc.proofs.TotalLemmas.{layers-sum}

@@ -7,9 +7,9 @@ use Rattle.kt_rec.specs.declared.financial.FmXref.{FmXref}
 use Rattle.kt_keys.specs.Keys.{same_pair}
 use Rattle.kt_tree.specs.Tree.{Tree, beneath}
 use Rattle.kt_fmtree.specs.Parts.{Parts}
-use Rattle.kt_shares.specs.Layers.{IsTopLayer, key_of}
-use Rattle.kt_shares.specs.Shares.{layers_of}
-use Rattle.kt_shares.specs.declared.layers.TopLayer.{TopLayer}
+use Rattle.kt_levels.specs.Layers.{IsTopLayer, key_of}
+use Rattle.kt_levels.specs.Shares.{layers_of}
+use Rattle.kt_levels.specs.declared.layers.TopLayer.{TopLayer}
 use Rattle.kt_alloc.specs.Insured.{in_order}
 use Rattle.kt_alloc.specs.declared.outlets.Outlet.{Outlet}
 use Rattle.kt_alloc.specs.declared.layout.Layout.TheInside.{Inside}

@@ -4,10 +4,11 @@ use Rattle.std.specs.Prelude.{ℕ, ◌+◌, List, [], ◌∷◌, length, Option,
 use Rattle.std.specs.List.{cons_option}
 use Rattle.kt_stream.specs.declared.entry.LossRecord.{LossRecord}
 use Rattle.kt_stream.specs.declared.entry.Pair.{Pair}
-use Rattle.kt_shares.specs.Row.{Shared}
-use Rattle.kt_shares.specs.Shares.{record_with}
-use Rattle.kt_shares.specs.Table.{pairs_by_row, row_at, sampled_sum}
-use Rattle.kt_shares.specs.declared.layers.TopLayer.{TopLayer}
+use Rattle.kt_levels.specs.Row.{Shared}
+use Rattle.kt_runs.specs.Records.{record_with}
+use Rattle.kt_levels.specs.Table.{row_at, sampled_sum}
+use Rattle.kt_runs.specs.LaneRows.{pairs_by_row}
+use Rattle.kt_levels.specs.declared.layers.TopLayer.{TopLayer}
 use Rattle.kt_alloc.specs.Insured.{sum_with}
 use Rattle.kt_alloc.specs.declared.outlets.Outlet.{Outlet}
 use Rattle.kt_alloc.specs.declared.sums.LayerSum.{LayerSum}

@@ -7,7 +7,8 @@ use Rattle.kt_rec.specs.Rows.{Rows}
 use Rattle.kt_stream.specs.declared.entry.LossRecord.{LossRecord}
 use Rattle.kt_tree.specs.Programme.{tree_of}
 use Rattle.kt_tree.specs.Tree.{Tree, policy_loss}
-use Rattle.kt_shares.specs.Shares.{id_loss, insured_range, taken_loss}
+use Rattle.kt_levels.specs.Shares.{taken_loss}
+use Rattle.kt_runs.specs.Records.{id_loss, insured_range}
 use Rattle.kt_alloc.specs.Insured.{insured_records, layer_sums, output_loss}
 use Rattle.kt_alloc.specs.Layout.{owners}
 

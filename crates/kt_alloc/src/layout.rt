@@ -9,12 +9,12 @@ ghost use Rattle.kt_fmtree.specs.Parts.{IsProgramme};
 ghost use Rattle.kt_alloc.specs.Index.{AreIndexed};
 ghost use Rattle.kt_alloc.specs.Insured.{in_order};
 ghost use Rattle.kt_alloc.specs.Layout.{IsLayout, keys_for, outlet_of};
-ghost use Rattle.kt_shares.specs.Layers.{IsTopLayer, key_of};
+ghost use Rattle.kt_levels.specs.Layers.{IsTopLayer, key_of};
 
 use crate::index::OutputIndex;
 use crate::outlets::{Outlet, first_outlets};
 use kt_fmtree::Programme;
-use kt_shares::{TopLayer, top_layers};
+use kt_levels::{TopLayer, top_layers};
 use std::alloc::{AllocError, Global};
 use std::marker::Model;
 

@@ -2,7 +2,7 @@
 //! The rule: docs/FINANCIAL_MODULE.md, "Insured losses".
 
 use crate::sums::LayerSum;
-use kt_shares::LossLanes;
+use kt_runs::LossLanes;
 use kt_stream::{LossRecord, Records};
 
 /// The insured losses of a run.

@@ -6,8 +6,9 @@ ghost use Rattle.kt_stream.specs.Losses.{loss_bytes};
 ghost use Rattle.kt_alloc.specs.Table.{record_in};
 
 use crate::outlets::Outlet;
+use kt_levels::{Table, TableLosses};
 use kt_money::Bytes;
-use kt_shares::{LossLanes, Table, TableLosses};
+use kt_runs::LossLanes;
 use std::alloc::{AllocError, Global};
 
 /// The losses of outputs, in their order.

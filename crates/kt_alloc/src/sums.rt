@@ -2,10 +2,10 @@
 //! The rule: docs/FINANCIAL_MODULE.md, "Insured losses".
 ghost use Rattle.std.specs.Prelude.{◌≡◌, ℕ, ◌<◌, ◌++◌, [], length, All, IfOk, OnOk};
 ghost use Rattle.std.specs.List.{cons_option};
-ghost use Rattle.kt_shares.specs.Table.{HasAmounts};
+ghost use Rattle.kt_levels.specs.Table.{HasAmounts};
 ghost use Rattle.kt_alloc.specs.Table.{sum_in, sums_in};
 
-use kt_shares::{Table, TopLayer};
+use kt_levels::{Table, TopLayer};
 use kt_stream::Records;
 use std::alloc::{AllocError, Global};
 

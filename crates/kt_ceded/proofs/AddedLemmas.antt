@@ -7,11 +7,11 @@ use Rattle.std.proofs.lemmas.List.{get_or-map, length-map, length-set}
 use Rattle.std.proofs.lemmas.List.Sums.{sum_by-take-le, sum_by_more}
 use Rattle.std.proofs.lemmas.Slice.Zip.{get_or-zip}
 use Rattle.kt_runs.specs.Adding.{Holds}
-use Rattle.kt_shares.specs.HoldsLaws.{holds-more}
+use Rattle.kt_runs.specs.HoldsLaws.{holds-more}
 use Rattle.kt_lanes.specs.LaneLaws.{column-at, set-column, set-wide}
 use Rattle.kt_lanes.specs.Lanes.{AreWide, IsLane, column}
-use Rattle.kt_shares.specs.Row.{Shared, no_shares}
-use Rattle.kt_shares.specs.Table.{row_at}
+use Rattle.kt_levels.specs.Row.{Shared, no_shares}
+use Rattle.kt_levels.specs.Table.{row_at}
 use Rattle.kt_ceded.specs.Ceded.{AreCededShares, HasShares, shares_at}
 use Rattle.kt_ceded.specs.CededLaws.{length-paired}
 

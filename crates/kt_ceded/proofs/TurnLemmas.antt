@@ -8,9 +8,9 @@ use Rattle.std.proofs.lemmas.List.FromFn.{length-range_with_len}
 use Rattle.std.proofs.lemmas.List.Sums.{sum_by-cons}
 use Rattle.kt_lanes.specs.Lanes.{AreWide, column}
 use Rattle.kt_runs.specs.Adding.{Holds}
-use Rattle.kt_shares.specs.HoldsLaws.{apart}
-use Rattle.kt_shares.specs.Row.{Shared, no_shares}
-use Rattle.kt_shares.specs.Table.{row_at}
+use Rattle.kt_runs.specs.HoldsLaws.{apart}
+use Rattle.kt_levels.specs.Row.{Shared, no_shares}
+use Rattle.kt_levels.specs.Table.{row_at}
 use Rattle.kt_ceded.specs.Ceded.{AreCededShares, HasShares, share_at, shares_at}
 use Rattle.kt_ceded.specs.CededLaws.{length-paired}
 

@@ -4,8 +4,8 @@ use Rattle.std.specs.Prelude.{◌≡◌, ℕ, ◌<◌, ◌^◌, cond, nat_eq, Li
 use Rattle.std.specs.List.{sum_by, zip}
 use Rattle.kt_lanes.specs.Lanes.{AreWide, column}
 use Rattle.kt_runs.specs.Adding.{Holds}
-use Rattle.kt_shares.specs.Row.{Shared}
-use Rattle.kt_shares.specs.Table.{row_at}
+use Rattle.kt_levels.specs.Row.{Shared}
+use Rattle.kt_levels.specs.Table.{row_at}
 
 -- what a place has of shares whose places are these
 abbrev pub share_at : List ℕ → List ℕ → ℕ → ℕ

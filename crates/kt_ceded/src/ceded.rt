@@ -4,8 +4,7 @@ ghost use Rattle.std.specs.Prelude.{◌≡◌, ◌≤◌, ◌<◌, All, IfOk, le
 ghost use Rattle.kt_ceded.specs.Ceded.{AreCededShares, HasShares};
 
 use kt_lanes::Lanes;
-use kt_levels::are_in_turn;
-use kt_shares::Table;
+use kt_levels::{Table, are_in_turn};
 use std::alloc::{AllocError, Global};
 
 /// The shares of a table, added by the places of their ids, row by row.

@@ -11,7 +11,7 @@ use Rattle.kt_rec.specs.FootRows.{first_refused_row}
 use Rattle.kt_rec.specs.Rows.{Rows}
 use Rattle.kt_rec.specs.declared.foot_rows.ModelStop.{ModelStop}
 use Rattle.kt_rec.specs.declared.foot_rows.ModelStop.TheVariants as stop
-use Rattle.kt_tree.specs.Sums.{each_append}
+use Rattle.kt_rec.specs.Sums.{each_append}
 use Rattle.kt_chain.specs.Outcome.{row_refusal}
 use Rattle.kt_chain.specs.Rounds.{IsPart, RoundParts, before_part, given_block, part_events, part_of}
 use Rattle.kt_fold.specs.Folds.{IsWhole, blocks_of}

@@ -15,7 +15,7 @@ use Rattle.kt_periods.specs.Adding.{first_refusal}
 use Rattle.kt_rec.specs.FootRows.{first_refused_row}
 use Rattle.kt_rec.specs.Rows.{Rows}
 use Rattle.kt_rec.specs.declared.hazard.FootRow.{FootRow}
-use Rattle.kt_tree.specs.Sums.{each_append}
+use Rattle.kt_rec.specs.Sums.{each_append}
 use Rattle.kt_chain.specs.Events.{RunInput, all_added, block_of, event_added}
 use Rattle.kt_fold.specs.Added.{block_added, blocks_added}
 use Rattle.kt_chain.specs.Outcome.{event_refusal, row_refusal}

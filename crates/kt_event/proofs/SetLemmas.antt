@@ -5,14 +5,14 @@ use Rattle.std.proofs.lemmas.List.Elements.{All-map, recursion_from_All}
 use Rattle.kt_event.specs.Losses.{AreSummaries, summaries_of}
 use Rattle.kt_event.specs.Terms.{summary_set}
 use Rattle.kt_event.specs.declared.block.Summaries.{Summaries}
-use Rattle.kt_fmtree.specs.CarriedLaws.{map-map}
+use Rattle.kt_rec.specs.ListLaws.{map-map}
 use Rattle.kt_rec.specs.Rows.{Rows}
 use Rattle.kt_rec.specs.declared.perspective.Perspective.{Perspective}
 use Rattle.kt_stream.specs.Summary.{IsSummary}
 use Rattle.kt_stream.specs.declared.entry.LossRecord.{LossRecord}
 use Rattle.kt_sum.specs.SetSums.{set_records}
 use Rattle.kt_sum.specs.declared.set_records.SetRecords.{SetRecords}
-use Rattle.kt_tree.specs.Sums.{each_append}
+use Rattle.kt_rec.specs.Sums.{each_append}
 
 -- the summaries of a set of a perspective
 abbrev pub of_set : Perspective → SetRecords → Summaries

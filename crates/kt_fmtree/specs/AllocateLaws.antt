@@ -14,7 +14,7 @@ use Rattle.kt_fmtree.specs.Carried.{Carried, AreCarried, IsCarriedBy}
 use Rattle.kt_fmtree.specs.Placed.{levels_down, CanShare, unit_parts}
 use Rattle.kt_fmtree.specs.declared.part.PlacedPart.{PlacedPart}
 use Rattle.std.proofs.lemmas.List.{length-map}
-use Rattle.kt_fmtree.specs.DownLaws.{sum_by-map}
+use Rattle.kt_rec.specs.Sums.{sum_by-map}
 use Rattle.kt_fmtree.specs.SharedPartsLaws.{tree_parts, tree_parts-shared, levels-given, levels-can, whole-losses, whole-few}
 
 -- ---- bounds

@@ -7,35 +7,17 @@ use Rattle.std.proofs.Common.{refl, sym, ap, subst, ◌∙◌, arith}
 use Rattle.std.proofs.lemmas.List.{take-map, length-map}
 use Rattle.std.proofs.lemmas.List.FromFn.{get_or-map-range_with_len}
 use Rattle.std.proofs.lemmas.List.Sums.{sum_by-cons, sum-map}
+use Rattle.kt_rec.specs.ListLaws.{drop-map, map-agree, map-map}
 use Rattle.kt_rules.specs.Amounts.{total}
 use Rattle.kt_rules.specs.Profiles.{IsProfile}
 use Rattle.kt_rules.specs.Rules.{applied}
 use Rattle.kt_rules.specs.declared.carry.Carry.{Carry}
-use Rattle.kt_tree.specs.Sums.{sum_by-agree}
+use Rattle.kt_rec.specs.Sums.{sum_by-agree}
 use Rattle.kt_tree.specs.Tree.{Tree, whole_loss, add_carries, sum_carries, carry_of, base_of, ground_up}
 use Rattle.kt_tree.specs.TreeLaws.{each, carry_of-total, ground_up-few}
 use Rattle.kt_fmtree.specs.Parts.{Parts, IsNode, IsProgramme, nodes_at, units_at}
 use Rattle.kt_fmtree.specs.Carried.{Carried, added, child_sum, node_carry, leaf_row, row_of, loss_by, CanCarry, AreCarried}
 use Rattle.kt_fmtree.specs.declared.node.Node.{Node}
-
--- ---- lists
-
-drop-map : {X Y : Type 0} (f : X → Y) (n : ℕ) (xs : List X) → drop n (map f xs) ≡ map f (drop n xs)
-drop-map f zero xs = refl
-drop-map f (suc n) [] = refl
-drop-map f (suc n) (x ∷ xs) = drop-map f n xs
-
--- what agrees at each of a list makes one list of it
-pub map-agree : {X Y : Type 0} (f g : X → Y) (xs : List X) → All (λ x. f x ≡ g x) xs → map f xs ≡ map g xs
-map-agree f g [] same = refl
-map-agree f g (x ∷ xs) same =
-    let here : f x ≡ g x = same 0 x (omega arith) in
-    let rest = map-agree f g xs (λ k d below. same (suc k) d (omega arith)) in
-    rw (here, rest) refl
-
-pub map-map : {X Y Z : Type 0} (f : Y → Z) (g : X → Y) (xs : List X) → map f (map g xs) ≡ map (λ x. f (g x)) xs
-map-map f g [] = refl
-map-map f g (x ∷ xs) = ap (λ ys. f (g x) ∷ ys) (map-map f g xs)
 
 -- ---- losses by id
 

@@ -10,7 +10,7 @@ use Rattle.kt_money.specs.SharingLaws.{share_out-adds}
 use Rattle.kt_rules.specs.Amounts.{total}
 use Rattle.kt_rules.specs.Profiles.{IsProfile}
 use Rattle.kt_rules.specs.declared.carry.Carry.{Carry}
-use Rattle.kt_tree.specs.Sums.{sum_by-agree, sum_by-below, sum_by-flat_map, each_flat_map}
+use Rattle.kt_rec.specs.Sums.{sum_by-agree, sum_by-below, sum_by-flat_map, each_flat_map, sum_by-map}
 use Rattle.kt_tree.specs.Tree.{carry_of, ground_up}
 use Rattle.kt_tree.specs.TreeLaws.{each, carry_of-total, ground_up-few}
 use Rattle.kt_fmtree.specs.Parts.{Parts, IsNode, units_at}
@@ -27,10 +27,6 @@ length-take_le : {X : Type 0} (n : ℕ) (xs : List X) → length (take n xs) ≤
 length-take_le zero xs = omega arith
 length-take_le (suc n) [] = omega arith
 length-take_le (suc n) (x ∷ xs) = omega (arith, length-take_le n xs)
-
-pub sum_by-map : {X Y : Type 0} (f : Y → ℕ) (g : X → Y) (xs : List X) → sum_by f (map g xs) ≡ sum_by (λ x. f (g x)) xs
-sum_by-map f g [] = refl
-sum_by-map f g (x ∷ xs) = omega (arith, sum_by-cons f (g x) (map g xs), sum_by-cons (λ y. f (g y)) x xs, sum_by-map f g xs)
 
 -- ---- one level, part by part
 

@@ -9,17 +9,18 @@ use Rattle.std.proofs.lemmas.List.Sums.{sum_by-cons}
 use Rattle.kt_money.specs.Sharing.{share_out}
 use Rattle.kt_rules.specs.Amounts.{total}
 use Rattle.kt_rules.specs.declared.carry.Carry.{Carry}
-use Rattle.kt_tree.specs.Sums.{sum_by-agree, sum_by-flat_map, sum_by-one, each_member, distinct_filter}
+use Rattle.kt_rec.specs.Sums.{sum_by-agree, sum_by-flat_map, sum_by-one, each_member, distinct_filter, sum_by-map}
 use Rattle.kt_tree.specs.Sharing.{Part, parts_for, carried_loss, weight_of, passed_down, id_parts, part_of}
 use Rattle.kt_tree.specs.Tree.{Tree, IsTree, carry_of, ground_up, comes_to, beneath}
 use Rattle.kt_tree.specs.TreeLaws.{each, carry_of-total, ground_up-beneath}
 use Rattle.kt_fmtree.specs.Parts.{Parts, IsNode, IsProgramme, units_at}
 use Rattle.kt_fmtree.specs.Carried.{Carried, AreCarried, IsCarriedBy}
-use Rattle.kt_fmtree.specs.CarriedLaws.{children-of, map-agree, map-map}
+use Rattle.kt_fmtree.specs.CarriedLaws.{children-of}
+use Rattle.kt_rec.specs.ListLaws.{map-agree, map-map}
 use Rattle.kt_fmtree.specs.declared.node.Node.{Node}
 use Rattle.kt_fmtree.specs.Placed.{weight, amounts_for, parts_from, children_of, no_node, node_at, given_by, level_down, levels_down, CanShare, unit_parts}
 use Rattle.kt_fmtree.specs.declared.part.PlacedPart.{PlacedPart}
-use Rattle.kt_fmtree.specs.DownLaws.{sum_by-map, amounts-length, nodes-places, can-next}
+use Rattle.kt_fmtree.specs.DownLaws.{amounts-length, nodes-places, can-next}
 
 -- ---- what the tree gives down
 

@@ -9,7 +9,7 @@ use Rattle.kt_event.specs.declared.block.EventBlock.{EventBlock}
 use Rattle.kt_part.specs.Folding.{Takes}
 use Rattle.kt_periods.specs.Adding.{first_refusal}
 use Rattle.kt_rec.specs.Rows.{Rows}
-use Rattle.kt_tree.specs.Sums.{each_append}
+use Rattle.kt_rec.specs.Sums.{each_append}
 use Rattle.kt_fold.specs.Added.{block_added, blocks_added}
 use Rattle.kt_fold.specs.FoldKeeps.{KeepsFront, KeepsPart, KeepsWhole, with_part}
 use Rattle.kt_fold.specs.Folds.{AddsBlocks, FoldStart, FoldState, IsReason, IsWhole, StandsBehind, StopsAdding, StopsAtBlock, StopsBehind, StopsBy, blocks_of, fold_refusal, with_blocks}

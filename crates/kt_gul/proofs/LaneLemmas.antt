@@ -4,9 +4,9 @@ use Rattle.std.specs.List.{cons_option, filter_map, flat_map, range_with_len}
 use Rattle.kt_stream.specs.declared.entry.Pair.{Pair}
 use Rattle.kt_runs.specs.Sidx.{pair_of}
 use Rattle.kt_runs.specs.Sidx as runs
-use Rattle.kt_shares.specs.RowLaws.{sample-place}
-use Rattle.kt_shares.specs.Shares as shares
-use Rattle.kt_shares.specs.Table.{pairs_by_row, pairs_with, row_place}
+use Rattle.kt_runs.specs.RowLaws.{sample-place}
+use Rattle.kt_runs.specs.Records as records
+use Rattle.kt_runs.specs.LaneRows.{pairs_by_row, pairs_with, row_place}
 use Rattle.kt_gul.specs.GroundUp.{pair_at, pairs_of, record_with, sidx_at}
 
 -- a place behind the first has the sidx of a row
@@ -37,7 +37,7 @@ row-pairs deviation lane samples long =
     ∙ ap (cons_option (pair_of (runs.sidx_at 2147483646) deviation)) (behind-first deviation lane 0 (samples + 1) ∙ ap (λ (n : ℕ). pairs_by_row (slice_index lane) n) (sym long)))
 
 -- a record that may be absent
-one-record : (event id : ℕ) (pairs : List Pair) → cons_option (shares.record_with event id pairs) [] ≡ flat_map (λ entry. entry ∷ []) (filter_map (record_with event id) (pairs ∷ []))
+one-record : (event id : ℕ) (pairs : List Pair) → cons_option (records.record_with event id pairs) [] ≡ flat_map (λ entry. entry ∷ []) (filter_map (record_with event id) (pairs ∷ []))
 one-record event id [] = refl
 one-record event id (pair ∷ pairs) = refl
 
@@ -47,7 +47,7 @@ first-and-lane [] some = absurd (omega (arith, some))
 first-and-lane (deviation ∷ lane) some = refl
 
 -- what is put of a row is its record
-pub row-record : (event id deviation : ℕ) (row lane : List ℕ) (samples : ℕ) → length row ≡ samples + 2 → row ≡ deviation ∷ lane → cons_option (shares.record_with event id (pairs_with deviation lane)) [] ≡ flat_map (λ entry. entry ∷ []) (filter_map (record_with event id) (pairs_of (λ place. slice_index row place) samples ∷ []))
+pub row-record : (event id deviation : ℕ) (row lane : List ℕ) (samples : ℕ) → length row ≡ samples + 2 → row ≡ deviation ∷ lane → cons_option (records.record_with event id (pairs_with deviation lane)) [] ≡ flat_map (λ entry. entry ∷ []) (filter_map (record_with event id) (pairs_of (λ place. slice_index row place) samples ∷ []))
 row-record event id deviation row lane samples long is =
     let width : length lane ≡ samples + 1 = omega (arith, long, ap length is) in
     one-record event id (pairs_with deviation lane)

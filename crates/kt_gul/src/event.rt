@@ -22,7 +22,7 @@ use crate::sums::Scratch;
 use crate::tables::{StepTables, tables_of};
 use kt_index::ByKey;
 use kt_money::Bytes;
-use kt_shares::LossLanes;
+use kt_runs::LossLanes;
 use kt_stream::{Cdf, LossRecord, Records, put_loss};
 use kt_tables::Portfolio;
 use std::alloc::{AllocError, Global};

@@ -7,7 +7,7 @@ ghost use Rattle.kt_gul.specs.GroundUp.{StandsInFront, pairs_of, record_with};
 use crate::draw::Draw;
 use crate::pairs::write_row;
 use kt_money::Bytes;
-use kt_shares::LossLanes;
+use kt_runs::LossLanes;
 use kt_stream::loss_front;
 use std::alloc::AllocError;
 use std::marker::Model;

@@ -1,2 +1,9 @@
 pub mod LaneLemmas
 pub mod SingleLemmas
+pub mod LayerLemmas
+pub mod IdLemmas
+pub mod RowLemmas
+pub mod ByLanesLemmas
+pub mod ByRowsLemmas
+pub mod TableLemmas
+pub mod TableLossesLemmas

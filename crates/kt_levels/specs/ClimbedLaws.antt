@@ -11,11 +11,12 @@ use Rattle.kt_rules.specs.Amounts.{total}
 use Rattle.kt_rules.specs.LossAlone.{looks_back, loss_after, loss-alone}
 use Rattle.kt_rules.specs.Profiles.{IsProfile}
 use Rattle.kt_rules.specs.declared.carry.Carry.{Carry}
-use Rattle.kt_tree.specs.Sums.{sum_by-below}
+use Rattle.kt_rec.specs.Sums.{sum_by-below}
 use Rattle.kt_tree.specs.Tree.{whole_loss}
 use Rattle.kt_fmtree.specs.Parts.{Parts, IsNode, HasProgramme, units_at}
 use Rattle.kt_fmtree.specs.Carried.{added, child_sum, node_carry, leaf_row, row_of, CanCarry}
-use Rattle.kt_fmtree.specs.CarriedLaws.{can-carry, map-agree, map-map}
+use Rattle.kt_fmtree.specs.CarriedLaws.{can-carry}
+use Rattle.kt_rec.specs.ListLaws.{map-agree, map-map}
 use Rattle.kt_fmtree.specs.declared.node.Node.{Node}
 use Rattle.kt_lanes.specs.Lanes.{column, AreLanes, AreWide}
 use Rattle.kt_levels.specs.Units.{losses_of, child_losses, unit_loss, CanTake}

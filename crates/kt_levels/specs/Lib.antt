@@ -8,3 +8,15 @@ pub mod ByIdLaws
 pub mod Policies
 pub mod PoliciesLaws
 pub mod LevelsLaws
+pub mod Shares
+pub mod Layers
+pub mod Row
+pub mod Table
+pub mod TableRun
+pub mod TableLosses
+pub mod ByLanes
+pub mod Kept
+pub mod LookupLaws
+pub mod SharesLaws
+pub mod TableLaws
+pub mod StruckLaws

@@ -8,3 +8,6 @@ pub mod RisingLaws
 pub mod ById
 pub mod ByIdLaws
 pub mod Options
+pub mod Sums
+pub mod ListLaws
+pub mod Members

@@ -13,19 +13,20 @@ use Rattle.kt_runs.specs.RunLosses.{AreWithin}
 use Rattle.kt_runs.specs.Sidx.{sidx_at}
 use Rattle.kt_rec.specs.Rising.{IsRising}
 use Rattle.kt_tree.specs.Sharing.{allocated}
-use Rattle.kt_tree.specs.Sums.{distinct_filter, each_flat_map, each_member}
+use Rattle.kt_rec.specs.Sums.{distinct_filter, each_flat_map, each_member}
 use Rattle.kt_tree.specs.Tree.{Tree, IsTree, beneath, comes_to, policy_loss}
 use Rattle.kt_fmtree.specs.Parts.{Parts, IsProgramme}
 use Rattle.kt_fmtree.specs.PartsLaws.{beneath-are}
-use Rattle.kt_shares.specs.Layers.{IsTopLayer, key_of}
-use Rattle.kt_shares.specs.LookupLaws.{same-place, zip-append}
+use Rattle.kt_levels.specs.Layers.{IsTopLayer, key_of}
+use Rattle.kt_levels.specs.LookupLaws.{same-place, zip-append}
 use Rattle.kt_lanes.specs.Lanes.{AreWide, column}
-use Rattle.kt_shares.specs.Row.{Shared, no_shares, row_for}
-use Rattle.kt_shares.specs.Shares.{layers_of, part_of_id, shares, taken_loss}
-use Rattle.kt_shares.specs.SharesLaws.{length-allocated, taken-few}
-use Rattle.kt_shares.specs.Table.{row_at, row_place, table_for}
-use Rattle.kt_shares.specs.TableLaws.{each-row, row-is, table-length}
-use Rattle.kt_shares.specs.declared.layers.TopLayer.{TopLayer}
+use Rattle.kt_levels.specs.Row.{Shared, no_shares, row_for}
+use Rattle.kt_levels.specs.Shares.{layers_of, part_of_id, shares, taken_loss}
+use Rattle.kt_levels.specs.SharesLaws.{length-allocated, taken-few}
+use Rattle.kt_levels.specs.Table.{row_at, table_for}
+use Rattle.kt_runs.specs.LaneRows.{row_place}
+use Rattle.kt_levels.specs.TableLaws.{each-row, row-is, table-length}
+use Rattle.kt_levels.specs.declared.layers.TopLayer.{TopLayer}
 use Rattle.kt_ceded.specs.Ceded.{AreCededShares, HasShares, share_at}
 use Rattle.kt_ceded.specs.CededLaws.{ceded-all}
 use Rattle.kt_ri.specs.Ceded.{AreRows}

@@ -6,14 +6,15 @@ use Rattle.std.proofs.lemmas.List.Sums.{sum_by-cons}
 use Rattle.kt_keys.specs.Climbing.{climbed}
 use Rattle.kt_rec.specs.Rising.{IsRising, distinct-from_rising}
 use Rattle.kt_tree.specs.Sharing.{allocated}
-use Rattle.kt_tree.specs.Sums.{sum_by-flat_map, sum_by-one}
+use Rattle.kt_rec.specs.Sums.{sum_by-flat_map, sum_by-one}
 use Rattle.kt_tree.specs.Tree.{Tree, IsTree, beneath, comes_to, is_unit}
 use Rattle.kt_tree.specs.Struck.{is_struck, struck}
 use Rattle.kt_rec.specs.RisingLaws.{rising-filter}
 use Rattle.kt_fmtree.specs.Parts.{Parts, IsProgramme}
-use Rattle.kt_shares.specs.LookupLaws.{filter-absent, lookup-none}
-use Rattle.kt_shares.specs.Shares.{part_of_id}
-use Rattle.kt_shares.specs.SharesLaws.{cond-le, part-le}
+use Rattle.kt_levels.specs.LookupLaws.{filter-absent, lookup-none}
+use Rattle.kt_levels.specs.Shares.{part_of_id}
+use Rattle.kt_levels.specs.SharesLaws.{part-le}
+use Rattle.kt_rec.specs.ListLaws.{cond-le}
 use Rattle.kt_ri.specs.Ceding.{HasFewLayers}
 use Rattle.kt_ri.specs.Reinsurance.{ceded_loss}
 

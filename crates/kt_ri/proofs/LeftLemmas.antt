@@ -11,10 +11,10 @@ use Rattle.kt_runs.specs.RunLosses.{loss_of}
 use Rattle.kt_runs.specs.Sidx.{pair_of, pairs_of, sidx_at}
 use Rattle.kt_tree.specs.Tree.{Tree}
 use Rattle.kt_fmtree.specs.Parts.{Parts, IsProgramme}
-use Rattle.kt_shares.specs.Less.{amount_in}
-use Rattle.kt_shares.specs.RowLaws.{pairs-agree, sample-place}
-use Rattle.kt_shares.specs.Shares.{insured_range}
-use Rattle.kt_shares.specs.Table.{pairs_by_row, row_place}
+use Rattle.kt_runs.specs.Less.{amount_in}
+use Rattle.kt_runs.specs.RowLaws.{pairs-agree, sample-place}
+use Rattle.kt_runs.specs.Records.{insured_range}
+use Rattle.kt_runs.specs.LaneRows.{pairs_by_row, row_place}
 use Rattle.kt_ri.specs.Ceded.{AreCeded, part_behind}
 use Rattle.kt_ri.specs.Ceding.{IsPlaceOf}
 use Rattle.kt_ri.specs.Left.{left_at, pairs_left}

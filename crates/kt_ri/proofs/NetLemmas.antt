@@ -15,13 +15,14 @@ use Rattle.kt_tree.specs.Sharing.{allocated}
 use Rattle.kt_tree.specs.Tree.{Tree, beneath, comes_to}
 use Rattle.kt_fmtree.specs.Parts.{Parts, IsProgramme}
 use Rattle.kt_rec.specs.RisingLaws.{rising-made}
-use Rattle.kt_shares.specs.LookupLaws.{lookup-none}
-use Rattle.kt_shares.specs.Less.{IsPlaceIn, amount_in, records_less}
-use Rattle.kt_shares.specs.PairLaws.{pairs-le}
-use Rattle.kt_shares.specs.RecordLaws.{record-event, record-good, record-id}
-use Rattle.kt_shares.specs.RowLaws.{pairs-agree, rows-are}
-use Rattle.kt_shares.specs.Shares.{insured_range, layers_of, part_of_id, record_with}
-use Rattle.kt_shares.specs.Table.{pairs_by_row, row_place}
+use Rattle.kt_levels.specs.LookupLaws.{lookup-none}
+use Rattle.kt_runs.specs.Less.{IsPlaceIn, amount_in, records_less}
+use Rattle.kt_runs.specs.PairLaws.{pairs-le}
+use Rattle.kt_runs.specs.RecordLaws.{record-event, record-good, record-id}
+use Rattle.kt_runs.specs.RowLaws.{pairs-agree, rows-are}
+use Rattle.kt_levels.specs.Shares.{layers_of, part_of_id}
+use Rattle.kt_runs.specs.Records.{insured_range, record_with}
+use Rattle.kt_runs.specs.LaneRows.{pairs_by_row, row_place}
 use Rattle.kt_ri.specs.Ceded.{AreCeded, AreRows, pairs_behind, part_behind, record_behind}
 use Rattle.kt_ri.specs.Ceding.{AreRecordPlaces, IsPlaceOf}
 use Rattle.kt_ri.specs.Reinsurance.{ceded_at, ceded_loss, net_record, net_records}

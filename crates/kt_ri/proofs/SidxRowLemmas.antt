@@ -10,8 +10,8 @@ use Rattle.kt_stream.specs.Pairs.{ArePairs, BeginsAbove, IsPair, IsSidx, RisingS
 use Rattle.kt_runs.specs.RunLosses.{loss_of}
 use Rattle.kt_runs.specs.Sidx.{sidx_at}
 use Rattle.kt_runs.specs.SidxLaws.{one_place}
-use Rattle.kt_shares.specs.RowLaws.{row-back, sample-place}
-use Rattle.kt_shares.specs.Table.{row_place}
+use Rattle.kt_runs.specs.RowLaws.{row-back, sample-place}
+use Rattle.kt_runs.specs.LaneRows.{row_place}
 
 -- the row of a sidx
 abbrev pub row_of : ℤ → ℕ

@@ -11,12 +11,13 @@ use Rattle.kt_tree.specs.StruckLaws.{policy_loss-none}
 use Rattle.kt_tree.specs.StruckSharing.{allocated-struck}
 use Rattle.kt_tree.specs.Sharing.{allocated}
 use Rattle.kt_tree.specs.SharingLaws.{allocated-sum}
-use Rattle.kt_tree.specs.Sums.{sum_by-agree, sum_by-filter, sum_by-flat_map}
+use Rattle.kt_rec.specs.Sums.{sum_by-agree, sum_by-filter, sum_by-flat_map}
 use Rattle.kt_tree.specs.Tree.{Tree, IsTree, beneath}
 use Rattle.kt_tree.specs.TreeLaws.{each}
-use Rattle.kt_shares.specs.LookupLaws.{lookup-few}
-use Rattle.kt_shares.specs.Shares.{ids_of, insured_range, layers_of, part_of_id, record_with, taken_loss}
-use Rattle.kt_shares.specs.StruckLaws.{taken-quiet, taken-struck}
+use Rattle.kt_levels.specs.LookupLaws.{lookup-few}
+use Rattle.kt_levels.specs.Shares.{layers_of, part_of_id, taken_loss}
+use Rattle.kt_runs.specs.Records.{ids_of, insured_range, record_with}
+use Rattle.kt_levels.specs.StruckLaws.{taken-quiet, taken-struck}
 use Rattle.kt_ri.specs.Ceded.{part_behind, records_behind}
 use Rattle.kt_ri.specs.Reinsurance.{ceded_at, ceded_loss}
 

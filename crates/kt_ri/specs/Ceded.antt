@@ -9,9 +9,9 @@ use Rattle.kt_runs.specs.RunLosses.{loss_of}
 use Rattle.kt_runs.specs.Sidx.{pairs_of, sidx_at}
 use Rattle.kt_tree.specs.Tree.{Tree}
 use Rattle.kt_fmtree.specs.Parts.{Parts, IsProgramme}
-use Rattle.kt_shares.specs.Less.{amount_in}
-use Rattle.kt_shares.specs.Shares.{insured_range, record_with}
-use Rattle.kt_shares.specs.Table.{pairs_by_row, row_place}
+use Rattle.kt_runs.specs.Less.{amount_in}
+use Rattle.kt_runs.specs.Records.{insured_range, record_with}
+use Rattle.kt_runs.specs.LaneRows.{pairs_by_row, row_place}
 use Rattle.kt_ri.specs.Reinsurance.{ceded_at}
 
 -- a lane for each id, with amounts for the mean and for each sample

@@ -6,9 +6,9 @@ use Rattle.kt_rec.specs.Rising.{IsRising}
 use Rattle.kt_stream.specs.declared.entry.LossRecord.{LossRecord}
 use Rattle.kt_tree.specs.Tree.{Tree, beneath}
 use Rattle.kt_fmtree.specs.Parts.{Parts, IsProgramme}
-use Rattle.kt_shares.specs.Layers.{IsTopLayer, key_of}
-use Rattle.kt_shares.specs.Shares.{layers_of}
-use Rattle.kt_shares.specs.declared.layers.TopLayer.{TopLayer}
+use Rattle.kt_levels.specs.Layers.{IsTopLayer, key_of}
+use Rattle.kt_levels.specs.Shares.{layers_of}
+use Rattle.kt_levels.specs.declared.layers.TopLayer.{TopLayer}
 use Rattle.kt_ri.specs.declared.ceding.CedingProgramme.TheInside.{Inside}
 
 -- the place of an id among some, where it is one of them

@@ -8,7 +8,7 @@ use Rattle.kt_rules.specs.Rules.{rule_of}
 use Rattle.kt_stream.specs.declared.entry.LossRecord.{LossRecord}
 use Rattle.kt_tree.specs.Programme.{tree_of}
 use Rattle.kt_tree.specs.ExampleRows.{layer_terms, step, terms, two_layers}
-use Rattle.kt_shares.specs.Shares.{part_of_id, taken_loss}
+use Rattle.kt_levels.specs.Shares.{part_of_id, taken_loss}
 use Rattle.kt_ri.specs.Reinsurance.{ceded_records, net_records, reinsured}
 
 -- a quota share

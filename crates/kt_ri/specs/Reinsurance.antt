@@ -6,7 +6,8 @@ use Rattle.kt_stream.specs.declared.entry.LossRecord.{LossRecord}
 use Rattle.kt_runs.specs.RunLosses.{loss_of}
 use Rattle.kt_runs.specs.Sidx.{pairs_of}
 use Rattle.kt_tree.specs.Tree.{Tree}
-use Rattle.kt_shares.specs.Shares.{insured_range, layers_of, part_of_id, record_with, taken_loss}
+use Rattle.kt_levels.specs.Shares.{layers_of, part_of_id, taken_loss}
+use Rattle.kt_runs.specs.Records.{insured_range, record_with}
 
 -- what an id cedes: over the layers of all tops, what it has of the policy loss; an id that is beneath no top cedes nothing
 abbrev pub ceded_loss : Tree → (ℕ → ℕ) → ℕ → ℕ → ℕ

@@ -5,13 +5,13 @@ ghost use Rattle.kt_stream.specs.Losses.{IsLoss};
 ghost use Rattle.kt_runs.specs.Adding.{Holds};
 ghost use Rattle.kt_runs.specs.RunLosses.{AreWithin};
 ghost use Rattle.kt_lanes.specs.Lanes.{AreWide, IsLane};
-ghost use Rattle.kt_shares.specs.Less.{IsPlaceIn, amount_in};
+ghost use Rattle.kt_runs.specs.Less.{IsPlaceIn, amount_in};
 ghost use Rattle.kt_ri.specs.Ceded.{AreCeded, AreRows};
 
 use crate::ceding::CedingProgramme;
 use kt_ceded::ceded_lanes;
 use kt_lanes::Lanes;
-use kt_shares::RunLosses;
+use kt_runs::RunLosses;
 use std::alloc::{AllocError, Global};
 
 /// What the ids of a programme cede of the losses of a run, at the mean and at each sample: a lane for each id.

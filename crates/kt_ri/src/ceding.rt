@@ -6,13 +6,14 @@ ghost use Rattle.kt_stream.specs.Losses.{IsLoss};
 ghost use Rattle.kt_runs.specs.RunLosses.{AreWithin};
 ghost use Rattle.kt_tree.specs.Tree.{Tree};
 ghost use Rattle.kt_fmtree.specs.Parts.{HasProgramme, IsProgramme};
-ghost use Rattle.kt_shares.specs.Shares.{layers_of};
-ghost use Rattle.kt_shares.specs.Table.{table_for};
+ghost use Rattle.kt_levels.specs.Shares.{layers_of};
+ghost use Rattle.kt_levels.specs.Table.{table_for};
 ghost use Rattle.kt_ri.specs.Ceding.{AreLayers, ArePlaces, HasFewLayers};
 
 use crate::places::owner_places;
 use kt_fmtree::Programme;
-use kt_shares::{RunLosses, Table, TopLayer, table_of_run, top_layers};
+use kt_levels::{Table, TopLayer, table_of_run, top_layers};
+use kt_runs::RunLosses;
 use std::alloc::{AllocError, Global};
 use std::marker::Model;
 

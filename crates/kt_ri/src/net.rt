@@ -8,14 +8,14 @@ ghost use Rattle.kt_runs.specs.RunLosses.{AreWithin};
 ghost use Rattle.kt_tree.specs.Tree.{Tree};
 ghost use Rattle.kt_fmtree.specs.Parts.{IsProgramme};
 ghost use Rattle.kt_lanes.specs.Lanes.{AreWide, IsLane};
-ghost use Rattle.kt_shares.specs.Less.{IsPlaceIn, amount_in};
+ghost use Rattle.kt_runs.specs.Less.{IsPlaceIn, amount_in};
 ghost use Rattle.kt_ri.specs.Ceded.{AreCeded, AreRows, part_behind, record_behind, records_behind};
 
 use crate::ceding::CedingProgramme;
 use crate::places::{place_near, record_places};
 use kt_fmtree::zeros;
 use kt_lanes::Lanes;
-use kt_shares::{LossLanes, RunLosses};
+use kt_runs::{LossLanes, RunLosses};
 use std::alloc::{AllocError, Global};
 
 /// What is left of a loss of which so much is ceded, or that.

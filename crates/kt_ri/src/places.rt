@@ -4,11 +4,12 @@ ghost use Rattle.std.specs.Prelude.{◌≡◌, IfOk, slice_index_or, []};
 ghost use Rattle.std.specs.List.{AllByRecursion, flat_map};
 ghost use Rattle.kt_rec.specs.Rising.{IsRising};
 ghost use Rattle.kt_fmtree.specs.Parts.{HasProgramme};
-ghost use Rattle.kt_shares.specs.Layers.{IsTopLayer};
+ghost use Rattle.kt_levels.specs.Layers.{IsTopLayer};
 ghost use Rattle.kt_ri.specs.Ceding.{AreLayers, ArePlaces, AreRecordPlaces, IsPlaceOf};
 
 use kt_fmtree::{Programme, places_of};
-use kt_shares::{LossLanes, TopLayer};
+use kt_levels::TopLayer;
+use kt_runs::LossLanes;
 use std::alloc::{AllocError, Global};
 
 /// The place of an id among rising ids, where it is one of them.

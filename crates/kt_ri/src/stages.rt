@@ -8,7 +8,7 @@ ghost use Rattle.kt_ri.specs.Reinsurance.{net_records, reinsured};
 ghost use Rattle.kt_ri.specs.Stages.{AreStages, HasStage, IsStage};
 
 use crate::reinsured::{net_behind, net_in_place};
-use kt_shares::{Listed, LossLanes};
+use kt_runs::{Listed, LossLanes};
 use kt_stream::{LossRecord, Pairs, Records};
 use kt_structure::Structure;
 use std::alloc::{AllocError, Global};

@@ -2,3 +2,10 @@ pub mod AddLemmas
 pub mod RunSumLemmas
 pub mod PairsKept
 pub mod PairSumsLemmas
+pub mod HeadLemmas
+pub mod LessLemmas
+pub mod LossLanesLemmas
+pub mod LossLemmas
+pub mod PairLemmas
+pub mod WrittenLemmas
+pub mod IdLemmas

@@ -10,3 +10,15 @@ pub mod Examples
 pub mod PairRoom
 pub mod PairSums
 pub mod PairExamples
+pub mod Records
+pub mod LaneRows
+pub mod LaneRun
+pub mod LossLanes
+pub mod Less
+pub mod Taken
+pub mod RowLaws
+pub mod HoldsLaws
+pub mod PairLaws
+pub mod RecordLaws
+pub mod LossLanesLaws
+pub mod WrittenLaws

@@ -6,7 +6,7 @@ use Rattle.std.specs.List.{All, AllByRecursion, filter, list_any}
 use Rattle.kt_rec.specs.Rows.{Rows}
 use Rattle.kt_rec.specs.declared.financial.FmPolicytc.{FmPolicytc}
 use Rattle.kt_keys.specs.Keys.{policytc_of}
-use Rattle.kt_tree.specs.Sums.{each_then, each_member, each_flat_map}
+use Rattle.kt_rec.specs.Sums.{each_then, each_member, each_flat_map}
 use Rattle.kt_rec.specs.Rising.{IsRising, rising}
 use Rattle.kt_tree.specs.Tree.{Tree, beneath}
 use Rattle.kt_tree.specs.Programme.{layers_in, or_first}

@@ -6,8 +6,8 @@ use Rattle.std.specs.List.{AllByRecursion, filter, list_any}
 use Rattle.std.proofs.lemmas.Bool.{eqb-true, or_left, or_right}
 use Rattle.std.proofs.lemmas.List.{map_more}
 use Rattle.std.proofs.lemmas.List.Folds.{list_any-append}
-use Rattle.kt_tree.specs.Members.{member-filter}
-use Rattle.kt_tree.specs.Sums.{each_then}
+use Rattle.kt_rec.specs.Members.{member-filter}
+use Rattle.kt_rec.specs.Sums.{each_then}
 use Rattle.kt_rec.specs.Rising.{IsRising, rising, rising-member, rising-rises, rising-unique}
 use Rattle.kt_rec.specs.RisingLaws.{rising-filter}
 use Rattle.kt_structure.specs.declared.links.Link.{Link}

@@ -17,7 +17,7 @@ use Rattle.kt_keys.specs.Climbing.{climbed, next_unit}
 use Rattle.kt_checks.specs.TableChecks.{tiv_of}
 use Rattle.kt_checks.specs.Worth.{covered_le}
 use Rattle.kt_rules.specs.Profiles.{IsProfile, profile_of}
-use Rattle.kt_tree.specs.Sums.{sum_by-below}
+use Rattle.kt_rec.specs.Sums.{sum_by-below}
 use Rattle.kt_rec.specs.Rising.{rising-member, rising-distinct}
 use Rattle.kt_tree.specs.Tree.{IsTree, is_unit}
 use Rattle.kt_tree.specs.Programme.{no_terms, terms_or_none, profile_with, with_id, terms_in, coverage_of, covered_ids, has_coverage, tiv_beneath, tree_of}

@@ -6,8 +6,8 @@ use Rattle.kt_lanes.specs.LaneLaws.{IsWritten, written-more, written-start}
 use Rattle.kt_runs.specs.Adding.{IsAdded}
 use Rattle.kt_runs.specs.RunLosses.{loss_of}
 use Rattle.kt_runs.specs.Sidx.{sidx_at}
-use Rattle.kt_shares.specs.LossLanesLaws.{deviation-loss, with-none, with-row}
-use Rattle.kt_shares.specs.Table.{pairs_with, row_place}
+use Rattle.kt_runs.specs.LossLanesLaws.{deviation-loss, with-none, with-row}
+use Rattle.kt_runs.specs.LaneRows.{pairs_with, row_place}
 
 -- a place that keeps what it has
 kept-more : (width k : ℕ) (new old : ℕ → ℕ) (lane : List ℕ) → k < width → IsWritten width k new old lane → old k ≡ new k → IsWritten width (k + 1) new old lane

@@ -8,10 +8,10 @@ use Rattle.std.proofs.lemmas.List.{get_or-map, take_more, get_or-set_same, get_o
 use Rattle.std.proofs.lemmas.List.Elements.{All-set, filter-append, recursion_from_All}
 use Rattle.std.proofs.lemmas.List.Sums.{sum_by_push, sum_by-take-le}
 use Rattle.std.proofs.lemmas.Map.Keys.{apart_from_distinct}
-use Rattle.kt_fmtree.specs.CarriedLaws.{map-map}
+use Rattle.kt_rec.specs.ListLaws.{map-map}
 use Rattle.kt_rec.specs.RisingLaws.{rising-filter}
 use Rattle.kt_rec.specs.Rising.{IsRising, distinct-from_rising, rising, rising-member, rising-rises, rising-unique}
-use Rattle.kt_tree.specs.Members.{member-filter}
+use Rattle.kt_rec.specs.Members.{member-filter}
 use Rattle.kt_runs.specs.Adding.{Holds, IsAdded}
 use Rattle.kt_runs.specs.RunLosses.{AreWithin, event_of, loss_of, run_loss}
 use Rattle.kt_runs.specs.Sidx.{pair_of, pairs_of, sidx_at}
@@ -23,7 +23,7 @@ use Rattle.kt_tables.specs.Portfolio.{PortfolioRows}
 use Rattle.kt_tables.specs.SetRows.{AreFound, SetRows, summary_at}
 use Rattle.kt_stream.specs.Losses.{IsLoss}
 use Rattle.kt_runs.specs.PairSums.{pairs_upto}
-use Rattle.kt_shares.specs.Shares.{ids_of}
+use Rattle.kt_runs.specs.Records.{ids_of}
 use Rattle.kt_sum.specs.Adding.{IsSpan}
 use Rattle.kt_sum.specs.RunSummaries.{IsReadyRow, IsSumOf, IsThere, IsZeroRow, record_of}
 use Rattle.kt_sum.specs.Summaries.{found_summaries, is_summary, members, record_with, sidx_range, summaries_by, summary_of_run}

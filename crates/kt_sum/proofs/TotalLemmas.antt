@@ -8,9 +8,8 @@ use Rattle.std.proofs.lemmas.Bool.{true≢false}
 use Rattle.std.proofs.lemmas.List.{length-map}
 use Rattle.std.proofs.lemmas.List.Elements.{recursion_from_All}
 use Rattle.std.proofs.lemmas.List.Sums.{sum_by_more, sum_by_more_le}
-use Rattle.kt_fmtree.specs.DownLaws.{sum_by-map}
+use Rattle.kt_rec.specs.Sums.{sum_by-map, sum_by-agree, sum_by-filter, sum_by-one, sum_by-swap}
 use Rattle.kt_rec.specs.Rising.{IsRising, distinct-from_rising}
-use Rattle.kt_tree.specs.Sums.{sum_by-agree, sum_by-filter, sum_by-one, sum_by-swap}
 use Rattle.kt_runs.specs.Adding.{Holds}
 use Rattle.kt_runs.specs.RunLosses.{AreWithin, loss_of, run_loss}
 use Rattle.kt_runs.specs.Sidx.{sidx_at}

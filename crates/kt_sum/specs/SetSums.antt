@@ -4,7 +4,7 @@ use Rattle.std.specs.Prelude.{◌≡◌, ℕ, ◌+◌, true, cond, List, length,
 use Rattle.kt_rec.specs.Rising.{IsRising}
 use Rattle.kt_rec.specs.Rows.{Rows}
 use Rattle.kt_rec.specs.declared.perspective.Perspective.{Perspective}
-use Rattle.kt_shares.specs.LaneRun.{LaneRun}
+use Rattle.kt_runs.specs.LaneRun.{LaneRun}
 use Rattle.kt_stream.specs.declared.entry.LossRecord.{LossRecord}
 use Rattle.kt_sum.specs.RunSummaries.{IsReadyRow, IsSumOf, IsThere}
 use Rattle.kt_sum.specs.Summaries.{run_summaries}

@@ -6,7 +6,7 @@ use Rattle.std.specs.Option.{is_some}
 use Rattle.kt_runs.specs.Adding.{Holds}
 use Rattle.kt_runs.specs.RunLosses.{run_loss}
 use Rattle.kt_runs.specs.Sidx.{sidx_at}
-use Rattle.kt_shares.specs.LaneRun.{LaneRun}
+use Rattle.kt_runs.specs.LaneRun.{LaneRun}
 use Rattle.kt_sum.specs.declared.set_sums.SetSums.{SetSums}
 use Rattle.kt_sum.specs.declared.summary_sums.SummarySums.{SummarySums}
 

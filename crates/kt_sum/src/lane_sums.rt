@@ -4,7 +4,7 @@ ghost use Rattle.std.specs.Prelude.{◌≡◌, ℕ, ◌+◌, ◌<◌, ◌≤◌,
 ghost use Rattle.kt_runs.specs.Adding.{IsAdded};
 ghost use Rattle.kt_runs.specs.RunLosses.{loss_of};
 ghost use Rattle.kt_runs.specs.Sidx.{sidx_at};
-ghost use Rattle.kt_shares.specs.Table.{pairs_with};
+ghost use Rattle.kt_runs.specs.LaneRows.{pairs_with};
 
 /// Adds a deviation and the losses of a lane, that of the mean and those of the samples, to sums which begin at sidx -2; sidx 0 has none.
 /// A sum that does not fit wraps.

@@ -12,7 +12,7 @@ ghost use Rattle.kt_tables.specs.Lookups.{summary_in};
 use crate::set_records::SetRecords;
 use crate::set_sums::SetSums;
 use kt_rec::Perspective;
-use kt_shares::LossLanes;
+use kt_runs::LossLanes;
 use kt_tables::Portfolio;
 use std::alloc::{AllocError, Global};
 

@@ -6,7 +6,7 @@ ghost use Rattle.kt_rec.specs.Rising.{IsRising};
 ghost use Rattle.kt_stream.specs.declared.entry.LossRecord.{LossRecord};
 ghost use Rattle.kt_runs.specs.Adding.{AreInside};
 ghost use Rattle.kt_runs.specs.RunLosses.{AreWithin};
-ghost use Rattle.kt_shares.specs.Table.{pairs_with};
+ghost use Rattle.kt_runs.specs.LaneRows.{pairs_with};
 ghost use Rattle.kt_sum.specs.RunSummaries.{IsReadyRow, IsSumOf, IsThere};
 
 use crate::span::Span;

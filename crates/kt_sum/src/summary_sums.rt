@@ -7,7 +7,7 @@ ghost use Rattle.kt_stream.specs.declared.entry.Pair.{Pair};
 ghost use Rattle.kt_runs.specs.Adding.{AreInside, IsAdded};
 ghost use Rattle.kt_runs.specs.RunLosses.{loss_of};
 ghost use Rattle.kt_runs.specs.Sidx.{sidx_at};
-ghost use Rattle.kt_shares.specs.Table.{pairs_with};
+ghost use Rattle.kt_runs.specs.LaneRows.{pairs_with};
 ghost use Rattle.kt_sum.specs.RunSummaries.{IsIdle, IsReadyRow, IsZeroRow, exposure_in, record_of, records_of};
 
 use crate::lane_sums::add_lane;

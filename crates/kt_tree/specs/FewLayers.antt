@@ -11,7 +11,7 @@ use Rattle.kt_rec.specs.declared.financial.FmPolicytc.{FmPolicytc}
 use Rattle.kt_keys.specs.Keys.{no_financial, policytc_of, programme_of}
 use Rattle.kt_keys.specs.Units.{top_level}
 use Rattle.kt_tree.specs.Programme.{layers_in, or_first, tree_of}
-use Rattle.kt_tree.specs.Sums.{each_then}
+use Rattle.kt_rec.specs.Sums.{each_then}
 
 -- rising layers from a least one up are not more than there are numbers to 50
 rising-few : (low : ℕ) (layers : List ℕ) → IsRising layers → AllByRecursion (λ layer. low ≤ layer) layers → AllByRecursion IsLayer layers → low ≤ 51 → length layers + low ≤ 51

@@ -1,4 +1,3 @@
-pub mod Sums
 pub mod Tree
 pub mod TreeLaws
 pub mod TopLaws
@@ -9,7 +8,6 @@ pub mod FewLayers
 pub mod ExampleRows
 pub mod Examples
 pub mod Struck
-pub mod Members
 pub mod StruckLaws
 pub mod StruckSharing
 pub mod StruckExamples

@@ -9,7 +9,7 @@ use Rattle.std.proofs.lemmas.List.Sums.{sum_by-cons, sum-map}
 use Rattle.kt_keys.specs.Climbing.{climbed, after}
 use Rattle.kt_money.specs.Sharing.{share_of, shares_after, share_out}
 use Rattle.kt_money.specs.SharingLaws.{share_out-adds, share_of-zero}
-use Rattle.kt_tree.specs.Sums.{sum_by-agree, sum_by-swap, sum_by-one, sum_by-flat_map, each_then, each_member, each_flat_map, member_filter, distinct_filter}
+use Rattle.kt_rec.specs.Sums.{sum_by-agree, sum_by-swap, sum_by-one, sum_by-flat_map, each_then, each_member, each_flat_map, member_filter, distinct_filter}
 use Rattle.kt_tree.specs.Tree.{Tree, IsTree, carry_of, ground_up, policy_loss, is_unit, comes_to, beneath}
 use Rattle.kt_tree.specs.TreeLaws.{carry_of-loss-le, policy_loss-le, comes_to-next, ground_up-beneath}
 use Rattle.kt_tree.specs.Sharing.{Part, parts_for, carried_loss, weight_of, passed_down, id_parts, part_of, policy_parts, shared_at_once, shared_down, allocated}

@@ -9,11 +9,11 @@ use Rattle.kt_keys.specs.Climbing.{climbed, after}
 use Rattle.kt_rules.specs.Amounts.{total}
 use Rattle.kt_rules.specs.Rules.{applied}
 use Rattle.kt_rules.specs.declared.carry.Carry.{Carry}
-use Rattle.kt_tree.specs.Sums.{sum_by-agree, sum_by-filter, sum_by-none, each_then, each_member, distinct_filter}
+use Rattle.kt_rec.specs.Sums.{sum_by-agree, sum_by-filter, sum_by-none, each_then, each_member, distinct_filter}
 use Rattle.kt_tree.specs.Tree.{Tree, IsTree, add_carries, base_of, beneath, carry_of, comes_to, ground_up, is_unit, policy_loss, sum_carries, whole_loss}
 use Rattle.kt_tree.specs.TreeLaws.{carry_of-total, climbed-last, comes_to-next, each, policy_loss-le}
 use Rattle.kt_tree.specs.Struck.{is_struck, struck, struck_children, struck_next}
-use Rattle.kt_tree.specs.Members.{any-of, any-then, any-turned, filter-both, member-filter}
+use Rattle.kt_rec.specs.Members.{any-of, any-then, any-turned, filter-both, member-filter}
 
 -- an amount or a unit that may be absent
 none-after : (follow : ℕ → Option ℕ) → after None follow ≡ None

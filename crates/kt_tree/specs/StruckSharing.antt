@@ -10,12 +10,12 @@ use Rattle.std.proofs.lemmas.List.Sums.{sum-map}
 use Rattle.kt_money.specs.Sharing.{share_of, share_out, shares_after}
 use Rattle.kt_tree.specs.Sharing.{Part, allocated, carried_loss, id_parts, part_of, parts_for, passed_down, policy_parts, shared_at_once, shared_down, weight_of}
 use Rattle.kt_tree.specs.SharingLaws.{allocated-none}
-use Rattle.kt_tree.specs.Sums.{sum_by-agree, sum_by-filter}
+use Rattle.kt_rec.specs.Sums.{sum_by-agree, sum_by-filter}
 use Rattle.kt_tree.specs.Tree.{Tree, IsTree, beneath, carry_of, comes_to, ground_up, policy_loss}
 use Rattle.kt_tree.specs.TreeLaws.{each}
 use Rattle.kt_tree.specs.Struck.{is_struck, struck}
 use Rattle.kt_tree.specs.StruckLaws.{beneath-struck, carry_of-none, carry_of-struck, ground_up-none, ground_up-struck, policy_loss-struck, struck-id, unstruck-children}
-use Rattle.kt_tree.specs.Members.{any-of, lookup-map, lookup-nothing, member-filter}
+use Rattle.kt_rec.specs.Members.{any-of, lookup-map, lookup-nothing, member-filter}
 
 -- amounts that agree
 map-agree : (one other : ℕ → ℕ) → ((x : ℕ) → one x ≡ other x) → (xs : List ℕ) → map one xs ≡ map other xs

@@ -5,7 +5,7 @@ use Rattle.std.specs.List.{IsDistinct, list_any, sum_by}
 use Rattle.std.proofs.Common.{arith, mul-le-mul_right}
 use Rattle.std.proofs.lemmas.List.Sums.{sum_by-cons, sum_by-le}
 use Rattle.kt_keys.specs.Climbing.{climbed}
-use Rattle.kt_tree.specs.Sums.{sum_by-agree, sum_by-below, sum_by-none, sum_by-one, sum_by-swap}
+use Rattle.kt_rec.specs.Sums.{sum_by-agree, sum_by-below, sum_by-none, sum_by-one, sum_by-swap}
 use Rattle.kt_tree.specs.Tree.{Tree, IsTree, comes_to, ground_up, is_unit, policy_loss}
 use Rattle.kt_tree.specs.TreeLaws.{each, ground_up-gathered, policy_loss-le}
 

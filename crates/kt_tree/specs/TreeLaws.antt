@@ -12,7 +12,7 @@ use Rattle.kt_rules.specs.Profiles.{IsProfile}
 use Rattle.kt_rules.specs.RuleLaws.{AreShares, keeps-rule_of, loss-le-total}
 use Rattle.kt_rules.specs.declared.carry.Carry.{Carry}
 use Rattle.kt_rules.specs.declared.profile.Profile.{Profile}
-use Rattle.kt_tree.specs.Sums.{sum_by-agree, sum_by-swap, sum_by-one, sum_by-none, sum_by-filter, sum_by-below, each_then, each_member}
+use Rattle.kt_rec.specs.Sums.{sum_by-agree, sum_by-swap, sum_by-one, sum_by-none, sum_by-filter, sum_by-below, each_then, each_member}
 use Rattle.kt_tree.specs.Tree.{Tree, IsTree, sum_carries, carry_of, base_of, policy_loss, ground_up, is_unit, comes_to, beneath}
 
 -- the shares of a profile are at most the whole

@@ -2,8 +2,9 @@ use Rattle.std.proofs.Common.{◌∙◌}
 use Rattle.std.proofs.lemmas.List.Elements.{All-from_recursion}
 use Rattle.kt_tables.specs.PortfolioLaws.{keys_kept}
 use Rattle.kt_tree.specs.Programme.{tree_of}
-use Rattle.kt_tree.specs.Sums.{each_then}
-use Rattle.kt_shares.specs.Shares.{insured_range, taken_loss}
+use Rattle.kt_rec.specs.Sums.{each_then}
+use Rattle.kt_levels.specs.Shares.{taken_loss}
+use Rattle.kt_runs.specs.Records.{insured_range}
 use Rattle.kt_alloc.proofs.RecordLemmas.{records-own}
 use Rattle.kt_alloc.proofs.laws.the_records_of_a_layer_have_its_policy_loss.Goals as goal
 

@@ -1,7 +1,7 @@
 use Rattle.std.proofs.Common.{◌∷◌, ◌++◌, ◌∙◌, ℕ, List, [], ap, slice_index_or, sym}
 use Rattle.std.proofs.lemmas.List.Elements.{All-from_recursion}
-use Rattle.kt_shares.specs.Layers.{IsTopLayer, key_of}
-use Rattle.kt_shares.specs.declared.layers.TopLayer.{TopLayer}
+use Rattle.kt_levels.specs.Layers.{IsTopLayer, key_of}
+use Rattle.kt_levels.specs.declared.layers.TopLayer.{TopLayer}
 use Rattle.kt_alloc.specs.Layout.{keys_for}
 use Rattle.kt_alloc.proofs.KeyLemmas.{keys-more}
 use Rattle.kt_alloc.proofs.layout.keys_of.Goals as goal

@@ -1,7 +1,7 @@
 use Rattle.std.proofs.Common.{◌≡◌, map, take}
 use Rattle.kt_tree.specs.Tree.{Tree}
 use Rattle.kt_fmtree.specs.Parts.{IsProgramme}
-use Rattle.kt_shares.specs.Layers.{key_of}
+use Rattle.kt_levels.specs.Layers.{key_of}
 use Rattle.kt_alloc.specs.Layout.{keys_for}
 use Rattle.kt_alloc.proofs.layout.keys_of.Given as goal
 

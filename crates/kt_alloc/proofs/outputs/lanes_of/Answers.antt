@@ -1,8 +1,8 @@
 use Rattle.std.proofs.Common.{◌<◌, ◌∙◌, ◌++◌, [], List, length, slice_index_or, ap, sym, subst, All, take_all}
 use Rattle.std.specs.List.{cons_option, filter_map}
 use Rattle.std.proofs.lemmas.List.Elements.{All-from_recursion}
-use Rattle.kt_shares.specs.Row.{Shared}
-use Rattle.kt_shares.specs.RowLaws.{made-more}
+use Rattle.kt_levels.specs.Row.{Shared}
+use Rattle.kt_runs.specs.RowLaws.{made-more}
 use Rattle.kt_alloc.specs.Table.{record_in}
 use Rattle.kt_alloc.specs.declared.outlets.Outlet.{Outlet}
 use Rattle.kt_alloc.proofs.outputs.lanes_of.Goals as goal

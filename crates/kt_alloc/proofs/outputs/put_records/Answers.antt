@@ -1,5 +1,5 @@
 use Rattle.std.proofs.Common.{◌≡◌, ◌++◌, ◌∙◌, drop, length, take, arith, length-append, length-take-le}
-use Rattle.kt_shares.specs.WrittenLaws.{put-more}
+use Rattle.kt_runs.specs.WrittenLaws.{put-more}
 use Rattle.kt_alloc.specs.Table.{record_in}
 use Rattle.kt_alloc.specs.declared.outlets.Outlet.{Outlet}
 use Rattle.kt_alloc.proofs.outputs.put_records.Goals as goal

@@ -1,6 +1,6 @@
 use Rattle.std.proofs.Common.{◌∙◌, map}
-use Rattle.kt_shares.specs.Layers.{key_of}
-use Rattle.kt_shares.specs.TableLaws.{table-length}
+use Rattle.kt_levels.specs.Layers.{key_of}
+use Rattle.kt_levels.specs.TableLaws.{table-length}
 use Rattle.kt_alloc.proofs.RunLemmas.{run-amounts, run-places, run-records, run-sums}
 use Rattle.kt_alloc.proofs.run.lanes_by.Goals as goal
 

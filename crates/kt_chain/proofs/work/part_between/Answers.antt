@@ -8,7 +8,7 @@ use Rattle.kt_load.specs.EventRows.{EventRows}
 use Rattle.kt_rec.specs.declared.foot_rows.ModelStop.{ModelStop}
 use Rattle.kt_rec.specs.declared.hazard.FootRow.{FootRow}
 use Rattle.kt_stream.specs.Pairs.{IsId}
-use Rattle.kt_tree.specs.Sums.{each_append}
+use Rattle.kt_rec.specs.Sums.{each_append}
 use Rattle.kt_chain.specs.Rounds.{part_of}
 use Rattle.kt_chain.proofs.RowLemmas.{next_given}
 use Rattle.kt_chain.proofs.WorkLemmas.{behind, block_found, block_more, row_ends, row_found}

@@ -1,8 +1,8 @@
 use Rattle.std.proofs.Common.{◌<◌, List, ℕ, length, sym, subst}
 use Rattle.std.specs.Prelude.{All}
 use Rattle.std.proofs.lemmas.Result.{IfOk-weaker}
-use Rattle.kt_shares.specs.Shares.{layers_of}
-use Rattle.kt_shares.specs.TableLaws.{table-length}
+use Rattle.kt_levels.specs.Shares.{layers_of}
+use Rattle.kt_levels.specs.TableLaws.{table-length}
 use Rattle.kt_ri.proofs.CededLemmas.{run-ceded, run-fits, run-rows}
 use Rattle.kt_ri.proofs.ceded.ceded_of.Goals as goal
 

@@ -5,7 +5,7 @@ use Rattle.kt_runs.specs.PairRoom.{AreEnded, AreIn, with_loss}
 use Rattle.kt_runs.specs.Sidx.{pair_of}
 use Rattle.kt_stream.specs.Pairs.{IsPair}
 use Rattle.kt_stream.specs.declared.entry.Pair.{Pair}
-use Rattle.kt_shares.specs.RowLaws.{made-more}
+use Rattle.kt_runs.specs.RowLaws.{made-more}
 use Rattle.kt_ri.specs.Left.{left_at, pairs_left}
 use Rattle.kt_ri.proofs.left.write_left.Goals as goal
 

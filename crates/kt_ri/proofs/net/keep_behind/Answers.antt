@@ -2,8 +2,8 @@ use Rattle.std.proofs.Common.{◌++◌, ◌∙◌, ℕ, List, [], length, slice_
 use Rattle.std.specs.List.{cons_option}
 use Rattle.kt_stream.specs.declared.entry.LossRecord.{LossRecord}
 use Rattle.kt_stream.specs.declared.entry.Pair.{Pair}
-use Rattle.kt_shares.specs.Shares.{record_with}
-use Rattle.kt_shares.specs.Table.{pairs_by_row}
+use Rattle.kt_runs.specs.Records.{record_with}
+use Rattle.kt_runs.specs.LaneRows.{pairs_by_row}
 use Rattle.kt_ri.specs.Ceding.{IsPlaceOf}
 use Rattle.kt_ri.proofs.NetLemmas.{behind-are, lane-behind}
 use Rattle.kt_ri.proofs.net.keep_behind.Goals as goal

@@ -2,7 +2,7 @@ use Rattle.std.proofs.Common.{◌≡◌, ◌+◌, ◌≤◌, ◌<◌, ◌∙◌,
 use Rattle.std.specs.List.{filter_map}
 use Rattle.std.proofs.lemmas.List.{length-replicate, take_all, with_items_is}
 use Rattle.kt_stream.specs.declared.entry.LossRecord.{LossRecord}
-use Rattle.kt_shares.specs.RowLaws.{made-more}
+use Rattle.kt_runs.specs.RowLaws.{made-more}
 use Rattle.kt_ri.specs.Ceded.{record_behind}
 use Rattle.kt_ri.proofs.net.lanes_behind.Goals as goal
 

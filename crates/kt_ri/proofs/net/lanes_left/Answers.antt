@@ -2,8 +2,8 @@ use Rattle.std.proofs.Common.{◌∙◌, ◌+◌, List, Option, ℕ, length, ap,
 use Rattle.std.specs.Prelude.{All}
 use Rattle.std.proofs.lemmas.Result.{IfOk-weaker}
 use Rattle.kt_lanes.specs.Lanes.{AreWide}
-use Rattle.kt_shares.specs.LaneRun.{LaneRun}
-use Rattle.kt_shares.specs.Less.{IsPlaceIn, records_less}
+use Rattle.kt_runs.specs.LaneRun.{LaneRun}
+use Rattle.kt_runs.specs.Less.{IsPlaceIn, records_less}
 use Rattle.kt_ri.specs.Ceding.{AreRecordPlaces}
 use Rattle.kt_ri.proofs.NetLemmas.{less-behind, places-inside, places-many}
 use Rattle.kt_ri.proofs.net.lanes_left.Goals as goal

@@ -1,7 +1,7 @@
 use Rattle.std.proofs.Common.{◌≡◌, ◌<◌, ◌∙◌, true, nat_eq, List, ℕ, [], length, map, slice_index, slice_index_or, ap, sym, subst}
 use Rattle.std.specs.Prelude.{All}
 use Rattle.std.specs.List.{AllByRecursion, flat_map, list_any}
-use Rattle.kt_shares.specs.declared.layers.TopLayer.{TopLayer}
+use Rattle.kt_levels.specs.declared.layers.TopLayer.{TopLayer}
 use Rattle.kt_ri.proofs.CededLemmas.{owners-are, owners-members}
 use Rattle.kt_ri.proofs.places.owner_places.Goals as goal
 

@@ -1,6 +1,6 @@
 use Rattle.std.proofs.Common.{◌++◌, ◌∙◌, List, ℕ, [], ap, slice_index_or}
 use Rattle.kt_fmtree.specs.LoopLaws.{flat_map-goes}
-use Rattle.kt_shares.specs.declared.layers.TopLayer.{TopLayer}
+use Rattle.kt_levels.specs.declared.layers.TopLayer.{TopLayer}
 use Rattle.kt_ri.proofs.places.owners_of.Goals as goal
 
 pub loop-one-preserved : goal.loop-one-preserved

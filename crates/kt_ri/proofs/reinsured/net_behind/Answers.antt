@@ -1,8 +1,8 @@
 use Rattle.std.proofs.Common.{◌∙◌, true}
 use Rattle.std.proofs.lemmas.Result.{IfOk-weaker}
 use Rattle.kt_tree.specs.Struck.{struck}
-use Rattle.kt_shares.specs.LaneRun.{LaneRun}
-use Rattle.kt_shares.specs.Shares.{ids_of}
+use Rattle.kt_runs.specs.LaneRun.{LaneRun}
+use Rattle.kt_runs.specs.Records.{ids_of}
 use Rattle.kt_ri.proofs.StageLemmas.{net-stream}
 use Rattle.kt_ri.proofs.StruckLemmas.{behind-struck}
 use Rattle.kt_ri.proofs.reinsured.net_behind.Goals as goal

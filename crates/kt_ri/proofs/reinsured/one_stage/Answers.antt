@@ -1,7 +1,7 @@
 use Rattle.std.proofs.Common.{◌∙◌, map, true, false}
 use Rattle.std.proofs.lemmas.Result.{IfOk-weaker}
 use Rattle.kt_tree.specs.Struck.{struck}
-use Rattle.kt_shares.specs.Shares.{ids_of}
+use Rattle.kt_runs.specs.Records.{ids_of}
 use Rattle.kt_ri.specs.declared.reinsured.Reinsured.{Reinsured}
 use Rattle.kt_ri.proofs.StageLemmas.{net-stream}
 use Rattle.kt_ri.proofs.StruckLemmas.{behind-struck}

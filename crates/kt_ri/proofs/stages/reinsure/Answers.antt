@@ -4,7 +4,7 @@ use Rattle.std.proofs.lemmas.Result.{IfOk-weaker}
 use Rattle.kt_runs.specs.RunLosses.{AreWithin}
 use Rattle.kt_stream.specs.Losses.{IsLoss}
 use Rattle.kt_stream.specs.declared.entry.LossRecord.{LossRecord}
-use Rattle.kt_shares.specs.RecordLaws.{map-same}
+use Rattle.kt_runs.specs.RecordLaws.{map-same}
 use Rattle.kt_ri.specs.Reinsurance.{net_records}
 use Rattle.kt_ri.specs.Stages.{HasStage, IsStage}
 use Rattle.kt_ri.proofs.StageLemmas.{first-left, later-each, left-all}

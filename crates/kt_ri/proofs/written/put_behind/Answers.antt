@@ -5,7 +5,7 @@ use Rattle.kt_runs.specs.Adding.{Holds}
 use Rattle.kt_runs.specs.HeldLaws.{entry_at}
 use Rattle.kt_stream.specs.Losses.{IsLoss, loss_bytes}
 use Rattle.kt_stream.specs.declared.entry.LossRecord.{LossRecord}
-use Rattle.kt_shares.specs.WrittenLaws.{put-more}
+use Rattle.kt_runs.specs.WrittenLaws.{put-more}
 use Rattle.kt_ri.specs.Ceded.{record_behind}
 use Rattle.kt_ri.proofs.WrittenLemmas.{begins-long, begins-more, begins-none, kept-length, taken-back}
 use Rattle.kt_ri.proofs.written.put_behind.Goals as goal

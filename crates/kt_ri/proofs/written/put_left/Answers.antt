@@ -2,7 +2,7 @@ use Rattle.std.proofs.Common.{◌++◌, ◌∙◌, ℕ, List, [], ap, arith, len
 use Rattle.std.specs.List.{cons_option, flat_map}
 use Rattle.kt_stream.specs.Losses.{loss_bytes}
 use Rattle.kt_stream.specs.declared.entry.Pair.{Pair}
-use Rattle.kt_shares.specs.Shares.{record_with}
+use Rattle.kt_runs.specs.Records.{record_with}
 use Rattle.kt_ri.specs.Ceding.{IsPlaceOf}
 use Rattle.kt_ri.specs.Left.{pairs_left}
 use Rattle.kt_ri.proofs.LeftLemmas.{left-are}

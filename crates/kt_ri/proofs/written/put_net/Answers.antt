@@ -4,7 +4,7 @@ use Rattle.std.proofs.lemmas.Result.{IfOk-weaker}
 use Rattle.kt_stream.specs.Losses.{loss_bytes}
 use Rattle.kt_stream.specs.declared.entry.LossRecord.{LossRecord}
 use Rattle.kt_tree.specs.Struck.{struck}
-use Rattle.kt_shares.specs.Shares.{ids_of}
+use Rattle.kt_runs.specs.Records.{ids_of}
 use Rattle.kt_ri.proofs.StruckLemmas.{behind-struck}
 use Rattle.kt_ri.proofs.written.put_net.Goals as goal
 

@@ -2,7 +2,7 @@ use Rattle.std.proofs.Common.{◌≡◌, ◌+◌, ◌∙◌, List, ℕ, Some, le
 use Rattle.std.proofs.Math.Seq.{map-set_same}
 use Rattle.std.proofs.lemmas.List.{get_or-map}
 use Rattle.kt_rec.specs.Rising.{IsRising}
-use Rattle.kt_shares.specs.Table.{pairs_with}
+use Rattle.kt_runs.specs.LaneRows.{pairs_with}
 use Rattle.kt_sum.specs.declared.summary_sums.SummarySums.{SummarySums}
 use Rattle.kt_sum.proofs.RunSumsLemmas.{none_added, ready_more, row_inside, some_added}
 use Rattle.kt_sum.proofs.rows.add_lane_entry.Goals as goal

@@ -7,8 +7,8 @@ use Rattle.kt_stream.specs.declared.entry.LossRecord.{LossRecord}
 use Rattle.kt_stream.specs.declared.entry.SummaryRecord.{SummaryRecord}
 use Rattle.kt_tables.specs.Lookups.{exposure_of, summary_in}
 use Rattle.kt_runs.specs.RunLosses.{event_of}
-use Rattle.kt_shares.specs.RecordLaws.{map-same}
-use Rattle.kt_shares.specs.Shares.{ids_of}
+use Rattle.kt_runs.specs.RecordLaws.{map-same}
+use Rattle.kt_runs.specs.Records.{ids_of}
 use Rattle.kt_sum.specs.RunSummaries.{IsReadyRow, IsThere, record_of}
 use Rattle.kt_sum.specs.Summaries.{run_summaries}
 use Rattle.kt_sum.specs.declared.summary_sums.SummarySums.{SummarySums}

@@ -1,7 +1,7 @@
 use Rattle.std.proofs.Common.{◌≡◌, ◌∙◌, ℕ, List, map, ap, subst, sym}
 use Rattle.std.specs.List.{AllByRecursion, filter_map}
-use Rattle.kt_shares.specs.Layers.{IsTopLayer, key_of}
-use Rattle.kt_shares.specs.declared.layers.TopLayer.{TopLayer}
+use Rattle.kt_levels.specs.Layers.{IsTopLayer, key_of}
+use Rattle.kt_levels.specs.declared.layers.TopLayer.{TopLayer}
 use Rattle.kt_alloc.specs.Insured.{in_order}
 use Rattle.kt_alloc.specs.Layout.{keys, keys_for, outlet_of}
 use Rattle.kt_alloc.proofs.layout.Layout.new.Goals as goal

@@ -3,7 +3,7 @@ use Rattle.std.specs.Prelude.{All}
 use Rattle.std.proofs.lemmas.Bool.{true≢false}
 use Rattle.std.proofs.lemmas.List.{get_or_default, take_more, with_items_is}
 use Rattle.kt_stream.specs.declared.entry.LossRecord.{LossRecord}
-use Rattle.kt_shares.specs.Table.{pairs_with}
+use Rattle.kt_runs.specs.LaneRows.{pairs_with}
 use Rattle.kt_sum.specs.RunSummaries.{IsReadyRow, IsSumOf, IsThere}
 use Rattle.kt_sum.specs.declared.summary_sums.SummarySums.{SummarySums}
 use Rattle.kt_sum.proofs.RunSumsLemmas.{found_at, taken_within}

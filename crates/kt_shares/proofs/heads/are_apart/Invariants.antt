@@ -1,6 +1,0 @@
-use Rattle.std.proofs.Common.{◌<◌, ◌≤◌, ◌-◌, ℕ}
-use Rattle.kt_shares.specs.LossLanes.{place_at}
-use Rattle.kt_shares.proofs.heads.are_apart.Given as goal
-
-abbrev pub invariant-loop-at : goal.invariant-loop-at
-invariant-loop-at l = (k : ℕ) → k < l.at → 1 ≤ k → place_at l.heads (k - 1) < place_at l.heads k

@@ -1,6 +1,0 @@
-use Rattle.std.proofs.Common.{◌≡◌, map, take}
-use Rattle.kt_shares.specs.declared.heads.LossHead.{LossHead}
-use Rattle.kt_shares.proofs.heads.are_ids.Given as goal
-
-abbrev pub invariant-loop-at : goal.invariant-loop-at
-invariant-loop-at l = map (λ (head : LossHead). head.id) (take l.at l.heads) ≡ take l.at l.ids

@@ -1,9 +1,0 @@
-use Rattle.std.proofs.Common.{length, ap, arith}
-use Rattle.kt_shares.specs.LaneRun.{LaneRun}
-use Rattle.kt_shares.proofs.LossLanesLemmas.{records-length}
-use Rattle.kt_shares.proofs.loss_lanes.LossLanes.len.Goals as goal
-
-pub returns : goal.returns
-returns c =
-    let kept = c.self.inside in
-    record { value = omega (arith, c.len.ensures, kept.heads.ok, records-length kept.heads.items kept.lanes, ap (λ (run : LaneRun). length run.records) c.self.view_is) }

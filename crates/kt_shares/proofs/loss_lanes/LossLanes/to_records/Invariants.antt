@@ -1,6 +1,0 @@
--- The records so far.
-use Rattle.std.proofs.Common.{◌≡◌, take}
-use Rattle.kt_shares.proofs.loss_lanes.LossLanes.to_records.Given as goal
-
-abbrev pub invariant-loop-place : goal.invariant-loop-place
-invariant-loop-place l = l.made.items ≡ take l.place l.self.records

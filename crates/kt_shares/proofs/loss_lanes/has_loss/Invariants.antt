@@ -1,7 +1,0 @@
--- No loss so far.
-use Rattle.std.proofs.Common.{◌≡◌, [], slice_index}
-use Rattle.kt_shares.specs.Table.{pairs_by_row}
-use Rattle.kt_shares.proofs.loss_lanes.has_loss.Given as goal
-
-abbrev pub invariant-loop-row : goal.invariant-loop-row
-invariant-loop-row l = pairs_by_row (slice_index l.lane) l.row ≡ []

@@ -1,6 +1,0 @@
-use Rattle.std.proofs.Common.{◌≡◌, map, take}
-use Rattle.kt_shares.specs.Shares.{ids_of}
-use Rattle.kt_shares.proofs.losses.ids_of.Given as goal
-
-abbrev pub invariant-loop-held : goal.invariant-loop-held
-invariant-loop-held g l = l.ids.items ≡ take l.held-index (ids_of (map g.T.RunEntry.entry_of l.records))

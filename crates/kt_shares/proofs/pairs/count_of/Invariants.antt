@@ -1,6 +1,0 @@
-use Rattle.std.proofs.Common.{◌≡◌, length, slice_index}
-use Rattle.kt_shares.specs.Table.{pairs_by_row}
-use Rattle.kt_shares.proofs.pairs.count_of.Given as goal
-
-abbrev pub invariant-loop-row : goal.invariant-loop-row
-invariant-loop-row l = l.count ≡ length (pairs_by_row (slice_index l.lane) l.row)

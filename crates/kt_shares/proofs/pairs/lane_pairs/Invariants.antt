@@ -1,5 +1,0 @@
-use Rattle.kt_shares.proofs.PairLemmas.{ArePut}
-use Rattle.kt_shares.proofs.pairs.lane_pairs.Given as goal
-
-abbrev pub invariant-loop-row : goal.invariant-loop-row
-invariant-loop-row l = ArePut l.lane l.row l.place l.pairs.items
