@@ -1,2 +1,3 @@
 pub mod SpreadLemmas
+pub mod WeightedLemmas
 pub mod DecimalLemmas

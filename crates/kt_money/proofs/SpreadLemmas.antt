@@ -33,7 +33,7 @@ carried-le n even part squares positive bound =
     omega arith
 
 -- the spread divided by n, for any count of whole parts that the rest's square takes
-spread_by_parts : (n even part squares left carried : ℕ) → squares ≡ even + left → carried ≤ left →
+pub spread_by_parts : (n even part squares left carried : ℕ) → squares ≡ even + left → carried ≤ left →
     part ≤ carried * n → carried * n < part + n → (n * squares - (n * even + part)) / n ≡ left - carried
 spread_by_parts n even part squares left carried whole fits low high =
     let kept : left ≡ (left - carried) + carried = omega arith in

@@ -93,7 +93,7 @@ twice_product_up : (x k : ℕ) → 2 * (x * (x + k)) ≤ x * x + (x + k) * (x + 
 twice_product_up x k = simp (mul-add, add-mul) (grind arith)
 
 -- twice a product is at most the two squares
-twice_product : (x y : ℕ) → 2 * (x * y) ≤ x * x + y * y
+pub twice_product : (x y : ℕ) → 2 * (x * y) ≤ x * x + y * y
 twice_product x y =
     ⊎_elim
     (λ (below : x < y). let e : x + (y - x) ≡ y = omega arith in rw e at (twice_product_up x (y - x)))

@@ -11,6 +11,7 @@ mod row;
 mod shared;
 mod sharing;
 mod square_root;
+mod weighted;
 
 pub use bytes::{Bytes, OutOfMemory};
 pub use decimals::write_plain;
@@ -20,3 +21,4 @@ pub use quotient::{div_half_up, ppm_of};
 pub use row::{ROW_BYTES, Row};
 pub use sharing::ShareOut;
 pub use square_root::isqrt;
+pub use weighted::weighted_mean_sd;

@@ -36,8 +36,8 @@ pub fn mean_sd(n: u64, sum: u128, sumsq: u128) -> MeanSd
 }
 
 /// The mean of `n` amounts, whose sum is `whole * n + rest`.
-fn nearest(n: u64, whole: u64, rest: u64) -> u64
-    requires count { n ≤ 10 ^ 8 }
+pub(crate) fn nearest(n: u64, whole: u64, rest: u64) -> u64
+    requires count { n ≤ 140000000 }
     requires size { whole ≤ 10 ^ 16 }
     requires below { rest < n }
     ensures { result ≡ mean_of n (whole * n + rest) }
