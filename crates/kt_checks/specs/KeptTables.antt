@@ -11,7 +11,8 @@ use Rattle.kt_rec.specs.declared.exposure.Coverage.{Coverage}
 use Rattle.kt_rec.specs.declared.exposure.Item.{Item}
 use Rattle.kt_rec.specs.declared.table.Table.{Table}
 use Rattle.kt_rec.specs.declared.table.Table.TheVariants as table
-use Rattle.kt_rec.specs.Rows.{Rows, count_in, row_count}
+use Rattle.kt_rec.specs.Places.{count_in, row_count}
+use Rattle.kt_rec.specs.Rows.{Rows}
 use Rattle.kt_rec.specs.TableNames.{number_of}
 use Rattle.kt_keys.specs.declared.need.Need.{Need}
 use Rattle.kt_keys.specs.declared.need.Refusal.{Refusal}

@@ -28,14 +28,13 @@ use Rattle.kt_schema.specs.Tables.{has_header, kinds_of, least_extra, most_extra
 use Rattle.kt_tables.specs.Portfolio.{IsPortfolio}
 use Rattle.kt_load.specs.declared.stop.LoadStop.{LoadStop}
 use Rattle.kt_load.specs.declared.stop.LoadStop.TheVariants as stop
-use Rattle.kt_load.specs.FileNames.{file_name_of, load_order}
+use Rattle.kt_load.specs.FileNames.{each-is_table, file_name_of, load_order}
 use Rattle.kt_load.specs.Loaded.{loaded, needed, unless_refused}
-use Rattle.kt_load.specs.Reading.{file_limit, go_on, with_read, with_size, with_table_file, with_table_files}
+use Rattle.kt_load.specs.Reading.{file_limit, go_on, with_read, with_table_file, with_table_files}
 use Rattle.kt_load.specs.Steps.{GivesPeriods, KeepsAll, KeepsRows}
-use Rattle.kt_load.specs.Typed.{with_rows}
-use Rattle.kt_load.proofs.NeedLemmas.{each-is_table, has_periods-from_all, no_rows-in_range}
-use Rattle.kt_load.proofs.OutsideLemmas.{no_rows-outside, outside-with_rows, outside-with_size}
-use Rattle.kt_load.proofs.TableRanges.{in_range-with_rows, in_range-with_size, periods-with_rows}
+use Rattle.kt_load.proofs.NeedLemmas.{has_periods-from_all, no_rows-in_range}
+use Rattle.kt_load.proofs.OutsideLemmas.{no_rows-outside}
+use Rattle.kt_load.proofs.TableLemmas.{rows-keep}
 
 -- ---- one file
 
@@ -59,26 +58,16 @@ loaded_in_range table.Footprint bytes extra values is =
     subst (λ file. IfOk file (λ f. AreRows (kinds_of table.Footprint) f.1)) header.2 tt
 loaded_in_range t bytes extra values is = body_in_range (has_header t) (number_of t) (least_extra t) (most_extra t) 1 (kinds_of t) bytes extra values (some_column t) is
 
--- what the rows of a file keep
-rows_keep : (id : TableId) (size : ℕ) (bytes : List ℕ) (old : Rows) (extra : ℕ) (values : List (List ℕ)) → IsTableId id → loaded_rows id.table bytes ≡ Ok (extra, values) → KeepsRows id old (with_size (with_rows old id.stage id.table extra values) id.table size)
-rows_keep id size bytes old extra values is read =
-    let rows = with_rows old id.stage id.table extra values in
-    record {
-      in_range = λ h. in_range-with_size id.table rows size (in_range-with_rows id.table old id.stage extra values (loaded_in_range id.table bytes extra values read) h);
-      outside = λ set there h. outside-with_size id.table set rows size (outside-with_rows id.table set old id.stage extra values is there h);
-      periods = λ h. periods-with_rows id.table old id.stage extra size bytes values read h;
-    }
-
--- so does a file that was read
+-- what a file that was read keeps
 file_keeps : (id : TableId) (file : Option (List ℕ)) (old now : Rows) → IsTableId id → with_table_file old id file ≡ Ok now → KeepsRows id old now
 file_keeps id None old now is read = cc
 file_keeps id (Some bytes) old now is read = by_size (nat_lt file_limit (length bytes)) read
   where
-    by_read : (got : Result (ℕ × List (List ℕ)) TableStop) → loaded_rows id.table bytes ≡ got → go_on (with_read old id got) (λ rows. Ok (with_size rows id.table (length bytes))) ≡ Ok now → KeepsRows id old now
-    by_read (Ok (extra, values)) e h = subst (λ (r : Result Rows LoadStop). IfOk r (KeepsRows id old)) h (rows_keep id (length bytes) bytes old extra values is e)
+    by_read : (got : Result (ℕ × List (List ℕ)) TableStop) → loaded_rows id.table bytes ≡ got → with_read old id (length bytes) got ≡ Ok now → KeepsRows id old now
+    by_read (Ok (extra, values)) e h = subst (λ (r : Result Rows LoadStop). IfOk r (KeepsRows id old)) h (rows-keep id (length bytes) bytes old extra values is (loaded_in_range id.table bytes extra values e) e)
     by_read (Err why) e h = cc
 
-    by_size : (large : Bool) → (if large then Err (stop.TooLarge (file_name_of id)) else go_on (with_read old id (loaded_rows id.table bytes)) (λ rows. Ok (with_size rows id.table (length bytes)))) ≡ Ok now → KeepsRows id old now
+    by_size : (large : Bool) → (if large then Err (stop.TooLarge (file_name_of id)) else with_read old id (length bytes) (loaded_rows id.table bytes)) ≡ Ok now → KeepsRows id old now
     by_size true h = cc
     by_size false h = by_read (loaded_rows id.table bytes) refl h
 

@@ -1,8 +1,12 @@
 -- The files of the tables, and the order in which they are loaded.
 -- The rules: docs/TABLES.md, "Files".
-use Rattle.std.specs.Prelude.{ℕ, ◌==◌, List, [], ◌∷◌, ◌++◌, codes, take, drop, if◌then◌else◌}
+use Rattle.std.specs.Prelude.{◌≡◌, ℕ, ◌==◌, ◌&&◌, ◌||◌, nat_le, Bool, true, refl, List, [], ◌∷◌, ◌++◌, All, codes, take, drop, slice_index_or, if◌then◌else◌}
 use Rattle.std.specs.List.{flat_map}
-use Rattle.kt_rec.specs.TableNames.{file_of}
+use Rattle.std.proofs.Common.{arith}
+use Rattle.std.proofs.lemmas.Bool.Decides.{nat_tests}
+use Rattle.std.proofs.lemmas.List.Sums.{AllPass-from_list_all}
+pub use Rattle.kt_rec.specs.Places.{table_at}
+use Rattle.kt_rec.specs.TableNames.{IsTableId, file_of, number_of}
 use Rattle.kt_rec.specs.declared.table.Table.{Table}
 use Rattle.kt_rec.specs.declared.table.Table.TheVariants as table
 use Rattle.kt_rec.specs.declared.table.TableId.{TableId}
@@ -18,10 +22,6 @@ stage_folder stage = codes "RI_" ++ stage_digit stage ++ codes "/"
 -- the file of a table: that of the base, or, in the folder of its stage, the one of the same name
 abbrev pub file_name_of : TableId → List ℕ
 file_name_of id = if id.stage == 0 then file_of id.table else stage_folder id.stage ++ drop 6 (file_of id.table)
-
--- a table of the base, at 0, or of a stage
-abbrev pub table_at : ℕ → Table → TableId
-table_at stage t = record { stage = stage; table = t }
 
 -- the tables of the base in the order of their numbers
 abbrev pub base_tables : List TableId
@@ -51,3 +51,17 @@ stage_tables stage = table_at stage table.FmProgramme ∷ table_at stage table.F
 -- all tables in the order of loading: the base, then stage by stage
 abbrev pub load_order : List TableId
 load_order = base_tables ++ flat_map stage_tables (1 ∷ 2 ∷ 3 ∷ 4 ∷ 5 ∷ 6 ∷ 7 ∷ 8 ∷ 9 ∷ [])
+
+-- a test for a table of the base, or a financial table of a stage
+is_table : TableId → Bool
+is_table id = nat_le id.stage 9 && (id.stage == 0 || (nat_le 9 (number_of id.table) && nat_le (number_of id.table) 11))
+
+-- a table that passes the test is one
+passes : (id : TableId) → is_table id ≡ true → IsTableId id
+unfolding is_table
+passes id pass = grind (arith, nat_tests)
+
+-- each table that is loaded is one
+pub each-is_table : All IsTableId load_order
+unfolding is_table
+each-is_table = λ k d below. passes (slice_index_or load_order k d) (AllPass-from_list_all is_table load_order refl k d below)

@@ -19,7 +19,7 @@ use Rattle.kt_schema.specs.Loading.{loaded_rows}
 use Rattle.kt_load.specs.EventRows.{HasFootprint, footprint_name}
 use Rattle.kt_load.specs.FileNames.{file_name_of, load_order, table_at}
 use Rattle.kt_load.specs.Loaded.{loaded, needed, unless_refused}
-use Rattle.kt_load.specs.Reading.{file_limit, go_on, with_table_file, with_table_files, with_read, with_size}
+use Rattle.kt_load.specs.Reading.{file_limit, go_on, with_table_file, with_table_files, with_read}
 use Rattle.kt_load.specs.Typed.{with_rows}
 use Rattle.kt_load.specs.declared.stop.LoadStop.{LoadStop}
 use Rattle.kt_load.specs.declared.stop.LoadStop.TheVariants as stop
@@ -61,7 +61,7 @@ fine id = not (number_of id.table == 4) || is_footprint id
 
 module _ (files : FileMap) where
   -- the size of the footprint is that of its file
-  sized : (stage : ℕ) (t : Table) (rows : Rows) (extra : ℕ) (values : List (List ℕ)) (bytes : List ℕ) → fine (table_at stage t) ≡ true → files (file_name_of (table_at stage t)) ≡ Some bytes → WillBeKnown files (is_footprint (table_at stage t)) rows → Known files (with_size (with_rows rows stage t extra values) t (length bytes))
+  sized : (stage : ℕ) (t : Table) (rows : Rows) (extra : ℕ) (values : List (List ℕ)) (bytes : List ℕ) → fine (table_at stage t) ≡ true → files (file_name_of (table_at stage t)) ≡ Some bytes → WillBeKnown files (is_footprint (table_at stage t)) rows → Known files (with_rows rows stage t extra values (length bytes))
   sized stage table.Footprint rows extra values bytes right holds known = subst (λ file. IsSomeAnd file (λ other. length other ≡ length bytes)) (sym (ap files (sym (its_name (table_at stage table.Footprint) right)) ∙ holds)) refl
   sized stage t rows extra values bytes right holds (inl known) = known
   sized stage t rows extra values bytes right holds (inr is) = absurd (omega (arith, eqb-true (number_of t) 4 (both (stage == 0) (number_of t == 4) is).1))
@@ -70,11 +70,11 @@ module _ (files : FileMap) where
   read_one : (rows new : Rows) (id : TableId) → fine id ≡ true → with_table_file rows id (files (file_name_of id)) ≡ Ok new → WillBeKnown files (is_footprint id) rows → Known files new
   read_one rows new id right is known = by_file (files (file_name_of id)) refl is
     where
-      by_read : (bytes : List ℕ) (read : Result (ℕ × List (List ℕ)) TableStop) → files (file_name_of id) ≡ Some bytes → go_on (with_read rows id read) (λ r. Ok (with_size r id.table (length bytes))) ≡ Ok new → Known files new
+      by_read : (bytes : List ℕ) (read : Result (ℕ × List (List ℕ)) TableStop) → files (file_name_of id) ≡ Some bytes → with_read rows id (length bytes) read ≡ Ok new → Known files new
       by_read bytes (Ok (extra, values)) holds h = subst (λ r. IfOk r (Known files)) h (sized id.stage id.table rows extra values bytes right holds known)
       by_read bytes (Err why) holds h = cc
 
-      by_size : (bytes : List ℕ) (large : Bool) → files (file_name_of id) ≡ Some bytes → (if large then Err (stop.TooLarge (file_name_of id)) else go_on (with_read rows id (loaded_rows id.table bytes)) (λ r. Ok (with_size r id.table (length bytes)))) ≡ Ok new → Known files new
+      by_size : (bytes : List ℕ) (large : Bool) → files (file_name_of id) ≡ Some bytes → (if large then Err (stop.TooLarge (file_name_of id)) else with_read rows id (length bytes) (loaded_rows id.table bytes)) ≡ Ok new → Known files new
       by_size bytes true holds h = cc
       by_size bytes false holds h = by_read bytes (loaded_rows id.table bytes) holds h
 

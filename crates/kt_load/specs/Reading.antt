@@ -2,8 +2,6 @@
 -- The rules: docs/REFUSALS.md, "Order".
 use Rattle.std.specs.Prelude.{ℕ, ◌^◌, List, [], ◌∷◌, length, nat_lt, if◌then◌else◌, Option, None, Some, Result, Ok, Err}
 use Rattle.kt_out.specs.NamedFiles.{FileMap}
-use Rattle.kt_rec.specs.declared.table.Table.{Table}
-use Rattle.kt_rec.specs.declared.table.Table.TheVariants as table
 use Rattle.kt_rec.specs.declared.table.TableId.{TableId}
 use Rattle.kt_rec.specs.Rows.{Rows}
 use Rattle.kt_cells.specs.declared.stop.TableStop.{TableStop}
@@ -22,22 +20,15 @@ abbrev pub go_on : {A B : Type 0} → Result A LoadStop → (A → Result B Load
 go_on (Ok value) next = next value
 go_on (Err why) next = Err why
 
--- the rows with those that a file has, or its refusal
-abbrev pub with_read : Rows → TableId → Result (ℕ × List (List ℕ)) TableStop → Result Rows LoadStop
-with_read rows id (Ok file) = Ok (with_rows rows id.stage id.table file.0 file.1)
-with_read rows id (Err why) = Err (stop.Table (file_name_of id) why)
-
--- of the footprint the size of its file is kept
-abbrev pub with_size : Rows → Table → ℕ → Rows
-with_size rows table.Footprint size = record rows { footprint_size = size }
-with_size rows t size = rows
+-- the rows with those that a file of so many bytes has, or its refusal
+abbrev pub with_read : Rows → TableId → ℕ → Result (ℕ × List (List ℕ)) TableStop → Result Rows LoadStop
+with_read rows id size (Ok file) = Ok (with_rows rows id.stage id.table file.0 file.1 size)
+with_read rows id size (Err why) = Err (stop.Table (file_name_of id) why)
 
 -- the rows with those of a table's file: it is missing, too large, or has a first bad place
 abbrev pub with_table_file : Rows → TableId → Option (List ℕ) → Result Rows LoadStop
 with_table_file rows id None = Err (stop.Missing (file_name_of id))
-with_table_file rows id (Some bytes) =
-    if nat_lt file_limit (length bytes) then Err (stop.TooLarge (file_name_of id))
-    else go_on (with_read rows id (loaded_rows id.table bytes)) (λ read. Ok (with_size read id.table (length bytes)))
+with_table_file rows id (Some bytes) = if nat_lt file_limit (length bytes) then Err (stop.TooLarge (file_name_of id)) else with_read rows id (length bytes) (loaded_rows id.table bytes)
 
 -- the rows with those of some tables' files, in this order
 unfoldable pub with_table_files : FileMap → List TableId → Rows → Result Rows LoadStop

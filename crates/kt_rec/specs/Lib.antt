@@ -1,6 +1,8 @@
 pub mod TableNames
 pub mod TableSet
 pub mod Rows
+pub mod Places
+pub mod PlaceLaws
 pub mod Ranges
 pub mod FootRows
 pub mod Rising

@@ -1,4 +1,4 @@
-use Rattle.kt_load.proofs.NeedLemmas.{each-is_table}
+use Rattle.kt_load.specs.FileNames.{each-is_table}
 use Rattle.kt_load.proofs.loading.load_order.Goals as goal
 
 -- each is a table of the base or of a stage
