@@ -7,11 +7,12 @@ use Rattle.kt_blocks.specs.Footprint.{AreEvents, IsJudgedFootprint}
 use Rattle.kt_blocks.specs.Tables.{rows_or_none}
 use Rattle.kt_cells.specs.Header.{header_extra}
 use Rattle.kt_cells.specs.Laws.{SlicesGiveSlices}
-use Rattle.kt_cells.specs.Lines.{line, rows_lines, lines_behind}
+use Rattle.kt_rec.specs.Lines.{line}
+use Rattle.kt_cells.specs.Lines.{rows_lines, lines_behind}
 use Rattle.kt_cells.specs.Ranges.{AreRows}
 use Rattle.kt_cells.specs.Reading.{and_then}
 use Rattle.kt_cells.specs.Records.{record_rows, record_width}
-use Rattle.kt_cells.specs.declared.kind.Kind.{Kind}
+use Rattle.kt_rec.specs.declared.kind.Kind.{Kind}
 use Rattle.kt_cells.specs.declared.stop.TableStop.{TableStop}
 use Rattle.kt_rec.specs.declared.hazard.FootprintIdx.{FootprintIdx}
 use Rattle.kt_rec.specs.declared.table.Table.TheVariants.{Footprint}

@@ -8,7 +8,7 @@ use Rattle.kt_cells.specs.Laws.{SlicesGiveSlices}
 use Rattle.kt_cells.specs.Lines.{rows_lines}
 use Rattle.kt_cells.specs.Reading.{and_then}
 use Rattle.kt_cells.specs.Records.{record_rows}
-use Rattle.kt_cells.specs.declared.kind.Kind.{Kind}
+use Rattle.kt_rec.specs.declared.kind.Kind.{Kind}
 use Rattle.kt_schema.specs.FootprintLaws.{rows_lines-append}
 
 -- the lines from a row on: so many, and those behind them

@@ -1,12 +1,13 @@
 -- The files and texts of all tables but the footprint.
 use Rattle.std.proofs.Common.{◌≡◌, ◌*◌, ℕ, Bool, List, ◌++◌, Ok, drop, sym, ap, ◌∙◌}
 use Rattle.kt_blocks.specs.Tables.{IsJudged, rows_or_none}
-use Rattle.kt_cells.specs.Lines.{line, rows_lines}
+use Rattle.kt_rec.specs.Lines.{line}
+use Rattle.kt_cells.specs.Lines.{rows_lines}
 use Rattle.kt_cells.specs.Reading.{and_then, Tells-and_then}
 use Rattle.kt_cells.specs.Records.{record_rows}
 use Rattle.kt_cells.specs.Stops.{Tells}
 use Rattle.kt_cells.specs.declared.stop.TableStop.{TableStop}
-use Rattle.kt_cells.specs.declared.kind.Kind.{Kind}
+use Rattle.kt_rec.specs.declared.kind.Kind.{Kind}
 use Rattle.kt_rec.specs.declared.table.Table.{Table}
 use Rattle.kt_schema.specs.Conversions.{bin_csv, bin_rows, body_rows, canon}
 use Rattle.kt_schema.specs.Tables.{heading_of, kinds_of}

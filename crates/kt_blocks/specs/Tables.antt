@@ -2,7 +2,7 @@
 -- The rules: docs/COMMANDS.md, "tobin and tocsv".
 use Rattle.std.specs.Prelude.{◌≡◌, ◌<◌, ◌/◌, ℕ, List, [], length, Result, Ok, Err}
 use Rattle.kt_cells.specs.Records.{record_rows, record_width, record_count}
-use Rattle.kt_cells.specs.declared.kind.Kind.{Kind}
+use Rattle.kt_rec.specs.declared.kind.Kind.{Kind}
 use Rattle.kt_cells.specs.declared.stop.TableStop.{TableStop}
 
 -- what is read, and nothing where it is refused

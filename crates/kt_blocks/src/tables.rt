@@ -1,7 +1,7 @@
 //! The text of a table, from its file, written in blocks.
 //! The rules: docs/COMMANDS.md, "tobin and tocsv".
 ghost use Rattle.std.specs.Prelude.{◌≡◌, ◌≢◌, ◌<◌, length, min, IfOk, IfErr, OnOk};
-ghost use Rattle.kt_cells.specs.Lines.{line};
+ghost use Rattle.kt_rec.specs.Lines.{line};
 ghost use Rattle.kt_cells.specs.Records.{record_width};
 ghost use Rattle.kt_cells.specs.Stops.{Tells};
 ghost use Rattle.kt_schema.specs.Conversions.{bin_csv, bin_rows, body_of, body_rows};

@@ -6,11 +6,12 @@ use Rattle.std.proofs.lemmas.List.{append-nil, take_all, drop_all, drop_more, dr
 use Rattle.std.proofs.Math.ListN.{length-set}
 use Rattle.kt_money.specs.NumberText.{plain, padded_digits}
 use Rattle.kt_money.specs.NumberTextLaws.{plain-decimals, length-padded_digits}
-use Rattle.kt_cells.specs.Kinds.{under}
-use Rattle.kt_cells.specs.Lines.{LineFrom, fields_behind, line_rest, separator, units_under}
+use Rattle.kt_rec.specs.Kinds.{under}
+use Rattle.kt_rec.specs.Lines.{fields_behind}
+use Rattle.kt_cells.specs.Lines.{LineFrom, line_rest, separator, units_under}
 use Rattle.kt_cells.specs.Reading.{rule_after}
 use Rattle.kt_cells.specs.Texts.{row_texts, value_text}
-use Rattle.kt_cells.specs.declared.kind.Kind.{Kind}
+use Rattle.kt_rec.specs.declared.kind.Kind.{Kind}
 use Rattle.kt_cells.proofs.WritingLemmas.{line_rest-field, line_rest-later, line_rest-end}
 
 -- a number with decimals takes a point and those behind it

@@ -5,13 +5,14 @@ use Rattle.std.proofs.lemmas.Bool.Decides.{nat_tests}
 use Rattle.std.proofs.lemmas.List.{append-nil}
 use Rattle.byteorder.specs.Endian.{little_number, little_bytes}
 use Rattle.byteorder.specs.Numbers.{length-bytes_low_first, little_number-reads_back}
-use Rattle.kt_cells.specs.Kinds.{under, width, is_ppm, highest, within, known_rule, in_range}
+use Rattle.kt_rec.specs.Kinds.{under, width, is_ppm, highest, within, known_rule, in_range}
 use Rattle.kt_cells.specs.Reading.{and_then-ok, rule_after}
 use Rattle.kt_cells.specs.Ranges.{IsRow, FitsBytes}
 use Rattle.kt_cells.specs.Records.{field_value}
-use Rattle.kt_cells.specs.Texts.{decimals, number_in, or_cause, text_value}
-use Rattle.kt_cells.specs.declared.kind.Kind.{Kind}
-use Rattle.kt_cells.specs.declared.kind.Kind.TheVariants as kind
+use Rattle.kt_rec.specs.Kinds.{decimals}
+use Rattle.kt_cells.specs.Texts.{number_in, or_cause, text_value}
+use Rattle.kt_rec.specs.declared.kind.Kind.{Kind}
+use Rattle.kt_rec.specs.declared.kind.Kind.TheVariants as kind
 use Rattle.kt_cells.proofs.RangeLemmas.{ReadsInRange}
 
 -- a value within bounds is the value

@@ -13,13 +13,14 @@ use Rattle.kt_money.specs.NumberText.{plain, padded_digits}
 use Rattle.kt_money.specs.NumberTextLaws.{plain-decimals, padded_digits-digits}
 use Rattle.kt_text.specs.Laws.{CountsAreReadBack, AmountsAreReadBack, RowsAreReadBack}
 use Rattle.kt_text.specs.Rows.{csv_rows, rows_text}
-use Rattle.kt_cells.specs.Kinds.{under, in_range}
+use Rattle.kt_rec.specs.Kinds.{under, in_range}
 use Rattle.kt_cells.specs.Laws.{IsPlain, LinesAreReadBack}
-use Rattle.kt_cells.specs.Lines.{line, fields_behind, rows_lines}
+use Rattle.kt_rec.specs.Lines.{line, fields_behind}
+use Rattle.kt_cells.specs.Lines.{rows_lines}
 use Rattle.kt_cells.specs.Ranges.{IsRow, AreRows}
 use Rattle.kt_cells.specs.Reading.{rule_after}
 use Rattle.kt_cells.specs.Texts.{text_value, text_rows, row_texts, value_text}
-use Rattle.kt_cells.specs.declared.kind.Kind.{Kind}
+use Rattle.kt_rec.specs.declared.kind.Kind.{Kind}
 use Rattle.kt_cells.proofs.KindLemmas.{in_range-ok, kind-facts}
 use Rattle.kt_cells.proofs.RangeLemmas.{IsRead, AreRead, read-rows}
 

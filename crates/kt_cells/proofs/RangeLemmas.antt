@@ -4,11 +4,11 @@ use Rattle.std.specs.Prelude.{Result, Ok, Err, ◌==◌}
 use Rattle.std.specs.List.{AllZip}
 use Rattle.std.proofs.lemmas.Bool.{cases_Bool, eqb-true}
 use Rattle.std.proofs.lemmas.Bool.Decides.{nat_tests}
-use Rattle.kt_cells.specs.Kinds.{under, in_range}
+use Rattle.kt_rec.specs.Kinds.{under, in_range}
 use Rattle.kt_cells.specs.Ranges.{IsRow, AreRows, AreInOrder}
 use Rattle.kt_cells.specs.Reading.{and_then, and_then-ok, in_front, at_place, not_below, value_from, rule_after, row_values, floor_after, table_rows}
-use Rattle.kt_cells.specs.declared.kind.Kind.{Kind}
-use Rattle.kt_cells.specs.declared.stop.Cause.{Cause}
+use Rattle.kt_rec.specs.declared.kind.Kind.{Kind}
+use Rattle.kt_rec.specs.declared.cause.Cause.{Cause}
 use Rattle.kt_cells.proofs.ReadingLemmas.{row_values-value, table_rows-row}
 
 -- a value above the floor passes it

@@ -6,12 +6,12 @@ use Rattle.std.proofs.lemmas.List.{append-nil, take_all, drop_more}
 use Rattle.std.proofs.lemmas.Grind.{take-set_at}
 use Rattle.std.proofs.Math.ListN.{length-set}
 use Rattle.std.proofs.Math.Seq.{drop-length}
-use Rattle.kt_cells.specs.Kinds.{under}
+use Rattle.kt_rec.specs.Kinds.{under}
 use Rattle.kt_cells.specs.Reading.{behind, in_front, rule_after, value_from, row_values, floor_after, table_rows}
 use Rattle.kt_cells.specs.Fronts.{RowRead}
 use Rattle.kt_cells.specs.Taking.{HandsFront, HandsOver}
-use Rattle.kt_cells.specs.declared.kind.Kind.{Kind}
-use Rattle.kt_cells.specs.declared.stop.Cause.{Cause}
+use Rattle.kt_rec.specs.declared.kind.Kind.{Kind}
+use Rattle.kt_rec.specs.declared.cause.Cause.{Cause}
 use Rattle.kt_cells.specs.declared.stop.TableStop.{TableStop}
 use Rattle.kt_cells.specs.declared.stop.TableStop.TheVariants.{Bad}
 

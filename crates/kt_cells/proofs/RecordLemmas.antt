@@ -8,12 +8,12 @@ use Rattle.std.proofs.lemmas.Grind.{take-set_at}
 use Rattle.std.proofs.Math.Nat.{div-eq-sub-div, mod-eq-sub-mod, div-eq_of_lt, mod-eq_of_lt, mul-div_cancel, mul-mod_left}
 use Rattle.byteorder.specs.Endian.{little_number}
 use Rattle.byteorder.specs.Numbers.{little_from-take}
-use Rattle.kt_cells.specs.Kinds.{under, width, in_range}
+use Rattle.kt_rec.specs.Kinds.{under, width, in_range}
 use Rattle.kt_cells.specs.Ranges.{IsRow, AreRows}
 use Rattle.kt_cells.specs.Reading.{and_then, and_then-ok, behind, in_front, not_below, value_from, rule_after, row_values, table_rows}
 use Rattle.kt_cells.specs.Records.{record_width, record_fields, records_in, field_value, record_rows, records_behind, record_count, whole_records}
-use Rattle.kt_cells.specs.declared.kind.Kind.{Kind}
-use Rattle.kt_cells.specs.declared.stop.Cause.{Cause}
+use Rattle.kt_rec.specs.declared.kind.Kind.{Kind}
+use Rattle.kt_rec.specs.declared.cause.Cause.{Cause}
 use Rattle.kt_cells.specs.declared.stop.TableStop.{TableStop}
 use Rattle.kt_cells.specs.declared.stop.TableStop.TheVariants.{Bad, CutRecord}
 use Rattle.kt_cells.proofs.KindLemmas.{kind-facts, field_value-range}

@@ -5,8 +5,8 @@ use Rattle.kt_text.specs.Rows.{csv_rows}
 use Rattle.kt_cells.specs.Laws.{TextsAreInRange}
 use Rattle.kt_cells.specs.Ranges.{AreRows, AreInOrder, IsRow, FitsBytes}
 use Rattle.kt_cells.specs.Texts.{text_value, text_rows}
-use Rattle.kt_cells.specs.Kinds.{under}
-use Rattle.kt_cells.specs.declared.kind.Kind.{Kind}
+use Rattle.kt_rec.specs.Kinds.{under}
+use Rattle.kt_rec.specs.declared.kind.Kind.{Kind}
 use Rattle.kt_cells.specs.declared.stop.TableStop.{TableStop}
 use Rattle.kt_cells.proofs.KindLemmas.{text_value-range, IsRow-fits}
 use Rattle.kt_cells.proofs.RangeLemmas.{rows-read, rows-range, not_below-above, row-read, row-range}

@@ -5,13 +5,14 @@ use Rattle.std.proofs.Common.{◌≡◌, ℕ, ◌+◌, ◌-◌, ◌<◌, ◌≤�
 use Rattle.std.specs.Prelude.{Result, Ok, Err, Option, None, Some, ◌==◌, false}
 use Rattle.std.proofs.lemmas.List.{append-nil, drop_all, drop_more, drop-append-le, drop-drop, drop_at, length-drop, length-take-le}
 use Rattle.byteorder.specs.Endian.{little_bytes}
-use Rattle.kt_cells.specs.Kinds.{width}
+use Rattle.kt_rec.specs.Kinds.{width}
 use Rattle.kt_cells.specs.Records.{record_bytes}
 use Rattle.kt_cells.specs.Taking.{HasMore}
-use Rattle.kt_cells.specs.declared.kind.Kind.{Kind}
+use Rattle.kt_rec.specs.declared.kind.Kind.{Kind}
 use Rattle.kt_money.specs.NumberText.{count_text}
 use Rattle.kt_cells.specs.Texts.{row_texts}
-use Rattle.kt_cells.specs.Lines.{front_text, line_with, rows_lines, lines_behind, lines_with, line, line_rest, fields_behind, separator}
+use Rattle.kt_rec.specs.Lines.{line, fields_behind}
+use Rattle.kt_cells.specs.Lines.{front_text, line_with, rows_lines, lines_behind, lines_with, line_rest, separator}
 use Rattle.kt_cells.specs.Reading.{and_then, behind}
 use Rattle.kt_cells.specs.declared.stop.TableStop.{TableStop}
 use Rattle.kt_cells.proofs.ReadingLemmas.{behind-nil}

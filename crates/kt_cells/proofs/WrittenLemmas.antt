@@ -7,12 +7,12 @@ use Rattle.std.proofs.Math.Nat.{div-mul-le_self, mul-le-mul_right}
 use Rattle.byteorder.specs.Endian.{little_number, little_bytes}
 use Rattle.byteorder.specs.Numbers.{length-bytes_low_first, little_number-reads_back}
 use Rattle.kt_cells.specs.Header.{header_extra, header_bytes, mark, version, number_at}
-use Rattle.kt_cells.specs.Kinds.{width, within}
+use Rattle.kt_rec.specs.Kinds.{width, within}
 use Rattle.kt_cells.specs.Laws.{RecordsAreReadBack, HeadersAreReadBack, SlicesGiveSlices}
 use Rattle.kt_cells.specs.Ranges.{IsRow, AreRows}
 use Rattle.kt_cells.specs.Reading.{rule_after, at_place}
 use Rattle.kt_cells.specs.Records.{record_width, record_fields, records_in, record_bytes, records_bytes, record_count, field_value}
-use Rattle.kt_cells.specs.declared.kind.Kind.{Kind}
+use Rattle.kt_rec.specs.declared.kind.Kind.{Kind}
 use Rattle.kt_cells.specs.declared.stop.TableStop.TheVariants.{NotProfile, WrongTable, WrongVersion}
 use Rattle.kt_cells.proofs.KindLemmas.{number-read_back}
 use Rattle.kt_cells.proofs.RangeLemmas.{IsRead, AreRead}

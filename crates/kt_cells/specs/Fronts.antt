@@ -4,8 +4,8 @@ use Rattle.std.specs.Prelude.{◌≡◌, ℕ, ◌+◌, ◌≤◌, Bool, List, �
 use Rattle.kt_text.specs.PlainText.{EndsField, IsField, StandsBehind}
 use Rattle.kt_cells.specs.Reading.{behind, row_values}
 use Rattle.kt_cells.specs.Texts.{text_value}
-use Rattle.kt_cells.specs.declared.kind.Kind.{Kind}
-use Rattle.kt_cells.specs.declared.stop.Cause.{Cause}
+use Rattle.kt_rec.specs.declared.kind.Kind.{Kind}
+use Rattle.kt_rec.specs.declared.cause.Cause.{Cause}
 use Rattle.kt_cells.specs.declared.stop.TableStop.{TableStop}
 
 -- a row is read as far as its first values, and these cells are left, with this rule and floor for them

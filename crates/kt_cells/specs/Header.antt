@@ -2,7 +2,7 @@
 -- The rule: docs/TABLES.md, "Files of tables".
 use Rattle.std.specs.Prelude.{ℕ, ◌==◌, List, ◌++◌, length, drop, not, nat_lt, if◌then◌else◌, Result, Err}
 use Rattle.byteorder.specs.Endian.{little_number, little_bytes}
-use Rattle.kt_cells.specs.Kinds.{within}
+use Rattle.kt_rec.specs.Kinds.{within}
 use Rattle.kt_cells.specs.Reading.{at_place}
 use Rattle.kt_cells.specs.declared.stop.TableStop.{TableStop}
 use Rattle.kt_cells.specs.declared.stop.TableStop.TheVariants.{NotProfile, WrongTable, WrongVersion}

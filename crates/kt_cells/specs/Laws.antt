@@ -5,11 +5,12 @@ use Rattle.std.specs.List.{AllByRecursion}
 use Rattle.csv.specs.Reading.{strip_bom}
 use Rattle.csv.specs.Writing.{default_writer, needs_quotes}
 use Rattle.kt_cells.specs.Header.{header_extra, header_bytes}
-use Rattle.kt_cells.specs.Lines.{line, rows_lines}
+use Rattle.kt_rec.specs.Lines.{line}
+use Rattle.kt_cells.specs.Lines.{rows_lines}
 use Rattle.kt_cells.specs.Ranges.{AreRows, AreInOrder}
 use Rattle.kt_cells.specs.Records.{record_rows, record_width, records_bytes}
 use Rattle.kt_cells.specs.Texts.{text_rows}
-use Rattle.kt_cells.specs.declared.kind.Kind.{Kind}
+use Rattle.kt_rec.specs.declared.kind.Kind.{Kind}
 
 -- rows in range are read back from their records
 abbrev pub RecordsAreReadBack : Type 0

@@ -1,7 +1,6 @@
 pub mod Cells
 pub mod Fronts
 pub mod Header
-pub mod Kinds
 pub mod Laws
 pub mod Lines
 pub mod Ranges

@@ -2,25 +2,16 @@
 -- The rule: docs/TABLES.md, "Texts of tables".
 use Rattle.std.specs.Prelude.{◌≡◌, ℕ, zero, suc, ◌+◌, ◌-◌, ◌*◌, ◌≤◌, Option, None, Some, List, [], ◌∷◌, ◌++◌, ◌==◌, drop, length, if◌then◌else◌}
 use Rattle.kt_money.specs.NumberText.{count_text}
-use Rattle.kt_cells.specs.Kinds.{under}
+use Rattle.kt_rec.specs.Kinds.{under}
+use Rattle.kt_rec.specs.Lines.{fields_behind, line}
 use Rattle.kt_cells.specs.Reading.{rule_after}
 use Rattle.kt_cells.specs.Texts.{row_texts}
-use Rattle.kt_cells.specs.declared.kind.Kind.{Kind}
+use Rattle.kt_rec.specs.declared.kind.Kind.{Kind}
 use Rattle.kt_cells.specs.declared.lines.Front.{Front}
-
--- the fields behind the first, each with a comma in front, and the line feed
-unfoldable pub fields_behind : List (List ℕ) → List ℕ
-fields_behind [] = 10 ∷ []
-fields_behind (field ∷ fields) = 44 ∷ field ++ fields_behind fields
 
 -- what stands before a field, by its column
 abbrev pub separator : ℕ → List ℕ
 separator column = if column == 0 then [] else 44 ∷ []
-
--- a line
-unfoldable pub line : List (List ℕ) → List ℕ
-line [] = 10 ∷ []
-line (field ∷ fields) = field ++ fields_behind fields
 
 -- lines, one after the other
 unfoldable pub lines_of : List (List (List ℕ)) → List ℕ

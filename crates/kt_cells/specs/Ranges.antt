@@ -1,10 +1,10 @@
 -- Rows whose values are in the ranges of their kinds.
 -- The rule: docs/TABLES.md, "Kinds of values".
 use Rattle.std.specs.Prelude.{◌≡◌, ◌<◌, ◌≤◌, ◌^◌, Bool, ℕ, length, List, [], ◌∷◌, Ok, slice_index_or}
-use Rattle.kt_cells.specs.Kinds.{under, in_range, width}
+use Rattle.kt_rec.specs.Kinds.{under, in_range, width}
 use Rattle.kt_cells.specs.Reading.{rule_after, floor_after}
-use Rattle.kt_cells.specs.declared.kind.Kind.{Kind}
-use Rattle.kt_cells.specs.declared.kind.Kind.TheVariants.{Id}
+use Rattle.kt_rec.specs.declared.kind.Kind.{Kind}
+use Rattle.kt_rec.specs.declared.kind.Kind.TheVariants.{Id}
 
 -- as many values as columns, each in the range of its kind, a term by the rule before it
 unfoldable pub IsRow : ℕ → List Kind → List ℕ → Type 0

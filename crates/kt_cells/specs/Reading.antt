@@ -1,11 +1,11 @@
 -- The rows of a table, whatever its cells are and however one is read: the values, or the first place that is wrong.
 -- The rule: docs/TABLES.md, "The first bad place".
 use Rattle.std.specs.Prelude.{◌≡◌, ℕ, ◌+◌, ◌==◌, Bool, List, [], ◌∷◌, ◌++◌, length, nat_lt, if◌then◌else◌, Result, Ok, Err, refl, slice_index_or}
-use Rattle.kt_cells.specs.Kinds.{under}
-use Rattle.kt_cells.specs.declared.kind.Kind.{Kind}
-use Rattle.kt_cells.specs.declared.kind.Kind.TheVariants as kind
-use Rattle.kt_cells.specs.declared.stop.Cause.{Cause}
-use Rattle.kt_cells.specs.declared.stop.Cause.TheVariants as cause
+use Rattle.kt_rec.specs.Kinds.{under}
+use Rattle.kt_rec.specs.declared.kind.Kind.{Kind}
+use Rattle.kt_rec.specs.declared.kind.Kind.TheVariants as kind
+use Rattle.kt_rec.specs.declared.cause.Cause.{Cause}
+use Rattle.kt_rec.specs.declared.cause.Cause.TheVariants as cause
 use Rattle.kt_cells.specs.declared.stop.TableStop.{TableStop}
 use Rattle.kt_cells.specs.declared.stop.TableStop.TheVariants.{NotProfile, WrongTable, WrongVersion, CutRecord, Bad, OutOfMemory}
 use Rattle.kt_cells.specs.Stops.{Tells}

@@ -2,10 +2,10 @@
 -- The rule: docs/TABLES.md, "Files of tables".
 use Rattle.std.specs.Prelude.{ℕ, zero, suc, ◌+◌, ◌/◌, ◌%◌, ◌==◌, false, List, [], ◌∷◌, ◌++◌, length, take, drop, if◌then◌else◌, Result, Ok, Err}
 use Rattle.byteorder.specs.Endian.{little_number, little_bytes}
-use Rattle.kt_cells.specs.Kinds.{width, in_range}
-use Rattle.kt_cells.specs.declared.kind.Kind.{Kind}
+use Rattle.kt_rec.specs.Kinds.{width, in_range}
+use Rattle.kt_rec.specs.declared.kind.Kind.{Kind}
 use Rattle.kt_cells.specs.Reading.{and_then, table_rows}
-use Rattle.kt_cells.specs.declared.stop.Cause.{Cause}
+use Rattle.kt_rec.specs.declared.cause.Cause.{Cause}
 use Rattle.kt_cells.specs.declared.stop.TableStop.{TableStop}
 use Rattle.kt_cells.specs.declared.stop.TableStop.TheVariants.{CutRecord}
 

@@ -3,8 +3,8 @@
 use Rattle.std.specs.Prelude.{◌≡◌, Result, Err}
 use Rattle.kt_text.specs.declared.bad_text.BadText.{BadText}
 use Rattle.kt_text.specs.declared.bad_text.BadText.TheVariants as text
-use Rattle.kt_cells.specs.declared.stop.Cause.{Cause}
-use Rattle.kt_cells.specs.declared.stop.Cause.TheVariants as cause
+use Rattle.kt_rec.specs.declared.cause.Cause.{Cause}
+use Rattle.kt_rec.specs.declared.cause.Cause.TheVariants as cause
 use Rattle.kt_cells.specs.declared.stop.TableStop.{TableStop}
 use Rattle.kt_cells.specs.declared.stop.TableStop.TheVariants.{NotProfile, WrongTable, WrongVersion, CutRecord, Bad, OutOfMemory}
 

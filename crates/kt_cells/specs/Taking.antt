@@ -6,7 +6,7 @@ use Rattle.kt_text.specs.PlainText.{csv_records}
 use Rattle.kt_cells.specs.Reading.{behind, row_values, Tells-and_then}
 use Rattle.kt_cells.specs.Stops.{Tells}
 use Rattle.kt_cells.specs.Texts.{text_value}
-use Rattle.kt_cells.specs.declared.kind.Kind.{Kind}
+use Rattle.kt_rec.specs.declared.kind.Kind.{Kind}
 use Rattle.kt_cells.specs.declared.stop.TableStop.{TableStop}
 
 -- what was there stands in front, and maybe more behind it

@@ -4,35 +4,19 @@ use Rattle.std.specs.Prelude.{ℕ, ◌==◌, Bool, List, [], ◌∷◌, Result, 
 use Rattle.kt_money.specs.NumberText.{count_text, plain}
 use Rattle.kt_text.specs.Numbers.{count_value, decimal_value}
 use Rattle.kt_text.specs.declared.bad_text.BadText.{BadText}
-use Rattle.kt_cells.specs.Kinds.{in_range, under}
+use Rattle.kt_rec.specs.Kinds.{decimals, in_range, under}
 use Rattle.kt_text.specs.Rows.{csv_rows}
 use Rattle.kt_cells.specs.Reading.{and_then, rule_after, table_rows}
 use Rattle.kt_cells.specs.Stops.{cause_of}
-use Rattle.kt_cells.specs.declared.kind.Kind.{Kind}
-use Rattle.kt_cells.specs.declared.kind.Kind.TheVariants as kind
-use Rattle.kt_cells.specs.declared.stop.Cause.{Cause}
+use Rattle.kt_rec.specs.declared.kind.Kind.{Kind}
+use Rattle.kt_rec.specs.declared.kind.Kind.TheVariants as kind
+use Rattle.kt_rec.specs.declared.cause.Cause.{Cause}
 use Rattle.kt_cells.specs.declared.stop.TableStop.{TableStop}
 
 -- a number, or the cause why a text stands for none
 abbrev pub or_cause : Result ℕ BadText → Result ℕ Cause
 or_cause (Ok value) = Ok value
 or_cause (Err text) = Err (cause_of text)
-
--- how many decimals the values of a kind are written with: counts with none, cents with two, parts per million with six
-abbrev pub decimals : Kind → ℕ
-decimals kind.Tiv = 2
-decimals kind.Amount = 2
-decimals (kind.Term t) = 2
-decimals kind.Ppm = 6
-decimals kind.Id = 0
-decimals kind.Count = 0
-decimals kind.IntensityBin = 0
-decimals kind.DamageBin = 0
-decimals kind.Level = 0
-decimals kind.Layer = 0
-decimals kind.SummarySet = 0
-decimals kind.Rule = 0
-decimals kind.Offset = 0
 
 -- the number that a text with so many decimals stands for
 abbrev pub number_in : ℕ → List ℕ → Result ℕ BadText

@@ -2,26 +2,25 @@
 //! The rule: docs/TABLES.md, "Texts of tables".
 ghost use Rattle.std.specs.Prelude.{◌≡◌, ◌≤◌, Ok, IfSome, length, take};
 ghost use Rattle.kt_text.specs.PlainText.{IsField};
-ghost use Rattle.kt_cells.specs.Texts.{decimals, number_in, text_value};
+ghost use Rattle.kt_rec.specs.Kinds.{decimals};
+ghost use Rattle.kt_cells.specs.Texts.{number_in, text_value};
 ghost use Rattle.kt_cells.specs.Fronts.{ReadsField};
 
-use crate::kind::Kind;
-use crate::stop::{Cause, cause_of_text};
+use crate::stop::cause_of_text;
+use kt_rec::{Cause, Kind};
 use kt_text::{
     BadText, FrontNumber, behind_field, field_length, front_amount, front_count, read_count,
     read_decimal,
 };
 
-impl Kind {
-    /// The value that the text of a field gives.
-    #[tactic(auto, unfolding(crate::specs::Texts::text_value))]
-    pub(crate) fn value_of(self, text: &[u8]) -> Result<u64, Cause>
-        ensures { result ≡ text_value self text.now }
-    {
-        match number_of(self, text) {
-            Ok(value) => self.in_range(value),
-            Err(bad) => Err(cause_of_text(bad)),
-        }
+/// The value that the text of a field gives.
+#[tactic(auto, unfolding(crate::specs::Texts::text_value))]
+pub(crate) fn value_of(kind: Kind, text: &[u8]) -> Result<u64, Cause>
+    ensures { result ≡ text_value kind text.now }
+{
+    match number_of(kind, text) {
+        Ok(value) => kind.in_range(value),
+        Err(bad) => Err(cause_of_text(bad)),
     }
 }
 
@@ -83,7 +82,7 @@ fn any_field(kind: Kind, text: &[u8], is_last: bool) -> Option<FrontField<'_>>
 {
     let size = field_length(text);
     let rest = behind_field(&text[size..], is_last)?;
-    match kind.value_of(&text[..size]) {
+    match value_of(kind, &text[..size]) {
         Ok(value) => Some(FrontField { value, rest }),
         Err(_) => None,
     }

@@ -4,10 +4,10 @@ ghost use Rattle.std.specs.Prelude.{◌≡◌, ◌++◌, OnOk, OnErr};
 ghost use Rattle.kt_cells.specs.Header.{header_extra, header_bytes};
 ghost use Rattle.kt_cells.specs.Taking.{HasMore};
 
-use crate::kind::checked;
 use crate::stop::TableStop;
 use byteorder::{ByteOrder, LittleEndian};
 use kt_money::Bytes;
+use kt_rec::checked;
 use std::alloc::AllocError;
 
 /// How many bytes a header takes.

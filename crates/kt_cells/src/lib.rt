@@ -3,7 +3,6 @@
 
 mod front_value;
 mod header;
-mod kind;
 mod laws;
 mod lines;
 mod plain_rows;
@@ -18,7 +17,7 @@ mod text_rows;
 mod values;
 
 pub use header::{HEADER_WIDTH, push_header, read_header};
-pub use kind::{Kind, Term};
+pub use kt_rec::{Cause, Kind, Term};
 pub use laws::{
     headers_are_read_back, lines_are_read_back, records_are_read_back, slices_give_slices,
     texts_are_in_range,
@@ -28,6 +27,6 @@ pub use record_lines::push_record_lines;
 pub use record_writer::push_record;
 pub use records::read_records;
 pub use row_sink::RowSink;
-pub use stop::{Cause, TableStop};
+pub use stop::TableStop;
 pub use text_rows::{TextFront, read_behind, read_behind_heading, read_front, read_text};
 pub use values::Values;

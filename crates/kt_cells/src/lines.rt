@@ -1,16 +1,17 @@
 //! Rows as lines of text.
 //! The rule: docs/TABLES.md, "Texts of tables".
 ghost use Rattle.std.specs.Prelude.{◌≡◌, ◌+◌, ◌-◌, ◌*◌, ◌<◌, ◌≤◌, ◌++◌, ℕ, List, Option, length, take, drop, min};
-ghost use Rattle.kt_cells.specs.Lines.{IsFront, LineFrom, line, line_with, lines_with, units_under};
-ghost use Rattle.kt_cells.specs.declared.kind.Kind.{Kind};
+ghost use Rattle.kt_rec.specs.Lines.{line};
+ghost use Rattle.kt_cells.specs.Lines.{IsFront, LineFrom, line_with, lines_with, units_under};
+ghost use Rattle.kt_rec.specs.declared.kind.Kind.{Kind};
 ghost use Rattle.kt_cells.specs.Texts.{row_texts, value_text};
 ghost use Rattle.kt_cells.specs.declared.lines.TheConstants.{LINE_BYTES, ROWS};
 
-use crate::kind::Kind;
 use crate::plain_rows::SHORT;
 use crate::reader::rule_after;
 use itoa::write_digits;
 use kt_money::write_plain;
+use kt_rec::Kind;
 
 /// So many bytes have room for the lines that are written at once, with a count in front of each, whatever the values are.
 pub(crate) const LINE_BYTES: usize = 2_400;

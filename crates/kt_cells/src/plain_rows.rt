@@ -5,8 +5,8 @@ ghost use Rattle.kt_cells.specs.Fronts.{PlainRead};
 ghost use Rattle.kt_cells.specs.Taking.{HasRow};
 
 use crate::front_value::{front_field, plain_field};
-use crate::kind::Kind;
 use crate::reader::rule_after;
+use kt_rec::Kind;
 use kt_text::{fields_stay_fields, first_field};
 
 /// Rows of so many columns are read and written without a loop, so that the kind of each column is known where its field is.

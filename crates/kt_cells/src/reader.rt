@@ -6,10 +6,11 @@ ghost use Rattle.kt_cells.specs.Texts.{text_value};
 ghost use Rattle.kt_cells.specs.Reading.{value_from, not_below, row_values, table_rows, rule_after as rule_behind, floor_after as floor_behind};
 ghost use Rattle.kt_cells.specs.Stops.{Tells};
 
-use crate::kind::Kind;
-use crate::stop::{Cause, TableStop};
+use crate::front_value;
+use crate::stop::TableStop;
 use crate::values::Values;
 use csv::ByteRecord;
+use kt_rec::{Cause, Kind};
 use kt_text::{Grid, record_field};
 use std::alloc::Global;
 
@@ -42,7 +43,7 @@ pub(crate) fn floor_after<const N: usize>(ordered: bool, values: &[u64; N]) -> u
 fn value_of(kind: Kind, text: &[u8], floor: u64) -> Result<u64, Cause>
     ensures { result ≡ value_from text_value floor kind text.now }
 {
-    let value = kind.value_of(text)?;
+    let value = front_value::value_of(kind, text)?;
     if value < floor {
         Err(Cause::Order)
     } else {

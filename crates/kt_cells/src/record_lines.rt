@@ -8,11 +8,11 @@ ghost use Rattle.kt_cells.specs.Stops.{Tells};
 ghost use Rattle.kt_cells.specs.Taking.{HasMore};
 ghost use Rattle.kt_cells.specs.declared.lines.TheConstants.{LINE_BYTES, ROWS};
 
-use crate::kind::Kind;
 use crate::lines::{LINE_BYTES, ROWS, front_of, rows_at_once, write_lines};
 use crate::records::{next_record, record_width};
 use crate::stop::TableStop;
 use kt_money::Bytes;
+use kt_rec::Kind;
 
 // Records that are read as rows.
 #[derive(Clone, Copy)]

@@ -5,8 +5,8 @@ ghost use Rattle.byteorder.specs.Endian.{little_bytes};
 ghost use Rattle.kt_cells.specs.Records.{record_bytes};
 ghost use Rattle.kt_cells.specs.Taking.{HasMore};
 
-use crate::kind::Kind;
 use kt_money::Bytes;
+use kt_rec::Kind;
 use std::alloc::AllocError;
 
 // Appends a number in four or eight bytes.

@@ -5,15 +5,15 @@ ghost use Rattle.kt_cells.specs.Stops.{Tells};
 ghost use Rattle.kt_cells.specs.Taking.{HandsOver};
 ghost use Rattle.std.specs.Prelude.{◌≡◌, ℕ, List, [], OnOk, IfOk, IfErr, Ok, Err, ◌+◌, ◌*◌, ◌<◌, ◌≤◌, ◌^◌, ◌⊎◌, length, take, drop};
 ghost use Rattle.byteorder.specs.Endian.{little_number};
-ghost use Rattle.kt_cells.specs.Kinds.{width};
+ghost use Rattle.kt_rec.specs.Kinds.{width};
 ghost use Rattle.kt_cells.specs.Reading.{in_front, row_values};
 ghost use Rattle.kt_cells.specs.Records.{record_width as width_of, record_count, record_fields, record_rows, records_behind, field_value};
 
-use crate::kind::Kind;
 use crate::reader::rule_after;
 use crate::row_sink::RowSink;
 use crate::stop::TableStop;
 use byteorder::{ByteOrder, LittleEndian};
+use kt_rec::Kind;
 
 /// How many bytes a record with these columns takes.
 pub(crate) fn record_width(kinds: &[Kind]) -> usize

@@ -2,14 +2,14 @@
 //! The rule: docs/ARCHITECTURE.md, "One form for each thing".
 ghost use Rattle.std.specs.Prelude.{◌≡◌, ◌++◌, ◌∷◌, [], ◌<◌, OnOk};
 
-use crate::kind::Kind;
 use crate::values::Values;
+use kt_rec::Kind;
 use std::alloc::AllocError;
 
 /// What takes rows of `N` values as they are read, so that no list of the values stands between.
 pub trait RowSink<const N: usize> {
     ghost use Rattle.std.specs.Prelude.{ℕ, List};
-    ghost use Rattle.kt_cells.specs.declared.kind.Kind.{Kind};
+    ghost use Rattle.kt_rec.specs.declared.kind.Kind.{Kind};
 
     // The values that it can take as a row.
     ghost takes: { List ℕ → Type 0 };

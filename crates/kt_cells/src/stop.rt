@@ -4,29 +4,9 @@ ghost use Rattle.std.specs.Prelude.{◌≡◌};
 ghost use Rattle.kt_cells.specs.Stops.{cause_of};
 ghost use Rattle.kt_cells.specs.declared.stop.TableStop.TheVariants.{OutOfMemory};
 
+use kt_rec::Cause;
 use kt_text::BadText;
 use std::alloc::{AllocError, AllocFailed};
-
-/// What is wrong with a row or a field.
-#[derive(Clone, Copy)]
-pub enum Cause {
-    /// The row has another number of fields than the table has columns.
-    Columns,
-    /// The text has not the form of a number.
-    NotANumber,
-    /// The number has more than 18 digits.
-    TooManyDigits,
-    /// The exponent is not from -30 to 30.
-    ExponentRange,
-    /// The value is above the range of its kind.
-    TooLarge,
-    /// The value is below the range of its kind.
-    Zero,
-    /// The value is no calculation rule.
-    Rule,
-    /// The event is below that of the row before.
-    Order,
-}
 
 /// Why a table is refused: the first place that is wrong.
 #[derive(Clone, Copy)]

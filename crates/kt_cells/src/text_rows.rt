@@ -10,12 +10,12 @@ ghost use Rattle.kt_cells.specs.Reading.{table_rows};
 ghost use Rattle.kt_cells.specs.Ranges.{IsRow, AreRows, AreInOrder, FitsBytes};
 ghost use Rattle.kt_cells.specs.Taking.{HandsOver, HandsFront, TakesMore};
 
-use crate::kind::Kind;
 use crate::plain_rows::plain_row;
 use crate::reader::{floor_after, read_record};
 use crate::row_sink::RowSink;
-use crate::stop::{Cause, TableStop};
+use crate::stop::TableStop;
 use csv::{ByteRecord, Reader};
+use kt_rec::{Cause, Kind};
 use kt_text::{behind_heading, next_record, reader_of};
 use std::alloc::{AllocError, Global};
 

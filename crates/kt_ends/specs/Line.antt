@@ -8,8 +8,8 @@ use Rattle.kt_stream.specs.declared.stop.StreamStop.{StreamStop}
 use Rattle.kt_stream.specs.declared.stop.StreamStop.TheVariants.{NotProfile, WrongStream, BadSamples, BadSet, BadRecord, Cut, TooLong}
 use Rattle.kt_words.specs.declared.stop.WordCause.{WordCause}
 use Rattle.kt_words.specs.declared.stop.WordCause.TheVariants.{Missing, UnknownTool, UnknownOption, Repeated, NeedsValue, BadValue, Unexpected, NotTogether, BadPart}
-use Rattle.kt_cells.specs.declared.stop.Cause.{Cause}
-use Rattle.kt_cells.specs.declared.stop.Cause.TheVariants as cause
+use Rattle.kt_rec.specs.declared.cause.Cause.{Cause}
+use Rattle.kt_rec.specs.declared.cause.Cause.TheVariants as cause
 use Rattle.kt_rec.specs.declared.foot_rows.RowCause.{RowCause}
 use Rattle.kt_rec.specs.declared.foot_rows.RowCause.TheVariants as row_cause
 use Rattle.kt_ends.specs.declared.status.Refusal.{Refusal}

@@ -8,9 +8,9 @@ use Rattle.std.proofs.lemmas.List.{length-append}
 use Rattle.kt_rec.specs.Ranges.{IsFootprintIdx, IsId}
 use Rattle.kt_rec.specs.declared.hazard.FootprintIdx.{FootprintIdx}
 use Rattle.kt_rec.specs.declared.table.Table.TheVariants as table
-use Rattle.kt_cells.specs.Kinds.{in_range, within}
-use Rattle.kt_cells.specs.declared.kind.Kind.TheVariants as kind
-use Rattle.kt_cells.specs.declared.stop.Cause.TheVariants as cause
+use Rattle.kt_rec.specs.Kinds.{in_range, within}
+use Rattle.kt_rec.specs.declared.kind.Kind.TheVariants as kind
+use Rattle.kt_rec.specs.declared.cause.Cause.TheVariants as cause
 use Rattle.kt_cells.specs.Ranges.{AreInOrder, AreRows, IsRow}
 use Rattle.kt_cells.specs.Records.{record_bytes, records_bytes}
 use Rattle.kt_schema.specs.Footprint.{IsEntryOf}

@@ -9,7 +9,7 @@ use Rattle.kt_cells.specs.Records.{records_bytes}
 use Rattle.kt_cells.specs.Stops.{Tells}
 use Rattle.kt_cells.specs.Taking.{HandsFront, HandsOver, TakesMore}
 use Rattle.kt_cells.specs.Texts.{text_value}
-use Rattle.kt_cells.specs.declared.kind.Kind.{Kind}
+use Rattle.kt_rec.specs.declared.kind.Kind.{Kind}
 use Rattle.kt_cells.specs.declared.stop.TableStop.{TableStop}
 use Rattle.kt_ends.specs.declared.tool_stop.ToolStop.{ToolStop}
 use Rattle.kt_front.specs.Converting.{IsTableStop}

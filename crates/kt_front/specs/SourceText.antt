@@ -8,7 +8,7 @@ use Rattle.kt_cells.specs.Reading.{table_rows}
 use Rattle.kt_cells.specs.Stops.{Tells}
 use Rattle.kt_cells.specs.Taking.{HandsFront, HandsOver, TakesMore}
 use Rattle.kt_cells.specs.Texts.{text_value}
-use Rattle.kt_cells.specs.declared.kind.Kind.{Kind}
+use Rattle.kt_rec.specs.declared.kind.Kind.{Kind}
 use Rattle.kt_cells.specs.declared.stop.TableStop.{TableStop}
 use Rattle.kt_ends.specs.declared.status.Refusal.TheVariants as refusal
 use Rattle.kt_ends.specs.declared.tool_stop.ToolStop.{ToolStop}

@@ -4,7 +4,7 @@ use Rattle.std.specs.Prelude.{map}
 use Rattle.std.specs.List.{flat_map, range_with_len}
 use Rattle.std.proofs.lemmas.List.{append-nil, drop_all, drop_more, map-append}
 use Rattle.kt_cells.specs.Records.{record_bytes, records_bytes}
-use Rattle.kt_cells.specs.declared.kind.Kind.{Kind}
+use Rattle.kt_rec.specs.declared.kind.Kind.{Kind}
 
 -- the records of some rows and more are those of both
 pub records_bytes-append : (kinds : List Kind) (xs ys : List (List ℕ)) → records_bytes kinds (xs ++ ys) ≡ records_bytes kinds xs ++ records_bytes kinds ys

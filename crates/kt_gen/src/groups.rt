@@ -16,7 +16,7 @@ use std::alloc::{AllocError, Global};
 /// The rows of a table, or of a part of one, group by group.
 pub(crate) trait Groups {
     ghost use Rattle.std.specs.Prelude.{List};
-    ghost use Rattle.kt_cells.specs.declared.kind.Kind.{Kind};
+    ghost use Rattle.kt_rec.specs.declared.kind.Kind.{Kind};
 
     // The kinds of the columns of a record.
     ghost kinds: { List Kind };

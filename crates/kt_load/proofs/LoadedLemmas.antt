@@ -8,7 +8,7 @@ use Rattle.kt_cells.specs.Header.{header_extra}
 use Rattle.kt_cells.specs.Ranges.{AreRows}
 use Rattle.kt_cells.specs.Reading.{and_then-ok}
 use Rattle.kt_cells.specs.Records.{record_rows}
-use Rattle.kt_cells.specs.declared.kind.Kind.{Kind}
+use Rattle.kt_rec.specs.declared.kind.Kind.{Kind}
 use Rattle.kt_cells.specs.declared.stop.TableStop.{TableStop}
 use Rattle.kt_cells.proofs.RecordLemmas.{records_in_range}
 use Rattle.kt_checks.specs.Checks.{first_refusal}

@@ -4,11 +4,11 @@ use Rattle.std.specs.Prelude.{All, if◌then◌else◌}
 use Rattle.std.proofs.lemmas.Bool.Decides.{nat_tests}
 use Rattle.std.proofs.lemmas.List.Elements.{All-nil, All-cons}
 use Rattle.kt_rec.specs.Ranges.{IsTerm, is_rule_number}
-use Rattle.kt_cells.specs.Kinds.{in_range, within, under, is_ppm, lowest, highest}
+use Rattle.kt_rec.specs.Kinds.{in_range, within, under, is_ppm, lowest, highest}
 use Rattle.kt_cells.specs.Ranges.{IsRow, AreRows}
 use Rattle.kt_cells.specs.Reading.{rule_after}
-use Rattle.kt_cells.specs.declared.kind.Kind.{Kind}
-use Rattle.kt_cells.specs.declared.kind.Kind.TheVariants as kind
+use Rattle.kt_rec.specs.declared.kind.Kind.{Kind}
+use Rattle.kt_rec.specs.declared.kind.Kind.TheVariants as kind
 use Rattle.kt_load.specs.Typed.{column}
 
 -- the bounds of a value that lies within them

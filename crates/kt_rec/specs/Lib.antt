@@ -1,3 +1,6 @@
+pub mod Kinds
+pub mod Lines
+pub mod Descriptions
 pub mod TableNames
 pub mod TableSet
 pub mod Rows

@@ -1,11 +1,14 @@
 //! The rows of the tables, and the names and sets of tables.
 #![tactic(auto)]
 
+mod cause;
 mod curve;
+mod descriptions;
 mod exposure;
 mod financial;
 mod foot_rows;
 mod hazard;
+mod kind;
 mod name;
 mod periods;
 mod perspective;
@@ -15,11 +18,18 @@ mod table;
 mod table_set;
 mod tables;
 
+pub use cause::Cause;
 pub use curve::Curve;
+pub use descriptions::{
+    COVERAGES, DAMAGE_BIN_DICT, Described, EVENTS, FM_POLICYTC, FM_PROFILE, FM_PROGRAMME,
+    FM_SUMMARY_XREF, FM_XREF, FOOTPRINT, FOOTPRINT_IDX, GUL_SUMMARY_XREF, ITEMS, OCCURRENCE,
+    RANDOM, RETURN_PERIODS, TABLES, VULNERABILITY, describe,
+};
 pub use exposure::{Coverage, Item};
 pub use financial::{FmPolicytc, FmProfile, FmProgramme, FmXref};
 pub use foot_rows::{ModelStop, RowCause};
 pub use hazard::{DamageBin, Event, FootRow, Footprint, FootprintIdx, Random, Vulnerability};
+pub use kind::{Kind, Term, checked};
 pub use name::Name;
 pub use periods::{Occurrence, ReturnPeriod};
 pub use perspective::{CellKey, Perspective};

@@ -1,9 +1,11 @@
 //! The types of this crate may be sent to threads and shared by them.
 //! The rule: docs/ARCHITECTURE.md, "What threads share".
 use crate::curve::Curve;
+use crate::descriptions::Described;
 use crate::financial::FmProfile;
 use crate::foot_rows::{ModelStop, RowCause};
 use crate::hazard::FootRow;
+use crate::kind::Kind;
 use crate::name::Name;
 use crate::perspective::CellKey;
 use crate::table_set::TableSet;
@@ -21,6 +23,8 @@ pub(crate) fn are_shared(
     row: &FootRow,
     profile: &FmProfile,
     curve: &Curve,
+    kind: &Kind,
+    described: &Described,
     stop: &ModelStop,
     cause: &RowCause,
 ) {
@@ -31,6 +35,8 @@ pub(crate) fn are_shared(
     is_shared(row);
     is_shared(profile);
     is_shared(curve);
+    is_shared(kind);
+    is_shared(described);
     is_shared(stop);
     is_shared(cause);
 }

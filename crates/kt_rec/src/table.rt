@@ -1,7 +1,9 @@
 //! The tables, their numbers and files, and the order in which they are loaded.
 //! The rules: docs/TABLES.md, "Tables", "Files".
-ghost use Rattle.std.specs.Prelude.{◌≡◌, codes};
+ghost use Rattle.std.specs.Prelude.{◌≡◌};
 ghost use Rattle.kt_rec.specs.TableNames.{number_of, name_of, file_of};
+
+use crate::descriptions::describe;
 
 /// A table.
 #[derive(Clone, Copy, Debug)]
@@ -52,48 +54,14 @@ impl Table {
     pub fn name(self) -> &'static [u8]
         ensures { result.now ≡ name_of self }
     {
-        match self {
-            Table::Events => b"events",
-            Table::Items => b"items",
-            Table::Coverages => b"coverages",
-            Table::Footprint => b"footprint",
-            Table::FootprintIdx => b"footprint_idx",
-            Table::Vulnerability => b"vulnerability",
-            Table::DamageBinDict => b"damage_bin_dict",
-            Table::Random => b"random",
-            Table::FmProgramme => b"fm_programme",
-            Table::FmPolicytc => b"fm_policytc",
-            Table::FmProfile => b"fm_profile",
-            Table::FmXref => b"fm_xref",
-            Table::GulSummaryXref => b"gulsummaryxref",
-            Table::FmSummaryXref => b"fmsummaryxref",
-            Table::Occurrence => b"occurrence",
-            Table::ReturnPeriods => b"returnperiods",
-        }
+        describe(self).name
     }
 
     /// The name of the table's file in a run's folder.
     pub fn file_name(self) -> &'static [u8]
         ensures { result.now ≡ file_of self }
     {
-        match self {
-            Table::Events => b"input/events.bin",
-            Table::Items => b"input/items.bin",
-            Table::Coverages => b"input/coverages.bin",
-            Table::Footprint => b"static/footprint.bin",
-            Table::FootprintIdx => b"static/footprint.idx",
-            Table::Vulnerability => b"static/vulnerability.bin",
-            Table::DamageBinDict => b"static/damage_bin_dict.bin",
-            Table::Random => b"static/random.bin",
-            Table::FmProgramme => b"input/fm_programme.bin",
-            Table::FmPolicytc => b"input/fm_policytc.bin",
-            Table::FmProfile => b"input/fm_profile.bin",
-            Table::FmXref => b"input/fm_xref.bin",
-            Table::GulSummaryXref => b"input/gulsummaryxref.bin",
-            Table::FmSummaryXref => b"input/fmsummaryxref.bin",
-            Table::Occurrence => b"input/occurrence.bin",
-            Table::ReturnPeriods => b"input/returnperiods.bin",
-        }
+        describe(self).file
     }
 }
 

@@ -5,7 +5,7 @@ use Rattle.csv.specs.Reading.{strip_bom}
 use Rattle.kt_rec.specs.declared.table.Table.{Table}
 use Rattle.kt_rec.specs.declared.table.Table.TheVariants as table
 use Rattle.kt_cells.specs.Laws.{LinesAreReadBack, TextsAreInRange}
-use Rattle.kt_cells.specs.Lines.{line, fields_behind}
+use Rattle.kt_rec.specs.Lines.{line, fields_behind}
 use Rattle.kt_cells.specs.Ranges.{AreRows, AreInOrder}
 use Rattle.kt_cells.specs.Reading.{and_then}
 use Rattle.kt_schema.specs.Conversions.{bin, bin_csv, canon, csv_rows}

@@ -7,7 +7,7 @@ use Rattle.kt_rec.specs.declared.table.Table.TheVariants as table
 use Rattle.kt_cells.specs.Laws.{HeadersAreReadBack, RecordsAreReadBack}
 use Rattle.kt_cells.specs.Ranges.{AreRows}
 use Rattle.kt_cells.specs.Records.{records_bytes}
-use Rattle.kt_cells.specs.declared.kind.Kind.{Kind}
+use Rattle.kt_rec.specs.declared.kind.Kind.{Kind}
 use Rattle.kt_schema.specs.Conversions.{bin, bin_rows, body_rows, file_bytes}
 use Rattle.kt_schema.specs.Tables.{has_header, kinds_of, least_extra, most_extra}
 

@@ -5,12 +5,13 @@ use Rattle.kt_rec.specs.TableNames.{number_of}
 use Rattle.kt_rec.specs.declared.table.Table.{Table}
 use Rattle.kt_rec.specs.declared.table.Table.TheVariants as table
 use Rattle.kt_cells.specs.Header.{header_extra, header_bytes, header_width}
-use Rattle.kt_cells.specs.Lines.{line, rows_lines}
+use Rattle.kt_rec.specs.Lines.{line}
+use Rattle.kt_cells.specs.Lines.{rows_lines}
 use Rattle.kt_cells.specs.Ranges.{AreRows}
 use Rattle.kt_cells.specs.Reading.{and_then}
 use Rattle.kt_cells.specs.Records.{record_rows, records_bytes}
 use Rattle.kt_cells.specs.Texts.{text_rows}
-use Rattle.kt_cells.specs.declared.kind.Kind.{Kind}
+use Rattle.kt_rec.specs.declared.kind.Kind.{Kind}
 use Rattle.kt_cells.specs.declared.stop.TableStop.{TableStop}
 use Rattle.kt_schema.specs.Index.{index_of}
 use Rattle.kt_schema.specs.Tables.{has_header, kinds_of, heading_of, least_extra, most_extra}

@@ -4,10 +4,11 @@ use Rattle.std.proofs.Common.{◌≡◌, ℕ, zero, suc, ◌-◌, ◌/◌, List,
 use Rattle.std.specs.Prelude.{map}
 use Rattle.kt_rec.specs.declared.hazard.FootprintIdx.{FootprintIdx}
 use Rattle.kt_rec.specs.declared.table.Table.TheVariants.{Footprint}
-use Rattle.kt_cells.specs.Lines.{line, fields_behind, rows_lines, lines_behind}
+use Rattle.kt_rec.specs.Lines.{line, fields_behind}
+use Rattle.kt_cells.specs.Lines.{rows_lines, lines_behind}
 use Rattle.kt_cells.specs.Ranges.{IsRow, AreRows}
 use Rattle.kt_cells.specs.Texts.{row_texts}
-use Rattle.kt_cells.specs.declared.kind.Kind.{Kind}
+use Rattle.kt_rec.specs.declared.kind.Kind.{Kind}
 use Rattle.kt_money.specs.NumberText.{count_text}
 use Rattle.kt_schema.specs.Footprint.{IsEntryOf, HasRecords}
 use Rattle.kt_schema.specs.Tables.{kinds_of}

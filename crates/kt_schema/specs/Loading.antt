@@ -13,7 +13,7 @@ use Rattle.kt_rec.specs.declared.tables.Tables.{Tables}
 use Rattle.kt_cells.specs.Header.{header_extra}
 use Rattle.kt_cells.specs.Reading.{and_then}
 use Rattle.kt_cells.specs.declared.stop.TableStop.{TableStop}
-use Rattle.kt_cells.specs.declared.kind.Kind.{Kind}
+use Rattle.kt_rec.specs.declared.kind.Kind.{Kind}
 use Rattle.kt_cells.specs.Ranges.{AreRows}
 use Rattle.kt_schema.specs.Conversions.{bin_rows}
 use Rattle.kt_schema.specs.Tables.{kinds_of}

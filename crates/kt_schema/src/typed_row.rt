@@ -2,7 +2,7 @@
 //! The rule: docs/TABLES.md, "Columns".
 ghost use Rattle.std.specs.Prelude.{◌≡◌, ℕ, List};
 ghost use Rattle.kt_cells.specs.Ranges.{FitsBytes};
-ghost use Rattle.kt_cells.specs.declared.kind.Kind.{Kind};
+ghost use Rattle.kt_rec.specs.declared.kind.Kind.{Kind};
 ghost use Rattle.kt_rec.specs.declared.table.Table.TheVariants as table;
 ghost use Rattle.kt_schema.specs.Tables.{kinds_of};
 ghost use Rattle.kt_schema.specs.Rows.{event_values, item_values, coverage_values, footprint_idx_values, vulnerability_values, damage_bin_values, random_values, fm_programme_values, fm_policytc_values, fm_profile_values, fm_xref_values, gul_summary_xref_values, fm_summary_xref_values, occurrence_values, return_period_values};

@@ -4,7 +4,7 @@ use Rattle.std.proofs.lemmas.List.{drop-set}
 use Rattle.std.proofs.Math.ListN.{length-set, set}
 use Rattle.kt_cells.specs.Lines.{LineFrom, separator, units_under}
 use Rattle.kt_cells.specs.Texts.{value_text}
-use Rattle.kt_cells.specs.declared.kind.Kind.TheVariants.{Id}
+use Rattle.kt_rec.specs.declared.kind.Kind.TheVariants.{Id}
 use Rattle.kt_cells.proofs.FieldLemmas.{line_from-more}
 use Rattle.kt_cells.proofs.lines.write_field.Goals as goal
 

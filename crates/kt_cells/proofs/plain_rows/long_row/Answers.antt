@@ -1,6 +1,6 @@
 use Rattle.std.proofs.Common.{◌≡◌, ◌==◌, false, true, sym, ◌∙◌, arith}
 use Rattle.std.proofs.lemmas.Bool.{eq-eqb, ne_eqb}
-use Rattle.kt_cells.specs.declared.kind.Kind.TheVariants.{Id}
+use Rattle.kt_rec.specs.declared.kind.Kind.TheVariants.{Id}
 use Rattle.kt_cells.proofs.TextLemmas.{plain-start, plain-front, plain-end}
 use Rattle.kt_cells.proofs.plain_rows.long_row.Goals as goal
 

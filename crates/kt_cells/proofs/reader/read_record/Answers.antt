@@ -1,7 +1,7 @@
 use Rattle.std.proofs.Common.{[], sym, arith}
 use Rattle.std.proofs.lemmas.List.{drop_more}
 use Rattle.csv.specs.Records.{fields_of}
-use Rattle.kt_cells.specs.declared.kind.Kind.TheVariants.{Id}
+use Rattle.kt_rec.specs.declared.kind.Kind.TheVariants.{Id}
 use Rattle.kt_cells.proofs.ReadingLemmas.{row-more, row-stops}
 use Rattle.kt_cells.proofs.reader.read_record.Goals as goal
 

@@ -1,6 +1,6 @@
 use Rattle.std.proofs.Common.{append_assoc, arith}
 use Rattle.std.proofs.lemmas.List.{append-nil}
-use Rattle.kt_cells.specs.declared.kind.Kind.TheVariants.{Id}
+use Rattle.kt_rec.specs.declared.kind.Kind.TheVariants.{Id}
 use Rattle.kt_cells.proofs.WritingLemmas.{record_bytes-more, record_bytes-end, more-piece}
 use Rattle.kt_cells.proofs.record_writer.push_record.Goals as goal
 

@@ -1,6 +1,6 @@
 use Rattle.std.proofs.Common.{sym, arith, refl, ◌∙◌}
 use Rattle.std.proofs.lemmas.List.{take_rest}
-use Rattle.kt_cells.specs.declared.kind.Kind.TheVariants.{Id}
+use Rattle.kt_rec.specs.declared.kind.Kind.TheVariants.{Id}
 use Rattle.kt_cells.proofs.RecordLemmas.{record-more, record-stops}
 use Rattle.kt_cells.proofs.records.read_record.Goals as goal
 

@@ -1,5 +1,5 @@
 use Rattle.std.proofs.Common.{arith}
-use Rattle.kt_cells.specs.declared.kind.Kind.TheVariants.{Id}
+use Rattle.kt_rec.specs.declared.kind.Kind.TheVariants.{Id}
 use Rattle.kt_cells.proofs.RecordLemmas.{record_width-more, record_width-most, record_width-some, record_width-end}
 use Rattle.kt_cells.proofs.records.record_width.Goals as goal
 

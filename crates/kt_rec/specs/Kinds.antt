@@ -1,12 +1,12 @@
 -- The kinds of columns: their widths in a file, and the values that they may have.
 -- The rules: docs/TABLES.md, "Kinds of values", "Terms of profiles".
 use Rattle.std.specs.Prelude.{ℕ, ◌^◌, ◌==◌, ◌&&◌, ◌||◌, Bool, nat_lt, nat_le, if◌then◌else◌, Result, Ok, Err}
-use Rattle.kt_cells.specs.declared.kind.Term.{Term}
-use Rattle.kt_cells.specs.declared.kind.Term.TheVariants as term
-use Rattle.kt_cells.specs.declared.kind.Kind.{Kind}
-use Rattle.kt_cells.specs.declared.kind.Kind.TheVariants as kind
-use Rattle.kt_cells.specs.declared.stop.Cause.{Cause}
-use Rattle.kt_cells.specs.declared.stop.Cause.TheVariants as cause
+use Rattle.kt_rec.specs.declared.kind.Term.{Term}
+use Rattle.kt_rec.specs.declared.kind.Term.TheVariants as term
+use Rattle.kt_rec.specs.declared.kind.Kind.{Kind}
+use Rattle.kt_rec.specs.declared.kind.Kind.TheVariants as kind
+use Rattle.kt_rec.specs.declared.cause.Cause.{Cause}
+use Rattle.kt_rec.specs.declared.cause.Cause.TheVariants as cause
 
 -- how many bytes a value takes in a file
 abbrev pub width : Kind → ℕ
@@ -23,6 +23,22 @@ width kind.Layer = 4
 width kind.SummarySet = 4
 width kind.Rule = 4
 width kind.Ppm = 4
+
+-- how many decimals the values of a kind are written with: counts with none, cents with two, parts per million with six
+abbrev pub decimals : Kind → ℕ
+decimals kind.Tiv = 2
+decimals kind.Amount = 2
+decimals (kind.Term t) = 2
+decimals kind.Ppm = 6
+decimals kind.Id = 0
+decimals kind.Count = 0
+decimals kind.IntensityBin = 0
+decimals kind.DamageBin = 0
+decimals kind.Level = 0
+decimals kind.Layer = 0
+decimals kind.SummarySet = 0
+decimals kind.Rule = 0
+decimals kind.Offset = 0
 
 -- the rules under which a term is in parts per million
 abbrev pub is_ppm : Term → ℕ → Bool

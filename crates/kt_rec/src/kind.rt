@@ -1,10 +1,9 @@
 //! The kinds of columns: their widths in a file, and the values that they may have.
 //! The rule: docs/TABLES.md, "Kinds of values".
 ghost use Rattle.std.specs.Prelude.{◌≡◌, ◌≢◌, ◌<◌, ◌⊎◌, true, false, Ok, Err};
-ghost use Rattle.kt_cells.specs.Texts.{decimals};
-ghost use Rattle.kt_cells.specs.Kinds.{width, under, is_ppm, is_rule, lowest, highest, in_range, within, known_rule};
+ghost use Rattle.kt_rec.specs.Kinds.{width, decimals, under, is_ppm, is_rule, lowest, highest, in_range, within, known_rule};
 
-use crate::stop::Cause;
+use crate::cause::Cause;
 
 /// A term of a profile whose unit goes by the calculation rule.
 #[derive(Clone, Copy)]
@@ -78,7 +77,7 @@ impl Kind {
     }
 
     /// How many decimals the text of a value may have: 2 for an amount, 6 for parts per million, none for any other.
-    pub(crate) fn decimals(self) -> usize
+    pub fn decimals(self) -> usize
         ensures value { result ≡ decimals self }
         ensures scale { 0 < result → (result ≡ 2) ⊎ (result ≡ 6) }
     {
@@ -116,7 +115,7 @@ impl Kind {
     /// Whether the value is one of the kind.
     #[tactic(auto, unfolding(crate::specs::Kinds::in_range))]
     #[inline(always)]
-    pub(crate) fn holds(self, value: u64) -> bool
+    pub fn holds(self, value: u64) -> bool
         ensures held { result ≡ true → in_range self value ≡ Ok value }
         ensures out { result ≡ false → in_range self value ≢ Ok value }
     {
@@ -200,7 +199,7 @@ fn is_within(least: u64, most: u64, value: u64) -> bool
 
 /// The value, if it lies from `least` to `most`.
 #[inline(always)]
-pub(crate) fn checked(least: u64, most: u64, value: u64) -> Result<u64, Cause>
+pub fn checked(least: u64, most: u64, value: u64) -> Result<u64, Cause>
     ensures { result ≡ within least most value }
 {
     if value < least {
