@@ -11,11 +11,11 @@ use Rattle.kt_stream.specs.Losses.{IsLoss}
 use Rattle.kt_stream.specs.Pairs.{IsId}
 use Rattle.kt_runs.specs.RunLosses.{AreWithin, event_of, run_loss}
 use Rattle.kt_rec.specs.Rising.{rising}
-use Rattle.kt_tree.specs.Sharing.{allocated}
-use Rattle.kt_tree.specs.SharingLaws.{allocated-sum}
+use Rattle.kt_fmtree.specs.Sharing.{allocated}
+use Rattle.kt_fmtree.specs.SharingLaws.{allocated-sum}
 use Rattle.kt_rec.specs.Sums.{sum_by-agree}
-use Rattle.kt_tree.specs.Tree.{Tree, IsTree, beneath, policy_loss}
-use Rattle.kt_tree.specs.TreeLaws.{each}
+use Rattle.kt_fmtree.specs.Tree.{Tree, IsTree, beneath, policy_loss}
+use Rattle.kt_fmtree.specs.TreeLaws.{each}
 use Rattle.kt_levels.specs.Shares.{layers_of, part_of_id, shares, taken_loss}
 use Rattle.kt_runs.specs.Records.{insured_range, record_with, sample_range}
 use Rattle.kt_levels.specs.LookupLaws.{lookup-few}

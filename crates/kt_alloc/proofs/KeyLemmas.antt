@@ -3,7 +3,7 @@ use Rattle.std.proofs.Common.{◌≡◌, ℕ, zero, suc, ◌+◌, ◌-◌, ◌<�
 use Rattle.std.specs.List.{flat_map, range_with_len, zip}
 use Rattle.std.proofs.lemmas.Grind.{flat_map-append}
 use Rattle.std.proofs.lemmas.List.{map-append, take_more}
-use Rattle.kt_tree.specs.Tree.{Tree, beneath}
+use Rattle.kt_fmtree.specs.Tree.{Tree, beneath}
 use Rattle.kt_fmtree.specs.Parts.{Parts, IsProgramme}
 use Rattle.kt_fmtree.specs.PartsLaws.{beneath-are}
 use Rattle.kt_levels.specs.Layers.{IsTopLayer, key_of}

@@ -11,7 +11,7 @@ use Rattle.kt_runs.specs.RunLosses.{event_of}
 use Rattle.kt_runs.specs.Sidx.{pairs_of}
 use Rattle.kt_rec.specs.RisingLaws.{KeepsId, rising-made}
 use Rattle.kt_rec.specs.Sums.{each_member}
-use Rattle.kt_tree.specs.Tree.{Tree}
+use Rattle.kt_fmtree.specs.Tree.{Tree}
 use Rattle.kt_runs.specs.RecordLaws.{record-event, record-id}
 use Rattle.kt_runs.specs.Records.{insured_range, record_with}
 use Rattle.kt_alloc.specs.Insured.{in_order, insured_records, output_record}

@@ -8,8 +8,8 @@ use Rattle.std.proofs.lemmas.Grind.{flat_map-append}
 use Rattle.std.proofs.lemmas.List.{length-append, length-map}
 use Rattle.kt_keys.specs.Keys.{same_pair}
 use Rattle.kt_keys.specs.Climbing.{climbed}
-use Rattle.kt_tree.specs.Sharing.{allocated}
-use Rattle.kt_tree.specs.Tree.{Tree, beneath, comes_to, is_unit, policy_loss}
+use Rattle.kt_fmtree.specs.Sharing.{allocated}
+use Rattle.kt_fmtree.specs.Tree.{Tree, beneath, comes_to, is_unit, policy_loss}
 use Rattle.kt_levels.specs.LookupLaws.{filter-absent, lookup-none, zip-append}
 use Rattle.kt_levels.specs.Row.{row_for}
 use Rattle.kt_levels.specs.Shares.{layers_of, shares}

@@ -13,7 +13,7 @@ use Rattle.kt_runs.specs.RunLosses.{event_of, loss_of, run_loss}
 use Rattle.kt_runs.specs.Sidx.{pair_of, pairs_of}
 use Rattle.kt_rec.specs.Rising.{rising, rising-distinct, rising-member}
 use Rattle.kt_rec.specs.Sums.{each_member, each_then, sum_by-agree, sum_by-below, sum_by-one, sum_by-swap}
-use Rattle.kt_tree.specs.Tree.{Tree}
+use Rattle.kt_fmtree.specs.Tree.{Tree}
 use Rattle.kt_runs.specs.PairLaws.{pairs-le}
 use Rattle.kt_levels.specs.Shares.{taken_loss}
 use Rattle.kt_runs.specs.Records.{id_loss, insured_range, record_with}

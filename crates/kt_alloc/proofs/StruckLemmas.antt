@@ -11,10 +11,10 @@ use Rattle.kt_stream.specs.declared.entry.LossRecord.{LossRecord}
 use Rattle.kt_runs.specs.RunLosses.{event_of}
 use Rattle.kt_runs.specs.Sidx.{pairs_of}
 use Rattle.kt_rec.specs.Members.{any-of, member-filter}
-use Rattle.kt_tree.specs.Struck.{is_struck, struck}
-use Rattle.kt_tree.specs.StruckLaws.{climbed-other, climbed-struck, policy_loss-none, policy_loss-struck, struck-is}
-use Rattle.kt_tree.specs.StruckSharing.{allocated-struck, part-none}
-use Rattle.kt_tree.specs.Tree.{Tree, IsTree, comes_to, is_unit, policy_loss}
+use Rattle.kt_fmtree.specs.Struck.{is_struck, struck}
+use Rattle.kt_fmtree.specs.StruckLaws.{climbed-other, climbed-struck, policy_loss-none, policy_loss-struck, struck-is}
+use Rattle.kt_fmtree.specs.StruckSharing.{allocated-struck, part-none}
+use Rattle.kt_fmtree.specs.Tree.{Tree, IsTree, comes_to, is_unit, policy_loss}
 use Rattle.kt_levels.specs.Shares.{layers_of, part_of_id, shares, taken_loss}
 use Rattle.kt_runs.specs.Records.{ids_of, insured_range, record_with, sample_range}
 use Rattle.kt_levels.specs.SharesLaws.{shares-sum}

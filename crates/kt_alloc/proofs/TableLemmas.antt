@@ -8,7 +8,7 @@ use Rattle.kt_stream.specs.declared.entry.LossRecord.{LossRecord}
 use Rattle.kt_runs.specs.RunLosses.{AreWithin, event_of}
 use Rattle.kt_runs.specs.Sidx.{pairs_of, sidx_at}
 use Rattle.kt_rec.specs.Sums.{sum_by-agree}
-use Rattle.kt_tree.specs.Tree.{Tree, IsTree, policy_loss}
+use Rattle.kt_fmtree.specs.Tree.{Tree, IsTree, policy_loss}
 use Rattle.kt_levels.specs.Layers.{key_of}
 use Rattle.kt_runs.specs.RecordLaws.{pairs-none}
 use Rattle.kt_levels.specs.Row.{Shared, row_for}

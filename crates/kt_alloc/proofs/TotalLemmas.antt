@@ -7,11 +7,11 @@ use Rattle.kt_rec.specs.declared.financial.FmXref.{FmXref}
 use Rattle.kt_keys.specs.Keys.{policytc_of, programme_of}
 use Rattle.kt_keys.specs.Units.{top_level, top_targets}
 use Rattle.kt_keys.specs.Climbing.{climbed}
-use Rattle.kt_tree.specs.Programme.{or_first, tree_of}
+use Rattle.kt_fmtree.specs.Programme.{or_first, tree_of}
 use Rattle.kt_rec.specs.Rising.{rising, rising-distinct}
-use Rattle.kt_tree.specs.Sharing.{allocated}
+use Rattle.kt_fmtree.specs.Sharing.{allocated}
 use Rattle.kt_rec.specs.Sums.{each_flat_map, each_member, each_then, sum_by-agree, sum_by-flat_map, sum_by-none, sum_by-one, sum_by-swap}
-use Rattle.kt_tree.specs.Tree.{Tree, beneath, comes_to, is_unit, policy_loss}
+use Rattle.kt_fmtree.specs.Tree.{Tree, beneath, comes_to, is_unit, policy_loss}
 use Rattle.kt_levels.specs.LookupLaws.{lookup-none}
 use Rattle.kt_levels.specs.Shares.{layers_of, part_of_id}
 use Rattle.kt_alloc.specs.Insured.{of_layer, output_loss, part_above}

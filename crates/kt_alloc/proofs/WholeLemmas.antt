@@ -9,11 +9,11 @@ use Rattle.kt_checks.specs.CheckLaws.{same_pair_equiv}
 use Rattle.kt_keys.specs.Climbing.{climbed}
 use Rattle.kt_checks.specs.OutputChecks.{has_output}
 use Rattle.kt_structure.specs.OutputLaws.{HasOutputs}
-use Rattle.kt_tree.specs.Programme.{tree_of}
-use Rattle.kt_tree.specs.Sharing.{allocated}
-use Rattle.kt_tree.specs.SharingLaws.{allocated-sum}
+use Rattle.kt_fmtree.specs.Programme.{tree_of}
+use Rattle.kt_fmtree.specs.Sharing.{allocated}
+use Rattle.kt_fmtree.specs.SharingLaws.{allocated-sum}
 use Rattle.kt_rec.specs.Sums.{distinct_filter, each_member, each_then, sum_by-agree, sum_by-one, sum_by-swap}
-use Rattle.kt_tree.specs.Tree.{Tree, IsTree, beneath, comes_to, is_unit, policy_loss}
+use Rattle.kt_fmtree.specs.Tree.{Tree, IsTree, beneath, comes_to, is_unit, policy_loss}
 use Rattle.kt_levels.specs.Shares.{part_of_id}
 use Rattle.kt_levels.specs.SharesLaws.{length-allocated}
 use Rattle.kt_alloc.specs.Insured.{of_layer, output_loss, part_above}

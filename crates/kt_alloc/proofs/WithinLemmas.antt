@@ -9,10 +9,10 @@ use Rattle.kt_keys.specs.Keys.{programme_of}
 use Rattle.kt_keys.specs.Units.{top_targets}
 use Rattle.kt_stream.specs.declared.entry.LossRecord.{LossRecord}
 use Rattle.kt_runs.specs.RunLosses.{run_loss}
-use Rattle.kt_tree.specs.FewLayers.{tree_of-few}
-use Rattle.kt_tree.specs.Programme.{tree_of}
-use Rattle.kt_tree.specs.TopLaws.{policies-few}
-use Rattle.kt_tree.specs.Tree.{IsTree, policy_loss}
+use Rattle.kt_fmtree.specs.FewLayers.{tree_of-few}
+use Rattle.kt_fmtree.specs.Programme.{tree_of}
+use Rattle.kt_fmtree.specs.TopLaws.{policies-few}
+use Rattle.kt_fmtree.specs.Tree.{IsTree, policy_loss}
 use Rattle.kt_levels.specs.Shares.{layers_of, taken_loss}
 use Rattle.kt_levels.specs.SharesLaws.{taken-few}
 use Rattle.kt_alloc.specs.Insured.{insured_records, output_loss}

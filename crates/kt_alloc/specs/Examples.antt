@@ -6,8 +6,8 @@ use Rattle.kt_money.specs.Sharing.{share_out}
 use Rattle.kt_rec.specs.declared.financial.FmXref.{FmXref}
 use Rattle.kt_rules.specs.Rules.{rule_of}
 use Rattle.kt_stream.specs.declared.entry.LossRecord.{LossRecord}
-use Rattle.kt_tree.specs.Programme.{tree_of}
-use Rattle.kt_tree.specs.ExampleRows.{two_layers, given_back}
+use Rattle.kt_fmtree.specs.Programme.{tree_of}
+use Rattle.kt_fmtree.specs.ExampleRows.{two_layers, given_back}
 use Rattle.kt_levels.specs.Shares.{taken_loss}
 use Rattle.kt_alloc.specs.Insured.{insured_records, layer_sums}
 use Rattle.kt_alloc.specs.Whole.{outputs_loss, records_loss}

@@ -5,7 +5,7 @@ use Rattle.std.specs.List.{AllByRecursion, filter_map, flat_map, range_with_len,
 use Rattle.std.specs.Map.{lookup}
 use Rattle.kt_rec.specs.declared.financial.FmXref.{FmXref}
 use Rattle.kt_keys.specs.Keys.{same_pair}
-use Rattle.kt_tree.specs.Tree.{Tree, beneath}
+use Rattle.kt_fmtree.specs.Tree.{Tree, beneath}
 use Rattle.kt_fmtree.specs.Parts.{Parts}
 use Rattle.kt_levels.specs.Layers.{IsTopLayer, key_of}
 use Rattle.kt_levels.specs.Shares.{layers_of}

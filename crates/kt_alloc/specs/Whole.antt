@@ -5,8 +5,8 @@ use Rattle.std.specs.List.{list_any, sum_by}
 use Rattle.kt_rec.specs.declared.financial.FmXref.{FmXref}
 use Rattle.kt_rec.specs.Rows.{Rows}
 use Rattle.kt_stream.specs.declared.entry.LossRecord.{LossRecord}
-use Rattle.kt_tree.specs.Programme.{tree_of}
-use Rattle.kt_tree.specs.Tree.{Tree, policy_loss}
+use Rattle.kt_fmtree.specs.Programme.{tree_of}
+use Rattle.kt_fmtree.specs.Tree.{Tree, policy_loss}
 use Rattle.kt_levels.specs.Shares.{taken_loss}
 use Rattle.kt_runs.specs.Records.{id_loss, insured_range}
 use Rattle.kt_alloc.specs.Insured.{insured_records, layer_sums, output_loss}

@@ -4,7 +4,7 @@ ghost use Rattle.std.specs.Prelude.{◌≡◌, ◌++◌, ℕ, nat_eq, List, [], 
 ghost use Rattle.std.specs.List.{AllByRecursion, filter_map, flat_map};
 ghost use Rattle.kt_rec.specs.declared.financial.FmXref.{FmXref};
 ghost use Rattle.kt_rec.specs.Rising.{IsRising};
-ghost use Rattle.kt_tree.specs.Tree.{Tree};
+ghost use Rattle.kt_fmtree.specs.Tree.{Tree};
 ghost use Rattle.kt_fmtree.specs.Parts.{IsProgramme};
 ghost use Rattle.kt_alloc.specs.Index.{AreIndexed};
 ghost use Rattle.kt_alloc.specs.Insured.{in_order};

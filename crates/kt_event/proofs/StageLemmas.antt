@@ -9,7 +9,7 @@ use Rattle.kt_rec.specs.declared.perspective.Perspective.{Perspective}
 use Rattle.kt_rec.specs.declared.perspective.Perspective.TheVariants.{Gul, Il, Ri}
 use Rattle.kt_ri.specs.Stages.{AreStages, HasStage, IsStage}
 use Rattle.kt_structure.specs.declared.structure.Structure.{Structure}
-use Rattle.kt_tree.specs.Tree.{Tree}
+use Rattle.kt_fmtree.specs.Tree.{Tree}
 
 -- a stage more behind those from a number on
 stage_behind : (tree : ℕ → Tree) (first many : ℕ) (stages : List Structure) (stage : Structure) → AreStages (map tree (range_with_len first many)) stages → IsStage (tree (first + many)) stage → AreStages (map tree (range_with_len first (suc many))) (stages ++ stage ∷ [])

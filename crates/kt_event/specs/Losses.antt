@@ -16,8 +16,8 @@ use Rattle.kt_ri.specs.Reinsurance.{reinsured}
 use Rattle.kt_stream.specs.declared.entry.LossRecord.{LossRecord}
 use Rattle.kt_stream.specs.Summary.{IsSummary}
 use Rattle.kt_sum.specs.Summaries.{run_summaries}
-use Rattle.kt_tree.specs.Programme.{tree_of}
-use Rattle.kt_tree.specs.Tree.{Tree}
+use Rattle.kt_fmtree.specs.Programme.{tree_of}
+use Rattle.kt_fmtree.specs.Tree.{Tree}
 use Rattle.kt_event.specs.Terms.{run_sets}
 use Rattle.kt_event.specs.declared.block.EventBlock.{EventBlock}
 use Rattle.kt_event.specs.declared.block.Summaries.{Summaries}

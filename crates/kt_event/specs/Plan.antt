@@ -10,7 +10,7 @@ use Rattle.kt_rec.specs.declared.perspective.Perspective.TheVariants.{Gul, Il, R
 use Rattle.kt_ri.specs.Stages.{AreStages}
 use Rattle.kt_structure.specs.Structure.{IsStructure, kept_by}
 use Rattle.kt_tables.specs.Portfolio.{PortfolioRows}
-use Rattle.kt_tree.specs.Programme.{tree_of}
+use Rattle.kt_fmtree.specs.Programme.{tree_of}
 use Rattle.kt_event.specs.Losses.{stage_trees}
 use Rattle.kt_event.specs.Needs.{chain_need}
 use Rattle.kt_event.specs.Terms.{AreTerms}

@@ -12,7 +12,7 @@ ghost use Rattle.kt_event.specs.Losses.{AreSummaries, block_of_losses, event_res
 ghost use Rattle.kt_event.specs.Plan.{IsBase, IsOrMemory, IsPlan, terms_of};
 ghost use Rattle.kt_event.specs.Terms.{AreTerms, has_insured, has_net, net_sets, output_perspectives, sets_of};
 ghost use Rattle.kt_alloc.specs.Insured.{insured_records, layer_sums};
-ghost use Rattle.kt_tree.specs.Programme.{tree_of};
+ghost use Rattle.kt_fmtree.specs.Programme.{tree_of};
 
 use crate::block::{EventBlock, Summaries};
 use crate::plan::{Base, Plan};

@@ -8,8 +8,8 @@ use Rattle.kt_rules.specs.RuleLaws.{keeps-rule_of}
 use Rattle.kt_rules.specs.Rules.{applied}
 use Rattle.kt_rules.specs.declared.carry.Carry.{Carry}
 use Rattle.kt_rules.specs.declared.profile.Profile.{Profile}
-use Rattle.kt_tree.specs.Tree.{whole_loss, add_carries}
-use Rattle.kt_tree.specs.TreeLaws.{shares_of}
+use Rattle.kt_fmtree.specs.Tree.{whole_loss, add_carries}
+use Rattle.kt_fmtree.specs.TreeLaws.{shares_of}
 use Rattle.kt_fmtree.specs.Carried.{added}
 
 pub none-add : (carry : Carry) → add_carries (whole_loss 0) carry ≡ carry

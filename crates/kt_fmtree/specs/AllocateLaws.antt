@@ -4,9 +4,9 @@ use Rattle.std.proofs.Common.{◌≡◌, ℕ, zero, suc, ◌<◌, ◌≤◌, ◌
 use Rattle.std.specs.List.{AllByRecursion, sum, sum_by}
 use Rattle.std.proofs.lemmas.List.Sums.{sum_by-cons, sum-map}
 use Rattle.kt_rec.specs.Rising.{IsRising}
-use Rattle.kt_tree.specs.Sharing.{Part, part_of, id_parts, shared_down}
-use Rattle.kt_tree.specs.Tree.{Tree, IsTree, ground_up, policy_loss, comes_to, beneath}
-use Rattle.kt_tree.specs.TreeLaws.{ground_up-few, ground_up-beneath, policy_loss-le}
+use Rattle.kt_fmtree.specs.Sharing.{Part, part_of, id_parts, shared_down}
+use Rattle.kt_fmtree.specs.Tree.{Tree, IsTree, ground_up, policy_loss, comes_to, beneath}
+use Rattle.kt_fmtree.specs.TreeLaws.{ground_up-few, ground_up-beneath, policy_loss-le}
 use Rattle.kt_fmtree.specs.Parts.{Parts, IsProgramme, units_at}
 use Rattle.kt_fmtree.specs.PartsLaws.{beneath-are}
 use Rattle.kt_rec.specs.RisingLaws.{rising-filter}

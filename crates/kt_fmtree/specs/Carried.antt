@@ -6,7 +6,7 @@ use Rattle.kt_rules.specs.Amounts.{total}
 use Rattle.kt_rules.specs.Profiles.{IsProfile}
 use Rattle.kt_rules.specs.Rules.{applied}
 use Rattle.kt_rules.specs.declared.carry.Carry.{Carry}
-use Rattle.kt_tree.specs.Tree.{Tree, whole_loss, add_carries, carry_of, base_of}
+use Rattle.kt_fmtree.specs.Tree.{Tree, whole_loss, add_carries, carry_of, base_of}
 use Rattle.kt_fmtree.specs.Parts.{Parts, IsProgramme, units_at}
 use Rattle.kt_fmtree.specs.declared.node.Node.{Node}
 use Rattle.kt_fmtree.specs.declared.levels.Levels.TheInside.{Inside}

@@ -13,8 +13,8 @@ use Rattle.kt_rules.specs.Profiles.{IsProfile}
 use Rattle.kt_rules.specs.Rules.{applied}
 use Rattle.kt_rules.specs.declared.carry.Carry.{Carry}
 use Rattle.kt_rec.specs.Sums.{sum_by-agree}
-use Rattle.kt_tree.specs.Tree.{Tree, whole_loss, add_carries, sum_carries, carry_of, base_of, ground_up}
-use Rattle.kt_tree.specs.TreeLaws.{each, carry_of-total, ground_up-few}
+use Rattle.kt_fmtree.specs.Tree.{Tree, whole_loss, add_carries, sum_carries, carry_of, base_of, ground_up}
+use Rattle.kt_fmtree.specs.TreeLaws.{each, carry_of-total, ground_up-few}
 use Rattle.kt_fmtree.specs.Parts.{Parts, IsNode, IsProgramme, nodes_at, units_at}
 use Rattle.kt_fmtree.specs.Carried.{Carried, added, child_sum, node_carry, leaf_row, row_of, loss_by, CanCarry, AreCarried}
 use Rattle.kt_fmtree.specs.declared.node.Node.{Node}

@@ -11,8 +11,8 @@ use Rattle.kt_rules.specs.Amounts.{total}
 use Rattle.kt_rules.specs.Profiles.{IsProfile}
 use Rattle.kt_rules.specs.declared.carry.Carry.{Carry}
 use Rattle.kt_rec.specs.Sums.{sum_by-agree, sum_by-below, sum_by-flat_map, each_flat_map, sum_by-map}
-use Rattle.kt_tree.specs.Tree.{carry_of, ground_up}
-use Rattle.kt_tree.specs.TreeLaws.{each, carry_of-total, ground_up-few}
+use Rattle.kt_fmtree.specs.Tree.{carry_of, ground_up}
+use Rattle.kt_fmtree.specs.TreeLaws.{each, carry_of-total, ground_up-few}
 use Rattle.kt_fmtree.specs.Parts.{Parts, IsNode, units_at}
 use Rattle.kt_fmtree.specs.Carried.{Carried, CanCarry, IsCarriedBy}
 use Rattle.kt_fmtree.specs.CarriedLaws.{children-of}

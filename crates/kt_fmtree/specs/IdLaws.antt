@@ -7,7 +7,7 @@ use Rattle.std.proofs.lemmas.List.{map-append, take_more, get_or-map}
 use Rattle.std.proofs.lemmas.List.Sums.{sum_by-cons, sum_by-append, sum_by-take-le}
 use Rattle.kt_money.specs.Sharing.{Sharing, share_of, shares_after, share_out}
 use Rattle.kt_rec.specs.Sums.{sum_by-below, sum_by-map}
-use Rattle.kt_tree.specs.Sharing.{Part, part_of}
+use Rattle.kt_fmtree.specs.Sharing.{Part, part_of}
 use Rattle.kt_fmtree.specs.Placed.{unit_parts}
 use Rattle.kt_rec.specs.ById.{with_more}
 use Rattle.kt_fmtree.specs.declared.part.PlacedPart.{PlacedPart}

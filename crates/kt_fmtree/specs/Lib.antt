@@ -11,3 +11,16 @@ pub mod DownLaws
 pub mod SharedPartsLaws
 pub mod AllocateLaws
 pub mod IdLaws
+pub mod Tree
+pub mod TreeLaws
+pub mod TopLaws
+pub mod Sharing
+pub mod SharingLaws
+pub mod Programme
+pub mod FewLayers
+pub mod ExampleRows
+pub mod Examples
+pub mod Struck
+pub mod StruckLaws
+pub mod StruckSharing
+pub mod StruckExamples

@@ -4,7 +4,7 @@ use Rattle.std.specs.Prelude.{◌≡◌, ℕ, zero, suc, ◌+◌, ◌≤◌, ◌
 use Rattle.std.specs.declared.alloc.Global.{Global}
 use Rattle.kt_rules.specs.declared.profile.Profile.{Profile}
 use Rattle.kt_rec.specs.Rising.{IsRising}
-use Rattle.kt_tree.specs.Tree.{Tree, IsTree, beneath}
+use Rattle.kt_fmtree.specs.Tree.{Tree, IsTree, beneath}
 use Rattle.kt_fmtree.specs.declared.node.Node.{Node}
 use Rattle.kt_fmtree.specs.declared.programme.Programme.TheInside.{Inside}
 

@@ -8,8 +8,8 @@ use Rattle.std.proofs.lemmas.List.Sums.{sum-map}
 use Rattle.kt_rules.specs.Amounts.{total}
 use Rattle.kt_rules.specs.declared.carry.Carry.{Carry}
 use Rattle.kt_rules.specs.declared.profile.Profile.{Profile}
-use Rattle.kt_tree.specs.Tree.{Tree, IsTree, beneath, base_of}
-use Rattle.kt_tree.specs.TreeLaws.{base_of-total, ground_up-few}
+use Rattle.kt_fmtree.specs.Tree.{Tree, IsTree, beneath, base_of}
+use Rattle.kt_fmtree.specs.TreeLaws.{base_of-total, ground_up-few}
 use Rattle.kt_fmtree.specs.Carried.{Carried, AreCarried}
 use Rattle.kt_fmtree.specs.Parts.{Parts, IsProgramme}
 

@@ -5,8 +5,8 @@ use Rattle.std.specs.List.{AllByRecursion, flat_map, sum_by}
 use Rattle.kt_money.specs.Sharing.{share_out}
 use Rattle.kt_rules.specs.Amounts.{total}
 use Rattle.kt_rules.specs.declared.carry.Carry.{Carry}
-use Rattle.kt_tree.specs.Programme.{no_terms}
-use Rattle.kt_tree.specs.Sharing.{Part}
+use Rattle.kt_fmtree.specs.Programme.{no_terms}
+use Rattle.kt_fmtree.specs.Sharing.{Part}
 use Rattle.kt_fmtree.specs.Parts.{Parts, units_at}
 use Rattle.kt_fmtree.specs.declared.node.Node.{Node}
 use Rattle.kt_fmtree.specs.declared.part.PlacedPart.{PlacedPart}

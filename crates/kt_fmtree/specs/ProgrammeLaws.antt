@@ -3,7 +3,7 @@
 use Rattle.std.specs.Prelude.{◌≡◌, ℕ, zero, suc, ◌+◌, ◌-◌, ◌<◌, ◌≤◌, ◌^◌, List, [], length, map, slice_index_or}
 use Rattle.std.specs.List.{range_with_len, sum}
 use Rattle.std.proofs.Common.{sym, ap, subst, ◌∙◌, arith}
-use Rattle.kt_tree.specs.Tree.{Tree}
+use Rattle.kt_fmtree.specs.Tree.{Tree}
 use Rattle.kt_fmtree.specs.Parts.{Parts, IsProgramme, HasProgramme}
 use Rattle.kt_fmtree.specs.Carried.{child_sum, leaf_row, row_of, climbed_rows, loss_by, CanClimb, AreCarried, IsCarriedBy}
 use Rattle.kt_fmtree.specs.CarriedLaws.{can-carry, carried-is, losses-few}

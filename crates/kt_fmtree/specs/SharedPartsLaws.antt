@@ -10,9 +10,9 @@ use Rattle.kt_money.specs.Sharing.{share_out}
 use Rattle.kt_rules.specs.Amounts.{total}
 use Rattle.kt_rules.specs.declared.carry.Carry.{Carry}
 use Rattle.kt_rec.specs.Sums.{sum_by-agree, sum_by-flat_map, sum_by-one, each_member, distinct_filter, sum_by-map}
-use Rattle.kt_tree.specs.Sharing.{Part, parts_for, carried_loss, weight_of, passed_down, id_parts, part_of}
-use Rattle.kt_tree.specs.Tree.{Tree, IsTree, carry_of, ground_up, comes_to, beneath}
-use Rattle.kt_tree.specs.TreeLaws.{each, carry_of-total, ground_up-beneath}
+use Rattle.kt_fmtree.specs.Sharing.{Part, parts_for, carried_loss, weight_of, passed_down, id_parts, part_of}
+use Rattle.kt_fmtree.specs.Tree.{Tree, IsTree, carry_of, ground_up, comes_to, beneath}
+use Rattle.kt_fmtree.specs.TreeLaws.{each, carry_of-total, ground_up-beneath}
 use Rattle.kt_fmtree.specs.Parts.{Parts, IsNode, IsProgramme, units_at}
 use Rattle.kt_fmtree.specs.Carried.{Carried, AreCarried, IsCarriedBy}
 use Rattle.kt_fmtree.specs.CarriedLaws.{children-of}

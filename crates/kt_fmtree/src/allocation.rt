@@ -2,8 +2,8 @@
 //! The rule: docs/FINANCIAL_MODULE.md, "Allocation".
 ghost use Rattle.std.specs.Prelude.{◌≡◌, ◌⊎◌, ◌≤◌, ◌<◌, ◌^◌, ℕ, [], ◌∷◌, nat_eq, true, length, map, slice_index, slice_index_or, IfOk};
 ghost use Rattle.std.specs.List.{list_any, sum};
-ghost use Rattle.kt_tree.specs.Tree.{Tree, beneath, policy_loss};
-ghost use Rattle.kt_tree.specs.Sharing.{part_of, id_parts, allocated, shared_at_once, shared_down};
+ghost use Rattle.kt_fmtree.specs.Tree.{Tree, beneath, policy_loss};
+ghost use Rattle.kt_fmtree.specs.Sharing.{part_of, id_parts, allocated, shared_at_once, shared_down};
 ghost use Rattle.kt_fmtree.specs.Parts.{IsProgramme};
 ghost use Rattle.kt_fmtree.specs.Carried.{AreCarried, IsCarriedBy};
 ghost use Rattle.kt_fmtree.specs.Placed.{levels_down};

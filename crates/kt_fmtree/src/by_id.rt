@@ -4,7 +4,7 @@ ghost use Rattle.std.specs.Prelude.{◌≡◌, ℕ, ◌+◌, ◌≤◌, ◌<◌,
 ghost use Rattle.std.specs.List.{AllByRecursion, sum, sum_by};
 ghost use Rattle.kt_money.specs.Sharing.{share_out};
 ghost use Rattle.kt_rec.specs.Rising.{IsRising};
-ghost use Rattle.kt_tree.specs.Sharing.{part_of};
+ghost use Rattle.kt_fmtree.specs.Sharing.{part_of};
 ghost use Rattle.kt_fmtree.specs.Parts.{units_at};
 ghost use Rattle.kt_fmtree.specs.Placed.{unit_parts};
 ghost use Rattle.kt_rec.specs.ById.{with_more};

@@ -3,7 +3,7 @@
 ghost use Rattle.std.specs.Prelude.{◌≡◌, ◌+◌, ◌≤◌, ◌<◌, ◌^◌, [], length, map, All, IfOk, slice_index_or};
 ghost use Rattle.std.specs.List.{range_with_len, sum};
 ghost use Rattle.kt_rules.specs.Amounts.{total};
-ghost use Rattle.kt_tree.specs.Tree.{Tree, whole_loss};
+ghost use Rattle.kt_fmtree.specs.Tree.{Tree, whole_loss};
 ghost use Rattle.kt_fmtree.specs.Parts.{IsProgramme};
 ghost use Rattle.kt_fmtree.specs.Carried.{child_sum, node_carry, leaf_row, row_from, loss_by, CanCarry, CanClimb, climbed_rows, AreCarried, IsCarriedBy};
 

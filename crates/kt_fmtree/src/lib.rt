@@ -1,4 +1,4 @@
-//! The programme of the financial module: its levels, what they carry, the policy losses of its layers, and these shared back to the
+//! The tree of a programme, and the programme of the financial module that keeps it: its levels, what they carry, the policy losses of its layers, and these shared back to the
 //! ids beneath a top.
 #![tactic(auto)]
 
@@ -7,6 +7,7 @@ mod by_id;
 mod carrying;
 mod down;
 mod giving;
+pub mod laws;
 mod levels;
 mod lists;
 mod lookups;

@@ -1,7 +1,7 @@
 //! The ids, tops and layers of a programme.
 //! The rule: docs/FINANCIAL_MODULE.md, "Levels".
 ghost use Rattle.std.specs.Prelude.{◌≡◌, ◌<◌, [], length, slice_index, slice_index_or};
-ghost use Rattle.kt_tree.specs.Tree.{Tree, beneath};
+ghost use Rattle.kt_fmtree.specs.Tree.{Tree, beneath};
 ghost use Rattle.kt_fmtree.specs.Parts.{IsProgramme};
 
 use crate::node::Node;

@@ -2,7 +2,7 @@
 //! The rule: docs/FINANCIAL_MODULE.md, "Policy losses".
 ghost use Rattle.std.specs.Prelude.{◌≡◌, ◌<◌, ℕ, [], nat_eq, true, length, slice_index, slice_index_or};
 ghost use Rattle.std.specs.List.{list_any};
-ghost use Rattle.kt_tree.specs.Tree.{Tree, policy_loss};
+ghost use Rattle.kt_fmtree.specs.Tree.{Tree, policy_loss};
 ghost use Rattle.kt_fmtree.specs.Parts.{IsProgramme};
 ghost use Rattle.kt_fmtree.specs.Carried.{AreCarried, IsCarriedBy};
 

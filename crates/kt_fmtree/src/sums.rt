@@ -3,7 +3,7 @@
 ghost use Rattle.std.specs.Prelude.{◌≡◌, ◌+◌, ◌≤◌, ◌^◌};
 ghost use Rattle.std.specs.List.{sum_by};
 ghost use Rattle.kt_rules.specs.Amounts.{total};
-ghost use Rattle.kt_tree.specs.Tree.{add_carries};
+ghost use Rattle.kt_fmtree.specs.Tree.{add_carries};
 ghost use Rattle.kt_fmtree.specs.Carried.{added};
 
 use kt_rules::Carry;

@@ -2,7 +2,7 @@
 use Rattle.std.proofs.Common.{◌≡◌, ◌⊎◌, inl, inr, ℕ, zero, suc, ◌+◌, ◌<◌, ◌≤◌, List, [], ◌∷◌, ◌++◌, Vec, Global, length, map, take, slice_index, refl, sym, ap, subst, ◌∙◌, arith}
 use Rattle.std.proofs.lemmas.Bool.{cases_lt}
 use Rattle.std.proofs.lemmas.List.{get_or-map, length-map, take_all, take_more}
-use Rattle.kt_tree.specs.Tree.{Tree, policy_loss}
+use Rattle.kt_fmtree.specs.Tree.{Tree, policy_loss}
 use Rattle.kt_fmtree.specs.Carried.{loss_by}
 use Rattle.kt_fmtree.specs.Parts.{Parts, HasProgramme, IsProgramme}
 use Rattle.kt_lanes.specs.Lanes.{AreLanes, AreWide, column}

@@ -10,7 +10,7 @@ use Rattle.kt_runs.specs.RunLosses.{AreWithin, loss_of, run_loss}
 use Rattle.kt_runs.specs.Sidx.{sidx_at}
 use Rattle.kt_rec.specs.ById.{with_more}
 use Rattle.kt_rec.specs.Sums.{sum_by-below}
-use Rattle.kt_tree.specs.Tree.{Tree}
+use Rattle.kt_fmtree.specs.Tree.{Tree}
 use Rattle.kt_fmtree.specs.Carried.{loss_by}
 use Rattle.kt_fmtree.specs.Parts.{Parts, IsProgramme}
 use Rattle.kt_levels.specs.Climbed.{AreLosses}

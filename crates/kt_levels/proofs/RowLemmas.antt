@@ -5,9 +5,9 @@ use Rattle.std.proofs.lemmas.Grind.{flat_map-append}
 use Rattle.std.proofs.lemmas.List.{length-append, map-append}
 use Rattle.std.proofs.lemmas.List.Elements.{All-from_recursion}
 use Rattle.std.proofs.lemmas.List.Sums.{sum_by-cons}
-use Rattle.kt_tree.specs.Sharing.{allocated}
-use Rattle.kt_tree.specs.SharingLaws.{allocated-sum}
-use Rattle.kt_tree.specs.Tree.{Tree, IsTree, beneath, policy_loss}
+use Rattle.kt_fmtree.specs.Sharing.{allocated}
+use Rattle.kt_fmtree.specs.SharingLaws.{allocated-sum}
+use Rattle.kt_fmtree.specs.Tree.{Tree, IsTree, beneath, policy_loss}
 use Rattle.kt_fmtree.specs.Parts.{Parts, IsProgramme}
 use Rattle.kt_levels.specs.Shares.{shares}
 use Rattle.kt_levels.specs.SharesLaws.{length-allocated, shares-sum}

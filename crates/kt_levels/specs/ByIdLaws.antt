@@ -8,7 +8,7 @@ use Rattle.std.proofs.lemmas.Bool.Decides.{nat_tests}
 use Rattle.std.proofs.lemmas.List.{length-map}
 use Rattle.std.proofs.lemmas.List.Sums.{sum_by-cons}
 use Rattle.kt_rec.specs.Rising.{IsRising}
-use Rattle.kt_tree.specs.Sharing.{Part, part_of}
+use Rattle.kt_fmtree.specs.Sharing.{Part, part_of}
 use Rattle.kt_rec.specs.ById.{with_more}
 use Rattle.kt_fmtree.specs.IdLaws.{no-parts, next-part, part-fits}
 use Rattle.kt_fmtree.specs.Placed.{unit_parts}

@@ -12,7 +12,7 @@ use Rattle.kt_rules.specs.LossAlone.{looks_back, loss_after, loss-alone}
 use Rattle.kt_rules.specs.Profiles.{IsProfile}
 use Rattle.kt_rules.specs.declared.carry.Carry.{Carry}
 use Rattle.kt_rec.specs.Sums.{sum_by-below}
-use Rattle.kt_tree.specs.Tree.{whole_loss}
+use Rattle.kt_fmtree.specs.Tree.{whole_loss}
 use Rattle.kt_fmtree.specs.Parts.{Parts, IsNode, HasProgramme, units_at}
 use Rattle.kt_fmtree.specs.Carried.{added, child_sum, node_carry, leaf_row, row_of, CanCarry}
 use Rattle.kt_fmtree.specs.CarriedLaws.{can-carry}

@@ -15,7 +15,7 @@ use Rattle.kt_rules.specs.LossAlone.{loss_after-le}
 use Rattle.kt_rules.specs.Profiles.{IsProfile}
 use Rattle.kt_rules.specs.declared.carry.Carry.{Carry}
 use Rattle.kt_rec.specs.Sums.{each_flat_map}
-use Rattle.kt_tree.specs.TreeLaws.{shares_of}
+use Rattle.kt_fmtree.specs.TreeLaws.{shares_of}
 use Rattle.kt_fmtree.specs.Carried.{node_carry, row_of}
 use Rattle.kt_fmtree.specs.Parts.{Parts, HasProgramme}
 use Rattle.kt_fmtree.specs.LoopLaws.{flat_map-goes}

@@ -2,7 +2,7 @@
 -- The rule: docs/FINANCIAL_MODULE.md, "Policy losses".
 use Rattle.std.specs.Prelude.{◌≡◌, ℕ, ◌-◌, ◌<◌, ◌≤◌, List, [], length, slice_index, slice_index_or, Some}
 use Rattle.std.specs.List.{sum}
-use Rattle.kt_tree.specs.Tree.{Tree, policy_loss}
+use Rattle.kt_fmtree.specs.Tree.{Tree, policy_loss}
 use Rattle.kt_fmtree.specs.Carried.{loss_by, row_of}
 use Rattle.kt_fmtree.specs.Parts.{Parts, IsProgramme}
 use Rattle.kt_fmtree.specs.Placed.{node_at}

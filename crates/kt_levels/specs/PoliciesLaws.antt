@@ -9,10 +9,10 @@ use Rattle.kt_rules.specs.LossAlone.{looks_back, loss_after, loss-alone, loss_af
 use Rattle.kt_rules.specs.Profiles.{IsProfile}
 use Rattle.kt_rules.specs.declared.carry.Carry.{Carry}
 use Rattle.kt_rules.specs.declared.profile.Profile.{Profile}
-use Rattle.kt_tree.specs.Sharing.{part_of, shared_at_once, shared_down}
+use Rattle.kt_fmtree.specs.Sharing.{part_of, shared_at_once, shared_down}
 use Rattle.kt_rec.specs.Sums.{each_member}
-use Rattle.kt_tree.specs.Tree.{Tree, base_of, beneath, comes_to, whole_loss}
-use Rattle.kt_tree.specs.TreeLaws.{shares_of}
+use Rattle.kt_fmtree.specs.Tree.{Tree, base_of, beneath, comes_to, whole_loss}
+use Rattle.kt_fmtree.specs.TreeLaws.{shares_of}
 use Rattle.kt_fmtree.specs.Carried.{AreCarried, IsCarriedBy, child_sum, loss_by, row_of}
 use Rattle.kt_fmtree.specs.CarriedLaws.{loss_by-at, losses-few as all-few}
 use Rattle.kt_rec.specs.ListLaws.{map-agree, map-map}

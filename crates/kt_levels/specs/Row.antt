@@ -2,7 +2,7 @@
 -- The rule: docs/FINANCIAL_MODULE.md, "Insured losses".
 use Rattle.std.specs.Prelude.{◌≡◌, ℕ, List, [], map}
 use Rattle.std.specs.List.{flat_map, sum}
-use Rattle.kt_tree.specs.Tree.{Tree, policy_loss}
+use Rattle.kt_fmtree.specs.Tree.{Tree, policy_loss}
 use Rattle.kt_levels.specs.Layers.{key_of}
 use Rattle.kt_levels.specs.Shares.{shares}
 use Rattle.kt_levels.specs.declared.layers.TopLayer.{TopLayer}

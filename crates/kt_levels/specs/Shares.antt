@@ -5,8 +5,8 @@ use Rattle.std.specs.List.{flat_map, list_any, zip}
 use Rattle.std.specs.Map.{lookup}
 use Rattle.kt_stream.specs.declared.entry.LossRecord.{LossRecord}
 use Rattle.kt_runs.specs.Records.{id_loss}
-use Rattle.kt_tree.specs.Sharing.{allocated}
-use Rattle.kt_tree.specs.Tree.{Tree, beneath, policy_loss}
+use Rattle.kt_fmtree.specs.Sharing.{allocated}
+use Rattle.kt_fmtree.specs.Tree.{Tree, beneath, policy_loss}
 
 -- ---- the losses that come in
 

@@ -8,11 +8,11 @@ use Rattle.std.proofs.lemmas.List.Sums.{sum-map, sum_by-cons}
 use Rattle.kt_money.specs.Sharing.{shares_after, share_out}
 use Rattle.kt_stream.specs.declared.entry.LossRecord.{LossRecord}
 use Rattle.kt_runs.specs.RunLosses.{loss_of, run_loss}
-use Rattle.kt_tree.specs.Sharing.{allocated, part_of, policy_parts}
-use Rattle.kt_tree.specs.SharingLaws.{allocated-sum}
+use Rattle.kt_fmtree.specs.Sharing.{allocated, part_of, policy_parts}
+use Rattle.kt_fmtree.specs.SharingLaws.{allocated-sum}
 use Rattle.kt_rec.specs.Sums.{sum_by-below, sum_by-one, sum_by-swap}
-use Rattle.kt_tree.specs.Tree.{Tree, IsTree, beneath, ground_up, policy_loss}
-use Rattle.kt_tree.specs.TreeLaws.{ground_up-few, policy_loss-le}
+use Rattle.kt_fmtree.specs.Tree.{Tree, IsTree, beneath, ground_up, policy_loss}
+use Rattle.kt_fmtree.specs.TreeLaws.{ground_up-few, policy_loss-le}
 use Rattle.kt_levels.specs.LookupLaws.{lookup-few}
 use Rattle.kt_levels.specs.Shares.{part_of_id, shares, taken_loss}
 use Rattle.kt_runs.specs.Records.{id_loss}

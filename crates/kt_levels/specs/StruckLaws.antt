@@ -9,9 +9,9 @@ use Rattle.std.proofs.lemmas.List.Sums.{sum_by-cons}
 use Rattle.kt_stream.specs.declared.entry.LossRecord.{LossRecord}
 use Rattle.kt_runs.specs.RunLosses.{loss_of}
 use Rattle.kt_rec.specs.Members.{member-filter}
-use Rattle.kt_tree.specs.Struck.{is_struck, struck}
-use Rattle.kt_tree.specs.StruckLaws.{struck-id}
-use Rattle.kt_tree.specs.Tree.{Tree, IsTree}
+use Rattle.kt_fmtree.specs.Struck.{is_struck, struck}
+use Rattle.kt_fmtree.specs.StruckLaws.{struck-id}
+use Rattle.kt_fmtree.specs.Tree.{Tree, IsTree}
 use Rattle.kt_levels.specs.Shares.{taken_loss}
 use Rattle.kt_runs.specs.Records.{id_loss, ids_of}
 

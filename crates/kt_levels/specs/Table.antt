@@ -5,7 +5,7 @@ use Rattle.std.specs.List.{range_with_len, sum_by}
 use Rattle.kt_stream.specs.declared.entry.LossRecord.{LossRecord}
 use Rattle.kt_runs.specs.LaneRows.{row_place}
 use Rattle.kt_runs.specs.Sidx.{sidx_at}
-use Rattle.kt_tree.specs.Tree.{Tree}
+use Rattle.kt_fmtree.specs.Tree.{Tree}
 use Rattle.kt_levels.specs.Shares.{taken_loss}
 use Rattle.kt_levels.specs.Row.{Shared, no_shares, row_for}
 

@@ -7,7 +7,7 @@ use Rattle.std.proofs.lemmas.List.Elements.{All-from_recursion}
 use Rattle.std.proofs.lemmas.List.FromFn.{get_or-map-range_with_len, length-map-range_with_len}
 use Rattle.kt_stream.specs.declared.entry.LossRecord.{LossRecord}
 use Rattle.kt_runs.specs.Sidx.{sidx_at}
-use Rattle.kt_tree.specs.Tree.{Tree}
+use Rattle.kt_fmtree.specs.Tree.{Tree}
 use Rattle.kt_levels.specs.Row.{Shared, no_shares, row_for}
 use Rattle.kt_levels.specs.Shares.{taken_loss}
 use Rattle.kt_levels.specs.Table.{row_at, table_for}

@@ -3,7 +3,7 @@
 ghost use Rattle.std.specs.Prelude.{◌≡◌, true, false, ℕ, ◌+◌, ◌-◌, ◌≤◌, ◌<◌, ◌^◌, ◌∷◌, [], length, map, slice_index, slice_index_or, All, IfOk, IfSome, OnErr, OnOk};
 ghost use Rattle.std.specs.List.{flat_map, sum_by};
 ghost use Rattle.kt_rec.specs.Rising.{IsRising};
-ghost use Rattle.kt_tree.specs.Sharing.{part_of};
+ghost use Rattle.kt_fmtree.specs.Sharing.{part_of};
 ghost use Rattle.kt_fmtree.specs.Parts.{units_at};
 ghost use Rattle.kt_fmtree.specs.Placed.{levels_down, unit_parts};
 ghost use Rattle.kt_lanes.specs.Lanes.{column, AreWide, AreLanes};

@@ -2,7 +2,7 @@
 //! The rules: docs/FINANCIAL_MODULE.md, "Allocation", "Insured losses".
 ghost use Rattle.std.specs.Prelude.{◌≡◌, ◌≤◌, ◌<◌, ◌++◌, ℕ, [], ◌∷◌, List, true, length, All, IfOk, OnOk};
 ghost use Rattle.std.specs.List.{AllByRecursion};
-ghost use Rattle.kt_tree.specs.Tree.{Tree};
+ghost use Rattle.kt_fmtree.specs.Tree.{Tree};
 ghost use Rattle.kt_fmtree.specs.Carried.{loss_by};
 ghost use Rattle.kt_fmtree.specs.Parts.{IsProgramme, Parts};
 ghost use Rattle.kt_lanes.specs.Lanes.{AreWide, column};

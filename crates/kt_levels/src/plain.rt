@@ -3,7 +3,7 @@
 ghost use Rattle.std.specs.Prelude.{◌≡◌, ◌<◌, ◌∷◌, [], nat_eq, true, length, slice_index, slice_index_or, All, ℕ};
 ghost use Rattle.std.specs.List.{list_any};
 ghost use Rattle.kt_rules.specs.LossAlone.{looks_back};
-ghost use Rattle.kt_tree.specs.Tree.{Tree};
+ghost use Rattle.kt_fmtree.specs.Tree.{Tree};
 ghost use Rattle.kt_fmtree.specs.Parts.{IsProgramme};
 ghost use Rattle.kt_levels.specs.Climbed.{ArePlain, HasPlainUnits};
 

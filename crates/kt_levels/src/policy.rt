@@ -3,8 +3,8 @@
 ghost use Rattle.std.specs.Prelude.{◌≡◌, ◌⊎◌, ◌<◌, ◌≤◌, ◌^◌, ℕ, [], ◌∷◌, nat_eq, true, false, length, slice_index, slice_index_or, List, IfOk, OnErr, OnOk, Some};
 ghost use Rattle.std.specs.List.{list_any};
 ghost use Rattle.kt_rules.specs.LossAlone.{looks_back};
-ghost use Rattle.kt_tree.specs.Tree.{Tree, beneath, policy_loss};
-ghost use Rattle.kt_tree.specs.Sharing.{allocated, shared_at_once, shared_down};
+ghost use Rattle.kt_fmtree.specs.Tree.{Tree, beneath, policy_loss};
+ghost use Rattle.kt_fmtree.specs.Sharing.{allocated, shared_at_once, shared_down};
 ghost use Rattle.kt_fmtree.specs.Parts.{IsProgramme, Parts};
 ghost use Rattle.kt_fmtree.specs.Carried.{loss_by};
 ghost use Rattle.kt_lanes.specs.Lanes.{column, AreWide, IsLane};

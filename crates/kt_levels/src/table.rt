@@ -5,7 +5,7 @@ ghost use Rattle.std.specs.List.{AllByRecursion, cons_option, flat_map, range_wi
 ghost use Rattle.kt_stream.specs.Losses.{IsLoss, loss_bytes};
 ghost use Rattle.kt_stream.specs.declared.entry.LossRecord.{LossRecord};
 ghost use Rattle.kt_runs.specs.RunLosses.{AreWithin};
-ghost use Rattle.kt_tree.specs.Tree.{Tree};
+ghost use Rattle.kt_fmtree.specs.Tree.{Tree};
 ghost use Rattle.kt_fmtree.specs.Parts.{IsProgramme};
 ghost use Rattle.kt_levels.specs.Climbed.{AreLosses};
 ghost use Rattle.kt_lanes.specs.Lanes.{AreWide, column};

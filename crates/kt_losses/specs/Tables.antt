@@ -14,7 +14,7 @@ use Rattle.kt_stream.specs.Summary.{summary_bytes}
 use Rattle.kt_stream.specs.declared.kind.Head.{Head}
 use Rattle.kt_stream.specs.declared.kind.StreamKind.TheVariants as stream
 use Rattle.kt_sum.specs.Summaries.{run_summaries}
-use Rattle.kt_tree.specs.Programme.{tree_of}
+use Rattle.kt_fmtree.specs.Programme.{tree_of}
 
 -- the header of a stream of losses with as many samples
 abbrev pub losses_heading : Head → List ℕ

@@ -9,13 +9,13 @@ ghost use Rattle.kt_losses.specs.Judged.{judged_outcome};
 ghost use Rattle.kt_losses.specs.Tables.{insured_table};
 ghost use Rattle.kt_rec.specs.declared.table.Table.TheVariants as table;
 ghost use Rattle.kt_structure.specs.Structure.{IsStructure, kept_by};
-ghost use Rattle.kt_tree.specs.Programme.{tree_of};
+ghost use Rattle.kt_fmtree.specs.Programme.{tree_of};
 
 use crate::heading::put_heading;
 use crate::judging::write_losses;
 use crate::table::LossTool;
-use kt_ends::ToolStop;
 use kt_alloc::{OutputIndex, put_insured};
+use kt_ends::ToolStop;
 use kt_money::Bytes;
 use kt_out::{Sink, Source};
 use kt_stream::{Head, LossRecord, Placed};
@@ -34,7 +34,7 @@ struct InsuredLosses {
 
 impl LossTool for InsuredLosses {
     ghost use Rattle.std.specs.Prelude.{◌≡◌, ◌≤◌};
-    ghost use Rattle.kt_tree.specs.Programme.{tree_of};
+    ghost use Rattle.kt_fmtree.specs.Programme.{tree_of};
     ghost use Rattle.kt_structure.specs.Structure.{IsStructure, kept_by};
     ghost use Rattle.kt_alloc.specs.Index.{AreIndexed};
     ghost use Rattle.kt_losses.specs.Tables.{insured_table};

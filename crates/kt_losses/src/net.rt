@@ -8,7 +8,7 @@ ghost use Rattle.kt_losses.specs.Judged.{judged_outcome};
 ghost use Rattle.kt_losses.specs.Tables.{net_table};
 ghost use Rattle.kt_rec.specs.declared.table.Table.TheVariants as table;
 ghost use Rattle.kt_ri.specs.Stages.{IsStage};
-ghost use Rattle.kt_tree.specs.Programme.{tree_of};
+ghost use Rattle.kt_fmtree.specs.Programme.{tree_of};
 
 use crate::heading::put_heading;
 use crate::judging::write_losses;
@@ -33,7 +33,7 @@ struct NetLosses {
 
 impl LossTool for NetLosses {
     ghost use Rattle.std.specs.Prelude.{◌≡◌, ◌≤◌};
-    ghost use Rattle.kt_tree.specs.Programme.{tree_of};
+    ghost use Rattle.kt_fmtree.specs.Programme.{tree_of};
     ghost use Rattle.kt_ri.specs.Stages.{IsStage};
     ghost use Rattle.kt_losses.specs.Tables.{net_table};
 

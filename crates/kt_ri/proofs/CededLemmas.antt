@@ -12,9 +12,9 @@ use Rattle.kt_stream.specs.declared.entry.LossRecord.{LossRecord}
 use Rattle.kt_runs.specs.RunLosses.{AreWithin}
 use Rattle.kt_runs.specs.Sidx.{sidx_at}
 use Rattle.kt_rec.specs.Rising.{IsRising}
-use Rattle.kt_tree.specs.Sharing.{allocated}
+use Rattle.kt_fmtree.specs.Sharing.{allocated}
 use Rattle.kt_rec.specs.Sums.{distinct_filter, each_flat_map, each_member}
-use Rattle.kt_tree.specs.Tree.{Tree, IsTree, beneath, comes_to, policy_loss}
+use Rattle.kt_fmtree.specs.Tree.{Tree, IsTree, beneath, comes_to, policy_loss}
 use Rattle.kt_fmtree.specs.Parts.{Parts, IsProgramme}
 use Rattle.kt_fmtree.specs.PartsLaws.{beneath-are}
 use Rattle.kt_levels.specs.Layers.{IsTopLayer, key_of}
@@ -27,8 +27,8 @@ use Rattle.kt_levels.specs.Table.{row_at, table_for}
 use Rattle.kt_runs.specs.LaneRows.{row_place}
 use Rattle.kt_levels.specs.TableLaws.{each-row, row-is, table-length}
 use Rattle.kt_levels.specs.declared.layers.TopLayer.{TopLayer}
-use Rattle.kt_ceded.specs.Ceded.{AreCededShares, HasShares, share_at}
-use Rattle.kt_ceded.specs.CededLaws.{ceded-all}
+use Rattle.kt_ri.specs.CededShares.{AreCededShares, HasShares, share_at}
+use Rattle.kt_ri.specs.CededLaws.{ceded-all}
 use Rattle.kt_ri.specs.Ceded.{AreRows}
 use Rattle.kt_ri.specs.Ceding.{AreLayers, ArePlaces, HasFewLayers, owners_of}
 use Rattle.kt_ri.specs.Reinsurance.{ceded_at, ceded_loss}

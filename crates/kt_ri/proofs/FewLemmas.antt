@@ -5,10 +5,10 @@ use Rattle.std.specs.List.{AllByRecursion, IsDistinct, list_any, sum, sum_by}
 use Rattle.std.proofs.lemmas.List.Sums.{sum_by-cons}
 use Rattle.kt_keys.specs.Climbing.{climbed}
 use Rattle.kt_rec.specs.Rising.{IsRising, distinct-from_rising}
-use Rattle.kt_tree.specs.Sharing.{allocated}
+use Rattle.kt_fmtree.specs.Sharing.{allocated}
 use Rattle.kt_rec.specs.Sums.{sum_by-flat_map, sum_by-one}
-use Rattle.kt_tree.specs.Tree.{Tree, IsTree, beneath, comes_to, is_unit}
-use Rattle.kt_tree.specs.Struck.{is_struck, struck}
+use Rattle.kt_fmtree.specs.Tree.{Tree, IsTree, beneath, comes_to, is_unit}
+use Rattle.kt_fmtree.specs.Struck.{is_struck, struck}
 use Rattle.kt_rec.specs.RisingLaws.{rising-filter}
 use Rattle.kt_fmtree.specs.Parts.{Parts, IsProgramme}
 use Rattle.kt_levels.specs.LookupLaws.{filter-absent, lookup-none}

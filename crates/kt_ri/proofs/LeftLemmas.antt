@@ -9,7 +9,7 @@ use Rattle.kt_stream.specs.Pairs.{ArePairs, IsPair, RisingSidx}
 use Rattle.kt_lanes.specs.Lanes.{IsLane}
 use Rattle.kt_runs.specs.RunLosses.{loss_of}
 use Rattle.kt_runs.specs.Sidx.{pair_of, pairs_of, sidx_at}
-use Rattle.kt_tree.specs.Tree.{Tree}
+use Rattle.kt_fmtree.specs.Tree.{Tree}
 use Rattle.kt_fmtree.specs.Parts.{Parts, IsProgramme}
 use Rattle.kt_runs.specs.Less.{amount_in}
 use Rattle.kt_runs.specs.RowLaws.{pairs-agree, sample-place}

@@ -11,8 +11,8 @@ use Rattle.kt_stream.specs.declared.entry.Pair.{Pair}
 use Rattle.kt_stream.specs.Losses.{IsLoss}
 use Rattle.kt_runs.specs.RunLosses.{AreWithin, loss_of, run_loss}
 use Rattle.kt_runs.specs.Sidx.{pairs_of, sidx_at}
-use Rattle.kt_tree.specs.Sharing.{allocated}
-use Rattle.kt_tree.specs.Tree.{Tree, beneath, comes_to}
+use Rattle.kt_fmtree.specs.Sharing.{allocated}
+use Rattle.kt_fmtree.specs.Tree.{Tree, beneath, comes_to}
 use Rattle.kt_fmtree.specs.Parts.{Parts, IsProgramme}
 use Rattle.kt_rec.specs.RisingLaws.{rising-made}
 use Rattle.kt_levels.specs.LookupLaws.{lookup-none}

@@ -6,7 +6,7 @@ use Rattle.kt_rec.specs.Rising.{IsRising}
 use Rattle.kt_stream.specs.declared.entry.LossRecord.{LossRecord}
 use Rattle.kt_stream.specs.Losses.{IsLoss}
 use Rattle.kt_runs.specs.RunLosses.{AreWithin}
-use Rattle.kt_tree.specs.Tree.{Tree}
+use Rattle.kt_fmtree.specs.Tree.{Tree}
 use Rattle.kt_structure.specs.declared.structure.Structure.{Structure}
 use Rattle.kt_ri.specs.Reinsurance.{net_records, reinsured}
 use Rattle.kt_ri.specs.Stages.{AreStages, HasStage, IsStage}

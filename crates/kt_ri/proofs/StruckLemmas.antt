@@ -6,14 +6,14 @@ use Rattle.std.proofs.lemmas.List.Sums.{sum_by-cons}
 use Rattle.kt_stream.specs.declared.entry.LossRecord.{LossRecord}
 use Rattle.kt_runs.specs.RunLosses.{loss_of}
 use Rattle.kt_runs.specs.Sidx.{pairs_of}
-use Rattle.kt_tree.specs.Struck.{is_struck, struck}
-use Rattle.kt_tree.specs.StruckLaws.{policy_loss-none}
-use Rattle.kt_tree.specs.StruckSharing.{allocated-struck}
-use Rattle.kt_tree.specs.Sharing.{allocated}
-use Rattle.kt_tree.specs.SharingLaws.{allocated-sum}
+use Rattle.kt_fmtree.specs.Struck.{is_struck, struck}
+use Rattle.kt_fmtree.specs.StruckLaws.{policy_loss-none}
+use Rattle.kt_fmtree.specs.StruckSharing.{allocated-struck}
+use Rattle.kt_fmtree.specs.Sharing.{allocated}
+use Rattle.kt_fmtree.specs.SharingLaws.{allocated-sum}
 use Rattle.kt_rec.specs.Sums.{sum_by-agree, sum_by-filter, sum_by-flat_map}
-use Rattle.kt_tree.specs.Tree.{Tree, IsTree, beneath}
-use Rattle.kt_tree.specs.TreeLaws.{each}
+use Rattle.kt_fmtree.specs.Tree.{Tree, IsTree, beneath}
+use Rattle.kt_fmtree.specs.TreeLaws.{each}
 use Rattle.kt_levels.specs.LookupLaws.{lookup-few}
 use Rattle.kt_levels.specs.Shares.{layers_of, part_of_id, taken_loss}
 use Rattle.kt_runs.specs.Records.{ids_of, insured_range, record_with}

@@ -7,7 +7,7 @@ use Rattle.kt_stream.specs.declared.entry.Pair.{Pair}
 use Rattle.kt_lanes.specs.Lanes.{AreWide, column}
 use Rattle.kt_runs.specs.RunLosses.{loss_of}
 use Rattle.kt_runs.specs.Sidx.{pairs_of, sidx_at}
-use Rattle.kt_tree.specs.Tree.{Tree}
+use Rattle.kt_fmtree.specs.Tree.{Tree}
 use Rattle.kt_fmtree.specs.Parts.{Parts, IsProgramme}
 use Rattle.kt_runs.specs.Less.{amount_in}
 use Rattle.kt_runs.specs.Records.{insured_range, record_with}

@@ -4,7 +4,7 @@ use Rattle.std.specs.Prelude.{◌≡◌, ℕ, ◌≤◌, ◌<◌, false, nat_eq,
 use Rattle.std.specs.List.{AllByRecursion, flat_map, list_any}
 use Rattle.kt_rec.specs.Rising.{IsRising}
 use Rattle.kt_stream.specs.declared.entry.LossRecord.{LossRecord}
-use Rattle.kt_tree.specs.Tree.{Tree, beneath}
+use Rattle.kt_fmtree.specs.Tree.{Tree, beneath}
 use Rattle.kt_fmtree.specs.Parts.{Parts, IsProgramme}
 use Rattle.kt_levels.specs.Layers.{IsTopLayer, key_of}
 use Rattle.kt_levels.specs.Shares.{layers_of}

@@ -6,8 +6,8 @@ use Rattle.kt_rec.specs.declared.financial.FmProfile.{FmProfile}
 use Rattle.kt_rec.specs.Rows.{Rows, no_rows}
 use Rattle.kt_rules.specs.Rules.{rule_of}
 use Rattle.kt_stream.specs.declared.entry.LossRecord.{LossRecord}
-use Rattle.kt_tree.specs.Programme.{tree_of}
-use Rattle.kt_tree.specs.ExampleRows.{layer_terms, step, terms, two_layers}
+use Rattle.kt_fmtree.specs.Programme.{tree_of}
+use Rattle.kt_fmtree.specs.ExampleRows.{layer_terms, step, terms, two_layers}
 use Rattle.kt_levels.specs.Shares.{part_of_id, taken_loss}
 use Rattle.kt_ri.specs.Reinsurance.{ceded_records, net_records, reinsured}
 

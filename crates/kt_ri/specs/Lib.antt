@@ -4,3 +4,5 @@ pub mod Ceded
 pub mod Left
 pub mod Stages
 pub mod Examples
+pub mod CededShares
+pub mod CededLaws

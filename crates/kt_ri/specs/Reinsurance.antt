@@ -5,7 +5,7 @@ use Rattle.std.specs.List.{filter_map, sum_by}
 use Rattle.kt_stream.specs.declared.entry.LossRecord.{LossRecord}
 use Rattle.kt_runs.specs.RunLosses.{loss_of}
 use Rattle.kt_runs.specs.Sidx.{pairs_of}
-use Rattle.kt_tree.specs.Tree.{Tree}
+use Rattle.kt_fmtree.specs.Tree.{Tree}
 use Rattle.kt_levels.specs.Shares.{layers_of, part_of_id, taken_loss}
 use Rattle.kt_runs.specs.Records.{insured_range, record_with}
 

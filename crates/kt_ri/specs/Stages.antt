@@ -1,7 +1,7 @@
 -- Stages that cede losses, one after the other.
 -- The rule: docs/FINANCIAL_MODULE.md, "Reinsurance".
 use Rattle.std.specs.Prelude.{ℕ, ◌≤◌, List, [], ◌∷◌, length}
-use Rattle.kt_tree.specs.Tree.{Tree}
+use Rattle.kt_fmtree.specs.Tree.{Tree}
 use Rattle.kt_structure.specs.Structure.{IsStructure, kept_by}
 use Rattle.kt_structure.specs.declared.structure.Structure.{Structure}
 

@@ -5,7 +5,7 @@ ghost use Rattle.std.specs.List.Sorted.{IsStrictlyIncreasing};
 ghost use Rattle.kt_stream.specs.Losses.{IsLoss};
 ghost use Rattle.kt_stream.specs.declared.entry.LossRecord.{LossRecord};
 ghost use Rattle.kt_runs.specs.RunLosses.{AreWithin};
-ghost use Rattle.kt_tree.specs.Tree.{Tree};
+ghost use Rattle.kt_fmtree.specs.Tree.{Tree};
 ghost use Rattle.kt_ri.specs.Reinsurance.{reinsured};
 
 /// What stages leave are records that a stream may have, where those of the run are, and keeps the limit of a run: its losses add

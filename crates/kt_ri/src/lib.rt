@@ -2,6 +2,7 @@
 #![tactic(auto)]
 
 mod ceded;
+mod ceded_shares;
 mod ceding;
 pub mod laws;
 mod left;

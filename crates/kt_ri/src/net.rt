@@ -5,7 +5,7 @@ ghost use Rattle.std.specs.List.{cons_option};
 ghost use Rattle.kt_stream.specs.Losses.{IsLoss};
 ghost use Rattle.kt_stream.specs.declared.entry.LossRecord.{LossRecord};
 ghost use Rattle.kt_runs.specs.RunLosses.{AreWithin};
-ghost use Rattle.kt_tree.specs.Tree.{Tree};
+ghost use Rattle.kt_fmtree.specs.Tree.{Tree};
 ghost use Rattle.kt_fmtree.specs.Parts.{IsProgramme};
 ghost use Rattle.kt_lanes.specs.Lanes.{AreWide, IsLane};
 ghost use Rattle.kt_runs.specs.Less.{IsPlaceIn, amount_in};

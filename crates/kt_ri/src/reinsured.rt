@@ -3,9 +3,9 @@
 ghost use Rattle.std.specs.Prelude.{◌≡◌, ◌⊎◌, ◌+◌, ◌≤◌, ℕ, length, map, All, IfOk, true, false};
 ghost use Rattle.kt_stream.specs.Losses.{IsLoss};
 ghost use Rattle.kt_runs.specs.RunLosses.{AreWithin};
-ghost use Rattle.kt_tree.specs.Tree.{Tree};
+ghost use Rattle.kt_fmtree.specs.Tree.{Tree};
 ghost use Rattle.kt_fmtree.specs.Parts.{IsProgramme};
-ghost use Rattle.kt_tree.specs.Struck.{struck};
+ghost use Rattle.kt_fmtree.specs.Struck.{struck};
 ghost use Rattle.kt_runs.specs.Records.{ids_of};
 ghost use Rattle.kt_ri.specs.Ceded.{AreCeded, AreRows, records_behind};
 ghost use Rattle.kt_ri.specs.Stages.{HasStage, IsStage};

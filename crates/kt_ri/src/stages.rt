@@ -3,7 +3,7 @@
 ghost use Rattle.std.specs.Prelude.{◌≡◌, ◌+◌, ◌≤◌, ◌++◌, ◌∷◌, [], List, map, All, IfOk, OnOk};
 ghost use Rattle.kt_stream.specs.Losses.{IsLoss};
 ghost use Rattle.kt_runs.specs.RunLosses.{AreWithin};
-ghost use Rattle.kt_tree.specs.Tree.{Tree};
+ghost use Rattle.kt_fmtree.specs.Tree.{Tree};
 ghost use Rattle.kt_ri.specs.Reinsurance.{net_records, reinsured};
 ghost use Rattle.kt_ri.specs.Stages.{AreStages, HasStage, IsStage};
 

@@ -7,7 +7,7 @@ ghost use Rattle.kt_stream.specs.Write.{BeginsWith};
 ghost use Rattle.kt_stream.specs.declared.entry.LossRecord.{LossRecord};
 ghost use Rattle.kt_runs.specs.Adding.{Holds};
 ghost use Rattle.kt_runs.specs.RunLosses.{AreWithin};
-ghost use Rattle.kt_tree.specs.Tree.{Tree};
+ghost use Rattle.kt_fmtree.specs.Tree.{Tree};
 ghost use Rattle.kt_fmtree.specs.Parts.{IsProgramme};
 ghost use Rattle.kt_ri.specs.Ceded.{AreCeded, AreRows, record_behind, records_behind};
 ghost use Rattle.kt_ri.specs.Reinsurance.{net_records};

@@ -20,7 +20,7 @@ use Rattle.kt_stream.specs.declared.entry.LossRecord.{LossRecord}
 use Rattle.kt_stream.specs.declared.entry.SummaryRecord.{SummaryRecord}
 use Rattle.kt_sum.specs.Summaries.{run_summaries}
 use Rattle.kt_tables.specs.Lookups.{event_ids}
-use Rattle.kt_tree.specs.Programme.{tree_of}
+use Rattle.kt_fmtree.specs.Programme.{tree_of}
 use Rattle.kt_words.specs.declared.command.Command.{Command}
 use Rattle.kt_words.specs.declared.command.Command.TheVariants.{Fmcalc, FmcalcNet, Getmodel, Gulcalc, Summarycalc}
 use Rattle.kt_split.proofs.SplitInsured.{IsTakenRun, LossesAt, insured_of, insured_stand, losses_join_parts, net_stand, summaries_at, summaries_join_parts}

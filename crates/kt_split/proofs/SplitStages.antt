@@ -35,7 +35,7 @@ use Rattle.kt_stream.specs.declared.kind.StreamKind.TheVariants.{Gul, Loss}
 use Rattle.kt_sum.specs.Summaries.{run_summaries}
 use Rattle.kt_tables.specs.Lookups.{event_ids}
 use Rattle.kt_tables.specs.Portfolio.{PortfolioRows}
-use Rattle.kt_tree.specs.Programme.{tree_of}
+use Rattle.kt_fmtree.specs.Programme.{tree_of}
 use Rattle.kt_words.specs.declared.command.Command.{Command}
 use Rattle.kt_words.specs.declared.command.Command.TheVariants.{Eve, Fmcalc, FmcalcNet, Getmodel, Gulcalc, Summarycalc}
 use Rattle.kt_split.proofs.GulByEvents.{gul_makes}

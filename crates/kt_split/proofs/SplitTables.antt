@@ -26,7 +26,7 @@ use Rattle.kt_stream.specs.declared.entry.LossRecord.{LossRecord}
 use Rattle.kt_stream.specs.declared.entry.SummaryRecord.{SummaryRecord}
 use Rattle.kt_sum.specs.Summaries.{run_summaries}
 use Rattle.kt_tables.specs.Lookups.{occurrences_of}
-use Rattle.kt_tree.specs.Programme.{tree_of}
+use Rattle.kt_fmtree.specs.Programme.{tree_of}
 use Rattle.kt_split.proofs.NoLosses.{losses_are}
 use Rattle.kt_split.specs.ByEvents.{cdfs_of, losses_of_cdfs}
 use Rattle.kt_split.specs.SplitFacts.{ModelFacts}

@@ -47,8 +47,8 @@ use Rattle.kt_subset.specs.SameRows.{HasSame, same_base, same_stage}
 use Rattle.kt_subset.specs.SameTables.{SameTable}
 use Rattle.kt_sum.specs.Summaries.{run_summaries}
 use Rattle.kt_tables.specs.Lookups.{event_ids, occurrences_of}
-use Rattle.kt_tree.specs.Programme.{children_in, has_coverage, ids_in, coverage_of, layers_in, terms_in, tree_of}
-use Rattle.kt_tree.specs.Tree.{Tree}
+use Rattle.kt_fmtree.specs.Programme.{children_in, has_coverage, ids_in, coverage_of, layers_in, terms_in, tree_of}
+use Rattle.kt_fmtree.specs.Tree.{Tree}
 
 -- ---- rows of some tables alone
 

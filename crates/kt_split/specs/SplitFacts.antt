@@ -31,8 +31,8 @@ use Rattle.kt_stream.specs.declared.event_id.EventId.{EventId}
 use Rattle.kt_stream.specs.declared.kind.Shape.{Shape}
 use Rattle.kt_sum.specs.Summaries.{run_summaries}
 use Rattle.kt_tables.specs.Lookups.{event_ids}
-use Rattle.kt_tree.specs.Programme.{tree_of}
-use Rattle.kt_tree.specs.Tree.{Tree}
+use Rattle.kt_fmtree.specs.Programme.{tree_of}
+use Rattle.kt_fmtree.specs.Tree.{Tree}
 
 -- the records of each kind of stream
 abbrev pub good_event : Shape → ℕ → EventId → Type 0

@@ -43,7 +43,7 @@ use Rattle.kt_stream.specs.declared.entry.SummaryRecord.{SummaryRecord}
 use Rattle.kt_stream.specs.declared.kind.Head.{Head}
 use Rattle.kt_sum.specs.Summaries.{run_summaries}
 use Rattle.kt_tables.specs.Lookups.{event_ids, occurrences_of}
-use Rattle.kt_tree.specs.Programme.{tree_of}
+use Rattle.kt_fmtree.specs.Programme.{tree_of}
 use Rattle.kt_words.specs.declared.command.Command.{Command}
 use Rattle.kt_words.specs.declared.command.Command.TheVariants.{Aalcalc, Eltcalc, Eve, Fmcalc, FmcalcNet, Getmodel, Gulcalc, Leccalc, Pltcalc, Summarycalc}
 use Rattle.kt_split.specs.ByEvents.{cdfs_of, losses_of_cdfs}

@@ -31,7 +31,7 @@ ghost use Rattle.kt_subset.specs.SameRows.{HasSame};
 ghost use Rattle.kt_subset.specs.Within.{IsWithin};
 ghost use Rattle.kt_sum.specs.Summaries.{run_summaries};
 ghost use Rattle.kt_tables.specs.Lookups.{event_ids};
-ghost use Rattle.kt_tree.specs.Programme.{tree_of};
+ghost use Rattle.kt_fmtree.specs.Programme.{tree_of};
 ghost use Rattle.kt_words.specs.declared.command.Command.TheVariants.{Chain};
 ghost use Rattle.kt_words.specs.declared.command.Command.{Command};
 ghost use Rattle.kt_tools.specs.Needs.{chain_terms, command_need};

@@ -8,8 +8,8 @@ use Rattle.kt_rec.specs.declared.financial.FmPolicytc.{FmPolicytc}
 use Rattle.kt_keys.specs.Keys.{policytc_of}
 use Rattle.kt_rec.specs.Sums.{each_then, each_member, each_flat_map}
 use Rattle.kt_rec.specs.Rising.{IsRising, rising}
-use Rattle.kt_tree.specs.Tree.{Tree, beneath}
-use Rattle.kt_tree.specs.Programme.{layers_in, or_first}
+use Rattle.kt_fmtree.specs.Tree.{Tree, beneath}
+use Rattle.kt_fmtree.specs.Programme.{layers_in, or_first}
 use Rattle.kt_fmtree.specs.Parts.{Parts, IsNode, IsProgramme, nodes_at, units_at}
 use Rattle.kt_structure.specs.Plan.{found_terms, found_tiv, link_key, linked, layer_link, kids, build_levels, build_leaves, Finds}
 use Rattle.kt_structure.specs.Ready.{IsReady}

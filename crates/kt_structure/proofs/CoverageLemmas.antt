@@ -13,8 +13,8 @@ use Rattle.kt_checks.specs.Worth.{total_is}
 use Rattle.kt_index.specs.declared.exposure.SummaryUnit.{SummaryUnit}
 use Rattle.kt_index.specs.Exposure.{unit_covers, summary_covers, IsTotalOf}
 use Rattle.kt_rec.specs.Sums.{sum_by-agree, each_member}
-use Rattle.kt_tree.specs.Tree.{is_unit}
-use Rattle.kt_tree.specs.Programme.{has_coverage}
+use Rattle.kt_fmtree.specs.Tree.{is_unit}
+use Rattle.kt_fmtree.specs.Programme.{has_coverage}
 use Rattle.kt_structure.specs.Coverages.{row_and, climb_rows, covered_rows, rows_for, own_pair}
 
 -- equality of numbers goes both ways

@@ -18,8 +18,8 @@ use Rattle.kt_index.specs.Exposure.{IsTotalOf, summary_covers}
 use Rattle.kt_checks.specs.TableChecks.{tiv_of}
 use Rattle.kt_keys.specs.Climbing.{next_unit}
 use Rattle.kt_rec.specs.Rising.{rising}
-use Rattle.kt_tree.specs.Tree.{is_unit}
-use Rattle.kt_tree.specs.Programme.{terms_or_none, with_id, profile_with, terms_in, covered_ids, has_coverage, tiv_beneath}
+use Rattle.kt_fmtree.specs.Tree.{is_unit}
+use Rattle.kt_fmtree.specs.Programme.{terms_or_none, with_id, profile_with, terms_in, covered_ids, has_coverage, tiv_beneath}
 use Rattle.kt_structure.proofs.CoverageLemmas.{found-beneath}
 use Rattle.kt_structure.specs.Coverages.{rows_for, own_pair}
 use Rattle.kt_structure.specs.Ready.{IsReady}

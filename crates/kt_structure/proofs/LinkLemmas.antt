@@ -9,8 +9,8 @@ use Rattle.std.proofs.lemmas.List.{take_more}
 use Rattle.std.proofs.lemmas.List.Elements.{filter_map-append}
 use Rattle.std.proofs.lemmas.List.Folds.{list_any-append}
 use Rattle.kt_keys.specs.Climbing.{climbed, after}
-use Rattle.kt_tree.specs.Tree.{is_unit}
-use Rattle.kt_tree.specs.TreeLaws.{climbed-last}
+use Rattle.kt_fmtree.specs.Tree.{is_unit}
+use Rattle.kt_fmtree.specs.TreeLaws.{climbed-last}
 use Rattle.kt_structure.specs.Plan.{end_link, end_up, link_to, link_up, links_up}
 use Rattle.kt_structure.specs.declared.links.Link.{Link}
 

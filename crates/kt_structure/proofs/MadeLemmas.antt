@@ -9,10 +9,10 @@ use Rattle.kt_rec.specs.declared.financial.FmProgramme.{FmProgramme}
 use Rattle.kt_keys.specs.Keys.{policytc_of, profile_of as profiles_of, programme_of}
 use Rattle.kt_keys.specs.Units.{top_level, top_targets}
 use Rattle.kt_keys.specs.Climbing.{after, climbed, next_unit}
-use Rattle.kt_tree.specs.Programme.{layers_in, or_first, tiv_beneath, tree_of}
+use Rattle.kt_fmtree.specs.Programme.{layers_in, or_first, tiv_beneath, tree_of}
 use Rattle.kt_structure.specs.ProgrammeLaws.{tree_of-is}
 use Rattle.kt_rec.specs.Rising.{rising-member, rising-rises}
-use Rattle.kt_tree.specs.TreeLaws.{climbed-last}
+use Rattle.kt_fmtree.specs.TreeLaws.{climbed-last}
 use Rattle.kt_structure.specs.Plan.{AreTerms, found_terms, layer_link, link_key, linked}
 use Rattle.kt_structure.specs.Ready.{IsReady}
 use Rattle.kt_structure.specs.Structure.{Kept, IsStructure}

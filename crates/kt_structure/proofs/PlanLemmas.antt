@@ -8,7 +8,7 @@ use Rattle.std.proofs.lemmas.List.Elements.{All-from_recursion}
 use Rattle.std.proofs.Math.ListN.{get_or-append}
 use Rattle.std.specs.List.{All, AllByRecursion, flat_map}
 use Rattle.kt_rec.specs.Sums.{each_flat_map}
-use Rattle.kt_tree.specs.Tree.{Tree}
+use Rattle.kt_fmtree.specs.Tree.{Tree}
 use Rattle.kt_fmtree.specs.Parts.{IsNode}
 use Rattle.kt_structure.specs.Plan.{kids, new_node, nodes_from, build_levels, build_leaves, Finds}
 use Rattle.kt_fmtree.specs.declared.node.Node.{Node}

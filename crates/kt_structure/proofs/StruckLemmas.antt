@@ -6,11 +6,11 @@ use Rattle.std.proofs.lemmas.Bool.{eqb-true}
 use Rattle.std.specs.List.{AllByRecursion, filter, filter_map, list_any}
 use Rattle.kt_keys.specs.Climbing.{after, climbed}
 use Rattle.kt_rec.specs.Members.{filter-both, member-filter}
-use Rattle.kt_tree.specs.Struck.{is_struck, struck, struck_children}
-use Rattle.kt_tree.specs.StruckLaws.{climbed-struck, struck-id, struck-is}
+use Rattle.kt_fmtree.specs.Struck.{is_struck, struck, struck_children}
+use Rattle.kt_fmtree.specs.StruckLaws.{climbed-struck, struck-id, struck-is}
 use Rattle.kt_rec.specs.Rising.{IsRising, rising, rising-all, rising-member, rising-rises, rising-unique}
 use Rattle.kt_rec.specs.Sums.{each_then}
-use Rattle.kt_tree.specs.Tree.{Tree, beneath, comes_to, is_unit}
+use Rattle.kt_fmtree.specs.Tree.{Tree, beneath, comes_to, is_unit}
 use Rattle.kt_rec.specs.RisingLaws.{rising-filter}
 use Rattle.kt_structure.specs.Plan.{end_link, link_key, linked, links_up}
 use Rattle.kt_structure.specs.Structure.{Fits, Kept, IsStructure}

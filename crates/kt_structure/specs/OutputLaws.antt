@@ -12,7 +12,7 @@ use Rattle.kt_keys.specs.Units.{top_level, top_targets}
 use Rattle.kt_checks.specs.KeptChecks.{KeepsOutputs, taken_ids}
 use Rattle.kt_keys.specs.Climbing.{climbed}
 use Rattle.kt_checks.specs.OutputChecks.{has_output, has_top_layer}
-use Rattle.kt_tree.specs.Programme.{layers_in, or_first, tree_of}
+use Rattle.kt_fmtree.specs.Programme.{layers_in, or_first, tree_of}
 use Rattle.kt_rec.specs.Rising.{put, rising, rising-member}
 
 -- by rules 1 and 2 each id has an output for every layer of the top that its losses come to, by rule 0 each top for every layer of

@@ -9,9 +9,9 @@ use Rattle.kt_rec.specs.declared.financial.FmProfile.{FmProfile}
 use Rattle.kt_keys.specs.Keys.{same_triple}
 use Rattle.kt_keys.specs.Climbing.{climbed}
 use Rattle.kt_rules.specs.declared.profile.Profile.{Profile}
-use Rattle.kt_tree.specs.Programme.{terms_or_none, profile_with, with_id}
+use Rattle.kt_fmtree.specs.Programme.{terms_or_none, profile_with, with_id}
 use Rattle.kt_rec.specs.Rising.{rising}
-use Rattle.kt_tree.specs.Tree.{Tree, IsTree}
+use Rattle.kt_fmtree.specs.Tree.{Tree, IsTree}
 use Rattle.kt_keys.specs.UnitTable.{value_of}
 use Rattle.kt_structure.specs.declared.links.Link.{Link}
 use Rattle.kt_fmtree.specs.declared.node.Node.{Node}

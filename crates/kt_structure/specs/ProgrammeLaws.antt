@@ -19,8 +19,8 @@ use Rattle.kt_checks.specs.Worth.{covered_le}
 use Rattle.kt_rules.specs.Profiles.{IsProfile, profile_of}
 use Rattle.kt_rec.specs.Sums.{sum_by-below}
 use Rattle.kt_rec.specs.Rising.{rising-member, rising-distinct}
-use Rattle.kt_tree.specs.Tree.{IsTree, is_unit}
-use Rattle.kt_tree.specs.Programme.{no_terms, terms_or_none, profile_with, with_id, terms_in, coverage_of, covered_ids, has_coverage, tiv_beneath, tree_of}
+use Rattle.kt_fmtree.specs.Tree.{IsTree, is_unit}
+use Rattle.kt_fmtree.specs.Programme.{no_terms, terms_or_none, profile_with, with_id, terms_in, coverage_of, covered_ids, has_coverage, tiv_beneath, tree_of}
 
 -- the rows of a programme are right: it has a level, it takes the losses of a unit at a level once, its profiles are in their
 -- ranges, the coverages are distinct, and the items' values are bounded

@@ -4,9 +4,9 @@ use Rattle.std.specs.Prelude.{◌≡◌, ℕ, ◌≤◌, ◌<◌, ◌^◌, true,
 use Rattle.std.specs.List.{AllByRecursion, list_any}
 use Rattle.kt_keys.specs.Climbing.{climbed}
 use Rattle.kt_rules.specs.declared.profile.Profile.{Profile}
-use Rattle.kt_tree.specs.Programme.{or_first}
+use Rattle.kt_fmtree.specs.Programme.{or_first}
 use Rattle.kt_rec.specs.Rising.{IsRising}
-use Rattle.kt_tree.specs.Tree.{Tree, IsTree, beneath}
+use Rattle.kt_fmtree.specs.Tree.{Tree, IsTree, beneath}
 use Rattle.kt_structure.specs.Plan.{found_terms, linked}
 use Rattle.kt_keys.specs.UnitTable.{value_of}
 use Rattle.kt_structure.specs.declared.links.Link.{Link}

@@ -2,9 +2,9 @@
 //! The rule: docs/FINANCIAL_MODULE.md, "Levels".
 ghost use Rattle.std.specs.Prelude.{◌≡◌, ◌<◌, nat_eq, true, length, map, All, IfOk, slice_index};
 ghost use Rattle.std.specs.List.{AllByRecursion, list_any};
-ghost use Rattle.kt_tree.specs.Struck.{struck};
+ghost use Rattle.kt_fmtree.specs.Struck.{struck};
 ghost use Rattle.kt_rec.specs.Rising.{IsRising};
-ghost use Rattle.kt_tree.specs.Tree.{Tree};
+ghost use Rattle.kt_fmtree.specs.Tree.{Tree};
 ghost use Rattle.kt_fmtree.specs.Parts.{IsProgramme};
 ghost use Rattle.kt_structure.specs.Plan.{build_levels, build_leaves};
 ghost use Rattle.kt_structure.specs.Structure.{Fits, HasFit, HasStructure, IsStructure, kept_by};

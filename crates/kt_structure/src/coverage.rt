@@ -10,7 +10,7 @@ ghost use Rattle.kt_keys.specs.UnitTable.{value_of};
 ghost use Rattle.kt_index.specs.declared.exposure.SummaryUnit.{SummaryUnit};
 ghost use Rattle.kt_index.specs.Exposure.{IsTotalOf, summary_covers};
 ghost use Rattle.kt_checks.specs.TableChecks.{tiv_of};
-ghost use Rattle.kt_tree.specs.Programme.{coverage_of, covered_ids};
+ghost use Rattle.kt_fmtree.specs.Programme.{coverage_of, covered_ids};
 ghost use Rattle.kt_structure.specs.Coverages.{own_pair, row_up, rows_for, start_row};
 
 use kt_checks::tivs as coverage_tivs;

@@ -3,8 +3,8 @@
 ghost use Rattle.std.specs.Prelude.{◌≡◌, ℕ};
 ghost use Rattle.kt_rec.specs.Rows.{Rows};
 ghost use Rattle.kt_checks.specs.KeptChecks.{KeepsOutputs};
-ghost use Rattle.kt_tree.specs.Programme.{tree_of};
-ghost use Rattle.kt_tree.specs.Tree.{IsTree};
+ghost use Rattle.kt_fmtree.specs.Programme.{tree_of};
+ghost use Rattle.kt_fmtree.specs.Tree.{IsTree};
 ghost use Rattle.kt_structure.specs.OutputLaws.{HasOutputs};
 ghost use Rattle.kt_structure.specs.ProgrammeLaws.{HasTree};
 

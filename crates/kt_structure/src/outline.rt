@@ -2,7 +2,7 @@
 //! The rule: docs/FINANCIAL_MODULE.md, "Levels".
 ghost use Rattle.std.specs.Prelude.{◌≡◌, ◌++◌, ℕ, None, Some, cond, nat_eq, List, length, map, is_some, IfOk, OnOk};
 ghost use Rattle.std.specs.List.{filter};
-ghost use Rattle.kt_tree.specs.Programme.{or_first};
+ghost use Rattle.kt_fmtree.specs.Programme.{or_first};
 ghost use Rattle.kt_structure.specs.Plan.{found_terms, layer_link, link_key, linked};
 ghost use Rattle.kt_keys.specs.UnitTable.{value_of};
 ghost use Rattle.kt_rec.specs.Rising.{rising};

@@ -7,7 +7,7 @@ ghost use Rattle.std.specs.HashMap.{get};
 ghost use Rattle.kt_keys.specs.Keys.{same_pair, same_triple};
 ghost use Rattle.kt_rec.specs.Ranges.{IsFmProfile};
 ghost use Rattle.kt_rules.specs.Profiles.{profile_of};
-ghost use Rattle.kt_tree.specs.Programme.{no_terms, terms_or_none};
+ghost use Rattle.kt_fmtree.specs.Programme.{no_terms, terms_or_none};
 ghost use Rattle.kt_structure.specs.Plan.{AreTerms, first_pair, found_id, found_terms, unit_pair};
 ghost use Rattle.kt_keys.specs.UnitTable.{value_of};
 

@@ -2,7 +2,7 @@ use Rattle.std.proofs.Common.{arith}
 use Rattle.kt_structure.specs.ProgrammeLaws.{tree_of-is}
 use Rattle.kt_structure.specs.Ready.{ready}
 use Rattle.kt_tables.specs.PortfolioLaws.{keys_kept}
-use Rattle.kt_tree.specs.Programme.{tree_of}
+use Rattle.kt_fmtree.specs.Programme.{tree_of}
 use Rattle.kt_levels.specs.Shares.{taken_loss}
 use Rattle.kt_alloc.proofs.WithinLemmas.{insured-few}
 use Rattle.kt_alloc.proofs.laws.insured_losses_keep_the_limit.Goals as goal

@@ -1,4 +1,4 @@
-use Rattle.kt_tree.specs.Programme.{tree_of}
+use Rattle.kt_fmtree.specs.Programme.{tree_of}
 use Rattle.kt_levels.specs.Shares.{taken_loss}
 use Rattle.kt_alloc.proofs.laws.losses_are_shared_out_whole.Goals as goal
 

@@ -1,6 +1,6 @@
 use Rattle.std.proofs.lemmas.List.Elements.{All-from_recursion}
 use Rattle.kt_tables.specs.PortfolioLaws.{keys_kept}
-use Rattle.kt_tree.specs.Programme.{tree_of}
+use Rattle.kt_fmtree.specs.Programme.{tree_of}
 use Rattle.kt_rec.specs.Sums.{each_then}
 use Rattle.kt_runs.specs.Records.{insured_range}
 use Rattle.kt_alloc.proofs.RecordLemmas.{made-own}

@@ -1,7 +1,7 @@
 use Rattle.std.proofs.Common.{◌∙◌}
 use Rattle.std.proofs.lemmas.List.Elements.{All-from_recursion}
 use Rattle.kt_tables.specs.PortfolioLaws.{keys_kept}
-use Rattle.kt_tree.specs.Programme.{tree_of}
+use Rattle.kt_fmtree.specs.Programme.{tree_of}
 use Rattle.kt_rec.specs.Sums.{each_then}
 use Rattle.kt_levels.specs.Shares.{taken_loss}
 use Rattle.kt_runs.specs.Records.{insured_range}

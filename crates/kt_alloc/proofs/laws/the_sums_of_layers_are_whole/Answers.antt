@@ -1,7 +1,7 @@
 use Rattle.std.proofs.Common.{arith}
 use Rattle.kt_structure.specs.ProgrammeLaws.{tree_of-is}
 use Rattle.kt_structure.specs.Ready.{ready}
-use Rattle.kt_tree.specs.Programme.{tree_of}
+use Rattle.kt_fmtree.specs.Programme.{tree_of}
 use Rattle.kt_alloc.proofs.GoodLemmas.{sums-whole}
 use Rattle.kt_alloc.proofs.laws.the_sums_of_layers_are_whole.Goals as goal
 

@@ -1,5 +1,5 @@
 use Rattle.std.proofs.Common.{◌≡◌, map, take}
-use Rattle.kt_tree.specs.Tree.{Tree}
+use Rattle.kt_fmtree.specs.Tree.{Tree}
 use Rattle.kt_fmtree.specs.Parts.{IsProgramme}
 use Rattle.kt_levels.specs.Layers.{key_of}
 use Rattle.kt_alloc.specs.Layout.{keys_for}

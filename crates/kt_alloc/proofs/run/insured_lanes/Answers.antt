@@ -2,8 +2,8 @@ use Rattle.std.proofs.Common.{◌≡◌, ◌∙◌, List, sym, subst, All}
 use Rattle.std.proofs.lemmas.Result.{IfOk-weaker}
 use Rattle.kt_stream.specs.Losses.{IsLoss}
 use Rattle.kt_stream.specs.declared.entry.LossRecord.{LossRecord}
-use Rattle.kt_tree.specs.Struck.{struck}
-use Rattle.kt_tree.specs.Programme.{tree_of}
+use Rattle.kt_fmtree.specs.Struck.{struck}
+use Rattle.kt_fmtree.specs.Programme.{tree_of}
 use Rattle.kt_alloc.specs.Insured.{insured_records, layer_sums}
 use Rattle.kt_alloc.specs.declared.made.InsuredLanes.{InsuredLanes}
 use Rattle.kt_alloc.specs.declared.sums.LayerSum.{LayerSum}

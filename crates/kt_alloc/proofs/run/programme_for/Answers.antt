@@ -1,6 +1,6 @@
 use Rattle.std.proofs.Common.{sym, subst}
 use Rattle.kt_rec.specs.Rising.{IsRising}
-use Rattle.kt_tree.specs.Struck.{is_struck}
+use Rattle.kt_fmtree.specs.Struck.{is_struck}
 use Rattle.kt_rec.specs.RisingLaws.{rising-filter}
 use Rattle.kt_alloc.proofs.run.programme_for.Goals as goal
 

@@ -3,8 +3,8 @@ use Rattle.std.specs.List.{flat_map}
 use Rattle.std.proofs.lemmas.Result.{IfOk-weaker}
 use Rattle.kt_stream.specs.Losses.{loss_bytes}
 use Rattle.kt_stream.specs.declared.entry.LossRecord.{LossRecord}
-use Rattle.kt_tree.specs.Struck.{struck}
-use Rattle.kt_tree.specs.Programme.{tree_of}
+use Rattle.kt_fmtree.specs.Struck.{struck}
+use Rattle.kt_fmtree.specs.Programme.{tree_of}
 use Rattle.kt_alloc.specs.Insured.{insured_records}
 use Rattle.kt_alloc.proofs.StruckLemmas.{records-struck}
 use Rattle.kt_alloc.proofs.run.put_insured.Goals as goal

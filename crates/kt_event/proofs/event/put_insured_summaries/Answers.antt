@@ -4,7 +4,7 @@ use Rattle.kt_event.specs.declared.block.Summaries.{Summaries}
 use Rattle.kt_alloc.specs.Insured.{insured_records}
 use Rattle.kt_rec.specs.declared.perspective.Perspective.TheVariants.{Il}
 use Rattle.kt_runs.specs.RunLosses.{AreWithin}
-use Rattle.kt_tree.specs.Programme.{tree_of}
+use Rattle.kt_fmtree.specs.Programme.{tree_of}
 use Rattle.kt_event.proofs.BlockLemmas.{layers_are, of_perspective, output_summaries, rule_is}
 use Rattle.kt_event.specs.Loading.{loads_outputs, loads_policytc, loads_programme}
 use Rattle.kt_event.proofs.event.put_insured_summaries.Goals as goal

@@ -1,7 +1,7 @@
 use Rattle.std.proofs.Common.{sym, subst}
 use Rattle.kt_event.specs.Losses.{stage_trees}
 use Rattle.kt_ri.specs.Stages.{AreStages}
-use Rattle.kt_tree.specs.Programme.{tree_of}
+use Rattle.kt_fmtree.specs.Programme.{tree_of}
 use Rattle.kt_event.proofs.StageLemmas.{stage_more}
 use Rattle.kt_event.proofs.plan.first_stages.Goals as goal
 

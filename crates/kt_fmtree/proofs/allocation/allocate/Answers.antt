@@ -1,7 +1,7 @@
 use Rattle.std.proofs.Common.{◌∙◌, ℕ, List, ap, slice_index}
 use Rattle.std.proofs.lemmas.Result.{IfOk-weaker}
 use Rattle.std.specs.List.{sum}
-use Rattle.kt_tree.specs.SharingLaws.{allocated-sum, allocated-none}
+use Rattle.kt_fmtree.specs.SharingLaws.{allocated-sum, allocated-none}
 use Rattle.kt_fmtree.proofs.allocation.allocate.Goals as goal
 
 pub returns-clause-conserved : goal.returns-clause-conserved

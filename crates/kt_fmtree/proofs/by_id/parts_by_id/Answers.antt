@@ -1,7 +1,7 @@
 use Rattle.std.proofs.Common.{◌∙◌, ◌<◌, length, map, ap}
 use Rattle.std.proofs.lemmas.List.{length-map, take_all}
 use Rattle.std.proofs.lemmas.List.Elements.{All-from_recursion}
-use Rattle.kt_tree.specs.Sharing.{part_of}
+use Rattle.kt_fmtree.specs.Sharing.{part_of}
 use Rattle.kt_fmtree.specs.Parts.{units_at}
 use Rattle.kt_fmtree.specs.Placed.{unit_parts}
 use Rattle.kt_fmtree.specs.declared.part.PlacedPart.{PlacedPart}

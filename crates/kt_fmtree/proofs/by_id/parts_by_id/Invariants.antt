@@ -1,5 +1,5 @@
 use Rattle.std.proofs.Common.{◌≡◌, map, take}
-use Rattle.kt_tree.specs.Sharing.{part_of}
+use Rattle.kt_fmtree.specs.Sharing.{part_of}
 use Rattle.kt_fmtree.specs.Parts.{units_at}
 use Rattle.kt_fmtree.specs.Placed.{unit_parts}
 use Rattle.kt_fmtree.proofs.by_id.parts_by_id.Given as goal

@@ -1,6 +1,6 @@
 use Rattle.std.proofs.Common.{slice_index}
 use Rattle.kt_fmtree.specs.LoopLaws.{map-goes}
-use Rattle.kt_tree.specs.Tree.{whole_loss}
+use Rattle.kt_fmtree.specs.Tree.{whole_loss}
 use Rattle.kt_fmtree.proofs.carrying.leaf_row.Goals as goal
 
 pub loop-place-preserved : goal.loop-place-preserved

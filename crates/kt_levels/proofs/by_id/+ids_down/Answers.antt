@@ -1,7 +1,7 @@
 use Rattle.std.proofs.Common.{◌≡◌, ◌≤◌, ◌-◌, false, suc, ℕ, List, length, map, refl, ap, arith}
 use Rattle.std.proofs.lemmas.Option.{IfSome_then}
 use Rattle.std.specs.List.{flat_map}
-use Rattle.kt_tree.specs.Sharing.{part_of}
+use Rattle.kt_fmtree.specs.Sharing.{part_of}
 use Rattle.kt_fmtree.specs.Parts.{units_at}
 use Rattle.kt_fmtree.specs.Placed.{levels_down, unit_parts}
 use Rattle.kt_fmtree.specs.declared.part.PlacedPart.{PlacedPart}

@@ -1,5 +1,5 @@
 use Rattle.std.proofs.Common.{◌≡◌, ◌≤◌, ◌<◌, ◌∙◌, ℕ, List, length, map, slice_index, slice_index_or, refl, ap, subst, arith}
-use Rattle.kt_tree.specs.Sharing.{part_of}
+use Rattle.kt_fmtree.specs.Sharing.{part_of}
 use Rattle.kt_fmtree.specs.Parts.{units_at}
 use Rattle.kt_rec.specs.ById.{with_more}
 use Rattle.kt_fmtree.specs.Placed.{unit_parts}

@@ -2,7 +2,7 @@ use Rattle.std.proofs.Common.{◌≡◌, ◌≤◌, ◌<◌, ◌^◌, ◌∙◌,
 use Rattle.std.specs.List.{All, flat_map, sum_by}
 use Rattle.std.proofs.lemmas.List.{length-map}
 use Rattle.std.proofs.lemmas.Result.{on_ok_weaker}
-use Rattle.kt_tree.specs.Sharing.{part_of}
+use Rattle.kt_fmtree.specs.Sharing.{part_of}
 use Rattle.kt_fmtree.specs.Parts.{units_at}
 use Rattle.kt_fmtree.specs.Placed.{unit_parts}
 use Rattle.kt_fmtree.specs.declared.part.PlacedPart.{PlacedPart}

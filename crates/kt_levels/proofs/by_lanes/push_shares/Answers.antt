@@ -1,7 +1,7 @@
 use Rattle.std.proofs.Common.{◌≡◌, ◌∙◌, ◌++◌, ◌∷◌, [], List, ℕ, length, slice_index, ap, sym, subst, ne_eqb}
 use Rattle.std.proofs.lemmas.List.{map-append}
-use Rattle.kt_tree.specs.Sharing.{allocated}
-use Rattle.kt_tree.specs.Tree.{beneath, policy_loss}
+use Rattle.kt_fmtree.specs.Sharing.{allocated}
+use Rattle.kt_fmtree.specs.Tree.{beneath, policy_loss}
 use Rattle.kt_fmtree.specs.Carried.{loss_by}
 use Rattle.kt_lanes.specs.Lanes.{AreWide, column}
 use Rattle.kt_lanes.specs.LaneLaws.{All-more}

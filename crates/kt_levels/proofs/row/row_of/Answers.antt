@@ -1,6 +1,6 @@
 use Rattle.std.proofs.Common.{◌++◌, ◌∙◌, List, ap, slice_index_or, sym, subst, take}
 use Rattle.std.proofs.lemmas.List.{take_more}
-use Rattle.kt_tree.specs.Tree.{policy_loss}
+use Rattle.kt_fmtree.specs.Tree.{policy_loss}
 use Rattle.kt_levels.specs.Row.{HasRow}
 use Rattle.kt_levels.specs.declared.layers.TopLayer.{TopLayer}
 use Rattle.kt_levels.proofs.RowLemmas.{layer-at, row-more, row-none, top-is}

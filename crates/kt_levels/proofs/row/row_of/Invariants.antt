@@ -1,5 +1,5 @@
 use Rattle.std.proofs.Common.{ℕ, take}
-use Rattle.kt_tree.specs.Tree.{Tree}
+use Rattle.kt_fmtree.specs.Tree.{Tree}
 use Rattle.kt_fmtree.specs.Carried.{AreCarried}
 use Rattle.kt_fmtree.specs.Parts.{IsProgramme}
 use Rattle.kt_levels.specs.Row.{HasRow}

@@ -1,7 +1,7 @@
 use Rattle.std.proofs.Common.{◌≡◌, ◌∙◌, Vec, ℕ, ap, length, replicate, sym, ne_eqb}
 use Rattle.std.proofs.lemmas.Result.{IfOk-weaker}
 use Rattle.std.specs.declared.alloc.Global.{Global}
-use Rattle.kt_tree.specs.Tree.{beneath, policy_loss}
+use Rattle.kt_fmtree.specs.Tree.{beneath, policy_loss}
 use Rattle.kt_levels.proofs.RowLemmas.{nothing-shared, only-share, top-is}
 use Rattle.kt_levels.proofs.row.shares_of.Goals as goal
 

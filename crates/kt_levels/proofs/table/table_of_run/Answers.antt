@@ -2,7 +2,7 @@ use Rattle.std.proofs.Common.{◌≡◌, ◌+◌, IfOk, List, Result, ℕ, map, 
 use Rattle.std.proofs.lemmas.Result.{IfOk-weaker}
 use Rattle.kt_stream.specs.declared.entry.LossRecord.{LossRecord}
 use Rattle.kt_runs.specs.RunLosses.{AreWithin}
-use Rattle.kt_tree.specs.Tree.{Tree}
+use Rattle.kt_fmtree.specs.Tree.{Tree}
 use Rattle.kt_fmtree.specs.Parts.{HasProgramme, IsProgramme, Parts}
 use Rattle.kt_levels.specs.Climbed.{AreLosses}
 use Rattle.kt_levels.specs.Layers.{key_of}

@@ -1,7 +1,7 @@
 -- What is left of the records so far, or ceded.
 use Rattle.std.proofs.Common.{◌≡◌, ◌+◌, ℕ, length, take}
 use Rattle.std.specs.List.{filter_map}
-use Rattle.kt_tree.specs.Tree.{Tree}
+use Rattle.kt_fmtree.specs.Tree.{Tree}
 use Rattle.kt_fmtree.specs.Parts.{IsProgramme}
 use Rattle.kt_ri.specs.Ceded.{AreCeded, record_behind}
 use Rattle.kt_ri.proofs.net.lanes_behind.Given as goal

@@ -1,6 +1,6 @@
 use Rattle.std.proofs.Common.{◌∙◌, List, ℕ, subst, sym}
 use Rattle.std.proofs.lemmas.Result.{IfOk-weaker}
-use Rattle.kt_tree.specs.Struck.{struck}
+use Rattle.kt_fmtree.specs.Struck.{struck}
 use Rattle.kt_fmtree.specs.Parts.{Parts, IsProgramme}
 use Rattle.kt_ri.proofs.FewLemmas.{struck-few}
 use Rattle.kt_ri.proofs.reinsured.ceding_for.Goals as goal

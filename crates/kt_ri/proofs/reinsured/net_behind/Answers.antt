@@ -1,6 +1,6 @@
 use Rattle.std.proofs.Common.{◌∙◌, true}
 use Rattle.std.proofs.lemmas.Result.{IfOk-weaker}
-use Rattle.kt_tree.specs.Struck.{struck}
+use Rattle.kt_fmtree.specs.Struck.{struck}
 use Rattle.kt_runs.specs.LaneRun.{LaneRun}
 use Rattle.kt_runs.specs.Records.{ids_of}
 use Rattle.kt_ri.proofs.StageLemmas.{net-stream}

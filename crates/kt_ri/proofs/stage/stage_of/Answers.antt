@@ -1,4 +1,4 @@
-use Rattle.kt_tree.specs.FewLayers.{tree_of-few}
+use Rattle.kt_fmtree.specs.FewLayers.{tree_of-few}
 use Rattle.kt_ri.proofs.stage.stage_of.Goals as goal
 
 pub returns : goal.returns

@@ -2,7 +2,7 @@ use Rattle.std.proofs.Common.{◌≡◌, ◌++◌, ◌+◌, ◌*◌, ◌≤◌, 
 use Rattle.std.specs.List.{filter_map, flat_map}
 use Rattle.kt_stream.specs.Losses.{loss_bytes}
 use Rattle.kt_stream.specs.Write.{BeginsWith}
-use Rattle.kt_tree.specs.Tree.{Tree}
+use Rattle.kt_fmtree.specs.Tree.{Tree}
 use Rattle.kt_fmtree.specs.Parts.{IsProgramme}
 use Rattle.kt_ri.specs.Ceded.{AreCeded, record_behind}
 use Rattle.kt_ri.proofs.written.put_behind.Given as goal

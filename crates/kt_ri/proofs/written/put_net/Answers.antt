@@ -3,7 +3,7 @@ use Rattle.std.specs.List.{flat_map}
 use Rattle.std.proofs.lemmas.Result.{IfOk-weaker}
 use Rattle.kt_stream.specs.Losses.{loss_bytes}
 use Rattle.kt_stream.specs.declared.entry.LossRecord.{LossRecord}
-use Rattle.kt_tree.specs.Struck.{struck}
+use Rattle.kt_fmtree.specs.Struck.{struck}
 use Rattle.kt_runs.specs.Records.{ids_of}
 use Rattle.kt_ri.proofs.StruckLemmas.{behind-struck}
 use Rattle.kt_ri.proofs.written.put_net.Goals as goal

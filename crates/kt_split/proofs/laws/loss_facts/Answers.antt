@@ -2,7 +2,7 @@ use Rattle.std.proofs.Common.{refl}
 use Rattle.kt_event.specs.Loading.{loads_outputs, loads_policytc, loads_programme}
 use Rattle.kt_event.specs.Needs.{chain_need}
 use Rattle.kt_tables.specs.Portfolio.{PortfolioRows}
-use Rattle.kt_tree.specs.Programme.{tree_of}
+use Rattle.kt_fmtree.specs.Programme.{tree_of}
 use Rattle.kt_split.proofs.laws.loss_facts.Goals as goal
 
 pub returns : goal.returns

@@ -1,7 +1,7 @@
 use Rattle.std.proofs.Common.{◌∙◌, ap, map, refl}
 use Rattle.std.proofs.lemmas.List.{take_all}
 use Rattle.kt_fmtree.specs.ListLaws.{ends-go, lists-go}
-use Rattle.kt_tree.specs.Programme.{or_first}
+use Rattle.kt_fmtree.specs.Programme.{or_first}
 use Rattle.kt_structure.specs.Plan.{linked}
 use Rattle.kt_structure.proofs.outline.layers.Goals as goal
 

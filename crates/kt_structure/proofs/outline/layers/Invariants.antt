@@ -1,6 +1,6 @@
 -- The layers of the tops so far, one behind the other.
 use Rattle.std.proofs.Common.{◌≡◌, length, map, take}
-use Rattle.kt_tree.specs.Programme.{or_first}
+use Rattle.kt_fmtree.specs.Programme.{or_first}
 use Rattle.kt_fmtree.specs.Lists.{AreEnds, lists_from}
 use Rattle.kt_structure.specs.Plan.{linked}
 use Rattle.kt_structure.proofs.outline.layers.Given as goal

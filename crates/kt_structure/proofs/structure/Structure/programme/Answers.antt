@@ -1,6 +1,6 @@
 use Rattle.std.proofs.Common.{◌∙◌, List, ap, arith, map}
 use Rattle.std.proofs.lemmas.Result.{IfOk-weaker}
-use Rattle.kt_tree.specs.Struck.{struck}
+use Rattle.kt_fmtree.specs.Struck.{struck}
 use Rattle.kt_rec.specs.Rising.{rising}
 use Rattle.kt_structure.specs.Structure.{kept_by}
 use Rattle.kt_structure.specs.declared.links.Link.{Link}

@@ -1,2 +1,0 @@
-pub mod Ceded
-pub mod CededLaws

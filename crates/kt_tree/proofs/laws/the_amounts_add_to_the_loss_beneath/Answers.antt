@@ -1,5 +1,0 @@
-use Rattle.kt_tree.specs.TreeLaws.{carry_of-total}
-use Rattle.kt_tree.proofs.laws.the_amounts_add_to_the_loss_beneath.Goals as goal
-
-pub returns : goal.returns
-returns c = carry_of-total
