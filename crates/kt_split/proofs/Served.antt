@@ -15,20 +15,14 @@ use Rattle.kt_keys.specs.declared.need.Need.{Need}
 use Rattle.kt_load.specs.EventRows.{event_rows}
 use Rattle.kt_load.specs.Loaded.{loaded}
 use Rattle.kt_losses.specs.Judged.{is_known}
-use Rattle.kt_loop.specs.Contents.{Contents}
 use Rattle.kt_model.specs.Distribution.{distributions_of}
 use Rattle.kt_out.specs.NamedFiles.{FileMap}
-use Rattle.kt_periods.specs.PeriodTables.{contents_outcome}
-use Rattle.kt_periods.specs.declared.table.PeriodTable.TheVariants.{AverageAnnualLoss, ExceedanceCurve}
-use Rattle.kt_rec.specs.Rows.{Rows, no_rows}
+use Rattle.kt_rec.specs.Rows.{Rows}
 use Rattle.kt_rec.specs.declared.curve.Curve.{Curve}
 use Rattle.kt_rec.specs.declared.hazard.FootRow.{FootRow}
 use Rattle.kt_rec.specs.declared.periods.Occurrence.{Occurrence}
-use Rattle.kt_rec.specs.declared.periods.ReturnPeriod.{ReturnPeriod}
 use Rattle.kt_rec.specs.declared.table.Table.TheVariants as table
 use Rattle.kt_stream.specs.declared.entry.Cdf.{Cdf}
-use Rattle.kt_stream.specs.declared.entry.SummaryRecord.{SummaryRecord}
-use Rattle.kt_stream.specs.declared.kind.Head.{Head}
 use Rattle.kt_subset.specs.Loading.{LoadsSame, keeps_samples}
 use Rattle.kt_subset.specs.SameRows.{HasSame, same_base}
 use Rattle.kt_subset.specs.Within.{IsWithin}

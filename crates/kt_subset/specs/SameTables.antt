@@ -1,7 +1,7 @@
 -- What reading the file of a table leaves the same in two sets of rows.
 -- The rules: docs/TABLES.md, "Files".
-use Rattle.std.specs.Prelude.{◌≡◌, ◌<◌, ℕ, List}
-use Rattle.std.proofs.Common.{sym, subst, ◌∙◌}
+use Rattle.std.specs.Prelude.{◌≡◌, ◌<◌, ℕ}
+use Rattle.std.proofs.Common.{sym, subst, ◌∙◌, inl, inr}
 use Rattle.kt_rec.specs.PlaceLaws.{AreApart, AreTen, got, one_or_two, stays}
 use Rattle.kt_rec.specs.Places.{PartOf, part_in, table_at, with_part}
 use Rattle.kt_rec.specs.Rows.{Rows}
