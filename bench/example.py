@@ -10,19 +10,15 @@ import sys
 from typing import NamedTuple
 
 TOP = os.path.dirname(os.path.dirname(os.path.abspath(__file__)))
+sys.path.insert(0, os.path.join(TOP, "tools"))
+import ktools_tables  # noqa: E402
+from ktools_tables import file_of  # noqa: E402
+
 PORTFOLIO = os.path.join(TOP, "examples", "portfolio")
 RECORD = os.path.join(TOP, "examples", "one-record.summary")
 
-STATIC = {"footprint": "footprint.bin", "footprint_idx": "footprint.idx", "vulnerability": "vulnerability.bin",
-          "damage_bin_dict": "damage_bin_dict.bin", "random": "random.bin"}
-TABLES = ["events", "items", "coverages", "footprint", "footprint_idx", "vulnerability", "damage_bin_dict", "random",
-          "fm_programme", "fm_policytc", "fm_profile", "fm_xref", "gulsummaryxref", "fmsummaryxref", "occurrence", "returnperiods"]
-STAGE = ["RI_1/fm_programme.bin", "RI_1/fm_policytc.bin", "RI_1/fm_profile.bin"]
-
-
-def file_of(table):
-    """The file of a table, below the folder of a run."""
-    return f"static/{STATIC[table]}" if table in STATIC else f"input/{table}.bin"
+TABLES = list(ktools_tables.TABLES)
+STAGE = [file_of(table, 1) for table in ktools_tables.STAGE]
 
 
 def files_of_tables(names):

@@ -4,6 +4,8 @@ import struct
 from array import array
 from typing import NamedTuple
 
+import ktools_tables
+
 HEADER_BYTES = 16
 FILE_LIMIT = 2**30
 
@@ -20,38 +22,16 @@ class Table(NamedTuple):
     limit: int | None
 
 
-def table(file, number, record, limit):
-    return Table(file, number, struct.Struct("<" + record), limit)
-
-
-# the base's tables by name, in the order of loading; `I` is a number of 4 bytes, `Q` one of 8
-TABLES = {
-    "events": table("input/events.bin", None, "I", 1_000_000),
-    "items": table("input/items.bin", None, "IIIII", 100_000),
-    "coverages": table("input/coverages.bin", 3, "IQ", 100_000),
-    "footprint": table("static/footprint.bin", 4, "III", None),
-    "footprint_idx": table("static/footprint.idx", None, "IQQ", 1_000_000),
-    "vulnerability": table("static/vulnerability.bin", 6, "IIII", 10_000_000),
-    "damage_bin_dict": table("static/damage_bin_dict.bin", 7, "IIIII", 1_000),
-    "random": table("static/random.bin", 8, "I", 10_000_000),
-    "fm_programme": table("input/fm_programme.bin", None, "III", 1_200_000),
-    "fm_policytc": table("input/fm_policytc.bin", None, "IIII", 1_200_000),
-    "fm_profile": table("input/fm_profile.bin", 11, "IIQQQQQIII", 1_000_000),
-    "fm_xref": table("input/fm_xref.bin", None, "III", 100_000),
-    "gulsummaryxref": table("input/gulsummaryxref.bin", None, "III", 900_000),
-    "fmsummaryxref": table("input/fmsummaryxref.bin", None, "III", 900_000),
-    "occurrence": table("input/occurrence.bin", 15, "IIIII", 1_000_000),
-    "returnperiods": table("input/returnperiods.bin", None, "I", 1_000),
-}
-INSURED_ALONE = ("fm_programme", "fm_policytc", "fm_profile", "fm_xref", "fmsummaryxref")
-OF_A_STAGE = ("fm_programme", "fm_policytc", "fm_profile")
+# the base's tables by name, in the order of loading
+TABLES = {name: Table(one.file, ktools_tables.number_of(name) if one.header else None, ktools_tables.record_of(name), one.most_rows)
+          for name, one in ktools_tables.TABLES.items()}
 
 
 def needed(last, stages):
     """The tables that a run up to these losses loads, as names below its folder: the base's, then those of the reinsurance stages."""
-    base = [(name, TABLES[name]) for name in TABLES if last != "gul" or name not in INSURED_ALONE]
-    of_stages = [(f"RI_{stage}/{name}", TABLES[name]._replace(file=f"RI_{stage}/{name}.bin"))
-                 for stage in range(1, stages + 1) for name in OF_A_STAGE]
+    base = [(name, TABLES[name]) for name in TABLES if last != "gul" or name not in ktools_tables.INSURED]
+    of_stages = [(f"RI_{stage}/{name}", TABLES[name]._replace(file=ktools_tables.file_of(name, stage)))
+                 for stage in range(1, stages + 1) for name in ktools_tables.STAGE]
     return base + of_stages
 
 

@@ -1,8 +1,9 @@
 """The tables of docs/TABLES.md: their names, files and columns, and what may stand in a cell of their texts.
 
-tools/import, tools/export and tools/from-oasis go by this list. No program: it is imported.
+All scripts go by this one list; .ci/import-tests compares it with the program's own answers. No program: it is imported.
 """
 import re
+import struct
 from typing import NamedTuple
 
 
@@ -20,8 +21,10 @@ class Column(NamedTuple):
 
 class Table(NamedTuple):
     name: str
-    file: str        # below the folder of a run
+    file: str           # below the folder of a run
     columns: tuple
+    most_rows: int      # docs/LIMITS.md, "Rows of tables"; None where the size of the file is the limit
+    header: bool = False
 
 
 ID = Kind(1, 2**31 - 1)
@@ -37,6 +40,8 @@ AMOUNT = Kind(0, 10**17, 2)
 PPM = Kind(0, 10**6, 6)
 RULE = "a calculation rule"
 TERM = "an amount or a factor, by the rule of the row"
+# the kinds whose numbers take eight bytes in a file; all others take four
+EIGHT_BYTES = (OFFSET, TIV, AMOUNT, TERM)
 
 RULES = frozenset([*range(1, 27), 100])
 # the rules under which a term is a factor; under all others it is an amount
@@ -49,27 +54,27 @@ def _columns(**kinds):
 
 # in the order of loading
 TABLES = {table.name: table for table in (
-    Table("events", "input/events.bin", _columns(event_id=ID)),
-    Table("items", "input/items.bin", _columns(item_id=ID, coverage_id=ID, areaperil_id=ID, vulnerability_id=ID, group_id=ID)),
-    Table("coverages", "input/coverages.bin", _columns(coverage_id=ID, tiv=TIV)),
-    Table("footprint", "static/footprint.bin", _columns(event_id=ID, areaperil_id=ID, intensity_bin_id=INTENSITY_BIN, prob=PPM)),
-    Table("footprint_idx", "static/footprint.idx", _columns(event_id=ID, offset=OFFSET, size=OFFSET)),
+    Table("events", "input/events.bin", _columns(event_id=ID), 1_000_000),
+    Table("items", "input/items.bin", _columns(item_id=ID, coverage_id=ID, areaperil_id=ID, vulnerability_id=ID, group_id=ID), 100_000),
+    Table("coverages", "input/coverages.bin", _columns(coverage_id=ID, tiv=TIV), 100_000, header=True),
+    Table("footprint", "static/footprint.bin", _columns(event_id=ID, areaperil_id=ID, intensity_bin_id=INTENSITY_BIN, prob=PPM), None, header=True),
+    Table("footprint_idx", "static/footprint.idx", _columns(event_id=ID, offset=OFFSET, size=OFFSET), 1_000_000),
     Table("vulnerability", "static/vulnerability.bin",
-          _columns(vulnerability_id=ID, intensity_bin_id=INTENSITY_BIN, damage_bin_id=DAMAGE_BIN, prob=PPM)),
+          _columns(vulnerability_id=ID, intensity_bin_id=INTENSITY_BIN, damage_bin_id=DAMAGE_BIN, prob=PPM), 10_000_000, header=True),
     Table("damage_bin_dict", "static/damage_bin_dict.bin",
-          _columns(bin_index=DAMAGE_BIN, bin_from=PPM, bin_to=PPM, interpolation=PPM, interval_type=COUNT)),
-    Table("random", "static/random.bin", _columns(random=PPM)),
-    Table("fm_programme", "input/fm_programme.bin", _columns(from_agg_id=ID, level_id=LEVEL, to_agg_id=ID)),
-    Table("fm_policytc", "input/fm_policytc.bin", _columns(layer_id=LAYER, level_id=LEVEL, agg_id=ID, policytc_id=ID)),
+          _columns(bin_index=DAMAGE_BIN, bin_from=PPM, bin_to=PPM, interpolation=PPM, interval_type=COUNT), 1_000, header=True),
+    Table("random", "static/random.bin", _columns(random=PPM), 10_000_000, header=True),
+    Table("fm_programme", "input/fm_programme.bin", _columns(from_agg_id=ID, level_id=LEVEL, to_agg_id=ID), 1_200_000),
+    Table("fm_policytc", "input/fm_policytc.bin", _columns(layer_id=LAYER, level_id=LEVEL, agg_id=ID, policytc_id=ID), 1_200_000),
     Table("fm_profile", "input/fm_profile.bin",
           _columns(policytc_id=ID, calcrule_id=RULE, deductible1=TERM, deductible2=AMOUNT, deductible3=AMOUNT, attachment1=AMOUNT,
-                   limit1=TERM, share1=PPM, share2=PPM, share3=PPM)),
-    Table("fm_xref", "input/fm_xref.bin", _columns(output_id=ID, agg_id=ID, layer_id=LAYER)),
-    Table("gulsummaryxref", "input/gulsummaryxref.bin", _columns(item_id=ID, summary_id=ID, summaryset_id=SUMMARY_SET)),
-    Table("fmsummaryxref", "input/fmsummaryxref.bin", _columns(output_id=ID, summary_id=ID, summaryset_id=SUMMARY_SET)),
+                   limit1=TERM, share1=PPM, share2=PPM, share3=PPM), 1_000_000, header=True),
+    Table("fm_xref", "input/fm_xref.bin", _columns(output_id=ID, agg_id=ID, layer_id=LAYER), 100_000),
+    Table("gulsummaryxref", "input/gulsummaryxref.bin", _columns(item_id=ID, summary_id=ID, summaryset_id=SUMMARY_SET), 900_000),
+    Table("fmsummaryxref", "input/fmsummaryxref.bin", _columns(output_id=ID, summary_id=ID, summaryset_id=SUMMARY_SET), 900_000),
     Table("occurrence", "input/occurrence.bin",
-          _columns(event_id=ID, period_no=ID, occ_year=COUNT, occ_month=COUNT, occ_day=COUNT)),
-    Table("returnperiods", "input/returnperiods.bin", _columns(return_period=ID)),
+          _columns(event_id=ID, period_no=ID, occ_year=COUNT, occ_month=COUNT, occ_day=COUNT), 1_000_000, header=True),
+    Table("returnperiods", "input/returnperiods.bin", _columns(return_period=ID), 1_000),
 )}
 # the index is made of the text of the footprint, and has none of its own to be read
 TEXTS = tuple(name for name in TABLES if name != "footprint_idx")
@@ -85,6 +90,17 @@ KNOWN_AS = {"prob": "probability", "policytc_id": "profile_id", "output_id": "ou
 
 def column_names(table):
     return [column.name for column in TABLES[table].columns]
+
+
+def number_of(table):
+    """The number of a table, counted from 1."""
+    return list(TABLES).index(table) + 1
+
+
+def record_of(table):
+    """The form of a record in the file of a table, which of the footprint leaves the event out."""
+    columns = TABLES[table].columns[1:] if table == "footprint" else TABLES[table].columns
+    return struct.Struct("<" + "".join("Q" if column.kind in EIGHT_BYTES else "I" for column in columns))
 
 
 def file_of(table, stage=0):

@@ -156,5 +156,5 @@ def tools():
 
 def tables():
     """The names of the tables, in the order of their numbers."""
-    with open(os.path.join(TOP, "crates", "kt_rec", "src", "table.rt"), encoding="utf-8") as file:
-        return re.findall(r'Table::\w+ => b"(\w+)"', file.read())
+    with open(os.path.join(TOP, "crates", "kt_rec", "src", "descriptions.rt"), encoding="utf-8") as file:
+        return re.findall(r'(?m)^ +name: b"(\w+)"', file.read())

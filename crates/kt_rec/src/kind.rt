@@ -197,7 +197,7 @@ fn is_within(least: u64, most: u64, value: u64) -> bool
     true
 }
 
-/// The value, if it lies from `least` to `most`.
+/// The value, if it lies from `least` to `most`: below them it is `Zero`, above them `TooLarge`. An error is the one that holds.
 #[inline(always)]
 pub fn checked(least: u64, most: u64, value: u64) -> Result<u64, Cause>
     ensures { result ≡ within least most value }
