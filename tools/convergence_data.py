@@ -327,14 +327,15 @@ def points_of(losses, strikes, summary, samples, usable, means):
     """The means and errors of a summary, by numbers of samples. No error stands where the samples are more than the random
     numbers, or these are not usable. `means` has average annual losses by fewer samples, of other runs."""
     average = losses.averages[summary]
-    variances = {count: strikes.variance(count) for count in steps_to(samples) if usable and count <= strikes.count}
-    for count in steps_to(samples):
+    counts = sorted({*steps_to(samples), *means})
+    variances = {count: strikes.variance(count) for count in counts if usable and count <= strikes.count}
+    for count in counts:
         error = math.sqrt(variances[count]) if count in variances else None
         yield Point("aal", 0, count, average if count == samples else means.get(count), error, None, None)
     for by, of_summary in losses.curves.items():
         for period, of_sample in sorted(of_summary.get(summary, {}).items()):
             ranked = [of_sample.get(sample, 0) for sample in range(1, samples + 1)]
-            for count in steps_to(samples):
+            for count in counts:
                 first = ranked[:count]
                 error = curve_error(first, strikes, average) if count in variances else None
                 yield Point(by, period, count, sum(first) / count, error, min(first), max(first))
