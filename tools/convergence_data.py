@@ -2,9 +2,11 @@
 
 No program: tools/convergence imports it. Amounts are cents; errors are cents with a fraction.
 """
+import itertools
 import math
 import os
 import struct
+from array import array
 from collections import defaultdict
 from typing import NamedTuple
 
@@ -39,7 +41,7 @@ class Exposure(NamedTuple):
     members: dict       # (whether the losses are insured or net ones, set, summary) -> its items
     struck: dict        # event -> the areaperils that it strikes
     rates: dict         # event -> how often it occurs, in a period
-    numbers: list       # the random numbers, in ppm
+    numbers: array      # the random numbers, in ppm
     groups: int         # how many groups there are
 
 
@@ -171,7 +173,7 @@ def read_exposure(run, folder):
     rates = defaultdict(float)
     for event, *_ in records(paths["input/occurrence.bin"], "IIIII", HEADER):
         rates[event] += 1 / periods
-    numbers = [number for number, in records(paths["static/random.bin"], "I", HEADER)]
+    numbers = array("I", (number for number, in records(paths["static/random.bin"], "I", HEADER)))
     if not numbers:
         raise RunFolderError(paths["static/random.bin"], "has no random number")
     struck = struck_areas(paths["static/footprint.bin"], paths["static/footprint.idx"], rates)
@@ -221,14 +223,14 @@ def faults_of_list(numbers):
     mean = sum(numbers) / count / PPM
     if abs(mean - 0.5) > STRANGE / math.sqrt(12 * count):
         yield f"has the mean {mean:.4f}, and random numbers one near 0.5"
-    products = sum((a / PPM - 0.5) * (b / PPM - 0.5) for a, b in zip(numbers, numbers[1:]))
+    products = sum((one / PPM - 0.5) * (next_ / PPM - 0.5) for one, next_ in itertools.pairwise(numbers))
     if count > 2 and abs(products) > STRANGE * math.sqrt(count) / 12:
         yield "has numbers that go with the ones before them, and random ones do not"
 
 
 def period_of(numbers):
     """Behind how many numbers the list begins again, to its end; all of them where it does not."""
-    borders, border = [0] * len(numbers), 0
+    borders, border = array("I", bytes(4 * len(numbers))), 0
     for at in range(1, len(numbers)):
         while border and numbers[at] != numbers[border]:
             border = borders[border - 1]
