@@ -16,6 +16,7 @@ from run_tables import kind_of, read_rows
 HEADER = 16                                         # bytes
 EVENT_FACTOR, GROUP_FACTOR = 1_543_270_363, 1_943_272_559       # docs/CALCULATION.md, "Random numbers"
 PPM = 1_000_000
+FEW = 100               # fewer draws than that have no interval: a rare great loss may not be among them (docs/CONVERGENCE.md, "Few draws")
 LEVEL = 1.96            # so many standard errors lie on each side of a mean in an interval of 95 %
 STRANGE = 4.5           # so many standard errors off, a list of random numbers is none: by chance one in 150,000 is
 MOST_SAMPLES, MOST_NUMBERS = 1_000, 10_000_000      # what a run takes (docs/LIMITS.md)
@@ -51,7 +52,17 @@ class Strikes(NamedTuple):
     weights: dict       # the number whose rest by that of the random numbers is the place of sample 1 -> weight
     apart: float        # the sum of the squares of all weights: the variance, if each strike had a list of its own
     together: float     # the sum of all weights: the deviation, if one number served all strikes
+    even: float         # so many strikes of the same weight differ as much: 1 where one is all of the loss, 0 where none is uncertain
     count: int          # of the random numbers
+
+    def draws(self, samples):
+        """How many draws of the same weight so many samples come to."""
+        return samples * self.even
+
+    @property
+    def least_samples(self):
+        """The least number of samples that has draws enough for an interval."""
+        return math.ceil(FEW / self.even) if self.even else 1
 
     def variance(self, samples):
         """The square of the standard error of the average annual loss by so many samples.
@@ -82,8 +93,8 @@ class Strikes(NamedTuple):
 
     def samples_for(self, variance):
         """So many samples have no greater variance, none where the list is too short for that; by halving, so that fewer may do."""
-        least, most = 1, min(self.count, MOST_SAMPLES)
-        if self.variance(most) > variance:
+        least, most = self.least_samples, min(self.count, MOST_SAMPLES)
+        if least > most or self.variance(most) > variance:
             return None
         while least < most:
             middle = (least + most) // 2
@@ -96,8 +107,9 @@ class Strikes(NamedTuple):
     def list_for(self, variance):
         """How many samples and how many random numbers have no greater variance, or nothing where no run has. Half of it is for the samples
         and half for the list, where so many samples can be had; then both grow until the places in a list of that length allow it."""
-        samples, numbers = 2 * self.apart / variance, 0.0
-        part = variance / 2
+        samples, part = max(2 * self.apart / variance, self.least_samples), variance / 2
+        if self.least_samples > MOST_SAMPLES:
+            return None
         if samples > MOST_SAMPLES:
             samples, part = MOST_SAMPLES, variance - self.apart / MOST_SAMPLES
         if part <= 0:
@@ -283,7 +295,7 @@ def strikes_of(losses, exposure, summary):
     for item in exposure.members.get((losses.perspective != "gul", losses.number, summary), ()):
         of_area[item.areaperil][item.group] += item.tiv
         everywhere[item.group] += item.tiv
-    weights, apart, together = defaultdict(float), 0.0, 0.0
+    weights, apart, together, squares = defaultdict(float), 0.0, 0.0, 0.0
     for event, deviation in losses.deviations.get(summary, {}).items():
         rate = exposure.rates.get(event, 0.0)
         values = defaultdict(int)
@@ -297,7 +309,8 @@ def strikes_of(losses, exposure, summary):
             weights[event * EVENT_FACTOR + group * GROUP_FACTOR] += weight
             apart += weight * weight
             together += weight
-    return Strikes(weights, apart, together, len(exposure.numbers))
+            squares += weight ** 4
+    return Strikes(weights, apart, together, apart ** 2 / squares if squares else 0.0, len(exposure.numbers))
 
 
 # --- what is told
@@ -311,11 +324,12 @@ class Point(NamedTuple):
     error: float        # one standard error; None where none can be told
     least: int          # the least and the greatest of the samples' curves; None of an average annual loss
     greatest: int
+    few: bool           # whether there are too few draws for an interval
 
     @property
     def interval(self):
         """The interval of 95 %, or nothing where there is none."""
-        if self.mean is None or self.error is None:
+        if self.mean is None or self.error is None or self.few:
             return None
         return max(0.0, self.mean - LEVEL * self.error), self.mean + LEVEL * self.error
 
@@ -330,17 +344,21 @@ def points_of(losses, strikes, summary, samples, usable, means):
     numbers, or these are not usable. `means` has average annual losses by fewer samples, of other runs."""
     average = losses.averages[summary]
     counts = sorted({*steps_to(samples), *means})
+
+    def is_few(count):
+        return 0 < strikes.draws(count) < FEW
+
     variances = {count: strikes.variance(count) for count in counts if usable and count <= strikes.count}
     for count in counts:
         error = math.sqrt(variances[count]) if count in variances else None
-        yield Point("aal", 0, count, average if count == samples else means.get(count), error, None, None)
+        yield Point("aal", 0, count, average if count == samples else means.get(count), error, None, None, is_few(count))
     for by, of_summary in losses.curves.items():
         for period, of_sample in sorted(of_summary.get(summary, {}).items()):
             ranked = [of_sample.get(sample, 0) for sample in range(1, samples + 1)]
             for count in counts:
                 first = ranked[:count]
                 error = curve_error(first, strikes, average) if count in variances else None
-                yield Point(by, period, count, sum(first) / count, error, min(first), max(first))
+                yield Point(by, period, count, sum(first) / count, error, min(first), max(first), is_few(count))
 
 
 def curve_error(first, strikes, average):
