@@ -16,6 +16,7 @@ EVENT_TABLES = ("_elt.csv", "_plt.csv", "il_layers.csv")  # the tables that grow
 SUMMARY = struct.Struct("<IIQ")  # event, summary id, exposure
 PAIR = struct.Struct("<iQ")
 HEAD_BYTES = 12
+SHORT = 0.5  # seconds: a trial that takes less is made three times, else twice
 
 
 class Terms(NamedTuple):
@@ -45,8 +46,8 @@ class Refused(Exception):
 
 class Whole(NamedTuple):
     """A trial of all stages."""
-    seconds: float
-    bytes: int         # the greatest memory
+    seconds: float     # the least of its runs: what else the machine does makes a run longer, never shorter
+    bytes: int         # the greatest memory of its runs
     event_bytes: int   # of the tables that grow event by event
     end_bytes: int     # of the tables over all periods
 
@@ -102,7 +103,14 @@ def measured(command, folder):
 
 
 def whole(program, folder, terms, events):
-    """All stages over some events."""
+    """All stages over some events, run twice, or three times where the first takes less than half a second."""
+    first = _run(program, folder, terms, events)
+    runs = [first] + [_run(program, folder, terms, events) for _ in range(2 if first.seconds < SHORT else 1)]
+    return first._replace(seconds=min(run.seconds for run in runs), bytes=max(run.bytes for run in runs))
+
+
+def _run(program, folder, terms, events):
+    """All stages over some events, run once."""
     with room(folder, events) as made:
         status, line, seconds, memory = measured([program, *terms.words], made)
         if status == REFUSED:
