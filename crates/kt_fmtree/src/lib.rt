@@ -1,5 +1,5 @@
-//! The tree of a programme, and the programme of the financial module that keeps it: its levels, what they carry, the policy losses of its layers, and these shared back to the
-//! ids beneath a top.
+//! The tree of a programme, and the programme of the financial module that keeps it: its levels, what they carry, the policy losses of
+//! its layers, and these shared back to the ids beneath a top.
 #![tactic(auto)]
 
 mod allocation;

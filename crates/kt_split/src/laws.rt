@@ -15,10 +15,10 @@ ghost use Rattle.kt_split.specs.RunDone.{EndsDone};
 ghost use Rattle.kt_split.specs.RunInParts.{JoinedGiveFiles};
 ghost use Rattle.kt_split.specs.SplitRuns.{EachFits, JoinsParts, ground_up_stages, has_set, loss_stages, split_stages};
 
-use kt_eve::parts_make_the_events;
 use kt_alloc::laws::{
     insured_losses_are_a_run, insured_losses_are_records_of_a_stream, insured_losses_keep_the_limit,
 };
+use kt_eve::parts_make_the_events;
 use kt_load::laws::rows_that_load_are_a_portfolio;
 use kt_ri::laws::{net_losses_are_a_run, net_losses_are_records_of_a_stream};
 use kt_stream::laws::what_is_spelled_is_read;
