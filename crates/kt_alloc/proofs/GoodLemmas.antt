@@ -23,7 +23,7 @@ use Rattle.kt_runs.specs.RecordLaws.{pairs-none, record-good}
 use Rattle.kt_levels.specs.SharesLaws.{policy-le, shares-sum, taken-few}
 use Rattle.kt_rec.specs.ListLaws.{cond-le}
 use Rattle.kt_alloc.specs.Insured.{in_order, insured_records, layer_sum, layer_sums, of_layer, output_loss, output_record, part_above, sum_with}
-use Rattle.kt_alloc.specs.declared.sums.LayerSum.{LayerSum}
+use Rattle.kt_block.specs.declared.layer_sum.LayerSum.{LayerSum}
 
 -- ---- how much an output can have
 

@@ -15,7 +15,7 @@ use Rattle.kt_alloc.specs.Layout.{IsLayout, Laid}
 use Rattle.kt_alloc.specs.Table.{record_in, sums_in}
 use Rattle.kt_levels.specs.declared.layers.TopLayer.{TopLayer}
 use Rattle.kt_alloc.specs.declared.outlets.Outlet.{Outlet}
-use Rattle.kt_alloc.specs.declared.sums.LayerSum.{LayerSum}
+use Rattle.kt_block.specs.declared.layer_sum.LayerSum.{LayerSum}
 use Rattle.kt_alloc.proofs.TableLemmas.{amounts-within, places-within, records-are, sums-are}
 
 module _ (tree : Tree) (parts : Parts) (is : IsProgramme tree parts) (outputs : List FmXref) (layout : Laid) (laid : IsLayout tree outputs parts layout) (samples : ℕ) (records : List LossRecord) (within : AreWithin records) (rule : ℕ) (rule_is : rule ≡ layout.rule) (layers : List TopLayer) (layers_are : layers ≡ layout.layers) (table : List Shared) (table_is : table ≡ table_for tree rule samples records (map key_of layers)) where

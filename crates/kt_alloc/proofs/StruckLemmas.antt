@@ -20,7 +20,7 @@ use Rattle.kt_runs.specs.Records.{ids_of, insured_range, record_with, sample_ran
 use Rattle.kt_levels.specs.SharesLaws.{shares-sum}
 use Rattle.kt_levels.specs.StruckLaws.{taken-quiet, taken-struck}
 use Rattle.kt_alloc.specs.Insured.{in_order, insured_records, layer_sum, layer_sums, of_layer, output_loss, part_above, sum_with}
-use Rattle.kt_alloc.specs.declared.sums.LayerSum.{LayerSum}
+use Rattle.kt_block.specs.declared.layer_sum.LayerSum.{LayerSum}
 
 -- ---- the loss of an output
 

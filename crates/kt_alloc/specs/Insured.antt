@@ -12,7 +12,7 @@ use Rattle.kt_rec.specs.Rising.{rising}
 use Rattle.kt_fmtree.specs.Tree.{Tree, policy_loss}
 use Rattle.kt_levels.specs.Shares.{layers_of, part_of_id, shares, taken_loss}
 use Rattle.kt_runs.specs.Records.{insured_range, record_with, sample_range}
-use Rattle.kt_alloc.specs.declared.sums.LayerSum.{LayerSum}
+use Rattle.kt_block.specs.declared.layer_sum.LayerSum.{LayerSum}
 
 -- ---- the loss of an output
 

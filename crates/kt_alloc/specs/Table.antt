@@ -11,7 +11,7 @@ use Rattle.kt_runs.specs.LaneRows.{pairs_by_row}
 use Rattle.kt_levels.specs.declared.layers.TopLayer.{TopLayer}
 use Rattle.kt_alloc.specs.Insured.{sum_with}
 use Rattle.kt_alloc.specs.declared.outlets.Outlet.{Outlet}
-use Rattle.kt_alloc.specs.declared.sums.LayerSum.{LayerSum}
+use Rattle.kt_block.specs.declared.layer_sum.LayerSum.{LayerSum}
 
 -- the pairs of the shares in a place
 abbrev pub pairs_in : List Shared → ℕ → List Pair

@@ -12,7 +12,7 @@ mod shared;
 mod sums;
 
 pub use index::OutputIndex;
+pub use kt_block::LayerSum;
 pub use kt_fmtree::allocate;
 pub use made::{Insured, InsuredLanes};
 pub use run::{insured, insured_lanes, put_insured};
-pub use sums::LayerSum;

@@ -1,7 +1,7 @@
 //! What the insured losses of a run are.
 //! The rule: docs/FINANCIAL_MODULE.md, "Insured losses".
 
-use crate::sums::LayerSum;
+use kt_block::LayerSum;
 use kt_runs::LossLanes;
 use kt_stream::{LossRecord, Records};
 

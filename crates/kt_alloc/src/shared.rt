@@ -2,7 +2,7 @@
 //! The rule: docs/ARCHITECTURE.md, "What threads share".
 use crate::index::OutputIndex;
 use crate::made::{Insured, InsuredLanes};
-use crate::sums::LayerSum;
+use kt_block::LayerSum;
 
 /// Takes what may be sent to threads and shared by them.
 fn is_shared<T: Send + Sync>(_: &T) {}

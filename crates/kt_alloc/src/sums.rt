@@ -5,24 +5,10 @@ ghost use Rattle.std.specs.List.{cons_option};
 ghost use Rattle.kt_levels.specs.Table.{HasAmounts};
 ghost use Rattle.kt_alloc.specs.Table.{sum_in, sums_in};
 
+use kt_block::LayerSum;
 use kt_levels::{Table, TopLayer};
 use kt_stream::Records;
 use std::alloc::{AllocError, Global};
-
-/// What the policy losses of a layer add to over the samples, and what its outputs have of them.
-#[derive(Clone, Copy)]
-pub struct LayerSum {
-    /// The event.
-    pub event: u32,
-    /// The top.
-    pub agg: u32,
-    /// The layer.
-    pub layer: u32,
-    /// The policy losses of the samples, added, in cents.
-    pub policy: u64,
-    /// What they were shared out to, added, in cents.
-    pub allocated: u64,
-}
 
 /// Appends the sum of the layer in a place, where it has a policy loss. All of it is shared out.
 fn push_sum(

@@ -4,8 +4,8 @@ use Rattle.std.specs.List.{AllByRecursion}
 use Rattle.std.proofs.lemmas.List.{map-append}
 use Rattle.kt_ends.specs.declared.status.Refusal.{Refusal}
 use Rattle.kt_ends.specs.declared.status.Refusal.TheVariants as refusal
-use Rattle.kt_event.specs.declared.block.EventBlock.{EventBlock}
-use Rattle.kt_event.specs.declared.terms.Terms.{Terms}
+use Rattle.kt_block.specs.declared.block.EventBlock.{EventBlock}
+use Rattle.kt_block.specs.declared.terms.Terms.{Terms}
 use Rattle.kt_part.specs.Folding.{AreGiven}
 use Rattle.kt_rec.specs.FootRows.{first_refused_row}
 use Rattle.kt_rec.specs.Rows.{Rows}

@@ -5,7 +5,7 @@ use Rattle.std.specs.Option.{option_or}
 use Rattle.kt_period_cells.specs.Losses.{Added}
 use Rattle.kt_ends.specs.declared.status.Refusal.{Refusal}
 use Rattle.kt_event.specs.Losses.{event_block_of}
-use Rattle.kt_event.specs.declared.block.EventBlock.{EventBlock}
+use Rattle.kt_block.specs.declared.block.EventBlock.{EventBlock}
 use Rattle.kt_periods.specs.Adding.{first_refusal}
 use Rattle.kt_rec.specs.FootRows.{first_refused_row}
 use Rattle.kt_rec.specs.declared.hazard.FootRow.{FootRow}

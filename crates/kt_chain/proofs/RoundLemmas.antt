@@ -6,8 +6,8 @@ use Rattle.std.proofs.lemmas.List.{map-append, take-append-drop}
 use Rattle.kt_period_cells.specs.Losses.{Added}
 use Rattle.kt_period_cells.specs.Standing.{StandsFor}
 use Rattle.kt_ends.specs.declared.status.Refusal.{Refusal}
-use Rattle.kt_event.specs.declared.block.EventBlock.{EventBlock}
-use Rattle.kt_event.specs.declared.terms.Terms.{Terms}
+use Rattle.kt_block.specs.declared.block.EventBlock.{EventBlock}
+use Rattle.kt_block.specs.declared.terms.Terms.{Terms}
 use Rattle.kt_part.specs.Folding.{AreGiven, Folded, RoundEnds, StoppedAt}
 use Rattle.kt_part.specs.declared.round.RoundStop.{RoundStop}
 use Rattle.kt_part.specs.declared.round.RoundStop.TheVariants.{Fold}

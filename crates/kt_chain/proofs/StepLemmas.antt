@@ -8,8 +8,8 @@ use Rattle.kt_ends.specs.Stops.{fault_stop}
 use Rattle.kt_ends.specs.declared.status.Refusal.{Refusal}
 use Rattle.kt_ends.specs.declared.tool_stop.ToolStop.{ToolStop}
 use Rattle.kt_ends.specs.declared.tool_stop.ToolStop.TheVariants.{Refused, ReadFault, WriteFault, NoMemory}
-use Rattle.kt_event.specs.declared.block.EventBlock.{EventBlock}
-use Rattle.kt_event.specs.declared.terms.Terms.{Terms}
+use Rattle.kt_block.specs.declared.block.EventBlock.{EventBlock}
+use Rattle.kt_block.specs.declared.terms.Terms.{Terms}
 use Rattle.kt_files.specs.OutputFiles.{output_files, output_name}
 use Rattle.kt_files.specs.Parts.{block_text, head_text}
 use Rattle.kt_files.specs.declared.file.OutputFile.{OutputFile}

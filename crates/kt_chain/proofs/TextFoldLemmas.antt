@@ -3,7 +3,7 @@ use Rattle.std.proofs.Common.{◌≡◌, ◌∙◌, ◌<◌, ℕ, zero, suc, Lis
 use Rattle.std.specs.List.{flat_map}
 use Rattle.std.proofs.lemmas.List.{length-map}
 use Rattle.kt_ends.specs.declared.status.Refusal.{Refusal}
-use Rattle.kt_event.specs.declared.block.EventBlock.{EventBlock}
+use Rattle.kt_block.specs.declared.block.EventBlock.{EventBlock}
 use Rattle.kt_files.specs.MadeRows.{AreRowsOf}
 use Rattle.kt_files.specs.Parts.{block_text}
 use Rattle.kt_files.specs.declared.file.OutputFile.{OutputFile}

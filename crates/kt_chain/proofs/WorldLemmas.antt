@@ -12,7 +12,7 @@ use Rattle.kt_ends.specs.declared.status.Status.{Status}
 use Rattle.kt_ends.specs.declared.status.Status.TheVariants as status
 use Rattle.kt_ends.specs.declared.tool_stop.ToolStop.{ToolStop}
 use Rattle.kt_ends.specs.declared.tool_stop.ToolStop.TheVariants.{Refused, ReadFault, WriteFault, NoMemory}
-use Rattle.kt_event.specs.declared.terms.Terms.{Terms}
+use Rattle.kt_block.specs.declared.terms.Terms.{Terms}
 use Rattle.kt_load.specs.EventRows.{HasFootprint, footprint_name}
 use Rattle.kt_out.specs.InputFiles.{InputsState}
 use Rattle.kt_out.specs.NamedFiles.{FileMap}

@@ -4,8 +4,8 @@ use Rattle.std.specs.Prelude.{ℕ, List, [], unwrap_or}
 use Rattle.std.specs.List.{flat_map}
 use Rattle.kt_period_cells.specs.Losses.{Added}
 use Rattle.kt_event.specs.Losses.{event_block_of, ground_up_of}
-use Rattle.kt_event.specs.declared.block.EventBlock.{EventBlock}
-use Rattle.kt_event.specs.declared.terms.Terms.{Terms}
+use Rattle.kt_block.specs.declared.block.EventBlock.{EventBlock}
+use Rattle.kt_block.specs.declared.terms.Terms.{Terms}
 use Rattle.kt_load.specs.EventRows.{event_rows, footprint_name}
 use Rattle.kt_out.specs.NamedFiles.{FileMap}
 use Rattle.kt_rec.specs.Rows.{Rows}

@@ -4,7 +4,7 @@ use Rattle.std.proofs.Common.{refl, ap, ◌∙◌}
 use Rattle.std.specs.Prelude.{◌≡◌, ℕ, List, [], ◌∷◌, ◌++◌, Option, Some}
 use Rattle.std.specs.List.{flat_map}
 use Rattle.kt_ends.specs.declared.status.Refusal.{Refusal}
-use Rattle.kt_event.specs.declared.terms.SummarySet.{SummarySet}
+use Rattle.kt_block.specs.declared.terms.SummarySet.{SummarySet}
 use Rattle.kt_files.specs.declared.file.OutputFile.TheVariants.{OfSet}
 use Rattle.kt_files.specs.declared.file.SetTable.TheVariants.{AverageAnnualLoss, ExceedanceCurve}
 use Rattle.kt_files.specs.Parts.{record_rows, records_of_set}

@@ -13,9 +13,9 @@ use Rattle.kt_curve.specs.OwnLosses.{own_record, own_records}
 use Rattle.kt_period_cells.specs.SameKeys.{perspective_same, same_perspective_itself}
 use Rattle.kt_ends.specs.declared.status.Status.TheVariants.{Done}
 use Rattle.kt_event.specs.Losses.{ground_up_of, set_summaries}
-use Rattle.kt_event.specs.Terms.{run_sets}
-use Rattle.kt_event.specs.declared.block.Summaries.{Summaries}
-use Rattle.kt_event.specs.declared.terms.SummarySet.{SummarySet}
+use Rattle.kt_block.specs.Terms.{run_sets}
+use Rattle.kt_block.specs.declared.block.Summaries.{Summaries}
+use Rattle.kt_block.specs.declared.terms.SummarySet.{SummarySet}
 use Rattle.kt_files.specs.DistinctNames.{every_set, run_sets_are_some}
 use Rattle.kt_files.specs.Parts.{is_of_set, records_of_set}
 use Rattle.kt_files.specs.Sublists.{IsSublist, none, left_out, kept}

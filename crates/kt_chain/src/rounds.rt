@@ -3,7 +3,7 @@
 ghost use Rattle.std.specs.Prelude.{◌≡◌, ◌++◌, ◌≤◌, ◌*◌, ℕ, List, [], All, IfErr, IfOk, IfSome, length};
 ghost use Rattle.std.specs.List.{flat_map};
 ghost use Rattle.kt_event.specs.Needs.{chain_need};
-ghost use Rattle.kt_event.specs.Terms.{AreTerms};
+ghost use Rattle.kt_block.specs.Terms.{AreTerms};
 ghost use Rattle.kt_files.specs.OutputFiles.{output_files, output_name};
 ghost use Rattle.kt_files.specs.Parts.{block_text};
 ghost use Rattle.kt_files.specs.declared.file.OutputFile.{OutputFile};

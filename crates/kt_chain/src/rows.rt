@@ -1,7 +1,7 @@
 //! The footprint rows of the events of a round.
 //! The rules: docs/TABLES.md, "Footprint rows of a round"; docs/REFUSALS.md, "Order".
 ghost use Rattle.std.specs.Prelude.{◌≡◌, ◌≤◌, true, length, MatchResult, OnOk};
-ghost use Rattle.kt_event.specs.declared.terms.Terms.{Terms};
+ghost use Rattle.kt_block.specs.declared.terms.Terms.{Terms};
 ghost use Rattle.kt_keys.specs.Refusals.{is_loaded};
 ghost use Rattle.kt_load.specs.Ends.{IsReadStop};
 ghost use Rattle.kt_load.specs.EventRows.{HasFootprint, ids_of};

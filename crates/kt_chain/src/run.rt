@@ -6,7 +6,7 @@ ghost use Rattle.kt_ends.specs.Ending.{ToolEnds};
 ghost use Rattle.kt_ends.specs.Stops.{end_status};
 ghost use Rattle.kt_ends.specs.World.{world};
 ghost use Rattle.kt_event.specs.Needs.{chain_need};
-ghost use Rattle.kt_event.specs.Terms.{AreTerms};
+ghost use Rattle.kt_block.specs.Terms.{AreTerms};
 ghost use Rattle.kt_files.specs.Endings.{AreEndings};
 ghost use Rattle.kt_files.specs.OutputFiles.{output_files, output_name};
 ghost use Rattle.kt_files.specs.Parts.{end_text, head_text};

@@ -2,7 +2,7 @@
 //! The rules: docs/ARCHITECTURE.md, "A run of all stages".
 ghost use Rattle.std.specs.Prelude.{◌≡◌, ◌≤◌, ◌<◌, ◌+◌, ◌*◌, All, IfOk, drop, length, min, take, true};
 ghost use Rattle.std.specs.List.{AllByRecursion};
-ghost use Rattle.kt_event.specs.Losses.{AreSummaries};
+ghost use Rattle.kt_block.specs.Block.{AreSummaries};
 ghost use Rattle.kt_event.specs.Plan.{IsPlan, terms_of};
 ghost use Rattle.kt_files.specs.MadeRows.{AreRowsOf};
 ghost use Rattle.kt_fold.specs.Folds.{IsGoodPart};

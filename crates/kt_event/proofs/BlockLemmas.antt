@@ -5,12 +5,12 @@ use Rattle.std.proofs.lemmas.List.{map-append}
 use Rattle.kt_event.specs.Losses.{block_of_losses, layers_up_to, losses_of, set_summaries, summaries_of}
 use Rattle.kt_event.specs.Needs.{chain_need}
 use Rattle.kt_keys.specs.declared.need.Need.{Need}
-use Rattle.kt_event.specs.Terms.{has_insured, has_net, net_sets, output_perspectives, run_sets, sets_of, summary_set}
-use Rattle.kt_event.specs.declared.block.Summaries.{Summaries}
-use Rattle.kt_event.specs.declared.terms.SummarySet.{SummarySet}
-use Rattle.kt_event.specs.declared.terms.Terms.{Terms}
+use Rattle.kt_block.specs.Terms.{has_insured, has_net, net_sets, output_perspectives, run_sets, sets_of, summary_set}
+use Rattle.kt_block.specs.declared.block.Summaries.{Summaries}
+use Rattle.kt_block.specs.declared.terms.SummarySet.{SummarySet}
+use Rattle.kt_block.specs.declared.terms.Terms.{Terms}
 use Rattle.kt_alloc.specs.Insured.{layer_sums}
-use Rattle.kt_alloc.specs.declared.sums.LayerSum.{LayerSum}
+use Rattle.kt_block.specs.declared.layer_sum.LayerSum.{LayerSum}
 use Rattle.kt_rec.specs.Rows.{Rows}
 use Rattle.kt_rec.specs.declared.perspective.Perspective.{Perspective}
 use Rattle.kt_rec.specs.declared.perspective.Perspective.TheVariants.{Gul, Il, Ri}

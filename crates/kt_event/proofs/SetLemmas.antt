@@ -2,9 +2,10 @@
 use Rattle.std.proofs.Common.{◌≡◌, ℕ, List, ◌++◌, map, sym, ◌∙◌}
 use Rattle.std.specs.Prelude.{All}
 use Rattle.std.proofs.lemmas.List.Elements.{All-map, recursion_from_All}
-use Rattle.kt_event.specs.Losses.{AreSummaries, summaries_of}
-use Rattle.kt_event.specs.Terms.{summary_set}
-use Rattle.kt_event.specs.declared.block.Summaries.{Summaries}
+use Rattle.kt_event.specs.Losses.{summaries_of}
+use Rattle.kt_block.specs.Block.{AreSummaries}
+use Rattle.kt_block.specs.Terms.{summary_set}
+use Rattle.kt_block.specs.declared.block.Summaries.{Summaries}
 use Rattle.kt_rec.specs.ListLaws.{map-map}
 use Rattle.kt_rec.specs.Rows.{Rows}
 use Rattle.kt_rec.specs.declared.perspective.Perspective.{Perspective}

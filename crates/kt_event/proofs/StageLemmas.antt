@@ -3,7 +3,7 @@ use Rattle.std.proofs.Common.{◌≡◌, ℕ, zero, suc, ◌+◌, true, List, []
 use Rattle.std.specs.List.{AllByRecursion, range_with_len}
 use Rattle.kt_event.specs.Losses.{stage_trees}
 use Rattle.kt_event.specs.Plan.{kept_stages}
-use Rattle.kt_event.specs.Terms.{has_net}
+use Rattle.kt_block.specs.Terms.{has_net}
 use Rattle.kt_rec.specs.Rows.{Rows}
 use Rattle.kt_rec.specs.declared.perspective.Perspective.{Perspective}
 use Rattle.kt_rec.specs.declared.perspective.Perspective.TheVariants.{Gul, Il, Ri}

@@ -1,4 +1,3 @@
-pub mod Terms
 pub mod Needs
 pub mod Losses
 pub mod Plan

@@ -8,8 +8,8 @@ use Rattle.kt_rec.specs.declared.perspective.Perspective.TheVariants.{Gul, Il, R
 use Rattle.kt_rec.specs.declared.table.Table.{Table}
 use Rattle.kt_rec.specs.declared.table.Table.TheVariants as table
 use Rattle.kt_event.specs.Needs.{chain_need}
-use Rattle.kt_event.specs.Terms.{AreTerms, has_insured}
-use Rattle.kt_event.specs.declared.terms.Terms.{Terms}
+use Rattle.kt_block.specs.Terms.{AreTerms, has_insured}
+use Rattle.kt_block.specs.declared.terms.Terms.{Terms}
 
 -- what holds of each number of stages holds of all
 by_stages : (P : ℕ → Type 0) → P 0 → P 1 → P 2 → P 3 → P 4 → P 5 → P 6 → P 7 → P 8 → P 9 → (stages : ℕ) → stages ≤ 9 → P stages

@@ -1,10 +1,10 @@
 -- The losses of one event, stage after stage, and their summaries.
 -- The rules: docs/CALCULATION.md; docs/FINANCIAL_MODULE.md.
-use Rattle.std.specs.Prelude.{ℕ, All, List, [], map, Option, Some, None, Result, Ok, Err}
-use Rattle.std.specs.List.{AllByRecursion, range_with_len}
+use Rattle.std.specs.Prelude.{ℕ, List, [], map, Option, Some, None, Result, Ok, Err}
+use Rattle.std.specs.List.{range_with_len}
 use Rattle.kt_gul.specs.GroundUp.{ground_up_records}
 use Rattle.kt_alloc.specs.Insured.{insured_records, layer_sums}
-use Rattle.kt_alloc.specs.declared.sums.LayerSum.{LayerSum}
+use Rattle.kt_block.specs.declared.layer_sum.LayerSum.{LayerSum}
 use Rattle.kt_model.specs.Distribution.{distributions_of}
 use Rattle.kt_rec.specs.FootRows.{first_refused_row}
 use Rattle.kt_rec.specs.Rows.{Rows}
@@ -14,15 +14,14 @@ use Rattle.kt_rec.specs.declared.perspective.Perspective.{Perspective}
 use Rattle.kt_rec.specs.declared.perspective.Perspective.TheVariants.{Gul, Il, Ri}
 use Rattle.kt_ri.specs.Reinsurance.{reinsured}
 use Rattle.kt_stream.specs.declared.entry.LossRecord.{LossRecord}
-use Rattle.kt_stream.specs.Summary.{IsSummary}
 use Rattle.kt_sum.specs.Summaries.{run_summaries}
 use Rattle.kt_fmtree.specs.Programme.{tree_of}
 use Rattle.kt_fmtree.specs.Tree.{Tree}
-use Rattle.kt_event.specs.Terms.{run_sets}
-use Rattle.kt_event.specs.declared.block.EventBlock.{EventBlock}
-use Rattle.kt_event.specs.declared.block.Summaries.{Summaries}
-use Rattle.kt_event.specs.declared.terms.SummarySet.{SummarySet}
-use Rattle.kt_event.specs.declared.terms.Terms.{Terms}
+use Rattle.kt_block.specs.Terms.{run_sets}
+use Rattle.kt_block.specs.declared.block.EventBlock.{EventBlock}
+use Rattle.kt_block.specs.declared.block.Summaries.{Summaries}
+use Rattle.kt_block.specs.declared.terms.SummarySet.{SummarySet}
+use Rattle.kt_block.specs.declared.terms.Terms.{Terms}
 
 -- the ground-up losses of an event with these footprint rows: those of its distributions
 abbrev pub ground_up_of : Terms → Rows → ℕ → List FootRow → List LossRecord
@@ -80,7 +79,3 @@ block_unless (Some stop) block = Err stop
 -- what an event gives with these footprint rows, or the first of them that is refused
 abbrev pub event_result : Terms → Rows → ℕ → List FootRow → Result EventBlock ModelStop
 event_result terms rows event foot = block_unless (first_refused_row foot) (event_block_of terms rows event foot)
-
--- the records of each set are records of a stream with so many samples
-abbrev pub AreSummaries : ℕ → List Summaries → Type 0
-AreSummaries samples summaries = AllByRecursion (λ one. All (IsSummary samples) one.records) summaries

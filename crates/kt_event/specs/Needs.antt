@@ -9,8 +9,8 @@ use Rattle.kt_rec.specs.declared.table.Table.{Table}
 use Rattle.kt_rec.specs.declared.table.Table.TheVariants as table
 use Rattle.kt_rec.specs.declared.table.TableId.{TableId}
 use Rattle.kt_rec.specs.declared.table_set.TableSet.{TableSet}
-use Rattle.kt_event.specs.Terms.{has_net}
-use Rattle.kt_event.specs.declared.terms.Terms.{Terms}
+use Rattle.kt_block.specs.Terms.{has_net}
+use Rattle.kt_block.specs.declared.terms.Terms.{Terms}
 
 -- a table of the base, at 0, or of a stage
 abbrev pub table_at : ℕ → Table → TableId

@@ -13,10 +13,10 @@ use Rattle.kt_tables.specs.Portfolio.{PortfolioRows}
 use Rattle.kt_fmtree.specs.Programme.{tree_of}
 use Rattle.kt_event.specs.Losses.{stage_trees}
 use Rattle.kt_event.specs.Needs.{chain_need}
-use Rattle.kt_event.specs.Terms.{AreTerms}
+use Rattle.kt_block.specs.Terms.{AreTerms}
 use Rattle.kt_event.specs.declared.plan.Base.{Base}
 use Rattle.kt_event.specs.declared.plan.Plan.{Plan}
-use Rattle.kt_event.specs.declared.terms.Terms.{Terms}
+use Rattle.kt_block.specs.declared.terms.Terms.{Terms}
 
 -- the structure of the base's programme and its outputs
 pub record IsBase (rows : Rows) (base : Base) : Type 0 where

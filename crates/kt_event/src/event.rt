@@ -8,18 +8,17 @@ ghost use Rattle.kt_rec.specs.declared.foot_rows.ModelStop.TheVariants.{OutOfMem
 ghost use Rattle.kt_runs.specs.RunLosses.{AreWithin, run_loss};
 ghost use Rattle.kt_stream.specs.Losses.{IsLoss};
 ghost use Rattle.kt_stream.specs.Pairs.{IsId};
-ghost use Rattle.kt_event.specs.Losses.{AreSummaries, block_of_losses, event_result, ground_up_of, insured_of, layers_up_to, set_summaries, summaries_of};
+ghost use Rattle.kt_event.specs.Losses.{block_of_losses, event_result, ground_up_of, insured_of, layers_up_to, set_summaries, summaries_of};
+ghost use Rattle.kt_block.specs.Block.{AreSummaries};
 ghost use Rattle.kt_event.specs.Plan.{IsBase, IsOrMemory, IsPlan, terms_of};
-ghost use Rattle.kt_event.specs.Terms.{AreTerms, has_insured, has_net, net_sets, output_perspectives, sets_of};
+ghost use Rattle.kt_block.specs.Terms.{AreTerms, has_insured, has_net, net_sets, output_perspectives, sets_of};
 ghost use Rattle.kt_alloc.specs.Insured.{insured_records, layer_sums};
 ghost use Rattle.kt_fmtree.specs.Programme.{tree_of};
 
-use crate::block::{EventBlock, Summaries};
 use crate::plan::{Base, Plan};
-use crate::sets::set_numbers;
-use crate::terms::Terms;
 use kt_alloc::laws::insured_losses_are_within;
 use kt_alloc::{InsuredLanes, LayerSum, insured_lanes};
+use kt_block::{EventBlock, Summaries, Terms, set_numbers};
 use kt_gul::ground_up_lanes;
 use kt_gul::laws::ground_up_losses_are_within;
 use kt_model::distributions;

@@ -2,9 +2,9 @@
 //! The rules: docs/COMMANDS.md, "chain".
 ghost use Rattle.std.specs.Prelude.{◌≡◌, ◌≤◌};
 ghost use Rattle.kt_event.specs.Needs.{chain_need as need_of_terms, chain_tables as tables_up_to, ground_up_tables, insured_tables, programme_tables, with_stages as set_with_stages, with_tables as set_with_tables};
-ghost use Rattle.kt_event.specs.Terms.{AreTerms};
+ghost use Rattle.kt_block.specs.Terms.{AreTerms};
 
-use crate::terms::Terms;
+use kt_block::Terms;
 use kt_checks::Need;
 use kt_rec::{Perspective, Table, TableId, TableSet};
 

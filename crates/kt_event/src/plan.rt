@@ -7,10 +7,10 @@ ghost use Rattle.kt_ri.specs.Stages.{AreStages};
 ghost use Rattle.kt_event.specs.Losses.{stage_trees};
 ghost use Rattle.kt_event.specs.Needs.{chain_need};
 ghost use Rattle.kt_event.specs.Plan.{HasBase, IsBase, IsPlan, kept_stages, terms_of};
-ghost use Rattle.kt_event.specs.Terms.{AreTerms};
+ghost use Rattle.kt_block.specs.Terms.{AreTerms};
 
-use crate::terms::Terms;
 use kt_alloc::OutputIndex;
+use kt_block::Terms;
 use kt_rec::Perspective;
 use kt_ri::stage_of;
 use kt_structure::Structure;

@@ -1,6 +1,5 @@
 //! The types of this crate may be sent to threads and shared by them.
 //! The rule: docs/ARCHITECTURE.md, "What threads share".
-use crate::block::EventBlock;
 use crate::plan::Plan;
 use kt_rec::ModelStop;
 
@@ -8,8 +7,7 @@ use kt_rec::ModelStop;
 fn is_shared<T: Send + Sync>(_: &T) {}
 
 /// Each type once.
-pub(crate) fn are_shared(plan: &Plan, block: &EventBlock, stop: &ModelStop) {
+pub(crate) fn are_shared(plan: &Plan, stop: &ModelStop) {
     is_shared(plan);
-    is_shared(block);
     is_shared(stop);
 }

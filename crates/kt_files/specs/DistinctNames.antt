@@ -8,8 +8,8 @@ use Rattle.std.proofs.lemmas.Bool.{false≢true}
 use Rattle.kt_rec.specs.Rows.{Rows}
 use Rattle.kt_rec.specs.declared.perspective.Perspective.{Perspective}
 use Rattle.kt_rec.specs.declared.perspective.Perspective.TheVariants.{Gul, Il, Ri}
-use Rattle.kt_event.specs.Terms.{perspectives, run_sets, sets_of, summary_set}
-use Rattle.kt_event.specs.declared.terms.SummarySet.{SummarySet}
+use Rattle.kt_block.specs.Terms.{perspectives, run_sets, sets_of, summary_set}
+use Rattle.kt_block.specs.declared.terms.SummarySet.{SummarySet}
 use Rattle.kt_files.specs.OutputFiles.{files_of, layer_files, output_files, output_name, set_files}
 use Rattle.kt_files.specs.Sublists.{IsSublist, none, left_out, kept, nothing_of, all_of, parts_joined, those_that_pass, images, lists_of}
 use Rattle.kt_files.specs.declared.file.OutputFile.{OutputFile}

@@ -4,7 +4,7 @@ use Rattle.std.proofs.Common.{refl}
 use Rattle.std.specs.Prelude.{◌≡◌, [], ◌∷◌, ◌++◌, codes}
 use Rattle.std.specs.Fmt.{digits}
 use Rattle.kt_money.specs.NumberText.{padded_digits, plain}
-use Rattle.kt_event.specs.Terms.{summary_set}
+use Rattle.kt_block.specs.Terms.{summary_set}
 use Rattle.kt_files.specs.OutputFiles.{output_name}
 use Rattle.kt_files.specs.Parts.{layer_row}
 use Rattle.kt_files.specs.declared.file.OutputFile.TheVariants.{OfSet, Layers}

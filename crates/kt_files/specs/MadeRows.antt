@@ -2,7 +2,7 @@
 -- The rules: docs/OUTPUTS.md, "Files of a run".
 use Rattle.std.specs.Prelude.{◌≡◌, ℕ, List, All}
 use Rattle.std.specs.List.{flat_map}
-use Rattle.kt_event.specs.declared.block.EventBlock.{EventBlock}
+use Rattle.kt_block.specs.declared.block.EventBlock.{EventBlock}
 use Rattle.kt_files.specs.Parts.{block_text}
 use Rattle.kt_files.specs.declared.made.FileRows.{FileRows}
 use Rattle.kt_rec.specs.Rows.{Rows}

@@ -7,8 +7,8 @@ use Rattle.kt_rec.specs.declared.curve.Curve.{Curve}
 use Rattle.kt_rec.specs.declared.curve.Curve.TheVariants.{FullAep, FullOep, SampleAep, SampleOep, WheatAep, WheatOep, WheatmeanAep, WheatmeanOep}
 use Rattle.kt_rec.specs.declared.perspective.Perspective.{Perspective}
 use Rattle.kt_rec.specs.declared.perspective.Perspective.TheVariants.{Gul, Il, Ri}
-use Rattle.kt_event.specs.Terms.{run_sets}
-use Rattle.kt_event.specs.declared.terms.SummarySet.{SummarySet}
+use Rattle.kt_block.specs.Terms.{run_sets}
+use Rattle.kt_block.specs.declared.terms.SummarySet.{SummarySet}
 use Rattle.kt_files.specs.declared.file.OutputFile.{OutputFile}
 use Rattle.kt_files.specs.declared.file.OutputFile.TheVariants.{OfSet, Layers}
 use Rattle.kt_files.specs.declared.file.SetTable.{SetTable}

@@ -7,10 +7,10 @@ use Rattle.kt_curve.specs.Exceedance.{lec_heading_text, by_sidx, exceedance_rows
 use Rattle.kt_period_cells.specs.Losses.{Added, all_losses, same_perspective}
 use Rattle.kt_elt.specs.EventLoss.{elt_heading_text, event_loss_rows, table_line}
 use Rattle.kt_elt.specs.PeriodLoss.{plt_heading_text, period_losses}
-use Rattle.kt_event.specs.declared.block.EventBlock.{EventBlock}
-use Rattle.kt_event.specs.declared.block.Summaries.{Summaries}
-use Rattle.kt_event.specs.declared.terms.SummarySet.{SummarySet}
-use Rattle.kt_alloc.specs.declared.sums.LayerSum.{LayerSum}
+use Rattle.kt_block.specs.declared.block.EventBlock.{EventBlock}
+use Rattle.kt_block.specs.declared.block.Summaries.{Summaries}
+use Rattle.kt_block.specs.declared.terms.SummarySet.{SummarySet}
+use Rattle.kt_block.specs.declared.layer_sum.LayerSum.{LayerSum}
 use Rattle.kt_money.specs.NumberText.{count_text, money_text}
 use Rattle.kt_rec.specs.Rows.{Rows}
 use Rattle.kt_stream.specs.declared.entry.SummaryRecord.{SummaryRecord}

@@ -3,7 +3,7 @@
 ghost use Rattle.std.specs.Prelude.{◌≡◌, ◌++◌, ◌≤◌, All, OnOk, OnErr};
 ghost use Rattle.std.specs.List.{flat_map};
 ghost use Rattle.kt_period_cells.specs.Losses.{same_perspective};
-ghost use Rattle.kt_event.specs.Losses.{AreSummaries};
+ghost use Rattle.kt_block.specs.Block.{AreSummaries};
 ghost use Rattle.kt_files.specs.Parts.{block_text, is_of_set, record_rows, records_of_set};
 ghost use Rattle.kt_files.specs.declared.file.SetTable.TheVariants.{EventLoss, PeriodLoss};
 ghost use Rattle.kt_stream.specs.Summary.{IsSummary};
@@ -11,8 +11,8 @@ ghost use Rattle.kt_stream.specs.Write.{BeginsWith};
 
 use crate::file::{OutputFile, SetTable};
 use crate::layers::push_layers;
+use kt_block::{EventBlock, Summaries, SummarySet};
 use kt_elt::{elt_text, plt_record_text};
-use kt_event::{EventBlock, Summaries, SummarySet};
 use kt_money::{Bytes, OutOfMemory};
 use kt_rec::Perspective;
 use kt_stream::SummaryRecord;

@@ -7,8 +7,8 @@ ghost use Rattle.kt_period_cells.specs.Standing.{KeptCells};
 ghost use Rattle.kt_tables.specs.Lookups.{return_periods_of};
 
 use crate::sets::run_sets;
+use kt_block::SummarySet;
 use kt_curve::SetCurves;
-use kt_event::SummarySet;
 use kt_money::OutOfMemory;
 use kt_outputs::{calls_beside, claim};
 use kt_period_cells::Cells;

@@ -12,8 +12,8 @@ ghost use Rattle.kt_tables.specs.Lookups.{return_periods_of};
 
 use crate::curves::{curves_of, find};
 use crate::file::{OutputFile, SetTable};
+use kt_block::SummarySet;
 use kt_curve::{SetCurves, takes_maxima};
-use kt_event::SummarySet;
 use kt_money::{Bytes, OutOfMemory};
 use kt_outputs::Texts;
 use kt_period_cells::Cells;

@@ -3,12 +3,12 @@
 
 ghost use Rattle.std.specs.Prelude.{◌≡◌, ◌++◌, ℕ, List, [], false};
 ghost use Rattle.std.specs.List.{flat_map};
-ghost use Rattle.kt_event.specs.declared.block.EventBlock.{EventBlock};
+ghost use Rattle.kt_block.specs.declared.block.EventBlock.{EventBlock};
 ghost use Rattle.kt_files.specs.Parts.{block_text, record_rows};
 ghost use Rattle.kt_rec.specs.Rows.{Rows};
 ghost use Rattle.kt_stream.specs.declared.entry.SummaryRecord.{SummaryRecord};
 
-use kt_event::SummarySet;
+use kt_block::SummarySet;
 use kt_rec::Curve;
 
 /// A table of a summary set.

@@ -5,7 +5,7 @@ ghost use Rattle.std.specs.List.{flat_map};
 ghost use Rattle.kt_files.specs.Parts.{layer_row, layers_heading_text};
 ghost use Rattle.kt_stream.specs.Write.{BeginsWith};
 
-use kt_alloc::LayerSum;
+use kt_block::LayerSum;
 use kt_money::{Bytes, OutOfMemory, Row};
 
 /// The first line of the table of the layers, with its LF: the names of the columns.

@@ -7,7 +7,7 @@ ghost use Rattle.kt_files.specs.declared.file.OutputFile.TheVariants.{OfSet};
 
 use crate::file::{OutputFile, SetTable};
 use crate::sets::run_sets;
-use kt_event::SummarySet;
+use kt_block::SummarySet;
 use kt_rec::{Curve, Perspective};
 use kt_tables::Portfolio;
 use std::alloc::{AllocError, Global};

@@ -2,8 +2,8 @@
 //! The rules: docs/OUTPUTS.md, "Files of a run".
 ghost use Rattle.std.specs.Prelude.{◌≡◌, ◌++◌, ◌≤◌, ℕ, List, IfOk, IfSome, OnOk, OnErr, true};
 ghost use Rattle.std.specs.List.{AllByRecursion, flat_map};
-ghost use Rattle.kt_event.specs.Losses.{AreSummaries};
-ghost use Rattle.kt_event.specs.declared.block.EventBlock.{EventBlock};
+ghost use Rattle.kt_block.specs.Block.{AreSummaries};
+ghost use Rattle.kt_block.specs.declared.block.EventBlock.{EventBlock};
 ghost use Rattle.kt_files.specs.MadeRows.{AreRowsOf};
 ghost use Rattle.kt_files.specs.Parts.{block_text};
 ghost use Rattle.kt_rec.specs.Rows.{Rows};
@@ -11,7 +11,7 @@ ghost use Rattle.kt_stream.specs.Write.{BeginsWith};
 
 use crate::blocks::{is_same, push_block};
 use crate::file::{OutputFile, SetTable};
-use kt_event::{EventBlock, SummarySet};
+use kt_block::{EventBlock, SummarySet};
 use kt_money::{Bytes, OutOfMemory};
 use kt_stream::Records;
 use kt_tables::Portfolio;

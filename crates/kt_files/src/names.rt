@@ -6,7 +6,7 @@ ghost use Rattle.kt_files.specs.declared.file.OutputFile.TheVariants.{OfSet};
 ghost use Rattle.kt_stream.specs.Write.{BeginsWith};
 
 use crate::file::{OutputFile, SetTable};
-use kt_event::SummarySet;
+use kt_block::SummarySet;
 use kt_outputs::Named;
 use kt_rec::{Curve, Name, Perspective};
 use std::alloc::AllocError;

@@ -2,9 +2,9 @@
 //! The rules: docs/COMMANDS.md, "chain".
 ghost use Rattle.std.specs.Prelude.{◌≡◌, ◌++◌, map, IfOk, OnOk};
 ghost use Rattle.std.specs.List.{flat_map};
-ghost use Rattle.kt_event.specs.Terms.{output_perspectives, run_sets, sets_of, summary_set};
+ghost use Rattle.kt_block.specs.Terms.{output_perspectives, run_sets, sets_of, summary_set};
 
-use kt_event::{SummarySet, set_numbers};
+use kt_block::{SummarySet, set_numbers};
 use kt_rec::Perspective;
 use kt_tables::Portfolio;
 use std::alloc::{AllocError, Global};

@@ -11,7 +11,7 @@ use Rattle.kt_period_cells.proofs.Walks.{all_losses_push, first_stop_append, nei
 use Rattle.kt_period_cells.specs.declared.cell.CellStop.{CellStop}
 use Rattle.kt_period_cells.specs.declared.cell.CellStop.TheVariants as cell_stop
 use Rattle.kt_ends.specs.declared.status.Refusal.{Refusal}
-use Rattle.kt_event.specs.declared.block.Summaries.{Summaries}
+use Rattle.kt_block.specs.declared.block.Summaries.{Summaries}
 use Rattle.kt_periods.specs.Adding.{cell_refusal, first_refusal, refusal_of}
 use Rattle.kt_rec.specs.Rows.{Rows}
 use Rattle.kt_rec.specs.declared.periods.Occurrence.{Occurrence}

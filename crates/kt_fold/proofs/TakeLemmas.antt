@@ -5,7 +5,7 @@ use Rattle.kt_period_cells.specs.Losses.{Added}
 use Rattle.kt_period_cells.specs.Standing.{KeptCells, StandsFor}
 use Rattle.kt_ends.specs.declared.status.Refusal.{Refusal}
 use Rattle.kt_ends.specs.declared.status.Refusal.TheVariants as refusal
-use Rattle.kt_event.specs.declared.block.EventBlock.{EventBlock}
+use Rattle.kt_block.specs.declared.block.EventBlock.{EventBlock}
 use Rattle.kt_part.specs.Folding.{Takes}
 use Rattle.kt_periods.specs.Adding.{first_refusal}
 use Rattle.kt_rec.specs.Rows.{Rows}

@@ -3,8 +3,8 @@
 use Rattle.std.specs.Prelude.{List, map}
 use Rattle.std.specs.List.{flat_map}
 use Rattle.kt_period_cells.specs.Losses.{Added}
-use Rattle.kt_event.specs.declared.block.EventBlock.{EventBlock}
-use Rattle.kt_event.specs.declared.block.Summaries.{Summaries}
+use Rattle.kt_block.specs.declared.block.EventBlock.{EventBlock}
+use Rattle.kt_block.specs.declared.block.Summaries.{Summaries}
 use Rattle.kt_rec.specs.Rows.{Rows}
 use Rattle.kt_stream.specs.declared.entry.SummaryRecord.{SummaryRecord}
 use Rattle.kt_tables.specs.Lookups.{occurrences_of}

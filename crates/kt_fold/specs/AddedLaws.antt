@@ -5,7 +5,7 @@ use Rattle.std.specs.Option.{option_or}
 use Rattle.std.proofs.lemmas.Grind.{flat_map-append}
 use Rattle.kt_period_cells.specs.Losses.{Added}
 use Rattle.kt_ends.specs.declared.status.Refusal.{Refusal}
-use Rattle.kt_event.specs.declared.block.EventBlock.{EventBlock}
+use Rattle.kt_block.specs.declared.block.EventBlock.{EventBlock}
 use Rattle.kt_periods.specs.Adding.{first_refusal, record_refusal}
 use Rattle.kt_rec.specs.Rows.{Rows}
 use Rattle.kt_fold.specs.Added.{block_added, blocks_added}

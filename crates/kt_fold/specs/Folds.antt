@@ -6,8 +6,8 @@ use Rattle.kt_period_cells.specs.Losses.{Added}
 use Rattle.kt_period_cells.specs.Standing.{KeptCells, StandsFor}
 use Rattle.kt_ends.specs.declared.status.Refusal.{Refusal}
 use Rattle.kt_ends.specs.declared.status.Refusal.TheVariants as refusal
-use Rattle.kt_event.specs.Losses.{AreSummaries}
-use Rattle.kt_event.specs.declared.block.EventBlock.{EventBlock}
+use Rattle.kt_block.specs.Block.{AreSummaries}
+use Rattle.kt_block.specs.declared.block.EventBlock.{EventBlock}
 use Rattle.kt_periods.specs.Adding.{first_refusal}
 use Rattle.kt_rec.specs.Rows.{Rows}
 use Rattle.kt_fold.specs.Added.{block_added, blocks_added}

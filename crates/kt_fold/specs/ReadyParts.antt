@@ -1,7 +1,7 @@
 -- Ready cells of the blocks of a part.
 -- The rules: docs/ARCHITECTURE.md, "A run of all stages".
 use Rattle.std.specs.Prelude.{◌≡◌, All, List, [], ◌∷◌, Option, Some, None}
-use Rattle.kt_event.specs.declared.block.EventBlock.{EventBlock}
+use Rattle.kt_block.specs.declared.block.EventBlock.{EventBlock}
 use Rattle.kt_period_cells.specs.Standing.{StandsFor}
 use Rattle.kt_rec.specs.Rows.{Rows}
 use Rattle.kt_tables.specs.Lookups.{occurrences_of}

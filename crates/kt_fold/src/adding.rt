@@ -4,7 +4,7 @@ ghost use Rattle.std.specs.Prelude.{◌≡◌, List, All, true};
 ghost use Rattle.kt_period_cells.specs.Journal.{TakesOver};
 ghost use Rattle.kt_period_cells.specs.Losses.{Added};
 ghost use Rattle.kt_period_cells.specs.Standing.{StandsFor};
-ghost use Rattle.kt_event.specs.Losses.{AreSummaries};
+ghost use Rattle.kt_block.specs.Block.{AreSummaries};
 ghost use Rattle.kt_stream.specs.Summary.{IsSummary};
 ghost use Rattle.kt_tables.specs.Portfolio.{KeepsPeriods};
 ghost use Rattle.kt_fold.specs.Added.{block_added, summaries_added};

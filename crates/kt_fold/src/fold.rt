@@ -4,7 +4,7 @@ ghost use Rattle.std.specs.Prelude.{◌≡◌, ◌≤◌, [], List, All, IfErr, 
 ghost use Rattle.std.specs.List.{AllByRecursion};
 ghost use Rattle.kt_period_cells.specs.Losses.{Added};
 ghost use Rattle.kt_period_cells.specs.Standing.{StandsFor};
-ghost use Rattle.kt_event.specs.Losses.{AreSummaries};
+ghost use Rattle.kt_block.specs.Block.{AreSummaries};
 ghost use Rattle.kt_tables.specs.Portfolio.{KeepsPeriods};
 ghost use Rattle.kt_fold.specs.FoldKeeps.{KeepsFront, KeepsWhole};
 ghost use Rattle.kt_fold.specs.ReadyParts.{AreReadyBlocks};

@@ -2,7 +2,7 @@
 //! The rules: docs/ARCHITECTURE.md, "A run of all stages".
 ghost use Rattle.std.specs.Prelude.{◌≡◌, ◌≤◌, All, IfOk, true};
 ghost use Rattle.std.specs.List.{AllByRecursion};
-ghost use Rattle.kt_event.specs.Losses.{AreSummaries};
+ghost use Rattle.kt_block.specs.Block.{AreSummaries};
 ghost use Rattle.kt_keys.specs.Refusals.{is_loaded};
 ghost use Rattle.kt_rec.specs.declared.table.Table.TheVariants as table;
 ghost use Rattle.kt_fold.specs.ReadyParts.{AreReadyBlocks, IsOfEvent, IsReadyBlock};

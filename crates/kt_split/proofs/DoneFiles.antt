@@ -4,9 +4,9 @@ use Rattle.kt_chain.specs.Events.{run_input}
 use Rattle.kt_chain.specs.SetRecords.{set_records}
 use Rattle.kt_chain.specs.SetRecords.{file_table, stream_gives_file}
 use Rattle.kt_ends.specs.declared.status.Status.TheVariants.{Done}
-use Rattle.kt_event.specs.Terms.{AreTerms}
-use Rattle.kt_event.specs.declared.terms.SummarySet.{SummarySet}
-use Rattle.kt_event.specs.declared.terms.Terms.{Terms}
+use Rattle.kt_block.specs.Terms.{AreTerms}
+use Rattle.kt_block.specs.declared.terms.SummarySet.{SummarySet}
+use Rattle.kt_block.specs.declared.terms.Terms.{Terms}
 use Rattle.kt_loop.specs.Outcome.{gives}
 use Rattle.kt_out.specs.NamedFiles.{FileMap}
 use Rattle.kt_periods.specs.PeriodTables.{contents_outcome}

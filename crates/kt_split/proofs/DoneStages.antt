@@ -1,8 +1,8 @@
 -- The stages of a run of all stages that is done have the premises of a split run.
 use Rattle.std.proofs.Common.{◌≡◌, ◌≤◌, ◌+◌, ℕ, zero, suc, true, false, List, [], ◌∷◌, ◌++◌, map, refl, sym, arith, ne_eqb}
 use Rattle.std.specs.List.{AllByRecursion, range_with_len}
-use Rattle.kt_event.specs.Terms.{AreTerms, has_insured, has_net}
-use Rattle.kt_event.specs.declared.terms.Terms.{Terms}
+use Rattle.kt_block.specs.Terms.{AreTerms, has_insured, has_net}
+use Rattle.kt_block.specs.declared.terms.Terms.{Terms}
 use Rattle.kt_loop.specs.ListLaws.{all_joined}
 use Rattle.kt_out.specs.NamedFiles.{FileMap}
 use Rattle.kt_rec.specs.Rows.{Rows}

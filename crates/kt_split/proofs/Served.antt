@@ -8,8 +8,8 @@ use Rattle.kt_chain.specs.Outcome.{chain_outcome}
 use Rattle.kt_checks.specs.Checks.{samples_refusal}
 use Rattle.kt_ends.specs.declared.status.Status.TheVariants.{Done}
 use Rattle.kt_event.specs.Needs.{chain_need}
-use Rattle.kt_event.specs.Terms.{AreTerms}
-use Rattle.kt_event.specs.declared.terms.Terms.{Terms}
+use Rattle.kt_block.specs.Terms.{AreTerms}
+use Rattle.kt_block.specs.declared.terms.Terms.{Terms}
 use Rattle.kt_keys.specs.Refusals.{is_loaded}
 use Rattle.kt_keys.specs.declared.need.Need.{Need}
 use Rattle.kt_load.specs.EventRows.{event_rows}

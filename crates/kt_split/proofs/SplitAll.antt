@@ -3,8 +3,8 @@ use Rattle.std.proofs.Common.{◌≡◌, ◌≤◌, ℕ, zero, suc, ℤ, Bool, t
 use Rattle.std.specs.List.{AllByRecursion, IsDistinct, range_with_len}
 use Rattle.std.proofs.lemmas.List.Elements.{All-from_recursion}
 use Rattle.kt_eve.specs.Laws.{PartsMakeTheEvents}
-use Rattle.kt_event.specs.Terms.{AreTerms}
-use Rattle.kt_event.specs.declared.terms.Terms.{Terms}
+use Rattle.kt_block.specs.Terms.{AreTerms}
+use Rattle.kt_block.specs.declared.terms.Terms.{Terms}
 use Rattle.kt_loop.specs.ListLaws.{all_back, all_by, all_front}
 use Rattle.kt_losses.specs.Judged.{is_known}
 use Rattle.kt_out.specs.NamedFiles.{FileMap}

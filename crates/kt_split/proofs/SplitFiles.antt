@@ -7,8 +7,8 @@ use Rattle.kt_elt.specs.PeriodLoss.{period_losses, plt_heading_text}
 use Rattle.kt_ends.specs.Outcome.{Outcome}
 use Rattle.kt_ends.specs.declared.status.Status.TheVariants.{Done}
 use Rattle.kt_eve.specs.Laws.{PartsMakeTheEvents}
-use Rattle.kt_event.specs.declared.terms.SummarySet.{SummarySet}
-use Rattle.kt_event.specs.declared.terms.Terms.{Terms}
+use Rattle.kt_block.specs.declared.terms.SummarySet.{SummarySet}
+use Rattle.kt_block.specs.declared.terms.Terms.{Terms}
 use Rattle.kt_kat.specs.Outcome.{kat_outcome}
 use Rattle.kt_loop.specs.Contents.{Contents}
 use Rattle.kt_loop.specs.EventStreams.{stream_bytes, stretch_is_read, whole_contents}

@@ -1,7 +1,7 @@
 -- The laws of split runs.
 use Rattle.std.proofs.Common.{◌≡◌, ◌≤◌, ◌≢◌, ℕ, true, List, [], ◌∷◌, ◌++◌}
-use Rattle.kt_event.specs.Terms.{run_sets, summary_set}
-use Rattle.kt_event.specs.declared.terms.Terms.{Terms}
+use Rattle.kt_block.specs.Terms.{run_sets, summary_set}
+use Rattle.kt_block.specs.declared.terms.Terms.{Terms}
 use Rattle.kt_out.specs.NamedFiles.{FileMap}
 use Rattle.kt_rec.specs.Rows.{Rows}
 use Rattle.kt_rec.specs.declared.perspective.Perspective.TheVariants.{Gul, Il, Ri}

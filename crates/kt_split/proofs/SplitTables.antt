@@ -9,9 +9,9 @@ use Rattle.kt_period_cells.specs.Losses.{same_perspective}
 use Rattle.kt_elt.specs.EventLoss.{elt_heading_text, event_loss_rows}
 use Rattle.kt_elt.specs.PeriodLoss.{period_losses, plt_heading_text}
 use Rattle.kt_event.specs.Losses.{ground_up_of, insured_of, net_of, set_summaries}
-use Rattle.kt_event.specs.Terms.{run_sets, summary_set}
-use Rattle.kt_event.specs.declared.terms.SummarySet.{SummarySet}
-use Rattle.kt_event.specs.declared.terms.Terms.{Terms}
+use Rattle.kt_block.specs.Terms.{run_sets, summary_set}
+use Rattle.kt_block.specs.declared.terms.SummarySet.{SummarySet}
+use Rattle.kt_block.specs.declared.terms.Terms.{Terms}
 use Rattle.kt_files.specs.Parts.{records_of_set}
 use Rattle.kt_files.specs.declared.file.OutputFile.TheVariants.{OfSet}
 use Rattle.kt_files.specs.declared.file.SetTable.TheVariants.{EventLoss, PeriodLoss}

@@ -9,8 +9,8 @@ use Rattle.kt_chain.specs.Outcome.{chain_outcome}
 use Rattle.kt_ends.specs.Stops.{stop_status}
 use Rattle.kt_ends.specs.declared.status.Status.TheVariants.{Done}
 use Rattle.kt_event.specs.Needs.{chain_need}
-use Rattle.kt_event.specs.Terms.{AreTerms}
-use Rattle.kt_event.specs.declared.terms.Terms.{Terms}
+use Rattle.kt_block.specs.Terms.{AreTerms}
+use Rattle.kt_block.specs.declared.terms.Terms.{Terms}
 use Rattle.kt_load.specs.Loaded.{loaded}
 use Rattle.kt_load.specs.declared.stop.LoadStop.{LoadStop}
 use Rattle.kt_load.specs.declared.stop.LoadStop.TheVariants as load

@@ -3,8 +3,8 @@
 use Rattle.std.specs.Prelude.{◌≡◌, ◌≤◌, ℕ, true, List, []}
 use Rattle.std.specs.List.{range_with_len}
 use Rattle.kt_ends.specs.declared.status.Status.TheVariants.{Done}
-use Rattle.kt_event.specs.declared.terms.SummarySet.{SummarySet}
-use Rattle.kt_event.specs.declared.terms.Terms.{Terms}
+use Rattle.kt_block.specs.declared.terms.SummarySet.{SummarySet}
+use Rattle.kt_block.specs.declared.terms.Terms.{Terms}
 use Rattle.kt_files.specs.declared.file.SetTable.TheVariants.{AverageAnnualLoss, EventLoss, ExceedanceCurve, PeriodLoss}
 use Rattle.kt_kat.specs.Outcome.{kat_outcome}
 use Rattle.kt_loop.specs.Outcome.{gives}

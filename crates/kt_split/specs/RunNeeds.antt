@@ -6,8 +6,8 @@ use Rattle.std.proofs.Common.{sym, subst, ap, ◌∙◌, arith, inl, inr}
 use Rattle.std.proofs.lemmas.Bool.{cases_eq, ne_eqb}
 use Rattle.std.proofs.lemmas.List.{get_or-set_same, length-set}
 use Rattle.kt_event.specs.Needs.{chain_need, chain_tables, insured_tables, programme_tables as stage_tables, with_stages, with_tables}
-use Rattle.kt_event.specs.Terms.{AreTerms, has_insured, has_net}
-use Rattle.kt_event.specs.declared.terms.Terms.{Terms}
+use Rattle.kt_block.specs.Terms.{AreTerms, has_insured, has_net}
+use Rattle.kt_block.specs.declared.terms.Terms.{Terms}
 use Rattle.kt_keys.specs.Refusals.{is_loaded}
 use Rattle.kt_keys.specs.declared.need.Need.{Need}
 use Rattle.kt_load.specs.FileNames.{table_at}

@@ -4,8 +4,8 @@ use Rattle.std.specs.Prelude.{◌≡◌, ◌≤◌, ◌*◌, ◌+◌, ◌^◌, �
 use Rattle.std.specs.List.{IsDistinct}
 use Rattle.std.specs.List.Sorted.{IsStrictlyIncreasing}
 use Rattle.kt_eve.specs.Laws.{PartsMakeTheEvents}
-use Rattle.kt_event.specs.Terms.{AreTerms}
-use Rattle.kt_event.specs.declared.terms.Terms.{Terms}
+use Rattle.kt_block.specs.Terms.{AreTerms}
+use Rattle.kt_block.specs.declared.terms.Terms.{Terms}
 use Rattle.kt_gul.specs.GroundUp.{ground_up_records}
 use Rattle.kt_gul.specs.StruckItems.{AreCdfs}
 use Rattle.kt_alloc.specs.Insured.{insured_records}

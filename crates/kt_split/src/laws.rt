@@ -3,8 +3,8 @@
 //! The rules: docs/COMMANDS.md, "Split runs".
 ghost use Rattle.std.specs.Prelude.{◌≡◌, ◌≤◌, ◌++◌, ℕ, true, List, [], ◌∷◌, Ok};
 ghost use Rattle.kt_event.specs.Needs.{chain_need};
-ghost use Rattle.kt_event.specs.Terms.{AreTerms, has_insured, has_net, run_sets, summary_set};
-ghost use Rattle.kt_event.specs.declared.terms.Terms.{Terms};
+ghost use Rattle.kt_block.specs.Terms.{AreTerms, has_insured, has_net, run_sets, summary_set};
+ghost use Rattle.kt_block.specs.declared.terms.Terms.{Terms};
 ghost use Rattle.kt_load.specs.Loaded.{loaded};
 ghost use Rattle.kt_out.specs.NamedFiles.{FileMap};
 ghost use Rattle.kt_rec.specs.Rows.{Rows};

@@ -3,8 +3,8 @@
 ghost use Rattle.std.specs.Prelude.{◌≡◌, ◌<◌, ℕ, Bool, true, List, Ok, Some, IfSome};
 ghost use Rattle.kt_ends.specs.declared.status.Status.TheVariants.{Done};
 ghost use Rattle.kt_event.specs.Needs.{chain_need};
-ghost use Rattle.kt_event.specs.Terms.{AreTerms};
-ghost use Rattle.kt_event.specs.declared.terms.Terms.{Terms};
+ghost use Rattle.kt_block.specs.Terms.{AreTerms};
+ghost use Rattle.kt_block.specs.declared.terms.Terms.{Terms};
 ghost use Rattle.kt_gul.specs.GroundUp.{ground_up_records};
 ghost use Rattle.kt_alloc.specs.Insured.{insured_records};
 ghost use Rattle.kt_keys.specs.Refusals.{is_loaded};

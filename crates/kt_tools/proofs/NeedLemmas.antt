@@ -2,7 +2,7 @@
 use Rattle.std.proofs.Common.{◌≡◌, ◌≢◌, ◌∙◌, ◌<◌, ℕ, zero, suc, Bool, true, false, List, [], ◌∷◌, Option, Some, refl, sym, ap, subst, arith}
 use Rattle.std.specs.Prelude.{IfSome, slice_index_or, slice_set}
 use Rattle.kt_event.specs.Needs.{chain_need, chain_tables, programme_tables, with_stages, with_tables}
-use Rattle.kt_event.specs.Terms.{AreTerms, has_net}
+use Rattle.kt_block.specs.Terms.{AreTerms, has_net}
 use Rattle.kt_keys.specs.Refusals.{is_loaded}
 use Rattle.kt_keys.specs.declared.need.Need.{Need}
 use Rattle.kt_load.specs.EventRows.{HasFootprint}

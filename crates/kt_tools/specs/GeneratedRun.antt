@@ -11,7 +11,7 @@ use Rattle.kt_ends.specs.declared.status.Status.TheVariants as status
 use Rattle.kt_ends.specs.declared.tool_stop.ToolStop.{ToolStop}
 use Rattle.kt_ends.specs.declared.tool_stop.ToolStop.TheVariants.{Refused, ReadFault, WriteFault, NoMemory}
 use Rattle.kt_event.specs.Needs.{chain_need}
-use Rattle.kt_event.specs.declared.terms.Terms.{Terms}
+use Rattle.kt_block.specs.declared.terms.Terms.{Terms}
 use Rattle.kt_files.specs.OutputFiles.{output_name}
 use Rattle.kt_files.specs.declared.file.OutputFile.{OutputFile}
 use Rattle.kt_gen.specs.FileLines.{file_lines}

@@ -2,7 +2,7 @@
 -- The rules: docs/COMMANDS.md.
 use Rattle.std.specs.Prelude.{ℕ, Bool, true, false, List, [], ◌∷◌, Option, None, Some, ◌==◌, if◌then◌else◌}
 use Rattle.kt_event.specs.Needs.{chain_need, with_tables}
-use Rattle.kt_event.specs.declared.terms.Terms.{Terms}
+use Rattle.kt_block.specs.declared.terms.Terms.{Terms}
 use Rattle.kt_keys.specs.declared.need.Need.{Need}
 use Rattle.kt_rec.specs.TableSet.{no_tables}
 use Rattle.kt_rec.specs.declared.perspective.Perspective.{Perspective}

@@ -6,7 +6,7 @@ use Rattle.kt_fmtree.specs.Struck.{struck}
 use Rattle.kt_fmtree.specs.Programme.{tree_of}
 use Rattle.kt_alloc.specs.Insured.{insured_records, layer_sums}
 use Rattle.kt_alloc.specs.declared.made.InsuredLanes.{InsuredLanes}
-use Rattle.kt_alloc.specs.declared.sums.LayerSum.{LayerSum}
+use Rattle.kt_block.specs.declared.layer_sum.LayerSum.{LayerSum}
 use Rattle.kt_alloc.proofs.GoodLemmas.{insured-good, sums-whole}
 use Rattle.kt_alloc.proofs.StruckLemmas.{records-struck, sums-struck}
 use Rattle.kt_alloc.proofs.run.insured_lanes.Goals as goal

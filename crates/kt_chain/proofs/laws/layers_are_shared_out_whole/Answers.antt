@@ -4,11 +4,11 @@ use Rattle.std.proofs.lemmas.List.Elements.{All-from_recursion}
 use Rattle.kt_event.specs.Loading.{loads_outputs, loads_policytc, loads_programme}
 use Rattle.kt_event.specs.Losses.{layers_up_to}
 use Rattle.kt_event.specs.Needs.{chain_need}
-use Rattle.kt_event.specs.Terms.{AreTerms, has_insured}
-use Rattle.kt_event.specs.declared.terms.Terms.{Terms}
+use Rattle.kt_block.specs.Terms.{AreTerms, has_insured}
+use Rattle.kt_block.specs.declared.terms.Terms.{Terms}
 use Rattle.kt_alloc.specs.InsuredTables.{HasInsuredTables}
 use Rattle.kt_alloc.specs.Whole.{IsSharedOut}
-use Rattle.kt_alloc.specs.declared.sums.LayerSum.{LayerSum}
+use Rattle.kt_block.specs.declared.layer_sum.LayerSum.{LayerSum}
 use Rattle.kt_rec.specs.Rows.{Rows}
 use Rattle.kt_rec.specs.declared.perspective.Perspective.{Perspective}
 use Rattle.kt_rec.specs.declared.perspective.Perspective.TheVariants.{Gul, Il, Ri}

@@ -5,7 +5,7 @@ use Rattle.kt_chain.specs.Events.{RunInput}
 use Rattle.kt_chain.specs.Rounds.{RoundParts, part_count}
 use Rattle.kt_chain.specs.TextFolds.{IsTextPart, KeepsRows, TextsStand, TextsStop}
 use Rattle.kt_chain.proofs.TextFoldLemmas.{keeps_all, keeps_front, parts_folded, parts_stopped}
-use Rattle.kt_event.specs.declared.terms.Terms.{Terms}
+use Rattle.kt_block.specs.declared.terms.Terms.{Terms}
 use Rattle.kt_fold.specs.Folds.{IsGoodPart, fold_refusal}
 use Rattle.kt_chain.specs.Runs.{AreGivenRows, FoldsTo, IsFolded, RunShares}
 use Rattle.kt_load.specs.EventRows.{ids_of}

@@ -1,6 +1,6 @@
 use Rattle.std.proofs.Common.{subst}
 use Rattle.std.proofs.lemmas.Result.{err_from_is_err_and}
-use Rattle.kt_event.specs.declared.terms.Terms.{Terms}
+use Rattle.kt_block.specs.declared.terms.Terms.{Terms}
 use Rattle.kt_chain.specs.Events.{RunInput}
 use Rattle.kt_chain.specs.Runs.{IsRunOf, RunMakes, RunSays}
 use Rattle.kt_chain.proofs.WorldLemmas.{chain_ends, memory_ends}

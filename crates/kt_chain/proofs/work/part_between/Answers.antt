@@ -1,9 +1,10 @@
 use Rattle.std.proofs.Common.{◌≡◌, ◌∙◌, ◌+◌, ◌∷◌, ◌<◌, [], drop, length, take, List, ℕ, Ok, Err, Some, ap, sym, subst, arith}
 use Rattle.std.specs.Prelude.{slice_index_or}
 use Rattle.std.specs.List.{AllByRecursion}
-use Rattle.kt_event.specs.Losses.{AreSummaries, event_result}
+use Rattle.kt_event.specs.Losses.{event_result}
+use Rattle.kt_block.specs.Block.{AreSummaries}
 use Rattle.kt_event.specs.Plan.{IsOrMemory, terms_of}
-use Rattle.kt_event.specs.declared.block.EventBlock.{EventBlock}
+use Rattle.kt_block.specs.declared.block.EventBlock.{EventBlock}
 use Rattle.kt_load.specs.EventRows.{EventRows}
 use Rattle.kt_rec.specs.declared.foot_rows.ModelStop.{ModelStop}
 use Rattle.kt_rec.specs.declared.hazard.FootRow.{FootRow}

@@ -1,7 +1,7 @@
 -- With what the events that are left give, the blocks so far are those of the part.
 use Rattle.std.proofs.Common.{◌≡◌, drop, take}
 use Rattle.std.specs.List.{AllByRecursion}
-use Rattle.kt_event.specs.Losses.{AreSummaries}
+use Rattle.kt_block.specs.Block.{AreSummaries}
 use Rattle.kt_event.specs.Plan.{terms_of}
 use Rattle.kt_chain.specs.Rounds.{part_of}
 use Rattle.kt_chain.proofs.WorkLemmas.{behind as behind_blocks}

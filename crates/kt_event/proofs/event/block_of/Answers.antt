@@ -1,7 +1,7 @@
 use Rattle.std.proofs.Common.{◌∙◌, ◌++◌, List, map, ap, refl}
 use Rattle.kt_event.specs.Losses.{summaries_of}
-use Rattle.kt_event.specs.Terms.{sets_of}
-use Rattle.kt_event.specs.declared.block.Summaries.{Summaries}
+use Rattle.kt_block.specs.Terms.{sets_of}
+use Rattle.kt_block.specs.declared.block.Summaries.{Summaries}
 use Rattle.kt_rec.specs.declared.perspective.Perspective.TheVariants.{Gul}
 use Rattle.kt_event.proofs.BlockLemmas.{all_summaries, block_is, of_perspective, rule_is}
 use Rattle.kt_event.proofs.event.block_of.Goals as goal

@@ -1,6 +1,6 @@
 use Rattle.std.proofs.Common.{◌≡◌, ◌∙◌, ◌++◌, ℕ, List, ap, sym, subst}
 use Rattle.kt_event.specs.Losses.{losses_of}
-use Rattle.kt_event.specs.declared.block.Summaries.{Summaries}
+use Rattle.kt_block.specs.declared.block.Summaries.{Summaries}
 use Rattle.kt_alloc.specs.Insured.{insured_records}
 use Rattle.kt_rec.specs.declared.perspective.Perspective.TheVariants.{Il}
 use Rattle.kt_runs.specs.RunLosses.{AreWithin}

@@ -1,8 +1,8 @@
 use Rattle.std.proofs.Common.{◌≡◌, ◌∙◌, ◌++◌, All, List, map, ap, sym, subst}
 use Rattle.std.proofs.lemmas.List.Elements.{All-from_recursion}
 use Rattle.kt_event.specs.Losses.{losses_of, set_summaries, stage_trees}
-use Rattle.kt_event.specs.declared.block.Summaries.{Summaries}
-use Rattle.kt_event.specs.declared.terms.SummarySet.{SummarySet}
+use Rattle.kt_block.specs.declared.block.Summaries.{Summaries}
+use Rattle.kt_block.specs.declared.terms.SummarySet.{SummarySet}
 use Rattle.kt_rec.specs.declared.perspective.Perspective.TheVariants.{Ri}
 use Rattle.kt_ri.specs.Reinsurance.{reinsured}
 use Rattle.kt_ri.specs.Stages.{AreStages, HasStage}

@@ -1,9 +1,9 @@
 use Rattle.std.proofs.Common.{◌≡◌, ◌∙◌, ◌∷◌, [], ◌++◌, List, length, map, refl, append_assoc, append-nil, ap, arith, subst, sym}
 use Rattle.std.specs.Vec.Iter.{into_iter_items}
 use Rattle.std.proofs.lemmas.List.{map-append}
-use Rattle.kt_event.specs.Losses.{AreSummaries}
-use Rattle.kt_event.specs.Terms.{set_numbers}
-use Rattle.kt_event.specs.declared.block.Summaries.{Summaries}
+use Rattle.kt_block.specs.Block.{AreSummaries}
+use Rattle.kt_block.specs.Terms.{set_numbers}
+use Rattle.kt_block.specs.declared.block.Summaries.{Summaries}
 use Rattle.kt_sum.specs.SetSums.{set_records}
 use Rattle.kt_sum.specs.declared.set_records.SetRecords.{SetRecords}
 use Rattle.kt_event.proofs.SetLemmas.{of_set, sets_good, sets_made}

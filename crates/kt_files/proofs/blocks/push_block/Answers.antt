@@ -1,6 +1,6 @@
 use Rattle.std.proofs.Common.{List, sym, ap, subst, ◌∙◌}
 use Rattle.std.specs.Prelude.{All}
-use Rattle.kt_event.specs.declared.block.Summaries.{Summaries}
+use Rattle.kt_block.specs.declared.block.Summaries.{Summaries}
 use Rattle.kt_files.specs.Parts.{records_of_set}
 use Rattle.kt_files.proofs.RecordLemmas.{records_are_good}
 use Rattle.kt_files.proofs.blocks.push_block.Goals as goal

@@ -1,6 +1,6 @@
 -- The sets so far stand behind the others.
 use Rattle.std.proofs.Common.{◌≡◌, ◌++◌, map, take}
-use Rattle.kt_event.specs.Terms.{summary_set}
+use Rattle.kt_block.specs.Terms.{summary_set}
 use Rattle.kt_files.proofs.sets.push_numbered.Given as goal
 
 abbrev pub invariant-loop-set : goal.invariant-loop-set

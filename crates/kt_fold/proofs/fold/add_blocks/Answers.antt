@@ -3,8 +3,8 @@ use Rattle.std.specs.List.{flat_map}
 use Rattle.std.proofs.Math.Seq.{drop-cons}
 use Rattle.std.proofs.lemmas.List.{take_all}
 use Rattle.std.proofs.lemmas.List.Elements.{All-from_recursion}
-use Rattle.kt_event.specs.Losses.{AreSummaries}
-use Rattle.kt_event.specs.declared.block.EventBlock.{EventBlock}
+use Rattle.kt_block.specs.Block.{AreSummaries}
+use Rattle.kt_block.specs.declared.block.EventBlock.{EventBlock}
 use Rattle.kt_fold.specs.Added.{block_added, blocks_added}
 use Rattle.kt_fold.specs.ReadyParts.{AreMadeFor, IsReadyBlock}
 use Rattle.kt_fold.proofs.ReadyLemmas.{left_made, next_made}

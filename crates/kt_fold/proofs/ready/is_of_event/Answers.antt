@@ -2,7 +2,7 @@
 use Rattle.std.proofs.Common.{◌≡◌, ℕ, take, take_all, refl, sym, subst}
 use Rattle.std.specs.Prelude.{All}
 use Rattle.std.proofs.lemmas.List.Elements.{All-push}
-use Rattle.kt_event.specs.declared.block.Summaries.{Summaries}
+use Rattle.kt_block.specs.declared.block.Summaries.{Summaries}
 use Rattle.kt_fold.proofs.ListLemmas.{one_taken, same_place}
 use Rattle.kt_fold.proofs.ready.is_of_event.Goals as goal
 

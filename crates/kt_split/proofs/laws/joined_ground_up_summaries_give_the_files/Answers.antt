@@ -1,4 +1,4 @@
-use Rattle.kt_event.specs.Terms.{summary_set}
+use Rattle.kt_block.specs.Terms.{summary_set}
 use Rattle.kt_rec.specs.declared.perspective.Perspective.TheVariants.{Gul}
 use Rattle.kt_split.specs.RunDone.{ends_over}
 use Rattle.kt_split.proofs.DoneFiles.{joined_give_files}

@@ -2,7 +2,7 @@ use Rattle.std.proofs.Common.{◌∙◌, ap}
 use Rattle.std.proofs.lemmas.Result.{err_from_is_err_and}
 use Rattle.kt_ends.specs.declared.status.Status.TheVariants as status
 use Rattle.kt_ends.specs.Stops.{stop_status}
-use Rattle.kt_event.specs.declared.terms.Terms.{Terms}
+use Rattle.kt_block.specs.declared.terms.Terms.{Terms}
 use Rattle.kt_files.specs.OutputFiles.{output_files}
 use Rattle.kt_tools.specs.GeneratedRun.{generated_run, generated_terms}
 use Rattle.kt_tools.proofs.GeneratedLemmas.{ends_by_terms, made_in_memory, memory_in_memory, no_sink, no_source, stops_in_memory}

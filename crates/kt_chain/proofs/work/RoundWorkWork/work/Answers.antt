@@ -4,7 +4,7 @@ use Rattle.kt_event.specs.Loading.{loads_occurrence}
 use Rattle.kt_event.specs.Plan.{terms_of}
 use Rattle.kt_chain.specs.Rounds.{IsPart, RoundParts}
 use Rattle.kt_chain.specs.TextFolds.{IsTextPart}
-use Rattle.kt_event.specs.declared.terms.Terms.{Terms}
+use Rattle.kt_block.specs.declared.terms.Terms.{Terms}
 use Rattle.kt_files.specs.MadeRows.{AreRowsOf}
 use Rattle.kt_fold.specs.declared.part.PartBlock.{PartBlock}
 use Rattle.kt_chain.proofs.WorkLemmas.{any_failure}

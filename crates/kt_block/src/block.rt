@@ -1,7 +1,7 @@
 //! What one event gives.
 //! The rules: docs/CALCULATION.md, "Summaries"; docs/OUTPUTS.md, "Layers".
 
-use kt_alloc::LayerSum;
+use crate::layer_sum::LayerSum;
 use kt_rec::Perspective;
 use kt_stream::{Records, SummaryRecord};
 

@@ -1,7 +1,7 @@
 //! The summary sets of a perspective.
 //! The rules: docs/COMMANDS.md, "chain".
 ghost use Rattle.std.specs.Prelude.{◌≡◌, IfOk};
-ghost use Rattle.kt_event.specs.Terms.{set_numbers};
+ghost use Rattle.kt_block.specs.Terms.{set_numbers};
 
 use kt_rec::Perspective;
 use kt_tables::Portfolio;

@@ -1,7 +1,7 @@
 //! What a run of all stages computes.
 //! The rules: docs/COMMANDS.md, "chain".
 ghost use Rattle.std.specs.Prelude.{◌≡◌};
-ghost use Rattle.kt_event.specs.Terms.{has_insured, has_net};
+ghost use Rattle.kt_block.specs.Terms.{has_insured, has_net};
 
 use kt_rec::Perspective;
 
