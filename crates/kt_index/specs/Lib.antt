@@ -1,3 +1,2 @@
 pub mod KeyEnds
-pub mod Exposure
 pub mod RiseLaws

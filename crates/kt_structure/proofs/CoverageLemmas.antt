@@ -10,8 +10,8 @@ use Rattle.kt_rec.specs.declared.exposure.Coverage.{Coverage}
 use Rattle.kt_keys.specs.Climbing.{climbed, after}
 use Rattle.kt_checks.specs.TableChecks.{tiv_of}
 use Rattle.kt_checks.specs.Worth.{total_is}
-use Rattle.kt_index.specs.declared.exposure.SummaryUnit.{SummaryUnit}
-use Rattle.kt_index.specs.Exposure.{unit_covers, summary_covers, IsTotalOf}
+use Rattle.kt_exposure.specs.declared.exposure.SummaryUnit.{SummaryUnit}
+use Rattle.kt_exposure.specs.Exposure.{unit_covers, summary_covers, IsTotalOf}
 use Rattle.kt_rec.specs.Sums.{sum_by-agree, each_member}
 use Rattle.kt_fmtree.specs.Tree.{is_unit}
 use Rattle.kt_fmtree.specs.Programme.{has_coverage}

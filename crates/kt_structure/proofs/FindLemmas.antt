@@ -14,7 +14,7 @@ use Rattle.kt_rec.specs.Rows.{Rows}
 use Rattle.kt_rec.specs.declared.exposure.Coverage.{Coverage}
 use Rattle.kt_keys.specs.Keys.{same_triple, programme_of}
 use Rattle.kt_keys.specs.Units.{top_level}
-use Rattle.kt_index.specs.Exposure.{IsTotalOf, summary_covers}
+use Rattle.kt_exposure.specs.Exposure.{IsTotalOf, summary_covers}
 use Rattle.kt_checks.specs.TableChecks.{tiv_of}
 use Rattle.kt_keys.specs.Climbing.{next_unit}
 use Rattle.kt_rec.specs.Rising.{rising}

@@ -3,9 +3,9 @@ use Rattle.std.proofs.Common.{◌≡◌, ℕ, zero, suc, ◌+◌, ◌-◌, ◌<�
 use Rattle.std.specs.Prelude.{◌||◌, option_map}
 use Rattle.std.specs.List.{cons_option, filter_map, flat_map, list_any}
 use Rattle.std.proofs.lemmas.List.Folds.{list_any-append}
-use Rattle.kt_index.specs.declared.exposure.SummaryUnit.{SummaryUnit}
-use Rattle.kt_index.specs.declared.exposure.UnitCoverage.{UnitCoverage}
-use Rattle.kt_index.specs.Exposure.{IsTotalOf, summary_covers, unit_covers}
+use Rattle.kt_exposure.specs.declared.exposure.SummaryUnit.{SummaryUnit}
+use Rattle.kt_exposure.specs.declared.exposure.UnitCoverage.{UnitCoverage}
+use Rattle.kt_exposure.specs.Exposure.{IsTotalOf, summary_covers, unit_covers}
 use Rattle.std.specs.Prelude.{◌&&◌, nat_eq}
 use Rattle.kt_structure.specs.Coverages.{row_and, climb_rows, covered_rows, rows_for, row_up, start_row}
 

@@ -2,8 +2,8 @@
 -- The rule: docs/FINANCIAL_MODULE.md, "Levels".
 use Rattle.std.specs.Prelude.{ℕ, zero, suc, ◌+◌, List, [], ◌∷◌, Option, Some, None, option_map}
 use Rattle.kt_rec.specs.declared.exposure.Coverage.{Coverage}
-use Rattle.kt_index.specs.declared.exposure.SummaryUnit.{SummaryUnit}
-use Rattle.kt_index.specs.declared.exposure.UnitCoverage.{UnitCoverage}
+use Rattle.kt_exposure.specs.declared.exposure.SummaryUnit.{SummaryUnit}
+use Rattle.kt_exposure.specs.declared.exposure.UnitCoverage.{UnitCoverage}
 
 -- what follows a unit that may be absent: it with a coverage, and the rows behind
 abbrev pub row_and : ℕ → ℕ → Option ℕ → (ℕ → List SummaryUnit) → List SummaryUnit

@@ -7,14 +7,14 @@ ghost use Rattle.std.specs.HashMap.{get};
 ghost use Rattle.kt_rec.specs.Ranges.{IsCoverage};
 ghost use Rattle.kt_rec.specs.Rows.{rows_of};
 ghost use Rattle.kt_keys.specs.UnitTable.{value_of};
-ghost use Rattle.kt_index.specs.declared.exposure.SummaryUnit.{SummaryUnit};
-ghost use Rattle.kt_index.specs.Exposure.{IsTotalOf, summary_covers};
+ghost use Rattle.kt_exposure.specs.declared.exposure.SummaryUnit.{SummaryUnit};
+ghost use Rattle.kt_exposure.specs.Exposure.{IsTotalOf, summary_covers};
 ghost use Rattle.kt_checks.specs.TableChecks.{tiv_of};
 ghost use Rattle.kt_fmtree.specs.Programme.{coverage_of, covered_ids};
 ghost use Rattle.kt_structure.specs.Coverages.{own_pair, row_up, rows_for, start_row};
 
 use kt_checks::tivs as coverage_tivs;
-use kt_index::{SummaryUnit, UnitCoverage, exposure_list};
+use kt_exposure::{SummaryUnit, UnitCoverage, exposure_list};
 use kt_keys::{UnitTable, first_values};
 use kt_rec::{Coverage, FmXref, Item, Tables};
 use std::alloc::{AllocError, Global};

@@ -8,7 +8,7 @@ use Rattle.kt_keys.specs.declared.unit_table.UnitTable.{UnitTable}
 use Rattle.kt_rec.specs.declared.exposure.Coverage.{Coverage}
 use Rattle.kt_rec.specs.declared.perspective.Perspective.{Perspective}
 use Rattle.kt_rec.specs.declared.perspective.Perspective.TheVariants.{Il, Ri}
-use Rattle.kt_index.specs.declared.exposure.SummaryUnit.{SummaryUnit}
+use Rattle.kt_exposure.specs.declared.exposure.SummaryUnit.{SummaryUnit}
 use Rattle.kt_tables.specs.declared.summaries.Summaries.{Summaries}
 use Rattle.kt_tables.specs.Lookups.{summary_rows}
 use Rattle.kt_tables.specs.Kept.{AreExposures, AreSummaries, AreSummariesOf, AreTivs}

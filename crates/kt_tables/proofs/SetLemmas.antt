@@ -4,7 +4,7 @@ use Rattle.std.specs.Prelude.{◌||◌, option_map, slice_get}
 use Rattle.std.specs.Cmp.{nat_eq_equiv}
 use Rattle.std.specs.List.{filter, list_any}
 use Rattle.std.proofs.lemmas.List.Folds.{list_any_more}
-use Rattle.kt_index.specs.declared.exposure.SummaryUnit.{SummaryUnit}
+use Rattle.kt_exposure.specs.declared.exposure.SummaryUnit.{SummaryUnit}
 use Rattle.kt_tables.specs.declared.summaries.UnitSummary.{UnitSummary}
 use Rattle.kt_tables.proofs.ExposureLemmas.{list_any-map}
 

@@ -19,7 +19,7 @@ use Rattle.kt_rec.specs.declared.perspective.Perspective.TheVariants.{Gul, Il, R
 use Rattle.kt_checks.specs.TableChecks.{tiv_of}
 use Rattle.kt_checks.specs.Worth.{covered_le}
 use Rattle.kt_tables.specs.SummaryLaws.{KeepsSummaries}
-use Rattle.kt_index.specs.declared.exposure.SummaryUnit.{SummaryUnit}
+use Rattle.kt_exposure.specs.declared.exposure.SummaryUnit.{SummaryUnit}
 use Rattle.kt_tables.specs.Lookups.{exposure_of, id_has, is_unit, item_has, item_summary_rows, lies_beneath, output_has, output_summary_rows, summary_has, summary_in, summary_rows, top_unit, unit_has}
 use Rattle.kt_tables.specs.Portfolio.{PortfolioRows, IsPortfolio}
 use Rattle.kt_tables.specs.PortfolioLaws.{coverages_distinct, sizes_kept}

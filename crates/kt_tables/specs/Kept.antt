@@ -11,7 +11,7 @@ use Rattle.kt_keys.specs.Keys.{same_pair}
 use Rattle.kt_keys.specs.UnitTable.{value_of}
 use Rattle.kt_keys.specs.declared.unit_table.UnitTable.{UnitTable}
 use Rattle.kt_checks.specs.TableChecks.{tiv_of}
-use Rattle.kt_index.specs.Exposure.{AddsUp}
+use Rattle.kt_exposure.specs.Exposure.{AddsUp}
 use Rattle.kt_checks.specs.SummaryChecks.{CountsSummaries}
 use Rattle.kt_tables.specs.Portfolio.{IsPortfolio}
 use Rattle.kt_tables.specs.Lookups.{event_ids, item_pairs, return_periods_of, summary_rows, place_in, exposure_of}
@@ -27,7 +27,7 @@ use Rattle.kt_tables.specs.declared.lookups.hazard.HazardLookups.{HazardLookups}
 use Rattle.kt_tables.specs.declared.lookups.items.ItemLookups.{ItemLookups}
 use Rattle.kt_tables.specs.declared.lookups.periods.PeriodLookups.{PeriodLookups}
 use Rattle.kt_tables.specs.declared.lookups.summaries.SummaryLookups.{SummaryLookups}
-use Rattle.kt_index.specs.declared.exposure.SummaryUnit.{SummaryUnit}
+use Rattle.kt_exposure.specs.declared.exposure.SummaryUnit.{SummaryUnit}
 use Rattle.kt_tables.specs.declared.summaries.Summaries.{Summaries}
 use Rattle.kt_tables.specs.declared.summaries.UnitSummary.{UnitSummary}
 use Rattle.kt_tables.specs.declared.portfolio.Portfolio.TheInside.{Inside}

@@ -16,7 +16,7 @@ use Rattle.kt_rec.specs.declared.perspective.Perspective.TheVariants.{Gul, Il, R
 use Rattle.kt_keys.specs.Keys.{programme_of, same_pair}
 use Rattle.kt_keys.specs.Units.{top_level}
 use Rattle.kt_keys.specs.Climbing.{climbed, next_unit}
-use Rattle.kt_index.specs.declared.exposure.SummaryUnit.{SummaryUnit}
+use Rattle.kt_exposure.specs.declared.exposure.SummaryUnit.{SummaryUnit}
 use Rattle.kt_tables.specs.declared.place.Place.{Place}
 
 -- the events in table order

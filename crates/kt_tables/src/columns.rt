@@ -4,7 +4,7 @@ ghost use Rattle.std.specs.Prelude.{◌≡◌, map, IfOk};
 
 use crate::place::Place;
 use crate::summaries::UnitSummary;
-use kt_index::{SummaryUnit, UnitCoverage};
+use kt_exposure::{SummaryUnit, UnitCoverage};
 use kt_rec::{FmSummaryXref, FootprintIdx, GulSummaryXref, Item};
 use std::alloc::{AllocError, Global};
 

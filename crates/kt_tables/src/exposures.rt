@@ -6,13 +6,14 @@ ghost use Rattle.kt_rec.specs.Rows.{rows_of};
 ghost use Rattle.kt_rec.specs.declared.perspective.Perspective.TheVariants as perspective;
 ghost use Rattle.kt_keys.specs.UnitTable.{value_of};
 ghost use Rattle.kt_keys.specs.Climbing.{climbed};
-ghost use Rattle.kt_index.specs.Exposure.{unit_covers};
+ghost use Rattle.kt_exposure.specs.Exposure.{unit_covers};
 ghost use Rattle.kt_tables.specs.Lookups.{agg_of, item_summary_rows, output_summary_rows, lies_beneath, unit_has};
 ghost use Rattle.kt_tables.specs.Kept.{AreTivs, AreAddable, AreExposures};
 
 use crate::columns::parts_of;
 use kt_checks::{climbed, next_units};
-use kt_index::{ByKey, SummaryUnit, UnitCoverage, exposures};
+use kt_exposure::{SummaryUnit, UnitCoverage, exposures};
+use kt_index::ByKey;
 use kt_keys::{UnitTable, programme, top_level};
 use kt_rec::{FmXref, Item, Tables};
 use std::alloc::{AllocError, Global};

@@ -3,11 +3,12 @@
 ghost use Rattle.std.specs.Prelude.{◌≡◌, true, ℕ, ◌-◌, ◌<◌, ◌≤◌, nat_eq, length, map, IfOk, option_map, slice_get, slice_index_or};
 ghost use Rattle.std.specs.HashSet.{contains};
 ghost use Rattle.std.specs.List.{list_any};
-ghost use Rattle.kt_index.specs.declared.exposure.SummaryUnit.{SummaryUnit};
+ghost use Rattle.kt_exposure.specs.declared.exposure.SummaryUnit.{SummaryUnit};
 ghost use Rattle.kt_tables.specs.Kept.{AreSummaries};
 
 use crate::columns::parts_of;
-use kt_index::{ByKey, Keyed, SummaryUnit, pair_key};
+use kt_exposure::SummaryUnit;
+use kt_index::{ByKey, Keyed, pair_key};
 use std::alloc::{AllocError, Global};
 use std::collections::{HashMap, HashSet};
 

@@ -5,8 +5,8 @@ use Rattle.std.specs.List.{flat_map, list_any}
 use Rattle.std.specs.Map.{lookup}
 use Rattle.kt_keys.specs.Keys.{same_pair}
 use Rattle.kt_keys.specs.UnitTable.{value_of}
-use Rattle.kt_index.specs.Exposure.{AddsUp, IsTotalOf, summary_covers, value_in}
-use Rattle.kt_index.specs.declared.exposure.UnitCoverage.{UnitCoverage}
+use Rattle.kt_exposure.specs.Exposure.{AddsUp, IsTotalOf, summary_covers, value_in}
+use Rattle.kt_exposure.specs.declared.exposure.UnitCoverage.{UnitCoverage}
 use Rattle.kt_structure.specs.Coverages.{rows_for, own_pair}
 use Rattle.kt_checks.specs.Worth.{values-few}
 use Rattle.kt_structure.proofs.LevelLemmas.{total-among}

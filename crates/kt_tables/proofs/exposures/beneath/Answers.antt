@@ -10,8 +10,8 @@ use Rattle.kt_keys.specs.Keys.{programme_of}
 use Rattle.kt_keys.specs.UnitTable.{value_of}
 use Rattle.kt_keys.specs.Units.{top_level}
 use Rattle.kt_keys.specs.Climbing.{climbed, next_unit}
-use Rattle.kt_index.specs.declared.exposure.UnitCoverage.{UnitCoverage}
-use Rattle.kt_index.specs.Exposure.{unit_covers}
+use Rattle.kt_exposure.specs.declared.exposure.UnitCoverage.{UnitCoverage}
+use Rattle.kt_exposure.specs.Exposure.{unit_covers}
 use Rattle.kt_tables.specs.Lookups.{is_unit, lies_beneath, top_unit}
 use Rattle.kt_tables.proofs.ExposureLemmas.{beneath-covers}
 use Rattle.kt_tables.proofs.exposures.beneath.Goals as goal

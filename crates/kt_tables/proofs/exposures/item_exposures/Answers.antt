@@ -5,8 +5,8 @@ use Rattle.std.proofs.lemmas.Result.{IfOk-weaker}
 use Rattle.kt_rec.specs.Rows.{rows_of}
 use Rattle.kt_rec.specs.declared.exposure.Item.{Item}
 use Rattle.kt_rec.specs.declared.perspective.Perspective.TheVariants.{Gul}
-use Rattle.kt_index.specs.Exposure.{value_in}
-use Rattle.kt_index.specs.declared.exposure.SummaryUnit.{SummaryUnit}
+use Rattle.kt_exposure.specs.Exposure.{value_in}
+use Rattle.kt_exposure.specs.declared.exposure.SummaryUnit.{SummaryUnit}
 use Rattle.kt_tables.specs.Lookups.{item_has, summary_has}
 use Rattle.kt_tables.specs.Kept.{AreExposures}
 use Rattle.kt_tables.proofs.ExposureLemmas.{item-covers, total-exposure}

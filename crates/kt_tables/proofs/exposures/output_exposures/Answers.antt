@@ -6,8 +6,8 @@ use Rattle.std.proofs.lemmas.Result.{IfOk-weaker}
 use Rattle.kt_rec.specs.Rows.{rows_of}
 use Rattle.kt_rec.specs.declared.financial.FmXref.{FmXref}
 use Rattle.kt_rec.specs.declared.perspective.Perspective.TheVariants.{Il}
-use Rattle.kt_index.specs.declared.exposure.SummaryUnit.{SummaryUnit}
-use Rattle.kt_index.specs.Exposure.{summary_covers, value_in}
+use Rattle.kt_exposure.specs.declared.exposure.SummaryUnit.{SummaryUnit}
+use Rattle.kt_exposure.specs.Exposure.{summary_covers, value_in}
 use Rattle.kt_tables.specs.Lookups.{agg_of, unit_has, output_has, summary_has}
 use Rattle.kt_tables.specs.Kept.{AreExposures}
 use Rattle.kt_tables.proofs.ExposureLemmas.{agg_is, output-covers, total-exposure}

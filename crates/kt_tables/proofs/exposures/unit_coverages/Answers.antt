@@ -2,8 +2,8 @@ use Rattle.std.proofs.Common.{◌≡◌, ◌∙◌, ℕ, List, ap}
 use Rattle.std.proofs.lemmas.Result.{IfOk-weaker}
 use Rattle.kt_rec.specs.Rows.{rows_of}
 use Rattle.kt_rec.specs.declared.exposure.Item.{Item}
-use Rattle.kt_index.specs.declared.exposure.UnitCoverage.{UnitCoverage}
-use Rattle.kt_index.specs.Exposure.{unit_covers}
+use Rattle.kt_exposure.specs.declared.exposure.UnitCoverage.{UnitCoverage}
+use Rattle.kt_exposure.specs.Exposure.{unit_covers}
 use Rattle.kt_tables.specs.Lookups.{item_has, unit_has}
 use Rattle.kt_tables.proofs.ExposureLemmas.{item-unit, unit-not_zero}
 use Rattle.kt_tables.proofs.exposures.unit_coverages.Goals as goal

@@ -1,6 +1,6 @@
 use Rattle.std.proofs.Common.{◌∙◌, ap, nat_eq}
 use Rattle.std.specs.HashSet.{contains}
-use Rattle.kt_index.specs.declared.exposure.SummaryUnit.{SummaryUnit}
+use Rattle.kt_exposure.specs.declared.exposure.SummaryUnit.{SummaryUnit}
 use Rattle.kt_tables.proofs.SetLemmas.{set_kept, set_put}
 use Rattle.kt_tables.proofs.summaries.sets_of.Goals as goal
 use Rattle.kt_tables.proofs.summaries.sets_of.Goals.{then-not-goes_on+in_ok-insert, else-not-goes_on}

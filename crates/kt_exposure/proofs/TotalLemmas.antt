@@ -13,10 +13,10 @@ use Rattle.std.proofs.lemmas.Grind.{common_steps}
 use Rattle.std.proofs.lemmas.Bool.Decides.{nat_tests}
 use Rattle.std.proofs.lemmas.List.Folds.{list_any_more}
 use Rattle.kt_keys.specs.Keys.{same_pair}
-use Rattle.kt_index.specs.declared.exposure.SummaryUnit.{SummaryUnit}
-use Rattle.kt_index.specs.declared.exposure.UnitCoverage.{UnitCoverage}
-use Rattle.kt_index.specs.Exposure.{AreOfOneSummary, unit_covers, summary_covers, IsTotalOf}
-use Rattle.kt_index.proofs.CoverLemmas.{list_any-filter}
+use Rattle.kt_exposure.specs.declared.exposure.SummaryUnit.{SummaryUnit}
+use Rattle.kt_exposure.specs.declared.exposure.UnitCoverage.{UnitCoverage}
+use Rattle.kt_exposure.specs.Exposure.{AreOfOneSummary, unit_covers, summary_covers, IsTotalOf}
+use Rattle.kt_exposure.proofs.CoverLemmas.{list_any-filter}
 use Rattle.kt_keys.proofs.UnitTableLemmas.{same_is}
 
 -- the parts of pairs are compared both ways

@@ -5,12 +5,10 @@ ghost use Rattle.std.specs.List.{IsDistinct, filter, list_any, sum_by};
 ghost use Rattle.std.specs.HashMap.{get};
 ghost use Rattle.std.specs.Map.{lookup};
 ghost use Rattle.kt_keys.specs.Keys.{same_pair};
-ghost use Rattle.kt_index.specs.declared.exposure.SummaryUnit.{SummaryUnit};
-ghost use Rattle.kt_index.specs.Exposure.{AreOfOneSummary, summary_covers, value_in, IsTotalOf, AddsUp};
+ghost use Rattle.kt_exposure.specs.declared.exposure.SummaryUnit.{SummaryUnit};
+ghost use Rattle.kt_exposure.specs.Exposure.{AreOfOneSummary, summary_covers, value_in, IsTotalOf, AddsUp};
 
-use crate::by_key::{ByKey, Keyed, rows_near};
-use crate::keys::pair_key;
-use crate::once::keep_once;
+use kt_index::{ByKey, Keyed, keep_once, pair_key, rows_near};
 use kt_keys::{UnitTable, first_values};
 use std::alloc::{AllocError, Global};
 use std::collections::HashMap;

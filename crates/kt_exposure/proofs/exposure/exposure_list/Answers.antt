@@ -2,9 +2,9 @@ use Rattle.std.proofs.Common.{ℕ, unwrap_or}
 use Rattle.std.specs.Map.{lookup}
 use Rattle.std.proofs.lemmas.Result.{IfOk-weaker}
 use Rattle.kt_keys.specs.Keys.{same_pair}
-use Rattle.kt_index.specs.Exposure.{summary_covers, value_in, IsTotalOf}
-use Rattle.kt_index.proofs.TotalLemmas.{total-agree, covers-moved}
-use Rattle.kt_index.proofs.exposure.exposure_list.Goals as goal
+use Rattle.kt_exposure.specs.Exposure.{summary_covers, value_in, IsTotalOf}
+use Rattle.kt_exposure.proofs.TotalLemmas.{total-agree, covers-moved}
+use Rattle.kt_exposure.proofs.exposure.exposure_list.Goals as goal
 
 pub returns : goal.returns
 returns c = record {

@@ -1,8 +1,8 @@
 use Rattle.std.proofs.Common.{◌∙◌, Option, ℕ, ap, subst, sym, unwrap_or}
 use Rattle.std.specs.Map.{lookup}
 use Rattle.kt_keys.specs.Keys.{same_pair}
-use Rattle.kt_index.specs.Exposure.{summary_covers, value_in, IsTotalOf}
-use Rattle.kt_index.proofs.exposure.exposures.Goals as goal
+use Rattle.kt_exposure.specs.Exposure.{summary_covers, value_in, IsTotalOf}
+use Rattle.kt_exposure.proofs.exposure.exposures.Goals as goal
 
 pub returns : goal.returns
 returns c = record {

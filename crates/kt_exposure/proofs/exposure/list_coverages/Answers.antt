@@ -1,10 +1,10 @@
 use Rattle.std.proofs.Common.{rules, ◌∙◌, ◌||◌, ℕ, Vec, List, ap, sym, nat_eq}
 use Rattle.std.specs.List.{filter, list_any}
-use Rattle.kt_index.specs.declared.exposure.SummaryUnit.{SummaryUnit}
-use Rattle.kt_index.specs.declared.exposure.UnitCoverage.{UnitCoverage}
-use Rattle.kt_index.proofs.CoverLemmas.{covers-added, covers-kept}
-use Rattle.kt_index.proofs.exposure.list_coverages.Goals as goal
-use Rattle.kt_index.proofs.exposure.list_coverages.Goals.{then-is_of+in_ok-push_coverages, else-is_of}
+use Rattle.kt_exposure.specs.declared.exposure.SummaryUnit.{SummaryUnit}
+use Rattle.kt_exposure.specs.declared.exposure.UnitCoverage.{UnitCoverage}
+use Rattle.kt_exposure.proofs.CoverLemmas.{covers-added, covers-kept}
+use Rattle.kt_exposure.proofs.exposure.list_coverages.Goals as goal
+use Rattle.kt_exposure.proofs.exposure.list_coverages.Goals.{then-is_of+in_ok-push_coverages, else-is_of}
 
 pub loop-row-preserved : goal.loop-row-preserved
 loop-row-preserved c = λ coverage.

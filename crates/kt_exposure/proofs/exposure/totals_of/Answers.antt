@@ -2,11 +2,11 @@ use Rattle.std.proofs.Common.{◌∙◌, ◌+◌, ℕ, List, Vec, Global, refl, 
 use Rattle.std.specs.Map.{lookup}
 use Rattle.std.proofs.lemmas.List.{take_all}
 use Rattle.kt_keys.specs.Keys.{same_pair}
-use Rattle.kt_index.specs.declared.exposure.SummaryUnit.{SummaryUnit}
-use Rattle.kt_index.specs.Exposure.{summary_covers, value_in, IsTotalOf}
-use Rattle.kt_index.proofs.TotalLemmas.{KnownTotal, total-known, total-agree, known-kept, known-pushed, known-before, group-covers}
-use Rattle.kt_index.proofs.exposure.totals_of.Goals as goal
-use Rattle.kt_index.proofs.exposure.totals_of.Goals.{then-not-goes_on+in_ok-value+in_ok-push, else-not-goes_on}
+use Rattle.kt_exposure.specs.declared.exposure.SummaryUnit.{SummaryUnit}
+use Rattle.kt_exposure.specs.Exposure.{summary_covers, value_in, IsTotalOf}
+use Rattle.kt_exposure.proofs.TotalLemmas.{KnownTotal, total-known, total-agree, known-kept, known-pushed, known-before, group-covers}
+use Rattle.kt_exposure.proofs.exposure.totals_of.Goals as goal
+use Rattle.kt_exposure.proofs.exposure.totals_of.Goals.{then-not-goes_on+in_ok-value+in_ok-push, else-not-goes_on}
 
 pub loop-place-preserved : goal.loop-place-preserved
 loop-place-preserved c = λ key.

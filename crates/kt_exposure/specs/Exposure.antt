@@ -4,8 +4,8 @@ use Rattle.std.specs.Prelude.{◌≡◌, ℕ, ◌<◌, ◌^◌, ◌&&◌, nat_eq
 use Rattle.std.specs.List.{IsDistinct, list_any, sum_by}
 use Rattle.kt_keys.specs.UnitTable.{value_of}
 use Rattle.kt_keys.specs.declared.unit_table.UnitTable.{UnitTable}
-use Rattle.kt_index.specs.declared.exposure.SummaryUnit.{SummaryUnit}
-use Rattle.kt_index.specs.declared.exposure.UnitCoverage.{UnitCoverage}
+use Rattle.kt_exposure.specs.declared.exposure.SummaryUnit.{SummaryUnit}
+use Rattle.kt_exposure.specs.declared.exposure.UnitCoverage.{UnitCoverage}
 
 -- whether a unit is of a coverage
 abbrev pub unit_covers : List UnitCoverage → ℕ → ℕ → Bool
