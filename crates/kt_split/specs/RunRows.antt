@@ -1,6 +1,6 @@
 -- What a stage computes depends on the rows that its command needs: where these are the same, so is it.
 -- The rules: docs/COMMANDS.md; docs/CALCULATION.md; docs/FINANCIAL_MODULE.md.
-use Rattle.std.specs.Prelude.{◌≡◌, ◌<◌, ℕ, nat_eq, Bool, true, false, cond, List, [], ◌∷◌, map, Some}
+use Rattle.std.specs.Prelude.{◌≡◌, ◌<◌, ℕ, nat_eq, Bool, true, false, cond, refl, List, [], ◌∷◌, map, Some}
 use Rattle.std.specs.List.{sum_by}
 use Rattle.std.proofs.Common.{ap, ◌∙◌, arith}
 use Rattle.kt_gul.specs.GroundUp.{ground_up_records}
