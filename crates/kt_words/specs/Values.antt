@@ -1,15 +1,15 @@
 -- What a word says, by its form.
 -- The rules: docs/COMMANDS.md, "Words".
-use Rattle.std.specs.Prelude.{ℕ, ◌-◌, List, [], ◌∷◌, Option, Some, None, Result, Ok, Err, Bool, length, take, find, nat_le, ◌==◌, ◌&&◌, codes, if◌then◌else◌, slice_index}
+use Rattle.std.specs.Prelude.{ℕ, ◌-◌, List, Option, Some, None, Result, Ok, Err, Bool, length, take, find, nat_le, ◌==◌, ◌&&◌, codes, if◌then◌else◌, slice_index}
 use Rattle.std.specs.Char.{is_ascii_digit}
 use Rattle.std.specs.List.{list_all}
 use Rattle.std.specs.Str.{bytes_eq}
 use Rattle.kt_text.specs.Numbers.{count_value}
 use Rattle.kt_text.specs.declared.bad_text.BadText.{BadText}
+use Rattle.kt_rec.specs.Descriptions.{tables}
 use Rattle.kt_rec.specs.TableNames.{name_of}
 use Rattle.kt_rec.specs.declared.perspective.Perspective.TheVariants.{Gul, Il, Ri}
 use Rattle.kt_rec.specs.declared.table.Table.{Table}
-use Rattle.kt_rec.specs.declared.table.Table.TheVariants as table
 use Rattle.kt_words.specs.declared.rows.Form.{Form}
 use Rattle.kt_words.specs.declared.rows.Form.TheVariants as form
 use Rattle.kt_words.specs.declared.value.Value.{Value}
@@ -51,10 +51,6 @@ stage_digit digit = if (nat_le 49 digit && nat_le digit 57) then Some (value.Num
 -- the stage that a word names: `RI_` and a digit from 1 to 9
 abbrev pub stage_named : List ℕ → Option Value
 stage_named word = if (length word == 4 && bytes_eq (take 3 word) (codes "RI_")) then stage_digit (slice_index word 3) else None
-
--- all tables by number
-abbrev pub tables : List Table
-tables = table.Events ∷ table.Items ∷ table.Coverages ∷ table.Footprint ∷ table.FootprintIdx ∷ table.Vulnerability ∷ table.DamageBinDict ∷ table.Random ∷ table.FmProgramme ∷ table.FmPolicytc ∷ table.FmProfile ∷ table.FmXref ∷ table.GulSummaryXref ∷ table.FmSummaryXref ∷ table.Occurrence ∷ table.ReturnPeriods ∷ []
 
 -- a table as what a word says
 abbrev pub table_value : Option Table → Option Value

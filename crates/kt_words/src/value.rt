@@ -6,7 +6,7 @@ ghost use Rattle.std.specs.List.{list_all};
 ghost use Rattle.kt_words.specs.Values.{has_number_form, number_of_word, number_within as number_in, losses_named, stage_named, table_named, value_of};
 
 use crate::rows::Form;
-use kt_rec::{Perspective, Table};
+use kt_rec::{Perspective, TABLES, Table};
 use kt_text::read_count;
 
 /// The longest word, in bytes.
@@ -24,26 +24,6 @@ pub enum Value {
     /// A table.
     Table(Table),
 }
-
-/// The tables in the order of their numbers.
-const TABLES: [Table; 16] = [
-    Table::Events,
-    Table::Items,
-    Table::Coverages,
-    Table::Footprint,
-    Table::FootprintIdx,
-    Table::Vulnerability,
-    Table::DamageBinDict,
-    Table::Random,
-    Table::FmProgramme,
-    Table::FmPolicytc,
-    Table::FmProfile,
-    Table::FmXref,
-    Table::GulSummaryXref,
-    Table::FmSummaryXref,
-    Table::Occurrence,
-    Table::ReturnPeriods,
-];
 
 /// Whether a word has no byte but digits.
 fn has_only_digits(word: &[u8]) -> bool
