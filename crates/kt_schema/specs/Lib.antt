@@ -6,3 +6,4 @@ pub mod Laws
 pub mod Loading
 pub mod Rows
 pub mod Tables
+pub mod Plain

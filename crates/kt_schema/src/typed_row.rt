@@ -2,7 +2,7 @@
 //! The rule: docs/TABLES.md, "Columns".
 ghost use Rattle.std.specs.Prelude.{◌≡◌, ℕ, List};
 ghost use Rattle.kt_cells.specs.Ranges.{FitsBytes};
-ghost use Rattle.kt_rec.specs.declared.kind.Kind.{Kind};
+ghost use Rattle.kt_rec.specs.declared.table.Table.{Table};
 ghost use Rattle.kt_rec.specs.declared.table.Table.TheVariants as table;
 ghost use Rattle.kt_schema.specs.Tables.{kinds_of};
 ghost use Rattle.kt_schema.specs.Rows.{event_values, item_values, coverage_values, footprint_idx_values, vulnerability_values, damage_bin_values, random_values, fm_programme_values, fm_policytc_values, fm_profile_values, fm_xref_values, gul_summary_xref_values, fm_summary_xref_values, occurrence_values, return_period_values};
@@ -13,21 +13,21 @@ use kt_rec::{
 };
 
 /// A row of `N` columns.
-pub(crate) trait TypedRow<const N: usize>: Copy {
-    // The kinds of the columns.
-    ghost kinds: { List Kind };
+pub trait TypedRow<const N: usize>: Copy {
+    // The table.
+    ghost table: { Table };
 
     // The values of the columns.
     ghost values: { Self → List ℕ };
 
     /// The row with these values.
     fn from_values(row: &[u64; N]) -> Self
-        requires { FitsBytes kinds row.now }
+        requires { FitsBytes (kinds_of table) row.now }
         ensures { values result ≡ row.now };
 }
 
 impl TypedRow<1> for Event {
-    ghost kinds = { kinds_of table.Events };
+    ghost table = { table.Events };
 
     ghost values = { event_values };
 
@@ -40,7 +40,7 @@ impl TypedRow<1> for Event {
 }
 
 impl TypedRow<5> for Item {
-    ghost kinds = { kinds_of table.Items };
+    ghost table = { table.Items };
 
     ghost values = { item_values };
 
@@ -63,7 +63,7 @@ impl TypedRow<5> for Item {
 }
 
 impl TypedRow<2> for Coverage {
-    ghost kinds = { kinds_of table.Coverages };
+    ghost table = { table.Coverages };
 
     ghost values = { coverage_values };
 
@@ -77,7 +77,7 @@ impl TypedRow<2> for Coverage {
 }
 
 impl TypedRow<3> for FootprintIdx {
-    ghost kinds = { kinds_of table.FootprintIdx };
+    ghost table = { table.FootprintIdx };
 
     ghost values = { footprint_idx_values };
 
@@ -92,7 +92,7 @@ impl TypedRow<3> for FootprintIdx {
 }
 
 impl TypedRow<4> for Vulnerability {
-    ghost kinds = { kinds_of table.Vulnerability };
+    ghost table = { table.Vulnerability };
 
     ghost values = { vulnerability_values };
 
@@ -108,7 +108,7 @@ impl TypedRow<4> for Vulnerability {
 }
 
 impl TypedRow<5> for DamageBin {
-    ghost kinds = { kinds_of table.DamageBinDict };
+    ghost table = { table.DamageBinDict };
 
     ghost values = { damage_bin_values };
 
@@ -125,7 +125,7 @@ impl TypedRow<5> for DamageBin {
 }
 
 impl TypedRow<1> for Random {
-    ghost kinds = { kinds_of table.Random };
+    ghost table = { table.Random };
 
     ghost values = { random_values };
 
@@ -138,7 +138,7 @@ impl TypedRow<1> for Random {
 }
 
 impl TypedRow<3> for FmProgramme {
-    ghost kinds = { kinds_of table.FmProgramme };
+    ghost table = { table.FmProgramme };
 
     ghost values = { fm_programme_values };
 
@@ -153,7 +153,7 @@ impl TypedRow<3> for FmProgramme {
 }
 
 impl TypedRow<4> for FmPolicytc {
-    ghost kinds = { kinds_of table.FmPolicytc };
+    ghost table = { table.FmPolicytc };
 
     ghost values = { fm_policytc_values };
 
@@ -169,7 +169,7 @@ impl TypedRow<4> for FmPolicytc {
 }
 
 impl TypedRow<10> for FmProfile {
-    ghost kinds = { kinds_of table.FmProfile };
+    ghost table = { table.FmProfile };
 
     ghost values = { fm_profile_values };
 
@@ -202,7 +202,7 @@ impl TypedRow<10> for FmProfile {
 }
 
 impl TypedRow<3> for FmXref {
-    ghost kinds = { kinds_of table.FmXref };
+    ghost table = { table.FmXref };
 
     ghost values = { fm_xref_values };
 
@@ -217,7 +217,7 @@ impl TypedRow<3> for FmXref {
 }
 
 impl TypedRow<3> for GulSummaryXref {
-    ghost kinds = { kinds_of table.GulSummaryXref };
+    ghost table = { table.GulSummaryXref };
 
     ghost values = { gul_summary_xref_values };
 
@@ -232,7 +232,7 @@ impl TypedRow<3> for GulSummaryXref {
 }
 
 impl TypedRow<3> for FmSummaryXref {
-    ghost kinds = { kinds_of table.FmSummaryXref };
+    ghost table = { table.FmSummaryXref };
 
     ghost values = { fm_summary_xref_values };
 
@@ -247,7 +247,7 @@ impl TypedRow<3> for FmSummaryXref {
 }
 
 impl TypedRow<5> for Occurrence {
-    ghost kinds = { kinds_of table.Occurrence };
+    ghost table = { table.Occurrence };
 
     ghost values = { occurrence_values };
 
@@ -264,7 +264,7 @@ impl TypedRow<5> for Occurrence {
 }
 
 impl TypedRow<1> for ReturnPeriod {
-    ghost kinds = { kinds_of table.ReturnPeriods };
+    ghost table = { table.ReturnPeriods };
 
     ghost values = { return_period_values };
 
