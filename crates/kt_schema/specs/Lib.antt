@@ -6,4 +6,3 @@ pub mod Laws
 pub mod Loading
 pub mod Rows
 pub mod Tables
-pub mod Plain
