@@ -1,16 +1,27 @@
 //! The rows of the tables, made of their values.
 //! The rule: docs/TABLES.md, "Columns".
-ghost use Rattle.std.specs.Prelude.{◌≡◌, ℕ, List};
+ghost use Rattle.std.specs.Prelude.{◌≡◌, ◌<◌, ℕ, List, Ok, map, length};
 ghost use Rattle.kt_cells.specs.Ranges.{FitsBytes};
 ghost use Rattle.kt_rec.specs.declared.table.Table.{Table};
 ghost use Rattle.kt_rec.specs.declared.table.Table.TheVariants as table;
+ghost use Rattle.kt_schema.specs.Loading.{HasRows, LoadsTable, loaded_rows};
 ghost use Rattle.kt_schema.specs.Tables.{kinds_of};
 ghost use Rattle.kt_schema.specs.Rows.{event_values, item_values, coverage_values, footprint_idx_values, vulnerability_values, damage_bin_values, random_values, fm_programme_values, fm_policytc_values, fm_profile_values, fm_xref_values, gul_summary_xref_values, fm_summary_xref_values, occurrence_values, return_period_values};
 
 use kt_rec::{
-    Coverage, DamageBin, Event, FmPolicytc, FmProfile, FmProgramme, FmSummaryXref, FmXref,
-    FootprintIdx, GulSummaryXref, Item, Occurrence, Random, ReturnPeriod, Vulnerability,
+    Coverage, DamageBin, Event, FinancialTables, FmPolicytc, FmProfile, FmProgramme, FmSummaryXref,
+    FmXref, FootprintIdx, GulSummaryXref, Item, Occurrence, Random, ReturnPeriod, Tables,
+    Vulnerability,
 };
+use std::mem::swap;
+
+// The base and nine stages have financial tables.
+fn are_ten(tables: &Tables)
+    ensures { length tables.now.financial ≡ 10 }
+{
+    let parts: &[FinancialTables] = &tables.financial;
+    let _count = parts.len();
+}
 
 /// A row of `N` columns.
 pub trait TypedRow<const N: usize>: Copy {
@@ -24,6 +35,12 @@ pub trait TypedRow<const N: usize>: Copy {
     fn from_values(row: &[u64; N]) -> Self
         requires { FitsBytes (kinds_of table) row.now }
         ensures { values result ≡ row.now };
+
+    /// Puts the rows of a file into the list of the table, of the base, at 0, or of a stage, in place of what is there, and for
+    /// `occurrence` the number that its header ends with. The list that is handed over has then what was there.
+    fn keep(into: &mut Tables, stage: usize, extra: u32, list: &mut Vec<Self>)
+        requires { stage < 10 }
+        ensures { (bytes : List ℕ) → HasRows table bytes (map values list.old.items) → loaded_rows table bytes ≡ Ok (extra, map values list.old.items) → LoadsTable table stage bytes into.old into.new };
 }
 
 impl TypedRow<1> for Event {
@@ -36,6 +53,10 @@ impl TypedRow<1> for Event {
         Event {
             event_id: event_id as u32,
         }
+    }
+
+    fn keep(into: &mut Tables, _stage: usize, _extra: u32, list: &mut Vec<Self>) {
+        swap(&mut into.events, list);
     }
 }
 
@@ -60,6 +81,10 @@ impl TypedRow<5> for Item {
             group_id: group_id as u32,
         }
     }
+
+    fn keep(into: &mut Tables, _stage: usize, _extra: u32, list: &mut Vec<Self>) {
+        swap(&mut into.items, list);
+    }
 }
 
 impl TypedRow<2> for Coverage {
@@ -73,6 +98,10 @@ impl TypedRow<2> for Coverage {
             coverage_id: coverage_id as u32,
             tiv,
         }
+    }
+
+    fn keep(into: &mut Tables, _stage: usize, _extra: u32, list: &mut Vec<Self>) {
+        swap(&mut into.coverages, list);
     }
 }
 
@@ -89,6 +118,10 @@ impl TypedRow<3> for FootprintIdx {
             size,
         }
     }
+
+    fn keep(into: &mut Tables, _stage: usize, _extra: u32, list: &mut Vec<Self>) {
+        swap(&mut into.footprint_idx, list);
+    }
 }
 
 impl TypedRow<4> for Vulnerability {
@@ -104,6 +137,10 @@ impl TypedRow<4> for Vulnerability {
             damage_bin_id: damage_bin_id as u32,
             prob: prob as u32,
         }
+    }
+
+    fn keep(into: &mut Tables, _stage: usize, _extra: u32, list: &mut Vec<Self>) {
+        swap(&mut into.vulnerability, list);
     }
 }
 
@@ -122,6 +159,10 @@ impl TypedRow<5> for DamageBin {
             interval_type: interval_type as u32,
         }
     }
+
+    fn keep(into: &mut Tables, _stage: usize, _extra: u32, list: &mut Vec<Self>) {
+        swap(&mut into.damage_bin_dict, list);
+    }
 }
 
 impl TypedRow<1> for Random {
@@ -134,6 +175,10 @@ impl TypedRow<1> for Random {
         Random {
             random: random as u32,
         }
+    }
+
+    fn keep(into: &mut Tables, _stage: usize, _extra: u32, list: &mut Vec<Self>) {
+        swap(&mut into.random, list);
     }
 }
 
@@ -150,6 +195,11 @@ impl TypedRow<3> for FmProgramme {
             to_agg_id: to_agg_id as u32,
         }
     }
+
+    fn keep(into: &mut Tables, stage: usize, _extra: u32, list: &mut Vec<Self>) {
+        are_ten(into);
+        swap(&mut into.financial[stage].programme, list);
+    }
 }
 
 impl TypedRow<4> for FmPolicytc {
@@ -165,6 +215,11 @@ impl TypedRow<4> for FmPolicytc {
             agg_id: agg_id as u32,
             policytc_id: policytc_id as u32,
         }
+    }
+
+    fn keep(into: &mut Tables, stage: usize, _extra: u32, list: &mut Vec<Self>) {
+        are_ten(into);
+        swap(&mut into.financial[stage].policytc, list);
     }
 }
 
@@ -199,6 +254,11 @@ impl TypedRow<10> for FmProfile {
             share3: share3 as u32,
         }
     }
+
+    fn keep(into: &mut Tables, stage: usize, _extra: u32, list: &mut Vec<Self>) {
+        are_ten(into);
+        swap(&mut into.financial[stage].profile, list);
+    }
 }
 
 impl TypedRow<3> for FmXref {
@@ -213,6 +273,10 @@ impl TypedRow<3> for FmXref {
             agg_id: agg_id as u32,
             layer_id: layer_id as u32,
         }
+    }
+
+    fn keep(into: &mut Tables, _stage: usize, _extra: u32, list: &mut Vec<Self>) {
+        swap(&mut into.fm_xref, list);
     }
 }
 
@@ -229,6 +293,10 @@ impl TypedRow<3> for GulSummaryXref {
             summaryset_id: summaryset_id as u32,
         }
     }
+
+    fn keep(into: &mut Tables, _stage: usize, _extra: u32, list: &mut Vec<Self>) {
+        swap(&mut into.gulsummaryxref, list);
+    }
 }
 
 impl TypedRow<3> for FmSummaryXref {
@@ -243,6 +311,10 @@ impl TypedRow<3> for FmSummaryXref {
             summary_id: summary_id as u32,
             summaryset_id: summaryset_id as u32,
         }
+    }
+
+    fn keep(into: &mut Tables, _stage: usize, _extra: u32, list: &mut Vec<Self>) {
+        swap(&mut into.fmsummaryxref, list);
     }
 }
 
@@ -261,6 +333,11 @@ impl TypedRow<5> for Occurrence {
             occ_day: occ_day as u32,
         }
     }
+
+    fn keep(into: &mut Tables, _stage: usize, extra: u32, list: &mut Vec<Self>) {
+        swap(&mut into.occurrence, list);
+        into.periods = extra;
+    }
 }
 
 impl TypedRow<1> for ReturnPeriod {
@@ -273,5 +350,9 @@ impl TypedRow<1> for ReturnPeriod {
         ReturnPeriod {
             return_period: return_period as u32,
         }
+    }
+
+    fn keep(into: &mut Tables, _stage: usize, _extra: u32, list: &mut Vec<Self>) {
+        swap(&mut into.returnperiods, list);
     }
 }
