@@ -21,3 +21,9 @@ stage_list Has Refused (Ok done) tables stage part put new old is same has refus
 stage_list Has Refused (Err stop) tables stage part put new old is same has refused unchanged =
     let before = get_or tables.financial stage part in
     record { ok = has; refused = refused; unchanged = ap (λ list. record tables { financial = slice_set tables.financial stage (put before list) }) unchanged ∙ (ap (λ p. record tables { financial = slice_set tables.financial stage p }) same ∙ ap (λ f. record tables { financial = f }) (set-get_or tables.financial stage part)) }
+
+-- a list that is put into the tables of a stage
+pub stage_put : {L : Type 0} (Has : L → Type 0) (tables : Tables) (stage : ℕ) (part : FinancialTables) (put : FinancialTables → L → FinancialTables) (list now : L) → Has list → part ≡ get_or tables.financial stage part → now ≡ list →
+    (before : FinancialTables) × ((new : L) × (Has new × ChangesStage stage tables (record tables { financial = slice_set tables.financial stage (put (get_or tables.financial stage part) now) }) before (put before new)))
+stage_put {L = L} Has tables stage part put list now has is same =
+    (get_or tables.financial stage part, (list, (has, record { was = ap (λ p. get_or tables.financial stage p) is; becomes = ap (λ (l : L). record tables { financial = slice_set tables.financial stage (put (get_or tables.financial stage part) l) }) same })))

@@ -13,6 +13,7 @@ mod shared;
 mod to_bin;
 mod to_csv;
 mod typed_row;
+mod visit;
 
 pub use footprint::footprint_to_csv;
 pub use headings::heading;
@@ -29,3 +30,5 @@ pub use schema::{
 };
 pub use to_bin::{csv_to_bin, push_header_part};
 pub use to_csv::{MOST_PERIODS, bin_to_csv, body, extra};
+pub use typed_row::TypedRow;
+pub use visit::{RowVisitor, TableVisitor, visit_table};

@@ -6,6 +6,7 @@ ghost use Rattle.kt_cells.specs.Stops.{Tells};
 ghost use Rattle.kt_rec.specs.TableNames.{IsTableId};
 ghost use Rattle.kt_schema.specs.Conversions.{body_rows};
 ghost use Rattle.kt_schema.specs.Loading.{HasRowsOf, Loads, loaded_rows};
+ghost use Rattle.kt_schema.specs.Tables.{kinds_of};
 
 use crate::schema::*;
 use crate::to_csv::{MOST_PERIODS, extra, read_file};
@@ -21,7 +22,7 @@ struct TypedRows<T> {
 }
 
 impl<const N: usize, T: TypedRow<N>> RowSink<N> for TypedRows<T> {
-    ghost takes = { FitsBytes T.kinds };
+    ghost takes = { FitsBytes (kinds_of T.table) };
 
     ghost takes_to = { λ _ start rows list. map T.values list.rows.items ≡ map T.values start.rows.items ++ rows };
 
@@ -45,7 +46,7 @@ fn load_counted<const N: usize, T: TypedRow<N>>(
 ) -> Result<u32, TableStop>
     requires size { N < 100 }
     requires some { 0 < N }
-    requires kinds { T.kinds ≡ schema.now.kinds.now }
+    requires kinds { kinds_of T.table ≡ schema.now.kinds.now }
     ensures value { IfOk result (λ extra. body_rows schema.now.header schema.now.number least most 1 schema.now.kinds.now bytes.now ≡ Ok (extra, map T.values list.new.items)) }
     ensures ranges { OnOk result (AreRows schema.now.kinds.now (map T.values list.new.items)) }
 
@@ -71,7 +72,7 @@ fn load<const N: usize, T: TypedRow<N>>(
 ) -> Result<(), TableStop>
     requires size { N < 100 }
     requires some { 0 < N }
-    requires kinds { T.kinds ≡ schema.now.kinds.now }
+    requires kinds { kinds_of T.table ≡ schema.now.kinds.now }
     ensures ok { OnOk result (HasRowsOf (body_rows schema.now.header schema.now.number 0 0 1 schema.now.kinds.now bytes.now) schema.now.kinds.now (map T.values list.new.items)) }
 
     ensures refused { IfErr result (Tells (body_rows schema.now.header schema.now.number 0 0 1 schema.now.kinds.now bytes.now)) }

@@ -11,10 +11,12 @@ ghost use Rattle.kt_schema.specs.Tables.{kinds_of};
 
 use crate::index::IndexRecords;
 use crate::record_sinks::{FootprintRecords, Records};
-use crate::schema::*;
-use kt_cells::{TableStop, push_header, read_text};
+use crate::schema::FOOTPRINT;
+use crate::typed_row::TypedRow;
+use crate::visit::{RowVisitor, TableVisitor, visit_table};
+use kt_cells::{Kind, TableStop, push_header, read_text};
 use kt_money::Bytes;
-use kt_rec::Table;
+use kt_rec::{Table, describe};
 use std::alloc::{AllocError, Global};
 
 /// Appends the header of a file that has one. An error is want of memory; then a part of it may stand behind what was there.
@@ -35,27 +37,38 @@ pub fn push_header_part(
     }
 }
 
-// The file of a table whose records have all its columns. Each table has its own copy of this code, in which its kinds are known.
-#[inline(always)]
-fn converted<const N: usize>(
+// Makes the file of a text.
+#[derive(Clone, Copy)]
+struct ToBin<'a> {
     alloc: Global,
-    table: Table,
-    schema: &Schema<N>,
     extra: u32,
-    text: &[u8],
-) -> Result<Bytes, TableStop>
-    requires size { N < 100 }
-    requires some { 0 < N }
-    requires schema { csv_bin table extra text.now ≡ and_then (text_rows false schema.now.kinds.now text.now) (λ rows. Ok (file_bytes schema.now.header schema.now.number extra schema.now.kinds.now rows)) }
-    ensures value { IfOk result (λ bytes. csv_bin table extra text.now ≡ Ok bytes) }
+    text: &'a [u8],
+}
 
-    ensures refused { IfErr result (Tells (csv_bin table extra text.now)) }
-{
-    let mut out = Bytes::new(alloc);
-    push_header_part(&mut out, schema.header, schema.number, extra)?;
-    let mut records = Records { out };
-    read_text(alloc, text, schema.kinds, false, &mut records)?;
-    Ok(records.out)
+impl<'a> TableVisitor<(), Result<Bytes, TableStop>> for ToBin<'a> {
+    ghost use Rattle.std.specs.Prelude.{◌≢◌, IfOk, IfErr};
+    ghost use Rattle.kt_rec.specs.declared.table.Table.TheVariants.{FootprintIdx};
+
+    ghost takes = { λ _ table. table ≢ FootprintIdx };
+
+    ghost gives = { λ it table _ _ made. IfOk made (λ bytes. csv_bin table it.extra it.text.now ≡ Ok bytes) × IfErr made (Tells (csv_bin table it.extra it.text.now)) };
+}
+
+impl<'a, const N: usize> RowVisitor<N, (), Result<Bytes, TableStop>> for ToBin<'a> {
+    // Each table has its own copy of this code, in which its kinds are known.
+    #[inline(always)]
+    fn visit<T: TypedRow<N>>(
+        self,
+        _world: &mut (),
+        table: Table,
+        kinds: &'static [Kind; N],
+    ) -> Result<Bytes, TableStop> {
+        let mut out = Bytes::new(self.alloc);
+        push_header_part(&mut out, describe(table).header, table.number(), self.extra)?;
+        let mut records = Records { out };
+        read_text(self.alloc, self.text, kinds, false, &mut records)?;
+        Ok(records.out)
+    }
 }
 
 /// The file of a table, from its text. `extra` is the number of periods for `occurrence`, and 0 else.
@@ -67,28 +80,10 @@ pub fn csv_to_bin(alloc: Global, table: Table, extra: u32, text: &[u8]) -> Resul
 
     ensures refused { IfErr result (Tells (csv_bin table extra text.now)) }
 {
-    macro_rules! convert {
-        ($schema:expr) => {
-            converted(alloc, table, &$schema, extra, text)
-        };
-    }
     match table {
         Table::Footprint => footprint(alloc, text),
         Table::FootprintIdx => footprint_index(alloc, text),
-        Table::Events => convert!(EVENTS),
-        Table::Items => convert!(ITEMS),
-        Table::Coverages => convert!(COVERAGES),
-        Table::Vulnerability => convert!(VULNERABILITY),
-        Table::DamageBinDict => convert!(DAMAGE_BIN_DICT),
-        Table::Random => convert!(RANDOM),
-        Table::FmProgramme => convert!(FM_PROGRAMME),
-        Table::FmPolicytc => convert!(FM_POLICYTC),
-        Table::FmProfile => convert!(FM_PROFILE),
-        Table::FmXref => convert!(FM_XREF),
-        Table::GulSummaryXref => convert!(GUL_SUMMARY_XREF),
-        Table::FmSummaryXref => convert!(FM_SUMMARY_XREF),
-        Table::Occurrence => convert!(OCCURRENCE),
-        Table::ReturnPeriods => convert!(RETURN_PERIODS),
+        _ => visit_table(ToBin { alloc, extra, text }, &mut (), table),
     }
 }
 

@@ -6,11 +6,14 @@ ghost use Rattle.kt_cells.specs.Stops.{Tells};
 ghost use Rattle.kt_schema.specs.Conversions.{HandsFile, bin_csv, bin_rows, body_rows, extra_of, body_of};
 ghost use Rattle.kt_schema.specs.Tables.{kinds_of};
 
-use crate::headings::heading;
-use crate::schema::*;
-use kt_cells::{HEADER_WIDTH, RowSink, TableStop, push_record_lines, read_header, read_records};
+use crate::schema::Schema;
+use crate::typed_row::TypedRow;
+use crate::visit::{RowVisitor, TableVisitor, visit_table};
+use kt_cells::{
+    HEADER_WIDTH, Kind, RowSink, TableStop, push_record_lines, read_header, read_records,
+};
 use kt_money::Bytes;
-use kt_rec::Table;
+use kt_rec::{Table, describe};
 use std::alloc::Global;
 
 /// The greatest number of periods.
@@ -67,29 +70,38 @@ pub(crate) fn read_file<const N: usize, S: RowSink<N>>(
     Ok(extra)
 }
 
-// The text of the file of a table, under its heading. Each table has its own copy of this code, in which its kinds are known.
-#[inline(always)]
-fn converted<const N: usize>(
+// Makes the text of a file.
+#[derive(Clone, Copy)]
+struct ToCsv<'a> {
     alloc: Global,
-    table: Table,
-    schema: &Schema<N>,
-    least: u32,
-    most: u32,
-    bytes: &[u8],
-) -> Result<Bytes, TableStop>
-    requires size { N < 100 }
-    requires some { 0 < N }
-    requires kinds { kinds_of table ≡ schema.now.kinds.now }
-    requires rows { bin_rows table bytes.now ≡ body_rows schema.now.header schema.now.number least most 1 schema.now.kinds.now bytes.now }
-    ensures value { IfOk result (λ text. bin_csv table bytes.now ≡ Ok text) }
+    bytes: &'a [u8],
+}
 
-    ensures refused { IfErr result (Tells (bin_csv table bytes.now)) }
-{
-    let _extra = extra(schema.header, schema.number, least, most, bytes)?;
-    let mut out = Bytes::new(alloc);
-    out.append(heading(table))?;
-    push_record_lines(&mut out, None, schema.kinds, 1, body(schema.header, bytes))?;
-    Ok(out)
+impl<'a> TableVisitor<(), Result<Bytes, TableStop>> for ToCsv<'a> {
+    ghost use Rattle.std.specs.Prelude.{⊤, IfOk, IfErr};
+
+    ghost takes = { λ _ _. ⊤ };
+
+    ghost gives = { λ it table _ _ made. IfOk made (λ text. bin_csv table it.bytes.now ≡ Ok text) × IfErr made (Tells (bin_csv table it.bytes.now)) };
+}
+
+impl<'a, const N: usize> RowVisitor<N, (), Result<Bytes, TableStop>> for ToCsv<'a> {
+    // Each table has its own copy of this code, in which its kinds are known.
+    #[inline(always)]
+    fn visit<T: TypedRow<N>>(
+        self,
+        _world: &mut (),
+        table: Table,
+        kinds: &'static [Kind; N],
+    ) -> Result<Bytes, TableStop> {
+        let is = describe(table);
+        let number = table.number();
+        let _extra = extra(is.header, number, is.least_extra, is.most_extra, self.bytes)?;
+        let mut out = Bytes::new(self.alloc);
+        out.append(is.heading)?;
+        push_record_lines(&mut out, None, kinds, 1, body(is.header, self.bytes))?;
+        Ok(out)
+    }
 }
 
 /// The text of a table, from its file; for the footprint see `footprint_to_csv`.
@@ -102,27 +114,5 @@ pub fn bin_to_csv(alloc: Global, table: Table, bytes: &[u8]) -> Result<Bytes, Ta
 
     ensures refused { IfErr result (Tells (bin_csv table bytes.now)) }
 {
-    macro_rules! convert {
-        ($schema:expr) => {
-            converted(alloc, table, &$schema, 0, 0, bytes)
-        };
-    }
-    match table {
-        Table::Footprint => unreachable!(),
-        Table::Occurrence => converted(alloc, table, &OCCURRENCE, 1, MOST_PERIODS, bytes),
-        Table::Events => convert!(EVENTS),
-        Table::Items => convert!(ITEMS),
-        Table::Coverages => convert!(COVERAGES),
-        Table::FootprintIdx => convert!(FOOTPRINT_IDX),
-        Table::Vulnerability => convert!(VULNERABILITY),
-        Table::DamageBinDict => convert!(DAMAGE_BIN_DICT),
-        Table::Random => convert!(RANDOM),
-        Table::FmProgramme => convert!(FM_PROGRAMME),
-        Table::FmPolicytc => convert!(FM_POLICYTC),
-        Table::FmProfile => convert!(FM_PROFILE),
-        Table::FmXref => convert!(FM_XREF),
-        Table::GulSummaryXref => convert!(GUL_SUMMARY_XREF),
-        Table::FmSummaryXref => convert!(FM_SUMMARY_XREF),
-        Table::ReturnPeriods => convert!(RETURN_PERIODS),
-    }
+    visit_table(ToCsv { alloc, bytes }, &mut (), table)
 }

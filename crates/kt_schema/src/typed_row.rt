@@ -1,33 +1,50 @@
 //! The rows of the tables, made of their values.
 //! The rule: docs/TABLES.md, "Columns".
-ghost use Rattle.std.specs.Prelude.{◌≡◌, ℕ, List};
+ghost use Rattle.std.specs.Prelude.{◌≡◌, ◌<◌, ℕ, List, Ok, map, length};
 ghost use Rattle.kt_cells.specs.Ranges.{FitsBytes};
-ghost use Rattle.kt_rec.specs.declared.kind.Kind.{Kind};
+ghost use Rattle.kt_rec.specs.declared.table.Table.{Table};
 ghost use Rattle.kt_rec.specs.declared.table.Table.TheVariants as table;
+ghost use Rattle.kt_schema.specs.Loading.{HasRows, LoadsTable, loaded_rows};
 ghost use Rattle.kt_schema.specs.Tables.{kinds_of};
 ghost use Rattle.kt_schema.specs.Rows.{event_values, item_values, coverage_values, footprint_idx_values, vulnerability_values, damage_bin_values, random_values, fm_programme_values, fm_policytc_values, fm_profile_values, fm_xref_values, gul_summary_xref_values, fm_summary_xref_values, occurrence_values, return_period_values};
 
 use kt_rec::{
-    Coverage, DamageBin, Event, FmPolicytc, FmProfile, FmProgramme, FmSummaryXref, FmXref,
-    FootprintIdx, GulSummaryXref, Item, Occurrence, Random, ReturnPeriod, Vulnerability,
+    Coverage, DamageBin, Event, FinancialTables, FmPolicytc, FmProfile, FmProgramme, FmSummaryXref,
+    FmXref, FootprintIdx, GulSummaryXref, Item, Occurrence, Random, ReturnPeriod, Tables,
+    Vulnerability,
 };
+use std::mem::swap;
+
+// The base and nine stages have financial tables.
+fn are_ten(tables: &Tables)
+    ensures { length tables.now.financial ≡ 10 }
+{
+    let parts: &[FinancialTables] = &tables.financial;
+    let _count = parts.len();
+}
 
 /// A row of `N` columns.
-pub(crate) trait TypedRow<const N: usize>: Copy {
-    // The kinds of the columns.
-    ghost kinds: { List Kind };
+pub trait TypedRow<const N: usize>: Copy {
+    // The table.
+    ghost table: { Table };
 
     // The values of the columns.
     ghost values: { Self → List ℕ };
 
     /// The row with these values.
     fn from_values(row: &[u64; N]) -> Self
-        requires { FitsBytes kinds row.now }
+        requires { FitsBytes (kinds_of table) row.now }
         ensures { values result ≡ row.now };
+
+    /// Puts the rows of a file into the list of the table, of the base, at 0, or of a stage, in place of what is there, and for
+    /// `occurrence` the number that its header ends with. The list that is handed over has then what was there.
+    fn keep(into: &mut Tables, stage: usize, extra: u32, list: &mut Vec<Self>)
+        requires { stage < 10 }
+        ensures { (bytes : List ℕ) → HasRows table bytes (map values list.old.items) → loaded_rows table bytes ≡ Ok (extra, map values list.old.items) → LoadsTable table stage bytes into.old into.new };
 }
 
 impl TypedRow<1> for Event {
-    ghost kinds = { kinds_of table.Events };
+    ghost table = { table.Events };
 
     ghost values = { event_values };
 
@@ -37,10 +54,14 @@ impl TypedRow<1> for Event {
             event_id: event_id as u32,
         }
     }
+
+    fn keep(into: &mut Tables, _stage: usize, _extra: u32, list: &mut Vec<Self>) {
+        swap(&mut into.events, list);
+    }
 }
 
 impl TypedRow<5> for Item {
-    ghost kinds = { kinds_of table.Items };
+    ghost table = { table.Items };
 
     ghost values = { item_values };
 
@@ -60,10 +81,14 @@ impl TypedRow<5> for Item {
             group_id: group_id as u32,
         }
     }
+
+    fn keep(into: &mut Tables, _stage: usize, _extra: u32, list: &mut Vec<Self>) {
+        swap(&mut into.items, list);
+    }
 }
 
 impl TypedRow<2> for Coverage {
-    ghost kinds = { kinds_of table.Coverages };
+    ghost table = { table.Coverages };
 
     ghost values = { coverage_values };
 
@@ -74,10 +99,14 @@ impl TypedRow<2> for Coverage {
             tiv,
         }
     }
+
+    fn keep(into: &mut Tables, _stage: usize, _extra: u32, list: &mut Vec<Self>) {
+        swap(&mut into.coverages, list);
+    }
 }
 
 impl TypedRow<3> for FootprintIdx {
-    ghost kinds = { kinds_of table.FootprintIdx };
+    ghost table = { table.FootprintIdx };
 
     ghost values = { footprint_idx_values };
 
@@ -89,10 +118,14 @@ impl TypedRow<3> for FootprintIdx {
             size,
         }
     }
+
+    fn keep(into: &mut Tables, _stage: usize, _extra: u32, list: &mut Vec<Self>) {
+        swap(&mut into.footprint_idx, list);
+    }
 }
 
 impl TypedRow<4> for Vulnerability {
-    ghost kinds = { kinds_of table.Vulnerability };
+    ghost table = { table.Vulnerability };
 
     ghost values = { vulnerability_values };
 
@@ -105,10 +138,14 @@ impl TypedRow<4> for Vulnerability {
             prob: prob as u32,
         }
     }
+
+    fn keep(into: &mut Tables, _stage: usize, _extra: u32, list: &mut Vec<Self>) {
+        swap(&mut into.vulnerability, list);
+    }
 }
 
 impl TypedRow<5> for DamageBin {
-    ghost kinds = { kinds_of table.DamageBinDict };
+    ghost table = { table.DamageBinDict };
 
     ghost values = { damage_bin_values };
 
@@ -122,10 +159,14 @@ impl TypedRow<5> for DamageBin {
             interval_type: interval_type as u32,
         }
     }
+
+    fn keep(into: &mut Tables, _stage: usize, _extra: u32, list: &mut Vec<Self>) {
+        swap(&mut into.damage_bin_dict, list);
+    }
 }
 
 impl TypedRow<1> for Random {
-    ghost kinds = { kinds_of table.Random };
+    ghost table = { table.Random };
 
     ghost values = { random_values };
 
@@ -135,10 +176,14 @@ impl TypedRow<1> for Random {
             random: random as u32,
         }
     }
+
+    fn keep(into: &mut Tables, _stage: usize, _extra: u32, list: &mut Vec<Self>) {
+        swap(&mut into.random, list);
+    }
 }
 
 impl TypedRow<3> for FmProgramme {
-    ghost kinds = { kinds_of table.FmProgramme };
+    ghost table = { table.FmProgramme };
 
     ghost values = { fm_programme_values };
 
@@ -150,10 +195,15 @@ impl TypedRow<3> for FmProgramme {
             to_agg_id: to_agg_id as u32,
         }
     }
+
+    fn keep(into: &mut Tables, stage: usize, _extra: u32, list: &mut Vec<Self>) {
+        are_ten(into);
+        swap(&mut into.financial[stage].programme, list);
+    }
 }
 
 impl TypedRow<4> for FmPolicytc {
-    ghost kinds = { kinds_of table.FmPolicytc };
+    ghost table = { table.FmPolicytc };
 
     ghost values = { fm_policytc_values };
 
@@ -166,10 +216,15 @@ impl TypedRow<4> for FmPolicytc {
             policytc_id: policytc_id as u32,
         }
     }
+
+    fn keep(into: &mut Tables, stage: usize, _extra: u32, list: &mut Vec<Self>) {
+        are_ten(into);
+        swap(&mut into.financial[stage].policytc, list);
+    }
 }
 
 impl TypedRow<10> for FmProfile {
-    ghost kinds = { kinds_of table.FmProfile };
+    ghost table = { table.FmProfile };
 
     ghost values = { fm_profile_values };
 
@@ -199,10 +254,15 @@ impl TypedRow<10> for FmProfile {
             share3: share3 as u32,
         }
     }
+
+    fn keep(into: &mut Tables, stage: usize, _extra: u32, list: &mut Vec<Self>) {
+        are_ten(into);
+        swap(&mut into.financial[stage].profile, list);
+    }
 }
 
 impl TypedRow<3> for FmXref {
-    ghost kinds = { kinds_of table.FmXref };
+    ghost table = { table.FmXref };
 
     ghost values = { fm_xref_values };
 
@@ -214,10 +274,14 @@ impl TypedRow<3> for FmXref {
             layer_id: layer_id as u32,
         }
     }
+
+    fn keep(into: &mut Tables, _stage: usize, _extra: u32, list: &mut Vec<Self>) {
+        swap(&mut into.fm_xref, list);
+    }
 }
 
 impl TypedRow<3> for GulSummaryXref {
-    ghost kinds = { kinds_of table.GulSummaryXref };
+    ghost table = { table.GulSummaryXref };
 
     ghost values = { gul_summary_xref_values };
 
@@ -229,10 +293,14 @@ impl TypedRow<3> for GulSummaryXref {
             summaryset_id: summaryset_id as u32,
         }
     }
+
+    fn keep(into: &mut Tables, _stage: usize, _extra: u32, list: &mut Vec<Self>) {
+        swap(&mut into.gulsummaryxref, list);
+    }
 }
 
 impl TypedRow<3> for FmSummaryXref {
-    ghost kinds = { kinds_of table.FmSummaryXref };
+    ghost table = { table.FmSummaryXref };
 
     ghost values = { fm_summary_xref_values };
 
@@ -244,10 +312,14 @@ impl TypedRow<3> for FmSummaryXref {
             summaryset_id: summaryset_id as u32,
         }
     }
+
+    fn keep(into: &mut Tables, _stage: usize, _extra: u32, list: &mut Vec<Self>) {
+        swap(&mut into.fmsummaryxref, list);
+    }
 }
 
 impl TypedRow<5> for Occurrence {
-    ghost kinds = { kinds_of table.Occurrence };
+    ghost table = { table.Occurrence };
 
     ghost values = { occurrence_values };
 
@@ -261,10 +333,15 @@ impl TypedRow<5> for Occurrence {
             occ_day: occ_day as u32,
         }
     }
+
+    fn keep(into: &mut Tables, _stage: usize, extra: u32, list: &mut Vec<Self>) {
+        swap(&mut into.occurrence, list);
+        into.periods = extra;
+    }
 }
 
 impl TypedRow<1> for ReturnPeriod {
-    ghost kinds = { kinds_of table.ReturnPeriods };
+    ghost table = { table.ReturnPeriods };
 
     ghost values = { return_period_values };
 
@@ -273,5 +350,9 @@ impl TypedRow<1> for ReturnPeriod {
         ReturnPeriod {
             return_period: return_period as u32,
         }
+    }
+
+    fn keep(into: &mut Tables, _stage: usize, _extra: u32, list: &mut Vec<Self>) {
+        swap(&mut into.returnperiods, list);
     }
 }
