@@ -1,5 +1,5 @@
 -- A list that is put into the tables of a stage, and what it leaves of the others.
-use Rattle.std.proofs.Common.{◌≡◌, ℕ, refl, ap, get_or}
+use Rattle.std.proofs.Common.{◌≡◌, ℕ, ap, get_or}
 use Rattle.std.specs.Prelude.{slice_set}
 use Rattle.kt_rec.specs.declared.tables.FinancialTables.{FinancialTables}
 use Rattle.kt_rec.specs.declared.tables.Tables.{Tables}

@@ -1,6 +1,6 @@
 -- What stands in the files and texts of the tables.
 -- The rules: docs/TABLES.md, "Texts of tables", "Files of tables".
-use Rattle.std.specs.Prelude.{◌≡◌, ℕ, Bool, true, false, List, [], ◌++◌, drop, map, if◌then◌else◌, Result, Ok}
+use Rattle.std.specs.Prelude.{ℕ, Bool, true, false, List, [], ◌++◌, drop, map, if◌then◌else◌, Result, Ok}
 use Rattle.kt_rec.specs.TableNames.{number_of}
 use Rattle.kt_rec.specs.declared.table.Table.{Table}
 use Rattle.kt_rec.specs.declared.table.Table.TheVariants as table
