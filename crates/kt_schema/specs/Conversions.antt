@@ -1,13 +1,12 @@
 -- What stands in the files and texts of the tables.
 -- The rules: docs/TABLES.md, "Texts of tables", "Files of tables".
-use Rattle.std.specs.Prelude.{◌≡◌, ℕ, Bool, true, false, List, [], ◌++◌, drop, map, if◌then◌else◌, Result, Ok}
+use Rattle.std.specs.Prelude.{ℕ, Bool, true, false, List, [], ◌++◌, drop, map, if◌then◌else◌, Result, Ok}
 use Rattle.kt_rec.specs.TableNames.{number_of}
 use Rattle.kt_rec.specs.declared.table.Table.{Table}
 use Rattle.kt_rec.specs.declared.table.Table.TheVariants as table
 use Rattle.kt_cells.specs.Header.{header_extra, header_bytes, header_width}
 use Rattle.kt_rec.specs.Lines.{line}
 use Rattle.kt_cells.specs.Lines.{rows_lines}
-use Rattle.kt_cells.specs.Ranges.{AreRows}
 use Rattle.kt_cells.specs.Reading.{and_then}
 use Rattle.kt_cells.specs.Records.{record_rows, records_bytes}
 use Rattle.kt_cells.specs.Texts.{text_rows}
@@ -62,13 +61,6 @@ abbrev pub body_rows : Bool → ℕ → ℕ → ℕ → ℕ → List Kind → Li
 body_rows header number least most first kinds bytes =
     and_then (extra_of header number least most bytes) (λ extra.
     and_then (record_rows first kinds (body_of header bytes)) (λ rows. Ok (extra, rows)))
-
--- the rows of a file and the number that its header ends with were read, and a sink has taken the rows
-pub record HandsFile (takes_to : List (List ℕ) → Type 0) (kinds : List Kind) (read : Result (ℕ × List (List ℕ)) TableStop) (extra : ℕ) : Type 0 where
-  pub rows : List (List ℕ)
-  pub are_read : read ≡ Ok (extra, rows)
-  pub are_taken : takes_to rows
-  pub in_range : AreRows kinds rows
 
 -- the rows of the file of a table, and the number that its header ends with. A record of the footprint begins with the
 -- second column

@@ -8,11 +8,11 @@ ghost use Rattle.kt_schema.specs.Conversions.{body_rows};
 ghost use Rattle.kt_schema.specs.Loading.{HasRowsOf, Loads, loaded_rows};
 ghost use Rattle.kt_schema.specs.Tables.{kinds_of};
 
-use crate::schema::*;
-use crate::to_csv::{MOST_PERIODS, extra, read_file};
+use crate::to_csv::{body, extra};
 use crate::typed_row::TypedRow;
-use kt_cells::{Kind, RowSink, TableStop};
-use kt_rec::{Table, TableId, Tables};
+use crate::visit::{RowVisitor, TableVisitor, visit_table};
+use kt_cells::{Kind, RowSink, TableStop, read_records};
+use kt_rec::{Table, TableId, Tables, describe};
 use std::alloc::{AllocError, Global};
 
 // Rows, each made of its values.
@@ -33,54 +33,42 @@ impl<const N: usize, T: TypedRow<N>> RowSink<N> for TypedRows<T> {
     }
 }
 
-// Reads the rows of a file into a list, in place of what is there; the number that its header ends with. Each table has its
-// own copy of this code, in which its kinds are known.
-#[inline(always)]
-fn load_counted<const N: usize, T: TypedRow<N>>(
+// Reads the file of a table.
+#[derive(Clone, Copy)]
+struct Reading<'a> {
     alloc: Global,
-    schema: &Schema<N>,
-    least: u32,
-    most: u32,
-    bytes: &[u8],
-    list: &mut Vec<T>,
-) -> Result<u32, TableStop>
-    requires size { N < 100 }
-    requires some { 0 < N }
-    requires kinds { kinds_of T.table ≡ schema.now.kinds.now }
-    ensures value { IfOk result (λ extra. body_rows schema.now.header schema.now.number least most 1 schema.now.kinds.now bytes.now ≡ Ok (extra, map T.values list.new.items)) }
-    ensures ranges { OnOk result (AreRows schema.now.kinds.now (map T.values list.new.items)) }
-
-    ensures refused { IfErr result (Tells (body_rows schema.now.header schema.now.number least most 1 schema.now.kinds.now bytes.now)) }
-
-    ensures unchanged { OnErr result (list.new ≡ list.old) }
-{
-    let mut rows: TypedRows<T> = TypedRows {
-        rows: Vec::new(alloc),
-    };
-    let extra = read_file(schema, least, most, bytes, &mut rows)?;
-    *list = rows.rows;
-    Ok(extra)
+    id: TableId,
+    bytes: &'a [u8],
+    ghost staged: { id.stage < 10 },
 }
 
-// Reads the rows of a file whose header ends with 0, or that has none, into a list, in place of what is there.
-#[inline(always)]
-fn load<const N: usize, T: TypedRow<N>>(
-    alloc: Global,
-    schema: &Schema<N>,
-    bytes: &[u8],
-    list: &mut Vec<T>,
-) -> Result<(), TableStop>
-    requires size { N < 100 }
-    requires some { 0 < N }
-    requires kinds { kinds_of T.table ≡ schema.now.kinds.now }
-    ensures ok { OnOk result (HasRowsOf (body_rows schema.now.header schema.now.number 0 0 1 schema.now.kinds.now bytes.now) schema.now.kinds.now (map T.values list.new.items)) }
+impl<'a> TableVisitor<Tables, Result<(), TableStop>> for Reading<'a> {
+    ghost use Rattle.std.specs.Prelude.{OnOk, OnErr, IfErr};
 
-    ensures refused { IfErr result (Tells (body_rows schema.now.header schema.now.number 0 0 1 schema.now.kinds.now bytes.now)) }
+    ghost takes = { λ it table. it.id.table ≡ table };
 
-    ensures unchanged { OnErr result (list.new ≡ list.old) }
-{
-    let _extra = load_counted(alloc, schema, 0, 0, bytes, list)?;
-    Ok(())
+    ghost gives = { λ it _ old new made. OnOk made (Loads it.id it.bytes.now old new) × IfErr made (Tells (loaded_rows it.id.table it.bytes.now)) × OnErr made (new ≡ old) };
+}
+
+impl<'a, const N: usize> RowVisitor<N, Tables, Result<(), TableStop>> for Reading<'a> {
+    // Each table has its own copy of this code, in which its kinds are known.
+    #[inline(always)]
+    fn visit<T: TypedRow<N>>(
+        self,
+        world: &mut Tables,
+        table: Table,
+        kinds: &'static [Kind; N],
+    ) -> Result<(), TableStop> {
+        let mut rows: TypedRows<T> = TypedRows {
+            rows: Vec::new(self.alloc),
+        };
+        let is = describe(table);
+        let number = table.number();
+        let extra = extra(is.header, number, is.least_extra, is.most_extra, self.bytes)?;
+        read_records(kinds, 1, body(is.header, self.bytes), &mut rows)?;
+        T::keep(world, self.id.stage as usize, extra, &mut rows.rows);
+        Ok(())
+    }
 }
 
 /// Puts the rows of a file into the list of its table, in place of what is there, and for `occurrence` the number of
@@ -102,46 +90,11 @@ pub fn read_bin(
 
     ensures unchanged { OnErr result (into.new ≡ into.old) }
 {
-    let stage = id.stage as usize;
     match id.table {
         Table::Footprint => {
-            let _extra = extra(true, FOOTPRINT.number, 0, 0, bytes)?;
+            let _extra = extra(true, Table::Footprint.number(), 0, 0, bytes)?;
             Ok(())
         }
-        Table::Occurrence => {
-            let list = &mut into.occurrence;
-            let periods = load_counted(alloc, &OCCURRENCE, 1, MOST_PERIODS, bytes, list)?;
-            into.periods = periods;
-            Ok(())
-        }
-        Table::FmProgramme => load(
-            alloc,
-            &FM_PROGRAMME,
-            bytes,
-            &mut into.financial[stage].programme,
-        ),
-        Table::FmPolicytc => load(
-            alloc,
-            &FM_POLICYTC,
-            bytes,
-            &mut into.financial[stage].policytc,
-        ),
-        Table::FmProfile => load(
-            alloc,
-            &FM_PROFILE,
-            bytes,
-            &mut into.financial[stage].profile,
-        ),
-        Table::Events => load(alloc, &EVENTS, bytes, &mut into.events),
-        Table::Items => load(alloc, &ITEMS, bytes, &mut into.items),
-        Table::Coverages => load(alloc, &COVERAGES, bytes, &mut into.coverages),
-        Table::FootprintIdx => load(alloc, &FOOTPRINT_IDX, bytes, &mut into.footprint_idx),
-        Table::Vulnerability => load(alloc, &VULNERABILITY, bytes, &mut into.vulnerability),
-        Table::DamageBinDict => load(alloc, &DAMAGE_BIN_DICT, bytes, &mut into.damage_bin_dict),
-        Table::Random => load(alloc, &RANDOM, bytes, &mut into.random),
-        Table::FmXref => load(alloc, &FM_XREF, bytes, &mut into.fm_xref),
-        Table::GulSummaryXref => load(alloc, &GUL_SUMMARY_XREF, bytes, &mut into.gulsummaryxref),
-        Table::FmSummaryXref => load(alloc, &FM_SUMMARY_XREF, bytes, &mut into.fmsummaryxref),
-        Table::ReturnPeriods => load(alloc, &RETURN_PERIODS, bytes, &mut into.returnperiods),
+        _ => visit_table(Reading { alloc, id, bytes }, into, id.table),
     }
 }

@@ -1,17 +1,13 @@
 //! From the file of a table to its text.
 //! The rule: docs/TABLES.md, "Texts of tables".
-ghost use Rattle.std.specs.Prelude.{◌≡◌, ◌≢◌, ◌<◌, ℕ, List, [], IfOk, IfErr, OnOk, Ok};
-ghost use Rattle.kt_cells.specs.Ranges.{IsRow, FitsBytes};
+ghost use Rattle.std.specs.Prelude.{◌≡◌, ◌≢◌, ◌<◌, IfOk, IfErr, Ok};
 ghost use Rattle.kt_cells.specs.Stops.{Tells};
-ghost use Rattle.kt_schema.specs.Conversions.{HandsFile, bin_csv, bin_rows, body_rows, extra_of, body_of};
+ghost use Rattle.kt_schema.specs.Conversions.{bin_csv, extra_of, body_of};
 ghost use Rattle.kt_schema.specs.Tables.{kinds_of};
 
-use crate::schema::Schema;
 use crate::typed_row::TypedRow;
 use crate::visit::{RowVisitor, TableVisitor, visit_table};
-use kt_cells::{
-    HEADER_WIDTH, Kind, RowSink, TableStop, push_record_lines, read_header, read_records,
-};
+use kt_cells::{HEADER_WIDTH, Kind, TableStop, push_record_lines, read_header};
 use kt_money::Bytes;
 use kt_rec::{Table, describe};
 use std::alloc::Global;
@@ -46,28 +42,6 @@ pub fn body(header: bool, bytes: &[u8]) -> &[u8]
     } else {
         bytes
     }
-}
-
-/// Hands the values of a file to a sink: the number that its header ends with, which lies from `least` to `most`.
-#[inline(always)]
-pub(crate) fn read_file<const N: usize, S: RowSink<N>>(
-    schema: &Schema<N>,
-    least: u32,
-    most: u32,
-    bytes: &[u8],
-    sink: &mut S,
-) -> Result<u32, TableStop>
-    requires size { N < 100 }
-    requires some { 0 < N }
-    requires takes { (row : List ℕ) → IsRow 0 schema.now.kinds.now row → FitsBytes schema.now.kinds.now row → S.takes row }
-    requires fresh { S.takes_to schema.now.kinds.now sink.old [] sink.old }
-    ensures value { IfOk result (HandsFile (λ rows. S.takes_to schema.now.kinds.now sink.old rows sink.new) schema.now.kinds.now (body_rows schema.now.header schema.now.number least most 1 schema.now.kinds.now bytes.now)) }
-
-    ensures refused { IfErr result (Tells (body_rows schema.now.header schema.now.number least most 1 schema.now.kinds.now bytes.now)) }
-{
-    let extra = extra(schema.header, schema.number, least, most, bytes)?;
-    read_records(schema.kinds, 1, body(schema.header, bytes), sink)?;
-    Ok(extra)
 }
 
 // Makes the text of a file.
