@@ -1,7 +1,7 @@
 -- The files of the tables.
 -- The rules: docs/TABLES.md, "Files".
 use Rattle.std.specs.Prelude.{ℕ, ◌==◌, List, ◌++◌, codes, take, drop, if◌then◌else◌}
-pub use Rattle.kt_rec.specs.LoadOrder.{each-is_table, load_order}
+pub use Rattle.kt_rec.specs.LoadOrder.{base_tables, each-is_table, load_order, stage_tables}
 pub use Rattle.kt_rec.specs.Places.{table_at}
 use Rattle.kt_rec.specs.TableNames.{file_of}
 use Rattle.kt_rec.specs.declared.table.TableId.{TableId}
