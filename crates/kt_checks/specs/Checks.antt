@@ -1,7 +1,8 @@
 -- All checks in their order, and the first refusal.
 -- The rules: docs/CHECKS.md, "When a check is made", "Order".
 use Rattle.std.specs.Prelude.{◌≡◌, ℕ, ◌-◌, ◌++◌, nat_lt, cond, false, List, [], ◌∷◌, slice_index_or, Option, Some, None, Result, Ok, Err}
-use Rattle.kt_rec.specs.Rows.{Rows, row_count}
+use Rattle.kt_rec.specs.Places.{row_count}
+use Rattle.kt_rec.specs.Rows.{Rows}
 use Rattle.kt_rec.specs.TableNames.{IsTableId}
 use Rattle.kt_rec.specs.TableSet.{is_in}
 use Rattle.kt_rec.specs.declared.table.TableId.{TableId}

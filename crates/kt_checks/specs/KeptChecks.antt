@@ -7,7 +7,8 @@ use Rattle.kt_rec.specs.declared.financial.FmPolicytc.{FmPolicytc}
 use Rattle.kt_rec.specs.declared.financial.FmProgramme.{FmProgramme}
 use Rattle.kt_rec.specs.declared.table.Table.TheVariants as table
 use Rattle.kt_rec.specs.declared.table.TableId.{TableId}
-use Rattle.kt_rec.specs.Rows.{FinancialRows, Rows, row_count}
+use Rattle.kt_rec.specs.Places.{row_count}
+use Rattle.kt_rec.specs.Rows.{FinancialRows, Rows}
 use Rattle.kt_rec.specs.TableNames.{IsTableId}
 use Rattle.kt_keys.specs.declared.need.Need.{Need}
 use Rattle.kt_keys.specs.Keys.{financial_of, programme_of, policytc_of, profile_of, same_pair, same_triple}

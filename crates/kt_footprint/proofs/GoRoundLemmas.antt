@@ -22,7 +22,7 @@ use Rattle.kt_footprint.specs.RoundTrip.{FootprintsGoRound}
 use Rattle.kt_load.specs.FileNames.{file_name_of, table_at}
 use Rattle.kt_load.specs.Loaded.{loaded}
 use Rattle.kt_load.specs.Reading.{file_limit, with_table_files}
-use Rattle.kt_load.specs.Typed.{footprint_idx_of}
+use Rattle.kt_load.specs.Typed.{row_from}
 use Rattle.kt_footprint.specs.GoRound.{FootprintFilesGoRound, index_need}
 use Rattle.kt_footprint.proofs.CheckLemmas.{none-misplaced, none-refused}
 use Rattle.kt_footprint.proofs.IndexLemmas.{entries-in_range, entries-ranged, index-is, index-long}
@@ -35,7 +35,7 @@ same-bytes : (one other : List ℕ) → good one ≡ good other → one ≡ othe
 same-bytes one other is = cc
 
 -- a file of an index that is read to these rows, of few bytes, loads as they are
-loads-index : (files : FileMap) (bytes : List ℕ) (values : List (List ℕ)) → files (file_name_of (table_at 0 table.FootprintIdx)) ≡ Some bytes → length bytes ≤ file_limit → bin_rows table.FootprintIdx bytes ≡ Ok (0, values) → first_refusal (record no_rows { footprint_idx = map footprint_idx_of values }) index_need ≡ None → loaded files index_need ≡ Ok (record no_rows { footprint_idx = map footprint_idx_of values })
+loads-index : (files : FileMap) (bytes : List ℕ) (values : List (List ℕ)) → files (file_name_of (table_at 0 table.FootprintIdx)) ≡ Some bytes → length bytes ≤ file_limit → bin_rows table.FootprintIdx bytes ≡ Ok (0, values) → first_refusal (record no_rows { footprint_idx = map (row_from table.FootprintIdx) values }) index_need ≡ None → loaded files index_need ≡ Ok (record no_rows { footprint_idx = map (row_from table.FootprintIdx) values })
 unfolding with_table_files
 loads-index files bytes values holds few read none = rw (holds, le-ltb file_limit (length bytes) few, read, none) refl
 
@@ -50,14 +50,14 @@ go_round read_back ranges round text file index_file rows files accepted made ma
     let file_is : bin table.Footprint 0 rows ≡ file = same-bytes (bin table.Footprint 0 rows) file (sym (ap (λ found. and_then found (λ r. Ok (bin table.Footprint 0 r))) accepted) ∙ made) in
     let index_is : bin table.FootprintIdx 0 (index_of rows) ≡ index_file = same-bytes (bin table.FootprintIdx 0 (index_of rows)) index_file (sym (ap (λ found. and_then (and_then found (λ r. Ok (index_of r))) (λ r. Ok (bin table.FootprintIdx 0 r))) accepted) ∙ made_index) in
     let is = index-is rows in_range.0 in_range.1 limits.rows_each in
-    let index = map footprint_idx_of (index_of rows) in
+    let index = map (row_from table.FootprintIdx) (index_of rows) in
     let both = round text rows index accepted is.values is.few in
     let placed = subst (λ (bytes : List ℕ). AllByRecursion (IsEntryOf (length bytes)) index) file_is both.0 in
     let ranged = entries-in_range (length file) index limits.bytes is.ids placed in
     let value_ranges = subst (AreRows (kinds_of table.FootprintIdx)) is.values (entries-ranged index ranged) in
     let read : bin_rows table.FootprintIdx index_file ≡ Ok (0, index_of rows) = subst (λ bytes. bin_rows table.FootprintIdx bytes ≡ Ok (0, index_of rows)) index_is (read_back table.FootprintIdx 0 (index_of rows) other-table value_ranges (omega arith) (omega arith)) in
     let long : length index_file ≡ 20 * length index = ap length (sym index_is) ∙ (ap (λ (all : List (List ℕ)). length (bin table.FootprintIdx 0 all)) (sym is.values) ∙ index-long index) in
-    let number : length index ≡ length (index_of rows) = length-map (index_of rows) footprint_idx_of in
+    let number : length index ≡ length (index_of rows) = length-map (index_of rows) (row_from table.FootprintIdx) in
     record {
       index = index;
       is_read = read;

@@ -17,7 +17,7 @@ use Rattle.kt_schema.specs.Footprint.{IsEntryOf}
 use Rattle.kt_schema.specs.Index.{event_of, index_from, index_of, index_row}
 use Rattle.kt_schema.specs.Rows.{footprint_idx_values}
 use Rattle.kt_schema.specs.Tables.{kinds_of}
-use Rattle.kt_load.specs.Typed.{footprint_idx_of}
+use Rattle.kt_load.specs.Typed.{row_from}
 use Rattle.kt_footprint.specs.GoRound.{rows_of_event}
 
 -- a value that is within bounds
@@ -62,11 +62,11 @@ index-long (entry ∷ index) =
 
 -- rows of an index from an event on: they are those of entries with ids, of few bytes each, and of events that rise
 pub record IsIndex (event : ℕ) (entries : List (List ℕ)) : Type 0 where
-  pub values : map footprint_idx_values (map footprint_idx_of entries) ≡ entries
-  pub ids : AllByRecursion (λ entry. IsId entry.event_id) (map footprint_idx_of entries)
-  pub few : AllByRecursion (λ entry. entry.size ≤ 1200000) (map footprint_idx_of entries)
-  pub above : AllByRecursion (λ key. event ≤ key) (map (λ entry. entry.event_id) (map footprint_idx_of entries))
-  pub distinct : IsDistinct nat_eq (map (λ entry. entry.event_id) (map footprint_idx_of entries))
+  pub values : map footprint_idx_values (map (row_from table.FootprintIdx) entries) ≡ entries
+  pub ids : AllByRecursion (λ entry. IsId entry.event_id) (map (row_from table.FootprintIdx) entries)
+  pub few : AllByRecursion (λ entry. entry.size ≤ 1200000) (map (row_from table.FootprintIdx) entries)
+  pub above : AllByRecursion (λ key. event ≤ key) (map (λ entry. entry.event_id) (map (row_from table.FootprintIdx) entries))
+  pub distinct : IsDistinct nat_eq (map (λ entry. entry.event_id) (map (row_from table.FootprintIdx) entries))
 
 -- no entry
 pub index-none : (event : ℕ) → IsIndex event []
@@ -88,7 +88,7 @@ later-above event next (key ∷ keys) less above =
 index-more : (event offset size next : ℕ) (entries : List (List ℕ)) → IsId event → size ≤ 1200000 → event < next → IsIndex next entries → IsIndex event (index_row event offset size ∷ entries)
 unfolding IsDistinct
 index-more event offset size next entries id few less rest =
-    let later = later-above event next (map (λ entry. entry.event_id) (map footprint_idx_of entries)) less rest.above in
+    let later = later-above event next (map (λ entry. entry.event_id) (map (row_from table.FootprintIdx) entries)) less rest.above in
     record {
       values = ap (λ (all : List (List ℕ)). index_row event offset size ∷ all) rest.values;
       ids = (id, rest.ids);

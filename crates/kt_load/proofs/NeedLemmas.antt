@@ -1,13 +1,10 @@
 -- Loading begins with no rows, and reads the tables that are needed.
-use Rattle.std.proofs.Common.{◌≡◌, List, refl, ap, subst, arith, Option, Ok, Err, true, Bool}
+use Rattle.std.proofs.Common.{◌≡◌, List, refl, ap, subst, arith, Option, Ok, Err}
 use Rattle.std.proofs.lemmas.List.Elements.{All-nil, All-replicate}
-use Rattle.std.specs.Prelude.{All, IfSome, slice_index_or, nat_le, ◌==◌, ◌&&◌, ◌||◌}
+use Rattle.std.specs.Prelude.{All, IfSome}
 use Rattle.std.specs.List.{filter}
-use Rattle.std.proofs.lemmas.Bool.Decides.{nat_tests}
-use Rattle.std.proofs.lemmas.List.Sums.{AllPass-from_list_all}
 use Rattle.kt_rec.specs.Ranges.{AreInRange}
 use Rattle.kt_rec.specs.Rows.{Rows, no_rows}
-use Rattle.kt_rec.specs.TableNames.{IsTableId, number_of}
 use Rattle.kt_rec.specs.TableSet.{is_in}
 use Rattle.kt_rec.specs.declared.table.TableId.{TableId}
 use Rattle.kt_checks.specs.Checks.{first_refusal}
@@ -24,20 +21,6 @@ use Rattle.kt_load.proofs.TablesLemmas.{tells_on}
 use Rattle.kt_load.specs.Steps.{GivesPeriods}
 use Rattle.kt_load.specs.Loaded.{loaded, needed, unless_refused}
 use Rattle.kt_load.specs.Reading.{with_table_files, go_on}
-
--- a test for a table of the base, or a financial table of a stage
-is_table : TableId → Bool
-is_table id = nat_le id.stage 9 && ((id.stage == 0) || (nat_le 9 (number_of id.table) && nat_le (number_of id.table) 11))
-
--- a table that passes the test is one
-passes : (id : TableId) → is_table id ≡ true → IsTableId id
-unfolding is_table
-passes id pass = grind (arith, nat_tests)
-
--- each table that is loaded is one
-pub each-is_table : All IsTableId load_order
-unfolding is_table
-each-is_table = λ k d below. passes (slice_index_or load_order k d) (AllPass-from_list_all is_table load_order refl k d below)
 
 -- no rows are in range
 pub no_rows-in_range : AreInRange no_rows

@@ -12,18 +12,18 @@ use Rattle.kt_cells.specs.Reading.{and_then, and_then-ok}
 use Rattle.kt_cells.specs.Ranges.{AreRows}
 use Rattle.kt_schema.specs.Loading.{LoadsTable, HasRows, RowsInRange, loaded_rows}
 use Rattle.kt_schema.specs.Rows.{occurrence_values}
-use Rattle.kt_load.specs.Typed.{with_rows}
+use Rattle.kt_load.specs.Typed.{with_rows, with_size}
 
--- the tables have the rows of a file, which are in range
+-- the tables have the rows of a file, which are in range, once its size is kept
 pub record HasLoaded (t : Table) (stage : ℕ) (bytes : List ℕ) (old new : Rows) : Type 0 where
   pub extra : ℕ
   pub values : List (List ℕ)
   pub read : loaded_rows t bytes ≡ Ok (extra, values)
   pub in_range : RowsInRange t values
-  pub becomes : new ≡ with_rows old stage t extra values
+  pub becomes : (size : ℕ) → with_size new t size ≡ with_rows old stage t extra values size
 
 -- what one list gives the tables
-one_list : (t : Table) (stage : ℕ) (bytes : List ℕ) (values : List (List ℕ)) (old new : Rows) → HasRows t bytes values → ((extra : ℕ) → new ≡ with_rows old stage t extra values) → HasLoaded t stage bytes old new
+one_list : (t : Table) (stage : ℕ) (bytes : List ℕ) (values : List (List ℕ)) (old new : Rows) → HasRows t bytes values → ((extra size : ℕ) → with_size new t size ≡ with_rows old stage t extra values size) → HasLoaded t stage bytes old new
 one_list t stage bytes values old new has becomes =
     let file = and_then-ok (loaded_rows t bytes) (λ f. Ok f.1) values has.loaded in
     record { extra = file.0.0; values = values; read = file.1 ∙ ap (λ r. and_then r (λ v. Ok (file.0.0, v))) file.2; in_range = has.in_range; becomes = becomes file.0.0 }
@@ -37,9 +37,9 @@ changed (table ∷ tables) (suc stage) before after was change is = ap (λ l. fi
 -- what reading a file puts into the tables
 pub loads-rows_at : (t : Table) (stage : ℕ) (bytes : List ℕ) (old new : Tables) → LoadsTable t stage bytes old new → HasLoaded t stage bytes (rows_of old) (rows_of new)
 unfolding AreRows
-loads-rows_at table.Footprint stage bytes old new h = one_list table.Footprint stage bytes [] (rows_of old) (rows_of new) (record { loaded = h.0; in_range = tt }) (λ extra. ap rows_of h.1)
-loads-rows_at table.Occurrence stage bytes old new (in_range, read, is) = record { extra = new.periods; values = map occurrence_values new.occurrence.items; read = read; in_range = in_range; becomes = ap rows_of is ∙ simp (map-map, map-id) }
-loads-rows_at table.FmProgramme stage bytes old new (before, (list, (has, changes))) = one_list table.FmProgramme stage bytes _ (rows_of old) (rows_of new) has (λ extra. ap rows_of changes.becomes ∙ ap (λ f. record (rows_of old) { financial = f }) (changed old.financial stage before (record before { programme = list }) changes.was (λ f. record f { programme = list.items }) refl) ∙ simp (map-map, map-id))
-loads-rows_at table.FmPolicytc stage bytes old new (before, (list, (has, changes))) = one_list table.FmPolicytc stage bytes _ (rows_of old) (rows_of new) has (λ extra. ap rows_of changes.becomes ∙ ap (λ f. record (rows_of old) { financial = f }) (changed old.financial stage before (record before { policytc = list }) changes.was (λ f. record f { policytc = list.items }) refl) ∙ simp (map-map, map-id))
-loads-rows_at table.FmProfile stage bytes old new (before, (list, (has, changes))) = one_list table.FmProfile stage bytes _ (rows_of old) (rows_of new) has (λ extra. ap rows_of changes.becomes ∙ ap (λ f. record (rows_of old) { financial = f }) (changed old.financial stage before (record before { profile = list }) changes.was (λ f. record f { profile = list.items }) refl) ∙ simp (map-map, map-id))
-loads-rows_at t stage bytes old new h = one_list t stage bytes _ (rows_of old) (rows_of new) h.0 (λ extra. ap rows_of h.1 ∙ simp (map-map, map-id))
+loads-rows_at table.Footprint stage bytes old new h = one_list table.Footprint stage bytes [] (rows_of old) (rows_of new) (record { loaded = h.0; in_range = tt }) (λ extra size. ap (λ tables. record (rows_of tables) { footprint_size = size }) h.1)
+loads-rows_at table.Occurrence stage bytes old new (in_range, read, is) = record { extra = new.periods; values = map occurrence_values new.occurrence.items; read = read; in_range = in_range; becomes = λ size. ap rows_of is ∙ simp (map-map, map-id) }
+loads-rows_at table.FmProgramme stage bytes old new (before, (list, (has, changes))) = one_list table.FmProgramme stage bytes _ (rows_of old) (rows_of new) has (λ extra size. ap rows_of changes.becomes ∙ ap (λ f. record (rows_of old) { financial = f }) (changed old.financial stage before (record before { programme = list }) changes.was (λ f. record f { programme = list.items }) refl) ∙ simp (map-map, map-id))
+loads-rows_at table.FmPolicytc stage bytes old new (before, (list, (has, changes))) = one_list table.FmPolicytc stage bytes _ (rows_of old) (rows_of new) has (λ extra size. ap rows_of changes.becomes ∙ ap (λ f. record (rows_of old) { financial = f }) (changed old.financial stage before (record before { policytc = list }) changes.was (λ f. record f { policytc = list.items }) refl) ∙ simp (map-map, map-id))
+loads-rows_at table.FmProfile stage bytes old new (before, (list, (has, changes))) = one_list table.FmProfile stage bytes _ (rows_of old) (rows_of new) has (λ extra size. ap rows_of changes.becomes ∙ ap (λ f. record (rows_of old) { financial = f }) (changed old.financial stage before (record before { profile = list }) changes.was (λ f. record f { profile = list.items }) refl) ∙ simp (map-map, map-id))
+loads-rows_at t stage bytes old new h = one_list t stage bytes _ (rows_of old) (rows_of new) h.0 (λ extra size. ap rows_of h.1 ∙ simp (map-map, map-id))

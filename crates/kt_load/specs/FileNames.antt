@@ -1,10 +1,9 @@
--- The files of the tables, and the order in which they are loaded.
+-- The files of the tables.
 -- The rules: docs/TABLES.md, "Files".
-use Rattle.std.specs.Prelude.{ℕ, ◌==◌, List, [], ◌∷◌, ◌++◌, codes, take, drop, if◌then◌else◌}
-use Rattle.std.specs.List.{flat_map}
+use Rattle.std.specs.Prelude.{ℕ, ◌==◌, List, ◌++◌, codes, take, drop, if◌then◌else◌}
+pub use Rattle.kt_rec.specs.LoadOrder.{base_tables, each-is_table, load_order, stage_tables}
+pub use Rattle.kt_rec.specs.Places.{table_at}
 use Rattle.kt_rec.specs.TableNames.{file_of}
-use Rattle.kt_rec.specs.declared.table.Table.{Table}
-use Rattle.kt_rec.specs.declared.table.Table.TheVariants as table
 use Rattle.kt_rec.specs.declared.table.TableId.{TableId}
 
 -- the digit of a stage, from 0 to 9
@@ -18,36 +17,3 @@ stage_folder stage = codes "RI_" ++ stage_digit stage ++ codes "/"
 -- the file of a table: that of the base, or, in the folder of its stage, the one of the same name
 abbrev pub file_name_of : TableId → List ℕ
 file_name_of id = if id.stage == 0 then file_of id.table else stage_folder id.stage ++ drop 6 (file_of id.table)
-
--- a table of the base, at 0, or of a stage
-abbrev pub table_at : ℕ → Table → TableId
-table_at stage t = record { stage = stage; table = t }
-
--- the tables of the base in the order of their numbers
-abbrev pub base_tables : List TableId
-base_tables =
-    table_at 0 table.Events
-    ∷ table_at 0 table.Items
-    ∷ table_at 0 table.Coverages
-    ∷ table_at 0 table.Footprint
-    ∷ table_at 0 table.FootprintIdx
-    ∷ table_at 0 table.Vulnerability
-    ∷ table_at 0 table.DamageBinDict
-    ∷ table_at 0 table.Random
-    ∷ table_at 0 table.FmProgramme
-    ∷ table_at 0 table.FmPolicytc
-    ∷ table_at 0 table.FmProfile
-    ∷ table_at 0 table.FmXref
-    ∷ table_at 0 table.GulSummaryXref
-    ∷ table_at 0 table.FmSummaryXref
-    ∷ table_at 0 table.Occurrence
-    ∷ table_at 0 table.ReturnPeriods
-    ∷ []
-
--- the tables of a stage
-abbrev pub stage_tables : ℕ → List TableId
-stage_tables stage = table_at stage table.FmProgramme ∷ table_at stage table.FmPolicytc ∷ table_at stage table.FmProfile ∷ []
-
--- all tables in the order of loading: the base, then stage by stage
-abbrev pub load_order : List TableId
-load_order = base_tables ++ flat_map stage_tables (1 ∷ 2 ∷ 3 ∷ 4 ∷ 5 ∷ 6 ∷ 7 ∷ 8 ∷ 9 ∷ [])

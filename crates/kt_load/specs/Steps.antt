@@ -2,7 +2,8 @@
 -- The rule: docs/TABLES.md, "Files".
 use Rattle.std.specs.Prelude.{◌≡◌, ◌⊎◌, List, true, false, All}
 use Rattle.kt_rec.specs.Ranges.{AreInRange, ArePeriods}
-use Rattle.kt_rec.specs.Rows.{Rows, row_count}
+use Rattle.kt_rec.specs.Places.{row_count}
+use Rattle.kt_rec.specs.Rows.{Rows}
 use Rattle.kt_rec.specs.TableNames.{IsTableId, number_of}
 use Rattle.kt_rec.specs.TableSet.{is_in}
 use Rattle.kt_rec.specs.declared.table.TableId.{TableId}

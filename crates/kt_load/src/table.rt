@@ -8,9 +8,10 @@ ghost use Rattle.kt_rec.specs.TableSet.{is_in};
 ghost use Rattle.kt_load.specs.Ends.{TellsLoad, TellsTables, AfterLoad};
 ghost use Rattle.kt_load.specs.FileNames.{file_name_of};
 ghost use Rattle.kt_load.specs.Reading.{with_table_file};
-ghost use Rattle.kt_load.specs.Reading.{file_limit, with_size};
+ghost use Rattle.kt_load.specs.Reading.{file_limit};
 ghost use Rattle.kt_load.specs.Ends.{bytes_wanted};
 ghost use Rattle.kt_load.specs.Steps.{KeepsRows, KeepsAll};
+ghost use Rattle.kt_load.specs.Typed.{with_size};
 
 use crate::file::read_front;
 use crate::naming::file_name;

@@ -4,6 +4,9 @@ pub mod Descriptions
 pub mod TableNames
 pub mod TableSet
 pub mod Rows
+pub mod Places
+pub mod PlaceLaws
+pub mod LoadOrder
 pub mod Ranges
 pub mod FootRows
 pub mod Rising

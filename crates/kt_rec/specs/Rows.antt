@@ -1,6 +1,6 @@
 -- The rows of all tables as lists.
 -- The rules: docs/TABLES.md.
-use Rattle.std.specs.Prelude.{ℕ, List, [], length, map, replicate, slice_index_or}
+use Rattle.std.specs.Prelude.{ℕ, List, [], map, replicate, slice_index_or}
 use Rattle.kt_rec.specs.declared.exposure.Coverage.{Coverage}
 use Rattle.kt_rec.specs.declared.exposure.Item.{Item}
 use Rattle.kt_rec.specs.declared.financial.FmPolicytc.{FmPolicytc}
@@ -16,9 +16,6 @@ use Rattle.kt_rec.specs.declared.periods.Occurrence.{Occurrence}
 use Rattle.kt_rec.specs.declared.periods.ReturnPeriod.{ReturnPeriod}
 use Rattle.kt_rec.specs.declared.summary.FmSummaryXref.{FmSummaryXref}
 use Rattle.kt_rec.specs.declared.summary.GulSummaryXref.{GulSummaryXref}
-use Rattle.kt_rec.specs.declared.table.Table.{Table}
-use Rattle.kt_rec.specs.declared.table.Table.TheVariants as table
-use Rattle.kt_rec.specs.declared.table.TableId.{TableId}
 use Rattle.kt_rec.specs.declared.tables.FinancialTables.{FinancialTables}
 use Rattle.kt_rec.specs.declared.tables.Tables.{Tables}
 
@@ -97,26 +94,3 @@ no_rows = record {
 -- the rows of the three financial tables of the base, at 0, or of a stage
 abbrev pub financial_at : Rows → ℕ → FinancialRows
 financial_at rows stage = slice_index_or rows.financial stage no_financial_rows
-
--- how many rows a table of the base, at 0, or of a stage has; of the footprint no row is kept
-abbrev pub count_in : Rows → ℕ → Table → ℕ
-count_in rows stage table.Events = length rows.events
-count_in rows stage table.Items = length rows.items
-count_in rows stage table.Coverages = length rows.coverages
-count_in rows stage table.Footprint = 0
-count_in rows stage table.FootprintIdx = length rows.footprint_idx
-count_in rows stage table.Vulnerability = length rows.vulnerability
-count_in rows stage table.DamageBinDict = length rows.damage_bin_dict
-count_in rows stage table.Random = length rows.random
-count_in rows stage table.FmProgramme = length (financial_at rows stage).programme
-count_in rows stage table.FmPolicytc = length (financial_at rows stage).policytc
-count_in rows stage table.FmProfile = length (financial_at rows stage).profile
-count_in rows stage table.FmXref = length rows.fm_xref
-count_in rows stage table.GulSummaryXref = length rows.gulsummaryxref
-count_in rows stage table.FmSummaryXref = length rows.fmsummaryxref
-count_in rows stage table.Occurrence = length rows.occurrence
-count_in rows stage table.ReturnPeriods = length rows.returnperiods
-
--- how many rows a table has
-abbrev pub row_count : Rows → TableId → ℕ
-row_count rows id = count_in rows id.stage id.table

@@ -15,29 +15,23 @@ use Rattle.kt_keys.specs.declared.need.Need.{Need}
 use Rattle.kt_load.specs.EventRows.{event_rows}
 use Rattle.kt_load.specs.Loaded.{loaded}
 use Rattle.kt_losses.specs.Judged.{is_known}
-use Rattle.kt_loop.specs.Contents.{Contents}
 use Rattle.kt_model.specs.Distribution.{distributions_of}
 use Rattle.kt_out.specs.NamedFiles.{FileMap}
-use Rattle.kt_periods.specs.PeriodTables.{contents_outcome}
-use Rattle.kt_periods.specs.declared.table.PeriodTable.TheVariants.{AverageAnnualLoss, ExceedanceCurve}
-use Rattle.kt_rec.specs.Rows.{Rows, no_rows}
+use Rattle.kt_rec.specs.Rows.{Rows}
 use Rattle.kt_rec.specs.declared.curve.Curve.{Curve}
 use Rattle.kt_rec.specs.declared.hazard.FootRow.{FootRow}
 use Rattle.kt_rec.specs.declared.periods.Occurrence.{Occurrence}
-use Rattle.kt_rec.specs.declared.periods.ReturnPeriod.{ReturnPeriod}
 use Rattle.kt_rec.specs.declared.table.Table.TheVariants as table
 use Rattle.kt_stream.specs.declared.entry.Cdf.{Cdf}
-use Rattle.kt_stream.specs.declared.entry.SummaryRecord.{SummaryRecord}
-use Rattle.kt_stream.specs.declared.kind.Head.{Head}
 use Rattle.kt_subset.specs.Loading.{LoadsSame, keeps_samples}
-use Rattle.kt_subset.specs.SameRows.{HasSame}
+use Rattle.kt_subset.specs.SameRows.{HasSame, same_base}
 use Rattle.kt_subset.specs.Within.{IsWithin}
 use Rattle.kt_words.specs.declared.command.Command.{Command}
 use Rattle.kt_words.specs.declared.command.Command.TheVariants.{Aalcalc, Eve, Fmcalc, FmcalcNet, Getmodel, Gulcalc, Leccalc, Pltcalc, Summarycalc}
 use Rattle.kt_split.specs.ByEvents.{losses_of_cdfs}
 use Rattle.kt_tools.specs.Needs.{base_need, base_tables, command_need, need_of, programme_tables, summary_tables}
 use Rattle.kt_split.specs.RunNeeds.{IsOfRun, each_loads, each_within, stage_needs}
-use Rattle.kt_split.specs.RunRows.{distributions_same, events_same, foot_same, ground_up_same, insured_same, item_summaries_same, items_known, net_same, output_summaries_same, outputs_known, period_rows}
+use Rattle.kt_split.specs.RunRows.{averages_same, curves_same, distributions_same, events_same, foot_same, ground_up_same, insured_same, item_summaries_same, items_known, net_same, output_summaries_same, outputs_known}
 use Rattle.kt_split.specs.SplitRuns.{EachFits, IsServed, IsSplitRun, Serves, footprint_of}
 
 module _ (files : FileMap) (terms : Terms) (rows : Rows) (are : AreTerms terms) (loads : loaded files (chain_need terms) ≡ Ok rows) where
@@ -55,18 +49,6 @@ module _ (files : FileMap) (terms : Terms) (rows : Rows) (are : AreTerms terms) 
       → losses_of_cdfs own samples cut cdfs ≡ losses_of_cdfs rows samples cut cdfs
   gul_same own need same items coverages bins random samples cut [] = refl
   gul_same own need same items coverages bins random samples cut (first ∷ later) = ground_up_same need own rows same items coverages bins random samples cut first.event (first ∷ later)
-
-  module _ (own : Rows) (need : Need) (same : HasSame need own rows) where
-    averages_alike : is_loaded need 0 table.Occurrence ≡ true → (contents : Contents Head SummaryRecord) → contents_outcome AverageAnnualLoss own contents ≡ contents_outcome AverageAnnualLoss rows contents
-    averages_alike occurrence contents =
-        ap (λ (list : List Occurrence). contents_outcome AverageAnnualLoss (period_rows list own.periods []) contents) (same.occurrence occurrence)
-        ∙ ap (λ (n : ℕ). contents_outcome AverageAnnualLoss (period_rows rows.occurrence n []) contents) (same.periods occurrence)
-
-    curves_alike : is_loaded need 0 table.Occurrence ≡ true → is_loaded need 0 table.ReturnPeriods ≡ true → (curve : Curve) (contents : Contents Head SummaryRecord) → contents_outcome (ExceedanceCurve curve) own contents ≡ contents_outcome (ExceedanceCurve curve) rows contents
-    curves_alike occurrence returns curve contents =
-        ap (λ (list : List Occurrence). contents_outcome (ExceedanceCurve curve) (period_rows list own.periods own.returnperiods) contents) (same.occurrence occurrence)
-        ∙ ap (λ (n : ℕ). contents_outcome (ExceedanceCurve curve) (period_rows rows.occurrence n own.returnperiods) contents) (same.periods occurrence)
-        ∙ ap (λ (list : List ReturnPeriod). contents_outcome (ExceedanceCurve curve) (period_rows rows.occurrence rows.periods list) contents) (same.returnperiods returns)
 
   -- each command of a run
   abbrev Served : Command → Type 0
@@ -100,7 +82,7 @@ module _ (files : FileMap) (terms : Terms) (rows : Rows) (are : AreTerms terms) 
   served_gul : (samples : ℕ) (cut : Bool) → samples ≡ terms.samples → Served (Gulcalc samples cut)
   unfolding is_loaded
   served_gul samples cut of =
-      served_with (Gulcalc samples cut) (sampling_need samples) refl of (λ own same. (ap length (same.damage_bin_dict refl), gul_same own (sampling_need samples) same refl refl refl refl samples cut))
+      served_with (Gulcalc samples cut) (sampling_need samples) refl of (λ own same. (ap length (same_base (sampling_need samples) own rows same table.DamageBinDict refl), gul_same own (sampling_need samples) same refl refl refl refl samples cut))
 
   served_insured : (rule : ℕ) → IsOfRun terms (Fmcalc rule) → Served (Fmcalc rule)
   served_insured rule of =
@@ -141,15 +123,15 @@ module _ (files : FileMap) (terms : Terms) (rows : Rows) (are : AreTerms terms) 
   pub served_losses : (heading : Bool) → Served (Pltcalc heading)
   unfolding is_loaded
   served_losses heading =
-      served_with (Pltcalc heading) (base_need (table.Occurrence ∷ [])) refl tt (λ own same event. ap (λ (list : List Occurrence). filter (λ (row : Occurrence). nat_eq row.event_id event) list) (same.occurrence refl))
+      served_with (Pltcalc heading) (base_need (table.Occurrence ∷ [])) refl tt (λ own same event. ap (λ (part : List Occurrence × ℕ). filter (λ (row : Occurrence). nat_eq row.event_id event) part.0) (same_base (base_need (table.Occurrence ∷ [])) own rows same table.Occurrence refl))
 
   pub served_averages : Served Aalcalc
   unfolding is_loaded
-  served_averages = let need = base_need (table.Occurrence ∷ []) in served_with Aalcalc need refl tt (λ own same. averages_alike own need same refl)
+  served_averages = let need = base_need (table.Occurrence ∷ []) in served_with Aalcalc need refl tt (λ own same. averages_same need own rows same refl)
 
   pub served_curves : (curve : Curve) → Served (Leccalc curve)
   unfolding is_loaded
-  served_curves curve = let need = base_need (table.Occurrence ∷ table.ReturnPeriods ∷ []) in served_with (Leccalc curve) need refl tt (λ own same. curves_alike own need same refl refl curve)
+  served_curves curve = let need = base_need (table.Occurrence ∷ table.ReturnPeriods ∷ []) in served_with (Leccalc curve) need refl tt (λ own same. curves_same need own rows same refl refl curve)
 
   pub served : (command : Command) → IsOfRun terms command → Served command
   served (Eve part parts) of = served_eve part parts

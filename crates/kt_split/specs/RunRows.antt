@@ -1,6 +1,6 @@
 -- What a stage computes depends on the rows that its command needs: where these are the same, so is it.
 -- The rules: docs/COMMANDS.md; docs/CALCULATION.md; docs/FINANCIAL_MODULE.md.
-use Rattle.std.specs.Prelude.{◌≡◌, ◌<◌, ℕ, nat_eq, Bool, true, false, cond, List, [], ◌∷◌, map, Some}
+use Rattle.std.specs.Prelude.{◌≡◌, ◌<◌, ℕ, nat_eq, Bool, true, false, cond, refl, List, [], ◌∷◌, map, Some}
 use Rattle.std.specs.List.{sum_by}
 use Rattle.std.proofs.Common.{ap, ◌∙◌, arith}
 use Rattle.kt_gul.specs.GroundUp.{ground_up_records}
@@ -43,7 +43,8 @@ use Rattle.kt_stream.specs.declared.entry.Cdf.{Cdf}
 use Rattle.kt_stream.specs.declared.entry.LossRecord.{LossRecord}
 use Rattle.kt_stream.specs.declared.entry.SummaryRecord.{SummaryRecord}
 use Rattle.kt_stream.specs.declared.kind.Head.{Head}
-use Rattle.kt_subset.specs.SameRows.{HasSame}
+use Rattle.kt_subset.specs.SameRows.{HasSame, same_base, same_stage}
+use Rattle.kt_subset.specs.SameTables.{SameTable}
 use Rattle.kt_sum.specs.Summaries.{run_summaries}
 use Rattle.kt_tables.specs.Lookups.{event_ids, occurrences_of}
 use Rattle.kt_tree.specs.Programme.{children_in, has_coverage, ids_in, coverage_of, layers_in, terms_in, tree_of}
@@ -99,86 +100,87 @@ module _ (need : Need) (own rows : Rows) (same : HasSame need own rows) where
   abbrev Needs : Table → Type 0
   Needs t = is_loaded need 0 t ≡ true
 
+  -- what is kept of a table of the base that is needed
+  base : (t : Table) → Needs t → SameTable 0 t own rows
+  base = same_base need own rows same
+
   -- ---- events and their distributions
 
   pub events_same : Needs table.Events → event_ids own ≡ event_ids rows
-  events_same events = ap (map (λ row. row.event_id)) (same.events events)
+  events_same events = ap (map (λ row. row.event_id)) (base table.Events events)
 
   pub foot_same : Needs table.FootprintIdx → (footprint : List ℕ) (event : ℕ) → event_rows own footprint event ≡ event_rows rows footprint event
-  foot_same index footprint event = ap (λ (list : List FootprintIdx). event_rows (record no_rows { footprint_idx = list }) footprint event) (same.footprint_idx index)
+  foot_same index footprint event = ap (λ (list : List FootprintIdx). event_rows (record no_rows { footprint_idx = list }) footprint event) (base table.FootprintIdx index)
 
   pub distributions_same : Needs table.Items → Needs table.Vulnerability → Needs table.DamageBinDict → (event : ℕ) (foot : List FootRow) → distributions_of own event foot ≡ distributions_of rows event foot
   distributions_same items damages bins event foot =
-      ap (λ (list : List Item). distributions_of (hazard_rows list own.vulnerability own.damage_bin_dict) event foot) (same.items items)
-      ∙ (ap (λ (list : List Vulnerability). distributions_of (hazard_rows rows.items list own.damage_bin_dict) event foot) (same.vulnerability damages)
-      ∙ ap (λ (list : List DamageBin). distributions_of (hazard_rows rows.items rows.vulnerability list) event foot) (same.damage_bin_dict bins))
+      ap (λ (list : List Item). distributions_of (hazard_rows list own.vulnerability own.damage_bin_dict) event foot) (base table.Items items)
+      ∙ (ap (λ (list : List Vulnerability). distributions_of (hazard_rows rows.items list own.damage_bin_dict) event foot) (base table.Vulnerability damages)
+      ∙ ap (λ (list : List DamageBin). distributions_of (hazard_rows rows.items rows.vulnerability list) event foot) (base table.DamageBinDict bins))
 
   -- ---- ground-up losses
 
   pub ground_up_same : Needs table.Items → Needs table.Coverages → Needs table.DamageBinDict → Needs table.Random → (samples : ℕ) (cut : Bool) (event : ℕ) (cdfs : List Cdf) → ground_up_records own samples cut event cdfs ≡ ground_up_records rows samples cut event cdfs
   ground_up_same items coverages bins random samples cut event cdfs =
-      ap (λ (list : List Item). ground_up_records (sampling_rows list own.coverages own.damage_bin_dict own.random) samples cut event cdfs) (same.items items)
-      ∙ (ap (λ (list : List Coverage). ground_up_records (sampling_rows rows.items list own.damage_bin_dict own.random) samples cut event cdfs) (same.coverages coverages)
-      ∙ (ap (λ (list : List DamageBin). ground_up_records (sampling_rows rows.items rows.coverages list own.random) samples cut event cdfs) (same.damage_bin_dict bins)
-      ∙ ap (λ (list : List Random). ground_up_records (sampling_rows rows.items rows.coverages rows.damage_bin_dict list) samples cut event cdfs) (same.random random)))
+      ap (λ (list : List Item). ground_up_records (sampling_rows list own.coverages own.damage_bin_dict own.random) samples cut event cdfs) (base table.Items items)
+      ∙ (ap (λ (list : List Coverage). ground_up_records (sampling_rows rows.items list own.damage_bin_dict own.random) samples cut event cdfs) (base table.Coverages coverages)
+      ∙ (ap (λ (list : List DamageBin). ground_up_records (sampling_rows rows.items rows.coverages list own.random) samples cut event cdfs) (base table.DamageBinDict bins)
+      ∙ ap (λ (list : List Random). ground_up_records (sampling_rows rows.items rows.coverages rows.damage_bin_dict list) samples cut event cdfs) (base table.Random random)))
 
   -- ---- insured and net losses
 
   pub tree_same : (stage : ℕ) → stage < 10 → NeedsTree need stage → tree_of own stage ≡ tree_of rows stage
   tree_same stage below needs =
-      ap (λ (list : List FmProgramme). tree_with stage list (policytc_of own stage) (profile_of own stage) own.items own.coverages own.fm_xref) (same.programme stage below needs.programme)
-      ∙ (ap (λ (list : List FmPolicytc). tree_with stage (programme_of rows stage) list (profile_of own stage) own.items own.coverages own.fm_xref) (same.policytc stage below needs.policytc)
-      ∙ (ap (λ (list : List FmProfile). tree_with stage (programme_of rows stage) (policytc_of rows stage) list own.items own.coverages own.fm_xref) (same.profile stage below needs.profile)
-      ∙ (ap (λ (list : List Item). tree_with stage (programme_of rows stage) (policytc_of rows stage) (profile_of rows stage) list own.coverages own.fm_xref) (same.items needs.items)
-      ∙ (ap (λ (list : List Coverage). tree_with stage (programme_of rows stage) (policytc_of rows stage) (profile_of rows stage) rows.items list own.fm_xref) (same.coverages needs.coverages)
-      ∙ ap (λ (list : List FmXref). tree_with stage (programme_of rows stage) (policytc_of rows stage) (profile_of rows stage) rows.items rows.coverages list) (same.fm_xref needs.outputs)))))
+      ap (λ (list : List FmProgramme). tree_with stage list (policytc_of own stage) (profile_of own stage) own.items own.coverages own.fm_xref) (same_stage need own rows same stage below table.FmProgramme refl needs.programme)
+      ∙ (ap (λ (list : List FmPolicytc). tree_with stage (programme_of rows stage) list (profile_of own stage) own.items own.coverages own.fm_xref) (same_stage need own rows same stage below table.FmPolicytc refl needs.policytc)
+      ∙ (ap (λ (list : List FmProfile). tree_with stage (programme_of rows stage) (policytc_of rows stage) list own.items own.coverages own.fm_xref) (same_stage need own rows same stage below table.FmProfile refl needs.profile)
+      ∙ (ap (λ (list : List Item). tree_with stage (programme_of rows stage) (policytc_of rows stage) (profile_of rows stage) list own.coverages own.fm_xref) (base table.Items needs.items)
+      ∙ (ap (λ (list : List Coverage). tree_with stage (programme_of rows stage) (policytc_of rows stage) (profile_of rows stage) rows.items list own.fm_xref) (base table.Coverages needs.coverages)
+      ∙ ap (λ (list : List FmXref). tree_with stage (programme_of rows stage) (policytc_of rows stage) (profile_of rows stage) rows.items rows.coverages list) (base table.FmXref needs.outputs)))))
 
   pub insured_same : NeedsTree need 0 → (rule samples : ℕ) (records : List LossRecord) → insured_records (tree_of own 0) rule samples own.fm_xref records ≡ insured_records (tree_of rows 0) rule samples rows.fm_xref records
   insured_same needs rule samples records =
       ap (λ (tree : Tree). insured_records tree rule samples own.fm_xref records) (tree_same 0 (omega arith) needs)
-      ∙ ap (λ (outputs : List FmXref). insured_records (tree_of rows 0) rule samples outputs records) (same.fm_xref needs.outputs)
+      ∙ ap (λ (outputs : List FmXref). insured_records (tree_of rows 0) rule samples outputs records) (base table.FmXref needs.outputs)
 
   pub net_same : (stage : ℕ) → stage < 10 → NeedsTree need stage → (rule samples : ℕ) (records : List LossRecord) → net_records (tree_of own stage) rule samples records ≡ net_records (tree_of rows stage) rule samples records
   net_same stage below needs rule samples records = ap (λ (tree : Tree). net_records tree rule samples records) (tree_same stage below needs)
 
   -- the ids that losses may have
   pub items_known : Needs table.Items → (id : ℕ) → is_known true own id ≡ is_known true rows id
-  items_known items id = ap (λ (list : List Item). is_known true (record no_rows { items = list }) id) (same.items items)
+  items_known items id = ap (λ (list : List Item). is_known true (record no_rows { items = list }) id) (base table.Items items)
 
   pub outputs_known : Needs table.FmXref → (id : ℕ) → is_known false own id ≡ is_known false rows id
-  outputs_known outputs id = ap (λ (list : List FmXref). is_known false (record no_rows { fm_xref = list }) id) (same.fm_xref outputs)
+  outputs_known outputs id = ap (λ (list : List FmXref). is_known false (record no_rows { fm_xref = list }) id) (base table.FmXref outputs)
 
   -- ---- summaries
 
   pub item_summaries_same : Needs table.Items → Needs table.Coverages → Needs table.GulSummaryXref → (rule set : ℕ) (records : List LossRecord) → run_summaries Gul own rule set records ≡ run_summaries Gul rows rule set records
   item_summaries_same items coverages summaries rule set records =
-      ap (λ (list : List Item). run_summaries Gul (item_rows list own.coverages own.gulsummaryxref) rule set records) (same.items items)
-      ∙ (ap (λ (list : List Coverage). run_summaries Gul (item_rows rows.items list own.gulsummaryxref) rule set records) (same.coverages coverages)
-      ∙ ap (λ (list : List GulSummaryXref). run_summaries Gul (item_rows rows.items rows.coverages list) rule set records) (same.gulsummaryxref summaries))
+      ap (λ (list : List Item). run_summaries Gul (item_rows list own.coverages own.gulsummaryxref) rule set records) (base table.Items items)
+      ∙ (ap (λ (list : List Coverage). run_summaries Gul (item_rows rows.items list own.gulsummaryxref) rule set records) (base table.Coverages coverages)
+      ∙ ap (λ (list : List GulSummaryXref). run_summaries Gul (item_rows rows.items rows.coverages list) rule set records) (base table.GulSummaryXref summaries))
 
   pub output_summaries_same : Needs table.Items → Needs table.Coverages → Needs table.FmProgramme → Needs table.FmXref → Needs table.FmSummaryXref → (rule set : ℕ) (records : List LossRecord) → run_summaries Il own rule set records ≡ run_summaries Il rows rule set records
   output_summaries_same items coverages programme outputs summaries rule set records =
-      ap (λ (list : List Item). run_summaries Il (output_rows list own.coverages (programme_of own 0) own.fm_xref own.fmsummaryxref) rule set records) (same.items items)
-      ∙ (ap (λ (list : List Coverage). run_summaries Il (output_rows rows.items list (programme_of own 0) own.fm_xref own.fmsummaryxref) rule set records) (same.coverages coverages)
-      ∙ (ap (λ (list : List FmProgramme). run_summaries Il (output_rows rows.items rows.coverages list own.fm_xref own.fmsummaryxref) rule set records) (same.programme 0 (omega arith) programme)
-      ∙ (ap (λ (list : List FmXref). run_summaries Il (output_rows rows.items rows.coverages (programme_of rows 0) list own.fmsummaryxref) rule set records) (same.fm_xref outputs)
-      ∙ ap (λ (list : List FmSummaryXref). run_summaries Il (output_rows rows.items rows.coverages (programme_of rows 0) rows.fm_xref list) rule set records) (same.fmsummaryxref summaries))))
+      ap (λ (list : List Item). run_summaries Il (output_rows list own.coverages (programme_of own 0) own.fm_xref own.fmsummaryxref) rule set records) (base table.Items items)
+      ∙ (ap (λ (list : List Coverage). run_summaries Il (output_rows rows.items list (programme_of own 0) own.fm_xref own.fmsummaryxref) rule set records) (base table.Coverages coverages)
+      ∙ (ap (λ (list : List FmProgramme). run_summaries Il (output_rows rows.items rows.coverages list own.fm_xref own.fmsummaryxref) rule set records) (base table.FmProgramme programme)
+      ∙ (ap (λ (list : List FmXref). run_summaries Il (output_rows rows.items rows.coverages (programme_of rows 0) list own.fmsummaryxref) rule set records) (base table.FmXref outputs)
+      ∙ ap (λ (list : List FmSummaryXref). run_summaries Il (output_rows rows.items rows.coverages (programme_of rows 0) rows.fm_xref list) rule set records) (base table.FmSummaryXref summaries))))
 
   -- ---- tables over periods
 
   pub occurrences_same : Needs table.Occurrence → (event : ℕ) → occurrences_of own event ≡ occurrences_of rows event
-  occurrences_same occurrence event = ap (λ (list : List Occurrence). occurrences_of (period_rows list 0 []) event) (same.occurrence occurrence)
+  occurrences_same occurrence event = ap (λ (part : List Occurrence × ℕ). occurrences_of (period_rows part.0 0 []) event) (base table.Occurrence occurrence)
 
   pub period_losses_same : Needs table.Occurrence → (heading : Bool) (source : List ℕ) → plt_outcome heading (record { rows = own; need = need }) source ≡ plt_outcome heading (record { rows = rows; need = need }) source
-  period_losses_same occurrence heading source = ap (λ (list : List Occurrence). plt_outcome heading (record { rows = period_rows list 0 []; need = need }) source) (same.occurrence occurrence)
+  period_losses_same occurrence heading source = ap (λ (part : List Occurrence × ℕ). plt_outcome heading (record { rows = period_rows part.0 0 []; need = need }) source) (base table.Occurrence occurrence)
 
   pub averages_same : Needs table.Occurrence → (contents : Contents Head SummaryRecord) → contents_outcome AverageAnnualLoss own contents ≡ contents_outcome AverageAnnualLoss rows contents
-  averages_same occurrence contents =
-      ap (λ (list : List Occurrence). contents_outcome AverageAnnualLoss (period_rows list own.periods []) contents) (same.occurrence occurrence)
-      ∙ ap (λ (n : ℕ). contents_outcome AverageAnnualLoss (period_rows rows.occurrence n []) contents) (same.periods occurrence)
+  averages_same occurrence contents = ap (λ (part : List Occurrence × ℕ). contents_outcome AverageAnnualLoss (period_rows part.0 part.1 []) contents) (base table.Occurrence occurrence)
 
   pub curves_same : Needs table.Occurrence → Needs table.ReturnPeriods → (curve : Curve) (contents : Contents Head SummaryRecord) → contents_outcome (ExceedanceCurve curve) own contents ≡ contents_outcome (ExceedanceCurve curve) rows contents
   curves_same occurrence returns curve contents =
-      ap (λ (list : List Occurrence). contents_outcome (ExceedanceCurve curve) (period_rows list own.periods own.returnperiods) contents) (same.occurrence occurrence)
-      ∙ (ap (λ (n : ℕ). contents_outcome (ExceedanceCurve curve) (period_rows rows.occurrence n own.returnperiods) contents) (same.periods occurrence)
-      ∙ ap (λ (list : List ReturnPeriod). contents_outcome (ExceedanceCurve curve) (period_rows rows.occurrence rows.periods list) contents) (same.returnperiods returns))
+      ap (λ (part : List Occurrence × ℕ). contents_outcome (ExceedanceCurve curve) (period_rows part.0 part.1 own.returnperiods) contents) (base table.Occurrence occurrence)
+      ∙ ap (λ (list : List ReturnPeriod). contents_outcome (ExceedanceCurve curve) (period_rows rows.occurrence rows.periods list) contents) (base table.ReturnPeriods returns)

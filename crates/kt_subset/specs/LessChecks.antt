@@ -10,25 +10,28 @@ use Rattle.kt_checks.specs.Checks.{IsValid, KeepsCheck, KeepsSamples, checks_of,
 use Rattle.kt_checks.specs.OutputChecks.{has_output, lacks_at, lacks_output, missing_output_check, owing_at}
 use Rattle.kt_checks.specs.ProgrammeChecks.{dead_end_at, inputs_of, rootless_at, source_check, target_check, terms_check, unplaced_at}
 use Rattle.kt_checks.specs.SummaryChecks.{item_summaries, output_summaries, sample_checks, sample_refusals, summaries_of, summary_size_check, zero_above}
-use Rattle.kt_checks.specs.TableChecks.{bad_bin_at, bin_check, damage_size_check, empty_checks, empty_programme, empty_refusals, is_misplaced, limit_check, limit_checks, limit_refusals, none_at, period_check, place_check, probability_check, programme_limit_refusals, programme_limits, row_past, rows_above, value_above_at, value_check}
+use Rattle.kt_checks.specs.TableChecks.{bad_bin_at, bin_check, damage_size_check, empty_checks, empty_programme, empty_refusals, is_misplaced, limit_check, limit_checks, none_at, period_check, place_check, probability_check, row_limit, row_past, rows_above, value_above_at, value_check}
 use Rattle.kt_keys.specs.Climbing.{climbed, next_unit}
 use Rattle.kt_keys.specs.FirstRow.{above_at, first_where, repeated_at, unknown_at}
-use Rattle.kt_keys.specs.KeyChecks.{key_check, key_checks, key_refusals, output_check, programme_key_refusals, programme_keys}
-use Rattle.kt_keys.specs.Keys.{policytc_of, profile_of, programme_of, same_pair, same_triple}
+use Rattle.kt_keys.specs.KeyChecks.{key_check, key_checks, key_row, key_row_in, output_check}
+use Rattle.kt_keys.specs.Keys.{policytc_of, profile_of, programme_of, same_pair}
 use Rattle.kt_keys.specs.NameChecks.{coverage_check, damage_check, has_units, item_summary_check, output_summary_check, output_unit_check, output_units, profile_check, summary_checks}
 use Rattle.kt_keys.specs.Refusals.{at_stage, is_loaded, refusal}
 use Rattle.kt_keys.specs.Units.{top_layers, top_level, top_targets}
 use Rattle.kt_keys.specs.declared.need.Need.{Need}
 use Rattle.kt_keys.specs.declared.need.Refusal.{Refusal}
+use Rattle.kt_rec.specs.PlaceLaws.{of_base, of_stage, same_count}
+use Rattle.kt_rec.specs.Places.{PartOf, list_of, part_in, row_count, table_at}
 use Rattle.kt_rec.specs.Rows.{Rows}
+use Rattle.kt_rec.specs.TableNames.{IsTableId}
 use Rattle.kt_rec.specs.declared.financial.FmPolicytc.{FmPolicytc}
 use Rattle.kt_rec.specs.declared.financial.FmProgramme.{FmProgramme}
 use Rattle.kt_rec.specs.declared.financial.FmXref.{FmXref}
-use Rattle.kt_rec.specs.declared.periods.Occurrence.{Occurrence}
 use Rattle.kt_rec.specs.declared.table.Table.{Table}
 use Rattle.kt_rec.specs.declared.table.Table.TheVariants as table
-use Rattle.kt_subset.specs.Less.{AreLess, IsLess, first_less, joined_less, known_less, one_table, part_less, stages_less, two_tables, weaker, zero_above-less}
-use Rattle.kt_subset.specs.SameRows.{HasSame}
+use Rattle.kt_subset.specs.Less.{AreLess, IsLess, first_less, joined_less, known_less, listed_less, one_table, part_less, stages_less, two_tables, weaker, zero_above-less}
+use Rattle.kt_subset.specs.SameRows.{HasSame, same_base, same_stage}
+use Rattle.kt_subset.specs.SameTables.{SameTable}
 use Rattle.kt_subset.specs.Within.{IsWithin}
 
 -- the row that lacks an output is the same by rules that agree on whether outputs are of items
@@ -45,6 +48,11 @@ owing_same rule same programme policytc outputs agree =
 abbrev made : Need → Bool
 made need = is_loaded need 0 table.FmProgramme && is_loaded need 0 table.FmPolicytc && is_loaded need 0 table.FmXref
 
+-- a table that is the same has the same first row whose key stands in an earlier row
+same_key_row : (t : Table) (stage : ℕ) (rows other : Rows) → SameTable stage t rows other → key_row_in rows stage t ≡ key_row_in other stage t
+same_key_row table.Events stage rows other same = ap (key_row table.Events) same
+same_key_row t stage rows other same = ap (λ (part : PartOf t). key_row t (list_of t part)) same
+
 -- one of two tests passes
 either : (one other one_more other_more : Bool) → (one ≡ true → one_more ≡ true) → (other ≡ true → other_more ≡ true) → (one || other) ≡ true → (one_more || other_more) ≡ true
 either true other one_more other_more first second is = subst (λ (b : Bool). (b || other_more) ≡ true) (sym (first refl)) refl
@@ -59,148 +67,55 @@ module _ (rows other : Rows) (small big : Need) (within : IsWithin small big) (h
   unfolding is_loaded
   loads stage t is = within.tables (at_stage stage t) is
 
+  -- what is kept of a table of the base that is needed
+  base : (t : Table) → is_loaded small 0 t ≡ true → SameTable 0 t rows other
+  base = same_base small rows other has
+
   -- a check of one table
-  one : {X : Type 0} (number stage : ℕ) (t : Table) (list others : X) (row : X → Option ℕ) → (is_loaded small stage t ≡ true → list ≡ others) → IsLess (refusal number (at_stage stage t) (is_loaded small stage t) (row list)) (refusal number (at_stage stage t) (is_loaded big stage t) (row others))
-  one number stage t list others row same = one_table number (at_stage stage t) (is_loaded small stage t) (is_loaded big stage t) list others row (loads stage t) same
+  one : (number stage : ℕ) (t : Table) → IsTableId (table_at stage t) → (row : PartOf t → Option ℕ) → IsLess (refusal number (at_stage stage t) (is_loaded small stage t) (row (part_in t stage rows))) (refusal number (at_stage stage t) (is_loaded big stage t) (row (part_in t stage other)))
+  one number stage t is row = one_table number (at_stage stage t) (is_loaded small stage t) (is_loaded big stage t) (part_in t stage rows) (part_in t stage other) row (loads stage t) (has (table_at stage t) is)
 
   -- a check of two tables, which names the first
-  two : {X Y : Type 0} (number stage : ℕ) (t : Table) (at : ℕ) (u : Table) (list others : X) (list_too others_too : Y) (row : X → Y → Option ℕ) → (is_loaded small stage t ≡ true → list ≡ others) → (is_loaded small at u ≡ true → list_too ≡ others_too) → IsLess (refusal number (at_stage stage t) (is_loaded small stage t && is_loaded small at u) (row list list_too)) (refusal number (at_stage stage t) (is_loaded big stage t && is_loaded big at u) (row others others_too))
-  two number stage t at u list others list_too others_too row same same_too =
-      two_tables number (at_stage stage t) (is_loaded small stage t) (is_loaded big stage t) (is_loaded small at u) (is_loaded big at u) list others list_too others_too row (loads stage t) (loads at u) same same_too
+  two : {X : Type 0} (number stage : ℕ) (t : Table) → IsTableId (table_at stage t) → (at : ℕ) (u : Table) (list others : X) (row : PartOf t → X → Option ℕ) → (is_loaded small at u ≡ true → list ≡ others) → IsLess (refusal number (at_stage stage t) (is_loaded small stage t && is_loaded small at u) (row (part_in t stage rows) list)) (refusal number (at_stage stage t) (is_loaded big stage t && is_loaded big at u) (row (part_in t stage other) others))
+  two number stage t is at u list others row same =
+      two_tables number (at_stage stage t) (is_loaded small stage t) (is_loaded big stage t) (is_loaded small at u) (is_loaded big at u) (part_in t stage rows) (part_in t stage other) list others row (loads stage t) (loads at u) (has (table_at stage t) is) same
 
   -- ---- 1 to 10
 
-  limit : {X : Type 0} (stage : ℕ) (t : Table) (most : ℕ) (list others : List X) → (is_loaded small stage t ≡ true → list ≡ others) → IsLess (limit_check small stage t most (length list)) (limit_check big stage t most (length others))
-  limit {X} stage t most list others same = one 1 stage t list others (λ (l : List X). row_past most (length l)) same
-
-  programme_limit : (stage : ℕ) → stage < 10 → IsLess (programme_limits rows small stage) (programme_limits other big stage)
-  programme_limit stage below =
-      first_less (programme_limit_refusals rows small stage) (programme_limit_refusals other big stage) (
-        limit stage table.FmProgramme 1200000 (programme_of rows stage) (programme_of other stage) (has.programme stage below),
-        (
-          limit stage table.FmPolicytc 1200000 (policytc_of rows stage) (policytc_of other stage) (has.policytc stage below),
-          (limit stage table.FmProfile 1000000 (profile_of rows stage) (profile_of other stage) (has.profile stage below), tt),
-        ),
-      )
-
   limits : IsLess (limit_checks rows small) (limit_checks other big)
-  limits =
-      first_less (limit_refusals rows small) (limit_refusals other big) (
-        limit 0 table.Events 1000000 rows.events other.events has.events,
-        (
-          limit 0 table.Items 100000 rows.items other.items has.items,
-          (
-            limit 0 table.Coverages 100000 rows.coverages other.coverages has.coverages,
-            (
-              limit 0 table.FootprintIdx 1000000 rows.footprint_idx other.footprint_idx has.footprint_idx,
-              (
-                limit 0 table.Vulnerability 10000000 rows.vulnerability other.vulnerability has.vulnerability,
-                (
-                  limit 0 table.DamageBinDict 1000 rows.damage_bin_dict other.damage_bin_dict has.damage_bin_dict,
-                  (
-                    limit 0 table.Random 10000000 rows.random other.random has.random,
-                    (
-                      programme_limit 0 (omega arith),
-                      (
-                        limit 0 table.FmXref 100000 rows.fm_xref other.fm_xref has.fm_xref,
-                        (
-                          limit 0 table.GulSummaryXref 900000 rows.gulsummaryxref other.gulsummaryxref has.gulsummaryxref,
-                          (
-                            limit 0 table.FmSummaryXref 900000 rows.fmsummaryxref other.fmsummaryxref has.fmsummaryxref,
-                            (
-                              limit 0 table.Occurrence 1000000 rows.occurrence other.occurrence has.occurrence,
-                              (
-                                limit 0 table.ReturnPeriods 1000 rows.returnperiods other.returnperiods has.returnperiods,
-                                (stages_less (λ later. programme_limits rows small (later + 1)) (λ later. programme_limits other big (later + 1)) 9 (λ later below. programme_limit (later + 1) (omega arith)), tt),
-                              ),
-                            ),
-                          ),
-                        ),
-                      ),
-                    ),
-                  ),
-                ),
-              ),
-            ),
-          ),
-        ),
-      )
-
-  keyed : {X K : Type 0} (stage : ℕ) (t : Table) (list others : List X) (same_keys : K → K → Bool) (key : X → K) → (is_loaded small stage t ≡ true → list ≡ others) → IsLess (key_check same_keys small stage t (map key list)) (key_check same_keys big stage t (map key others))
-  keyed {X} stage t list others same_keys key same = one 2 stage t list others (λ (l : List X). repeated_at same_keys (map key l)) same
-
-  programme_keyed : (stage : ℕ) → stage < 10 → IsLess (programme_keys rows small stage) (programme_keys other big stage)
-  programme_keyed stage below =
-      first_less (programme_key_refusals rows small stage) (programme_key_refusals other big stage) (
-        keyed stage table.FmProgramme (programme_of rows stage) (programme_of other stage) same_pair (λ row. (row.from_agg_id, row.level_id)) (has.programme stage below),
-        (
-          keyed stage table.FmPolicytc (policytc_of rows stage) (policytc_of other stage) same_triple (λ row. (row.layer_id, row.level_id, row.agg_id)) (has.policytc stage below),
-          (keyed stage table.FmProfile (profile_of rows stage) (profile_of other stage) nat_eq (λ row. row.policytc_id) (has.profile stage below), tt),
-        ),
-      )
+  limits = listed_less (limit_check rows small) (limit_check other big) (λ id is. weaker 1 id id (is_loaded small id.stage id.table) (is_loaded big id.stage id.table) (row_past (row_limit id.table) (row_count rows id)) (row_past (row_limit id.table) (row_count other id)) (loads id.stage id.table) (λ needed none. ap (row_past (row_limit id.table)) (same_count id.table id.stage rows other (has id is needed)) ∙ none))
 
   keys : IsLess (key_checks rows small) (key_checks other big)
-  keys =
-      first_less (key_refusals rows small) (key_refusals other big) (
-        keyed 0 table.Events rows.events other.events nat_eq (λ row. row.event_id) has.events,
-        (
-          keyed 0 table.Items rows.items other.items nat_eq (λ row. row.item_id) has.items,
-          (
-            keyed 0 table.Coverages rows.coverages other.coverages nat_eq (λ row. row.coverage_id) has.coverages,
-            (
-              keyed 0 table.FootprintIdx rows.footprint_idx other.footprint_idx nat_eq (λ row. row.event_id) has.footprint_idx,
-              (
-                keyed 0 table.Vulnerability rows.vulnerability other.vulnerability same_triple (λ row. (row.vulnerability_id, row.intensity_bin_id, row.damage_bin_id)) has.vulnerability,
-                (
-                  programme_keyed 0 (omega arith),
-                  (
-                    keyed 0 table.FmXref rows.fm_xref other.fm_xref nat_eq (λ row. row.output_id) has.fm_xref,
-                    (
-                      keyed 0 table.GulSummaryXref rows.gulsummaryxref other.gulsummaryxref same_pair (λ row. (row.item_id, row.summaryset_id)) has.gulsummaryxref,
-                      (
-                        keyed 0 table.FmSummaryXref rows.fmsummaryxref other.fmsummaryxref same_pair (λ row. (row.output_id, row.summaryset_id)) has.fmsummaryxref,
-                        (
-                          keyed 0 table.ReturnPeriods rows.returnperiods other.returnperiods nat_eq (λ row. row.return_period) has.returnperiods,
-                          (stages_less (λ later. programme_keys rows small (later + 1)) (λ later. programme_keys other big (later + 1)) 9 (λ later below. programme_keyed (later + 1) (omega arith)), tt),
-                        ),
-                      ),
-                    ),
-                  ),
-                ),
-              ),
-            ),
-          ),
-        ),
-      )
+  keys = listed_less (key_check rows small) (key_check other big) (λ id is. weaker 2 id id (is_loaded small id.stage id.table) (is_loaded big id.stage id.table) (key_row_in rows id.stage id.table) (key_row_in other id.stage id.table) (loads id.stage id.table) (λ needed none. same_key_row id.table id.stage rows other (has id is needed) ∙ none))
 
   outputs_distinct : IsLess (output_check rows small) (output_check other big)
-  outputs_distinct = one 3 0 table.FmXref rows.fm_xref other.fm_xref (λ list. repeated_at same_pair (map (λ row. (row.agg_id, row.layer_id)) list)) has.fm_xref
+  outputs_distinct = one 3 0 table.FmXref (of_base table.FmXref) (λ list. repeated_at same_pair (map (λ row. (row.agg_id, row.layer_id)) list))
 
   coverages_named : IsLess (coverage_check rows small) (coverage_check other big)
-  coverages_named = two 4 0 table.Items 0 table.Coverages rows.items other.items rows.coverages other.coverages (λ items coverages. unknown_at nat_eq (map (λ row. row.coverage_id) coverages) (map (λ row. row.coverage_id) items)) has.items has.coverages
+  coverages_named = two 4 0 table.Items (of_base table.Items) 0 table.Coverages rows.coverages other.coverages (λ items coverages. unknown_at nat_eq (map (λ row. row.coverage_id) coverages) (map (λ row. row.coverage_id) items)) (base table.Coverages)
 
   values : IsLess (value_check rows small) (value_check other big)
-  values = two 5 0 table.Items 0 table.Coverages rows.items other.items rows.coverages other.coverages (λ items coverages. value_above_at coverages items) has.items has.coverages
+  values = two 5 0 table.Items (of_base table.Items) 0 table.Coverages rows.coverages other.coverages (λ items coverages. value_above_at coverages items) (base table.Coverages)
 
   bins : IsLess (bin_check rows small) (bin_check other big)
-  bins = one 6 0 table.DamageBinDict rows.damage_bin_dict other.damage_bin_dict bad_bin_at has.damage_bin_dict
+  bins = one 6 0 table.DamageBinDict (of_base table.DamageBinDict) bad_bin_at
 
   bins_named : IsLess (damage_check rows small) (damage_check other big)
-  bins_named = two 7 0 table.Vulnerability 0 table.DamageBinDict rows.vulnerability other.vulnerability rows.damage_bin_dict other.damage_bin_dict (λ damages bins. unknown_at nat_eq (map (λ row. row.bin_index) bins) (map (λ row. row.damage_bin_id) damages)) has.vulnerability has.damage_bin_dict
+  bins_named = two 7 0 table.Vulnerability (of_base table.Vulnerability) 0 table.DamageBinDict rows.damage_bin_dict other.damage_bin_dict (λ damages bins. unknown_at nat_eq (map (λ row. row.bin_index) bins) (map (λ row. row.damage_bin_id) damages)) (base table.DamageBinDict)
 
   probabilities : IsLess (probability_check rows small) (probability_check other big)
-  probabilities = one 8 0 table.Vulnerability rows.vulnerability other.vulnerability (λ list. above_at same_pair 1001000 (map (λ row. ((row.vulnerability_id, row.intensity_bin_id), row.prob)) list)) has.vulnerability
+  probabilities = one 8 0 table.Vulnerability (of_base table.Vulnerability) (λ list. above_at same_pair 1001000 (map (λ row. ((row.vulnerability_id, row.intensity_bin_id), row.prob)) list))
 
   places : IsLess (place_check rows small) (place_check other big)
-  places = two 9 0 table.FootprintIdx 0 table.Footprint rows.footprint_idx other.footprint_idx rows.footprint_size other.footprint_size (λ index size. first_where (is_misplaced size) index) has.footprint_idx has.footprint
+  places = two 9 0 table.FootprintIdx (of_base table.FootprintIdx) 0 table.Footprint rows.footprint_size other.footprint_size (λ index size. first_where (is_misplaced size) index) (base table.Footprint)
 
   empty_one : (stage : ℕ) → stage < 10 → IsLess (empty_programme rows small stage) (empty_programme other big stage)
-  empty_one stage below = one 10 stage table.FmProgramme (programme_of rows stage) (programme_of other stage) (λ list. none_at (length list)) (has.programme stage below)
+  empty_one stage below = one 10 stage table.FmProgramme (of_stage stage below table.FmProgramme refl) (λ list. none_at (length list))
 
   empties : IsLess (empty_checks rows small) (empty_checks other big)
   empties =
       first_less (empty_refusals rows small) (empty_refusals other big) (
-        one 10 0 table.Random rows.random other.random (λ list. none_at (length list)) has.random,
+        one 10 0 table.Random (of_base table.Random) (λ list. none_at (length list)),
         (stages_less (empty_programme rows small) (empty_programme other big) 10 empty_one, tt),
       )
 
@@ -208,32 +123,29 @@ module _ (rows other : Rows) (small big : Need) (within : IsWithin small big) (h
 
   -- what the losses of a programme are of
   inputs_same : (base : Bool) → is_loaded small 0 (cond base table.Items table.FmXref) ≡ true → cond base (map (λ row. row.item_id) rows.items) (map (λ row. row.output_id) rows.fm_xref) ≡ cond base (map (λ row. row.item_id) other.items) (map (λ row. row.output_id) other.fm_xref)
-  inputs_same true is = ap (λ list. map (λ row. row.item_id) list) (has.items is)
-  inputs_same false is = ap (λ list. map (λ row. row.output_id) list) (has.fm_xref is)
+  inputs_same true is = ap (λ list. map (λ row. row.item_id) list) (base table.Items is)
+  inputs_same false is = ap (λ list. map (λ row. row.output_id) list) (base table.FmXref is)
 
   sources : (stage : ℕ) → stage < 10 → IsLess (source_check rows small stage) (source_check other big stage)
   sources stage below =
-      two 11 stage table.FmProgramme 0 (cond (nat_eq stage 0) table.Items table.FmXref) (programme_of rows stage) (programme_of other stage) (inputs_of rows stage) (inputs_of other stage) (λ programme inputs. rootless_at inputs programme)
-      (has.programme stage below) (inputs_same (nat_eq stage 0))
+      two 11 stage table.FmProgramme (of_stage stage below table.FmProgramme refl) 0 (cond (nat_eq stage 0) table.Items table.FmXref) (inputs_of rows stage) (inputs_of other stage) (λ programme inputs. rootless_at inputs programme) (inputs_same (nat_eq stage 0))
 
   targets : (stage : ℕ) → stage < 10 → IsLess (target_check rows small stage) (target_check other big stage)
-  targets stage below = one 12 stage table.FmProgramme (programme_of rows stage) (programme_of other stage) dead_end_at (has.programme stage below)
+  targets stage below = one 12 stage table.FmProgramme (of_stage stage below table.FmProgramme refl) dead_end_at
 
   terms : (stage : ℕ) → stage < 10 → IsLess (terms_check rows small stage) (terms_check other big stage)
   terms stage below =
-      two 13 stage table.FmPolicytc stage table.FmProgramme (policytc_of rows stage) (policytc_of other stage) (programme_of rows stage) (programme_of other stage) (λ policytc programme. unplaced_at programme policytc)
-      (has.policytc stage below) (has.programme stage below)
+      two 13 stage table.FmPolicytc (of_stage stage below table.FmPolicytc refl) stage table.FmProgramme (programme_of rows stage) (programme_of other stage) (λ policytc programme. unplaced_at programme policytc) (same_stage small rows other has stage below table.FmProgramme refl)
 
   profiles_named : (stage : ℕ) → stage < 10 → IsLess (profile_check rows small stage) (profile_check other big stage)
   profiles_named stage below =
-      two 14 stage table.FmPolicytc stage table.FmProfile (policytc_of rows stage) (policytc_of other stage) (profile_of rows stage) (profile_of other stage)
-      (λ policytc profiles. unknown_at nat_eq (map (λ row. row.policytc_id) profiles) (map (λ row. row.policytc_id) policytc))
-      (has.policytc stage below) (has.profile stage below)
+      two 14 stage table.FmPolicytc (of_stage stage below table.FmPolicytc refl) stage table.FmProfile (profile_of rows stage) (profile_of other stage)
+      (λ policytc profiles. unknown_at nat_eq (map (λ row. row.policytc_id) profiles) (map (λ row. row.policytc_id) policytc)) (same_stage small rows other has stage below table.FmProfile refl)
 
   -- what outputs are for
   units_same : (units : Bool) → is_loaded small 0 (cond units table.FmProgramme table.Items) ≡ true → cond units (top_targets (programme_of rows 0)) (map (λ row. row.item_id) rows.items) ≡ cond units (top_targets (programme_of other 0)) (map (λ row. row.item_id) other.items)
-  units_same true is = ap top_targets (has.programme 0 (omega arith) is)
-  units_same false is = ap (λ list. map (λ row. row.item_id) list) (has.items is)
+  units_same true is = ap top_targets (base table.FmProgramme is)
+  units_same false is = ap (λ list. map (λ row. row.item_id) list) (base table.Items is)
 
   units_named : IsLess (output_unit_check rows small) (output_unit_check other big)
   units_named =
@@ -253,7 +165,7 @@ module _ (rows other : Rows) (small big : Need) (within : IsWithin small big) (h
       finds is =
           ap (λ (known : List ℕ). unknown_at nat_eq known (map (λ row. row.agg_id) rows.fm_xref))
           (units_same (nat_eq small.rule 0) (parts is).1 ∙ ap (λ (units : Bool). cond units (top_targets (programme_of other 0)) (map (λ row. row.item_id) other.items)) (within.rule (parts is).0))
-          ∙ ap (λ (list : List FmXref). unknown_at nat_eq (output_units other big.rule) (map (λ row. row.agg_id) list)) (has.fm_xref (parts is).0)
+          ∙ ap (λ (list : List FmXref). unknown_at nat_eq (output_units other big.rule) (map (λ row. row.agg_id) list)) (base table.FmXref (parts is).0)
 
   outputs_owed : IsLess (missing_output_check rows small) (missing_output_check other big)
   outputs_owed =
@@ -276,24 +188,24 @@ module _ (rows other : Rows) (small big : Need) (within : IsWithin small big) (h
       finds : made small ≡ true → owing_at small.rule (programme_of rows 0) (policytc_of rows 0) rows.fm_xref ≡ owing_at big.rule (programme_of other 0) (policytc_of other 0) other.fm_xref
       finds is =
           owing_same small.rule big.rule (programme_of rows 0) (policytc_of rows 0) rows.fm_xref (within.rule (front is).1)
-          ∙ (ap (λ (programme : List FmProgramme). owing_at big.rule programme (policytc_of rows 0) rows.fm_xref) (has.programme 0 (omega arith) (parts is).0)
-          ∙ (ap (λ (policytc : List FmPolicytc). owing_at big.rule (programme_of other 0) policytc rows.fm_xref) (has.policytc 0 (omega arith) (parts is).1)
-          ∙ ap (λ (outputs : List FmXref). owing_at big.rule (programme_of other 0) (policytc_of other 0) outputs) (has.fm_xref (front is).1)))
+          ∙ (ap (λ (programme : List FmProgramme). owing_at big.rule programme (policytc_of rows 0) rows.fm_xref) (base table.FmProgramme (parts is).0)
+          ∙ (ap (λ (policytc : List FmPolicytc). owing_at big.rule (programme_of other 0) policytc rows.fm_xref) (base table.FmPolicytc (parts is).1)
+          ∙ ap (λ (outputs : List FmXref). owing_at big.rule (programme_of other 0) (policytc_of other 0) outputs) (base table.FmXref (front is).1)))
 
   -- ---- 17 to 21
 
   summaries_named : IsLess (summary_checks rows small) (summary_checks other big)
   summaries_named =
       first_less (item_summary_check rows small ∷ output_summary_check rows small ∷ []) (item_summary_check other big ∷ output_summary_check other big ∷ []) (
-        two 17 0 table.GulSummaryXref 0 table.Items rows.gulsummaryxref other.gulsummaryxref rows.items other.items (λ summaries items. unknown_at nat_eq (map (λ row. row.item_id) items) (map (λ row. row.item_id) summaries)) has.gulsummaryxref has.items,
-        (two 17 0 table.FmSummaryXref 0 table.FmXref rows.fmsummaryxref other.fmsummaryxref rows.fm_xref other.fm_xref (λ summaries outputs. unknown_at nat_eq (map (λ row. row.output_id) outputs) (map (λ row. row.output_id) summaries)) has.fmsummaryxref has.fm_xref, tt),
+        two 17 0 table.GulSummaryXref (of_base table.GulSummaryXref) 0 table.Items rows.items other.items (λ summaries items. unknown_at nat_eq (map (λ row. row.item_id) items) (map (λ row. row.item_id) summaries)) (base table.Items),
+        (two 17 0 table.FmSummaryXref (of_base table.FmSummaryXref) 0 table.FmXref rows.fm_xref other.fm_xref (λ summaries outputs. unknown_at nat_eq (map (λ row. row.output_id) outputs) (map (λ row. row.output_id) summaries)) (base table.FmXref), tt),
       )
 
   sampled : (samples : ℕ) → IsLess (sample_checks rows small samples) (sample_checks other big samples)
   sampled samples =
       first_less (sample_refusals rows small samples) (sample_refusals other big samples) (
-        one 18 0 table.Items rows.items other.items (λ list. rows_above 2000000 (length list) (samples + 2)) has.items,
-        (one 18 0 table.FmXref rows.fm_xref other.fm_xref (λ list. rows_above 2000000 (length list) (samples + 2)) has.fm_xref, tt),
+        one 18 0 table.Items (of_base table.Items) (λ list. rows_above 2000000 (length list) (samples + 2)),
+        (one 18 0 table.FmXref (of_base table.FmXref) (λ list. rows_above 2000000 (length list) (samples + 2)), tt),
       )
 
   -- there are no more summaries
@@ -301,10 +213,10 @@ module _ (rows other : Rows) (small big : Need) (within : IsWithin small big) (h
   fewer =
       let items : cond (is_loaded small 0 table.GulSummaryXref) (item_summaries rows) 0 ≤ cond (is_loaded big 0 table.GulSummaryXref) (item_summaries other) 0 =
       part_less (is_loaded small 0 table.GulSummaryXref) (is_loaded big 0 table.GulSummaryXref) (item_summaries rows) (item_summaries other) (loads 0 table.GulSummaryXref)
-      (λ is. subst (λ list. item_summaries rows ≤ item_summaries (record rows { gulsummaryxref = list })) (has.gulsummaryxref is) (omega arith)) in
+      (λ is. subst (λ list. item_summaries rows ≤ item_summaries (record rows { gulsummaryxref = list })) (base table.GulSummaryXref is) (omega arith)) in
       let outputs : cond (is_loaded small 0 table.FmSummaryXref) (cond small.net 2 1 * output_summaries rows) 0 ≤ cond (is_loaded big 0 table.FmSummaryXref) (cond big.net 2 1 * output_summaries other) 0 =
       part_less (is_loaded small 0 table.FmSummaryXref) (is_loaded big 0 table.FmSummaryXref) (cond small.net 2 1 * output_summaries rows) (cond big.net 2 1 * output_summaries other) (loads 0 table.FmSummaryXref)
-      (λ is. subst (λ list. cond small.net 2 1 * output_summaries rows ≤ cond big.net 2 1 * output_summaries (record rows { fmsummaryxref = list })) (has.fmsummaryxref is) (mul-le-mul_right (output_summaries rows) within.net)) in
+      (λ is. subst (λ list. cond small.net 2 1 * output_summaries rows ≤ cond big.net 2 1 * output_summaries (record rows { fmsummaryxref = list })) (base table.FmSummaryXref is) (mul-le-mul_right (output_summaries rows) within.net)) in
       omega (arith, items, outputs)
 
   summaries_few : (samples : ℕ) → IsLess (summary_size_check rows small samples) (summary_size_check other big samples)
@@ -316,12 +228,10 @@ module _ (rows other : Rows) (small big : Need) (within : IsWithin small big) (h
       (λ is none. zero_above-less 1000000 (summaries_of rows small) (summaries_of other big) (samples + 2) fewer none)
 
   periods : IsLess (period_check rows small) (period_check other big)
-  periods =
-      one 20 0 table.Occurrence (rows.occurrence, rows.periods) (other.occurrence, other.periods) (λ (found : List Occurrence × ℕ). first_where (λ row. nat_lt found.1 row.period_no) found.0)
-      (λ is. ap (λ (list : List Occurrence). (list, rows.periods)) (has.occurrence is) ∙ ap (λ (n : ℕ). (other.occurrence, n)) (has.periods is))
+  periods = one 20 0 table.Occurrence (of_base table.Occurrence) (λ found. first_where (λ row. nat_lt found.1 row.period_no) found.0)
 
   damage_sizes : IsLess (damage_size_check rows small) (damage_size_check other big)
-  damage_sizes = two 21 0 table.DamageBinDict 0 table.Items rows.damage_bin_dict other.damage_bin_dict rows.items other.items (λ bins items. rows_above 2000000 (length bins) (length items)) has.damage_bin_dict has.items
+  damage_sizes = two 21 0 table.DamageBinDict (of_base table.DamageBinDict) 0 table.Items rows.items other.items (λ bins items. rows_above 2000000 (length bins) (length items)) (base table.Items)
 
   -- ---- all checks
 

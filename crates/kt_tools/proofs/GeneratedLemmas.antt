@@ -36,7 +36,7 @@ use Rattle.kt_load.specs.FootprintSize.{footprint_size-known}
 use Rattle.kt_load.specs.Ends.{AfterStop, TellsLoad}
 use Rattle.kt_load.specs.FileNames.{file_name_of}
 use Rattle.kt_load.specs.Loaded.{loaded, needed, unless_refused}
-use Rattle.kt_load.specs.Reading.{file_limit, go_on, with_read, with_size, with_table_file, with_table_files}
+use Rattle.kt_load.specs.Reading.{file_limit, go_on, with_read, with_table_file, with_table_files}
 use Rattle.kt_load.specs.declared.stop.LoadStop.{LoadStop}
 use Rattle.kt_load.specs.declared.stop.LoadStop.TheVariants as load
 use Rattle.kt_out.specs.Counts.{Rose}
@@ -71,12 +71,12 @@ never_missing files (id ∷ ids) rows name held is =
     by_file (files (file_name_of id)) (first_held (is_some (files (file_name_of id))) (all_held files ids) held).0 (λ read. never_missing files ids read name (first_held (is_some (files (file_name_of id))) (all_held files ids) held).1) is
   where
     by_read : (read : Result (ℕ × List (List ℕ)) TableStop) (size : ℕ) → ((read : Rows) → with_table_files files ids read ≡ Err (load.Missing name) → ⊥)
-        → go_on (go_on (with_read rows id read) (λ read. Ok (with_size read id.table size))) (with_table_files files ids) ≡ Err (load.Missing name) → ⊥
+        → go_on (with_read rows id size read) (with_table_files files ids) ≡ Err (load.Missing name) → ⊥
     by_read (Ok file) size later h = later _ h
     by_read (Err why) size later h = cc
 
     by_size : (large : Bool) (bytes : List ℕ) → ((read : Rows) → with_table_files files ids read ≡ Err (load.Missing name) → ⊥)
-        → go_on (if large then Err (load.TooLarge (file_name_of id)) else go_on (with_read rows id (loaded_rows id.table bytes)) (λ read. Ok (with_size read id.table (length bytes)))) (with_table_files files ids) ≡ Err (load.Missing name) → ⊥
+        → go_on (if large then Err (load.TooLarge (file_name_of id)) else with_read rows id (length bytes) (loaded_rows id.table bytes)) (with_table_files files ids) ≡ Err (load.Missing name) → ⊥
     by_size true bytes later h = cc
     by_size false bytes later h = by_read (loaded_rows id.table bytes) (length bytes) later h
 
