@@ -10,7 +10,9 @@ use Rattle.std.proofs.lemmas.List.{get_or-map, length-map, nil_from_length}
 use Rattle.std.proofs.lemmas.Map.Keys.{IsDistinct-push}
 use Rattle.kt_rec.specs.declared.hazard.FootprintIdx.{FootprintIdx}
 use Rattle.kt_rec.specs.declared.table.TableId.{TableId}
+use Rattle.kt_rec.specs.LoadOrder.{each-in_order, load_order}
 use Rattle.kt_rec.specs.Rows.{Rows}
+use Rattle.kt_rec.specs.TableNames.{IsTableId}
 use Rattle.kt_keys.specs.declared.need.Need.{Need}
 use Rattle.kt_keys.specs.declared.need.Refusal.{Refusal}
 use Rattle.kt_keys.specs.FirstRow.{first_where, first_refused_after, repeated_at, unknown_at}
@@ -53,6 +55,10 @@ each_none refusals none = from None refusals none
     from None (None ∷ refusals) h (suc place) = from None refusals h place
     from None (Some next ∷ refusals) h place = let e = sym (stays next refusals) ∙ h in cc
     from (Some found) (refusal ∷ refusals) h place = let e = sym (stays found refusals) ∙ h in cc
+
+-- where the first refusal of a check of all tables is none, it refuses none of them
+pub listed_none : (check : TableId → Option Refusal) → first_of (map check load_order) ≡ None → (id : TableId) → IsTableId id → check id ≡ None
+listed_none check none = each-in_order (λ id. check id ≡ None) (λ k d below. sym (get_or-map check load_order k d None below) ∙ each_none (map check load_order) none k)
 
 -- valid tables keep each check
 pub keeps-from_valid : (number : ℕ) (rows : Rows) (need : Need) → IsValid rows need → KeepsCheck number rows need

@@ -1,9 +1,9 @@
 -- Valid tables keep their sizes and keys: the checks 1 to 3, 5, 10, 18, 19 and 21.
 -- The rule: docs/CHECKS.md, "Order".
-use Rattle.std.specs.Prelude.{◌≡◌, ℕ, ◌≤◌, ◌+◌, ◌*◌, ◌<◌, ◌||◌, Bool, true, false, cond, nat_lt, List, [], ◌∷◌, length, refl, Option, None, slice_index_or, zero, suc}
+use Rattle.std.specs.Prelude.{◌≡◌, ℕ, ◌≤◌, ◌+◌, ◌*◌, ◌<◌, ◌||◌, Bool, true, false, cond, nat_lt, List, [], ◌∷◌, length, refl, Option, None, slice_index_or}
 use Rattle.std.specs.List.{sum_by}
 use Rattle.std.specs.Cmp.{nat_eq_equiv}
-use Rattle.std.proofs.Common.{sym, subst, add-one, arith, inl, inr}
+use Rattle.std.proofs.Common.{sym, subst, arith, inl, inr}
 use Rattle.std.proofs.lemmas.Bool.{lt-ltb}
 use Rattle.std.proofs.lemmas.List.{nil_from_length}
 use Rattle.std.proofs.lemmas.List.Sums.{sum_by-cons}
@@ -11,24 +11,21 @@ use Rattle.kt_rec.specs.declared.exposure.Coverage.{Coverage}
 use Rattle.kt_rec.specs.declared.exposure.Item.{Item}
 use Rattle.kt_rec.specs.declared.table.Table.{Table}
 use Rattle.kt_rec.specs.declared.table.Table.TheVariants as table
-use Rattle.kt_rec.specs.Places.{count_in, row_count}
+use Rattle.kt_rec.specs.PlaceLaws.{of_base, of_stage}
+use Rattle.kt_rec.specs.Places.{row_count}
 use Rattle.kt_rec.specs.Rows.{Rows}
-use Rattle.kt_rec.specs.TableNames.{number_of}
+use Rattle.kt_rec.specs.TableNames.{IsTableId, number_of}
+use Rattle.kt_rec.specs.declared.table.TableId.{TableId}
 use Rattle.kt_keys.specs.declared.need.Need.{Need}
 use Rattle.kt_keys.specs.declared.need.Refusal.{Refusal}
-use Rattle.kt_keys.specs.KeyChecks.{key_refusals, output_check, programme_key_refusals, programme_keys}
+use Rattle.kt_keys.specs.KeyChecks.{key_check, output_check}
 use Rattle.kt_keys.specs.Keys.{programme_of, financial_of}
-use Rattle.kt_keys.specs.Refusals.{at_stage, is_loaded, over_stages}
-use Rattle.kt_checks.specs.CheckLaws.{each_none, keeps-from_valid, no_row, both, stage_none, not_above, not_empty, sum_within, apart_loaded, same_pair_equiv, same_triple_equiv}
+use Rattle.kt_keys.specs.Refusals.{at_stage, is_loaded}
+use Rattle.kt_checks.specs.CheckLaws.{each_none, keeps-from_valid, listed_none, no_row, both, stage_none, not_above, not_empty, sum_within, apart_loaded, same_pair_equiv, same_triple_equiv}
 use Rattle.kt_checks.specs.Checks.{HasOnlyNeeded, IsValid, KeepsCheck, table_checks, programme_checks, size_checks}
 use Rattle.kt_checks.specs.KeptChecks.{AreFinancialKeys, FitsSamples, KeepsKeys, KeepsSizes}
 use Rattle.kt_checks.specs.SummaryChecks.{item_summaries, output_summaries, sample_checks, sample_refusals, summary_size_check, summaries_of}
-use Rattle.kt_checks.specs.TableChecks.{empty_programme, empty_refusals, limit_check, limit_refusals, programme_limits, programme_limit_refusals, row_limit, tiv_of}
-
--- where a check over the base refuses nothing, and over the stages neither, it refuses nothing at each of them
-over_base : (check : ℕ → Option Refusal) → check 0 ≡ None → over_stages (λ later. check (later + 1)) 9 ≡ None → (stage : ℕ) → stage < 10 → check stage ≡ None
-over_base check first later zero below = first
-over_base check first later (suc stage) below = subst (λ n. check n ≡ None) (add-one stage) (stage_none (λ n. check (n + 1)) 9 stage later (omega arith))
+use Rattle.kt_checks.specs.TableChecks.{empty_programme, empty_refusals, limit_check, row_limit, tiv_of}
 
 -- without coverages, items are worth nothing
 worth-nothing : (items : List Item) → sum_by (λ row. tiv_of [] row.coverage_id) items ≡ 0
@@ -70,41 +67,17 @@ module _ (rows : Rows) (need : Need) (needed : HasOnlyNeeded rows need) where
 module _ (rows : Rows) (need : Need) (valid : IsValid rows need) (needed : HasOnlyNeeded rows need) where
   -- ---- sizes
 
-  -- check 1 refuses none of its tables
-  limit_none : (place : ℕ) → slice_index_or (limit_refusals rows need) place None ≡ None
-  unfolding table_checks
-  limit_none = let keeps : KeepsCheck 1 rows need = keeps-from_valid 1 rows need valid in each_none (limit_refusals rows need) keeps.none
-
-  -- check 1 refuses none of the financial tables of the base or of a stage
-  programme_limit_none : (stage : ℕ) → stage < 10 → (place : ℕ) → slice_index_or (programme_limit_refusals rows need stage) place None ≡ None
-  programme_limit_none stage below = each_none (programme_limit_refusals rows need stage) (over_base (programme_limits rows need) (limit_none 7) (limit_none 13) stage below)
-
-  -- a table that check 1 does not refuse is within its limit; it has no row where it is not loaded
-  limited : (stage : ℕ) (table : Table) (most count : ℕ) → (is_loaded need stage table ≡ false → count ≡ 0) → limit_check need stage table most count ≡ None → count ≤ most
-  limited stage table most count empty none = by (is_loaded need stage table) refl
+  -- check 1: no table has more rows than its limit; it has no row where it is not loaded
+  within_limits : (id : TableId) → IsTableId id → row_count rows id ≤ row_limit id.table
+  unfolding table_checks is_loaded
+  within_limits id is = by (is_loaded need id.stage id.table) refl
     where
-      by : (b : Bool) → is_loaded need stage table ≡ b → count ≤ most
-      by true loaded = not_above most count (most + 1) (no_row 1 (at_stage stage table) _ _ none loaded)
-      by false absent = let nothing = empty absent in omega arith
+      none : limit_check rows need id ≡ None
+      none = let keeps : KeepsCheck 1 rows need = keeps-from_valid 1 rows need valid in listed_none (limit_check rows need) keeps.none id is
 
-  -- check 1: no table has more rows than its limit
-  within_limits : (stage : ℕ) → stage < 10 → (id : Table) → count_in rows stage id ≤ row_limit id
-  within_limits stage below table.Events = limited 0 table.Events 1000000 (length rows.events) (base_empty rows need needed table.Events) (limit_none 0)
-  within_limits stage below table.Items = limited 0 table.Items 100000 (length rows.items) (base_empty rows need needed table.Items) (limit_none 1)
-  within_limits stage below table.Coverages = limited 0 table.Coverages 100000 (length rows.coverages) (base_empty rows need needed table.Coverages) (limit_none 2)
-  within_limits stage below table.Footprint = omega arith
-  within_limits stage below table.FootprintIdx = limited 0 table.FootprintIdx 1000000 (length rows.footprint_idx) (base_empty rows need needed table.FootprintIdx) (limit_none 3)
-  within_limits stage below table.Vulnerability = limited 0 table.Vulnerability 10000000 (length rows.vulnerability) (base_empty rows need needed table.Vulnerability) (limit_none 4)
-  within_limits stage below table.DamageBinDict = limited 0 table.DamageBinDict 1000 (length rows.damage_bin_dict) (base_empty rows need needed table.DamageBinDict) (limit_none 5)
-  within_limits stage below table.Random = limited 0 table.Random 10000000 (length rows.random) (base_empty rows need needed table.Random) (limit_none 6)
-  within_limits stage below table.FmProgramme = limited stage table.FmProgramme 1200000 (count_in rows stage table.FmProgramme) (stage_empty rows need needed stage below table.FmProgramme (omega arith) (omega arith)) (programme_limit_none stage below 0)
-  within_limits stage below table.FmPolicytc = limited stage table.FmPolicytc 1200000 (count_in rows stage table.FmPolicytc) (stage_empty rows need needed stage below table.FmPolicytc (omega arith) (omega arith)) (programme_limit_none stage below 1)
-  within_limits stage below table.FmProfile = limited stage table.FmProfile 1000000 (count_in rows stage table.FmProfile) (stage_empty rows need needed stage below table.FmProfile (omega arith) (omega arith)) (programme_limit_none stage below 2)
-  within_limits stage below table.FmXref = limited 0 table.FmXref 100000 (length rows.fm_xref) (base_empty rows need needed table.FmXref) (limit_none 8)
-  within_limits stage below table.GulSummaryXref = limited 0 table.GulSummaryXref 900000 (length rows.gulsummaryxref) (base_empty rows need needed table.GulSummaryXref) (limit_none 9)
-  within_limits stage below table.FmSummaryXref = limited 0 table.FmSummaryXref 900000 (length rows.fmsummaryxref) (base_empty rows need needed table.FmSummaryXref) (limit_none 10)
-  within_limits stage below table.Occurrence = limited 0 table.Occurrence 1000000 (length rows.occurrence) (base_empty rows need needed table.Occurrence) (limit_none 11)
-  within_limits stage below table.ReturnPeriods = limited 0 table.ReturnPeriods 1000 (length rows.returnperiods) (base_empty rows need needed table.ReturnPeriods) (limit_none 12)
+      by : (b : Bool) → is_loaded need id.stage id.table ≡ b → row_count rows id ≤ row_limit id.table
+      by true loaded = not_above (row_limit id.table) (row_count rows id) (row_limit id.table + 1) (no_row 1 id _ _ none loaded)
+      by false absent = let nothing = needed id is absent in omega arith
 
   -- check 5: the values of the items' coverages add to at most 10^14 cents
   values_within : (a b : Bool) → is_loaded need 0 table.Items ≡ a → is_loaded need 0 table.Coverages ≡ b → sum_by (λ row. tiv_of rows.coverages row.coverage_id) rows.items ≤ 100000000000000
@@ -145,7 +118,7 @@ module _ (rows : Rows) (need : Need) (valid : IsValid rows need) (needed : HasOn
   -- valid tables keep their sizes
   pub keeps_sizes : KeepsSizes rows need
   keeps_sizes = record {
-    limits = λ id is. let most = is.stages in within_limits id.stage (omega arith) id.table;
+    limits = within_limits;
     values = values_within (is_loaded need 0 table.Items) (is_loaded need 0 table.Coverages) refl refl;
     random = λ loaded. not_empty (length rows.random) (no_row 10 (at_stage 0 table.Random) _ _ (some_none 0) loaded);
     programmes = λ stage below loaded. not_empty (length (programme_of rows stage)) (no_row 10 (at_stage stage table.FmProgramme) _ _ (stage_none (empty_programme rows need) 10 stage (some_none 1) below) loaded);
@@ -156,9 +129,9 @@ module _ (rows : Rows) (need : Need) (valid : IsValid rows need) (needed : HasOn
   -- ---- keys
 
   -- check 2 refuses none of its tables
-  key_none : (place : ℕ) → slice_index_or (key_refusals rows need) place None ≡ None
+  key_none : (id : TableId) → IsTableId id → key_check rows need id ≡ None
   unfolding table_checks
-  key_none = let keeps : KeepsCheck 2 rows need = keeps-from_valid 2 rows need valid in each_none (key_refusals rows need) keeps.none
+  key_none = let keeps : KeepsCheck 2 rows need = keeps-from_valid 2 rows need valid in listed_none (key_check rows need) keeps.none
 
   -- check 3 refuses no output
   output_none : output_check rows need ≡ None
@@ -167,26 +140,24 @@ module _ (rows : Rows) (need : Need) (valid : IsValid rows need) (needed : HasOn
 
   -- check 2: the keys of the financial tables of the base or of a stage are distinct
   financial_keys : (stage : ℕ) → stage < 10 → AreFinancialKeys (financial_of rows stage)
-  financial_keys stage below =
-      let none = each_none (programme_key_refusals rows need stage) (over_base (programme_keys rows need) (key_none 5) (key_none 10) stage below) in
-      record {
-        programme = apart_loaded same_pair_equiv _ _ 2 (at_stage stage table.FmProgramme) (is_loaded need stage table.FmProgramme) (stage_empty rows need needed stage below table.FmProgramme (omega arith) (omega arith)) (none 0);
-        policytc = apart_loaded same_triple_equiv _ _ 2 (at_stage stage table.FmPolicytc) (is_loaded need stage table.FmPolicytc) (stage_empty rows need needed stage below table.FmPolicytc (omega arith) (omega arith)) (none 1);
-        profile = apart_loaded nat_eq_equiv _ _ 2 (at_stage stage table.FmProfile) (is_loaded need stage table.FmProfile) (stage_empty rows need needed stage below table.FmProfile (omega arith) (omega arith)) (none 2);
-      }
+  financial_keys stage below = record {
+    programme = apart_loaded same_pair_equiv _ _ 2 (at_stage stage table.FmProgramme) (is_loaded need stage table.FmProgramme) (stage_empty rows need needed stage below table.FmProgramme (omega arith) (omega arith)) (key_none (at_stage stage table.FmProgramme) (of_stage stage below table.FmProgramme refl));
+    policytc = apart_loaded same_triple_equiv _ _ 2 (at_stage stage table.FmPolicytc) (is_loaded need stage table.FmPolicytc) (stage_empty rows need needed stage below table.FmPolicytc (omega arith) (omega arith)) (key_none (at_stage stage table.FmPolicytc) (of_stage stage below table.FmPolicytc refl));
+    profile = apart_loaded nat_eq_equiv _ _ 2 (at_stage stage table.FmProfile) (is_loaded need stage table.FmProfile) (stage_empty rows need needed stage below table.FmProfile (omega arith) (omega arith)) (key_none (at_stage stage table.FmProfile) (of_stage stage below table.FmProfile refl));
+  }
 
   -- valid tables have distinct keys
   pub keeps_keys : KeepsKeys rows
   keeps_keys = record {
-    events = apart_loaded nat_eq_equiv _ _ 2 (at_stage 0 table.Events) (is_loaded need 0 table.Events) (base_empty rows need needed table.Events) (key_none 0);
-    items = apart_loaded nat_eq_equiv _ _ 2 (at_stage 0 table.Items) (is_loaded need 0 table.Items) (base_empty rows need needed table.Items) (key_none 1);
-    coverages = apart_loaded nat_eq_equiv _ _ 2 (at_stage 0 table.Coverages) (is_loaded need 0 table.Coverages) (base_empty rows need needed table.Coverages) (key_none 2);
-    footprint_idx = apart_loaded nat_eq_equiv _ _ 2 (at_stage 0 table.FootprintIdx) (is_loaded need 0 table.FootprintIdx) (base_empty rows need needed table.FootprintIdx) (key_none 3);
-    vulnerability = apart_loaded same_triple_equiv _ _ 2 (at_stage 0 table.Vulnerability) (is_loaded need 0 table.Vulnerability) (base_empty rows need needed table.Vulnerability) (key_none 4);
-    outputs = apart_loaded nat_eq_equiv _ _ 2 (at_stage 0 table.FmXref) (is_loaded need 0 table.FmXref) (base_empty rows need needed table.FmXref) (key_none 6);
+    events = apart_loaded nat_eq_equiv _ _ 2 (at_stage 0 table.Events) (is_loaded need 0 table.Events) (base_empty rows need needed table.Events) (key_none (at_stage 0 table.Events) (of_base table.Events));
+    items = apart_loaded nat_eq_equiv _ _ 2 (at_stage 0 table.Items) (is_loaded need 0 table.Items) (base_empty rows need needed table.Items) (key_none (at_stage 0 table.Items) (of_base table.Items));
+    coverages = apart_loaded nat_eq_equiv _ _ 2 (at_stage 0 table.Coverages) (is_loaded need 0 table.Coverages) (base_empty rows need needed table.Coverages) (key_none (at_stage 0 table.Coverages) (of_base table.Coverages));
+    footprint_idx = apart_loaded nat_eq_equiv _ _ 2 (at_stage 0 table.FootprintIdx) (is_loaded need 0 table.FootprintIdx) (base_empty rows need needed table.FootprintIdx) (key_none (at_stage 0 table.FootprintIdx) (of_base table.FootprintIdx));
+    vulnerability = apart_loaded same_triple_equiv _ _ 2 (at_stage 0 table.Vulnerability) (is_loaded need 0 table.Vulnerability) (base_empty rows need needed table.Vulnerability) (key_none (at_stage 0 table.Vulnerability) (of_base table.Vulnerability));
+    outputs = apart_loaded nat_eq_equiv _ _ 2 (at_stage 0 table.FmXref) (is_loaded need 0 table.FmXref) (base_empty rows need needed table.FmXref) (key_none (at_stage 0 table.FmXref) (of_base table.FmXref));
     layers = apart_loaded same_pair_equiv _ _ 3 (at_stage 0 table.FmXref) (is_loaded need 0 table.FmXref) (base_empty rows need needed table.FmXref) output_none;
-    item_summaries = apart_loaded same_pair_equiv _ _ 2 (at_stage 0 table.GulSummaryXref) (is_loaded need 0 table.GulSummaryXref) (base_empty rows need needed table.GulSummaryXref) (key_none 7);
-    output_summaries = apart_loaded same_pair_equiv _ _ 2 (at_stage 0 table.FmSummaryXref) (is_loaded need 0 table.FmSummaryXref) (base_empty rows need needed table.FmSummaryXref) (key_none 8);
-    return_periods = apart_loaded nat_eq_equiv _ _ 2 (at_stage 0 table.ReturnPeriods) (is_loaded need 0 table.ReturnPeriods) (base_empty rows need needed table.ReturnPeriods) (key_none 9);
+    item_summaries = apart_loaded same_pair_equiv _ _ 2 (at_stage 0 table.GulSummaryXref) (is_loaded need 0 table.GulSummaryXref) (base_empty rows need needed table.GulSummaryXref) (key_none (at_stage 0 table.GulSummaryXref) (of_base table.GulSummaryXref));
+    output_summaries = apart_loaded same_pair_equiv _ _ 2 (at_stage 0 table.FmSummaryXref) (is_loaded need 0 table.FmSummaryXref) (base_empty rows need needed table.FmSummaryXref) (key_none (at_stage 0 table.FmSummaryXref) (of_base table.FmSummaryXref));
+    return_periods = apart_loaded nat_eq_equiv _ _ 2 (at_stage 0 table.ReturnPeriods) (is_loaded need 0 table.ReturnPeriods) (base_empty rows need needed table.ReturnPeriods) (key_none (at_stage 0 table.ReturnPeriods) (of_base table.ReturnPeriods));
     financial = financial_keys;
   }

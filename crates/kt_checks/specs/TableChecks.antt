@@ -10,55 +10,19 @@ use Rattle.kt_rec.specs.declared.hazard.DamageBin.{DamageBin}
 use Rattle.kt_rec.specs.declared.hazard.FootprintIdx.{FootprintIdx}
 use Rattle.kt_rec.specs.declared.table.Table.{Table}
 use Rattle.kt_rec.specs.declared.table.Table.TheVariants.{Events, Items, Coverages, Footprint, FootprintIdx as TheFootprintIdx, Vulnerability as TheVulnerability, DamageBinDict, Random, FmProgramme, FmPolicytc, FmProfile, FmXref, GulSummaryXref, FmSummaryXref, Occurrence as TheOccurrence, ReturnPeriods}
+use Rattle.kt_rec.specs.declared.table.TableId.{TableId}
+use Rattle.kt_rec.specs.LoadOrder.{load_order}
+use Rattle.kt_rec.specs.Places.{row_count}
 use Rattle.kt_rec.specs.Rows.{Rows}
 use Rattle.kt_keys.specs.declared.need.Need.{Need}
 use Rattle.kt_keys.specs.declared.need.Refusal.{Refusal}
 use Rattle.kt_keys.specs.FirstRow.{first_where, first_refused, above_at}
 use Rattle.kt_keys.specs.Refusals.{at_stage, is_loaded, refusal, first_of, over_stages}
-use Rattle.kt_keys.specs.Keys.{programme_of, policytc_of, profile_of, same_pair}
+use Rattle.kt_keys.specs.Keys.{programme_of, same_pair}
 
 -- the row behind the last that a table may have
 abbrev pub row_past : ℕ → ℕ → Option ℕ
 row_past most rows = cond (nat_lt most rows) (Some (most + 1)) None
-
--- check 1 of one table: it has more rows than its limit
-abbrev pub limit_check : Need → ℕ → Table → ℕ → ℕ → Option Refusal
-limit_check need stage table most rows = refusal 1 (at_stage stage table) (is_loaded need stage table) (row_past most rows)
-
--- what check 1 refuses in each financial table of the base or of a stage
-abbrev pub programme_limit_refusals : Rows → Need → ℕ → List (Option Refusal)
-programme_limit_refusals rows need stage =
-    limit_check need stage FmProgramme 1200000 (length (programme_of rows stage))
-    ∷ limit_check need stage FmPolicytc 1200000 (length (policytc_of rows stage))
-    ∷ limit_check need stage FmProfile 1000000 (length (profile_of rows stage))
-    ∷ []
-
--- check 1 of the financial tables of the base or of a stage
-abbrev pub programme_limits : Rows → Need → ℕ → Option Refusal
-programme_limits rows need stage = first_of (programme_limit_refusals rows need stage)
-
--- what check 1 refuses in each table, and in the stages
-abbrev pub limit_refusals : Rows → Need → List (Option Refusal)
-limit_refusals rows need =
-    limit_check need 0 Events 1000000 (length rows.events)
-    ∷ limit_check need 0 Items 100000 (length rows.items)
-    ∷ limit_check need 0 Coverages 100000 (length rows.coverages)
-    ∷ limit_check need 0 TheFootprintIdx 1000000 (length rows.footprint_idx)
-    ∷ limit_check need 0 TheVulnerability 10000000 (length rows.vulnerability)
-    ∷ limit_check need 0 DamageBinDict 1000 (length rows.damage_bin_dict)
-    ∷ limit_check need 0 Random 10000000 (length rows.random)
-    ∷ programme_limits rows need 0
-    ∷ limit_check need 0 FmXref 100000 (length rows.fm_xref)
-    ∷ limit_check need 0 GulSummaryXref 900000 (length rows.gulsummaryxref)
-    ∷ limit_check need 0 FmSummaryXref 900000 (length rows.fmsummaryxref)
-    ∷ limit_check need 0 TheOccurrence 1000000 (length rows.occurrence)
-    ∷ limit_check need 0 ReturnPeriods 1000 (length rows.returnperiods)
-    ∷ over_stages (λ later. programme_limits rows need (later + 1)) 9
-    ∷ []
-
--- check 1: a table has more rows than its limit
-abbrev pub limit_checks : Rows → Need → Option Refusal
-limit_checks rows need = first_of (limit_refusals rows need)
 
 -- the most rows that a table may have; of the footprint no row is kept
 abbrev pub row_limit : Table → ℕ
@@ -78,6 +42,14 @@ row_limit GulSummaryXref = 900000
 row_limit FmSummaryXref = 900000
 row_limit TheOccurrence = 1000000
 row_limit ReturnPeriods = 1000
+
+-- check 1 of one table: it has more rows than its limit
+abbrev pub limit_check : Rows → Need → TableId → Option Refusal
+limit_check rows need id = refusal 1 id (is_loaded need id.stage id.table) (row_past (row_limit id.table) (row_count rows id))
+
+-- check 1: a table has more rows than its limit
+abbrev pub limit_checks : Rows → Need → Option Refusal
+limit_checks rows need = first_of (map (limit_check rows need) load_order)
 
 -- the total insured value of a coverage in cents, 0 where there is no such coverage
 abbrev pub tiv_of : List Coverage → ℕ → ℕ

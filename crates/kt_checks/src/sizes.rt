@@ -1,14 +1,13 @@
 //! The checks of the sizes of tables.
 //! The rules: docs/CHECKS.md, "Sizes", "Empty tables", "Distributions of an event".
-ghost use Rattle.std.specs.Prelude.{◌≡◌, ◌+◌, ◌*◌, ◌<◌, ◌^◌};
+ghost use Rattle.std.specs.Prelude.{◌≡◌, ◌*◌, ◌<◌, ◌^◌, map, All};
 ghost use Rattle.kt_rec.specs.Rows.{rows_of};
-ghost use Rattle.kt_checks.specs.TableChecks.{row_past, limit_check, programme_limits, limit_checks, none_at, empty_checks, rows_above, damage_size_check, empty_programme};
-ghost use Rattle.kt_keys.specs.Refusals.{over_stages};
+ghost use Rattle.kt_rec.specs.TableNames.{IsTableId};
+ghost use Rattle.kt_checks.specs.TableChecks.{row_past, row_limit, limit_check, limit_checks, none_at, empty_checks, rows_above, damage_size_check, empty_programme};
+ghost use Rattle.kt_keys.specs.Refusals.{first_of, over_stages};
 
-use kt_keys::{
-    Need, Refusal, STAGES, base, has_base, has_both, has_financial, policytc, profile, programme,
-};
-use kt_rec::{Table, TableId, Tables};
+use kt_keys::{Need, Refusal, STAGES, base, has_base, has_both, has_financial, programme};
+use kt_rec::{Table, TableId, Tables, load_order};
 
 /// The row behind the last that a table may have, where there is one.
 fn row_past(most: u64, rows: usize) -> Option<u64>
@@ -22,95 +21,57 @@ fn row_past(most: u64, rows: usize) -> Option<u64>
     }
 }
 
-/// Check 1 of a table of the base.
-fn limit_check(need: &Need, table: Table, most: u64, rows: usize) -> Option<Refusal>
-    requires { most < 2 ^ 63 }
-    ensures value { result ≡ limit_check need.now 0 table most rows }
+/// The most rows that a table may have.
+fn most_rows(table: Table) -> u64
+    ensures value { result ≡ row_limit table }
+    ensures less { result < 2 ^ 63 }
 {
-    Refusal::of(1, base(table), has_base(need, table), row_past(most, rows))
+    match table {
+        Table::Events => 1_000_000,
+        Table::Items => 100_000,
+        Table::Coverages => 100_000,
+        Table::Footprint => 0,
+        Table::FootprintIdx => 1_000_000,
+        Table::Vulnerability => 10_000_000,
+        Table::DamageBinDict => 1_000,
+        Table::Random => 10_000_000,
+        Table::FmProgramme => 1_200_000,
+        Table::FmPolicytc => 1_200_000,
+        Table::FmProfile => 1_000_000,
+        Table::FmXref => 100_000,
+        Table::GulSummaryXref => 900_000,
+        Table::FmSummaryXref => 900_000,
+        Table::Occurrence => 1_000_000,
+        Table::ReturnPeriods => 1_000,
+    }
 }
 
-/// Check 1 of the financial tables of the base, at 0, or of a stage.
-fn programme_limits(tables: &Tables, need: &Need, stage: u32) -> Option<Refusal>
-    requires { stage < 10 }
-    ensures value { result ≡ programme_limits (rows_of tables.now) need.now stage }
+/// Check 1 of a table.
+fn limit_check(tables: &Tables, need: &Need, id: TableId) -> Option<Refusal>
+    requires { IsTableId id }
+    ensures value { result ≡ limit_check (rows_of tables.now) need.now id }
 {
-    let limit = |table, most, rows| {
-        Refusal::of(
-            1,
-            TableId { stage, table },
-            has_financial(need, stage, table),
-            row_past(most, rows),
-        )
-    };
-    limit(
-        Table::FmProgramme,
-        1_200_000,
-        programme(tables, stage).len(),
-    )
-    .or(limit(Table::FmPolicytc, 1_200_000, policytc(tables, stage).len()))
-    .or(limit(Table::FmProfile, 1_000_000, profile(tables, stage).len()))
+    let row = row_past(most_rows(id.table), tables.count(id));
+    Refusal::of(1, id, need.has(id.stage, id.table), row)
+}
+
+/// Check 1 of some tables, in order.
+fn first_limit(tables: &Tables, need: &Need, ids: &[TableId]) -> Option<Refusal>
+    requires { All IsTableId ids.now }
+    ensures value { result ≡ first_of (map (limit_check (rows_of tables.now) need.now) ids.now) }
+{
+    let mut found = None;
+    for id in ids {
+        found = found.or(limit_check(tables, need, *id));
+    }
+    found
 }
 
 /// Check 1: a table has more rows than its limit.
 pub(crate) fn limit_checks(tables: &Tables, need: &Need) -> Option<Refusal>
     ensures value { result ≡ limit_checks (rows_of tables.now) need.now }
 {
-    let base = limit_check(need, Table::Events, 1_000_000, tables.events.len())
-        .or(limit_check(need, Table::Items, 100_000, tables.items.len()))
-        .or(limit_check(need, Table::Coverages, 100_000, tables.coverages.len()))
-        .or(limit_check(
-            need,
-            Table::FootprintIdx,
-            1_000_000,
-            tables.footprint_idx.len(),
-        ))
-        .or(limit_check(
-            need,
-            Table::Vulnerability,
-            10_000_000,
-            tables.vulnerability.len(),
-        ))
-        .or(limit_check(
-            need,
-            Table::DamageBinDict,
-            1_000,
-            tables.damage_bin_dict.len(),
-        ))
-        .or(limit_check(need, Table::Random, 10_000_000, tables.random.len()))
-        .or(programme_limits(tables, need, 0))
-        .or(limit_check(need, Table::FmXref, 100_000, tables.fm_xref.len()))
-        .or(limit_check(
-            need,
-            Table::GulSummaryXref,
-            900_000,
-            tables.gulsummaryxref.len(),
-        ))
-        .or(limit_check(
-            need,
-            Table::FmSummaryXref,
-            900_000,
-            tables.fmsummaryxref.len(),
-        ))
-        .or(limit_check(need, Table::Occurrence, 1_000_000, tables.occurrence.len()))
-        .or(limit_check(
-            need,
-            Table::ReturnPeriods,
-            1_000,
-            tables.returnperiods.len(),
-        ));
-    base.or(stage_limits(tables, need))
-}
-
-/// Check 1 of the financial tables of the stages.
-fn stage_limits(tables: &Tables, need: &Need) -> Option<Refusal>
-    ensures value { result ≡ over_stages (λ later. programme_limits (rows_of tables.now) need.now (later + 1)) 9 }
-{
-    let mut found = None;
-    for later in 0..STAGES - 1 {
-        found = found.or(programme_limits(tables, need, later + 1));
-    }
-    found
+    first_limit(tables, need, &load_order())
 }
 
 /// Row 0, where a table has no row.

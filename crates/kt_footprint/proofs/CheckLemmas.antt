@@ -1,19 +1,21 @@
 -- An index whose rows are few, distinct and placed is refused by no check.
 use Rattle.std.proofs.Common.{◌≡◌, ℕ, ◌+◌, ◌-◌, ◌≤◌, ◌%◌, Bool, true, false, cond, List, [], ◌∷◌, ◌++◌, length, map, refl, ap, ◌∙◌, Option, None, Some}
-use Rattle.std.specs.Prelude.{◌||◌, nat_eq}
+use Rattle.std.specs.Prelude.{◌||◌, drop, nat_eq}
 use Rattle.std.specs.Cmp.{nat_eq_equiv}
-use Rattle.std.specs.List.{AllByRecursion, IsDistinct, list_any}
+use Rattle.std.specs.List.{AllByRecursion, IsDistinct, fold, list_any}
+use Rattle.std.specs.Option.{option_or}
 use Rattle.std.proofs.lemmas.Bool.{eq-eqb, le-ltb}
 use Rattle.std.proofs.lemmas.List.Folds.{list_any-append}
+use Rattle.kt_rec.specs.LoadOrder.{load_order}
 use Rattle.kt_rec.specs.Rows.{no_rows}
 use Rattle.kt_rec.specs.declared.hazard.FootprintIdx.{FootprintIdx}
 use Rattle.kt_rec.specs.declared.table.Table.TheVariants as table
 use Rattle.kt_keys.specs.FirstRow.{first_refused_after, first_where, repeated_at}
-use Rattle.kt_keys.specs.KeyChecks.{key_refusals}
+use Rattle.kt_keys.specs.KeyChecks.{key_check, key_checks}
 use Rattle.kt_keys.specs.Refusals.{at_stage, first_of, is_loaded, over_stages, refusal}
 use Rattle.kt_keys.specs.declared.need.Refusal.{Refusal}
 use Rattle.kt_checks.specs.Checks.{checks_of, first_refusal, programme_checks, size_checks, table_checks}
-use Rattle.kt_checks.specs.TableChecks.{is_misplaced, limit_refusals, row_past}
+use Rattle.kt_checks.specs.TableChecks.{is_misplaced, limit_check, limit_checks, row_past}
 use Rattle.kt_schema.specs.Footprint.{IsEntryOf}
 use Rattle.kt_footprint.specs.GoRound.{index_need}
 
@@ -72,12 +74,8 @@ none-refused index few distinct =
     past : row_past 1000000 (length index) ≡ None
     past = ap (λ b. cond b (Some 1000001) None) (le-ltb 1000000 (length index) few)
 
-    limits : first_of (limit_refusals (record no_rows { footprint_idx = index }) index_need) ≡ None
-    limits =
-        all-none (limit_refusals (record no_rows { footprint_idx = index }) index_need)
-        (refl, (refl, (refl, (ap (λ found. refusal 1 (at_stage 0 table.FootprintIdx) true found) past, (refl, (refl, (refl, (refl, (refl, (refl, (refl, (refl, (refl, (refl, tt))))))))))))))
+    limits : limit_checks (record no_rows { footprint_idx = index }) index_need ≡ None
+    limits = ap (λ (found : Option ℕ). fold option_or (refusal 1 (at_stage 0 table.FootprintIdx) true found) (map (limit_check (record no_rows { footprint_idx = index }) index_need) (drop 5 load_order))) past
 
-    keys : first_of (key_refusals (record no_rows { footprint_idx = index }) index_need) ≡ None
-    keys =
-        all-none (key_refusals (record no_rows { footprint_idx = index }) index_need)
-        (refl, (refl, (refl, (ap (λ found. refusal 2 (at_stage 0 table.FootprintIdx) true found) (distinct-none _ distinct), (refl, (refl, (refl, (refl, (refl, (refl, (refl, tt)))))))))))
+    keys : key_checks (record no_rows { footprint_idx = index }) index_need ≡ None
+    keys = ap (λ (found : Option ℕ). fold option_or (refusal 2 (at_stage 0 table.FootprintIdx) true found) (map (key_check (record no_rows { footprint_idx = index }) index_need) (drop 5 load_order))) (distinct-none (map (λ row. row.event_id) index) distinct)

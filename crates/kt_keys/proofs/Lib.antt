@@ -2,6 +2,5 @@ pub mod DistinctLemmas
 pub mod FirstRowLemmas
 pub mod RepeatedLemmas
 pub mod RisingLemmas
-pub mod RefusalLemmas
 pub mod UnitTableLemmas
 pub mod StepLemmas

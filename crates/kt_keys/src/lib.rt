@@ -1,7 +1,6 @@
 //! Keys of the rows of tables: those that are repeated, and those that another table lacks.
 #![tactic(auto)]
 
-mod financial_keys;
 mod keyed;
 mod keys;
 mod names;

@@ -1,6 +1,6 @@
 -- Rows that load are those of a portfolio.
-use Rattle.std.proofs.Common.{◌≡◌, ◌<◌, ℕ, List, [], ◌∷◌, length, Option, Some, None, Result, Ok, Err, Bool, true, false, cond, refl, sym, subst, ◌∙◌, arith, inl, inr}
-use Rattle.std.specs.Prelude.{IfOk, nat_lt, if◌then◌else◌}
+use Rattle.std.proofs.Common.{◌≡◌, ◌<◌, ℕ, List, [], ◌∷◌, length, Option, None, Result, Ok, Err, Bool, true, false, cond, refl, sym, subst, ◌∙◌, arith, inl, inr}
+use Rattle.std.specs.Prelude.{IfOk}
 use Rattle.std.specs.List.{AllByRecursion, filter}
 use Rattle.std.proofs.lemmas.Bool.{true≢false}
 use Rattle.std.proofs.lemmas.List.Elements.{All-cons, All-nil, recursion_from_All}
@@ -9,11 +9,9 @@ use Rattle.kt_cells.specs.Ranges.{AreRows}
 use Rattle.kt_cells.specs.Reading.{and_then-ok}
 use Rattle.kt_cells.specs.Records.{record_rows}
 use Rattle.kt_rec.specs.declared.kind.Kind.{Kind}
-use Rattle.kt_cells.specs.declared.stop.TableStop.{TableStop}
 use Rattle.kt_cells.proofs.RecordLemmas.{records_in_range}
 use Rattle.kt_checks.specs.Checks.{first_refusal}
 use Rattle.kt_keys.specs.declared.need.Need.{Need}
-use Rattle.kt_keys.specs.declared.need.Refusal.{Refusal}
 use Rattle.kt_out.specs.NamedFiles.{FileMap}
 use Rattle.kt_rec.specs.Rows.{Rows, no_rows}
 use Rattle.kt_rec.specs.TableNames.{IsTableId, number_of}
@@ -27,10 +25,9 @@ use Rattle.kt_schema.specs.Loading.{RowsInRange, loaded_rows}
 use Rattle.kt_schema.specs.Tables.{has_header, kinds_of, least_extra, most_extra}
 use Rattle.kt_tables.specs.Portfolio.{IsPortfolio}
 use Rattle.kt_load.specs.declared.stop.LoadStop.{LoadStop}
-use Rattle.kt_load.specs.declared.stop.LoadStop.TheVariants as stop
 use Rattle.kt_load.specs.FileNames.{each-is_table, file_name_of, load_order}
-use Rattle.kt_load.specs.Loaded.{loaded, needed, unless_refused}
-use Rattle.kt_load.specs.Reading.{file_limit, go_on, with_read, with_table_file, with_table_files}
+use Rattle.kt_load.specs.Loaded.{loaded, needed, was_loaded}
+use Rattle.kt_load.specs.Reading.{go_on, was_read, with_table_file, with_table_files}
 use Rattle.kt_load.specs.Steps.{GivesPeriods, KeepsAll, KeepsRows}
 use Rattle.kt_load.proofs.NeedLemmas.{has_periods-from_all, no_rows-in_range}
 use Rattle.kt_load.proofs.OutsideLemmas.{no_rows-outside}
@@ -60,16 +57,9 @@ loaded_in_range t bytes extra values is = body_in_range (has_header t) (number_o
 
 -- what a file that was read keeps
 file_keeps : (id : TableId) (file : Option (List ℕ)) (old now : Rows) → IsTableId id → with_table_file old id file ≡ Ok now → KeepsRows id old now
-file_keeps id None old now is read = cc
-file_keeps id (Some bytes) old now is read = by_size (nat_lt file_limit (length bytes)) read
-  where
-    by_read : (got : Result (ℕ × List (List ℕ)) TableStop) → loaded_rows id.table bytes ≡ got → with_read old id (length bytes) got ≡ Ok now → KeepsRows id old now
-    by_read (Ok (extra, values)) e h = subst (λ (r : Result Rows LoadStop). IfOk r (KeepsRows id old)) h (rows-keep id (length bytes) bytes old extra values is (loaded_in_range id.table bytes extra values e) e)
-    by_read (Err why) e h = cc
-
-    by_size : (large : Bool) → (if large then Err (stop.TooLarge (file_name_of id)) else with_read old id (length bytes) (loaded_rows id.table bytes)) ≡ Ok now → KeepsRows id old now
-    by_size true h = cc
-    by_size false h = by_read (loaded_rows id.table bytes) refl h
+file_keeps id file old now is read =
+    let was = was_read id file old now read in
+    subst (KeepsRows id old) was.becomes (rows-keep id (length was.bytes) was.bytes old was.extra was.values is (loaded_in_range id.table was.bytes was.extra was.values was.read) was.read)
 
 -- ---- file by file
 
@@ -119,12 +109,4 @@ read_portfolio files need rows read none =
 
 -- rows that load
 pub loaded_portfolio : (files : FileMap) (need : Need) (rows : Rows) → loaded files need ≡ Ok rows → IsPortfolio (record { rows = rows; need = need })
-loaded_portfolio files need rows is = by_read (with_table_files files (needed need) no_rows) refl is
-  where
-    by_check : (now : Rows) (refused : Option Refusal) → with_table_files files (needed need) no_rows ≡ Ok now → first_refusal now need ≡ refused → unless_refused now refused ≡ Ok rows → IsPortfolio (record { rows = rows; need = need })
-    by_check now None read none h = subst (λ (r : Result Rows LoadStop). IfOk r (λ one. IsPortfolio (record { rows = one; need = need }))) h (read_portfolio files need now read none)
-    by_check now (Some why) read none h = cc
-
-    by_read : (read : Result Rows LoadStop) → with_table_files files (needed need) no_rows ≡ read → go_on read (λ now. unless_refused now (first_refusal now need)) ≡ Ok rows → IsPortfolio (record { rows = rows; need = need })
-    by_read (Ok now) e h = by_check now (first_refusal now need) e refl h
-    by_read (Err why) e h = cc
+loaded_portfolio files need rows is = let was = was_loaded files need rows is in read_portfolio files need rows was.read was.none

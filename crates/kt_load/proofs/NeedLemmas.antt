@@ -1,5 +1,5 @@
 -- Loading begins with no rows, and reads the tables that are needed.
-use Rattle.std.proofs.Common.{◌≡◌, List, refl, ap, subst, arith, Option, Ok, Err, true}
+use Rattle.std.proofs.Common.{◌≡◌, List, refl, ap, subst, arith, Option, Ok, Err}
 use Rattle.std.proofs.lemmas.List.Elements.{All-nil, All-replicate}
 use Rattle.std.specs.Prelude.{All, IfSome}
 use Rattle.std.specs.List.{filter}

@@ -1,6 +1,6 @@
 -- The rows that were loaded say how long the footprint's file is.
 -- The rules: docs/TABLES.md, "Footprint rows of an event".
-use Rattle.std.specs.Prelude.{◌≡◌, ◌⊎◌, ℕ, ◌==◌, ◌&&◌, ◌||◌, Bool, true, false, cond, not, nat_lt, drop, List, [], ◌∷◌, length, refl, Option, None, Some, Result, Ok, Err, IfOk, IfSome, IsSomeAnd, if◌then◌else◌}
+use Rattle.std.specs.Prelude.{◌≡◌, ◌⊎◌, ℕ, ◌==◌, ◌&&◌, ◌||◌, Bool, true, false, cond, not, drop, List, [], ◌∷◌, length, refl, Option, None, Some, Result, Ok, Err, IfOk, IfSome, IsSomeAnd}
 use Rattle.std.specs.List.{filter, list_all, list_any}
 use Rattle.std.proofs.Common.{sym, subst, ap, ◌∙◌, arith, inl, inr}
 use Rattle.std.proofs.lemmas.Bool.{eqb-true}
@@ -11,18 +11,13 @@ use Rattle.kt_rec.specs.TableSet.{is_in, is_same}
 use Rattle.kt_rec.specs.declared.table.Table.{Table}
 use Rattle.kt_rec.specs.declared.table.Table.TheVariants as table
 use Rattle.kt_rec.specs.declared.table.TableId.{TableId}
-use Rattle.kt_cells.specs.declared.stop.TableStop.{TableStop}
-use Rattle.kt_checks.specs.Checks.{first_refusal}
 use Rattle.kt_keys.specs.declared.need.Need.{Need}
-use Rattle.kt_keys.specs.declared.need.Refusal.{Refusal}
-use Rattle.kt_schema.specs.Loading.{loaded_rows}
 use Rattle.kt_load.specs.EventRows.{HasFootprint, footprint_name}
 use Rattle.kt_load.specs.FileNames.{file_name_of, load_order, table_at}
-use Rattle.kt_load.specs.Loaded.{loaded, needed, unless_refused}
-use Rattle.kt_load.specs.Reading.{file_limit, go_on, with_table_file, with_table_files, with_read}
+use Rattle.kt_load.specs.Loaded.{loaded, was_loaded}
+use Rattle.kt_load.specs.Reading.{go_on, was_read, with_table_file, with_table_files}
 use Rattle.kt_load.specs.Typed.{with_rows}
 use Rattle.kt_load.specs.declared.stop.LoadStop.{LoadStop}
-use Rattle.kt_load.specs.declared.stop.LoadStop.TheVariants as stop
 
 -- false is not true
 false_is_true : false ≡ true → ⊥
@@ -68,19 +63,7 @@ module _ (files : FileMap) where
 
   -- one table more was read
   read_one : (rows new : Rows) (id : TableId) → fine id ≡ true → with_table_file rows id (files (file_name_of id)) ≡ Ok new → WillBeKnown files (is_footprint id) rows → Known files new
-  read_one rows new id right is known = by_file (files (file_name_of id)) refl is
-    where
-      by_read : (bytes : List ℕ) (read : Result (ℕ × List (List ℕ)) TableStop) → files (file_name_of id) ≡ Some bytes → with_read rows id (length bytes) read ≡ Ok new → Known files new
-      by_read bytes (Ok (extra, values)) holds h = subst (λ r. IfOk r (Known files)) h (sized id.stage id.table rows extra values bytes right holds known)
-      by_read bytes (Err why) holds h = cc
-
-      by_size : (bytes : List ℕ) (large : Bool) → files (file_name_of id) ≡ Some bytes → (if large then Err (stop.TooLarge (file_name_of id)) else with_read rows id (length bytes) (loaded_rows id.table bytes)) ≡ Ok new → Known files new
-      by_size bytes true holds h = cc
-      by_size bytes false holds h = by_read bytes (loaded_rows id.table bytes) holds h
-
-      by_file : (file : Option (List ℕ)) → files (file_name_of id) ≡ file → with_table_file rows id file ≡ Ok new → Known files new
-      by_file None holds h = cc
-      by_file (Some bytes) holds h = by_size bytes (nat_lt file_limit (length bytes)) holds h
+  read_one rows new id right is known = let was = was_read id (files (file_name_of id)) rows new is in subst (Known files) was.becomes (sized id.stage id.table rows was.extra was.values was.bytes right was.there known)
 
   -- the size is known behind the other tables
   abbrev Later : (TableId → Bool) → List TableId → Rows → Type 0
@@ -116,15 +99,7 @@ module _ (files : FileMap) where
 -- Where the footprint was loaded, its file is as long as the rows say.
 pub footprint_size-known : (held : Option FileMap) (need : Need) (rows : Rows) → IfSome held (λ files. loaded files need ≡ Ok rows) → is_in need.loaded (table_at 0 table.Footprint) ≡ true → HasFootprint held rows.footprint_size
 footprint_size-known None need rows is there = tt
-footprint_size-known (Some files) need rows is there = by_read (with_table_files files (needed need) no_rows) refl is
+footprint_size-known (Some files) need rows is there = all_read files (is_in need.loaded) load_order no_rows rows refl (was_loaded files need rows is).read (inr among)
   where
     among : list_any (λ id. is_footprint id && is_in need.loaded id) load_order ≡ true
     among = ap (λ b. b || list_any (λ id. is_footprint id && is_in need.loaded id) (drop 4 load_order)) there
-
-    by_check : (now : Rows) (refused : Option Refusal) → Known files now → unless_refused now refused ≡ Ok rows → Known files rows
-    by_check now None known h = subst (λ r. IfOk r (Known files)) h known
-    by_check now (Some why) known h = cc
-
-    by_read : (read : Result Rows LoadStop) → with_table_files files (needed need) no_rows ≡ read → go_on read (λ r. unless_refused r (first_refusal r need)) ≡ Ok rows → Known files rows
-    by_read (Ok now) e h = by_check now (first_refusal now need) (all_read files (is_in need.loaded) load_order no_rows now refl e (inr among)) h
-    by_read (Err why) e h = cc

@@ -14,7 +14,8 @@ mod stop;
 mod table;
 
 pub use event_rows::foot_rows;
-pub use loading::{load, load_order};
+pub use kt_rec::load_order;
+pub use loading::load;
 pub use naming::file_name;
 pub use round_rows::RoundRows;
 pub use stop::LoadStop;

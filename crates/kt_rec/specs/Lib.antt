@@ -6,6 +6,7 @@ pub mod TableSet
 pub mod Rows
 pub mod Places
 pub mod PlaceLaws
+pub mod LoadOrder
 pub mod Ranges
 pub mod FootRows
 pub mod Rising

@@ -32,7 +32,7 @@ pub of_stage : (stage : ℕ) → stage < 10 → (t : Table) → (nat_le 9 (numbe
 of_stage stage below t financial = record { stages = omega (arith, below); financial = inr (grind (arith, nat_tests, financial), grind (arith, nat_tests, financial)) }
 
 -- a table that no stage has is of the base
-in_base : (stage : ℕ) (t : Table) → IsTableId (table_at stage t) → (nat_le 9 (number_of t) && nat_le (number_of t) 11) ≡ false → stage ≡ 0
+pub in_base : (stage : ℕ) (t : Table) → IsTableId (table_at stage t) → (nat_le 9 (number_of t) && nat_le (number_of t) 11) ≡ false → stage ≡ 0
 in_base stage t is none = by is.financial
   where
     by : (stage ≡ 0) ⊎ ((9 ≤ number_of t) × (number_of t ≤ 11)) → stage ≡ 0

@@ -1,13 +1,16 @@
 //! The rows of all tables that a run has loaded.
 //! The rule: docs/TABLES.md, "Files".
 ghost use Rattle.std.specs.Prelude.{◌≡◌};
+ghost use Rattle.kt_rec.specs.Places.{row_count};
 ghost use Rattle.kt_rec.specs.Rows.{rows_of, financial_rows, no_rows, no_financial_rows};
+ghost use Rattle.kt_rec.specs.TableNames.{IsTableId};
 
 use crate::exposure::{Coverage, Item};
 use crate::financial::{FmPolicytc, FmProfile, FmProgramme, FmXref};
 use crate::hazard::{DamageBin, Event, FootprintIdx, Random, Vulnerability};
 use crate::periods::{Occurrence, ReturnPeriod};
 use crate::summary::{FmSummaryXref, GulSummaryXref};
+use crate::table::{Table, TableId};
 use std::alloc::Global;
 
 /// The base and nine reinsurance stages.
@@ -102,6 +105,32 @@ impl Tables {
             ],
             periods: 0,
             footprint_size: 0,
+        }
+    }
+
+    /// How many rows a table of the base, at stage 0, or of a stage, 1 to 9, has. Of the footprint none is kept.
+    pub fn count(&self, id: TableId) -> usize
+        requires { IsTableId id }
+        ensures value { result ≡ row_count (rows_of self.now) id }
+    {
+        let stage = id.stage as usize;
+        match id.table {
+            Table::Events => self.events.len(),
+            Table::Items => self.items.len(),
+            Table::Coverages => self.coverages.len(),
+            Table::Footprint => 0,
+            Table::FootprintIdx => self.footprint_idx.len(),
+            Table::Vulnerability => self.vulnerability.len(),
+            Table::DamageBinDict => self.damage_bin_dict.len(),
+            Table::Random => self.random.len(),
+            Table::FmProgramme => self.financial[stage].programme.len(),
+            Table::FmPolicytc => self.financial[stage].policytc.len(),
+            Table::FmProfile => self.financial[stage].profile.len(),
+            Table::FmXref => self.fm_xref.len(),
+            Table::GulSummaryXref => self.gulsummaryxref.len(),
+            Table::FmSummaryXref => self.fmsummaryxref.len(),
+            Table::Occurrence => self.occurrence.len(),
+            Table::ReturnPeriods => self.returnperiods.len(),
         }
     }
 }

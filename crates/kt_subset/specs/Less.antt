@@ -1,17 +1,20 @@
 -- Checks that refuse nothing where others refuse nothing.
 -- The rules: docs/CHECKS.md.
-use Rattle.std.specs.Prelude.{◌≡◌, ◌⊎◌, ◌≤◌, ◌<◌, ◌*◌, ◌&&◌, ℕ, zero, suc, nat_lt, Bool, true, false, cond, refl, List, [], ◌∷◌, ◌++◌, Option, Some, None}
-use Rattle.std.specs.List.{fold}
+use Rattle.std.specs.Prelude.{◌≡◌, ◌⊎◌, ◌≤◌, ◌<◌, ◌*◌, ◌&&◌, ℕ, zero, suc, nat_lt, Bool, true, false, cond, refl, List, [], ◌∷◌, ◌++◌, map, Option, Some, None}
+use Rattle.std.specs.List.{AllByRecursion, fold}
 use Rattle.std.specs.Option.{option_or}
 use Rattle.std.proofs.Common.{sym, subst, ap, ◌∙◌, arith, inl, inr}
 use Rattle.std.proofs.Math.Nat.{mul-le-mul_right}
 use Rattle.std.proofs.lemmas.Bool.{and_parts, le-ltb}
+use Rattle.std.proofs.lemmas.List.Elements.{recursion_from_All}
 use Rattle.kt_checks.specs.CheckLaws.{both, no_row, not_above}
 use Rattle.kt_checks.specs.SummaryChecks.{zero_above}
 use Rattle.kt_keys.specs.Refusals.{refusal, first_of, over_stages}
 use Rattle.kt_keys.specs.declared.need.Refusal.{Refusal}
 use Rattle.kt_rec.specs.declared.table.TableId.{TableId}
+use Rattle.kt_rec.specs.LoadOrder.{each-is_table, load_order}
 use Rattle.kt_rec.specs.Options.{both_none}
+use Rattle.kt_rec.specs.TableNames.{IsTableId}
 
 -- there is no refusal where there is no other one
 abbrev pub IsLess : Option Refusal → Option Refusal → Type 0
@@ -48,6 +51,14 @@ joined_less [] [] behind others_behind are later = later
 joined_less [] (more ∷ others) behind others_behind are later = absurd are
 joined_less (less ∷ refusals) [] behind others_behind are later = absurd are
 joined_less (less ∷ refusals) (more ∷ others) behind others_behind are later = (are.0, joined_less refusals others behind others_behind are.1 later)
+
+-- a check of all tables, in the order of loading
+pub listed_less : (check other : TableId → Option Refusal) → ((id : TableId) → IsTableId id → IsLess (check id) (other id)) → IsLess (first_of (map check load_order)) (first_of (map other load_order))
+listed_less check other each = first_less (map check load_order) (map other load_order) (all load_order (recursion_from_All IsTableId load_order each-is_table))
+  where
+    all : (ids : List TableId) → AllByRecursion IsTableId ids → AreLess (map check ids) (map other ids)
+    all [] are = tt
+    all (id ∷ ids) are = (each id are.0, all ids are.1)
 
 -- refusals over the stages
 pub stages_less : (check other : ℕ → Option Refusal) (stages : ℕ) → ((stage : ℕ) → stage < stages → IsLess (check stage) (other stage)) → IsLess (over_stages check stages) (over_stages other stages)

@@ -10,18 +10,18 @@ use Rattle.kt_checks.specs.Checks.{IsValid, KeepsCheck, KeepsSamples, checks_of,
 use Rattle.kt_checks.specs.OutputChecks.{has_output, lacks_at, lacks_output, missing_output_check, owing_at}
 use Rattle.kt_checks.specs.ProgrammeChecks.{dead_end_at, inputs_of, rootless_at, source_check, target_check, terms_check, unplaced_at}
 use Rattle.kt_checks.specs.SummaryChecks.{item_summaries, output_summaries, sample_checks, sample_refusals, summaries_of, summary_size_check, zero_above}
-use Rattle.kt_checks.specs.TableChecks.{bad_bin_at, bin_check, damage_size_check, empty_checks, empty_programme, empty_refusals, is_misplaced, limit_check, limit_checks, limit_refusals, none_at, period_check, place_check, probability_check, programme_limit_refusals, programme_limits, row_limit, row_past, rows_above, value_above_at, value_check}
+use Rattle.kt_checks.specs.TableChecks.{bad_bin_at, bin_check, damage_size_check, empty_checks, empty_programme, empty_refusals, is_misplaced, limit_check, limit_checks, none_at, period_check, place_check, probability_check, row_limit, row_past, rows_above, value_above_at, value_check}
 use Rattle.kt_keys.specs.Climbing.{climbed, next_unit}
 use Rattle.kt_keys.specs.FirstRow.{above_at, first_where, repeated_at, unknown_at}
-use Rattle.kt_keys.specs.KeyChecks.{key_check, key_checks, key_refusals, output_check, programme_key_refusals, programme_keys}
-use Rattle.kt_keys.specs.Keys.{policytc_of, profile_of, programme_of, same_pair, same_triple}
+use Rattle.kt_keys.specs.KeyChecks.{key_check, key_checks, key_row, key_row_in, output_check}
+use Rattle.kt_keys.specs.Keys.{policytc_of, profile_of, programme_of, same_pair}
 use Rattle.kt_keys.specs.NameChecks.{coverage_check, damage_check, has_units, item_summary_check, output_summary_check, output_unit_check, output_units, profile_check, summary_checks}
 use Rattle.kt_keys.specs.Refusals.{at_stage, is_loaded, refusal}
 use Rattle.kt_keys.specs.Units.{top_layers, top_level, top_targets}
 use Rattle.kt_keys.specs.declared.need.Need.{Need}
 use Rattle.kt_keys.specs.declared.need.Refusal.{Refusal}
 use Rattle.kt_rec.specs.PlaceLaws.{of_base, of_stage, same_count}
-use Rattle.kt_rec.specs.Places.{PartOf, RowOf, count_in, list_of, part_in, rows_in, table_at}
+use Rattle.kt_rec.specs.Places.{PartOf, list_of, part_in, row_count, table_at}
 use Rattle.kt_rec.specs.Rows.{Rows}
 use Rattle.kt_rec.specs.TableNames.{IsTableId}
 use Rattle.kt_rec.specs.declared.financial.FmPolicytc.{FmPolicytc}
@@ -29,7 +29,7 @@ use Rattle.kt_rec.specs.declared.financial.FmProgramme.{FmProgramme}
 use Rattle.kt_rec.specs.declared.financial.FmXref.{FmXref}
 use Rattle.kt_rec.specs.declared.table.Table.{Table}
 use Rattle.kt_rec.specs.declared.table.Table.TheVariants as table
-use Rattle.kt_subset.specs.Less.{AreLess, IsLess, first_less, joined_less, known_less, one_table, part_less, stages_less, two_tables, weaker, zero_above-less}
+use Rattle.kt_subset.specs.Less.{AreLess, IsLess, first_less, joined_less, known_less, listed_less, one_table, part_less, stages_less, two_tables, weaker, zero_above-less}
 use Rattle.kt_subset.specs.SameRows.{HasSame, same_base, same_stage}
 use Rattle.kt_subset.specs.SameTables.{SameTable}
 use Rattle.kt_subset.specs.Within.{IsWithin}
@@ -47,6 +47,11 @@ owing_same rule same programme policytc outputs agree =
 -- whether the tables are loaded that have the layers of the units of the top level, and the outputs
 abbrev made : Need → Bool
 made need = is_loaded need 0 table.FmProgramme && is_loaded need 0 table.FmPolicytc && is_loaded need 0 table.FmXref
+
+-- a table that is the same has the same first row whose key stands in an earlier row
+same_key_row : (t : Table) (stage : ℕ) (rows other : Rows) → SameTable stage t rows other → key_row_in rows stage t ≡ key_row_in other stage t
+same_key_row table.Events stage rows other same = ap (key_row table.Events) same
+same_key_row t stage rows other same = ap (λ (part : PartOf t). key_row t (list_of t part)) same
 
 -- one of two tests passes
 either : (one other one_more other_more : Bool) → (one ≡ true → one_more ≡ true) → (other ≡ true → other_more ≡ true) → (one || other) ≡ true → (one_more || other_more) ≡ true
@@ -77,108 +82,11 @@ module _ (rows other : Rows) (small big : Need) (within : IsWithin small big) (h
 
   -- ---- 1 to 10
 
-  limit : (stage : ℕ) (t : Table) → IsTableId (table_at stage t) → IsLess (limit_check small stage t (row_limit t) (count_in rows stage t)) (limit_check big stage t (row_limit t) (count_in other stage t))
-  limit stage t is = weaker 1 (at_stage stage t) (at_stage stage t) (is_loaded small stage t) (is_loaded big stage t) (row_past (row_limit t) (count_in rows stage t)) (row_past (row_limit t) (count_in other stage t)) (loads stage t) (λ needed none. ap (row_past (row_limit t)) (same_count t stage rows other (has (table_at stage t) is needed)) ∙ none)
-
-  programme_limit : (stage : ℕ) → stage < 10 → IsLess (programme_limits rows small stage) (programme_limits other big stage)
-  programme_limit stage below =
-      first_less (programme_limit_refusals rows small stage) (programme_limit_refusals other big stage) (
-        limit stage table.FmProgramme (of_stage stage below table.FmProgramme refl),
-        (
-          limit stage table.FmPolicytc (of_stage stage below table.FmPolicytc refl),
-          (limit stage table.FmProfile (of_stage stage below table.FmProfile refl), tt),
-        ),
-      )
-
   limits : IsLess (limit_checks rows small) (limit_checks other big)
-  limits =
-      first_less (limit_refusals rows small) (limit_refusals other big) (
-        limit 0 table.Events (of_base table.Events),
-        (
-          limit 0 table.Items (of_base table.Items),
-          (
-            limit 0 table.Coverages (of_base table.Coverages),
-            (
-              limit 0 table.FootprintIdx (of_base table.FootprintIdx),
-              (
-                limit 0 table.Vulnerability (of_base table.Vulnerability),
-                (
-                  limit 0 table.DamageBinDict (of_base table.DamageBinDict),
-                  (
-                    limit 0 table.Random (of_base table.Random),
-                    (
-                      programme_limit 0 (omega arith),
-                      (
-                        limit 0 table.FmXref (of_base table.FmXref),
-                        (
-                          limit 0 table.GulSummaryXref (of_base table.GulSummaryXref),
-                          (
-                            limit 0 table.FmSummaryXref (of_base table.FmSummaryXref),
-                            (
-                              limit 0 table.Occurrence (of_base table.Occurrence),
-                              (
-                                limit 0 table.ReturnPeriods (of_base table.ReturnPeriods),
-                                (stages_less (λ later. programme_limits rows small (later + 1)) (λ later. programme_limits other big (later + 1)) 9 (λ later below. programme_limit (later + 1) (omega arith)), tt),
-                              ),
-                            ),
-                          ),
-                        ),
-                      ),
-                    ),
-                  ),
-                ),
-              ),
-            ),
-          ),
-        ),
-      )
-
-  keyed : {K : Type 0} (stage : ℕ) (t : Table) → IsTableId (table_at stage t) → (same_keys : K → K → Bool) (key : RowOf t → K) → IsLess (key_check same_keys small stage t (map key (rows_in t stage rows))) (key_check same_keys big stage t (map key (rows_in t stage other)))
-  keyed stage t is same_keys key = one 2 stage t is (λ part. repeated_at same_keys (map key (list_of t part)))
-
-  programme_keyed : (stage : ℕ) → stage < 10 → IsLess (programme_keys rows small stage) (programme_keys other big stage)
-  programme_keyed stage below =
-      first_less (programme_key_refusals rows small stage) (programme_key_refusals other big stage) (
-        keyed stage table.FmProgramme (of_stage stage below table.FmProgramme refl) same_pair (λ row. (row.from_agg_id, row.level_id)),
-        (
-          keyed stage table.FmPolicytc (of_stage stage below table.FmPolicytc refl) same_triple (λ row. (row.layer_id, row.level_id, row.agg_id)),
-          (keyed stage table.FmProfile (of_stage stage below table.FmProfile refl) nat_eq (λ row. row.policytc_id), tt),
-        ),
-      )
+  limits = listed_less (limit_check rows small) (limit_check other big) (λ id is. weaker 1 id id (is_loaded small id.stage id.table) (is_loaded big id.stage id.table) (row_past (row_limit id.table) (row_count rows id)) (row_past (row_limit id.table) (row_count other id)) (loads id.stage id.table) (λ needed none. ap (row_past (row_limit id.table)) (same_count id.table id.stage rows other (has id is needed)) ∙ none))
 
   keys : IsLess (key_checks rows small) (key_checks other big)
-  keys =
-      first_less (key_refusals rows small) (key_refusals other big) (
-        keyed 0 table.Events (of_base table.Events) nat_eq (λ row. row.event_id),
-        (
-          keyed 0 table.Items (of_base table.Items) nat_eq (λ row. row.item_id),
-          (
-            keyed 0 table.Coverages (of_base table.Coverages) nat_eq (λ row. row.coverage_id),
-            (
-              keyed 0 table.FootprintIdx (of_base table.FootprintIdx) nat_eq (λ row. row.event_id),
-              (
-                keyed 0 table.Vulnerability (of_base table.Vulnerability) same_triple (λ row. (row.vulnerability_id, row.intensity_bin_id, row.damage_bin_id)),
-                (
-                  programme_keyed 0 (omega arith),
-                  (
-                    keyed 0 table.FmXref (of_base table.FmXref) nat_eq (λ row. row.output_id),
-                    (
-                      keyed 0 table.GulSummaryXref (of_base table.GulSummaryXref) same_pair (λ row. (row.item_id, row.summaryset_id)),
-                      (
-                        keyed 0 table.FmSummaryXref (of_base table.FmSummaryXref) same_pair (λ row. (row.output_id, row.summaryset_id)),
-                        (
-                          keyed 0 table.ReturnPeriods (of_base table.ReturnPeriods) nat_eq (λ row. row.return_period),
-                          (stages_less (λ later. programme_keys rows small (later + 1)) (λ later. programme_keys other big (later + 1)) 9 (λ later below. programme_keyed (later + 1) (omega arith)), tt),
-                        ),
-                      ),
-                    ),
-                  ),
-                ),
-              ),
-            ),
-          ),
-        ),
-      )
+  keys = listed_less (key_check rows small) (key_check other big) (λ id is. weaker 2 id id (is_loaded small id.stage id.table) (is_loaded big id.stage id.table) (key_row_in rows id.stage id.table) (key_row_in other id.stage id.table) (loads id.stage id.table) (λ needed none. same_key_row id.table id.stage rows other (has id is needed) ∙ none))
 
   outputs_distinct : IsLess (output_check rows small) (output_check other big)
   outputs_distinct = one 3 0 table.FmXref (of_base table.FmXref) (λ list. repeated_at same_pair (map (λ row. (row.agg_id, row.layer_id)) list))

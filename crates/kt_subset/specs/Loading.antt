@@ -1,20 +1,17 @@
 -- Tables that load for a need load for each need within it, with the same rows.
 -- The rules: docs/REFUSALS.md, "Order".
-use Rattle.std.specs.Prelude.{◌≡◌, ◌≤◌, ◌+◌, ◌*◌, ◌-◌, ℕ, nat_lt, Bool, true, false, cond, refl, List, [], ◌∷◌, length, map, Option, Some, None, Result, Ok, Err, IfOk, if◌then◌else◌, slice_index_or}
+use Rattle.std.specs.Prelude.{◌≡◌, ◌≤◌, ◌+◌, ◌*◌, ◌-◌, ℕ, Bool, true, false, cond, refl, List, [], ◌∷◌, length, map, Result, Ok, Err, IfOk, slice_index_or}
 use Rattle.std.specs.List.{AllByRecursion, filter}
 use Rattle.std.proofs.Common.{sym, subst, ap, ◌∙◌, arith}
 use Rattle.std.proofs.lemmas.List.Elements.{recursion_from_All}
-use Rattle.kt_cells.specs.declared.stop.TableStop.{TableStop}
 use Rattle.kt_checks.specs.Checks.{IsValid, KeepsSamples, first_refusal}
 use Rattle.kt_keys.specs.Refusals.{is_loaded}
 use Rattle.kt_keys.specs.declared.need.Need.{Need}
-use Rattle.kt_keys.specs.declared.need.Refusal.{Refusal}
 use Rattle.kt_load.specs.FileNames.{each-is_table, file_name_of, load_order}
-use Rattle.kt_load.specs.Loaded.{loaded, needed, unless_refused}
-use Rattle.kt_load.specs.Reading.{file_limit, go_on, with_read, with_table_file, with_table_files}
+use Rattle.kt_load.specs.Loaded.{WasLoaded, loaded, needed, unless_refused, was_loaded}
+use Rattle.kt_load.specs.Reading.{go_on, was_read, with_table_file, with_table_files}
 use Rattle.kt_load.specs.Typed.{row_from}
 use Rattle.kt_load.specs.declared.stop.LoadStop.{LoadStop}
-use Rattle.kt_load.specs.declared.stop.LoadStop.TheVariants as stop
 use Rattle.kt_out.specs.NamedFiles.{FileMap}
 use Rattle.kt_rec.specs.PlaceLaws.{AreApart, AreTen, still_ten}
 use Rattle.kt_rec.specs.Places.{PartOf, part_read, with_part}
@@ -23,7 +20,6 @@ use Rattle.kt_rec.specs.TableNames.{IsTableId, number_of}
 use Rattle.kt_rec.specs.TableSet.{is_in}
 use Rattle.kt_rec.specs.declared.table.TableId.{TableId}
 use Rattle.kt_rec.specs.declared.table_set.TableSet.{TableSet}
-use Rattle.kt_schema.specs.Loading.{loaded_rows}
 use Rattle.kt_subset.specs.LessChecks.{samples_kept, samples_within, valid_within}
 use Rattle.kt_subset.specs.SameRows.{HasSame}
 use Rattle.kt_subset.specs.SameTables.{SameTable, both_read, one_read}
@@ -35,49 +31,9 @@ pub record LoadsSame (files : FileMap) (need : Need) (other : Rows) : Type 0 whe
   pub loads : loaded files need ≡ Ok own
   pub same : HasSame need own other
 
--- ---- what loaded
-
--- the rows that were read, where tables load, and no check refuses them
-pub record WasLoaded (files : FileMap) (need : Need) (rows : Rows) : Type 0 where
-  pub read : with_table_files files (needed need) no_rows ≡ Ok rows
-  pub valid : IsValid rows need
-
-pub was_loaded : (files : FileMap) (need : Need) (rows : Rows) → loaded files need ≡ Ok rows → WasLoaded files need rows
-was_loaded files need rows is = by_read (with_table_files files (needed need) no_rows) refl is
-  where
-    by_check : (now : Rows) (refused : Option Refusal) → with_table_files files (needed need) no_rows ≡ Ok now → first_refusal now need ≡ refused → unless_refused now refused ≡ Ok rows → WasLoaded files need rows
-    by_check now None read none h = subst (λ r. IfOk r (WasLoaded files need)) h (record { read = read; valid = record { none = none } })
-    by_check now (Some why) read none h = cc
-
-    by_read : (read : Result Rows LoadStop) → with_table_files files (needed need) no_rows ≡ read → go_on read (λ r. unless_refused r (first_refusal r need)) ≡ Ok rows → WasLoaded files need rows
-    by_read (Ok now) e h = by_check now (first_refusal now need) e refl h
-    by_read (Err why) e h = cc
-
 -- rows that are read and that no check refuses load
 loads_valid : (files : FileMap) (need : Need) (rows : Rows) → with_table_files files (needed need) no_rows ≡ Ok rows → IsValid rows need → loaded files need ≡ Ok rows
 loads_valid files need rows read valid = ap (λ r. go_on r (λ one. unless_refused one (first_refusal one need))) read ∙ ap (unless_refused rows) valid.none
-
--- ---- one file
-
--- a file that was read is read so into any rows
-record ReadsSo (id : TableId) (file : Option (List ℕ)) : Type 0 where
-  part : PartOf id.table
-  so : (rows : Rows) → with_table_file rows id file ≡ Ok (with_part id.table id.stage part rows)
-
-reads_so : (rows : Rows) (id : TableId) (file : Option (List ℕ)) (now : Rows) → with_table_file rows id file ≡ Ok now → ReadsSo id file
-reads_so rows id None now is = cc
-reads_so rows id (Some bytes) now is = by_size (nat_lt file_limit (length bytes)) refl is
-  where
-    by_read : (read : Result (ℕ × List (List ℕ)) TableStop) → nat_lt file_limit (length bytes) ≡ false → loaded_rows id.table bytes ≡ read → with_read rows id (length bytes) read ≡ Ok now → ReadsSo id (Some bytes)
-    by_read (Ok (extra, values)) few e h = record {
-      part = part_read id.table (map (row_from id.table) values) extra (length bytes);
-      so = λ one. ap (λ (large : Bool). if large then Err (stop.TooLarge (file_name_of id)) else with_read one id (length bytes) (loaded_rows id.table bytes)) few ∙ ap (with_read one id (length bytes)) e;
-    }
-    by_read (Err why) few e h = cc
-
-    by_size : (large : Bool) → nat_lt file_limit (length bytes) ≡ large → (if large then Err (stop.TooLarge (file_name_of id)) else with_read rows id (length bytes) (loaded_rows id.table bytes)) ≡ Ok now → ReadsSo id (Some bytes)
-    by_size true e h = cc
-    by_size false e h = by_read (loaded_rows id.table bytes) e refl h
 
 -- ---- file by file
 
@@ -103,6 +59,10 @@ module _ (files : FileMap) (small big : TableSet) (among : AreAmong small big) w
   abbrev Later : List TableId → Rows → Type 0
   Later ids after = (rows other : Rows) → AreTen rows → AreTen other → AreSame small rows other → with_table_files files (filter (is_in big) ids) other ≡ Ok after → ReadsSame ids rows after
 
+  -- behind one table that was read those that are left are
+  goes : (id : TableId) (ids : List TableId) (other next after : Rows) → with_table_file other id (files (file_name_of id)) ≡ Ok next → go_on (with_table_file other id (files (file_name_of id))) (with_table_files files (filter (is_in big) ids)) ≡ Ok after → with_table_files files (filter (is_in big) ids) next ≡ Ok after
+  goes id ids other next after read h = sym (ap (λ r. go_on r (with_table_files files (filter (is_in big) ids))) read) ∙ h
+
   -- one table more, by whether the sets have it
   step : (id : TableId) (ids : List TableId) (rows other after : Rows) (in_small in_big : Bool) → IsTableId id → is_in small id ≡ in_small → is_in big id ≡ in_big → Later ids after → AreTen rows → AreTen other → AreSame small rows other → with_table_files files (cond in_big (id ∷ filter (is_in big) ids) (filter (is_in big) ids)) other ≡ Ok after → with_table_files files (filter (is_in small) (id ∷ ids)) rows ≡ with_table_files files (cond in_small (id ∷ filter (is_in small) ids) (filter (is_in small) ids)) rows → ReadsSame (id ∷ ids) rows after
   unfolding with_table_files
@@ -115,28 +75,28 @@ module _ (files : FileMap) (small big : TableSet) (among : AreAmong small big) w
       by : (read : Result Rows LoadStop) → with_table_file other id (files (file_name_of id)) ≡ read → go_on read (with_table_files files (filter (is_in big) ids)) ≡ Ok after → ReadsSame (id ∷ ids) rows after
       by (Err why) g k = cc
       by (Ok now) g k =
-          let so : ReadsSo id (files (file_name_of id)) = reads_so other id (files (file_name_of id)) now g in
-          let next : Rows = with_part id.table id.stage so.part other in
-          let goes : with_table_files files (filter (is_in big) ids) next ≡ Ok after = sym (ap (λ r. go_on r (with_table_files files (filter (is_in big) ids))) (so.so other)) ∙ h in
+          let was = was_read id (files (file_name_of id)) other now g in
+          let part : PartOf id.table = part_read id.table (map (row_from id.table) was.values) was.extra (length was.bytes) in
+          let next : Rows = with_part id.table id.stage part other in
           let rest : ReadsSame ids rows after =
-          later rows next ten (still_ten id.table id.stage so.part other ten_too)
-          (λ one is_one there. one_read one.stage one.table rows other id.stage id.table so.part is_one is (apart one id there e) (same one is_one there))
-          goes in
+          later rows next ten (still_ten id.table id.stage part other ten_too)
+          (λ one is_one there. one_read one.stage one.table rows other id.stage id.table part is_one is (apart one id there e) (same one is_one there))
+          (goes id ids other next after (was.so other) h) in
           record { own = rest.own; reads = begins ∙ rest.reads; same = rest.same }
   step id ids rows other after true true is e f later ten ten_too same h begins = by (with_table_file other id (files (file_name_of id))) refl h
     where
       by : (read : Result Rows LoadStop) → with_table_file other id (files (file_name_of id)) ≡ read → go_on read (with_table_files files (filter (is_in big) ids)) ≡ Ok after → ReadsSame (id ∷ ids) rows after
       by (Err why) g k = cc
       by (Ok now) g k =
-          let so : ReadsSo id (files (file_name_of id)) = reads_so other id (files (file_name_of id)) now g in
-          let next : Rows = with_part id.table id.stage so.part other in
-          let mine : Rows = with_part id.table id.stage so.part rows in
-          let goes : with_table_files files (filter (is_in big) ids) next ≡ Ok after = sym (ap (λ r. go_on r (with_table_files files (filter (is_in big) ids))) (so.so other)) ∙ h in
+          let was = was_read id (files (file_name_of id)) other now g in
+          let part : PartOf id.table = part_read id.table (map (row_from id.table) was.values) was.extra (length was.bytes) in
+          let next : Rows = with_part id.table id.stage part other in
+          let mine : Rows = with_part id.table id.stage part rows in
           let rest : ReadsSame ids mine after =
-          later mine next (still_ten id.table id.stage so.part rows ten) (still_ten id.table id.stage so.part other ten_too)
-          (λ one is_one there. both_read one.stage one.table rows other id.stage id.table so.part ten ten_too (let most = is.stages in omega arith) is_one is (same one is_one there))
-          goes in
-          record { own = rest.own; reads = begins ∙ (ap (λ r. go_on r (with_table_files files (filter (is_in small) ids))) (so.so rows) ∙ rest.reads); same = rest.same }
+          later mine next (still_ten id.table id.stage part rows ten) (still_ten id.table id.stage part other ten_too)
+          (λ one is_one there. both_read one.stage one.table rows other id.stage id.table part ten ten_too (let most = is.stages in omega arith) is_one is (same one is_one there))
+          (goes id ids other next after (was.so other) h) in
+          record { own = rest.own; reads = begins ∙ (ap (λ r. go_on r (with_table_files files (filter (is_in small) ids))) (was.so rows) ∙ rest.reads); same = rest.same }
 
   -- all of them
   pub all_same : (ids : List TableId) → AllByRecursion IsTableId ids → (rows other after : Rows) → AreTen rows → AreTen other → AreSame small rows other → with_table_files files (filter (is_in big) ids) other ≡ Ok after → ReadsSame ids rows after
@@ -159,8 +119,8 @@ loads_within files small big rows within is =
     let reads : ReadsSame files small.loaded big.loaded within.tables load_order no_rows rows =
     all_same files small.loaded big.loaded within.tables load_order (recursion_from_All IsTableId load_order each-is_table) no_rows no_rows rows refl refl (λ id is there. refl) was.read in
     let same : HasSame small reads.own rows = has_same small reads.own rows reads.same in
-    record { own = reads.own; loads = loads_valid files small reads.own reads.reads (valid_within reads.own rows small big within same was.valid); same = same }
+    record { own = reads.own; loads = loads_valid files small reads.own reads.reads (valid_within reads.own rows small big within same (record { none = was.none })); same = same }
 
 -- and where that of the other has samples, no check of these refuses it
 pub keeps_samples : (files : FileMap) (small big : Need) (rows : Rows) → IsWithin small big → loaded files big ≡ Ok rows → 1 ≤ big.samples → (own : Rows) → HasSame small own rows → KeepsSamples own small big.samples
-keeps_samples files small big rows within is some own same = samples_within own rows small big within same big.samples (samples_kept rows big some (was_loaded files big rows is).valid)
+keeps_samples files small big rows within is some own same = samples_within own rows small big within same big.samples (samples_kept rows big some (record { none = (was_loaded files big rows is).none }))

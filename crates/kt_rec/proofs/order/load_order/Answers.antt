@@ -1,5 +1,5 @@
-use Rattle.kt_load.specs.FileNames.{each-is_table}
-use Rattle.kt_load.proofs.loading.load_order.Goals as goal
+use Rattle.kt_rec.specs.LoadOrder.{each-is_table}
+use Rattle.kt_rec.proofs.order.load_order.Goals as goal
 
 -- each is a table of the base or of a stage
 pub returns-clause-ids : goal.returns-clause-ids
