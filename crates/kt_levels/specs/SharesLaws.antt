@@ -10,6 +10,7 @@ use Rattle.kt_stream.specs.declared.entry.LossRecord.{LossRecord}
 use Rattle.kt_runs.specs.RunLosses.{loss_of, run_loss}
 use Rattle.kt_fmtree.specs.Sharing.{allocated, part_of, policy_parts}
 use Rattle.kt_fmtree.specs.SharingLaws.{allocated-sum}
+use Rattle.kt_rec.specs.ListLaws.{cond-le}
 use Rattle.kt_rec.specs.Sums.{sum_by-below, sum_by-one, sum_by-swap}
 use Rattle.kt_fmtree.specs.Tree.{Tree, IsTree, beneath, ground_up, policy_loss}
 use Rattle.kt_fmtree.specs.TreeLaws.{ground_up-few, policy_loss-le}
