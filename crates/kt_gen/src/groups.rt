@@ -10,7 +10,7 @@ ghost use Rattle.kt_schema.specs.Tables.{has_header};
 use crate::draws::Draws;
 use kt_cells::{Kind, push_header, push_record};
 use kt_money::Bytes;
-use kt_rec::Table;
+use kt_rec::{Table, describe};
 use std::alloc::{AllocError, Global};
 
 /// The rows of a table, or of a part of one, group by group.
@@ -93,28 +93,12 @@ pub(crate) fn push_rows<const N: usize>(
     Ok(())
 }
 
-/// Whether a file of a table begins with a header.
-fn begins_with_header(table: Table) -> bool
-    ensures { result ≡ has_header table }
-{
-    match table {
-        Table::Coverages
-        | Table::Footprint
-        | Table::Vulnerability
-        | Table::DamageBinDict
-        | Table::Random
-        | Table::FmProfile
-        | Table::Occurrence => true,
-        _ => false,
-    }
-}
-
 /// The file of a table, with its header where it has one, and no row yet. An error is want of memory.
 pub(crate) fn begin(alloc: Global, table: Table, extra: u32) -> Result<Bytes, AllocError>
     ensures { IfOk result (λ out. out ≡ header_part (has_header table) (number_of table) extra) }
 {
     let mut out = Bytes::new(alloc);
-    if begins_with_header(table) {
+    if describe(table).header {
         push_header(&mut out, table.number(), extra)?;
     }
     Ok(out)
