@@ -6,9 +6,10 @@ use kt_checks::Need;
 use kt_ends::status_of;
 use kt_load::load as load_tables;
 use kt_out::{
-    Inputs, MemInputs, MemOutputs, MemSink, MemSource, Open, Outputs, Sink, Source, StdErr,
-    StdSink, StdSource, SureInputs, SureOutputs, SureSink, SureSource,
+    Inputs, MemInputs, MemOutputs, MemSink, MemSource, Open, Outputs, Sink, Source, SureInputs,
+    SureOutputs, SureSink, SureSource,
 };
+use kt_process::{StdErr, StdSink, StdSource};
 use kt_script::{Calls, Files, NotTaken, Reader, SaidSize, Seen, Settings, Writer, ended};
 use kt_tools::{Status, Words, load_stop, run};
 use std::alloc::{AllocError, AllocGlobal, Global};

@@ -1,7 +1,7 @@
 -- Records that were added, event by event, and the first of them that is refused.
 use Rattle.std.proofs.Common.{◌≡◌, ℕ, List, [], ◌∷◌, ◌++◌, map, refl, ap, append-nil}
 use Rattle.std.proofs.lemmas.Grind.{flat_map-append}
-use Rattle.kt_period_cells.specs.Losses.{Added}
+use Rattle.kt_cell.specs.Losses.{Added}
 use Rattle.kt_chain.specs.Events.{RunInput, all_added, block_of, event_added}
 use Rattle.kt_fold.specs.Added.{blocks_added}
 

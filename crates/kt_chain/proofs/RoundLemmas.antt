@@ -3,8 +3,8 @@ use Rattle.std.proofs.Common.{◌≡◌, ◌≤◌, ◌<◌, ℕ, zero, suc, ◌
 use Rattle.std.specs.List.{AllByRecursion}
 use Rattle.std.proofs.Math.Nat.{div-add-mod, div-lt_iff_lt-mul, mod-lt}
 use Rattle.std.proofs.lemmas.List.{map-append, take-append-drop}
-use Rattle.kt_period_cells.specs.Losses.{Added}
-use Rattle.kt_period_cells.specs.Standing.{StandsFor}
+use Rattle.kt_cell.specs.Losses.{Added}
+use Rattle.kt_cell.specs.Standing.{StandsFor}
 use Rattle.kt_ends.specs.declared.status.Refusal.{Refusal}
 use Rattle.kt_block.specs.declared.block.EventBlock.{EventBlock}
 use Rattle.kt_block.specs.declared.terms.Terms.{Terms}

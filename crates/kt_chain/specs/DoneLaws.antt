@@ -5,7 +5,7 @@ use Rattle.std.specs.List.{AllByRecursion}
 use Rattle.std.specs.Option.{option_or}
 use Rattle.std.proofs.Common.{sym, ap, ◌∙◌, append-nil, append_assoc}
 use Rattle.std.proofs.lemmas.Grind.{flat_map-append}
-use Rattle.kt_period_cells.specs.Losses.{Added}
+use Rattle.kt_cell.specs.Losses.{Added}
 use Rattle.kt_ends.specs.declared.status.Refusal.{Refusal}
 use Rattle.kt_ends.specs.declared.status.Status.TheVariants.{Done}
 use Rattle.kt_periods.specs.Adding.{first_refusal, record_refusal}

@@ -2,7 +2,7 @@
 -- The rules: docs/CALCULATION.md, "Periods"; docs/OUTPUTS.md, "Files of a run".
 use Rattle.std.specs.Prelude.{ℕ, List, [], unwrap_or}
 use Rattle.std.specs.List.{flat_map}
-use Rattle.kt_period_cells.specs.Losses.{Added}
+use Rattle.kt_cell.specs.Losses.{Added}
 use Rattle.kt_event.specs.Losses.{event_block_of, ground_up_of}
 use Rattle.kt_block.specs.declared.block.EventBlock.{EventBlock}
 use Rattle.kt_block.specs.declared.terms.Terms.{Terms}

@@ -2,7 +2,7 @@
 -- The rules: docs/REFUSALS.md, "Order" and "Statuses".
 use Rattle.std.specs.Prelude.{◌≡◌, ◌≤◌, ℕ, List, [], ◌++◌, true, false, map, Option, Some, None, Result, Ok, Err, IfSome, IsSomeAnd}
 use Rattle.std.specs.List.{AllByRecursion}
-use Rattle.kt_period_cells.specs.Standing.{StandsFor}
+use Rattle.kt_cell.specs.Standing.{StandsFor}
 use Rattle.kt_ends.specs.Ending.{Made, Verdict}
 use Rattle.kt_ends.specs.Stops.{end_status}
 use Rattle.kt_ends.specs.World.{Uses}

@@ -8,9 +8,9 @@ use Rattle.std.proofs.lemmas.Bool.Decides.{Decides-eqb}
 use Rattle.std.proofs.lemmas.Grind.{flat_map-append}
 use Rattle.std.proofs.lemmas.List.{map-append}
 use Rattle.std.proofs.lemmas.Simd.{map-map}
-use Rattle.kt_period_cells.specs.Losses.{Added, all_losses, same_perspective}
+use Rattle.kt_cell.specs.Losses.{Added, all_losses, same_perspective}
 use Rattle.kt_curve.specs.OwnLosses.{own_record, own_records}
-use Rattle.kt_period_cells.specs.SameKeys.{perspective_same, same_perspective_itself}
+use Rattle.kt_cell.specs.SameKeys.{perspective_same, same_perspective_itself}
 use Rattle.kt_ends.specs.declared.status.Status.TheVariants.{Done}
 use Rattle.kt_event.specs.Losses.{ground_up_of, set_summaries}
 use Rattle.kt_block.specs.Terms.{run_sets}

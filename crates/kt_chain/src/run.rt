@@ -1,7 +1,7 @@
 //! A run of all stages over a portfolio.
 //! The rules: docs/COMMANDS.md, "chain"; docs/OUTPUTS.md, "Files of a run"; docs/REFUSALS.md, "Order".
 ghost use Rattle.std.specs.Prelude.{◌≡◌, ◌++◌, ◌≤◌, ℕ, List, [], IfErr, IfSome, IsSomeAnd};
-ghost use Rattle.kt_period_cells.specs.Losses.{Added};
+ghost use Rattle.kt_cell.specs.Losses.{Added};
 ghost use Rattle.kt_ends.specs.Ending.{ToolEnds};
 ghost use Rattle.kt_ends.specs.Stops.{end_status};
 ghost use Rattle.kt_ends.specs.World.{world};

@@ -8,15 +8,15 @@ use Rattle.kt_rec.specs.declared.perspective.Perspective.{Perspective}
 use Rattle.kt_rec.specs.declared.perspective.CellKey.{CellKey}
 use Rattle.kt_rec.specs.declared.periods.Occurrence.{Occurrence}
 use Rattle.kt_stream.specs.declared.entry.Pair.{Pair}
-use Rattle.kt_period_cells.specs.declared.cell.Cell.{Cell}
-use Rattle.kt_period_cells.specs.Losses.{KeyLoss, Added, total, all_losses, losses_of, pair_losses, is_added, loss_at}
+use Rattle.kt_cell.specs.declared.cell.Cell.{Cell}
+use Rattle.kt_cell.specs.Losses.{KeyLoss, Added, total, all_losses, losses_of, pair_losses, is_added, loss_at}
 use Rattle.kt_curve.specs.Grid.{summary_ids, HasSet, by_summary}
-use Rattle.kt_period_cells.specs.Sets.{summary_entries}
-use Rattle.kt_period_cells.specs.Standing.{Standing, cell_at, total_in}
-use Rattle.kt_period_cells.specs.Amounts.{amount_at}
+use Rattle.kt_cell.specs.Sets.{summary_entries}
+use Rattle.kt_cell.specs.Standing.{Standing, cell_at, total_in}
+use Rattle.kt_cell.specs.Amounts.{amount_at}
 use Rattle.kt_curve.specs.Average.{aal_rows, average_annual_loss_rows}
 use Rattle.kt_curve.specs.OwnTables.{averages_agree}
-use Rattle.kt_period_cells.specs.TotalLaws.{added_some}
+use Rattle.kt_cell.specs.TotalLaws.{added_some}
 use Rattle.kt_curve.proofs.Ids.{amounts_of_standing, ids_of_standing, flat_map_each}
 
 -- ---- losses are above 0

@@ -7,12 +7,12 @@ use Rattle.std.proofs.lemmas.Bool.Decides.{nat_tests}
 use Rattle.std.proofs.lemmas.List.Elements.{All-map, All-filter, All-weaker}
 use Rattle.kt_rec.specs.declared.perspective.Perspective.{Perspective}
 use Rattle.kt_rec.specs.declared.perspective.CellKey.{CellKey}
-use Rattle.kt_period_cells.specs.declared.cell.Cell.{Cell}
-use Rattle.kt_period_cells.specs.Losses.{one_if}
+use Rattle.kt_cell.specs.declared.cell.Cell.{Cell}
+use Rattle.kt_cell.specs.Losses.{one_if}
 use Rattle.kt_curve.specs.Grid.{keys_for, sidx_of_kind}
-use Rattle.kt_period_cells.specs.Sets.{of_kind, IsGroup}
-use Rattle.kt_period_cells.specs.Standing.{cell_at, most_total, FitsCells, sidx_in_range}
-use Rattle.kt_period_cells.specs.Amounts.{amount_in, amounts_of, of_sample}
+use Rattle.kt_cell.specs.Sets.{of_kind, IsGroup}
+use Rattle.kt_cell.specs.Standing.{cell_at, most_total, FitsCells, sidx_in_range}
+use Rattle.kt_cell.specs.Amounts.{amount_in, amounts_of, of_sample}
 use Rattle.kt_ranks.specs.RankedLosses.{curve_rows}
 use Rattle.kt_ranks.specs.Ranks.{SameRanks, reaching}
 use Rattle.kt_curve.proofs.Grids.{group_sum_by, kind_times, single_times, times}

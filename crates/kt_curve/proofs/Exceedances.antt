@@ -4,13 +4,13 @@ use Rattle.std.specs.List.{flat_map}
 use Rattle.std.specs.Map.{keys_of}
 use Rattle.kt_rec.specs.declared.perspective.Perspective.{Perspective}
 use Rattle.kt_rec.specs.declared.perspective.CellKey.{CellKey}
-use Rattle.kt_period_cells.specs.declared.cell.Cell.{Cell}
+use Rattle.kt_cell.specs.declared.cell.Cell.{Cell}
 use Rattle.kt_rec.specs.declared.curve.Curve.{Curve}
-use Rattle.kt_period_cells.specs.Losses.{Added, all_losses}
+use Rattle.kt_cell.specs.Losses.{Added, all_losses}
 use Rattle.kt_curve.specs.Grid.{summary_ids, HasSet, by_summary}
-use Rattle.kt_period_cells.specs.Sets.{summary_entries}
-use Rattle.kt_period_cells.specs.Standing.{Standing, cell_at}
-use Rattle.kt_period_cells.specs.Amounts.{amount_in}
+use Rattle.kt_cell.specs.Sets.{summary_entries}
+use Rattle.kt_cell.specs.Standing.{Standing, cell_at}
+use Rattle.kt_cell.specs.Amounts.{amount_in}
 use Rattle.kt_curve.specs.Exceedance.{lec_rows, amount_of, takes_maxima, exceedance_rows}
 use Rattle.kt_curve.specs.OwnTables.{curves_agree}
 use Rattle.kt_curve.proofs.Averages.{losses_positive}

@@ -3,10 +3,10 @@ use Rattle.std.proofs.Common.{◌≡◌, ◌+◌, ◌-◌, ℕ, List, [], ◌∷
 use Rattle.std.proofs.lemmas.List.{length_push, get_or_push}
 use Rattle.kt_rec.specs.declared.perspective.CellKey.{CellKey}
 use Rattle.kt_ranks.specs.declared.amount_list.AmountList.{AmountList}
-use Rattle.kt_period_cells.specs.declared.cell.Cell.{Cell}
+use Rattle.kt_cell.specs.declared.cell.Cell.{Cell}
 use Rattle.kt_period_cells.specs.declared.group.SummaryCells.{SummaryCells}
 use Rattle.kt_period_cells.specs.SummaryRows.{group_entries}
-use Rattle.kt_period_cells.specs.Amounts.{amounts_of, of_sample}
+use Rattle.kt_cell.specs.Amounts.{amounts_of, of_sample}
 use Rattle.kt_ranks.specs.AmountLists.{AreSamplesDown, listed}
 
 -- the last list has the amounts of the sample that its place tells

@@ -13,13 +13,13 @@ use Rattle.std.proofs.lemmas.Map.{NonePasses, lookup-none}
 use Rattle.std.proofs.lemmas.Map.Keys.{IsDistinct-head, IsDistinct-tail}
 use Rattle.kt_rec.specs.declared.perspective.Perspective.{Perspective}
 use Rattle.kt_rec.specs.declared.perspective.CellKey.{CellKey}
-use Rattle.kt_period_cells.specs.declared.cell.Cell.{Cell}
-use Rattle.kt_period_cells.specs.Losses.{same_key, one_if, key_of}
+use Rattle.kt_cell.specs.declared.cell.Cell.{Cell}
+use Rattle.kt_cell.specs.Losses.{same_key, one_if, key_of}
 use Rattle.kt_curve.specs.Exceedance.{sidx_values}
 use Rattle.kt_curve.specs.Grid.{keys_for, sidx_of_kind}
-use Rattle.kt_period_cells.specs.Sets.{is_mean, same_bool, of_kind, IsGroup}
-use Rattle.kt_period_cells.specs.Standing.{cell_at, sidx_in_range, FitsCells}
-use Rattle.kt_period_cells.specs.SameKeys.{same_exact, same_itself, bool_same, pos_same}
+use Rattle.kt_cell.specs.Sets.{is_mean, same_bool, of_kind, IsGroup}
+use Rattle.kt_cell.specs.Standing.{cell_at, sidx_in_range, FitsCells}
+use Rattle.kt_cell.specs.SameKeys.{same_exact, same_itself, bool_same, pos_same}
 
 -- how often a test holds
 abbrev pub times : {K : Type 0} → (K → Bool) → List K → ℕ

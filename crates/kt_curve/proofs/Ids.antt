@@ -10,15 +10,15 @@ use Rattle.std.proofs.lemmas.Map.Entries.{lookup-filter-keys}
 use Rattle.kt_rec.specs.Rising.{IsRising, put, put-member, put-rising, rising-unique}
 use Rattle.kt_rec.specs.declared.perspective.Perspective.{Perspective}
 use Rattle.kt_rec.specs.declared.perspective.CellKey.{CellKey}
-use Rattle.kt_period_cells.specs.declared.cell.Cell.{Cell}
-use Rattle.kt_period_cells.specs.Losses.{KeyLoss, same_key, same_perspective, key_of, total, maximum}
-use Rattle.kt_period_cells.specs.Sets.{in_set, summary_entries}
+use Rattle.kt_cell.specs.declared.cell.Cell.{Cell}
+use Rattle.kt_cell.specs.Losses.{KeyLoss, same_key, same_perspective, key_of, total, maximum}
+use Rattle.kt_cell.specs.Sets.{in_set, summary_entries}
 use Rattle.kt_curve.specs.Grid.{summary_ids, HasSet}
-use Rattle.kt_period_cells.specs.Standing.{Standing, cell_at, cell_of, total_in, maximum_in}
+use Rattle.kt_cell.specs.Standing.{Standing, cell_at, cell_of, total_in, maximum_in}
 use Rattle.kt_period_cells.specs.SummaryRows.{of_summary}
-use Rattle.kt_period_cells.specs.SameKeys.{same_exact, same_itself, same_perspective_itself, bool_same}
-use Rattle.kt_period_cells.specs.TotalLaws.{cell_some, total_of_cell, maximum_of_cell, maximum-le-total}
-use Rattle.kt_period_cells.specs.Amounts.{amount_in}
+use Rattle.kt_cell.specs.SameKeys.{same_exact, same_itself, same_perspective_itself, bool_same}
+use Rattle.kt_cell.specs.TotalLaws.{cell_some, total_of_cell, maximum_of_cell, maximum-le-total}
+use Rattle.kt_cell.specs.Amounts.{amount_in}
 use Rattle.kt_curve.specs.Exceedance.{amount_of}
 use Rattle.kt_curve.specs.OwnTables.{Agree}
 

@@ -7,12 +7,12 @@ use Rattle.std.proofs.lemmas.List.Elements.{All-head, All-tail, All-from_get_or}
 use Rattle.kt_money.specs.Rounding.{half_up}
 use Rattle.kt_rec.specs.declared.perspective.Perspective.{Perspective}
 use Rattle.kt_rec.specs.declared.perspective.CellKey.{CellKey}
-use Rattle.kt_period_cells.specs.declared.cell.Cell.{Cell}
-use Rattle.kt_period_cells.specs.Losses.{same_key, key_of}
-use Rattle.kt_period_cells.specs.Sets.{IsGroup}
+use Rattle.kt_cell.specs.declared.cell.Cell.{Cell}
+use Rattle.kt_cell.specs.Losses.{same_key, key_of}
+use Rattle.kt_cell.specs.Sets.{IsGroup}
 use Rattle.kt_curve.specs.Grid.{sample_sidx}
-use Rattle.kt_period_cells.specs.Standing.{cell_at, most_total, FitsCells}
-use Rattle.kt_period_cells.specs.Amounts.{amount_in, amounts_of, of_period}
+use Rattle.kt_cell.specs.Standing.{cell_at, most_total, FitsCells}
+use Rattle.kt_cell.specs.Amounts.{amount_in, amounts_of, of_period}
 use Rattle.kt_curve.specs.Exceedance.{period_means}
 use Rattle.kt_curve.proofs.Grids.{at_choice}
 use Rattle.kt_curve.proofs.Moments.{no_amount}

@@ -9,12 +9,12 @@ use Rattle.kt_money.specs.Rounding.{mean_of, deviation_of}
 use Rattle.kt_money.specs.RoundingLaws.{squares-sum-le}
 use Rattle.kt_rec.specs.declared.perspective.Perspective.{Perspective}
 use Rattle.kt_rec.specs.declared.perspective.CellKey.{CellKey}
-use Rattle.kt_period_cells.specs.declared.cell.Cell.{Cell}
+use Rattle.kt_cell.specs.declared.cell.Cell.{Cell}
 use Rattle.kt_curve.specs.Grid.{keys_for, sidx_of_kind, moments_of, sample_sidx, mean_sidx}
-use Rattle.kt_period_cells.specs.Sets.{of_kind, IsGroup}
-use Rattle.kt_period_cells.specs.Losses.{one_if}
-use Rattle.kt_period_cells.specs.Standing.{cell_at, sidx_in_range}
-use Rattle.kt_period_cells.specs.Amounts.{amount_in, amount_at, amounts_of}
+use Rattle.kt_cell.specs.Sets.{of_kind, IsGroup}
+use Rattle.kt_cell.specs.Losses.{one_if}
+use Rattle.kt_cell.specs.Standing.{cell_at, sidx_in_range}
+use Rattle.kt_cell.specs.Amounts.{amount_in, amount_at, amounts_of}
 use Rattle.kt_curve.proofs.Grids.{group_sum, group_sum_by, kind_times, times, length_keys}
 
 -- a sum over what a function gives

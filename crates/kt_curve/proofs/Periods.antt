@@ -3,12 +3,12 @@ use Rattle.std.proofs.Common.{◌≡◌, ℕ, List, map, get_or, refl, sym, ap, 
 use Rattle.std.specs.List.{filter}
 use Rattle.kt_rec.specs.declared.perspective.Perspective.{Perspective}
 use Rattle.kt_rec.specs.declared.perspective.CellKey.{CellKey}
-use Rattle.kt_period_cells.specs.declared.cell.Cell.{Cell}
-use Rattle.kt_period_cells.specs.Losses.{one_if, same_key, key_of}
-use Rattle.kt_period_cells.specs.Sets.{IsGroup, is_mean, same_bool}
+use Rattle.kt_cell.specs.declared.cell.Cell.{Cell}
+use Rattle.kt_cell.specs.Losses.{one_if, same_key, key_of}
+use Rattle.kt_cell.specs.Sets.{IsGroup, is_mean, same_bool}
 use Rattle.kt_curve.specs.Grid.{sample_sidx}
-use Rattle.kt_period_cells.specs.Standing.{cell_at, FitsCells}
-use Rattle.kt_period_cells.specs.Amounts.{of_period}
+use Rattle.kt_cell.specs.Standing.{cell_at, FitsCells}
+use Rattle.kt_cell.specs.Amounts.{of_period}
 use Rattle.kt_curve.proofs.Grids.{grid_sum, never, sum_filter, times, times_map, times_same, same_by_parts, kind_times}
 use Rattle.kt_curve.proofs.Moments.{sum_by_map}
 

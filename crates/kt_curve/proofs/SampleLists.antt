@@ -5,7 +5,7 @@ use Rattle.std.proofs.Math.Path.{fun_ext}
 use Rattle.std.proofs.lemmas.List.{take_at, drop_at, drop-drop, length-map}
 use Rattle.std.proofs.lemmas.List.Concat.{flat_map-cons}
 use Rattle.std.proofs.lemmas.List.FromFn.{get_or-range_with_len, length-range_with_len}
-use Rattle.kt_period_cells.specs.Amounts.{amount_at, amounts_of, of_sample}
+use Rattle.kt_cell.specs.Amounts.{amount_at, amounts_of, of_sample}
 use Rattle.kt_period_cells.specs.SummaryRows.{IsSummary, group_entries, part_entries}
 use Rattle.kt_period_cells.specs.declared.group.SetCells.{SetCells}
 use Rattle.kt_period_cells.specs.declared.group.SummaryCells.{SummaryCells}

@@ -7,16 +7,16 @@ use Rattle.kt_rec.specs.Rising.{IsRising, rising-unique}
 use Rattle.kt_rec.specs.declared.perspective.Perspective.{Perspective}
 use Rattle.kt_rec.specs.declared.perspective.CellKey.{CellKey}
 use Rattle.kt_rec.specs.declared.curve.Curve.{Curve}
-use Rattle.kt_period_cells.specs.declared.cell.Cell.{Cell}
-use Rattle.kt_period_cells.specs.Losses.{Added, all_losses, same_key}
-use Rattle.kt_period_cells.specs.Standing.{KeptCells, Standing}
+use Rattle.kt_cell.specs.declared.cell.Cell.{Cell}
+use Rattle.kt_cell.specs.Losses.{Added, all_losses, same_key}
+use Rattle.kt_cell.specs.Standing.{KeptCells, Standing}
 use Rattle.kt_curve.specs.Grid.{summary_ids, by_summary, HasSet}
 use Rattle.kt_curve.proofs.Ids.{rising_ids, has_ids, flat_map_each}
-use Rattle.kt_period_cells.specs.SameKeys.{same_exact}
-use Rattle.kt_period_cells.specs.Sets.{in_set, set_entries, summary_entries}
+use Rattle.kt_cell.specs.SameKeys.{same_exact}
+use Rattle.kt_cell.specs.Sets.{in_set, set_entries, summary_entries}
 use Rattle.kt_period_cells.specs.declared.group.SetCells.{SetCells}
 use Rattle.kt_period_cells.specs.SummaryRows.{part_entries, of_summary, IsOwnSet}
-use Rattle.kt_period_cells.specs.Amounts.{amount_at}
+use Rattle.kt_cell.specs.Amounts.{amount_at}
 use Rattle.kt_curve.specs.Average.{aal_rows, average_annual_loss_rows}
 use Rattle.kt_curve.specs.Exceedance.{lec_rows, takes_maxima, exceedance_rows}
 use Rattle.kt_curve.proofs.Averages.{rows_of_standing}

@@ -6,7 +6,7 @@ use Rattle.kt_money.specs.NumberText.{count_text, money_text}
 use Rattle.kt_money.specs.declared.moments.MeanSd.{MeanSd}
 use Rattle.kt_rec.specs.declared.perspective.Perspective.{Perspective}
 use Rattle.kt_rec.specs.declared.perspective.CellKey.{CellKey}
-use Rattle.kt_period_cells.specs.Losses.{KeyLoss, total}
+use Rattle.kt_cell.specs.Losses.{KeyLoss, total}
 use Rattle.kt_ranks.specs.RankedLosses.{table_line}
 use Rattle.kt_curve.specs.Grid.{mean_sidx, sample_sidx, keys_for, moments_of, summary_ids}
 

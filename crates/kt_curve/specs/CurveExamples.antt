@@ -7,7 +7,7 @@ use Rattle.kt_rec.specs.declared.perspective.Perspective.TheVariants.{Gul}
 use Rattle.kt_rec.specs.declared.periods.Occurrence.{Occurrence}
 use Rattle.kt_rec.specs.declared.curve.Curve.{Curve}
 use Rattle.kt_rec.specs.declared.curve.Curve.TheVariants.{FullAep, FullOep, SampleAep, SampleOep, WheatAep, WheatOep, WheatmeanAep, WheatmeanOep}
-use Rattle.kt_period_cells.specs.Losses.{Added, all_losses, total}
+use Rattle.kt_cell.specs.Losses.{Added, all_losses, total}
 use Rattle.kt_ranks.specs.RankedLosses.{exceedance_loss, lec_row}
 use Rattle.kt_curve.specs.Exceedance.{exceedance_rows, period_means, rank_means}
 use Rattle.kt_curve.specs.Examples.{once}

@@ -7,9 +7,9 @@ use Rattle.kt_money.specs.RoundingLaws.{deviation-unique, deviation_of-is}
 use Rattle.kt_rec.specs.declared.perspective.Perspective.TheVariants.{Gul}
 use Rattle.kt_rec.specs.declared.periods.Occurrence.{Occurrence}
 use Rattle.kt_stream.specs.declared.entry.Pair.{Pair}
-use Rattle.kt_period_cells.specs.declared.cell.CellStop.TheVariants as cell_stop
-use Rattle.kt_period_cells.specs.Losses.{Added, losses_of, all_losses, total, maximum, key_of, cell_count}
-use Rattle.kt_period_cells.specs.Standing.{first_stop}
+use Rattle.kt_cell.specs.declared.cell.CellStop.TheVariants as cell_stop
+use Rattle.kt_cell.specs.Losses.{Added, losses_of, all_losses, total, maximum, key_of, cell_count}
+use Rattle.kt_cell.specs.Standing.{first_stop}
 use Rattle.kt_curve.specs.Grid.{keys_for, mean_sidx, sample_sidx, summary_ids}
 
 -- an event in the first period

@@ -7,7 +7,7 @@ use Rattle.kt_rec.specs.declared.perspective.Perspective.{Perspective}
 use Rattle.kt_rec.specs.declared.perspective.CellKey.{CellKey}
 use Rattle.kt_rec.specs.declared.curve.Curve.{Curve}
 use Rattle.kt_rec.specs.declared.curve.Curve.TheVariants.{FullAep, FullOep, SampleAep, SampleOep, WheatAep, WheatOep, WheatmeanAep, WheatmeanOep}
-use Rattle.kt_period_cells.specs.Losses.{KeyLoss, total, maximum, key_of}
+use Rattle.kt_cell.specs.Losses.{KeyLoss, total, maximum, key_of}
 use Rattle.kt_curve.specs.Grid.{mean_sidx, sample_sidx, keys_for, summary_ids}
 use Rattle.kt_ranks.specs.RankedLosses.{curve_rows, ranked_loss}
 

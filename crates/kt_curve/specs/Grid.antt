@@ -8,10 +8,10 @@ use Rattle.kt_money.specs.declared.moments.MeanSd.{MeanSd}
 use Rattle.kt_rec.specs.Rising.{put}
 use Rattle.kt_rec.specs.declared.perspective.Perspective.{Perspective}
 use Rattle.kt_rec.specs.declared.perspective.CellKey.{CellKey}
-use Rattle.kt_period_cells.specs.declared.cell.Cell.{Cell}
-use Rattle.kt_period_cells.specs.Losses.{key_of}
-use Rattle.kt_period_cells.specs.Sets.{in_set, summary_entries}
-use Rattle.kt_period_cells.specs.Standing.{cell_at}
+use Rattle.kt_cell.specs.declared.cell.Cell.{Cell}
+use Rattle.kt_cell.specs.Losses.{key_of}
+use Rattle.kt_cell.specs.Sets.{in_set, summary_entries}
+use Rattle.kt_cell.specs.Standing.{cell_at}
 
 -- the sidx of the mean alone
 abbrev pub mean_sidx : List ℤ

@@ -7,7 +7,7 @@ use Rattle.kt_rec.specs.declared.perspective.Perspective.{Perspective}
 use Rattle.kt_rec.specs.declared.perspective.CellKey.{CellKey}
 use Rattle.kt_rec.specs.declared.curve.Curve.{Curve}
 use Rattle.kt_rec.specs.declared.curve.Curve.TheVariants.{WheatAep, WheatOep, WheatmeanAep, WheatmeanOep}
-use Rattle.kt_period_cells.specs.Amounts.{amount_at}
+use Rattle.kt_cell.specs.Amounts.{amount_at}
 use Rattle.kt_period_cells.specs.SummaryRows.{group_entries, part_entries}
 use Rattle.kt_period_cells.specs.declared.group.SetCells.{SetCells}
 use Rattle.kt_period_cells.specs.declared.group.SummaryCells.{SummaryCells}

@@ -12,10 +12,10 @@ use Rattle.kt_rec.specs.declared.periods.Occurrence.{Occurrence}
 use Rattle.kt_rec.specs.declared.perspective.CellKey.{CellKey}
 use Rattle.kt_rec.specs.declared.perspective.Perspective.{Perspective}
 use Rattle.kt_stream.specs.declared.entry.Pair.{Pair}
-use Rattle.kt_period_cells.specs.Sets.{in_set}
+use Rattle.kt_cell.specs.Sets.{in_set}
 use Rattle.kt_curve.specs.Grid.{summary_ids}
-use Rattle.kt_period_cells.specs.Losses.{Added, KeyLoss, all_losses, is_added, key_of, loss_at, losses_of, maximum, pair_losses, same_key, same_perspective, total}
-use Rattle.kt_period_cells.specs.SameKeys.{perspective_same, same_perspective_itself}
+use Rattle.kt_cell.specs.Losses.{Added, KeyLoss, all_losses, is_added, key_of, loss_at, losses_of, maximum, pair_losses, same_key, same_perspective, total}
+use Rattle.kt_cell.specs.SameKeys.{perspective_same, same_perspective_itself}
 use Rattle.kt_rec.specs.Rising.{put}
 
 -- the key of another perspective with the same set, summary, sidx and period

@@ -5,12 +5,12 @@ use Rattle.std.proofs.Common.{sym, subst, ap, ◌∙◌, arith, append-nil, appe
 use Rattle.std.proofs.lemmas.Bool.Decides.{nat_tests}
 use Rattle.std.proofs.lemmas.Grind.{flat_map-append}
 use Rattle.kt_rec.specs.declared.perspective.Perspective.{Perspective}
-use Rattle.kt_period_cells.specs.Sets.{in_set}
-use Rattle.kt_period_cells.specs.Losses.{Added, KeyLoss, all_losses, cell_count, one_if, opened, opens, total}
+use Rattle.kt_cell.specs.Sets.{in_set}
+use Rattle.kt_cell.specs.Losses.{Added, KeyLoss, all_losses, cell_count, one_if, opened, opens, total}
 use Rattle.kt_curve.specs.OwnLosses.{own_all, own_key_matches, own_loss, own_losses, own_records, own_total, shown_as}
-use Rattle.kt_period_cells.specs.Standing.{first_stop, most_cells, most_total, or_else, stop_at}
-use Rattle.kt_period_cells.specs.declared.cell.CellStop.{CellStop}
-use Rattle.kt_period_cells.specs.declared.cell.CellStop.TheVariants as cell_stop
+use Rattle.kt_cell.specs.Standing.{first_stop, most_cells, most_total, or_else, stop_at}
+use Rattle.kt_cell.specs.declared.cell.CellStop.{CellStop}
+use Rattle.kt_cell.specs.declared.cell.CellStop.TheVariants as cell_stop
 use Rattle.kt_period_cells.proofs.Walks.{neither_stops}
 
 -- the cells never stop for want of memory

@@ -14,7 +14,7 @@ use Rattle.kt_curve.specs.Average.{aal_row, aal_rows, average_annual_loss_rows}
 use Rattle.kt_ranks.specs.RankedLosses.{curve_rows, ranked_loss}
 use Rattle.kt_curve.specs.Exceedance.{amount_of, exceedance_rows, full_rows, lec_rows, period_means, rank_means, sidx_values, takes_maxima, wheat_rows}
 use Rattle.kt_curve.specs.Grid.{keys_for, mean_sidx, moments_of, sample_sidx, summary_ids}
-use Rattle.kt_period_cells.specs.Losses.{Added, KeyLoss, all_losses, key_of, total}
+use Rattle.kt_cell.specs.Losses.{Added, KeyLoss, all_losses, key_of, total}
 use Rattle.kt_curve.specs.OwnLosses.{key_matches, own_all, own_ids, own_losses, own_maximum, own_records, own_total}
 
 -- two amounts agree on a summary of a set, whose keys have another perspective in the second

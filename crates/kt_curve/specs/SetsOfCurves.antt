@@ -3,7 +3,7 @@
 use Rattle.std.specs.Prelude.{Bool, ℕ, ◌≤◌, ◌≡◌, List, All}
 use Rattle.kt_rec.specs.declared.perspective.Perspective.{Perspective}
 use Rattle.kt_period_cells.specs.SummaryRows.{IsOwnSet, IsPart}
-use Rattle.kt_period_cells.specs.Standing.{KeptCells}
+use Rattle.kt_cell.specs.Standing.{KeptCells}
 use Rattle.kt_period_cells.specs.declared.group.SetCells.{SetCells}
 use Rattle.kt_curve.specs.LossesOfSamples.{AreSampleLosses}
 use Rattle.kt_curve.specs.declared.sample_losses.SampleLosses.{SampleLosses}

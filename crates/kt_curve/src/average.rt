@@ -4,10 +4,10 @@ ghost use Rattle.std.specs.Prelude.{◌≡◌, ◌+◌, ◌*◌, ◌≤◌, ◌^
 ghost use Rattle.std.specs.List.{flat_map};
 ghost use Rattle.kt_money.specs.Rounding.{mean_of, deviation_of};
 ghost use Rattle.kt_curve.specs.Grid.{sidx_of_kind, keys_for, moments_of};
-ghost use Rattle.kt_period_cells.specs.Sets.{same_bool};
-ghost use Rattle.kt_period_cells.specs.Losses.{Added, all_losses};
-ghost use Rattle.kt_period_cells.specs.Standing.{StandsFor, most_total};
-ghost use Rattle.kt_period_cells.specs.Amounts.{amount_at};
+ghost use Rattle.kt_cell.specs.Sets.{same_bool};
+ghost use Rattle.kt_cell.specs.Losses.{Added, all_losses};
+ghost use Rattle.kt_cell.specs.Standing.{StandsFor, most_total};
+ghost use Rattle.kt_cell.specs.Amounts.{amount_at};
 ghost use Rattle.kt_period_cells.specs.SummaryRows.{group_entries, part_entries, IsPart, IsSummary};
 ghost use Rattle.kt_curve.specs.Average.{aal_heading_text, aal_row, aal_rows, average_annual_loss_rows};
 

@@ -2,7 +2,7 @@
 //! The rules: docs/CALCULATION.md, "Kinds of exceedance curves"; docs/OUTPUTS.md, "Exceedance curve tables".
 ghost use Rattle.std.specs.Prelude.{◌≡◌, ◌*◌, ◌≤◌, ◌++◌, map, if◌then◌else◌, All, OnOk};
 ghost use Rattle.kt_curve.specs.Grid.{keys_for, sidx_of_kind};
-ghost use Rattle.kt_period_cells.specs.Amounts.{amount_at};
+ghost use Rattle.kt_cell.specs.Amounts.{amount_at};
 ghost use Rattle.kt_period_cells.specs.SummaryRows.{group_entries, IsSummary};
 ghost use Rattle.kt_ranks.specs.RankedLosses.{curve_rows};
 ghost use Rattle.kt_curve.specs.Exceedance.{full_rows};

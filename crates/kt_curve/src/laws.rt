@@ -5,9 +5,9 @@ ghost use Rattle.kt_rec.specs.declared.curve.Curve.{Curve};
 ghost use Rattle.kt_rec.specs.declared.perspective.Perspective.{Perspective};
 ghost use Rattle.kt_curve.specs.Average.{average_annual_loss_rows};
 ghost use Rattle.kt_curve.specs.Exceedance.{exceedance_rows};
-ghost use Rattle.kt_period_cells.specs.Losses.{Added, all_losses};
+ghost use Rattle.kt_cell.specs.Losses.{Added, all_losses};
 ghost use Rattle.kt_curve.specs.OwnLosses.{own_records};
-ghost use Rattle.kt_period_cells.specs.Standing.{first_stop};
+ghost use Rattle.kt_cell.specs.Standing.{first_stop};
 
 /// The average annual losses and the curves of a set of a perspective among the records of many are those of its own records alone,
 /// also where these are told as records of another perspective.

@@ -2,10 +2,10 @@
 //! The rules: docs/CALCULATION.md, "Exceedance curves"; docs/OUTPUTS.md, "Exceedance curve tables".
 ghost use Rattle.std.specs.Prelude.{◌≡◌, ◌≤◌, ℕ, List, ◌++◌, length, true, All, IfOk, OnOk, OnErr};
 ghost use Rattle.std.specs.List.{flat_map};
-ghost use Rattle.kt_period_cells.specs.Losses.{Added, all_losses};
-ghost use Rattle.kt_period_cells.specs.Standing.{KeptCells, StandsFor};
+ghost use Rattle.kt_cell.specs.Losses.{Added, all_losses};
+ghost use Rattle.kt_cell.specs.Standing.{KeptCells, StandsFor};
 ghost use Rattle.kt_rec.specs.declared.perspective.Perspective.{Perspective};
-ghost use Rattle.kt_period_cells.specs.Amounts.{amount_at};
+ghost use Rattle.kt_cell.specs.Amounts.{amount_at};
 ghost use Rattle.kt_period_cells.specs.SummaryRows.{group_entries, part_entries, IsOwnSet, IsPart, IsSummary};
 ghost use Rattle.kt_curve.specs.Exceedance.{lec_heading_text, by_sidx, takes_maxima, lec_rows, exceedance_rows};
 ghost use Rattle.kt_curve.specs.LossesOfSamples.{AreSampleLosses, HasSummary, ranks_samples};

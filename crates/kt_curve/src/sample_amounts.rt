@@ -1,7 +1,7 @@
 //! The amounts of a summary's samples, one sample after the other.
 //! The rules: docs/CALCULATION.md, "Kinds of exceedance curves".
 ghost use Rattle.std.specs.Prelude.{◌≡◌, ◌≤◌, IfOk, IfSome};
-ghost use Rattle.kt_period_cells.specs.Amounts.{amounts_of, of_sample};
+ghost use Rattle.kt_cell.specs.Amounts.{amounts_of, of_sample};
 ghost use Rattle.kt_period_cells.specs.SummaryRows.{group_entries, IsSummary};
 
 use kt_money::OutOfMemory;

@@ -2,8 +2,8 @@
 //! The rules: docs/CALCULATION.md, "Kinds of exceedance curves"; docs/OUTPUTS.md, "Exceedance curve tables".
 ghost use Rattle.std.specs.Prelude.{◌≡◌, ◌≤◌, ◌↔◌, ◌++◌, ℕ, List, All, IfOk, IsTrue, OnOk, OnErr};
 ghost use Rattle.kt_rec.specs.declared.perspective.Perspective.{Perspective};
-ghost use Rattle.kt_period_cells.specs.Losses.{Added, all_losses};
-ghost use Rattle.kt_period_cells.specs.Standing.{KeptCells, StandsFor};
+ghost use Rattle.kt_cell.specs.Losses.{Added, all_losses};
+ghost use Rattle.kt_cell.specs.Standing.{KeptCells, StandsFor};
 ghost use Rattle.kt_curve.specs.Exceedance.{exceedance_rows, takes_maxima};
 ghost use Rattle.kt_curve.specs.SetsOfCurves.{AreCurvesOf, IsMeasure};
 

@@ -4,7 +4,7 @@ use Rattle.std.specs.Prelude.{List, All}
 use Rattle.kt_curve.specs.SetsOfCurves.{AreSomeCurves}
 use Rattle.kt_files.specs.Endings.{AreEndings}
 use Rattle.kt_files.specs.declared.endings.Endings.{Endings}
-use Rattle.kt_period_cells.specs.Losses.{Added}
+use Rattle.kt_cell.specs.Losses.{Added}
 use Rattle.kt_tables.specs.Lookups.{return_periods_of}
 
 -- the cells are those of all records that were added, and the curves are of these cells, at the return periods of the rows

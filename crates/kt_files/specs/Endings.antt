@@ -3,8 +3,8 @@
 use Rattle.std.specs.Prelude.{◌≡◌, ℕ, List, Result, Vec, All, IfOk}
 use Rattle.std.specs.declared.alloc.Global.{Global}
 use Rattle.kt_curve.specs.SetsOfCurves.{AreSomeCurves, KeptCurves}
-use Rattle.kt_period_cells.specs.Losses.{Added}
-use Rattle.kt_period_cells.specs.Standing.{KeptCells, StandsFor}
+use Rattle.kt_cell.specs.Losses.{Added}
+use Rattle.kt_cell.specs.Standing.{KeptCells, StandsFor}
 use Rattle.kt_rec.specs.Rows.{Rows}
 
 -- the cells are those of all records that were added, over the periods of the rows

@@ -4,7 +4,7 @@ use Rattle.std.specs.Prelude.{ℕ, Bool, List, [], ◌∷◌, ◌++◌, ◌&&◌
 use Rattle.std.specs.List.{flat_map}
 use Rattle.kt_curve.specs.Average.{aal_heading_text, average_annual_loss_rows}
 use Rattle.kt_curve.specs.Exceedance.{lec_heading_text, by_sidx, exceedance_rows}
-use Rattle.kt_period_cells.specs.Losses.{Added, all_losses, same_perspective}
+use Rattle.kt_cell.specs.Losses.{Added, all_losses, same_perspective}
 use Rattle.kt_elt.specs.EventLoss.{elt_heading_text, event_loss_rows, table_line}
 use Rattle.kt_elt.specs.PeriodLoss.{plt_heading_text, period_losses}
 use Rattle.kt_block.specs.declared.block.EventBlock.{EventBlock}

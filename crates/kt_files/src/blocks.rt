@@ -2,7 +2,7 @@
 //! The rules: docs/OUTPUTS.md, "Files of a run".
 ghost use Rattle.std.specs.Prelude.{◌≡◌, ◌++◌, ◌≤◌, All, OnOk, OnErr};
 ghost use Rattle.std.specs.List.{flat_map};
-ghost use Rattle.kt_period_cells.specs.Losses.{same_perspective};
+ghost use Rattle.kt_cell.specs.Losses.{same_perspective};
 ghost use Rattle.kt_block.specs.Block.{AreSummaries};
 ghost use Rattle.kt_files.specs.Parts.{block_text, is_of_set, record_rows, records_of_set};
 ghost use Rattle.kt_files.specs.declared.file.SetTable.TheVariants.{EventLoss, PeriodLoss};

@@ -3,7 +3,7 @@
 ghost use Rattle.std.specs.Prelude.{◌≡◌, ◌<◌, ◌/◌, ℕ, List, length, All, IfOk, IfSome};
 ghost use Rattle.kt_curve.specs.SetsOfCurves.{AreCurvesOf, AreSomeCurves};
 ghost use Rattle.kt_files.specs.Endings.{AreHandCurves};
-ghost use Rattle.kt_period_cells.specs.Standing.{KeptCells};
+ghost use Rattle.kt_cell.specs.Standing.{KeptCells};
 ghost use Rattle.kt_tables.specs.Lookups.{return_periods_of};
 
 use crate::sets::run_sets;

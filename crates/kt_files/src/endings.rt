@@ -1,8 +1,8 @@
 //! What comes behind the last event in output files.
 //! The rules: docs/OUTPUTS.md, "Files of a run".
 ghost use Rattle.std.specs.Prelude.{◌≡◌, ◌++◌, List, OnOk, OnErr};
-ghost use Rattle.kt_period_cells.specs.Losses.{Added, all_losses};
-ghost use Rattle.kt_period_cells.specs.Standing.{StandsFor};
+ghost use Rattle.kt_cell.specs.Losses.{Added, all_losses};
+ghost use Rattle.kt_cell.specs.Standing.{StandsFor};
 ghost use Rattle.kt_files.specs.EndTexts.{AreEndTexts};
 ghost use Rattle.kt_files.specs.Parts.{end_text, table_end};
 ghost use Rattle.kt_periods.specs.PeriodTables.{table_text};
@@ -106,7 +106,7 @@ pub struct Endings<'a> {
 
 impl<'a> Texts<OutputFile> for Endings<'a> {
     ghost use Rattle.std.specs.Prelude.{List, [], ◌∷◌};
-    ghost use Rattle.kt_period_cells.specs.Losses.{Added};
+    ghost use Rattle.kt_cell.specs.Losses.{Added};
     ghost use Rattle.kt_files.specs.EndTexts.{AreEndTexts};
     ghost use Rattle.kt_files.specs.Parts.{end_text};
 

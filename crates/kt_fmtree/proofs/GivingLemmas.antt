@@ -6,10 +6,10 @@ use Rattle.std.proofs.lemmas.Bool.{eqb-true}
 use Rattle.std.proofs.lemmas.List.{drop_all}
 use Rattle.std.proofs.lemmas.List.Sums.{sum_by-cons, sum-map}
 use Rattle.kt_money.specs.Sharing.{Sharing, share_of, shares_after, share_out}
-use Rattle.kt_rules.specs.Amounts.{total}
+use Rattle.kt_rules.specs.Amounts.{total, weight}
 use Rattle.kt_rules.specs.declared.carry.Carry.{Carry}
 use Rattle.kt_fmtree.specs.Carried.{added}
-use Rattle.kt_fmtree.specs.Placed.{weight, weights, due, parts_from}
+use Rattle.kt_fmtree.specs.Placed.{weights, due, parts_from}
 use Rattle.kt_fmtree.specs.declared.part.PlacedPart.{PlacedPart}
 
 -- one more amount

@@ -3,7 +3,7 @@
 use Rattle.std.specs.Prelude.{◌≡◌, ℕ, zero, suc, ◌+◌, ◌≤◌, ◌<◌, ◌^◌, Bool, false, cond, nat_eq, List, [], ◌∷◌, length, map, take, drop, slice_index, slice_index_or}
 use Rattle.std.specs.List.{AllByRecursion, flat_map, sum_by}
 use Rattle.kt_money.specs.Sharing.{share_out}
-use Rattle.kt_rules.specs.Amounts.{total}
+use Rattle.kt_rules.specs.Amounts.{total, weight}
 use Rattle.kt_rules.specs.declared.carry.Carry.{Carry}
 use Rattle.kt_fmtree.specs.Programme.{no_terms}
 use Rattle.kt_fmtree.specs.Sharing.{Part}
@@ -12,10 +12,6 @@ use Rattle.kt_fmtree.specs.declared.node.Node.{Node}
 use Rattle.kt_fmtree.specs.declared.part.PlacedPart.{PlacedPart}
 
 -- ---- what a unit gives to its children
-
--- the weight of a unit among those that carry a loss: its own, or the ground-up loss beneath it where they carry none
-abbrev pub weight : ℕ → Carry → ℕ
-weight carried carry = cond (nat_eq carried 0) (total carry) carry.loss
 
 -- the weights of children
 abbrev pub weights : List Carry → List ℕ

@@ -7,7 +7,7 @@ use Rattle.std.proofs.lemmas.Bool.{eqb-true}
 use Rattle.std.proofs.lemmas.List.{map-append, get_or-map, length-map}
 use Rattle.std.proofs.lemmas.List.Sums.{sum_by-cons}
 use Rattle.kt_money.specs.Sharing.{share_out}
-use Rattle.kt_rules.specs.Amounts.{total}
+use Rattle.kt_rules.specs.Amounts.{total, weight}
 use Rattle.kt_rules.specs.declared.carry.Carry.{Carry}
 use Rattle.kt_rec.specs.Sums.{sum_by-agree, sum_by-flat_map, sum_by-one, each_member, distinct_filter, sum_by-map}
 use Rattle.kt_fmtree.specs.Sharing.{Part, parts_for, carried_loss, weight_of, passed_down, id_parts, part_of}
@@ -18,7 +18,7 @@ use Rattle.kt_fmtree.specs.Carried.{Carried, AreCarried, IsCarriedBy}
 use Rattle.kt_fmtree.specs.CarriedLaws.{children-of}
 use Rattle.kt_rec.specs.ListLaws.{map-agree, map-map}
 use Rattle.kt_fmtree.specs.declared.node.Node.{Node}
-use Rattle.kt_fmtree.specs.Placed.{weight, amounts_for, parts_from, children_of, no_node, node_at, given_by, level_down, levels_down, CanShare, unit_parts}
+use Rattle.kt_fmtree.specs.Placed.{amounts_for, parts_from, children_of, no_node, node_at, given_by, level_down, levels_down, CanShare, unit_parts}
 use Rattle.kt_fmtree.specs.declared.part.PlacedPart.{PlacedPart}
 use Rattle.kt_fmtree.specs.DownLaws.{amounts-length, nodes-places, can-next}
 

@@ -8,11 +8,12 @@ ghost use Rattle.kt_fmtree.specs.Parts.{IsProgramme};
 ghost use Rattle.kt_fmtree.specs.Carried.{AreCarried, IsCarriedBy};
 ghost use Rattle.kt_fmtree.specs.Placed.{levels_down};
 
-use crate::by_id::{parts_by_id, shares};
+use crate::by_id::parts_by_id;
 use crate::down::levels_down;
 use crate::levels::Levels;
 use crate::part::PlacedPart;
 use crate::programme::Programme;
+use kt_money::shares;
 use std::alloc::{AllocError, Global};
 
 /// What the ids beneath a top have: their ground-up losses, or their shares of an amount.

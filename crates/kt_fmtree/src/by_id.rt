@@ -1,8 +1,7 @@
 //! Parts of ids, by rising id.
 //! The rule: docs/FINANCIAL_MODULE.md, "Allocation".
 ghost use Rattle.std.specs.Prelude.{◌≡◌, ℕ, ◌+◌, ◌≤◌, ◌<◌, ◌^◌, length, map, replicate, slice_index, IfOk};
-ghost use Rattle.std.specs.List.{AllByRecursion, sum, sum_by};
-ghost use Rattle.kt_money.specs.Sharing.{share_out};
+ghost use Rattle.std.specs.List.{AllByRecursion, sum_by};
 ghost use Rattle.kt_rec.specs.Rising.{IsRising};
 ghost use Rattle.kt_fmtree.specs.Sharing.{part_of};
 ghost use Rattle.kt_fmtree.specs.Parts.{units_at};
@@ -11,7 +10,6 @@ ghost use Rattle.kt_rec.specs.ById.{with_more};
 
 use crate::part::PlacedPart;
 use crate::programme::Programme;
-use kt_money::ShareOut;
 use std::alloc::{AllocError, Global};
 
 /// As many zeros. An error is want of memory.
@@ -82,30 +80,4 @@ pub(crate) fn parts_by_id(
         );
     }
     Ok(amounts)
-}
-
-/// Weights or amounts in cents, added, which add to at most 10^16.
-pub fn total_of(weights: &[u64]) -> u64
-    requires { sum weights.now ≤ 10 ^ 16 }
-    ensures value { result ≡ sum weights.now }
-{
-    let mut all = 0;
-    for weight in weights {
-        all += *weight;
-    }
-    all
-}
-
-/// The shares of a total by weights, one after the other.
-pub(crate) fn shares(alloc: Global, total: u64, weights: &[u64]) -> Result<Vec<u64>, AllocError>
-    requires few { sum weights.now ≤ 10 ^ 16 }
-    requires most { total ≤ sum weights.now }
-    ensures value { IfOk result (λ shares. shares.items ≡ share_out total weights.now) }
-{
-    let mut sharing = ShareOut::new(total, u128::from(total_of(weights)));
-    let mut shares = Vec::with_capacity(alloc, weights.len())?;
-    for weight in weights {
-        shares.push(sharing.next(*weight))?;
-    }
-    Ok(shares)
 }

@@ -5,7 +5,7 @@ ghost use Rattle.std.specs.List.{sum_by};
 ghost use Rattle.kt_money.specs.Sharing.{share_of, share_out};
 ghost use Rattle.kt_rules.specs.Amounts.{total};
 ghost use Rattle.kt_fmtree.specs.Carried.{CanCarry};
-ghost use Rattle.kt_fmtree.specs.Placed.{due, weight, weights, parts_from, amounts_for, children_of};
+ghost use Rattle.kt_fmtree.specs.Placed.{due, weights, parts_from, amounts_for, children_of};
 
 use crate::node::Node;
 use crate::part::PlacedPart;
@@ -13,26 +13,6 @@ use crate::sums::added;
 use kt_money::ShareOut;
 use kt_rules::Carry;
 use std::alloc::AllocError;
-
-/// The ground-up loss beneath a unit: what its terms left, and what they took.
-fn ground_up(carry: Carry) -> u64
-    requires { total carry ≤ 10 ^ 16 }
-    ensures value { result ≡ total carry }
-{
-    carry.loss + carry.ded + carry.over + carry.kept
-}
-
-/// The weight of a unit among those that carry a loss: its own, or the ground-up loss beneath it where they carry none.
-fn weight(carried: u64, carry: Carry) -> u64
-    requires { total carry ≤ 10 ^ 16 }
-    ensures value { result ≡ weight carried carry }
-{
-    if carried == 0 {
-        ground_up(carry)
-    } else {
-        carry.loss
-    }
-}
 
 /// What is shared out over weights: where they add to nothing, nothing.
 fn due(amount: u64, weights: u64) -> u64
@@ -66,10 +46,10 @@ fn push_shares(
     ensures value { OnOk result (parts.new.items ≡ parts.old.items ++ parts_from start (share_out amount (weights children.now))) }
 {
     let all = added(children);
-    let weights = weight(all.loss, all);
+    let weights = all.weight(all.loss);
     let mut sharing = ShareOut::new(due(amount, weights), u128::from(weights));
     for (at, carry) in children.iter().enumerate() {
-        let share = next_share(&mut sharing, weight(all.loss, *carry));
+        let share = next_share(&mut sharing, carry.weight(all.loss));
         parts.push(PlacedPart {
             place: start + at,
             amount: share,
@@ -91,7 +71,7 @@ fn push_losses(
     for (at, carry) in children.iter().enumerate() {
         parts.push(PlacedPart {
             place: start + at,
-            amount: ground_up(*carry),
+            amount: carry.ground_up(),
         })?;
     }
     Ok(())

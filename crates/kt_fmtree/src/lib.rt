@@ -21,7 +21,7 @@ mod shared;
 mod sums;
 
 pub use allocation::allocate;
-pub use by_id::{id_at, total_of, zeros};
+pub use by_id::{id_at, zeros};
 pub use levels::Levels;
 pub use lists::Lists;
 pub use node::Node;

@@ -5,11 +5,11 @@ use Rattle.std.specs.Option.{option_or}
 use Rattle.std.proofs.lemmas.Grind.{flat_map-append}
 use Rattle.std.proofs.lemmas.List.Concat.{flat_map-cons}
 use Rattle.kt_period_cells.specs.Journal.{Adds}
-use Rattle.kt_period_cells.specs.Losses.{Added, KeyLoss, all_losses, losses_of}
-use Rattle.kt_period_cells.specs.Standing.{KeptCells, StandsFor, first_stop, or_else}
+use Rattle.kt_cell.specs.Losses.{Added, KeyLoss, all_losses, losses_of}
+use Rattle.kt_cell.specs.Standing.{KeptCells, StandsFor, first_stop, or_else}
 use Rattle.kt_period_cells.proofs.Walks.{all_losses_push, first_stop_append, neither_stops}
-use Rattle.kt_period_cells.specs.declared.cell.CellStop.{CellStop}
-use Rattle.kt_period_cells.specs.declared.cell.CellStop.TheVariants as cell_stop
+use Rattle.kt_cell.specs.declared.cell.CellStop.{CellStop}
+use Rattle.kt_cell.specs.declared.cell.CellStop.TheVariants as cell_stop
 use Rattle.kt_ends.specs.declared.status.Refusal.{Refusal}
 use Rattle.kt_block.specs.declared.block.Summaries.{Summaries}
 use Rattle.kt_periods.specs.Adding.{cell_refusal, first_refusal, refusal_of}

@@ -1,8 +1,8 @@
 -- What taking a part does to a fold.
 use Rattle.std.proofs.Common.{◌≡◌, List, [], ◌∷◌, ◌++◌, take, Option, Some, None, Result, Ok, Err, refl, sym, ap, subst, ◌∙◌, append-nil, append_assoc, inl, inr}
 use Rattle.std.proofs.lemmas.List.{take-append-drop}
-use Rattle.kt_period_cells.specs.Losses.{Added}
-use Rattle.kt_period_cells.specs.Standing.{KeptCells, StandsFor}
+use Rattle.kt_cell.specs.Losses.{Added}
+use Rattle.kt_cell.specs.Standing.{KeptCells, StandsFor}
 use Rattle.kt_ends.specs.declared.status.Refusal.{Refusal}
 use Rattle.kt_ends.specs.declared.status.Refusal.TheVariants as refusal
 use Rattle.kt_block.specs.declared.block.EventBlock.{EventBlock}

@@ -2,7 +2,7 @@
 -- The rule: docs/CALCULATION.md, "Periods".
 use Rattle.std.specs.Prelude.{List, map}
 use Rattle.std.specs.List.{flat_map}
-use Rattle.kt_period_cells.specs.Losses.{Added}
+use Rattle.kt_cell.specs.Losses.{Added}
 use Rattle.kt_block.specs.declared.block.EventBlock.{EventBlock}
 use Rattle.kt_block.specs.declared.block.Summaries.{Summaries}
 use Rattle.kt_rec.specs.Rows.{Rows}

@@ -3,7 +3,7 @@
 use Rattle.std.proofs.Common.{◌≡◌, List, [], ◌∷◌, ◌++◌, Option, Some, None, refl, sym, ap, ◌∙◌, append_assoc, append-nil}
 use Rattle.std.specs.Option.{option_or}
 use Rattle.std.proofs.lemmas.Grind.{flat_map-append}
-use Rattle.kt_period_cells.specs.Losses.{Added}
+use Rattle.kt_cell.specs.Losses.{Added}
 use Rattle.kt_ends.specs.declared.status.Refusal.{Refusal}
 use Rattle.kt_block.specs.declared.block.EventBlock.{EventBlock}
 use Rattle.kt_periods.specs.Adding.{first_refusal, record_refusal}

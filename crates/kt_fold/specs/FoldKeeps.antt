@@ -1,7 +1,7 @@
 -- What a fold keeps of a part.
 -- The rules: docs/ARCHITECTURE.md, "A run of all stages".
 use Rattle.std.specs.Prelude.{◌≡◌, ◌⊎◌, ◌≤◌, ℕ, true, List, [], ◌∷◌, ◌++◌, take, Option, Some, None, Result, Ok, Err}
-use Rattle.kt_period_cells.specs.Standing.{KeptCells}
+use Rattle.kt_cell.specs.Standing.{KeptCells}
 use Rattle.kt_keys.specs.Refusals.{is_loaded}
 use Rattle.kt_rec.specs.declared.table.Table.TheVariants.{Occurrence}
 use Rattle.kt_tables.specs.Portfolio.{PortfolioRows}

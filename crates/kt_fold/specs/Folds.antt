@@ -2,8 +2,8 @@
 -- The rules: docs/ARCHITECTURE.md, "A run of all stages"; docs/REFUSALS.md, "Order".
 use Rattle.std.specs.Prelude.{◌≡◌, ◌⊎◌, ℕ, List, [], ◌∷◌, ◌++◌, drop, take, Option, Some, None, Result, Ok, Err}
 use Rattle.std.specs.List.{AllByRecursion, flat_map}
-use Rattle.kt_period_cells.specs.Losses.{Added}
-use Rattle.kt_period_cells.specs.Standing.{KeptCells, StandsFor}
+use Rattle.kt_cell.specs.Losses.{Added}
+use Rattle.kt_cell.specs.Standing.{KeptCells, StandsFor}
 use Rattle.kt_ends.specs.declared.status.Refusal.{Refusal}
 use Rattle.kt_ends.specs.declared.status.Refusal.TheVariants as refusal
 use Rattle.kt_block.specs.Block.{AreSummaries}

@@ -1,8 +1,8 @@
 -- How a fold stops where the cells stop at a record, and how that refuses the run.
 -- The rules: docs/CALCULATION.md, "Periods"; docs/REFUSALS.md, "Order".
 use Rattle.std.specs.Prelude.{ℕ}
-use Rattle.kt_period_cells.specs.declared.cell.CellStop.{CellStop}
-use Rattle.kt_period_cells.specs.declared.cell.CellStop.TheVariants as cell_stop
+use Rattle.kt_cell.specs.declared.cell.CellStop.{CellStop}
+use Rattle.kt_cell.specs.declared.cell.CellStop.TheVariants as cell_stop
 use Rattle.kt_ends.specs.declared.status.Refusal.{Refusal}
 use Rattle.kt_ends.specs.declared.status.Refusal.TheVariants as refusal
 use Rattle.kt_fold.specs.declared.fold.FoldStop.{FoldStop}

@@ -2,7 +2,7 @@
 -- The rules: docs/ARCHITECTURE.md, "A run of all stages".
 use Rattle.std.specs.Prelude.{◌≡◌, All, List, [], ◌∷◌, Option, Some, None}
 use Rattle.kt_block.specs.declared.block.EventBlock.{EventBlock}
-use Rattle.kt_period_cells.specs.Standing.{StandsFor}
+use Rattle.kt_cell.specs.Standing.{StandsFor}
 use Rattle.kt_rec.specs.Rows.{Rows}
 use Rattle.kt_tables.specs.Lookups.{occurrences_of}
 use Rattle.kt_fold.specs.Added.{block_added}

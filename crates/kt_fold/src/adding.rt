@@ -2,8 +2,8 @@
 //! The rules: docs/CALCULATION.md, "Periods"; docs/REFUSALS.md, "Order".
 ghost use Rattle.std.specs.Prelude.{◌≡◌, List, All, true};
 ghost use Rattle.kt_period_cells.specs.Journal.{TakesOver};
-ghost use Rattle.kt_period_cells.specs.Losses.{Added};
-ghost use Rattle.kt_period_cells.specs.Standing.{StandsFor};
+ghost use Rattle.kt_cell.specs.Losses.{Added};
+ghost use Rattle.kt_cell.specs.Standing.{StandsFor};
 ghost use Rattle.kt_block.specs.Block.{AreSummaries};
 ghost use Rattle.kt_stream.specs.Summary.{IsSummary};
 ghost use Rattle.kt_tables.specs.Portfolio.{KeepsPeriods};

@@ -2,8 +2,8 @@
 //! The rules: docs/CALCULATION.md, "Periods"; docs/REFUSALS.md, "Order".
 ghost use Rattle.std.specs.Prelude.{◌≡◌, ◌≤◌, [], List, All, IfErr, length, true};
 ghost use Rattle.std.specs.List.{AllByRecursion};
-ghost use Rattle.kt_period_cells.specs.Losses.{Added};
-ghost use Rattle.kt_period_cells.specs.Standing.{StandsFor};
+ghost use Rattle.kt_cell.specs.Losses.{Added};
+ghost use Rattle.kt_cell.specs.Standing.{StandsFor};
 ghost use Rattle.kt_block.specs.Block.{AreSummaries};
 ghost use Rattle.kt_tables.specs.Portfolio.{KeepsPeriods};
 ghost use Rattle.kt_fold.specs.FoldKeeps.{KeepsFront, KeepsWhole};

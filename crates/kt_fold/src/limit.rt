@@ -4,8 +4,8 @@ ghost use Rattle.std.specs.Prelude.{◌≡◌};
 ghost use Rattle.kt_fold.specs.Limits.{limit_refusal, stop_of_cells};
 
 use crate::fold::FoldStop;
+use kt_cell::CellStop;
 use kt_ends::Refusal;
-use kt_period_cells::CellStop;
 use kt_rec::CellKey;
 
 /// The limit of the cells that a record passes: a stop of the cells that is not want of memory.

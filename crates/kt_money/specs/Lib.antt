@@ -6,3 +6,4 @@ pub mod NumberText
 pub mod NumberTextLaws
 pub mod Sharing
 pub mod SharingLaws
+pub mod ShareOutLaws

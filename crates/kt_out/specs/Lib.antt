@@ -1,7 +1,6 @@
 pub use Rattle.kt_kept_files.specs.Counts
 pub use Rattle.kt_kept_files.specs.NamedFiles
 pub use Rattle.kt_kept_files.specs.Calls
-pub mod Adapters
 pub mod Reading
 pub mod Writing
 pub mod InputFiles

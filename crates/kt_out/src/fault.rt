@@ -1,6 +1,7 @@
 //! What an object outside the program may answer in place of what was asked.
 //! The rules: docs/ARCHITECTURE.md, "The outside"; docs/REFUSALS.md, "Statuses".
-ghost use Rattle.std.specs.Prelude.{◌≡◌};
+ghost use Rattle.std.specs.Prelude.{◌≡◌, ◌<◌, ℕ, IfErr, IfOk, Ok, Some};
+ghost use Rattle.kt_out.specs.declared.fault.Fault.TheVariants.{Failed as fault_failed};
 
 use std::alloc::{AllocError, AllocFailed};
 
@@ -45,5 +46,18 @@ impl<T: Drop> From<AllocFailed<T>> for Fault {
 
     fn from(_: AllocFailed<T>) -> Self {
         Fault::OutOfMemory
+    }
+}
+
+/// How many bytes came of a read within a file. None are there only where the file is not what it was: as a read that failed, that is a
+/// fault.
+pub fn some_read(came: Option<usize>) -> Result<usize, Fault>
+    ensures some { IfOk result (λ n. (0 < n) × (came ≡ Some n)) }
+    ensures whole { (n : ℕ) → 0 < n → came ≡ Some n → result ≡ Ok n }
+    ensures failed { IfErr result (λ why. why ≡ fault_failed) }
+{
+    match came {
+        None | Some(0) => Err(Fault::Failed),
+        Some(n) => Ok(n),
     }
 }

@@ -1,10 +1,9 @@
 //! The types of this crate may be sent to other threads and shared by them.
 //! The rule: docs/ARCHITECTURE.md, "What threads share".
 use crate::{
-    Absent, DirInputs, DirOutputs, Failed, Fault, InputCall, MemInputs, MemOutputs, MemSink,
-    MemSource, Open, SureInputs, SureOutputs, SureSink, SureSource,
+    Absent, Failed, Fault, InputCall, MemInputs, MemOutputs, MemSink, MemSource, Open, SureInputs,
+    SureOutputs, SureSink, SureSource,
 };
-use std::fs::Files;
 
 fn is_shared<T: Send + Sync>(_: &T) {}
 
@@ -37,13 +36,4 @@ fn files_are_shared(a: &MemInputs, b: &SureInputs, c: &MemOutputs, d: &SureOutpu
     is_shared(b);
     is_shared(c);
     is_shared(d);
-}
-
-/// The real files, where the runtime and its open files may be shared.
-fn real_files_are_shared<R: Files + Sync>(inputs: &DirInputs<'_, R>, outputs: &DirOutputs<'_, R>)
-where
-    R::File: Send + Sync,
-{
-    is_shared(inputs);
-    is_shared(outputs);
 }

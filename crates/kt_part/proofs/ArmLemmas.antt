@@ -4,13 +4,13 @@ use Rattle.std.proofs.lemmas.List.{map_push, length_push, length-map}
 use Rattle.rtrb.specs.Ring.{sent, known_free, SameProducer}
 use Rattle.rtrb.specs.declared.AnyItems.{AnyItems}
 use Rattle.rtrb.specs.declared.producer.Producer.{Producer}
-use Rattle.kt_part.specs.Arrivals.{AreSent, numbers_of}
+use Rattle.kt_claims.specs.Arrivals.{AreSent, numbers_of}
 use Rattle.kt_part.specs.Lanes.{IsReady, IsWorking, HasWorked}
-use Rattle.kt_part.specs.Passes.{HasDrawn, IsPassOf, claims_of}
-use Rattle.kt_part.specs.declared.inbox.Arm.{Arm}
-use Rattle.kt_part.specs.declared.inbox.Item.{Item}
-use Rattle.kt_part.specs.declared.laws.Claims.{Claims}
-use Rattle.kt_part.specs.declared.laws.Pass.{Pass}
+use Rattle.kt_claims.specs.Passes.{HasDrawn, IsPassOf, claims_of}
+use Rattle.kt_claims.specs.declared.inbox.Arm.{Arm}
+use Rattle.kt_claims.specs.declared.inbox.Item.{Item}
+use Rattle.kt_claims.specs.declared.claims.Claims.{Claims}
+use Rattle.kt_claims.specs.declared.claims.Pass.{Pass}
 
 module _ {B : Type 0} (made : ℕ → Option B → Type 0) (bound : ℕ) where
   -- one more item is sent

@@ -5,22 +5,22 @@ use Rattle.std.proofs.lemmas.List.{get_or_append_left, get_or_push, length_push,
 use Rattle.rtrb.specs.Ring.{received, sent, IsPair}
 use Rattle.rtrb.specs.declared.AnyItems.{AnyItems}
 use Rattle.rtrb.specs.declared.consumer.Consumer.{Consumer}
-use Rattle.kt_part.specs.Arrivals.{IsIn, AreStrange, AreSent, FitsSlot, HoldsAll, HasCome, IsHeld, all_received, numbers_of}
+use Rattle.kt_claims.specs.Arrivals.{IsIn, AreStrange, AreSent, FitsSlot, HoldsAll, HasCome, IsHeld, all_received, numbers_of}
 use Rattle.kt_part.specs.Claimed.{HasClaimed}
 use Rattle.kt_part.specs.Gathering.{AreGathered, AreHeld}
 use Rattle.kt_part.specs.Lanes.{AreLanes, ArePaired, AreSame, HaveWorked, IsDone, IsReady}
-use Rattle.kt_part.specs.Numbers.{once_below, AreFirst, times}
-use Rattle.kt_part.specs.Passes.{IsGivenOut, IsPassOf, claims_of, left_of, workers_of}
-use Rattle.kt_part.specs.Slots.{held_at, next_of}
-use Rattle.kt_part.specs.declared.inbox.Arm.{Arm}
-use Rattle.kt_part.specs.declared.inbox.Inbox.{Inbox}
-use Rattle.kt_part.specs.declared.inbox.Item.{Item}
-use Rattle.kt_part.specs.declared.laws.Claims.{Claims}
-use Rattle.kt_part.specs.declared.laws.Pass.{Pass}
-use Rattle.kt_part.specs.declared.reorder.Reorder.{Reorder}
+use Rattle.kt_claims.specs.Numbers.{once_below, AreFirst, times}
+use Rattle.kt_claims.specs.Passes.{IsGivenOut, IsPassOf, claims_of, left_of, workers_of}
+use Rattle.kt_claims.specs.Slots.{held_at, next_of}
+use Rattle.kt_claims.specs.declared.inbox.Arm.{Arm}
+use Rattle.kt_claims.specs.declared.inbox.Inbox.{Inbox}
+use Rattle.kt_claims.specs.declared.inbox.Item.{Item}
+use Rattle.kt_claims.specs.declared.claims.Claims.{Claims}
+use Rattle.kt_claims.specs.declared.claims.Pass.{Pass}
+use Rattle.kt_claims.specs.declared.reorder.Reorder.{Reorder}
 use Rattle.kt_part.proofs.LaneLemmas.{pair-kept}
 use Rattle.kt_part.proofs.ListLemmas.{all-pushed, all-front, all-last}
-use Rattle.kt_part.proofs.NumberLemmas.{at-yes, at-no, times-append, once-yes, once-no, once-below}
+use Rattle.kt_claims.proofs.NumberLemmas.{at-yes, at-no, times-append, once-yes, once-no, once-below}
 
 abbrev End : Type 0 → Type 0
 End B = Consumer (Item B) Global AnyItems

@@ -5,10 +5,10 @@ use Rattle.std.specs.List.{flat_map}
 use Rattle.rtrb.specs.Ring.{received, IsPair, SameProducer, SameConsumer}
 use Rattle.rtrb.specs.declared.consumer.Consumer.{Consumer}
 use Rattle.rtrb.specs.declared.producer.Producer.{Producer}
-use Rattle.kt_part.specs.Arrivals.{all_received, HasCome}
+use Rattle.kt_claims.specs.Arrivals.{all_received, HasCome}
 use Rattle.kt_part.specs.Lanes.{AreSame}
-use Rattle.kt_part.specs.declared.inbox.Inbox.{Inbox}
-use Rattle.kt_part.specs.declared.inbox.Item.{Item}
+use Rattle.kt_claims.specs.declared.inbox.Inbox.{Inbox}
+use Rattle.kt_claims.specs.declared.inbox.Item.{Item}
 
 module _ {A C : Type 0} (part : A → List C) where
   -- all parts are those before a place, the one at it, and those behind it

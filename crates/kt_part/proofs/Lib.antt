@@ -1,7 +1,4 @@
 mod RoundLemmas
-mod NumberLemmas
-mod DealingLemmas
-mod ArrivalLemmas
 mod ArmLemmas
 mod LaneLemmas
 mod ListLemmas

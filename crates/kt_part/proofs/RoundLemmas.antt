@@ -2,7 +2,7 @@
 use Rattle.std.proofs.Common.{◌≡◌, ℕ, suc, ◌+◌, List, [], ◌∷◌, ◌++◌, length, Result, Ok, Err, refl, sym, ap, subst, ◌∙◌, append_assoc, append-nil, inr, arith}
 use Rattle.kt_part.specs.Claimed.{ClaimsAfter, HasClaimed}
 use Rattle.kt_part.specs.Folding.{AreGiven, Folded, FoldedSome, RoundEnds}
-use Rattle.kt_part.specs.declared.laws.Pass.{Pass}
+use Rattle.kt_claims.specs.declared.claims.Pass.{Pass}
 use Rattle.kt_part.specs.declared.round.RoundStop.{RoundStop}
 use Rattle.kt_part.specs.declared.round.RoundStop.TheVariants.{Fold, OutOfMemory}
 

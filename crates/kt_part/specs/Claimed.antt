@@ -1,9 +1,9 @@
 -- What the pass of a round has claimed after it.
 -- The rule: docs/ARCHITECTURE.md, "A run of all stages".
 use Rattle.std.specs.Prelude.{◌≡◌, ℕ, ◌+◌, ◌*◌, ◌<◌, ◌⊎◌, [], length, Result, Ok, Err}
-use Rattle.kt_part.specs.Numbers.{times}
-use Rattle.kt_part.specs.Passes.{claims_of, left_of}
-use Rattle.kt_part.specs.declared.laws.Pass.{Pass}
+use Rattle.kt_claims.specs.Numbers.{times}
+use Rattle.kt_claims.specs.Passes.{claims_of, left_of}
+use Rattle.kt_claims.specs.declared.claims.Pass.{Pass}
 use Rattle.kt_part.specs.declared.round.RoundStop.{RoundStop}
 use Rattle.kt_part.specs.declared.round.RoundStop.TheVariants.{Fold, OutOfMemory}
 

@@ -2,17 +2,17 @@
 -- The rule: docs/ARCHITECTURE.md, "A run of all stages".
 use Rattle.std.specs.Prelude.{◌≡◌, ℕ, ◌+◌, ◌*◌, ◌<◌, ◌≤◌, ◌⊎◌, List, ◌++◌, All, length}
 use Rattle.rtrb.specs.declared.consumer.Consumer.{Consumer}
-use Rattle.kt_part.specs.Arrivals.{AreSent, HasCome, IsHeld, all_received, numbers_of}
+use Rattle.kt_claims.specs.Arrivals.{AreSent, HasCome, IsHeld, all_received, numbers_of}
 use Rattle.kt_part.specs.Lanes.{ArePaired, IsDone}
-use Rattle.kt_part.specs.Numbers.{AreFirst, times}
-use Rattle.kt_part.specs.Passes.{IsPassOf, claims_of, left_of, workers_of}
-use Rattle.kt_part.specs.Slots.{held_at, next_of}
-use Rattle.kt_part.specs.declared.inbox.Arm.{Arm}
-use Rattle.kt_part.specs.declared.inbox.Inbox.{Inbox}
-use Rattle.kt_part.specs.declared.inbox.Item.{Item}
-use Rattle.kt_part.specs.declared.laws.Claims.{Claims}
-use Rattle.kt_part.specs.declared.laws.Pass.{Pass}
-use Rattle.kt_part.specs.declared.reorder.Reorder.{Reorder}
+use Rattle.kt_claims.specs.Numbers.{AreFirst, times}
+use Rattle.kt_claims.specs.Passes.{IsPassOf, claims_of, left_of, workers_of}
+use Rattle.kt_claims.specs.Slots.{held_at, next_of}
+use Rattle.kt_claims.specs.declared.inbox.Arm.{Arm}
+use Rattle.kt_claims.specs.declared.inbox.Inbox.{Inbox}
+use Rattle.kt_claims.specs.declared.inbox.Item.{Item}
+use Rattle.kt_claims.specs.declared.claims.Claims.{Claims}
+use Rattle.kt_claims.specs.declared.claims.Pass.{Pass}
+use Rattle.kt_claims.specs.declared.reorder.Reorder.{Reorder}
 use Rattle.std.specs.Prelude.{Option}
 
 module _ {B : Type 0} (made : ℕ → Option B → Type 0) (bound : ℕ) where

@@ -3,11 +3,11 @@
 use Rattle.std.specs.Prelude.{◌≡◌, ℕ, ◌+◌, ◌<◌, ◌≤◌, List, [], ◌∷◌, ◌++◌, All, length, slice_index_or, Option}
 use Rattle.rtrb.specs.Ring.{sent, known_free, IsPair, SameProducer, SameConsumer}
 use Rattle.rtrb.specs.declared.consumer.Consumer.{Consumer}
-use Rattle.kt_part.specs.Arrivals.{AreSent, all_received, numbers_of}
-use Rattle.kt_part.specs.Passes.{IsPassOf, claims_of, left_of}
-use Rattle.kt_part.specs.declared.inbox.Arm.{Arm}
-use Rattle.kt_part.specs.declared.inbox.Item.{Item}
-use Rattle.kt_part.specs.declared.laws.Claims.{Claims}
+use Rattle.kt_claims.specs.Arrivals.{AreSent, all_received, numbers_of}
+use Rattle.kt_claims.specs.Passes.{IsPassOf, claims_of, left_of}
+use Rattle.kt_claims.specs.declared.inbox.Arm.{Arm}
+use Rattle.kt_claims.specs.declared.inbox.Item.{Item}
+use Rattle.kt_claims.specs.declared.claims.Claims.{Claims}
 
 -- each lane is the same end of the same ring as before
 abbrev pub AreSame : {T A P : Type 0} → List (Consumer T A P) → List (Consumer T A P) → Type 0

@@ -1,9 +1,4 @@
 pub mod Folding
-pub mod Numbers
-pub mod Dealing
-pub mod Passes
-pub mod Slots
-pub mod Arrivals
 pub mod Lanes
 pub mod Claimed
 pub mod Gathering

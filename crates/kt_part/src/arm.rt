@@ -1,12 +1,11 @@
 //! What a worker does: it claims numbers, makes their blocks and sends them, until a number that it draws is none of the round.
 //! The rule: docs/ARCHITECTURE.md, "A run of all stages".
 ghost use Rattle.std.specs.Prelude.{◌≤◌, ◌<◌, All, length};
-ghost use Rattle.kt_part.specs.Arrivals.{IsMade};
+ghost use Rattle.kt_claims.specs.Arrivals.{IsMade};
 ghost use Rattle.kt_part.specs.Lanes.{HasWorked, HaveWorked, IsReady};
 
-use crate::inbox::{Arm, Item};
-use crate::laws::Claims;
 use crate::work::Work;
+use kt_claims::{Arm, Claims, Item};
 
 /// The draws of one worker: 16 numbers, and one that is none of the round.
 const DRAWS: u32 = 17;

@@ -2,19 +2,17 @@
 //! numbers.
 //! The rule: docs/ARCHITECTURE.md, "A run of all stages".
 ghost use Rattle.std.specs.Prelude.{◌<◌, ◌≤◌, ℕ, List};
-ghost use Rattle.kt_part.specs.Arrivals.{IsMade};
+ghost use Rattle.kt_claims.specs.Arrivals.{IsMade};
 ghost use Rattle.kt_part.specs.Claimed.{HasClaimed};
 ghost use Rattle.kt_part.specs.Folding.{RoundEnds};
 ghost use Rattle.kt_part.specs.Gathering.{AreGathered, AreHeld};
 
 use crate::fold::Fold;
-use crate::inbox::{Arm, Inbox};
 use crate::lanes::Lanes;
-use crate::laws::{Claims, Pass};
 use crate::merger::drain;
-use crate::reorder::Reorder;
 use crate::round::RoundStop;
 use crate::work::Work;
+use kt_claims::{Arm, Claims, Inbox, Pass, Reorder};
 
 /// Gathers the claims and the items of all workers. What was made for each number of the round is held then. The contract alone reads the work.
 pub(crate) fn gather<W: Work>(

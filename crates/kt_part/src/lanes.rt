@@ -3,10 +3,9 @@
 ghost use Rattle.std.specs.Prelude.{◌≡◌, ◌+◌, ◌≤◌, [], IfOk, OnErr, OnOk};
 ghost use Rattle.rtrb.specs.Ring.{received, IsPair};
 ghost use Rattle.kt_part.specs.Lanes.{AreLanes, IsReady};
-ghost use Rattle.kt_part.specs.Passes.{IsFresh, IsGivenOut, IsPassOf, claims_of, left_of, workers_of};
+ghost use Rattle.kt_claims.specs.Passes.{IsFresh, IsGivenOut, IsPassOf, claims_of, left_of, workers_of};
 
-use crate::inbox::{Arm, Lane};
-use crate::laws::{Claims, Pass};
+use kt_claims::{Arm, Claims, Lane, Pass};
 use rtrb::RingBuffer;
 use std::alloc::{AllocError, Global};
 

@@ -2,11 +2,11 @@
 //! The rule: docs/ARCHITECTURE.md, "A run of all stages".
 ghost use Rattle.std.specs.Prelude.{List, ◌++◌};
 ghost use Rattle.rtrb.specs.Ring.{received, sent, IsPair, SameConsumer};
-ghost use Rattle.kt_part.specs.Arrivals.{HasCome, all_received};
+ghost use Rattle.kt_claims.specs.Arrivals.{HasCome, all_received};
 ghost use Rattle.kt_part.specs.Lanes.{AreSame};
-ghost use Rattle.kt_part.specs.declared.inbox.Item.{Item};
+ghost use Rattle.kt_claims.specs.declared.inbox.Item.{Item};
 
-use crate::inbox::{Inbox, Item, Lane};
+use kt_claims::{Inbox, Item, Lane};
 use rtrb::Producer;
 use std::alloc::Global;
 

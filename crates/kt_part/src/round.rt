@@ -2,21 +2,19 @@
 //! The rule: docs/ARCHITECTURE.md, "A run of all stages".
 ghost use Rattle.std.specs.Prelude.{◌<◌, ◌≤◌, ℕ, All, List, length};
 ghost use Rattle.std.specs.Thread.{IsSync, IsSend};
-ghost use Rattle.kt_part.specs.Arrivals.{HasCome, IsMade, all_received};
+ghost use Rattle.kt_claims.specs.Arrivals.{HasCome, IsMade, all_received};
 ghost use Rattle.kt_part.specs.Claimed.{ClaimsAfter, WantsMemory};
 ghost use Rattle.kt_part.specs.Folding.{RoundEnds};
 ghost use Rattle.kt_part.specs.Lanes.{AreSame, HaveWorked, IsReady};
-ghost use Rattle.kt_part.specs.Passes.{IsFresh, IsPassOf};
+ghost use Rattle.kt_claims.specs.Passes.{IsFresh, IsPassOf};
 
 use crate::arm::run_last;
 use crate::fold::Fold;
 use crate::gather::{fold_held, gather};
-use crate::inbox::{Arm, Inbox, Lane};
 use crate::lanes::make_lanes;
-use crate::laws::{Claims, Pass};
 use crate::merger::merge;
-use crate::reorder::Reorder;
 use crate::work::Work;
+use kt_claims::{Arm, Claims, Inbox, Lane, Pass, Reorder};
 use std::alloc::Global;
 use std::thread::{Threads, join_mut};
 

@@ -9,9 +9,9 @@ use Rattle.std.proofs.lemmas.Map.Keys.{IsDistinct-cons}
 use Rattle.std.proofs.lemmas.Map.Made.{length-from_same_keys}
 use Rattle.kt_rec.specs.declared.perspective.CellKey.{CellKey}
 use Rattle.kt_period_cells.specs.CellKeys.{AreCellKeys}
-use Rattle.kt_period_cells.specs.Losses.{KeyLoss, cell_count, one_if, opened, opens, same_key, total}
-use Rattle.kt_period_cells.specs.SameKeys.{bool_same, same_exact, same_itself}
-use Rattle.kt_period_cells.specs.TotalLaws.{loss_for}
+use Rattle.kt_cell.specs.Losses.{KeyLoss, cell_count, one_if, opened, opens, same_key, total}
+use Rattle.kt_cell.specs.SameKeys.{bool_same, same_exact, same_itself}
+use Rattle.kt_cell.specs.TotalLaws.{loss_for}
 use Rattle.kt_period_cells.proofs.SameLosses.{total_first}
 use Rattle.kt_period_cells.proofs.Steps.{total_push}
 

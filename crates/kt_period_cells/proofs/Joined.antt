@@ -10,12 +10,12 @@ use Rattle.kt_period_cells.specs.declared.row.Row.{Row}
 use Rattle.kt_period_cells.specs.declared.row_key.IndexKey.{IndexKey}
 use Rattle.kt_period_cells.specs.declared.row_key.RowKey.{RowKey}
 use Rattle.kt_period_cells.specs.Journal.{Clear}
-use Rattle.kt_period_cells.specs.Losses.{KeyLoss, maximum, one_if, opened, opens, total}
+use Rattle.kt_cell.specs.Losses.{KeyLoss, maximum, one_if, opened, opens, total}
 use Rattle.kt_period_cells.specs.RowCells.{HasBound, RowFits}
 use Rattle.kt_period_cells.specs.Rows.{Apart, AreAbsent, IsIndexOf, IsTable, entries_of, index_key, place_of, row_entries, row_keys, row_of, same_index, same_row}
-use Rattle.kt_period_cells.specs.SameKeys.{same_itself}
-use Rattle.kt_period_cells.specs.Standing.{Standing, cell_at, cell_of, most_cells, most_total, total_in}
-use Rattle.kt_period_cells.specs.TotalLaws.{cell_some, loss_for}
+use Rattle.kt_cell.specs.SameKeys.{same_itself}
+use Rattle.kt_cell.specs.Standing.{Standing, cell_at, cell_of, most_cells, most_total, total_in}
+use Rattle.kt_cell.specs.TotalLaws.{cell_some, loss_for}
 use Rattle.kt_period_cells.proofs.Places.{keys_push, length_keys, not_first, place_more}
 use Rattle.kt_period_cells.proofs.RaisedRows.{clear_in_order}
 use Rattle.kt_period_cells.proofs.RowKeys.{row_exact, same_row_back}

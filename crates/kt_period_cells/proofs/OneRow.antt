@@ -3,15 +3,15 @@ use Rattle.std.proofs.Common.{◌≡◌, ◌≢◌, ℕ, suc, [], ◌∷◌, len
 use Rattle.std.specs.Prelude.{Bool, true, false, nat_eq}
 use Rattle.std.proofs.lemmas.Bool.Decides.{Decides-eqb}
 use Rattle.kt_rec.specs.declared.perspective.CellKey.{CellKey}
-use Rattle.kt_period_cells.specs.declared.cell.Cell.{Cell}
+use Rattle.kt_cell.specs.declared.cell.Cell.{Cell}
 use Rattle.kt_period_cells.specs.declared.row_key.RowKey.{RowKey}
 use Rattle.kt_period_cells.specs.declared.row.Row.{Row}
-use Rattle.kt_period_cells.specs.Losses.{same_key}
-use Rattle.kt_period_cells.specs.Standing.{cell_at}
-use Rattle.kt_period_cells.specs.Amounts.{sample_of}
+use Rattle.kt_cell.specs.Losses.{same_key}
+use Rattle.kt_cell.specs.Standing.{cell_at}
+use Rattle.kt_cell.specs.Amounts.{sample_of}
 use Rattle.kt_period_cells.specs.RowCells.{cells_of, SampleCells, cell_in, Changes}
 use Rattle.kt_period_cells.specs.Rows.{row_of, key_in, row_entries}
-use Rattle.kt_period_cells.specs.SameKeys.{same_exact, same_itself}
+use Rattle.kt_cell.specs.SameKeys.{same_exact, same_itself}
 use Rattle.kt_period_cells.proofs.RowKeys.{sample_back}
 
 -- what a row has for a key: the cell of its sample, where the key is of the row

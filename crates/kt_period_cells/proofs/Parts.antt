@@ -5,9 +5,9 @@ use Rattle.std.proofs.lemmas.Bool.{and_parts}
 use Rattle.std.proofs.lemmas.Bool.Decides.{Decides-eqb}
 use Rattle.kt_rec.specs.declared.perspective.Perspective.{Perspective}
 use Rattle.kt_rec.specs.declared.perspective.CellKey.{CellKey}
-use Rattle.kt_period_cells.specs.Losses.{same_perspective}
-use Rattle.kt_period_cells.specs.Sets.{in_set}
-use Rattle.kt_period_cells.specs.SameKeys.{perspective_same}
+use Rattle.kt_cell.specs.Losses.{same_perspective}
+use Rattle.kt_cell.specs.Sets.{in_set}
+use Rattle.kt_cell.specs.SameKeys.{perspective_same}
 
 -- a key that is in a set
 pub in_set_is : (p : Perspective) (s : ℕ) (key : CellKey) → in_set p s key ≡ true → (key.perspective ≡ p) × (key.set ≡ s)

@@ -6,10 +6,11 @@ use Rattle.std.proofs.Math.ListN.{replicate}
 use Rattle.std.proofs.lemmas.Bool.Decides.{nat_tests, Decides-eqb}
 use Rattle.std.proofs.lemmas.List.Elements.{All-head, All-tail, All-cons, All-weaker, All-from_get_or, All-get_or}
 use Rattle.std.proofs.lemmas.List.{length-set, length-take-le, take_more, get_or_default, get_or-take}
-use Rattle.kt_period_cells.specs.declared.cell.Cell.{Cell}
+use Rattle.kt_cell.specs.declared.cell.Cell.{Cell}
 use Rattle.kt_period_cells.specs.declared.row.Row.{Row}
-use Rattle.kt_period_cells.specs.RowCells.{SampleCells, with_place, placed, listed_or_placed, cells_of, HasPlace, IsWide, cell_in, sample_at, IsRising, CellFits, Changes, one_of}
-use Rattle.kt_period_cells.specs.SummaryRows.{has_total, has_any}
+use Rattle.kt_period_cells.specs.RowCells.{SampleCells, with_place, placed, listed_or_placed, cells_of, HasPlace, IsWide, cell_in, sample_at, IsRising, CellFits, Changes}
+use Rattle.kt_period_cells.specs.SummaryRows.{has_any}
+use Rattle.kt_cell.specs.Standing.{has_total, one_of}
 
 -- the cell of a place: none where its total is 0
 abbrev pub some_cell : Cell → Option Cell

@@ -1,13 +1,13 @@
 -- One loss put into rows: what is known of its row, and the entries and their number after it.
 use Rattle.std.proofs.Common.{◌≡◌, ℕ, ◌+◌, ◌<◌, ◌≤◌, List, length, get_or, set, arith, refl, ap, ◌∙◌}
 use Rattle.std.specs.Prelude.{true, Option, Some, None}
-use Rattle.kt_period_cells.specs.Amounts.{sample_of}
-use Rattle.kt_period_cells.specs.Standing.{cell_at, most_total, total_in, maximum_in, sidx_in_range}
+use Rattle.kt_cell.specs.Amounts.{sample_of}
+use Rattle.kt_cell.specs.Standing.{cell_at, most_total, total_in, maximum_in, sidx_in_range, one_of}
 use Rattle.kt_rec.specs.declared.perspective.CellKey.{CellKey}
-use Rattle.kt_period_cells.specs.declared.cell.Cell.{Cell}
+use Rattle.kt_cell.specs.declared.cell.Cell.{Cell}
 use Rattle.kt_period_cells.specs.declared.row_key.IndexKey.{IndexKey}
 use Rattle.kt_period_cells.specs.declared.row.Row.{Row}
-use Rattle.kt_period_cells.specs.RowCells.{cells_of, cell_in, RowFits, Changes, one_of}
+use Rattle.kt_period_cells.specs.RowCells.{cells_of, cell_in, RowFits, Changes}
 use Rattle.kt_period_cells.specs.Rows.{entries_of, row_keys, row_of, place_of, IsTable}
 use Rattle.kt_period_cells.proofs.Steps.{extra}
 use Rattle.kt_period_cells.proofs.Places.{placed_within}

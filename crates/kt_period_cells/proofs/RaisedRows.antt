@@ -12,18 +12,18 @@ use Rattle.std.proofs.lemmas.List.Elements.{All-head, All-tail, All-weaker}
 use Rattle.kt_rec.specs.declared.perspective.Perspective.{Perspective}
 use Rattle.kt_rec.specs.declared.perspective.CellKey.{CellKey}
 use Rattle.kt_stream.specs.declared.entry.Pair.{Pair}
-use Rattle.kt_period_cells.specs.declared.cell.Cell.{Cell}
+use Rattle.kt_cell.specs.declared.cell.Cell.{Cell}
 use Rattle.kt_period_cells.specs.declared.row.Row.{Row}
 use Rattle.kt_period_cells.specs.declared.row_key.RowKey.{RowKey}
 use Rattle.kt_period_cells.specs.declared.rows.Spot.{Spot}
-use Rattle.kt_period_cells.specs.Amounts.{sample_of}
+use Rattle.kt_cell.specs.Amounts.{sample_of}
 use Rattle.kt_period_cells.specs.Journal.{Clear}
-use Rattle.kt_period_cells.specs.Losses.{KeyLoss, key_of, same_key, has_cells, is_added, total, maximum, opened}
+use Rattle.kt_cell.specs.Losses.{KeyLoss, key_of, same_key, has_cells, is_added, total, maximum, opened}
 use Rattle.kt_period_cells.specs.Room.{Raises, added_sum}
-use Rattle.kt_period_cells.specs.RowCells.{AreLow, SampleCells, cells_of, cell_in, IsWide, Changes, one_of, placed}
+use Rattle.kt_period_cells.specs.RowCells.{AreLow, SampleCells, cells_of, cell_in, IsWide, Changes, placed}
 use Rattle.kt_period_cells.specs.Rows.{Apart, entries_of, key_in, place_of, row_entries, row_for, row_keys, spot_loss, spot_losses}
-use Rattle.kt_period_cells.specs.Standing.{FitsCells, Standing, cell_at, cell_of, most_cells, most_total, raised, sidx_in_range, total_in}
-use Rattle.kt_period_cells.specs.TotalLaws.{added_some, total_of_cell}
+use Rattle.kt_cell.specs.Standing.{FitsCells, Standing, cell_at, cell_of, most_cells, most_total, raised, sidx_in_range, total_in, one_of}
+use Rattle.kt_cell.specs.TotalLaws.{added_some, total_of_cell}
 use Rattle.kt_period_cells.proofs.PlacedCells.{placed_cells}
 use Rattle.kt_period_cells.proofs.Places.{keys_set, placed_within}
 use Rattle.kt_period_cells.proofs.Puts.{count_put}

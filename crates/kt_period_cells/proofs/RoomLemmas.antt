@@ -4,10 +4,10 @@ use Rattle.std.specs.Prelude.{Bool, true, false, nat_eq, nat_le, min, All}
 use Rattle.std.proofs.lemmas.Bool.Decides.{nat_tests}
 use Rattle.std.proofs.lemmas.List.{take_more}
 use Rattle.std.proofs.lemmas.List.Elements.{All-get_or, All-set, All-push, All-weaker}
-use Rattle.kt_period_cells.specs.declared.cell.Cell.{Cell}
+use Rattle.kt_cell.specs.declared.cell.Cell.{Cell}
 use Rattle.kt_period_cells.specs.declared.row.Row.{Row}
 use Rattle.kt_period_cells.specs.declared.rows.Spot.{Spot}
-use Rattle.kt_period_cells.specs.Standing.{raised, total_in, maximum_in, most_total}
+use Rattle.kt_cell.specs.Standing.{raised, total_in, maximum_in, most_total}
 use Rattle.kt_period_cells.specs.RowCells.{AreLow, cells_of, cell_in, placed, CellFits}
 use Rattle.kt_period_cells.specs.SummaryRows.{row_at}
 use Rattle.kt_period_cells.specs.Room.{IsRoomy, IsRoomyAt, AreRoomy}

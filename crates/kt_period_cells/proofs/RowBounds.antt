@@ -4,12 +4,12 @@ use Rattle.std.specs.Prelude.{ℤ, Bool, true, false, All, nat_eq, IfSome}
 use Rattle.std.proofs.lemmas.Bool.Decides.{nat_tests}
 use Rattle.std.proofs.lemmas.List.Elements.{All-set, All-append, All-cons, All-nil, All-head, All-tail, All-get_or}
 use Rattle.std.specs.Map.{lookup}
-use Rattle.kt_period_cells.specs.declared.cell.Cell.{Cell}
+use Rattle.kt_cell.specs.declared.cell.Cell.{Cell}
 use Rattle.kt_period_cells.specs.declared.row_key.RowKey.{RowKey}
 use Rattle.kt_period_cells.specs.declared.row_key.IndexKey.{IndexKey}
 use Rattle.kt_period_cells.specs.declared.row.Row.{Row}
-use Rattle.kt_period_cells.specs.Standing.{sidx_in_range, total_in, maximum_in, most_total, raised}
-use Rattle.kt_period_cells.specs.Amounts.{sample_of}
+use Rattle.kt_cell.specs.Standing.{sidx_in_range, total_in, maximum_in, most_total, raised}
+use Rattle.kt_cell.specs.Amounts.{sample_of}
 use Rattle.kt_period_cells.specs.RowCells.{AreLow, HasBound, cells_of, IsWide, SampleCells, cell_in, listed_or_placed, placed, with_place, RowFits, CellFits, Changes}
 use Rattle.kt_period_cells.specs.Rows.{index_key, same_index, same_row, row_keys, place_of, key_in, entries_of, IsTable}
 use Rattle.kt_period_cells.proofs.RowKeys.{sample_within}

@@ -5,11 +5,12 @@ use Rattle.std.specs.List.{insert, remove}
 use Rattle.std.proofs.lemmas.List.Edits.{length-insert, get_or-insert_below, get_or-insert_at, get_or-insert_above, get_or-remove_below, get_or-remove_above, length-remove}
 use Rattle.std.proofs.lemmas.Bool.Decides.{nat_tests}
 use Rattle.std.proofs.lemmas.Grind.{common_steps}
-use Rattle.kt_period_cells.specs.declared.cell.Cell.{Cell}
+use Rattle.kt_cell.specs.declared.cell.Cell.{Cell}
 use Rattle.std.proofs.lemmas.List.{length-set}
 use Rattle.std.proofs.lemmas.List.Elements.{All-set, All-append, All-take, All-drop, All-cons}
 use Rattle.kt_period_cells.specs.declared.row.Row.{Row}
-use Rattle.kt_period_cells.specs.RowCells.{SampleCells, cells_of, cell_in, sample_at, IsRising, IsAt, IsGap, CellFits, Changes, Lowers, one_of}
+use Rattle.kt_period_cells.specs.RowCells.{SampleCells, cells_of, cell_in, sample_at, IsRising, IsAt, IsGap, CellFits, Changes, Lowers}
+use Rattle.kt_cell.specs.Standing.{one_of}
 use Rattle.kt_period_cells.proofs.PlacedCells.{wide_same, listed_cells}
 use Rattle.kt_period_cells.proofs.RowCells.{none, at_tail, cell_absent, cell_set, cell_insert, none_before, cell_found, cell_in_gap}
 

@@ -6,9 +6,9 @@ use Rattle.kt_rec.specs.declared.perspective.Perspective.{Perspective}
 use Rattle.kt_rec.specs.declared.perspective.Perspective.TheVariants.{Gul, Il, Ri}
 use Rattle.kt_rec.specs.declared.perspective.CellKey.{CellKey}
 use Rattle.kt_period_cells.specs.declared.row_key.RowKey.{RowKey}
-use Rattle.kt_period_cells.specs.Losses.{key_of}
-use Rattle.kt_period_cells.specs.Standing.{sidx_in_range}
-use Rattle.kt_period_cells.specs.Amounts.{sample_of}
+use Rattle.kt_cell.specs.Losses.{key_of}
+use Rattle.kt_cell.specs.Standing.{sidx_in_range}
+use Rattle.kt_cell.specs.Amounts.{sample_of}
 use Rattle.kt_period_cells.specs.Rows.{perspective_number, same_row, row_for, row_of, sidx_of, key_in}
 
 -- perspectives of the same number are the same

@@ -10,13 +10,13 @@ use Rattle.std.proofs.lemmas.Bool.Decides.{nat_tests}
 use Rattle.kt_rec.specs.declared.perspective.Perspective.{Perspective}
 use Rattle.kt_rec.specs.declared.perspective.CellKey.{CellKey}
 use Rattle.kt_stream.specs.declared.entry.Pair.{Pair}
-use Rattle.kt_period_cells.specs.declared.cell.CellStop.TheVariants as cell_stop
+use Rattle.kt_cell.specs.declared.cell.CellStop.TheVariants as cell_stop
 use Rattle.kt_period_cells.specs.declared.rows.Spot.{Spot}
-use Rattle.kt_period_cells.specs.Losses.{KeyLoss, same_key, total, maximum, opens, opened, one_if, cell_count, is_added}
-use Rattle.kt_period_cells.specs.Standing.{stop_at, or_else, first_stop, most_cells, most_total}
+use Rattle.kt_cell.specs.Losses.{KeyLoss, same_key, total, maximum, opens, opened, one_if, cell_count, is_added}
+use Rattle.kt_cell.specs.Standing.{stop_at, or_else, first_stop, most_cells, most_total}
 use Rattle.kt_period_cells.specs.Rows.{spot_loss, spot_losses}
-use Rattle.kt_period_cells.specs.SameKeys.{same_exact, same_itself}
-use Rattle.kt_period_cells.specs.TotalLaws.{loss_for}
+use Rattle.kt_cell.specs.SameKeys.{same_exact, same_itself}
+use Rattle.kt_cell.specs.TotalLaws.{loss_for}
 use Rattle.kt_period_cells.proofs.Steps.{total_push}
 
 -- lists that add the same to each total, each maximum and the number of cells

@@ -7,12 +7,12 @@ use Rattle.std.specs.Map.{keys_of}
 use Rattle.std.proofs.lemmas.Bool.Decides.{nat_tests}
 use Rattle.std.proofs.lemmas.List.Elements.{All-head, All-tail, All-nil, All-cons, All-append}
 use Rattle.kt_rec.specs.declared.perspective.CellKey.{CellKey}
-use Rattle.kt_period_cells.specs.declared.cell.Cell.{Cell}
+use Rattle.kt_cell.specs.declared.cell.Cell.{Cell}
 use Rattle.kt_period_cells.specs.declared.row_key.RowKey.{RowKey}
 use Rattle.kt_period_cells.specs.declared.row.Row.{Row}
-use Rattle.kt_period_cells.specs.Losses.{same_key}
-use Rattle.kt_period_cells.specs.Standing.{FitsCells, cell_at, sidx_in_range}
-use Rattle.kt_period_cells.specs.Amounts.{sample_of}
+use Rattle.kt_cell.specs.Losses.{same_key}
+use Rattle.kt_cell.specs.Standing.{FitsCells, cell_at, sidx_in_range}
+use Rattle.kt_cell.specs.Amounts.{sample_of}
 use Rattle.kt_period_cells.specs.RowCells.{SampleCells, cells_of, CellFits, RowFits, IsRising, cell_in}
 use Rattle.kt_period_cells.specs.Rows.{sidx_of, key_in, row_entries, entries_of, row_keys, Apart}
 use Rattle.kt_period_cells.proofs.RowCells.{cell_absent}

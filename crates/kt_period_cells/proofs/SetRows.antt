@@ -9,14 +9,14 @@ use Rattle.std.proofs.lemmas.List.Elements.{All-head, All-tail, All-nil, All-con
 use Rattle.std.proofs.lemmas.Map.Made.{IsDistinct-keys_filter}
 use Rattle.kt_rec.specs.declared.perspective.Perspective.{Perspective}
 use Rattle.kt_rec.specs.declared.perspective.CellKey.{CellKey}
-use Rattle.kt_period_cells.specs.declared.cell.Cell.{Cell}
+use Rattle.kt_cell.specs.declared.cell.Cell.{Cell}
 use Rattle.kt_period_cells.specs.declared.row_key.RowKey.{RowKey}
 use Rattle.kt_period_cells.specs.declared.row_key.IndexKey.{IndexKey}
 use Rattle.kt_period_cells.specs.declared.row.Row.{Row}
 use Rattle.kt_period_cells.specs.declared.group.SummaryRow.{SummaryRow}
-use Rattle.kt_period_cells.specs.Losses.{same_key, same_perspective, key_of}
-use Rattle.kt_period_cells.specs.Sets.{IsGroup, in_set, set_entries, summary_entries}
-use Rattle.kt_period_cells.specs.Standing.{FitsCells}
+use Rattle.kt_cell.specs.Losses.{same_key, same_perspective, key_of}
+use Rattle.kt_cell.specs.Sets.{IsGroup, in_set, set_entries, summary_entries}
+use Rattle.kt_cell.specs.Standing.{FitsCells}
 use Rattle.kt_period_cells.specs.RowCells.{SampleCells, cells_of}
 use Rattle.kt_period_cells.specs.Rows.{KeptRows, key_in, row_entries, entries_of, IsTable}
 use Rattle.kt_period_cells.specs.SummaryRows.{has_any, row_at, entries_in, place_entries, of_row, of_summary, summary_row, is_listed, places_from, IsSetOf}

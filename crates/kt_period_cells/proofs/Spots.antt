@@ -8,7 +8,7 @@ use Rattle.kt_rec.specs.declared.perspective.Perspective.{Perspective}
 use Rattle.kt_rec.specs.declared.periods.Occurrence.{Occurrence}
 use Rattle.kt_stream.specs.declared.entry.Pair.{Pair}
 use Rattle.kt_period_cells.specs.declared.rows.Spot.{Spot}
-use Rattle.kt_period_cells.specs.Losses.{KeyLoss, key_of, loss_at, pair_losses, is_added}
+use Rattle.kt_cell.specs.Losses.{KeyLoss, key_of, loss_at, pair_losses, is_added}
 use Rattle.kt_period_cells.specs.Rows.{spot_loss, spot_losses}
 
 -- the periods of rows

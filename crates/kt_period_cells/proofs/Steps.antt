@@ -4,13 +4,13 @@ use Rattle.std.specs.Prelude.{Bool, true, false, ◌&&◌, max, nat_lt, nat_eq, 
 use Rattle.std.proofs.lemmas.List.Sums.{sum_by_push}
 use Rattle.std.proofs.lemmas.Bool.Decides.{nat_tests}
 use Rattle.kt_rec.specs.declared.perspective.CellKey.{CellKey}
-use Rattle.kt_period_cells.specs.declared.cell.Cell.{Cell}
-use Rattle.kt_period_cells.specs.declared.cell.CellStop.{CellStop}
-use Rattle.kt_period_cells.specs.declared.cell.CellStop.TheVariants as cell_stop
-use Rattle.kt_period_cells.specs.Losses.{KeyLoss, same_key, total, maximum, opens, opened, one_if, cell_count}
-use Rattle.kt_period_cells.specs.Standing.{Standing, stop_at, refusal_of, cell_of, cell_at, raised, total_in, maximum_in, most_cells, most_total}
-use Rattle.kt_period_cells.specs.SameKeys.{same_exact, same_itself}
-use Rattle.kt_period_cells.specs.TotalLaws.{loss_for, cell_some, total_of_cell, maximum_of_cell, maximum-le-total}
+use Rattle.kt_cell.specs.declared.cell.Cell.{Cell}
+use Rattle.kt_cell.specs.declared.cell.CellStop.{CellStop}
+use Rattle.kt_cell.specs.declared.cell.CellStop.TheVariants as cell_stop
+use Rattle.kt_cell.specs.Losses.{KeyLoss, same_key, total, maximum, opens, opened, one_if, cell_count}
+use Rattle.kt_cell.specs.Standing.{Standing, stop_at, refusal_of, cell_of, cell_at, raised, total_in, maximum_in, most_cells, most_total}
+use Rattle.kt_cell.specs.SameKeys.{same_exact, same_itself}
+use Rattle.kt_cell.specs.TotalLaws.{loss_for, cell_some, total_of_cell, maximum_of_cell, maximum-le-total}
 
 -- a loss that falls to a key
 abbrev pub to_key : CellKey → ℕ → KeyLoss

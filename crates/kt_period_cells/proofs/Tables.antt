@@ -4,15 +4,15 @@ use Rattle.std.specs.Prelude.{Bool, true, false}
 use Rattle.std.specs.Option.{option_or}
 use Rattle.std.proofs.lemmas.List.{length-append, get_or_default}
 use Rattle.kt_rec.specs.declared.perspective.CellKey.{CellKey}
-use Rattle.kt_period_cells.specs.declared.cell.Cell.{Cell}
+use Rattle.kt_cell.specs.declared.cell.Cell.{Cell}
 use Rattle.kt_period_cells.specs.declared.row_key.RowKey.{RowKey}
 use Rattle.kt_period_cells.specs.declared.row.Row.{Row}
-use Rattle.kt_period_cells.specs.Losses.{same_key}
-use Rattle.kt_period_cells.specs.Standing.{cell_at, sidx_in_range}
-use Rattle.kt_period_cells.specs.Amounts.{sample_of}
+use Rattle.kt_cell.specs.Losses.{same_key}
+use Rattle.kt_cell.specs.Standing.{cell_at, sidx_in_range}
+use Rattle.kt_cell.specs.Amounts.{sample_of}
 use Rattle.kt_period_cells.specs.RowCells.{cells_of, cell_in, Changes}
 use Rattle.kt_period_cells.specs.Rows.{same_row, row_of, key_in, row_entries, entries_of, row_keys, place_of, Apart}
-use Rattle.kt_period_cells.specs.SameKeys.{same_exact, same_itself}
+use Rattle.kt_cell.specs.SameKeys.{same_exact, same_itself}
 use Rattle.kt_period_cells.proofs.RowKeys.{row_exact, row_itself, key_back}
 use Rattle.kt_period_cells.proofs.OneRow.{row_cell, other_row, row_changes, length_row}
 use Rattle.kt_period_cells.proofs.Places.{not_first, found_first, found_later, placed_key}

@@ -3,15 +3,15 @@ use Rattle.std.proofs.Common.{◌≡◌, ◌⊎◌, inl, inr, ⊎_elim, ℕ, zer
 use Rattle.std.specs.Prelude.{Bool, true, false, All, Option, Some, None, IfSome, nat_eq, nat_le}
 use Rattle.std.proofs.lemmas.Bool.Decides.{nat_tests, Decides-eqb}
 use Rattle.std.proofs.lemmas.List.Elements.{All-head, All-tail}
-use Rattle.kt_period_cells.specs.Amounts.{sample_of}
-use Rattle.kt_period_cells.specs.Losses.{KeyLoss, maximum, same_key}
-use Rattle.kt_period_cells.specs.Standing.{Standing, cell_at, most_total}
+use Rattle.kt_cell.specs.Amounts.{sample_of}
+use Rattle.kt_cell.specs.Losses.{KeyLoss, maximum, same_key}
+use Rattle.kt_cell.specs.Standing.{Standing, cell_at, most_total, one_of}
 use Rattle.kt_rec.specs.declared.perspective.CellKey.{CellKey}
-use Rattle.kt_period_cells.specs.declared.cell.Cell.{Cell}
+use Rattle.kt_cell.specs.declared.cell.Cell.{Cell}
 use Rattle.kt_period_cells.specs.declared.row.Row.{Row}
-use Rattle.kt_period_cells.specs.RowCells.{cells_of, SampleCells, cell_in, CellFits, RowFits, Changes, Lowers, lowered, one_of}
+use Rattle.kt_period_cells.specs.RowCells.{cells_of, SampleCells, cell_in, CellFits, RowFits, Changes, Lowers, lowered}
 use Rattle.kt_period_cells.specs.Rows.{entries_of, row_entries, row_keys, row_of, key_in, place_of, Apart}
-use Rattle.kt_period_cells.specs.SameKeys.{same_exact}
+use Rattle.kt_cell.specs.SameKeys.{same_exact}
 use Rattle.kt_period_cells.proofs.Steps.{to_key, take_out, take_down, never_missing}
 use Rattle.kt_period_cells.proofs.Tables.{length_set, entries_set, found_row, nowhere, cell_is}
 use Rattle.kt_period_cells.proofs.OneRow.{length_row, row_changes, row_cell}

@@ -5,12 +5,12 @@ use Rattle.std.specs.List.{flat_map}
 use Rattle.std.proofs.lemmas.List.{map-append, take_more}
 use Rattle.std.proofs.lemmas.Grind.{flat_map-append}
 use Rattle.std.proofs.lemmas.List.Concat.{flat_map-cons}
-use Rattle.kt_period_cells.specs.declared.cell.Cell.{Cell}
-use Rattle.kt_period_cells.specs.declared.cell.Change.{Change}
-use Rattle.kt_period_cells.specs.declared.cell.CellStop.{CellStop}
+use Rattle.kt_cell.specs.declared.cell.Cell.{Cell}
+use Rattle.kt_cell.specs.declared.cell.Change.{Change}
+use Rattle.kt_cell.specs.declared.cell.CellStop.{CellStop}
 use Rattle.kt_rec.specs.declared.perspective.CellKey.{CellKey}
-use Rattle.kt_period_cells.specs.Losses.{KeyLoss, Added, all_losses, losses_of, maximum}
-use Rattle.kt_period_cells.specs.Standing.{Standing, stop_at, first_stop, or_else}
+use Rattle.kt_cell.specs.Losses.{KeyLoss, Added, all_losses, losses_of, maximum}
+use Rattle.kt_cell.specs.Standing.{Standing, stop_at, first_stop, or_else}
 use Rattle.kt_period_cells.specs.Journal.{loss_of, noted_losses, Recalls, Going, Returns}
 
 -- the first of three causes

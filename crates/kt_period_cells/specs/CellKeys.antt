@@ -3,7 +3,7 @@
 use Rattle.std.specs.Prelude.{◌≡◌, List, nat_lt}
 use Rattle.std.specs.List.{IsDistinct, list_any}
 use Rattle.kt_rec.specs.declared.perspective.CellKey.{CellKey}
-use Rattle.kt_period_cells.specs.Losses.{KeyLoss, same_key, total}
+use Rattle.kt_cell.specs.Losses.{KeyLoss, same_key, total}
 
 -- these are the keys with a cell: each stands once, and a key is one of them exactly where its total is above 0
 pub record AreCellKeys (losses : List KeyLoss) (keys : List CellKey) : Type 0 where

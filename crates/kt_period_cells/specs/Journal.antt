@@ -2,12 +2,12 @@
 -- The rule: docs/CALCULATION.md, "Periods".
 use Rattle.std.specs.Prelude.{◌≡◌, ◌⊎◌, ◌≤◌, Bool, true, false, List, [], ◌∷◌, ◌++◌, map, Result, Ok, Err, Some, None}
 use Rattle.kt_rec.specs.declared.perspective.CellKey.{CellKey}
-use Rattle.kt_period_cells.specs.declared.cell.Cell.{Cell}
-use Rattle.kt_period_cells.specs.declared.cell.Change.{Change}
-use Rattle.kt_period_cells.specs.declared.cell.CellStop.{CellStop}
-use Rattle.kt_period_cells.specs.declared.cell.CellStop.TheVariants as cell_stop
-use Rattle.kt_period_cells.specs.Losses.{KeyLoss, Added, all_losses, losses_of, maximum}
-use Rattle.kt_period_cells.specs.Standing.{Standing, StandsFor, KeptCells, stop_at, first_stop}
+use Rattle.kt_cell.specs.declared.cell.Cell.{Cell}
+use Rattle.kt_cell.specs.declared.cell.Change.{Change}
+use Rattle.kt_cell.specs.declared.cell.CellStop.{CellStop}
+use Rattle.kt_cell.specs.declared.cell.CellStop.TheVariants as cell_stop
+use Rattle.kt_cell.specs.Losses.{KeyLoss, Added, all_losses, losses_of, maximum}
+use Rattle.kt_cell.specs.Standing.{Standing, StandsFor, KeptCells, stop_at, first_stop}
 
 -- what one more loss does to cells that stand for these losses: they stand for the list with the loss last, or they stand
 -- for the list as it was and the answer is the cause, or want of memory

@@ -1,13 +1,7 @@
-pub mod Losses
-pub mod Standing
-pub mod SameKeys
-pub mod TotalLaws
 pub mod Outcomes
 pub mod RowCells
 pub mod Rows
 pub mod Journal
-pub mod Sets
-pub mod Amounts
 pub mod SummaryRows
 pub mod Room
 pub mod CellKeys

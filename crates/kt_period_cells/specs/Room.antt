@@ -6,8 +6,8 @@ use Rattle.kt_rec.specs.declared.perspective.Perspective.{Perspective}
 use Rattle.kt_stream.specs.declared.entry.Pair.{Pair}
 use Rattle.kt_period_cells.specs.declared.row.Row.{Row}
 use Rattle.kt_period_cells.specs.declared.rows.Spot.{Spot}
-use Rattle.kt_period_cells.specs.Losses.{KeyLoss, is_added}
-use Rattle.kt_period_cells.specs.Standing.{Standing, most_total}
+use Rattle.kt_cell.specs.Losses.{KeyLoss, is_added}
+use Rattle.kt_cell.specs.Standing.{Standing, most_total}
 use Rattle.kt_period_cells.specs.RowCells.{AreLow, RowFits, cells_of}
 use Rattle.kt_period_cells.specs.Rows.{Apart, entries_of, place_of, row_for, row_keys, spot_losses}
 use Rattle.kt_period_cells.specs.SummaryRows.{row_at}

@@ -1,10 +1,10 @@
 -- The cells of a row: what one summary has in one period, by rising sample.
 -- The rules: docs/CALCULATION.md, "Periods".
-use Rattle.std.specs.Prelude.{ℕ, suc, ◌≡◌, ◌+◌, ◌<◌, ◌≤◌, Bool, true, false, List, [], ◌∷◌, length, All, Option, Some, None, is_some, nat_eq, nat_le, slice_index_or, if◌then◌else◌, IfSome, ◌-◌}
+use Rattle.std.specs.Prelude.{ℕ, suc, ◌≡◌, ◌+◌, ◌<◌, ◌≤◌, Bool, true, false, List, [], ◌∷◌, length, All, Option, Some, None, nat_eq, nat_le, slice_index_or, if◌then◌else◌, IfSome, ◌-◌}
 use Rattle.std.specs.Map.{lookup}
-use Rattle.kt_period_cells.specs.declared.cell.Cell.{Cell}
+use Rattle.kt_cell.specs.declared.cell.Cell.{Cell}
 use Rattle.kt_period_cells.specs.declared.row.Row.{Row}
-use Rattle.kt_period_cells.specs.Standing.{most_total}
+use Rattle.kt_cell.specs.Standing.{most_total, one_of}
 
 -- cells, each with its sample, that of the mean being 0
 abbrev pub SampleCells : Type 0
@@ -84,10 +84,6 @@ pub record RowFits (periods samples : ℕ) (row : Row) : Type 0 where
   pub wide : IsWide samples row.places.items
   pub rising : IsRising (cells_of row)
   pub cells : All (CellFits samples) (cells_of row)
-
--- how many cells there are of a key: one or none
-abbrev pub one_of : Option Cell → ℕ
-one_of found = if is_some found then 1 else 0
 
 -- the second row has the cells of the first but for one sample, which has this cell, or none
 pub record Changes (old new : Row) (sample : ℕ) (cell : Option Cell) : Type 0 where

@@ -6,13 +6,13 @@ use Rattle.std.specs.Map.{lookup}
 use Rattle.kt_rec.specs.declared.perspective.Perspective.{Perspective}
 use Rattle.kt_rec.specs.declared.perspective.Perspective.TheVariants.{Gul, Il, Ri}
 use Rattle.kt_rec.specs.declared.perspective.CellKey.{CellKey}
-use Rattle.kt_period_cells.specs.declared.cell.Cell.{Cell}
+use Rattle.kt_cell.specs.declared.cell.Cell.{Cell}
 use Rattle.kt_period_cells.specs.declared.row_key.RowKey.{RowKey}
 use Rattle.kt_period_cells.specs.declared.row_key.IndexKey.{IndexKey}
 use Rattle.kt_period_cells.specs.declared.row.Row.{Row}
 use Rattle.kt_period_cells.specs.declared.rows.Spot.{Spot}
 use Rattle.kt_stream.specs.declared.entry.Pair.{Pair}
-use Rattle.kt_period_cells.specs.Losses.{KeyLoss, key_of, is_added}
+use Rattle.kt_cell.specs.Losses.{KeyLoss, key_of, is_added}
 use Rattle.kt_period_cells.specs.RowCells.{HasBound, RowFits, cells_of}
 
 -- the number of a perspective

@@ -6,21 +6,17 @@ use Rattle.std.specs.Map.{keys_of}
 use Rattle.kt_rec.specs.declared.perspective.Perspective.{Perspective}
 use Rattle.kt_rec.specs.declared.perspective.CellKey.{CellKey}
 use Rattle.kt_rec.specs.Rising.{IsRising as IdsRise}
-use Rattle.kt_period_cells.specs.declared.cell.Cell.{Cell}
+use Rattle.kt_cell.specs.declared.cell.Cell.{Cell}
 use Rattle.kt_period_cells.specs.declared.row.Row.{Row}
 use Rattle.kt_period_cells.specs.declared.group.SummaryRow.{SummaryRow}
 use Rattle.kt_period_cells.specs.declared.group.SummaryCells.{SummaryCells}
 use Rattle.kt_period_cells.specs.declared.group.SetCells.{SetCells}
-use Rattle.kt_period_cells.specs.Losses.{same_perspective}
-use Rattle.kt_period_cells.specs.Sets.{same_bool, in_set, set_entries, summary_entries, IsGroup}
-use Rattle.kt_period_cells.specs.Amounts.{amount_in}
+use Rattle.kt_cell.specs.Losses.{same_perspective}
+use Rattle.kt_cell.specs.Sets.{same_bool, in_set, set_entries, summary_entries, IsGroup}
+use Rattle.kt_cell.specs.Amounts.{amount_in}
 use Rattle.kt_period_cells.specs.RowCells.{SampleCells, cells_of, IsRising, RowFits}
 use Rattle.kt_period_cells.specs.Rows.{row_entries, entries_of, KeptRows}
-use Rattle.kt_period_cells.specs.Standing.{KeptCells}
-
--- whether a place has a cell
-abbrev pub has_total : Cell → Bool
-has_total one = not (nat_eq one.total 0)
+use Rattle.kt_cell.specs.Standing.{KeptCells, has_total}
 
 -- the amount of a place that has a cell
 abbrev pub cell_amount : Bool → Cell → List ℕ

@@ -1,14 +1,14 @@
 //! The period totals and maxima of all records that were added.
 //! The rules: docs/CALCULATION.md, "Periods".
 ghost use Rattle.std.specs.Prelude.{◌≡◌, ◌≤◌, ◌^◌, pos, ◌≤ℤ◌, List, [], All, IfOk};
-ghost use Rattle.kt_period_cells.specs.Losses.{Added};
-ghost use Rattle.kt_period_cells.specs.Standing.{StandsFor};
+ghost use Rattle.kt_cell.specs.Losses.{Added};
+ghost use Rattle.kt_cell.specs.Standing.{StandsFor};
 ghost use Rattle.kt_period_cells.specs.Journal.{Adds, TakesOver};
 ghost use Rattle.kt_period_cells.specs.SummaryRows.{IsOwnSet};
 
-use crate::cell::{CellStop, adds_any};
 use crate::group::SetCells;
 use crate::rows::Rows;
+use kt_cell::{CellStop, adds_any};
 use kt_money::OutOfMemory;
 use kt_rec::{Occurrence, Perspective};
 use kt_stream::SummaryRecord;
@@ -26,7 +26,7 @@ pub struct Cells {
 }
 
 impl Model for Cells {
-    ghost use Rattle.kt_period_cells.specs.Standing.{KeptCells};
+    ghost use Rattle.kt_cell.specs.Standing.{KeptCells};
     ghost use Rattle.kt_period_cells.specs.Rows.{entries_of};
 
     ghost Value = { KeptCells };

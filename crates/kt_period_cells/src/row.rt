@@ -3,12 +3,11 @@
 ghost use Rattle.std.specs.Prelude.{◌≡◌, ◌⊎◌, ◌+◌, ◌≤◌, [], IfOk, IfSome, OnOk, OnErr, Some, None, true, is_some, length};
 ghost use Rattle.std.specs.List.{list_any};
 ghost use Rattle.kt_period_cells.specs.RowCells.{AreLow, HasBound, IsRising, HasPlace, IsWide, Changes, Lowers, cell_in, cells_of, placed};
-ghost use Rattle.kt_period_cells.specs.Standing.{most_total};
-ghost use Rattle.kt_period_cells.specs.SummaryRows.{has_any, has_total};
+ghost use Rattle.kt_cell.specs.Standing.{most_total, has_total};
+ghost use Rattle.kt_period_cells.specs.SummaryRows.{has_any};
 
-use crate::cell::{Cell, has_total};
-use crate::raising::MOST_TOTAL;
 use crate::row_key::RowKey;
+use kt_cell::{Cell, MOST_TOTAL, has_total};
 use kt_money::OutOfMemory;
 use std::alloc::Global;
 

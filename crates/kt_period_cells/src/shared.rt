@@ -1,7 +1,7 @@
 //! The types of this crate may be sent to threads and shared by them.
 //! The rule: docs/ARCHITECTURE.md, "What threads share".
-use crate::cell::CellStop;
 use crate::cells::Cells;
+use kt_cell::CellStop;
 
 /// Names types that may be sent to threads and shared by them.
 fn are_shared<T: Send + Sync>() {}

@@ -1,9 +1,9 @@
 -- Where the stage stands after a step.
 use Rattle.std.proofs.Common.{◌≡◌, ◌⊎◌, ℕ, List, [], ◌∷◌, ◌++◌, Option, Some, None, Err, refl, ap, sym, subst, inl, inr, append-nil, ◌∙◌}
-use Rattle.kt_period_cells.specs.Losses.{Added, all_losses, losses_of}
-use Rattle.kt_period_cells.specs.Standing.{KeptCells, StandsFor, first_stop}
-use Rattle.kt_period_cells.specs.declared.cell.CellStop.{CellStop}
-use Rattle.kt_period_cells.specs.declared.cell.CellStop.TheVariants as cell_stop
+use Rattle.kt_cell.specs.Losses.{Added, all_losses, losses_of}
+use Rattle.kt_cell.specs.Standing.{KeptCells, StandsFor, first_stop}
+use Rattle.kt_cell.specs.declared.cell.CellStop.{CellStop}
+use Rattle.kt_cell.specs.declared.cell.CellStop.TheVariants as cell_stop
 use Rattle.kt_loop.specs.Steps.{StepsBy, StepsOn}
 use Rattle.kt_periods.specs.Adding.{added_of, record_refusal, refusal_of}
 use Rattle.kt_periods.specs.PeriodTables.{PeriodSums, added_unless, period_calculation}

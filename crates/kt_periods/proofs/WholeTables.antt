@@ -1,7 +1,7 @@
 -- The table that is made step by step is the table of all records.
 use Rattle.std.proofs.Common.{◌≡◌, List, [], ◌∷◌, ◌++◌, Option, Some, None, Ok, Err, refl, ap, sym, ◌∙◌, append_assoc, append-nil}
 use Rattle.std.specs.Option.{option_or}
-use Rattle.kt_period_cells.specs.Losses.{Added, all_losses}
+use Rattle.kt_cell.specs.Losses.{Added, all_losses}
 use Rattle.kt_ends.specs.declared.status.Refusal.{Refusal}
 use Rattle.kt_loop.specs.Calculation.{Course, behind, took_all}
 use Rattle.kt_loop.specs.Contents.{Contents}

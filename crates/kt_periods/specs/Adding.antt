@@ -2,10 +2,10 @@
 -- The rules: docs/CALCULATION.md, "Periods"; docs/REFUSALS.md, "Order".
 use Rattle.std.specs.Prelude.{ℕ, List, [], ◌∷◌, ◌++◌, map, Option, Some, None}
 use Rattle.std.specs.Option.{option_or}
-use Rattle.kt_period_cells.specs.Losses.{Added, all_losses, losses_of}
-use Rattle.kt_period_cells.specs.Standing.{first_stop}
-use Rattle.kt_period_cells.specs.declared.cell.CellStop.{CellStop}
-use Rattle.kt_period_cells.specs.declared.cell.CellStop.TheVariants as cell_stop
+use Rattle.kt_cell.specs.Losses.{Added, all_losses, losses_of}
+use Rattle.kt_cell.specs.Standing.{first_stop}
+use Rattle.kt_cell.specs.declared.cell.CellStop.{CellStop}
+use Rattle.kt_cell.specs.declared.cell.CellStop.TheVariants as cell_stop
 use Rattle.kt_ends.specs.declared.status.Refusal.{Refusal}
 use Rattle.kt_ends.specs.declared.status.Refusal.TheVariants as refusal
 use Rattle.kt_rec.specs.Rows.{Rows}

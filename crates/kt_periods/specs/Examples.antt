@@ -9,7 +9,7 @@ use Rattle.kt_money.specs.NumberText.{padded_digits, plain}
 use Rattle.kt_money.specs.Rounding.{root}
 use Rattle.kt_money.specs.RoundingLaws.{deviation-unique, deviation_of-is}
 use Rattle.kt_curve.specs.Average.{aal_heading_text, aal_row}
-use Rattle.kt_period_cells.specs.Losses.{key_of}
+use Rattle.kt_cell.specs.Losses.{key_of}
 use Rattle.kt_rec.specs.declared.curve.Curve.TheVariants.{FullAep, WheatOep}
 use Rattle.kt_ends.specs.Outcome.{Outcome}
 use Rattle.kt_ends.specs.declared.status.Refusal.TheVariants.{Stream, Period}

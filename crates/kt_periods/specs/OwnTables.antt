@@ -6,14 +6,14 @@ use Rattle.std.proofs.Common.{sym, ap, ◌∙◌, append-nil}
 use Rattle.std.proofs.lemmas.Grind.{flat_map-append}
 use Rattle.kt_curve.specs.Average.{aal_heading_text}
 use Rattle.kt_curve.specs.Exceedance.{by_sidx, lec_heading_text}
-use Rattle.kt_period_cells.specs.Losses.{Added, KeyLoss, all_losses, losses_of}
+use Rattle.kt_cell.specs.Losses.{Added, KeyLoss, all_losses, losses_of}
 use Rattle.kt_curve.specs.OwnLosses.{own_records}
 use Rattle.kt_curve.specs.OwnStops.{no_memory_stop, own_not_stopped}
 use Rattle.kt_period_cells.proofs.Walks.{first_stop_append, neither_stops}
 use Rattle.kt_curve.specs.OwnTables.{own_averages, own_curves}
-use Rattle.kt_period_cells.specs.Standing.{first_stop, or_else}
-use Rattle.kt_period_cells.specs.declared.cell.CellStop.{CellStop}
-use Rattle.kt_period_cells.specs.declared.cell.CellStop.TheVariants as cell_stop
+use Rattle.kt_cell.specs.Standing.{first_stop, or_else}
+use Rattle.kt_cell.specs.declared.cell.CellStop.{CellStop}
+use Rattle.kt_cell.specs.declared.cell.CellStop.TheVariants as cell_stop
 use Rattle.kt_ends.specs.declared.status.Refusal.{Refusal}
 use Rattle.kt_ends.specs.declared.status.Status.TheVariants.{Done}
 use Rattle.kt_loop.specs.Outcome.{gives}

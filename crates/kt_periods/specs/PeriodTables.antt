@@ -3,7 +3,7 @@
 use Rattle.std.specs.Prelude.{ℕ, List, [], ◌∷◌, ◌++◌, Option, Some, None, Result, Ok, Err}
 use Rattle.kt_curve.specs.Average.{aal_heading_text, average_annual_loss_rows}
 use Rattle.kt_curve.specs.Exceedance.{lec_heading_text, by_sidx, exceedance_rows}
-use Rattle.kt_period_cells.specs.Losses.{Added, KeyLoss, all_losses}
+use Rattle.kt_cell.specs.Losses.{Added, KeyLoss, all_losses}
 use Rattle.kt_rec.specs.declared.curve.Curve.{Curve}
 use Rattle.kt_ends.specs.Outcome.{Outcome}
 use Rattle.kt_ends.specs.declared.status.Refusal.{Refusal}

@@ -1,7 +1,7 @@
 //! What holds of the tables over all periods, as functions with an empty body.
 //! The rules: docs/COMMANDS.md, "aalcalc" and "leccalc"; docs/OUTPUTS.md, "Files of a run".
 ghost use Rattle.std.specs.Prelude.{◌≡◌, List, [], Some, None};
-ghost use Rattle.kt_period_cells.specs.Losses.{Added, all_losses};
+ghost use Rattle.kt_cell.specs.Losses.{Added, all_losses};
 ghost use Rattle.kt_curve.specs.OwnLosses.{own_records};
 ghost use Rattle.kt_ends.specs.declared.status.Status.TheVariants.{Done};
 ghost use Rattle.kt_loop.specs.Outcome.{gives};

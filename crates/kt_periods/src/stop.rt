@@ -4,8 +4,8 @@ ghost use Rattle.std.specs.Prelude.{◌≡◌};
 ghost use Rattle.kt_ends.specs.declared.tool_stop.ToolStop.{ToolStop};
 ghost use Rattle.kt_periods.specs.Standing.{cell_tool_stop};
 
+use kt_cell::CellStop;
 use kt_ends::{Refusal, ToolStop};
-use kt_period_cells::CellStop;
 
 /// How a run ends where the cells refuse a record of an event.
 pub fn cell_stop(event: u32, stop: CellStop) -> ToolStop

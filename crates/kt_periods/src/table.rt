@@ -3,8 +3,8 @@
 ghost use Rattle.std.specs.Prelude.{◌≡◌, ◌≤◌, ◌++◌, ℕ, List, All, OnOk, OnErr};
 ghost use Rattle.kt_rec.specs.declared.perspective.Perspective.{Perspective};
 ghost use Rattle.kt_stream.specs.Write.{BeginsWith};
-ghost use Rattle.kt_period_cells.specs.Losses.{Added, all_losses};
-ghost use Rattle.kt_period_cells.specs.Standing.{KeptCells, StandsFor};
+ghost use Rattle.kt_cell.specs.Losses.{Added, all_losses};
+ghost use Rattle.kt_cell.specs.Standing.{KeptCells, StandsFor};
 ghost use Rattle.kt_curve.specs.Exceedance.{takes_maxima};
 ghost use Rattle.kt_curve.specs.SetsOfCurves.{AreCurvesOf};
 ghost use Rattle.kt_periods.specs.PeriodTables.{table_text};

@@ -3,7 +3,7 @@ use Rattle.std.proofs.Common.{◌≡◌, ◌≢◌, ◌<◌, ◌≤◌, ◌+◌,
 use Rattle.std.specs.Prelude.{Bool, true, false, nat_eq}
 use Rattle.std.proofs.lemmas.List.{append-nil, drop_all, take_all, take_more_set, take-set, get_or_default, get_or-set_same, get_or-set_other}
 use Rattle.std.proofs.lemmas.Bool.Decides.{Decides-eqb}
-use Rattle.kt_period_cells.specs.Losses.{one_if}
+use Rattle.kt_cell.specs.Losses.{one_if}
 
 -- one amount more behind the first ones, where it is there
 pub amount_more : (values : List ℕ) (used amount more : ℕ) (there : Bool) → used < length values → more ≡ one_if there → take (used + more) (set values used amount) ≡ take used values ++ cond there (amount ∷ []) []

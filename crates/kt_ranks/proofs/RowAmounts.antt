@@ -8,16 +8,17 @@ use Rattle.std.proofs.lemmas.List.{map-append, take_more, get_or-set_same, get_o
 use Rattle.std.proofs.lemmas.List.Sums.{sum_by-append}
 use Rattle.std.proofs.lemmas.List.Elements.{filter-append, All-get_or}
 use Rattle.kt_rec.specs.declared.perspective.CellKey.{CellKey}
-use Rattle.kt_period_cells.specs.declared.cell.Cell.{Cell}
+use Rattle.kt_cell.specs.declared.cell.Cell.{Cell}
 use Rattle.kt_period_cells.specs.declared.row_key.RowKey.{RowKey}
 use Rattle.kt_period_cells.specs.declared.row.Row.{Row}
 use Rattle.kt_period_cells.specs.declared.group.SummaryRow.{SummaryRow}
-use Rattle.kt_period_cells.specs.Sets.{same_bool, is_mean, of_kind}
-use Rattle.kt_period_cells.specs.Amounts.{amount_in, amount_or_none, amounts_of, of_sample, of_period}
+use Rattle.kt_cell.specs.Sets.{same_bool, is_mean, of_kind}
+use Rattle.kt_cell.specs.Amounts.{amount_in, amount_or_none, amounts_of, of_sample, of_period}
 use Rattle.kt_period_cells.specs.RowCells.{SampleCells, with_place, placed, cells_of, cell_in, IsRising}
 use Rattle.kt_period_cells.specs.Rows.{sidx_of, key_in}
-use Rattle.kt_period_cells.specs.SummaryRows.{cell_amount, cell_amounts, has_total, row_at, entries_in, place_entries}
-use Rattle.kt_period_cells.specs.SameKeys.{pos_same}
+use Rattle.kt_period_cells.specs.SummaryRows.{cell_amount, cell_amounts, row_at, entries_in, place_entries}
+use Rattle.kt_cell.specs.Standing.{has_total}
+use Rattle.kt_cell.specs.SameKeys.{pos_same}
 use Rattle.kt_period_cells.proofs.PlacedCells.{placed_get, placed_low}
 use Rattle.kt_period_cells.proofs.RowCells.{cell_absent}
 use Rattle.kt_period_cells.proofs.SetRows.{row_is, row_past, entries}

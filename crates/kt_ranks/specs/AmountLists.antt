@@ -2,8 +2,8 @@
 -- The rules: docs/CALCULATION.md, "Kinds of exceedance curves".
 use Rattle.std.specs.Prelude.{◌≡◌, ◌<◌, ◌≤◌, ◌+◌, ◌-◌, ◌++◌, Bool, ℕ, List, length, take, slice_index_or}
 use Rattle.kt_rec.specs.declared.perspective.CellKey.{CellKey}
-use Rattle.kt_period_cells.specs.declared.cell.Cell.{Cell}
-use Rattle.kt_period_cells.specs.Amounts.{amounts_of, of_sample}
+use Rattle.kt_cell.specs.declared.cell.Cell.{Cell}
+use Rattle.kt_cell.specs.Amounts.{amounts_of, of_sample}
 use Rattle.kt_ranks.specs.declared.amount_list.AmountList.{AmountList}
 
 -- the amounts of a list with room

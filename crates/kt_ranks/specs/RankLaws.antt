@@ -10,7 +10,7 @@ use Rattle.std.proofs.lemmas.List.Sorted.{IsPermutation-refl, IsPermutation-tran
 use Rattle.std.proofs.lemmas.Grind.{reverse_onto}
 use Rattle.std.proofs.lemmas.Nat.{mul-le}
 use Rattle.std.proofs.Math.Nat.{mul-div-le}
-use Rattle.kt_period_cells.specs.Losses.{one_if}
+use Rattle.kt_cell.specs.Losses.{one_if}
 use Rattle.kt_ranks.specs.Ranks.{reaching, SameRanks, Falls, HasLosses}
 use Rattle.kt_ranks.specs.RankedLosses.{with_value, falling, ranked_loss, loss_between, exceedance_loss}
 

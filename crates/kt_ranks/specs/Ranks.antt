@@ -2,7 +2,7 @@
 -- The rules: docs/CALCULATION.md, "Exceedance curves".
 use Rattle.std.specs.Prelude.{ℕ, ◌-◌, ◌/◌, ◌≤◌, ◌≡◌, List, [], ◌∷◌, All, sum_by, nat_le, if◌then◌else◌}
 use Rattle.std.specs.List.{flat_map, slice_index}
-use Rattle.kt_period_cells.specs.Losses.{one_if}
+use Rattle.kt_cell.specs.Losses.{one_if}
 use Rattle.kt_ranks.specs.RankedLosses.{ranked_loss}
 
 -- how many values are at least this one

@@ -1,7 +1,7 @@
 //! A list of amounts, to which one that may be absent is appended without a branch.
 //! The rules: docs/CALCULATION.md, "Kinds of exceedance curves".
 ghost use Rattle.std.specs.Prelude.{◌≡◌, ◌∷◌, [], IfOk, if◌then◌else◌};
-ghost use Rattle.kt_period_cells.specs.Losses.{one_if};
+ghost use Rattle.kt_cell.specs.Losses.{one_if};
 ghost use Rattle.kt_ranks.specs.AmountLists.{HasMore, HasRoom, IsRoom, listed};
 
 use kt_money::OutOfMemory;

@@ -1,8 +1,8 @@
 //! The totals or the maxima of a summary's cells.
 //! The rules: docs/CALCULATION.md, "Kinds of exceedance curves".
 ghost use Rattle.std.specs.Prelude.{◌≡◌, ◌≤◌, ◌+◌, ◌-◌, ◌<◌, ◌^◌, ◌++◌, ℕ, sum, length, slice_index, All, IfOk, OnOk};
-ghost use Rattle.kt_period_cells.specs.Sets.{of_kind};
-ghost use Rattle.kt_period_cells.specs.Amounts.{amounts_of, of_period, of_sample};
+ghost use Rattle.kt_cell.specs.Sets.{of_kind};
+ghost use Rattle.kt_cell.specs.Amounts.{amounts_of, of_period, of_sample};
 ghost use Rattle.kt_ranks.specs.AmountLists.{AreSamplesDown, HasRoom, HaveMore, IsRoom};
 ghost use Rattle.kt_period_cells.specs.SummaryRows.{AreRising, ArePeriods, IsSummary, entries_in, row_at, group_entries};
 

@@ -2,7 +2,7 @@
 //! The rules: docs/CALCULATION.md, "Exceedance curves".
 ghost use Rattle.std.specs.Prelude.{◌≡◌, ◌-◌, ◌/◌, ◌≤◌, ◌<◌, ◌^◌, ℕ, List, ◌++◌, map, length, All, IfOk, OnErr, OnOk, slice_index, slice_index_or};
 ghost use Rattle.std.specs.List.Sorted.{IsPermutation};
-ghost use Rattle.kt_period_cells.specs.Standing.{most_total};
+ghost use Rattle.kt_cell.specs.Standing.{most_total};
 ghost use Rattle.kt_ranks.specs.RankedLosses.{falling, ranked_loss};
 ghost use Rattle.kt_ranks.specs.Ranks.{SameRanks, HasLosses, Falls, reaching, curve_ranks};
 ghost use Rattle.kt_stream.specs.Write.{BeginsWith};

@@ -2,13 +2,14 @@
 //! The rules: docs/CALCULATION.md, "Kinds of exceedance curves".
 ghost use Rattle.std.specs.Prelude.{◌≡◌, ◌≤◌, ◌<◌, ◌+◌, ◌-◌, ◌++◌, All, Some, false, if◌then◌else◌, length, sum, take, OnOk};
 ghost use Rattle.kt_period_cells.specs.RowCells.{IsRising, cell_in, cells_of, placed};
-ghost use Rattle.kt_period_cells.specs.Amounts.{amount_in, amount_or_none};
+ghost use Rattle.kt_cell.specs.Amounts.{amount_in, amount_or_none};
 ghost use Rattle.kt_period_cells.specs.SummaryRows.{cell_amounts};
 ghost use Rattle.kt_ranks.specs.AmountLists.{HasMore, HasRoom, HaveMore};
 
 use crate::amount_list::{AmountList, one_if};
+use kt_cell::{Cell, has_total};
 use kt_money::OutOfMemory;
-use kt_period_cells::{Cell, Row, has_total, placed_cell};
+use kt_period_cells::{Row, placed_cell};
 
 /// The maximum of a cell, or its total, in cents.
 #[inline]

@@ -27,8 +27,8 @@ use Rattle.kt_levels.specs.Table.{row_at, table_for}
 use Rattle.kt_runs.specs.LaneRows.{row_place}
 use Rattle.kt_levels.specs.TableLaws.{each-row, row-is, table-length}
 use Rattle.kt_levels.specs.declared.layers.TopLayer.{TopLayer}
-use Rattle.kt_ri.specs.CededShares.{AreCededShares, HasShares, share_at}
-use Rattle.kt_ri.specs.CededLaws.{ceded-all}
+use Rattle.kt_ceded.specs.CededShares.{AreCededShares, HasShares, share_at}
+use Rattle.kt_ceded.specs.CededLaws.{ceded-all}
 use Rattle.kt_ri.specs.Ceded.{AreRows}
 use Rattle.kt_ri.specs.Ceding.{AreLayers, ArePlaces, HasFewLayers, owners_of}
 use Rattle.kt_ri.specs.Reinsurance.{ceded_at, ceded_loss}

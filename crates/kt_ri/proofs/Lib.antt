@@ -7,5 +7,3 @@ pub mod LeftLemmas
 pub mod WrittenLemmas
 pub mod StageLemmas
 pub mod StruckLemmas
-pub mod AddedLemmas
-pub mod TurnLemmas

@@ -4,5 +4,3 @@ pub mod Ceded
 pub mod Left
 pub mod Stages
 pub mod Examples
-pub mod CededShares
-pub mod CededLaws

@@ -8,8 +8,8 @@ ghost use Rattle.kt_lanes.specs.Lanes.{AreWide, IsLane};
 ghost use Rattle.kt_runs.specs.Less.{IsPlaceIn, amount_in};
 ghost use Rattle.kt_ri.specs.Ceded.{AreCeded, AreRows};
 
-use crate::ceded_shares::ceded_lanes;
 use crate::ceding::CedingProgramme;
+use kt_ceded::ceded_lanes;
 use kt_lanes::Lanes;
 use kt_runs::RunLosses;
 use std::alloc::{AllocError, Global};

@@ -2,7 +2,6 @@
 #![tactic(auto)]
 
 mod ceded;
-mod ceded_shares;
 mod ceding;
 pub mod laws;
 mod left;

@@ -8,6 +8,10 @@ use Rattle.kt_rules.specs.declared.carry.Carry.{Carry}
 abbrev pub total : Carry → ℕ
 total carry = carry.loss + carry.ded + carry.over + carry.kept
 
+-- the weight of a unit among those that carry a loss: its own, or the ground-up loss beneath it where they carry none
+abbrev pub weight : ℕ → Carry → ℕ
+weight carried carry = cond (nat_eq carried 0) (total carry) carry.loss
+
 -- a deductible: what the loss has of the amount becomes deductible
 abbrev pub deduct : ℕ → Carry → Carry
 deduct amount carry = record carry { loss = carry.loss - min carry.loss amount; ded = carry.ded + min carry.loss amount }

@@ -5,7 +5,7 @@ use Rattle.std.proofs.lemmas.List.Elements.{recursion_from_All}
 use Rattle.kt_chain.specs.Events.{RunInput, foot_of, run_input}
 use Rattle.kt_chain.specs.SetRecords.{set_records}
 use Rattle.kt_chain.specs.Files.{event_text, text_whole}
-use Rattle.kt_period_cells.specs.Losses.{same_perspective}
+use Rattle.kt_cell.specs.Losses.{same_perspective}
 use Rattle.kt_elt.specs.EventLoss.{elt_heading_text, event_loss_rows}
 use Rattle.kt_elt.specs.PeriodLoss.{period_losses, plt_heading_text}
 use Rattle.kt_event.specs.Losses.{ground_up_of, insured_of, net_of, set_summaries}

@@ -1,7 +1,7 @@
 -- The tables of a summary stream, event by event.
 use Rattle.std.proofs.Common.{◌≡◌, ℕ, ◌+◌, Bool, List, [], ◌∷◌, ◌++◌, length, map, Option, None, refl, ap, ◌∙◌, flat_map}
 use Rattle.std.proofs.lemmas.Grind.{flat_map-append}
-use Rattle.kt_period_cells.specs.Losses.{Added, all_losses}
+use Rattle.kt_cell.specs.Losses.{Added, all_losses}
 use Rattle.kt_elt.specs.EventLoss.{event_loss_rows}
 use Rattle.kt_elt.specs.PeriodLoss.{period_losses}
 use Rattle.kt_ends.specs.declared.status.Refusal.{Refusal}

@@ -9,7 +9,7 @@ use Rattle.kt_checks.specs.Checks.{samples_refusal}
 use Rattle.kt_ends.specs.Outcome.{Outcome}
 use Rattle.kt_ends.specs.declared.status.Status.{Status}
 use Rattle.kt_ends.specs.declared.status.Status.TheVariants.{Done}
-use Rattle.kt_period_cells.specs.Losses.{same_perspective}
+use Rattle.kt_cell.specs.Losses.{same_perspective}
 use Rattle.kt_block.specs.declared.terms.SummarySet.{SummarySet}
 use Rattle.kt_block.specs.declared.terms.Terms.{Terms}
 use Rattle.kt_files.specs.declared.file.OutputFile.TheVariants.{OfSet}

@@ -2,7 +2,8 @@
 //! The rule: docs/PROVING.md, "Tests".
 
 use crate::failure::Failure;
-use kt_part::{Inbox, Item, Reorder, merge};
+use kt_claims::{Inbox, Item, Reorder};
+use kt_part::merge;
 use rtrb::RingBuffer;
 use std::alloc::AllocGlobal;
 use std::io::Print;

@@ -3,7 +3,7 @@
 ghost use Rattle.std.specs.Prelude.{◌<◌, ◌≤◌};
 
 use crate::failure::Failure;
-use kt_part::laws::Claims;
+use kt_claims::Claims;
 use kt_part::{Fold, RoundStop, Work, run_round};
 use std::alloc::{AllocError, AllocGlobal};
 use std::io::Print;

@@ -7,9 +7,8 @@ mod arguments;
 mod streams;
 
 use arguments::words_of;
-use kt_out::{
-    DirInputs, DirOutputs, Inputs, Open, Outputs, Sink, Source, StdErr, StdSink, StdSource,
-};
+use kt_out::{Inputs, Open, Outputs, Sink, Source};
+use kt_process::{DirInputs, DirOutputs, StdErr, StdSink, StdSource};
 use kt_tools::{Status, Words, run};
 use std::alloc::Global;
 use std::process::ExitCode;

@@ -3,7 +3,7 @@
 ghost use Rattle.std.specs.Prelude.{◌≡◌, IfOk, IfErr};
 ghost use Rattle.kt_period_cells.specs.RowCells.{IsRising, IsAt, IsGap, cell_in};
 
-use crate::cell::Cell;
+use kt_cell::Cell;
 
 /// Where the cell of a sample stands, or where it would go. It is looked for first at `next`, and then at the end.
 pub(super) fn place(cells: &[(u32, Cell)], next: usize, sample: u32) -> Result<usize, usize>

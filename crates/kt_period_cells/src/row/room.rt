@@ -1,14 +1,13 @@
 //! Raising the cells of a row that has room for it.
 //! The rules: docs/CALCULATION.md, "Periods"; docs/LIMITS.md, "Cells".
 ghost use Rattle.std.specs.Prelude.{◌≡◌, ◌+◌, ◌<◌, ◌≤◌, ◌≤ℤ◌, ℕ, pos, All, Some, true, length};
-ghost use Rattle.kt_period_cells.specs.Standing.{most_total, raised};
+ghost use Rattle.kt_cell.specs.Standing.{most_total, raised};
 ghost use Rattle.kt_period_cells.specs.RowCells.{AreLow, Changes, HasBound, cell_in, cells_of};
 ghost use Rattle.kt_period_cells.specs.declared.row.Row.{Row};
 ghost use Rattle.kt_period_cells.specs.Room.{IsRoomy, Raises, added_sum};
 
 use super::{Row, placed_cell};
-use crate::cell::{Cell, is_added, sample_of};
-use crate::raising::{MOST_TOTAL, new_cells, raised};
+use kt_cell::{Cell, MOST_TOTAL, is_added, new_cells, raised, sample_of};
 use kt_stream::Pair;
 
 /// Whether the total of each place is at most this one.

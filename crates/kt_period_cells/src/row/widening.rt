@@ -2,11 +2,10 @@
 //! The rules: docs/CALCULATION.md, "Periods".
 ghost use Rattle.std.specs.Prelude.{◌≡◌, ◌⊎◌, ◌+◌, ◌≤◌, All, IfOk, length};
 ghost use Rattle.kt_period_cells.specs.RowCells.{IsRising, IsWide, CellFits, cells_of, placed};
-ghost use Rattle.kt_period_cells.specs.Standing.{most_total};
+ghost use Rattle.kt_cell.specs.Standing.{most_total};
 
 use super::{Row, no_cells};
-use crate::cell::Cell;
-use crate::raising::MOST_TOTAL;
+use kt_cell::{Cell, MOST_TOTAL};
 use kt_money::OutOfMemory;
 use std::alloc::Global;
 

@@ -2,15 +2,14 @@
 //! The rules: docs/CALCULATION.md, "Periods".
 ghost use Rattle.std.specs.Prelude.{◌≡◌, ◌≤◌, ◌^◌, pos, ◌≤ℤ◌, List, [], ◌∷◌, ◌++◌, map, All, Some, true};
 ghost use Rattle.std.specs.List.{flat_map};
-ghost use Rattle.kt_period_cells.specs.Losses.{KeyLoss, maximum, is_added, key_of};
-ghost use Rattle.kt_period_cells.specs.Standing.{Standing, sidx_in_range, most_total};
+ghost use Rattle.kt_cell.specs.Losses.{KeyLoss, maximum, is_added, key_of};
+ghost use Rattle.kt_cell.specs.Standing.{Standing, sidx_in_range, most_total};
 ghost use Rattle.kt_period_cells.specs.Rows.{entries_of, row_keys, row_of, place_of, IsSpot, spot_loss, spot_losses};
 ghost use Rattle.kt_period_cells.specs.Journal.{Puts, Noted, Going, GoesOn, Returns};
 
 use super::{Rows, Spot};
-use crate::cell::{CellStop, Change, is_added, sample_of};
-use crate::raising::{maximum_in, new_cells, raised, refusal};
 use crate::row_key::RowKey;
+use kt_cell::{CellStop, Change, is_added, maximum_in, new_cells, raised, refusal, sample_of};
 use kt_rec::{CellKey, Perspective};
 use kt_stream::Pair;
 

@@ -2,8 +2,8 @@
 //! The rules: docs/CALCULATION.md, "Periods".
 ghost use Rattle.std.specs.Prelude.{◌≡◌, ◌+◌, ◌≤◌, ◌++◌, ℕ, List, IfOk, OnOk, OnErr, length, take, true, false};
 ghost use Rattle.std.specs.HashMap.{spare};
-ghost use Rattle.kt_period_cells.specs.Losses.{KeyLoss};
-ghost use Rattle.kt_period_cells.specs.Standing.{Standing, most_cells};
+ghost use Rattle.kt_cell.specs.Losses.{KeyLoss};
+ghost use Rattle.kt_cell.specs.Standing.{Standing, most_cells};
 ghost use Rattle.kt_period_cells.specs.Rows.{Apart, AreAbsent, IsIndexOf, entries_of, row_keys};
 ghost use Rattle.kt_period_cells.specs.Journal.{Clear};
 

@@ -5,16 +5,15 @@ ghost use Rattle.std.specs.List.{flat_map};
 ghost use Rattle.kt_rec.specs.declared.perspective.CellKey.{CellKey};
 ghost use Rattle.kt_rec.specs.declared.perspective.Perspective.{Perspective};
 ghost use Rattle.kt_period_cells.specs.declared.rows.Spot.{Spot};
-ghost use Rattle.kt_period_cells.specs.Losses.{KeyLoss, is_added};
-ghost use Rattle.kt_period_cells.specs.Standing.{Standing, cell_at, most_cells, most_total, total_in};
+ghost use Rattle.kt_cell.specs.Losses.{KeyLoss, is_added};
+ghost use Rattle.kt_cell.specs.Standing.{Standing, cell_at, most_cells, most_total, total_in};
 ghost use Rattle.kt_period_cells.specs.Rows.{entries_of, row_keys, IsSpot, spot_losses};
 ghost use Rattle.kt_period_cells.specs.Room.{IsRoomyAt, AreRoomy, added_sum};
 ghost use Rattle.kt_period_cells.specs.SummaryRows.{row_at};
 ghost use Rattle.kt_period_cells.specs.Journal.{Clear};
 
 use super::{Rows, Spot};
-use crate::cell::is_added;
-use crate::raising::{MOST_CELLS, MOST_TOTAL};
+use kt_cell::{MOST_CELLS, MOST_TOTAL, is_added};
 use kt_stream::Pair;
 
 /// So many pairs have a sum of losses that fits its type. A record has fewer: one for each sample, and three others.

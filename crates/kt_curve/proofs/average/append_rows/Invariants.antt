@@ -1,7 +1,7 @@
 -- The rows of the first summaries are there.
 use Rattle.std.proofs.Common.{◌≡◌, ◌++◌, take, false}
 use Rattle.std.specs.List.{flat_map}
-use Rattle.kt_period_cells.specs.Amounts.{amount_at}
+use Rattle.kt_cell.specs.Amounts.{amount_at}
 use Rattle.kt_period_cells.specs.SummaryRows.{part_entries}
 use Rattle.kt_curve.specs.Average.{aal_rows}
 use Rattle.kt_curve.proofs.average.append_rows.Given as goal

@@ -1,7 +1,7 @@
 -- The mean and the deviation of a summary, from the amounts that are there.
 use Rattle.std.proofs.Common.{sym, ◌∙◌}
 use Rattle.kt_period_cells.specs.SummaryRows.{group_entries}
-use Rattle.kt_period_cells.specs.Sets.{of_kind}
+use Rattle.kt_cell.specs.Sets.{of_kind}
 use Rattle.kt_curve.proofs.Curves.{amounts_most}
 use Rattle.kt_curve.proofs.Moments.{group_moments, group_few, count_keys, length_amounts, moments_parts}
 use Rattle.kt_curve.proofs.average.group_moments.Goals as goal

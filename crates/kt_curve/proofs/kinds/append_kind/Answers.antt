@@ -1,8 +1,8 @@
 -- The rows of one type of a full curve.
 use Rattle.std.proofs.Common.{ℕ, List, map, ◌∙◌}
 use Rattle.kt_period_cells.specs.SummaryRows.{group_entries}
-use Rattle.kt_period_cells.specs.Sets.{of_kind}
-use Rattle.kt_period_cells.specs.Amounts.{amount_at, amounts_of}
+use Rattle.kt_cell.specs.Sets.{of_kind}
+use Rattle.kt_cell.specs.Amounts.{amount_at, amounts_of}
 use Rattle.kt_curve.specs.Grid.{keys_for, sidx_of_kind}
 use Rattle.kt_period_cells.specs.Outcomes.{on_more}
 use Rattle.kt_curve.proofs.Curves.{ranks_of_kind, ranks_of_equal, rows_of_count}

@@ -3,7 +3,7 @@ use Rattle.std.proofs.Common.{◌≡◌, ◌⊎◌, inl, inr, ℕ, List, ◌++�
 use Rattle.kt_rec.specs.declared.curve.Curve.{Curve}
 use Rattle.kt_period_cells.specs.declared.group.SummaryCells.{SummaryCells}
 use Rattle.kt_period_cells.specs.SummaryRows.{group_entries}
-use Rattle.kt_period_cells.specs.Amounts.{amount_at}
+use Rattle.kt_cell.specs.Amounts.{amount_at}
 use Rattle.kt_period_cells.specs.Outcomes.{on_more}
 use Rattle.kt_curve.specs.Exceedance.{lec_rows}
 use Rattle.kt_curve.specs.LossesOfSamples.{ranks_samples}

@@ -1,7 +1,7 @@
 -- The rows of the first summaries are there.
 use Rattle.std.proofs.Common.{◌≡◌, ◌++◌, length, take}
 use Rattle.std.specs.List.{flat_map}
-use Rattle.kt_period_cells.specs.Amounts.{amount_at}
+use Rattle.kt_cell.specs.Amounts.{amount_at}
 use Rattle.kt_period_cells.specs.SummaryRows.{part_entries}
 use Rattle.kt_curve.specs.Exceedance.{lec_rows}
 use Rattle.kt_curve.proofs.lec.append_groups.Given as goal

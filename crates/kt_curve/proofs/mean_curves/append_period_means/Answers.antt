@@ -1,6 +1,6 @@
 -- The means of the sums are those of the periods.
 use Rattle.std.proofs.Common.{ℕ, ◌++◌, ◌+◌, ◌*◌, ◌^◌, ◌<◌, ◌≤◌, ap, ◌∙◌, arith}
-use Rattle.kt_period_cells.specs.Standing.{most_total}
+use Rattle.kt_cell.specs.Standing.{most_total}
 use Rattle.kt_period_cells.specs.SummaryRows.{group_entries}
 use Rattle.kt_ranks.specs.RankedLosses.{curve_rows}
 use Rattle.kt_period_cells.specs.Outcomes.{on_more}

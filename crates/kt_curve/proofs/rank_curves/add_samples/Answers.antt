@@ -3,7 +3,7 @@ use Rattle.std.proofs.Common.{◌≡◌, ◌-◌, ◌+◌, ◌^◌, ℕ, List, m
 use Rattle.std.specs.List.{range_with_len}
 use Rattle.std.proofs.lemmas.List.{get_or-map}
 use Rattle.kt_period_cells.specs.SummaryRows.{group_entries}
-use Rattle.kt_period_cells.specs.Amounts.{amount_at}
+use Rattle.kt_cell.specs.Amounts.{amount_at}
 use Rattle.kt_ranks.specs.RankedLosses.{ranked_loss}
 use Rattle.kt_curve.specs.Exceedance.{sidx_values}
 use Rattle.kt_curve.proofs.Means.{sample_more, bound_more}

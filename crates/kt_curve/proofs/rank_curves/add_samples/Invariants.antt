@@ -2,7 +2,7 @@
 use Rattle.std.proofs.Common.{◌≡◌, ◌-◌, ◌*◌, ◌^◌, ◌≤◌, ◌<◌, ℕ, length, map, slice_index, pos, sum_by}
 use Rattle.std.specs.List.{range_with_len}
 use Rattle.kt_period_cells.specs.SummaryRows.{group_entries}
-use Rattle.kt_period_cells.specs.Amounts.{amount_at}
+use Rattle.kt_cell.specs.Amounts.{amount_at}
 use Rattle.kt_ranks.specs.RankedLosses.{ranked_loss}
 use Rattle.kt_curve.specs.Exceedance.{sidx_values}
 use Rattle.kt_curve.proofs.rank_curves.add_samples.Given as goal

@@ -2,7 +2,7 @@
 use Rattle.std.proofs.Common.{◌≡◌, ◌-◌, ◌++◌, length, pos}
 use Rattle.std.specs.List.{flat_map, range_with_len}
 use Rattle.kt_period_cells.specs.SummaryRows.{group_entries}
-use Rattle.kt_period_cells.specs.Amounts.{amount_at}
+use Rattle.kt_cell.specs.Amounts.{amount_at}
 use Rattle.kt_ranks.specs.RankedLosses.{curve_rows}
 use Rattle.kt_curve.specs.Exceedance.{sidx_values}
 use Rattle.kt_curve.proofs.rank_curves.append_wheat.Given as goal

@@ -2,7 +2,7 @@
 use Rattle.std.proofs.Common.{arith, ◌-◌, ◌*◌, ◌^◌, ◌∙◌}
 use Rattle.std.proofs.lemmas.Grind.{common_steps}
 use Rattle.kt_period_cells.specs.SummaryRows.{group_entries}
-use Rattle.kt_period_cells.specs.Amounts.{amount_at}
+use Rattle.kt_cell.specs.Amounts.{amount_at}
 use Rattle.kt_period_cells.specs.Outcomes.{if_ok}
 use Rattle.kt_curve.proofs.Means.{all_places}
 use Rattle.kt_curve.proofs.RankMeans.{ranked_means}

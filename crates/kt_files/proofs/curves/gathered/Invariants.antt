@@ -3,7 +3,7 @@ use Rattle.std.proofs.Common.{List, length, ℕ}
 use Rattle.std.specs.Prelude.{All}
 use Rattle.kt_curve.specs.SetsOfCurves.{AreSomeCurves}
 use Rattle.kt_files.specs.Endings.{AreHandCurves}
-use Rattle.kt_period_cells.specs.Standing.{KeptCells}
+use Rattle.kt_cell.specs.Standing.{KeptCells}
 use Rattle.kt_files.proofs.curves.gathered.Given as goal
 
 abbrev pub invariant-loop-hand : goal.invariant-loop-hand

@@ -1,8 +1,8 @@
 -- The summaries so far are added.
 use Rattle.std.proofs.Common.{◌≡◌, List, take}
 use Rattle.std.specs.List.{flat_map}
-use Rattle.kt_period_cells.specs.Losses.{Added}
-use Rattle.kt_period_cells.specs.Standing.{StandsFor}
+use Rattle.kt_cell.specs.Losses.{Added}
+use Rattle.kt_cell.specs.Standing.{StandsFor}
 use Rattle.kt_fold.specs.Added.{summaries_added}
 use Rattle.kt_fold.proofs.FoldLemmas.{HasAdded}
 use Rattle.kt_fold.proofs.adding.add_block.Given as goal

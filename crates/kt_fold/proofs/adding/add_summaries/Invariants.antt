@@ -1,7 +1,7 @@
 -- The records so far are added.
 use Rattle.std.proofs.Common.{◌≡◌, List}
-use Rattle.kt_period_cells.specs.Losses.{Added}
-use Rattle.kt_period_cells.specs.Standing.{StandsFor}
+use Rattle.kt_cell.specs.Losses.{Added}
+use Rattle.kt_cell.specs.Standing.{StandsFor}
 use Rattle.kt_fold.proofs.FoldLemmas.{HasAdded, front_added}
 use Rattle.kt_fold.proofs.adding.add_summaries.Given as goal
 

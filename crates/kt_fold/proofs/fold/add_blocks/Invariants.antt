@@ -1,7 +1,7 @@
 -- The blocks so far are added, and what is left of the ready rows is made for the others.
 use Rattle.std.proofs.Common.{◌≡◌, List, drop, take}
-use Rattle.kt_period_cells.specs.Losses.{Added}
-use Rattle.kt_period_cells.specs.Standing.{StandsFor}
+use Rattle.kt_cell.specs.Losses.{Added}
+use Rattle.kt_cell.specs.Standing.{StandsFor}
 use Rattle.kt_fold.specs.Added.{blocks_added}
 use Rattle.kt_fold.specs.ReadyParts.{AreMadeFor, IsReadyBlock}
 use Rattle.kt_fold.proofs.FoldLemmas.{HasAdded}

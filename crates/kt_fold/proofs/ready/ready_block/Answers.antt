@@ -1,7 +1,7 @@
 -- The cells of a block stand for its records, wherever its event has the same occurrences.
 use Rattle.std.proofs.Common.{◌≡◌, ◌++◌, ◌∙◌, [], List, ap, refl, sym, subst}
-use Rattle.kt_period_cells.specs.Losses.{Added}
-use Rattle.kt_period_cells.specs.Standing.{StandsFor}
+use Rattle.kt_cell.specs.Losses.{Added}
+use Rattle.kt_cell.specs.Standing.{StandsFor}
 use Rattle.kt_rec.specs.declared.periods.Occurrence.{Occurrence}
 use Rattle.kt_tables.specs.Lookups.{occurrences_of}
 use Rattle.kt_fold.proofs.ReadyLemmas.{block_same}

@@ -1,4 +1,4 @@
-use Rattle.kt_part.specs.Arrivals.{IsMade}
+use Rattle.kt_claims.specs.Arrivals.{IsMade}
 use Rattle.kt_part.specs.Lanes.{IsWorking}
 use Rattle.kt_part.proofs.arm.run_arm.Given as goal
 

@@ -1,5 +1,5 @@
 use Rattle.std.proofs.Common.{ℕ, ◌+◌, Some, None, ◌++◌, ap, subst, sym, ◌∙◌, le_refl, arith}
-use Rattle.kt_part.specs.Arrivals.{IsHeld, IsMade}
+use Rattle.kt_claims.specs.Arrivals.{IsHeld, IsMade}
 use Rattle.kt_part.proofs.GatherLemmas.{next-held, next-made}
 use Rattle.kt_part.proofs.RoundLemmas.{one-more}
 use Rattle.kt_part.proofs.gather.fold_held.Goals as goal

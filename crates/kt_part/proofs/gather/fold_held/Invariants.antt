@@ -1,7 +1,7 @@
 use Rattle.std.proofs.Common.{◌≡◌, ℕ, ◌<◌, ◌≤◌, List}
-use Rattle.kt_part.specs.Arrivals.{IsHeld, IsMade}
+use Rattle.kt_claims.specs.Arrivals.{IsHeld, IsMade}
 use Rattle.kt_part.specs.Folding.{Folded}
-use Rattle.kt_part.specs.Slots.{held_at, next_of}
+use Rattle.kt_claims.specs.Slots.{held_at, next_of}
 use Rattle.kt_part.proofs.gather.fold_held.Given as goal
 
 abbrev pub invariant-loop-k : goal.invariant-loop-k

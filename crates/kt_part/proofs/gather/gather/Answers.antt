@@ -1,5 +1,5 @@
 use Rattle.std.proofs.Common.{◌≡◌, ℕ, subst, arith}
-use Rattle.kt_part.specs.Arrivals.{IsMade}
+use Rattle.kt_claims.specs.Arrivals.{IsMade}
 use Rattle.kt_part.specs.Gathering.{AreGathered}
 use Rattle.kt_part.proofs.GatherLemmas.{gathered-more, claimed-all, never-spoiled, all-held}
 use Rattle.kt_part.proofs.gather.gather.Goals as goal

@@ -1,4 +1,4 @@
-use Rattle.kt_part.specs.Arrivals.{IsMade}
+use Rattle.kt_claims.specs.Arrivals.{IsMade}
 use Rattle.kt_part.specs.Gathering.{AreGathered}
 use Rattle.kt_part.proofs.gather.gather.Given as goal
 

@@ -1,5 +1,5 @@
 use Rattle.kt_part.specs.Lanes.{AreLanes}
-use Rattle.kt_part.specs.Passes.{IsGivenOut}
+use Rattle.kt_claims.specs.Passes.{IsGivenOut}
 use Rattle.kt_part.proofs.lanes.make_lanes.Given as goal
 
 abbrev pub invariant-loop-worker : goal.invariant-loop-worker

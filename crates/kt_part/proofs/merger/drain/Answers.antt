@@ -1,7 +1,7 @@
 use Rattle.std.proofs.Common.{◌≡◌, suc, List, [], ◌∷◌, ◌++◌, length, append_assoc, ap, sym, ◌∙◌, arith}
 use Rattle.rtrb.specs.Ring.{received, known_items}
-use Rattle.kt_part.specs.declared.inbox.Item.{Item}
-use Rattle.kt_part.proofs.ArrivalLemmas.{moved}
+use Rattle.kt_claims.specs.declared.inbox.Item.{Item}
+use Rattle.kt_claims.proofs.ArrivalLemmas.{moved}
 use Rattle.kt_part.proofs.merger.drain.Goals as goal
 
 pub loop-turn-preserved : goal.loop-turn-preserved

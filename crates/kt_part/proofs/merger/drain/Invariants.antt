@@ -1,7 +1,7 @@
 use Rattle.std.proofs.Common.{◌≡◌, ◌+◌, List, ◌++◌, length}
 use Rattle.rtrb.specs.Ring.{received, sent, known_items}
-use Rattle.kt_part.specs.Arrivals.{HasCome}
-use Rattle.kt_part.specs.declared.inbox.Item.{Item}
+use Rattle.kt_claims.specs.Arrivals.{HasCome}
+use Rattle.kt_claims.specs.declared.inbox.Item.{Item}
 use Rattle.kt_part.proofs.merger.drain.Given as goal
 
 abbrev pub invariant-loop-turn : goal.invariant-loop-turn

@@ -1,5 +1,5 @@
 use Rattle.rtrb.specs.Ring.{received}
-use Rattle.kt_part.proofs.ArrivalLemmas.{moved}
+use Rattle.kt_claims.proofs.ArrivalLemmas.{moved}
 use Rattle.kt_part.proofs.merger.look.Goals as goal
 
 pub returns-in-Ok-clause-come : goal.returns-in-Ok-clause-come

@@ -2,8 +2,8 @@ use Rattle.std.proofs.Common.{Global, List, ◌++◌, arith, subst, sym}
 use Rattle.rtrb.specs.Ring.{SameConsumer, received}
 use Rattle.rtrb.specs.declared.AnyItems.{AnyItems}
 use Rattle.rtrb.specs.declared.consumer.Consumer.{Consumer}
-use Rattle.kt_part.specs.Arrivals.{HasCome}
-use Rattle.kt_part.specs.declared.inbox.Item.{Item}
+use Rattle.kt_claims.specs.Arrivals.{HasCome}
+use Rattle.kt_claims.specs.declared.inbox.Item.{Item}
 use Rattle.kt_part.proofs.LaneLemmas.{same-set, come-set}
 use Rattle.kt_part.proofs.merger.look_over.Goals as goal
 

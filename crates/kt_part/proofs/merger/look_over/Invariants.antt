@@ -1,4 +1,4 @@
-use Rattle.kt_part.specs.Arrivals.{HasCome, all_received}
+use Rattle.kt_claims.specs.Arrivals.{HasCome, all_received}
 use Rattle.kt_part.specs.Lanes.{AreSame}
 use Rattle.kt_part.proofs.merger.look_over.Given as goal
 

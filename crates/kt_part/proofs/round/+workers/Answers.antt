@@ -1,7 +1,7 @@
 use Rattle.std.proofs.Common.{◌≡◌, List, ◌++◌, All, length, arith, subst, sym}
-use Rattle.kt_part.specs.Arrivals.{IsMade}
+use Rattle.kt_claims.specs.Arrivals.{IsMade}
 use Rattle.kt_part.specs.Lanes.{HasWorked, HaveWorked, IsReady}
-use Rattle.kt_part.specs.declared.inbox.Arm.{Arm}
+use Rattle.kt_claims.specs.declared.inbox.Arm.{Arm}
 use Rattle.kt_part.proofs.ListLemmas.{all-left, all-right, each-joined}
 use Rattle.kt_part.proofs.round.+workers.Goals as goal
 

@@ -1,5 +1,5 @@
 use Rattle.std.proofs.Common.{◌<◌, length, false, drop, inl, inr, refl, rules}
-use Rattle.kt_part.specs.Arrivals.{IsMade}
+use Rattle.kt_claims.specs.Arrivals.{IsMade}
 use Rattle.kt_part.specs.Claimed.{WantsMemory}
 use Rattle.kt_part.proofs.GatherLemmas.{begun}
 use Rattle.kt_part.proofs.RoundLemmas.{claimed-after, ends-with, none-yet}

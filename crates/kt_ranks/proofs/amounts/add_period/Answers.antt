@@ -1,6 +1,6 @@
 -- The samples of one row, added to the sum of its period.
 use Rattle.std.proofs.Common.{◌-◌, arith}
-use Rattle.kt_period_cells.specs.Amounts.{of_period}
+use Rattle.kt_cell.specs.Amounts.{of_period}
 use Rattle.kt_ranks.proofs.RowAmounts.{no_sum, row_period, period_here, period_added}
 use Rattle.kt_ranks.proofs.amounts.add_period.Goals as goal
 

@@ -5,7 +5,7 @@ use Rattle.std.proofs.lemmas.List.{get_or_default}
 use Rattle.std.proofs.lemmas.List.Elements.{All-weaker}
 use Rattle.kt_period_cells.specs.declared.group.SummaryRow.{SummaryRow}
 use Rattle.kt_period_cells.specs.declared.row.Row.{Row}
-use Rattle.kt_period_cells.specs.Amounts.{amounts_of, of_period}
+use Rattle.kt_cell.specs.Amounts.{amounts_of, of_period}
 use Rattle.kt_period_cells.specs.RowCells.{RowFits}
 use Rattle.kt_period_cells.specs.SummaryRows.{entries_in, row_at}
 use Rattle.kt_ranks.proofs.RowAmounts.{sum_more, sum_part}

@@ -1,7 +1,7 @@
 -- The sums of the first rows.
 use Rattle.std.proofs.Common.{◌≡◌, ◌+◌, ℕ, length, slice_index, take}
 use Rattle.std.specs.Prelude.{sum}
-use Rattle.kt_period_cells.specs.Amounts.{amounts_of, of_period}
+use Rattle.kt_cell.specs.Amounts.{amounts_of, of_period}
 use Rattle.kt_period_cells.specs.SummaryRows.{place_entries}
 use Rattle.kt_ranks.proofs.amounts.add_periods.Given as goal
 

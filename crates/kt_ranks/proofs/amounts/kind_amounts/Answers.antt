@@ -2,7 +2,7 @@
 use Rattle.std.proofs.Common.{get_or}
 use Rattle.std.proofs.lemmas.List.{get_or_default}
 use Rattle.kt_period_cells.specs.declared.group.SummaryRow.{SummaryRow}
-use Rattle.kt_period_cells.specs.Sets.{of_kind}
+use Rattle.kt_cell.specs.Sets.{of_kind}
 use Rattle.kt_ranks.proofs.RowAmounts.{amounts_more}
 use Rattle.kt_ranks.proofs.amounts.kind_amounts.Goals as goal
 

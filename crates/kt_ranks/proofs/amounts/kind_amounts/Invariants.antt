@@ -1,8 +1,8 @@
 -- The amounts of the first rows.
 use Rattle.std.proofs.Common.{◌≡◌, take}
-use Rattle.kt_period_cells.specs.Amounts.{amounts_of}
+use Rattle.kt_cell.specs.Amounts.{amounts_of}
 use Rattle.kt_period_cells.specs.SummaryRows.{place_entries}
-use Rattle.kt_period_cells.specs.Sets.{of_kind}
+use Rattle.kt_cell.specs.Sets.{of_kind}
 use Rattle.kt_ranks.proofs.amounts.kind_amounts.Given as goal
 
 abbrev pub invariant-loop-place : goal.invariant-loop-place

@@ -1,6 +1,6 @@
 -- The amounts of one row.
 use Rattle.std.proofs.Common.{arith}
-use Rattle.kt_period_cells.specs.Sets.{of_kind}
+use Rattle.kt_cell.specs.Sets.{of_kind}
 use Rattle.kt_period_cells.specs.Outcomes.{on_more}
 use Rattle.kt_ranks.proofs.RowAmounts.{no_row, kind_pushed}
 use Rattle.kt_ranks.proofs.amounts.push_kind.Goals as goal

@@ -1,6 +1,6 @@
 -- The amounts of a row's samples are those of its entries.
 use Rattle.std.proofs.Common.{◌-◌, refl, subst, arith, slice_index_or}
-use Rattle.kt_period_cells.specs.Amounts.{of_sample}
+use Rattle.kt_cell.specs.Amounts.{of_sample}
 use Rattle.kt_ranks.specs.AmountLists.{HasMore, listed}
 use Rattle.kt_ranks.proofs.RowAmounts.{no_row, sample_amounts}
 use Rattle.kt_ranks.proofs.amounts.put_samples.Goals as goal

@@ -3,7 +3,7 @@ use Rattle.std.proofs.Common.{◌∙◌, ◌-◌, ◌<◌, ◌≡◌, get_or, le
 use Rattle.std.proofs.lemmas.List.{get_or_default}
 use Rattle.std.proofs.lemmas.List.Elements.{All-weaker}
 use Rattle.kt_period_cells.specs.declared.group.SummaryRow.{SummaryRow}
-use Rattle.kt_period_cells.specs.Amounts.{of_sample}
+use Rattle.kt_cell.specs.Amounts.{of_sample}
 use Rattle.kt_ranks.specs.AmountLists.{listed}
 use Rattle.kt_period_cells.specs.RowCells.{RowFits, IsRising, cells_of}
 use Rattle.kt_ranks.proofs.ListsOfSamples.{written_back}

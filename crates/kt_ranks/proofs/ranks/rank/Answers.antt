@@ -1,8 +1,8 @@
 -- Sorted values the other way round.
 use Rattle.std.proofs.Common.{◌≤◌, ℕ, ◌∙◌, nat_le}
 use Rattle.std.proofs.lemmas.List.Sorted.{IsNonDecreasingBy-from_sort, sum_by-IsPermutation, All-permutation, IsPermutation-trans}
-use Rattle.kt_period_cells.specs.Losses.{one_if}
-use Rattle.kt_period_cells.specs.Standing.{most_total}
+use Rattle.kt_cell.specs.Losses.{one_if}
+use Rattle.kt_cell.specs.Standing.{most_total}
 use Rattle.kt_ranks.specs.RankLaws.{falls_sorted}
 use Rattle.kt_ranks.proofs.ranks.rank.Goals as goal
 

@@ -1,7 +1,7 @@
 -- One amount more.
 use Rattle.std.proofs.Common.{Some, ap, arith, cond, get_or, ◌∙◌}
-use Rattle.kt_period_cells.specs.declared.cell.Cell.{Cell}
-use Rattle.kt_period_cells.specs.Amounts.{amount_in}
+use Rattle.kt_cell.specs.declared.cell.Cell.{Cell}
+use Rattle.kt_cell.specs.Amounts.{amount_in}
 use Rattle.kt_ranks.proofs.RowAmounts.{placed_summed}
 use Rattle.kt_ranks.proofs.row_amounts.placed_sum.Goals as goal
 

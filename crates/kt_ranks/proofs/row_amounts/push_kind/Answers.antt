@@ -1,7 +1,7 @@
 -- The amounts of a row's places: of the mean, or of the others.
 use Rattle.std.proofs.Common.{◌≤◌, ◌++◌, List, ℕ, length, ap, sym, ◌∙◌}
 use Rattle.std.proofs.lemmas.List.{take_rest}
-use Rattle.kt_period_cells.specs.Amounts.{amount_or_none}
+use Rattle.kt_cell.specs.Amounts.{amount_or_none}
 use Rattle.kt_period_cells.specs.Outcomes.{on_more}
 use Rattle.kt_period_cells.proofs.PlacedCells.{placed_cells}
 use Rattle.kt_ranks.proofs.RowAmounts.{mean_placed, samples_placed}

@@ -2,8 +2,8 @@
 use Rattle.std.proofs.Common.{◌-◌, ◌<◌, ◌∙◌, ℕ, Option, length, slice_index_or, subst, sym, arith}
 use Rattle.std.proofs.lemmas.List.{length-set}
 use Rattle.kt_ranks.specs.declared.amount_list.AmountList.{AmountList}
-use Rattle.kt_period_cells.specs.declared.cell.Cell.{Cell}
-use Rattle.kt_period_cells.specs.Amounts.{amount_or_none}
+use Rattle.kt_cell.specs.declared.cell.Cell.{Cell}
+use Rattle.kt_cell.specs.Amounts.{amount_or_none}
 use Rattle.kt_ranks.specs.AmountLists.{HasMore, HasRoom}
 use Rattle.kt_period_cells.specs.RowCells.{cell_in, cells_of}
 use Rattle.kt_period_cells.proofs.ListEdits.{lists_left}

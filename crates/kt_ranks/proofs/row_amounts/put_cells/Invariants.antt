@@ -1,7 +1,7 @@
 -- The first lists have their amounts, and the others are as they were.
 use Rattle.std.proofs.Common.{◌≡◌, ◌<◌, ◌≤◌, ◌-◌, ℕ, length, slice_index_or}
 use Rattle.kt_ranks.specs.declared.amount_list.AmountList.{AmountList}
-use Rattle.kt_period_cells.specs.Amounts.{amount_or_none}
+use Rattle.kt_cell.specs.Amounts.{amount_or_none}
 use Rattle.kt_ranks.specs.AmountLists.{HasMore}
 use Rattle.kt_period_cells.specs.RowCells.{cell_in, cells_of}
 use Rattle.kt_ranks.proofs.row_amounts.put_cells.Given as goal

@@ -2,10 +2,11 @@
 use Rattle.std.proofs.Common.{◌-◌, ◌<◌, ◌∙◌, ℕ, length, slice_index_or, subst, sym, arith, ◌≡◌, ◌∷◌, [], cond, get_or, ap}
 use Rattle.std.proofs.lemmas.List.{length-set}
 use Rattle.kt_ranks.specs.declared.amount_list.AmountList.{AmountList}
-use Rattle.kt_period_cells.specs.declared.cell.Cell.{Cell}
-use Rattle.kt_period_cells.specs.Amounts.{amount_or_none}
+use Rattle.kt_cell.specs.declared.cell.Cell.{Cell}
+use Rattle.kt_cell.specs.Amounts.{amount_or_none}
 use Rattle.kt_ranks.specs.AmountLists.{HasMore, HasRoom}
-use Rattle.kt_period_cells.specs.SummaryRows.{cell_amount, has_total}
+use Rattle.kt_period_cells.specs.SummaryRows.{cell_amount}
+use Rattle.kt_cell.specs.Standing.{has_total}
 use Rattle.kt_period_cells.specs.RowCells.{cell_in, placed}
 use Rattle.kt_period_cells.proofs.ListEdits.{lists_left}
 use Rattle.kt_ranks.proofs.ListsOfSamples.{lists_more}

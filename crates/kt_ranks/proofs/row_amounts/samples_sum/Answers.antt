@@ -2,7 +2,7 @@
 use Rattle.std.proofs.Common.{◌≤◌, List, false, length, ap, sym, ◌∙◌}
 use Rattle.std.specs.Prelude.{sum}
 use Rattle.std.proofs.lemmas.List.{take_rest}
-use Rattle.kt_period_cells.specs.declared.cell.Cell.{Cell}
+use Rattle.kt_cell.specs.declared.cell.Cell.{Cell}
 use Rattle.kt_period_cells.specs.RowCells.{placed}
 use Rattle.kt_period_cells.specs.SummaryRows.{cell_amounts}
 use Rattle.kt_period_cells.proofs.PlacedCells.{placed_cells}

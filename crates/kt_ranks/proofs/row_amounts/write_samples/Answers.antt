@@ -1,9 +1,9 @@
 -- The amount of one place more.
 use Rattle.std.proofs.Common.{arith, get_or, take, take_all, ap, ◌∙◌, ◌++◌, ◌∷◌, [], cond}
 use Rattle.std.proofs.lemmas.List.{length-set}
-use Rattle.kt_period_cells.specs.declared.cell.Cell.{Cell}
-use Rattle.kt_period_cells.specs.Losses.{one_if}
-use Rattle.kt_period_cells.specs.SummaryRows.{has_total}
+use Rattle.kt_cell.specs.declared.cell.Cell.{Cell}
+use Rattle.kt_cell.specs.Losses.{one_if}
+use Rattle.kt_cell.specs.Standing.{has_total}
 use Rattle.kt_ranks.proofs.ListsOfSamples.{amount_more, one_at_most}
 use Rattle.kt_ranks.proofs.RowAmounts.{written_more}
 use Rattle.kt_ranks.proofs.row_amounts.write_samples.Goals as goal

@@ -2,8 +2,8 @@
 use Rattle.std.proofs.Common.{◌≡◌, [], sym, ap, arith, append-nil}
 use Rattle.std.proofs.lemmas.Grind.{common_steps}
 use Rattle.std.specs.List.{flat_map}
-use Rattle.kt_period_cells.specs.Losses.{Added, all_losses, losses_of, pair_losses}
-use Rattle.kt_period_cells.specs.Standing.{Standing, first_stop}
+use Rattle.kt_cell.specs.Losses.{Added, all_losses, losses_of, pair_losses}
+use Rattle.kt_cell.specs.Standing.{Standing, first_stop}
 use Rattle.kt_period_cells.specs.Rows.{entries_of, spot_losses}
 use Rattle.kt_period_cells.proofs.Walks.{all_losses_push}
 use Rattle.kt_period_cells.proofs.Spots.{losses_same, no_losses}

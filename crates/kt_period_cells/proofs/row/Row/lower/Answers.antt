@@ -1,6 +1,6 @@
 -- A loss taken from a cell, once the bound of the row is the greatest total.
 use Rattle.std.proofs.Common.{sym, ◌∙◌, refl}
-use Rattle.kt_period_cells.specs.Standing.{most_total}
+use Rattle.kt_cell.specs.Standing.{most_total}
 use Rattle.kt_period_cells.proofs.RowEdits.{changes_bound, lowers_down, lowers_out}
 use Rattle.kt_period_cells.proofs.row.Row.lower.Goals as goal
 

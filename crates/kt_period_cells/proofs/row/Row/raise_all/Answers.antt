@@ -5,13 +5,13 @@ use Rattle.std.specs.Vec.{with_items}
 use Rattle.std.proofs.lemmas.List.{take_more, with_items_is}
 use Rattle.std.proofs.lemmas.List.Elements.{All-get_or, All-weaker}
 use Rattle.kt_stream.specs.declared.entry.Pair.{Pair}
-use Rattle.kt_period_cells.specs.declared.cell.Cell.{Cell}
+use Rattle.kt_cell.specs.declared.cell.Cell.{Cell}
 use Rattle.kt_period_cells.specs.declared.row.Row.{Row}
-use Rattle.kt_period_cells.specs.Amounts.{sample_of}
-use Rattle.kt_period_cells.specs.Losses.{is_added}
+use Rattle.kt_cell.specs.Amounts.{sample_of}
+use Rattle.kt_cell.specs.Losses.{is_added}
 use Rattle.kt_period_cells.specs.Room.{Raises, added_sum}
-use Rattle.kt_period_cells.specs.RowCells.{cell_in, cells_of, one_of}
-use Rattle.kt_period_cells.specs.Standing.{most_total}
+use Rattle.kt_period_cells.specs.RowCells.{cell_in, cells_of}
+use Rattle.kt_cell.specs.Standing.{most_total, one_of}
 use Rattle.kt_period_cells.proofs.RoomLemmas.{low_sum}
 use Rattle.kt_period_cells.proofs.RaisedRows.{raises_none, raises_passed, raises_more, room_left, total_left, added_place}
 use Rattle.kt_period_cells.proofs.row.Row.raise_all.Goals as goal

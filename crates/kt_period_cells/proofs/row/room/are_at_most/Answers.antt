@@ -1,7 +1,7 @@
 -- One total more is low, or was found to be above.
 use Rattle.std.proofs.Common.{◌≡◌, ◌≤◌, List, arith, subst, take_all, sym, ◌∙◌, not, refl}
 use Rattle.std.specs.Prelude.{All, Bool, true, false}
-use Rattle.kt_period_cells.specs.declared.cell.Cell.{Cell}
+use Rattle.kt_cell.specs.declared.cell.Cell.{Cell}
 use Rattle.kt_period_cells.proofs.RoomLemmas.{all_take_more}
 use Rattle.kt_period_cells.proofs.row.room.are_at_most.Goals as goal
 use Rattle.kt_period_cells.proofs.row.room.are_at_most.Goals.{then-cell-most, else-cell-most}

@@ -1,8 +1,8 @@
 -- The cell of a sample in its place.
 use Rattle.std.proofs.Common.{◌≡◌, ◌≤◌, ◌<◌, List, length, set, arith, sym, ap, ◌∙◌}
 use Rattle.std.specs.Prelude.{Option, Some}
-use Rattle.kt_period_cells.specs.declared.cell.Cell.{Cell}
-use Rattle.kt_period_cells.specs.Standing.{raised}
+use Rattle.kt_cell.specs.declared.cell.Cell.{Cell}
+use Rattle.kt_cell.specs.Standing.{raised}
 use Rattle.kt_period_cells.specs.RowCells.{SampleCells, cells_of, cell_in, placed}
 use Rattle.kt_period_cells.proofs.PlacedCells.{changes_place, placed_cells, some_cell_is}
 use Rattle.kt_period_cells.proofs.RoomLemmas.{room_for, raised_low, room_raised, totals_raised}

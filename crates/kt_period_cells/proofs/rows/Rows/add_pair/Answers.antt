@@ -4,7 +4,7 @@ use Rattle.std.proofs.lemmas.Grind.{common_steps}
 use Rattle.kt_rec.specs.declared.perspective.CellKey.{CellKey}
 use Rattle.kt_period_cells.specs.declared.rows.Spot.{Spot}
 use Rattle.kt_period_cells.specs.Rows.{spot_loss}
-use Rattle.kt_period_cells.specs.TotalLaws.{added_some}
+use Rattle.kt_cell.specs.TotalLaws.{added_some}
 use Rattle.kt_period_cells.proofs.Walks.{pair_more, pair_stop, returns_stop}
 use Rattle.kt_period_cells.proofs.rows.Rows.add_pair.Goals as goal
 

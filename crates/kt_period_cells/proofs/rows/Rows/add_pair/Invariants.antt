@@ -1,9 +1,9 @@
 -- The losses of a pair in the rows of the first occurrences.
 use Rattle.std.proofs.Common.{◌≡◌, ◌≤◌, List, ◌++◌, map, take}
 use Rattle.std.specs.Prelude.{All}
-use Rattle.kt_period_cells.specs.Losses.{KeyLoss}
+use Rattle.kt_cell.specs.Losses.{KeyLoss}
 use Rattle.kt_period_cells.specs.Rows.{entries_of, row_keys, spot_loss}
-use Rattle.kt_period_cells.specs.Standing.{most_total}
+use Rattle.kt_cell.specs.Standing.{most_total}
 use Rattle.kt_period_cells.specs.Journal.{Going}
 use Rattle.kt_period_cells.proofs.rows.Rows.add_pair.Given as goal
 

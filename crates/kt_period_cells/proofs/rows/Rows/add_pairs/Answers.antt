@@ -3,7 +3,7 @@ use Rattle.std.proofs.Common.{◌≡◌, inl, inr, pos, List, [], arith, ◌∙�
 use Rattle.std.proofs.lemmas.Grind.{common_steps}
 use Rattle.std.specs.Prelude.{true, false, Bool}
 use Rattle.kt_stream.specs.declared.entry.Pair.{Pair}
-use Rattle.kt_period_cells.specs.Losses.{KeyLoss}
+use Rattle.kt_cell.specs.Losses.{KeyLoss}
 use Rattle.kt_period_cells.specs.Rows.{spot_losses}
 use Rattle.kt_period_cells.proofs.Walks.{record_stop, going_pair, going_passed}
 use Rattle.kt_period_cells.proofs.rows.Rows.add_pairs.Goals as goal

@@ -2,9 +2,9 @@
 use Rattle.std.proofs.Common.{◌≡◌, ◌≤◌, List, take}
 use Rattle.std.specs.Prelude.{All}
 use Rattle.std.specs.List.{flat_map}
-use Rattle.kt_period_cells.specs.Losses.{KeyLoss}
+use Rattle.kt_cell.specs.Losses.{KeyLoss}
 use Rattle.kt_period_cells.specs.Rows.{entries_of, row_keys, spot_losses}
-use Rattle.kt_period_cells.specs.Standing.{most_total, Standing}
+use Rattle.kt_cell.specs.Standing.{most_total, Standing}
 use Rattle.kt_period_cells.specs.Journal.{Going}
 use Rattle.kt_period_cells.proofs.rows.Rows.add_pairs.Given as goal
 

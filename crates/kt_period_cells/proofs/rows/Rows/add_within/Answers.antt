@@ -4,10 +4,10 @@ use Rattle.std.specs.List.{flat_map}
 use Rattle.std.proofs.lemmas.List.Elements.{All-get_or}
 use Rattle.std.proofs.lemmas.Nat.{mul-le}
 use Rattle.kt_period_cells.specs.declared.rows.Spot.{Spot}
-use Rattle.kt_period_cells.specs.Losses.{KeyLoss}
+use Rattle.kt_cell.specs.Losses.{KeyLoss}
 use Rattle.kt_period_cells.specs.Room.{IsRoomyAt, added_sum}
 use Rattle.kt_period_cells.specs.Rows.{entries_of, row_keys, IsSpot}
-use Rattle.kt_period_cells.specs.Standing.{Standing}
+use Rattle.kt_cell.specs.Standing.{Standing}
 use Rattle.kt_period_cells.specs.SummaryRows.{row_at}
 use Rattle.kt_period_cells.proofs.RaisedRows.{clear_in_order}
 use Rattle.kt_period_cells.proofs.RoomLemmas.{roomy_less, roomy_same, one_less}

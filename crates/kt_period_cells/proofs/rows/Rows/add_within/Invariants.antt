@@ -3,8 +3,8 @@ use Rattle.std.proofs.Common.{◌≡◌, ◌+◌, ◌-◌, ◌*◌, ◌≤◌, �
 use Rattle.std.specs.Prelude.{All}
 use Rattle.std.specs.List.{flat_map}
 use Rattle.kt_rec.specs.declared.perspective.Perspective.{Perspective}
-use Rattle.kt_period_cells.specs.Losses.{KeyLoss}
-use Rattle.kt_period_cells.specs.Standing.{Standing}
+use Rattle.kt_cell.specs.Losses.{KeyLoss}
+use Rattle.kt_cell.specs.Standing.{Standing}
 use Rattle.kt_period_cells.specs.Rows.{entries_of, row_keys, IsSpot}
 use Rattle.kt_period_cells.specs.Room.{AreRoomy, added_sum}
 use Rattle.kt_period_cells.proofs.SameLosses.{in_row}

@@ -3,9 +3,9 @@ use Rattle.std.proofs.Common.{◌≡◌, ◌≤◌, ◌+◌, ℕ, [], ◌∷◌,
 use Rattle.std.proofs.lemmas.Grind.{common_steps}
 use Rattle.std.specs.Prelude.{Some}
 use Rattle.std.proofs.lemmas.List.Elements.{All-push}
-use Rattle.kt_period_cells.specs.declared.cell.Change.{Change}
+use Rattle.kt_cell.specs.declared.cell.Change.{Change}
 use Rattle.kt_period_cells.specs.declared.row.Row.{Row}
-use Rattle.kt_period_cells.specs.Standing.{most_total}
+use Rattle.kt_cell.specs.Standing.{most_total}
 use Rattle.kt_period_cells.specs.RowCells.{cells_of, Changes, cell_in}
 use Rattle.kt_period_cells.specs.Rows.{entries_of}
 use Rattle.kt_period_cells.proofs.Steps.{put_step, put_stop, put_noted}

@@ -1,8 +1,8 @@
 -- Changes taken back, the last first.
 use Rattle.std.proofs.Common.{◌≤◌, ◌∙◌, Some}
 use Rattle.std.proofs.lemmas.List.Elements.{All-pop}
-use Rattle.kt_period_cells.specs.declared.cell.Change.{Change}
-use Rattle.kt_period_cells.specs.Standing.{most_total}
+use Rattle.kt_cell.specs.declared.cell.Change.{Change}
+use Rattle.kt_cell.specs.Standing.{most_total}
 use Rattle.kt_period_cells.specs.Rows.{entries_of}
 use Rattle.kt_period_cells.proofs.Walks.{returns_pop}
 use Rattle.kt_period_cells.proofs.rows.Rows.take_all_back.Goals as goal

@@ -1,8 +1,8 @@
 -- Changes taken back, the last first.
 use Rattle.std.proofs.Common.{◌≡◌, ◌≤◌, List, length}
 use Rattle.std.specs.Prelude.{All}
-use Rattle.kt_period_cells.specs.Losses.{KeyLoss}
-use Rattle.kt_period_cells.specs.Standing.{most_total}
+use Rattle.kt_cell.specs.Losses.{KeyLoss}
+use Rattle.kt_cell.specs.Standing.{most_total}
 use Rattle.kt_period_cells.specs.Rows.{entries_of}
 use Rattle.kt_period_cells.specs.Journal.{Returns}
 use Rattle.kt_period_cells.proofs.rows.Rows.take_all_back.Given as goal

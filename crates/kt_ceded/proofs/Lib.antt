@@ -1,0 +1,2 @@
+mod AddedLemmas
+mod TurnLemmas

@@ -1,0 +1,2 @@
+pub mod CededShares
+pub mod CededLaws

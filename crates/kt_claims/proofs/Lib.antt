@@ -1,0 +1,3 @@
+mod DealingLemmas
+pub mod NumberLemmas
+pub mod ArrivalLemmas

@@ -1,7 +1,0 @@
-use Rattle.std.proofs.Common.{rules}
-use Rattle.kt_part.proofs.DealingLemmas.{draw-allowed}
-use Rattle.kt_part.proofs.laws.Claims.draw.Goals as goal
-
--- src/laws.rt
-pub fetch_add-requires : goal.fetch_add-requires
-fetch_add-requires c = (search rules, search rules, draw-allowed _ _ _ _ _ (search rules) (search rules))

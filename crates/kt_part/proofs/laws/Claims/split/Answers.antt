@@ -1,7 +1,0 @@
-use Rattle.std.proofs.Common.{rules}
-use Rattle.kt_part.proofs.DealingLemmas.{split-allowed}
-use Rattle.kt_part.proofs.laws.Claims.split.Goals as goal
-
--- src/laws.rt
-pub split_seat-seat-requires : goal.split_seat-seat-requires
-split_seat-seat-requires c = (search rules, search rules, split-allowed _ _ _ (search rules) (search rules))

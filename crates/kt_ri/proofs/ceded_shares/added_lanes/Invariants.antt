@@ -1,5 +1,0 @@
-use Rattle.kt_ri.specs.CededShares.{AreCededShares}
-use Rattle.kt_ri.proofs.ceded_shares.added_lanes.Given as goal
-
-abbrev pub invariant-loop-k : goal.invariant-loop-k
-invariant-loop-k l = AreCededShares l.width l.places l.table l.k l.ceded
