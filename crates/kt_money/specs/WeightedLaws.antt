@@ -1,6 +1,6 @@
 -- Laws of the deviation of amounts with weights: it is the greatest number within its bounds, and with weights of 1 it is that without.
 -- The rule: docs/CALCULATION.md, "Weighted mean and deviation".
-use Rattle.std.specs.Prelude.{ℕ, zero, suc, ◌+◌, ◌-◌, ◌*◌, ◌/◌, ◌<◌, ◌≤◌, ◌≡◌, List, [], ◌∷◌, sum_by, nat_le, if◌then◌else◌}
+use Rattle.std.specs.Prelude.{ℕ, ◌+◌, ◌-◌, ◌*◌, ◌/◌, ◌<◌, ◌≤◌, ◌≡◌, List, [], ◌∷◌, sum_by}
 use Rattle.std.proofs.Common.{arith, ⊎_elim, ap, sym, ◌∙◌}
 use Rattle.std.proofs.lemmas.Bool.{cases_lt}
 use Rattle.std.proofs.lemmas.Bool.Decides.{nat_tests}

@@ -1,5 +1,5 @@
 -- The quotient of many, by whole parts and what is left.
-use Rattle.std.proofs.Common.{◌≡◌, ◌+◌, ◌-◌, ◌*◌, ◌/◌, ◌<◌, ◌≤◌, arith}
+use Rattle.std.proofs.Common.{◌-◌, ◌*◌, ◌/◌, ◌<◌, ◌≤◌, arith}
 use Rattle.kt_money.proofs.WeightedLemmas.{quotient_covered, quotient_short, missing_parts-le, quotient-small}
 use Rattle.kt_money.proofs.weighted.quotient_of_many.Goals as goal
 

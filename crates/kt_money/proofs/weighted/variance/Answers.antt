@@ -1,5 +1,5 @@
 -- The spread by the quotient and the rest of the sum.
-use Rattle.std.proofs.Common.{◌≡◌, ◌+◌, ◌-◌, ◌*◌, ◌/◌, ◌<◌, ◌≤◌, arith}
+use Rattle.std.proofs.Common.{◌-◌, arith}
 use Rattle.kt_money.proofs.SpreadLemmas.{square_split, split_room, even_part-le}
 use Rattle.kt_money.proofs.WeightedLemmas.{lost-within, variance_quotient, squares_of_rest}
 use Rattle.kt_money.proofs.weighted.variance.Goals as goal
