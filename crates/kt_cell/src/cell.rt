@@ -83,3 +83,10 @@ pub fn adds_any(pairs: &[Pair]) -> bool
 {
     pairs.iter().any(is_added)
 }
+
+/// Whether one of the places has a cell.
+pub fn has_placed(places: &[Cell]) -> bool
+    ensures value { result ≡ list_any has_total places.now }
+{
+    places.iter().any(has_total)
+}

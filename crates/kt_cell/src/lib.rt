@@ -4,5 +4,5 @@
 mod cell;
 mod raising;
 
-pub use cell::{Cell, CellStop, Change, adds_any, has_total, is_added, sample_of};
+pub use cell::{Cell, CellStop, Change, adds_any, has_placed, has_total, is_added, sample_of};
 pub use raising::{MOST_CELLS, MOST_TOTAL, maximum_in, new_cells, raised, refusal};

@@ -1,13 +1,12 @@
 //! A row of cells: what one summary has in one period.
 //! The rules: docs/CALCULATION.md, "Periods".
 ghost use Rattle.std.specs.Prelude.{◌≡◌, ◌⊎◌, ◌+◌, ◌≤◌, [], IfOk, IfSome, OnOk, OnErr, Some, None, true, is_some, length};
-ghost use Rattle.std.specs.List.{list_any};
 ghost use Rattle.kt_period_cells.specs.RowCells.{AreLow, HasBound, IsRising, HasPlace, IsWide, Changes, Lowers, cell_in, cells_of, placed};
-ghost use Rattle.kt_cell.specs.Standing.{most_total, has_total};
+ghost use Rattle.kt_cell.specs.Standing.{most_total};
 ghost use Rattle.kt_period_cells.specs.SummaryRows.{has_any};
 
 use crate::row_key::RowKey;
-use kt_cell::{Cell, MOST_TOTAL, has_total};
+use kt_cell::{Cell, MOST_TOTAL, has_placed};
 use kt_money::OutOfMemory;
 use std::alloc::Global;
 
@@ -49,13 +48,6 @@ pub fn placed_cell(places: &[Cell], sample: u32) -> Option<Cell>
     }
     let cell = places[at];
     if cell.total == 0 { None } else { Some(cell) }
-}
-
-/// Whether one of the places has a cell.
-fn has_placed(places: &[Cell]) -> bool
-    ensures value { result ≡ list_any has_total places.now }
-{
-    places.iter().any(has_total)
 }
 
 /// Places for the mean and so many samples, without cells. An error is want of memory.
