@@ -110,6 +110,34 @@ fn written(alloc: Global, bytes: &[u8]) -> Result<Vec<u8>, NotTaken> {
     }
 }
 
+/// The files of which the events alone are there.
+fn events_alone(alloc: Global, files: &Files) -> Result<SureInputs, NotTaken> {
+    let mut inputs = SureInputs::new(alloc);
+    inputs.add(b"input/events.bin", files.get("input/events.bin"))?;
+    Ok(inputs)
+}
+
+/// What sinks that never fail took of a run: what it wrote is seen in an output file.
+fn seen_surely(alloc: Global, code: u8, sink: &SureSink, err: &SureSink) -> Result<Seen, NotTaken> {
+    let output = written(alloc, sink.taken())?;
+    Seen::new(alloc, code, &output, err.taken())
+}
+
+/// A run over these files and this source, which never fail, and into objects that never do.
+fn run_over_surely<R: Threads + Sync + AllocGlobal>(
+    rt: &R,
+    words: &Words,
+    inputs: &mut SureInputs,
+    source: &mut SureSource,
+) -> Result<Seen, NotTaken> {
+    let alloc = rt.alloc();
+    let mut sink = SureSink::new(alloc);
+    let mut err = SureSink::new(alloc);
+    let mut outputs = SureOutputs::new(alloc);
+    let code = status_code(rt, words, inputs, &mut outputs, source, &mut sink, &mut err);
+    seen_surely(alloc, code, &sink, &err)
+}
+
 /// A run over objects in memory that never fail, where of the files the events alone are there. What it wrote is seen in an
 /// output file.
 pub(crate) fn run_surely<R: Threads + Sync + AllocGlobal>(
@@ -119,23 +147,9 @@ pub(crate) fn run_surely<R: Threads + Sync + AllocGlobal>(
     settings: &Settings,
 ) -> Result<Seen, NotTaken> {
     let alloc = rt.alloc();
-    let mut sink = SureSink::new(alloc);
-    let mut err = SureSink::new(alloc);
+    let mut inputs = events_alone(alloc, files)?;
     let mut source = SureSource::new(files.source(settings.cut).to_vec(alloc)?);
-    let mut inputs = SureInputs::new(alloc);
-    inputs.add(b"input/events.bin", files.get("input/events.bin"))?;
-    let mut outputs = SureOutputs::new(alloc);
-    let code = status_code(
-        rt,
-        words,
-        &mut inputs,
-        &mut outputs,
-        &mut source,
-        &mut sink,
-        &mut err,
-    );
-    let output = written(alloc, sink.taken())?;
-    Seen::new(alloc, code, &output, err.taken())
+    run_over_surely(rt, words, &mut inputs, &mut source)
 }
 
 /// The exit status of the last of one or more runs over the adapters of a reader and two writers.
@@ -184,9 +198,9 @@ pub(crate) fn run_adapted<R: Threads + Sync + AllocGlobal>(
     settings: &Settings,
 ) -> Result<Seen, NotTaken> {
     let alloc = rt.alloc();
+    let mut inputs = files.inputs(settings)?;
     let mut output = Vec::new(alloc);
     let mut line = Vec::new(alloc);
-    let mut inputs = files.inputs(settings)?;
     let code = adapted_code(
         rt,
         words,

@@ -5,10 +5,11 @@
 
 use crate::failure::Failure;
 use crate::gate::{GroupGate, Passes};
+use crate::runs::ended;
 use crate::tables::{FALLING, RISING, inputs_of};
 use crate::words::words_of;
-use kt_out::{SureInputs, SureOutputs, SureSink, SureSource};
-use kt_tools::{Status, Words, run};
+use kt_out::{SureInputs, SureSink};
+use kt_tools::{Status, Words};
 use std::alloc::{AllocGlobal, Global};
 use std::io::Print;
 use std::thread::Threads;
@@ -61,7 +62,7 @@ const TRIALS: [Trial; 6] = [
     Trial("-b 4 -w 2", 2, LONG, Wanted::AllOf(4)),
 ];
 
-/// Whether a run over these tables is done. Its clauses end here, so that callers are checked without them.
+/// Whether a run over these tables is done.
 fn is_done<R: Threads + Sync + AllocGlobal>(
     rt: &R,
     gate: &GroupGate,
@@ -69,16 +70,16 @@ fn is_done<R: Threads + Sync + AllocGlobal>(
     inputs: &mut SureInputs,
 ) -> bool {
     let alloc = rt.alloc();
-    let status = run(
+    let mut sink = SureSink::new(alloc);
+    let mut err = SureSink::new(alloc);
+    let status = ended(
         rt,
-        alloc,
         gate,
         words,
         inputs,
-        &mut SureOutputs::new(alloc),
-        &mut SureSource::new(Vec::new(alloc)),
-        &mut SureSink::new(alloc),
-        &mut SureSink::new(alloc),
+        Vec::new(alloc),
+        &mut sink,
+        &mut err,
     );
     matches!(status, Status::Done)
 }

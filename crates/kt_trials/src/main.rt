@@ -11,6 +11,7 @@ mod made;
 mod merging;
 mod reads;
 mod rounds;
+mod runs;
 mod tables;
 mod words;
 

@@ -3,10 +3,11 @@
 //! The rules: docs/TABLES.md, "Footprint rows of a round"; docs/PROVING.md, "Tests".
 
 use crate::failure::Failure;
+use crate::runs::ended;
 use crate::tables::kept_inputs_of;
 use crate::words::words_of;
-use kt_out::{MemInputs, Open, SureOutputs, SureSink, SureSource};
-use kt_tools::{Words, run};
+use kt_out::{MemInputs, Open, SureSink};
+use kt_tools::Words;
 use std::alloc::{AllocGlobal, Global};
 use std::io::Print;
 use std::str;
@@ -43,7 +44,7 @@ fn inputs_with<R: Threads + Sync + AllocGlobal>(rt: &R, first: &str) -> Result<M
     kept_inputs_of(rt, &events, &strikes)
 }
 
-/// The exit status of a run over these files. Its clauses end here, so that callers are checked without them.
+/// The exit status of a run over these files.
 fn status_code<R: Threads + Sync + AllocGlobal>(
     rt: &R,
     words: &Words,
@@ -51,18 +52,8 @@ fn status_code<R: Threads + Sync + AllocGlobal>(
     err: &mut SureSink,
 ) -> u8 {
     let alloc = rt.alloc();
-    let status = run(
-        rt,
-        alloc,
-        &Open,
-        words,
-        inputs,
-        &mut SureOutputs::new(alloc),
-        &mut SureSource::new(Vec::new(alloc)),
-        &mut SureSink::new(alloc),
-        err,
-    );
-    status.code()
+    let mut sink = SureSink::new(alloc);
+    ended(rt, &Open, words, inputs, Vec::new(alloc), &mut sink, err).code()
 }
 
 /// Prints how a run over these files ends, and what it asked for.

@@ -3,9 +3,10 @@
 //! The rule: docs/PROVING.md, "Tests".
 
 use crate::failure::Failure;
+use crate::runs::ended;
 use crate::words::words_of;
-use kt_out::{MemInputs, Open, SureInputs, SureOutputs, SureSink, SureSource};
-use kt_tools::{Status, Words, run};
+use kt_out::{MemInputs, Open, SureInputs, SureSink};
+use kt_tools::{Status, Words};
 use std::alloc::{AllocGlobal, Global};
 use std::thread::Threads;
 
@@ -65,7 +66,7 @@ fn text_of(alloc: Global, rows: &str) -> Result<Vec<u8>, Failure> {
     Ok(text)
 }
 
-/// Whether a run over a text is done; what it writes goes into the sink. Its clauses end here, so that callers are checked without them.
+/// Whether a run over a text is done; what it writes goes into the sink.
 fn is_done<R: Threads + Sync + AllocGlobal>(
     rt: &R,
     words: &Words,
@@ -73,17 +74,9 @@ fn is_done<R: Threads + Sync + AllocGlobal>(
     sink: &mut SureSink,
 ) -> bool {
     let alloc = rt.alloc();
-    let status = run(
-        rt,
-        alloc,
-        &Open,
-        words,
-        &mut SureInputs::new(alloc),
-        &mut SureOutputs::new(alloc),
-        &mut SureSource::new(text),
-        sink,
-        &mut SureSink::new(alloc),
-    );
+    let mut inputs = SureInputs::new(alloc);
+    let mut err = SureSink::new(alloc);
+    let status = ended(rt, &Open, words, &mut inputs, text, sink, &mut err);
     matches!(status, Status::Done)
 }
 
